@@ -1,0 +1,168 @@
+-- Laws of atoms and labels: packing and unpacking are inverse, and the order of labels is that of their numbers.
+use mathlib.Core.Path.{_≡_, refl, sym, ap, ap₂, _∙_}
+use mathlib.Core.Bool.{Bool, true, false, not, _&&_, _||_, cond}
+use mathlib.Core.List.{List}
+use Prim.Native.Nat.{ℕ, zero, suc, _+_, _*_, _/_, _%_, _≤_, _<_}
+use native.Mathlib.Omega.{arith}
+use lib.ListN.{getD}
+use lib.Dec.{eqb, ltb, leb}
+use borrow.Author.Tests.{ltb-true, ltb-false, leb-true, eqb-true, eqb-false, lt-ltb, le-ltb, eq-eqb, ne-eqb}
+use Rattle.basics.specs.Tests.{and-left, and-right, Flag, isTrue, isFalse, flag, Either, one, other, either, Cmp, below, equal, above, cmp}
+use Rattle.label.specs.Limits.{termBase, predicateCount, leafMark}
+use Rattle.label.specs.Terms.{isConstant, isParameter, isVariable, isTerm}
+use Rattle.label.specs.Labels.{packed, predicateOf, unpacked, placeFits, inOrder, isAtom, isLabel, before, firstDiffers}
+use Rattle.label.specs.declared.Atom.{Atom}
+
+-- terms are below the base of the packing
+pub term-below : (t : ℕ) → isTerm t ≡ true → t < termBase
+unfolding isTerm isConstant isParameter isVariable
+term-below t e = go (either (ltb t 16) _ e)
+  where
+    rest : Either (leb 16 t && ltb t 20) (leb 32 t && ltb t 64) → t < termBase
+    rest (one q) = omega (arith, ltb-true t 20 (and-right (leb 16 t) _ q))
+    rest (other q) = ltb-true t 64 (and-right (leb 32 t) _ q)
+    go : Either (ltb t 16) ((leb 16 t && ltb t 20) || (leb 32 t && ltb t 64)) → t < termBase
+    go (one q) = omega (arith, ltb-true t 16 q)
+    go (other q) = rest (either (leb 16 t && ltb t 20) _ q)
+
+-- every place is below the base
+pub record Places (a : Atom) : Type 0 where
+  pub first-below : a .first < termBase
+  pub second-below : a .second < termBase
+  pub third-below : a .third < termBase
+  pub fourth-below : a .fourth < termBase
+
+place-below : (n k t : ℕ) → placeFits n k t ≡ true → t < termBase
+unfolding placeFits
+place-below n k t e = go (flag (ltb k n))
+  where
+    go : Flag (ltb k n) → t < termBase
+    go (isTrue q) = term-below t (rw q at e)
+    go (isFalse q) = let z : eqb t 0 ≡ true = rw q at e in omega (arith, eqb-true t 0 z)
+
+-- the tests of an atom, one by one
+pub record Fitting (ar : List ℕ) (a : Atom) : Type 0 where
+  pub predicate-fits : a .predicate < predicateCount
+  pub first-fits : placeFits (getD ar (a .predicate) 0) 0 (a .first) ≡ true
+  pub second-fits : placeFits (getD ar (a .predicate) 0) 1 (a .second) ≡ true
+  pub third-fits : placeFits (getD ar (a .predicate) 0) 2 (a .third) ≡ true
+  pub fourth-fits : placeFits (getD ar (a .predicate) 0) 3 (a .fourth) ≡ true
+  pub ordered : inOrder a ≡ true
+
+pub atom-fits : (ar : List ℕ) (a : Atom) → isAtom ar a ≡ true → Fitting ar a
+unfolding isAtom
+atom-fits ar a e =
+    let n = getD ar (a .predicate) 0 in
+    let e₁ = and-right (ltb (a .predicate) predicateCount) _ e in
+    let e₂ = and-right (placeFits n 0 (a .first)) _ e₁ in
+    let e₃ = and-right (placeFits n 1 (a .second)) _ e₂ in
+    let e₄ = and-right (placeFits n 2 (a .third)) _ e₃ in
+    record {
+        predicate-fits = ltb-true _ _ (and-left (ltb (a .predicate) predicateCount) _ e);
+        first-fits = and-left (placeFits n 0 (a .first)) _ e₁;
+        second-fits = and-left (placeFits n 1 (a .second)) _ e₂;
+        third-fits = and-left (placeFits n 2 (a .third)) _ e₃;
+        fourth-fits = and-left (placeFits n 3 (a .fourth)) _ e₄;
+        ordered = and-right (placeFits n 3 (a .fourth)) _ e₄ }
+
+pub fits-atom : (ar : List ℕ) (a : Atom) → Fitting ar a → isAtom ar a ≡ true
+unfolding isAtom
+fits-atom ar a f =
+    rw (lt-ltb (a .predicate) predicateCount (f .predicate-fits), f .first-fits, f .second-fits, f .third-fits, f .fourth-fits, f .ordered)
+
+pub atom-places : (ar : List ℕ) (a : Atom) → isAtom ar a ≡ true → Places a
+atom-places ar a e =
+    let f = atom-fits ar a e in
+    record {
+        first-below = place-below _ 0 _ (f .first-fits);
+        second-below = place-below _ 1 _ (f .second-fits);
+        third-below = place-below _ 2 _ (f .third-fits);
+        fourth-below = place-below _ 3 _ (f .fourth-fits) }
+
+-- packing and unpacking are inverse
+pub packed-unpacked : (l : ℕ) → packed (unpacked l) ≡ l
+unfolding packed unpacked
+packed-unpacked l =
+    let e₁ : l ≡ l / 64 * 64 + l % 64 = omega arith in
+    let e₂ : l / 64 ≡ l / 4096 * 64 + l / 64 % 64 = omega arith in
+    let e₃ : l / 4096 ≡ l / 262144 * 64 + l / 4096 % 64 = omega arith in
+    let e₄ : l / 262144 ≡ l / 16777216 * 64 + l / 262144 % 64 = omega arith in
+    omega arith
+
+pub unpacked-packed : (a : Atom) → Places a → unpacked (packed a) ≡ a
+unfolding packed unpacked
+unpacked-packed a p =
+    let h₁ = p .first-below in
+    let h₂ = p .second-below in
+    let h₃ = p .third-below in
+    let h₄ = p .fourth-below in
+    let e : (a .predicate * 16777216 + a .first * 262144 + a .second * 4096 + a .third * 64 + a .fourth) / 16777216 ≡ a .predicate = omega arith in
+    let e₁ : (a .predicate * 16777216 + a .first * 262144 + a .second * 4096 + a .third * 64 + a .fourth) / 262144 % 64 ≡ a .first = omega arith in
+    let e₂ : (a .predicate * 16777216 + a .first * 262144 + a .second * 4096 + a .third * 64 + a .fourth) / 4096 % 64 ≡ a .second = omega arith in
+    let e₃ : (a .predicate * 16777216 + a .first * 262144 + a .second * 4096 + a .third * 64 + a .fourth) / 64 % 64 ≡ a .third = omega arith in
+    let e₄ : (a .predicate * 16777216 + a .first * 262144 + a .second * 4096 + a .third * 64 + a .fourth) % 64 ≡ a .fourth = omega arith in
+    λ i. record { predicate = e i; first = e₁ i; second = e₂ i; third = e₃ i; fourth = e₄ i }
+
+-- the labels are the packed atoms
+pub label-packed : (ar : List ℕ) (a : Atom) → Places a → isLabel ar (packed a) ≡ isAtom ar a
+unfolding isLabel
+label-packed ar a p = ap (isAtom ar) (unpacked-packed a p)
+
+pub label-places : (ar : List ℕ) (l : ℕ) → isLabel ar l ≡ true → Places (unpacked l)
+unfolding isLabel
+label-places ar l e = atom-places ar (unpacked l) e
+
+pub label-fits : (ar : List ℕ) (l : ℕ) → isLabel ar l ≡ true → Fitting ar (unpacked l)
+unfolding isLabel
+label-fits ar l e = atom-fits ar (unpacked l) e
+
+-- a leaf's mark is above every label
+pub label-below : (ar : List ℕ) (l : ℕ) → isLabel ar l ≡ true → l < leafMark
+unfolding unpacked
+label-below ar l e =
+    let h : l / 16777216 < 32 = label-fits ar l e .predicate-fits in
+    omega arith
+
+-- one more place, last: the numbers are compared by the first difference
+lex-flat : (a e l t r : Bool) → ((a || (e && l)) || ((e && t) && r)) ≡ (a || (e && (l || (t && r))))
+lex-flat true e l t r = refl
+lex-flat false true l t r = refl
+lex-flat false false l t r = refl
+
+step-less : (x y r s : ℕ) → r < 64 → s < 64 → ltb (x * 64 + r) (y * 64 + s) ≡ firstDiffers x y (ltb r s)
+step-less x y r s h k = go (cmp x y)
+  where
+    go : Cmp x y → ltb (x * 64 + r) (y * 64 + s) ≡ firstDiffers x y (ltb r s)
+    go (below q) = rw (lt-ltb x y q, lt-ltb (x * 64 + r) (y * 64 + s) (omega arith))
+    go (equal q) = rw (q, le-ltb y y (omega arith), eq-eqb y y refl) (last (cmp r s))
+      where
+        last : Cmp r s → ltb (y * 64 + r) (y * 64 + s) ≡ ltb r s
+        last (below p) = rw (lt-ltb r s p, lt-ltb (y * 64 + r) (y * 64 + s) (omega arith))
+        last (equal p) = rw (le-ltb r s (omega arith), le-ltb (y * 64 + r) (y * 64 + s) (omega arith))
+        last (above p) = rw (le-ltb r s (omega arith), le-ltb (y * 64 + r) (y * 64 + s) (omega arith))
+    go (above q) = rw (le-ltb x y (omega arith), ne-eqb x y (omega arith), le-ltb (x * 64 + r) (y * 64 + s) (omega arith))
+
+step-same : (x y r s : ℕ) → r < 64 → s < 64 → eqb (x * 64 + r) (y * 64 + s) ≡ (eqb x y && eqb r s)
+step-same x y r s h k = go (flag (eqb x y)) (flag (eqb r s))
+  where
+    go : Flag (eqb x y) → Flag (eqb r s) → eqb (x * 64 + r) (y * 64 + s) ≡ (eqb x y && eqb r s)
+    go (isTrue p) (isTrue q) = rw (p, q) (eq-eqb (x * 64 + r) (y * 64 + s) (omega (arith, eqb-true x y p, eqb-true r s q)))
+    go (isTrue p) (isFalse q) = rw (p, q) (ne-eqb (x * 64 + r) (y * 64 + s) (λ z. eqb-false r s q (omega (arith, eqb-true x y p))))
+    go (isFalse p) q = rw p (ne-eqb (x * 64 + r) (y * 64 + s) (λ z. eqb-false x y p (omega arith)))
+
+step : (x y r s : ℕ) (rest : Bool) → r < 64 → s < 64 → firstDiffers (x * 64 + r) (y * 64 + s) rest ≡ firstDiffers x y (firstDiffers r s rest)
+step x y r s rest h k = rw (step-less x y r s h k, step-same x y r s h k) (lex-flat (ltb x y) (eqb x y) (ltb r s) (eqb r s) rest)
+
+-- a label's number place by place
+horner : (a : Atom) → packed a ≡ (((a .predicate * 64 + a .first) * 64 + a .second) * 64 + a .third) * 64 + a .fourth
+unfolding packed
+horner a = omega arith
+
+pub before-packed : (a b : Atom) → Places a → Places b → ltb (packed a) (packed b) ≡ before a b
+unfolding before
+before-packed a b p q =
+    ap₂ ltb (horner a) (horner b)
+    ∙ step-less _ _ (a .fourth) (b .fourth) (p .fourth-below) (q .fourth-below)
+    ∙ step _ _ (a .third) (b .third) _ (p .third-below) (q .third-below)
+    ∙ step _ _ (a .second) (b .second) _ (p .second-below) (q .second-below)
+    ∙ step _ _ (a .first) (b .first) _ (p .first-below) (q .first-below)

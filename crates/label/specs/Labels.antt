@@ -1,0 +1,90 @@
+-- Atoms, labels and arity lists (document 01, section 'Terms, labels, listings').
+use mathlib.Core.Bool.{Bool, true, false, not, _&&_, _||_, cond}
+use mathlib.Core.List.{List, [], _∷_}
+use Prim.Native.Nat.{ℕ, zero, suc, _+_, _*_, _/_, _%_}
+use lib.ListN.{length, getD, take}
+use lib.Dec.{eqb, ltb, leb}
+use Rattle.label.specs.Limits.{predicateCount, mostPlaces, equality, equalityArity, termBase, predicateWeight, firstWeight, secondWeight, thirdWeight}
+use Rattle.label.specs.Terms.{isTerm}
+use Rattle.label.specs.declared.Atom.{Atom}
+use Rattle.label.specs.declared.Label.{Label}
+use Rattle.label.specs.declared.Test.{Test}
+use Rattle.label.specs.declared.Test.the-variants.{Always, Is}
+
+-- an arity list: 32 arities, the first of them 2, each at most 4
+abbrev pub allAtMost : ℕ → List ℕ → Bool
+allAtMost m [] = true
+allAtMost m (x ∷ xs) = leb x m && allAtMost m xs
+
+unfoldable pub areArities : List ℕ → Bool
+areArities ar = eqb (length ar) predicateCount && (eqb (getD ar equality 0) equalityArity && allAtMost mostPlaces ar)
+
+-- an atom is a predicate and four places, unused ones 0; its label is
+-- predicate · 2^24 + t1 · 2^18 + t2 · 2^12 + t3 · 2^6 + t4
+unfoldable pub packed : Atom → ℕ
+packed a = a .predicate * predicateWeight + a .first * firstWeight + a .second * secondWeight + a .third * thirdWeight + a .fourth
+
+unfoldable pub predicateOf : ℕ → ℕ
+predicateOf l = l / predicateWeight
+
+unfoldable pub unpacked : ℕ → Atom
+unpacked l = record {
+    predicate = l / predicateWeight;
+    first = l / firstWeight % termBase;
+    second = l / secondWeight % termBase;
+    third = l / thirdWeight % termBase;
+    fourth = l % termBase }
+
+-- place k of a predicate of arity n: a term, or 0 where it is unused
+unfoldable pub placeFits : ℕ → ℕ → ℕ → Bool
+placeFits n k t = cond (ltb k n) (isTerm t) (eqb t 0)
+
+-- equality has its smaller term first; t = t is no label
+unfoldable pub inOrder : Atom → Bool
+inOrder a = not (eqb (a .predicate) equality) || ltb (a .first) (a .second)
+
+unfoldable pub isAtom : List ℕ → Atom → Bool
+isAtom ar a =
+    ltb (a .predicate) predicateCount
+    && (placeFits (getD ar (a .predicate) 0) 0 (a .first)
+    && (placeFits (getD ar (a .predicate) 0) 1 (a .second)
+    && (placeFits (getD ar (a .predicate) 0) 2 (a .third)
+    && (placeFits (getD ar (a .predicate) 0) 3 (a .fourth)
+    && inOrder a))))
+
+-- l is a label under the arity list ar
+unfoldable pub isLabel : List ℕ → ℕ → Bool
+isLabel ar l = isAtom ar (unpacked l)
+
+-- the terms of an atom under the arity list ar: its used places
+unfoldable pub termsOf : List ℕ → Atom → List ℕ
+termsOf ar a = take (getD ar (a .predicate) 0) (a .first ∷ a .second ∷ a .third ∷ a .fourth ∷ [])
+
+-- labels are ordered as their numbers: that is by predicate, then by the first place that differs
+abbrev pub firstDiffers : ℕ → ℕ → Bool → Bool
+firstDiffers x y rest = ltb x y || (eqb x y && rest)
+
+unfoldable pub before : Atom → Atom → Bool
+before a b =
+    firstDiffers (a .predicate) (b .predicate)
+    (firstDiffers (a .first) (b .first)
+    (firstDiffers (a .second) (b .second)
+    (firstDiffers (a .third) (b .third)
+    (ltb (a .fourth) (b .fourth)))))
+
+-- what an atom asks, after its terms were replaced: t = t is plain truth, an equality has its smaller term first
+abbrev pub pickTest : Bool → Test → Test → Test
+pickTest true x y = x
+pickTest false x y = y
+
+abbrev pub labelOf : Atom → Test
+labelOf a = Is (record { packed = packed a })
+
+unfoldable pub equates : ℕ → ℕ → Test
+equates t u =
+    pickTest (eqb t u) Always
+    (pickTest (ltb t u) (labelOf (record { predicate = equality; first = t; second = u; third = 0; fourth = 0 }))
+    (labelOf (record { predicate = equality; first = u; second = t; third = 0; fourth = 0 })))
+
+unfoldable pub testOf : Atom → Test
+testOf a = pickTest (eqb (a .predicate) equality) (equates (a .first) (a .second)) (labelOf a)

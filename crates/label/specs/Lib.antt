@@ -1,0 +1,6 @@
+-- Terms, atoms and labels (document 01, section 'Terms, labels, listings').
+pub mod Limits
+pub mod Terms
+pub mod Labels
+pub mod Renamings
+pub mod LabelLaws

@@ -1,0 +1,56 @@
+-- Maps of terms, and labels renamed by them (document 01, sections 'Combination' and 'Regression').
+use mathlib.Core.Bool.{Bool, true, false, cond}
+use mathlib.Core.List.{List, [], _∷_}
+use mathlib.Core.Path.{_≡_}
+use Prim.Native.Nat.{ℕ, zero, suc, _+_, _-_, _≤_, _<_}
+use lib.ListN.{length, getD}
+use lib.Dec.{eqb, ltb}
+use Rattle.label.specs.Limits.{firstParameter, parameterCount, firstVariable, constantCount}
+use Rattle.label.specs.Labels.{packed, unpacked, testOf, predicateOf}
+use Rattle.label.specs.declared.Atom.{Atom}
+use Rattle.label.specs.declared.Test.{Test}
+
+-- place k of a predicate of arity n, its term replaced; an unused place stays 0
+unfoldable pub placed : (ℕ → ℕ) → ℕ → ℕ → ℕ → ℕ
+placed ρ n k t = cond (ltb k n) (ρ t) 0
+
+-- an atom of arity n, all of its terms replaced together
+unfoldable pub mapped : (ℕ → ℕ) → ℕ → Atom → Atom
+mapped ρ n a = record {
+    predicate = a .predicate;
+    first = placed ρ n 0 (a .first);
+    second = placed ρ n 1 (a .second);
+    third = placed ρ n 2 (a .third);
+    fourth = placed ρ n 3 (a .fourth) }
+
+-- what the label l asks once its terms are replaced
+unfoldable pub moved : List ℕ → (ℕ → ℕ) → ℕ → Test
+moved ar ρ l = testOf (mapped ρ (getD ar (predicateOf l) 0) (unpacked l))
+
+-- the label l renamed, for maps that keep the order of its terms
+unfoldable pub renamed : List ℕ → (ℕ → ℕ) → ℕ → ℕ
+renamed ar ρ l = packed (mapped ρ (getD ar (predicateOf l) 0) (unpacked l))
+
+-- a map of terms as a lent list of words
+abbrev pub mapOf : List ℕ → ℕ → ℕ
+mapOf ws t = getD ws t 0
+
+-- how many numbers of vs are below t
+abbrev pub rank : List ℕ → ℕ → ℕ
+rank [] t = 0
+rank (v ∷ vs) t = cond (ltb v t) 1 0 + rank vs t
+
+-- the variables vs renamed to m, m + 1, .. in their order: closing up has m = 32, the second operand of a call apart 32 and the first's count
+unfoldable pub numbering : List ℕ → ℕ → ℕ → ℕ
+numbering vs m t = cond (ltb t firstVariable) t (m + rank vs t)
+
+-- freeing: parameter 16 + i turns into variable 32 + i, and the other variables move up by the parameter count c
+unfoldable pub freeing : ℕ → ℕ → ℕ
+freeing c t =
+    cond (ltb t firstParameter) t
+    (cond (ltb t (firstParameter + c)) (t + (firstVariable - firstParameter))
+    (cond (ltb t firstVariable) t (t + c)))
+
+-- ρ keeps the order of the terms that P names
+pub record Increasing (P : ℕ → Type 0) (ρ : ℕ → ℕ) : Type 0 where
+  pub keeps : (t u : ℕ) → P t → P u → t < u → ρ t < ρ u

@@ -1,0 +1,38 @@
+-- Kinds of terms (document 01, section 'Terms, labels, listings').
+use mathlib.Core.Bool.{Bool, true, false, _&&_, _||_}
+use mathlib.Core.Path.{_≡_}
+use Prim.Native.Nat.{ℕ, _+_, _-_, _≤_, _<_}
+use lib.Dec.{ltb, leb}
+use Rattle.label.specs.Limits.{constantCount, firstParameter, parameterCount, firstVariable, variableCount, termBase}
+use Rattle.label.specs.declared.Kind.{Kind}
+use Rattle.label.specs.declared.Kind.the-variants.{Constant, Parameter, Variable, None}
+
+unfoldable pub isConstant : ℕ → Bool
+isConstant t = ltb t constantCount
+
+unfoldable pub isParameter : ℕ → Bool
+isParameter t = leb firstParameter t && ltb t (firstParameter + parameterCount)
+
+unfoldable pub isVariable : ℕ → Bool
+isVariable t = leb firstVariable t && ltb t (firstVariable + variableCount)
+
+unfoldable pub isTerm : ℕ → Bool
+isTerm t = isConstant t || (isParameter t || isVariable t)
+
+abbrev pub pickKind : Bool → Kind → Kind → Kind
+pickKind true x y = x
+pickKind false x y = y
+
+-- the kind of the term with number t, or that no term has it
+unfoldable pub kindOf : ℕ → Kind
+kindOf t = pickKind (isConstant t) Constant (pickKind (isParameter t) Parameter (pickKind (isVariable t) Variable None))
+
+-- constant, parameter and variable i
+abbrev pub constantTerm : ℕ → ℕ
+constantTerm i = i
+
+abbrev pub parameterTerm : ℕ → ℕ
+parameterTerm i = firstParameter + i
+
+abbrev pub variableTerm : ℕ → ℕ
+variableTerm i = firstVariable + i

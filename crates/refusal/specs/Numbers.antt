@@ -1,0 +1,24 @@
+-- The number of each trade word (document 01, table 'Refusals by trade word').
+use Prim.Native.Nat.{ℕ}
+use Rattle.refusal.specs.declared.Refusal.{Refusal}
+use Rattle.refusal.specs.declared.Refusal.the-variants.{Form, Name, Arity, Range, Place, Unbound, Truth, Variables, Space, Pairs, Value, Scale, Weights, Listing, Valuations, Nothing, Paths, Buffer}
+
+abbrev pub numberOf : Refusal → ℕ
+numberOf Form = 1
+numberOf Name = 2
+numberOf Arity = 3
+numberOf Range = 4
+numberOf Place = 5
+numberOf Unbound = 6
+numberOf Truth = 7
+numberOf Variables = 8
+numberOf Space = 9
+numberOf Pairs = 10
+numberOf Value = 11
+numberOf Scale = 12
+numberOf Weights = 13
+numberOf Listing = 14
+numberOf Valuations = 15
+numberOf Nothing = 16
+numberOf Paths = 17
+numberOf Buffer = 18

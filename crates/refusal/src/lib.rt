@@ -1,0 +1,52 @@
+// The refusals of document 01, by trade word.
+ghost use mathlib.Core.Path.{_≡_};
+ghost use Rattle.refusal.specs.Numbers.{numberOf};
+
+pub enum Refusal {
+    Form,
+    Name,
+    Arity,
+    Range,
+    Place,
+    Unbound,
+    Truth,
+    Variables,
+    Space,
+    Pairs,
+    Value,
+    Scale,
+    Weights,
+    Listing,
+    Valuations,
+    Nothing,
+    Paths,
+    Buffer,
+}
+
+impl Refusal {
+    // The number of the trade word.
+    pub fn number(self) -> u64
+        ensures { λ r. ⌜ r ≡ numberOf self ⌝ }
+    {
+        match self {
+            Refusal::Form => 1,
+            Refusal::Name => 2,
+            Refusal::Arity => 3,
+            Refusal::Range => 4,
+            Refusal::Place => 5,
+            Refusal::Unbound => 6,
+            Refusal::Truth => 7,
+            Refusal::Variables => 8,
+            Refusal::Space => 9,
+            Refusal::Pairs => 10,
+            Refusal::Value => 11,
+            Refusal::Scale => 12,
+            Refusal::Weights => 13,
+            Refusal::Listing => 14,
+            Refusal::Valuations => 15,
+            Refusal::Nothing => 16,
+            Refusal::Paths => 17,
+            Refusal::Buffer => 18,
+        }
+    }
+}
