@@ -21,6 +21,7 @@ term-below t e = go (either (ltb t 16) _ e)
     rest : Either (leb 16 t && ltb t 20) (leb 32 t && ltb t 64) → t < termBase
     rest (one q) = omega (arith, ltb-true t 20 (and-right (leb 16 t) _ q))
     rest (other q) = ltb-true t 64 (and-right (leb 32 t) _ q)
+
     go : Either (ltb t 16) ((leb 16 t && ltb t 20) || (leb 32 t && ltb t 64)) → t < termBase
     go (one q) = omega (arith, ltb-true t 16 q)
     go (other q) = rest (either (leb 16 t && ltb t 20) _ q)
@@ -58,12 +59,13 @@ atom-fits ar a e =
     let e₃ = and-right (placeFits n 1 (a .second)) _ e₂ in
     let e₄ = and-right (placeFits n 2 (a .third)) _ e₃ in
     record {
-        predicate-fits = ltb-true _ _ (and-left (ltb (a .predicate) predicateCount) _ e);
-        first-fits = and-left (placeFits n 0 (a .first)) _ e₁;
-        second-fits = and-left (placeFits n 1 (a .second)) _ e₂;
-        third-fits = and-left (placeFits n 2 (a .third)) _ e₃;
-        fourth-fits = and-left (placeFits n 3 (a .fourth)) _ e₄;
-        ordered = and-right (placeFits n 3 (a .fourth)) _ e₄ }
+      predicate-fits = ltb-true _ _ (and-left (ltb (a .predicate) predicateCount) _ e);
+      first-fits = and-left (placeFits n 0 (a .first)) _ e₁;
+      second-fits = and-left (placeFits n 1 (a .second)) _ e₂;
+      third-fits = and-left (placeFits n 2 (a .third)) _ e₃;
+      fourth-fits = and-left (placeFits n 3 (a .fourth)) _ e₄;
+      ordered = and-right (placeFits n 3 (a .fourth)) _ e₄;
+    }
 
 pub fits-atom : (ar : List ℕ) (a : Atom) → Fitting ar a → isAtom ar a ≡ true
 unfolding isAtom
@@ -74,10 +76,11 @@ pub atom-places : (ar : List ℕ) (a : Atom) → isAtom ar a ≡ true → Places
 atom-places ar a e =
     let f = atom-fits ar a e in
     record {
-        first-below = place-below _ 0 _ (f .first-fits);
-        second-below = place-below _ 1 _ (f .second-fits);
-        third-below = place-below _ 2 _ (f .third-fits);
-        fourth-below = place-below _ 3 _ (f .fourth-fits) }
+      first-below = place-below _ 0 _ (f .first-fits);
+      second-below = place-below _ 1 _ (f .second-fits);
+      third-below = place-below _ 2 _ (f .third-fits);
+      fourth-below = place-below _ 3 _ (f .fourth-fits);
+    }
 
 -- packing and unpacking are inverse
 pub packed-unpacked : (l : ℕ) → packed (unpacked l) ≡ l

@@ -29,11 +29,12 @@ predicateOf l = l / predicateWeight
 
 unfoldable pub unpacked : ℕ → Atom
 unpacked l = record {
-    predicate = l / predicateWeight;
-    first = l / firstWeight % termBase;
-    second = l / secondWeight % termBase;
-    third = l / thirdWeight % termBase;
-    fourth = l % termBase }
+  predicate = l / predicateWeight;
+  first = l / firstWeight % termBase;
+  second = l / secondWeight % termBase;
+  third = l / thirdWeight % termBase;
+  fourth = l % termBase;
+}
 
 -- place k of a predicate of arity n: a term, or 0 where it is unused
 unfoldable pub placeFits : ℕ → ℕ → ℕ → Bool

@@ -17,11 +17,12 @@ placed ρ n k t = cond (ltb k n) (ρ t) 0
 -- an atom of arity n, all of its terms replaced together
 unfoldable pub mapped : (ℕ → ℕ) → ℕ → Atom → Atom
 mapped ρ n a = record {
-    predicate = a .predicate;
-    first = placed ρ n 0 (a .first);
-    second = placed ρ n 1 (a .second);
-    third = placed ρ n 2 (a .third);
-    fourth = placed ρ n 3 (a .fourth) }
+  predicate = a .predicate;
+  first = placed ρ n 0 (a .first);
+  second = placed ρ n 1 (a .second);
+  third = placed ρ n 2 (a .third);
+  fourth = placed ρ n 3 (a .fourth);
+}
 
 -- what the label l asks once its terms are replaced
 unfoldable pub moved : List ℕ → (ℕ → ℕ) → ℕ → Test

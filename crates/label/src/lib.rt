@@ -22,9 +22,13 @@ pub struct Term {
 
 impl Term {
     pub const CONSTANTS: u64 = 16;
+
     pub const FIRST_PARAMETER: u64 = 16;
+
     pub const PARAMETERS: u64 = 4;
+
     pub const FIRST_VARIABLE: u64 = 32;
+
     pub const VARIABLES: u64 = 32;
     // Every term's number is below this.
     pub const BASE: u64 = 64;
@@ -42,7 +46,9 @@ impl Term {
         requires { ⌜ i < parameterCount ⌝ }
         ensures { λ r. ⌜ r .number ≡ parameterTerm i ⌝ }
     {
-        Term { number: Term::FIRST_PARAMETER + i }
+        Term {
+            number: Term::FIRST_PARAMETER + i,
+        }
     }
 
     // Variable i.
@@ -50,7 +56,9 @@ impl Term {
         requires { ⌜ i < variableCount ⌝ }
         ensures { λ r. ⌜ r .number ≡ variableTerm i ⌝ }
     {
-        Term { number: Term::FIRST_VARIABLE + i }
+        Term {
+            number: Term::FIRST_VARIABLE + i,
+        }
     }
 
     // The kind of the term, or None where no term has the number.

@@ -1,0 +1,45 @@
+-- The variables of a diagram, closing up and moving apart (document 01, section 'Combination').
+use mathlib.Core.Bool.{Bool, true, false, _||_}
+use mathlib.Core.List.{List, [], _∷_, _++_}
+use Prim.Native.Nat.{ℕ, zero, suc, _+_}
+use lib.ListN.{length}
+use lib.Dec.{eqb}
+use Rattle.basics.specs.Members.{mem}
+use Rattle.label.specs.Limits.{firstVariable, variableCount}
+use Rattle.label.specs.Labels.{termsOf, unpacked}
+use Rattle.label.specs.Renamings.{renamed, numbering}
+use Rattle.diagram.specs.Diagram.{Diagram, leaf, branch, relabel}
+
+-- the term t stands in a label of d
+unfoldable pub occurs : List ℕ → ℕ → Diagram → Bool
+occurs ar t (leaf v) = false
+occurs ar t (branch l x y) = mem eqb t (termsOf ar (unpacked l)) || (occurs ar t x || occurs ar t y)
+
+abbrev pub pickList : Bool → List ℕ → List ℕ → List ℕ
+pickList true x y = x
+pickList false x y = y
+
+-- those of the n terms from t on that occur in d, ascending
+unfoldable pub occurring : List ℕ → Diagram → ℕ → ℕ → List ℕ
+occurring ar d t zero = []
+occurring ar d t (suc n) = pickList (occurs ar t d) (t ∷ occurring ar d (suc t) n) (occurring ar d (suc t) n)
+
+-- the variables of d, ascending
+unfoldable pub variables : List ℕ → Diagram → List ℕ
+unfolding occurring occurs
+variables ar d = occurring ar d firstVariable variableCount
+
+-- the used variables renamed to m, m + 1, .. in their order
+unfoldable pub closedFrom : List ℕ → ℕ → Diagram → Diagram
+unfolding variables relabel
+closedFrom ar m d = relabel (renamed ar (numbering (variables ar d) m)) d
+
+-- closing up: the used variables become 32, 33, .. in their order
+unfoldable pub closed : List ℕ → Diagram → Diagram
+unfolding closedFrom
+closed ar d = closedFrom ar firstVariable d
+
+-- apart: the variables of the second operand b follow after those of the first, a
+unfoldable pub after : List ℕ → Diagram → Diagram → Diagram
+unfolding closedFrom
+after ar a b = closedFrom ar (firstVariable + length (variables ar a)) b
