@@ -3,18 +3,17 @@ use mathlib.Core.Bool.{Bool, true, false, _&&_}
 use mathlib.Core.Path.{_≡_, refl, sym, ap, subst, _∙_}
 use mathlib.Core.Logic.{⊎-elim}
 use mathlib.Core.List.{List, [], _∷_, _++_}
-use Prim.Native.Nat.{ℕ, zero, suc, _+_, _*_, _<_, _≤_, zero-le, suc-le-suc}
+use Prim.Native.Nat.{ℕ, zero, suc, _+_, _*_, _<_, _≤_, suc-le-suc}
 use native.Mathlib.Nat.{zero-add, add-suc, suc-add, add-zero, eq-or-lt-of-le, le-of-suc-le-suc}
 use native.Mathlib.Numerals.{add-one}
 use native.Mathlib.Omega.{arith}
-use borrow.Author.Tests.{eqb-true, eqb-false, eq-eqb, ne-eqb}
+use borrow.Author.Tests.{eqb-true, eq-eqb, ne-eqb}
 use lib.ListN.{length, getD, set, drop, length-append, length-set, List·getD-append}
 use lib.Seq.{getD-at, getD-set-same, getD-set-other, drop-set-lt}
 use lib.Dec.{eqb}
 use Rattle.basics.specs.Tests.{and-left, and-right}
 use Rattle.basics.specs.Members.{clash}
 use Rattle.table.specs.declared.Row.{Row}
-use Rattle.table.specs.declared.Found.{Found}
 use Rattle.table.specs.declared.Found.the-variants.{At, Nothing}
 use Rattle.table.specs.Rows.{rowAt, putAt, rows, sameRow, pickFound, firstFrom, firstIn}
 
@@ -34,7 +33,7 @@ same-refl x = rw (eq-eqb (x .label) (x .label) refl, eq-eqb (x .high) (x .high) 
 pub same-false : (x y : Row) → sameRow x y ≡ false → x ≡ y → ⊥
 same-false x y e p =
     let q : sameRow x y ≡ true = subst (λ (z : Row). sameRow x z ≡ true) p (same-refl x) in
-    let z : _≡_ {A = ℕ} 0 1 = cc in omega arith
+    clash q e
 
 pub ne-same : (x y : Row) → (x ≡ y → ⊥) → sameRow x y ≡ false
 ne-same x y f = go (sameRow x y) refl

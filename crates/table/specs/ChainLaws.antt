@@ -7,7 +7,7 @@ use native.Mathlib.Omega.{arith}
 use borrow.Author.Tests.{eqb-true, eqb-false, eq-eqb, ne-eqb}
 use lib.Dec.{eqb}
 use Rattle.basics.specs.Tests.{Flag, isTrue, isFalse, flag}
-use Rattle.table.specs.Chains.{prev, pickNat}
+use Rattle.table.specs.Chains.{prev}
 
 -- two numbers are equal or not
 pub test : (m n : ℕ) → (m ≡ n) ⊎ (m ≡ n → ⊥)

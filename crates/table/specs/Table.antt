@@ -70,7 +70,8 @@ abbrev pub pickRows : Bool → List Row → List Row → List Row
 pickRows true x y = x
 pickRows false x y = y
 
--- what finding or adding the row r in the rows xs, of which there may be `limit`, answers: the place where the row stands or stood
+-- what finding or adding the row r in the rows xs, of which there may be `limit`, answers: the place where the row stood, or stands now,
+-- or that there is no room (document 01, Combination: refusal 9)
 abbrev pub addWhere : ℕ → List Row → Found → Added
 addWhere limit xs (At i) = Old i
 addWhere limit xs Nothing = pickAdded (eqb (length xs) limit) Full (New (length xs))

@@ -1,6 +1,6 @@
 // The unique table: rows of three words in space that the caller lends, no two equal, with a hash index over them.
 ghost use mathlib.Core.Path.{_≡_};
-ghost use Prim.Native.Nat.{ℕ, _+_, _*_, _<_, _≤_};
+ghost use Prim.Native.Nat.{_+_, _*_, _<_, _≤_};
 ghost use lib.ListN.{length};
 ghost use Rattle.table.specs.Rows.{rowAt, putAt, rows, sameRow, firstIn};
 ghost use Rattle.table.specs.Table.{buckets, hashOf, Table, Addable, AddPost, Touched, Clean};

@@ -1,7 +1,6 @@
 use mathlib.Core.Path.{_≡_}
 use Prim.Native.Nat.{_-_}
-use native.Mathlib.Omega.{arith}
-use lib.ListN.{length, length-set}
+use lib.ListN.{length}
 use borrow.Author.Needs.{needs}
 use Rattle.table.proofs.TableLaws.{Clearing, clear-start, clear-on, clear-end}
 use Rattle.table.proofs.clear.Statement.{statement}
