@@ -15,6 +15,7 @@ use Rattle.diagram.specs.Diagram.{Diagram, leaf, branch, same}
 use Rattle.diagram.specs.DiagramLaws.{same-eq, same-refl}
 use Rattle.diagram.specs.Rows.{rows}
 use Rattle.diagram.specs.Words.{labelAt, highAt, lowAt}
+use Rattle.diagram.specs.RowLists.{Encoded}
 use Rattle.diagram.specs.Listing.{index, encode, listing, treeAt}
 
 -- the laws of `treeAt`: nothing else unfolds it
@@ -81,11 +82,6 @@ unfolding encode
 encode-append w [] ys = refl
 encode-append w (leaf v ∷ xs) ys = rw (encode-append w xs ys)
 encode-append w (branch l t f ∷ xs) ys = rw (encode-append w xs ys)
-
--- a, b, c are the words of a row, children by their number among w
-abbrev pub Encoded : List Diagram → Diagram → ℕ → ℕ → ℕ → Type 0
-Encoded w (leaf v) a b c = (a ≡ leafMark) × (b ≡ v) × (c ≡ 0)
-Encoded w (branch l t f) a b c = (a ≡ l) × (b ≡ index t w) × (c ≡ index f w)
 
 module _ (x y z : ℕ) (ws : List ℕ) (k : ℕ) where
   label-next : labelAt (x ∷ y ∷ z ∷ ws) (suc k) ≡ labelAt ws k

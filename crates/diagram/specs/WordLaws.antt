@@ -1,4 +1,4 @@
--- Laws of words: equal rows, the numbers 0 .. n - 1, and the walk that finishes rows, which only adds to them.
+-- Laws of words and of lists that grow: equal rows, the numbers 0 .. n - 1, and the walk that finishes rows, which only adds to them.
 use mathlib.Core.Path.{_≡_, refl, ap, sym, _∙_}
 use mathlib.Core.Logic.{_≢_}
 use mathlib.Core.Bool.{Bool, true, false, not, _&&_, _||_}
@@ -12,7 +12,27 @@ use borrow.Author.Tests.{eqb-true, eqb-false, eq-eqb, ne-eqb}
 use Rattle.basics.specs.Tests.{and-left, and-right, Flag, isTrue, isFalse, flag, Cmp, cmp, below, equal, above, or-one, or-other}
 use Rattle.basics.specs.Members.{IsTest, mem, mem-append, clash}
 use Rattle.label.specs.Limits.{leafMark}
+use Rattle.diagram.specs.RowLists.{Grown}
 use Rattle.diagram.specs.Words.{labelAt, highAt, lowAt, equalRows, finish, upTo, everyBelow, equalLists}
+
+-- lists that grow
+pub grown-none : {A : Type 0} (xs : List A) → Grown xs xs
+grown-none xs = record { more = []; is = sym (append-nil xs) }
+
+pub grown-more : {A : Type 0} (xs ys zs : List A) → Grown xs ys → Grown xs (ys ++ zs)
+grown-more xs ys zs g = record { more = g .more ++ zs; is = ap (λ z. z ++ zs) (g .is) ∙ append-assoc xs (g .more) zs }
+
+pub grown-twice : {A : Type 0} (xs ys zs : List A) → Grown xs ys → Grown ys zs → Grown xs zs
+grown-twice xs ys zs g h = record { more = g .more ++ h .more; is = h .is ∙ ap (λ z. z ++ h .more) (g .is) ∙ append-assoc xs (g .more) (h .more) }
+
+pub mem-grown : {A : Type 0} (eq : A → A → Bool) (x : A) (xs ys : List A) → Grown xs ys → mem eq x xs ≡ true → mem eq x ys ≡ true
+mem-grown eq x xs ys g h = rw (g .is, mem-append eq x xs (g .more)) (or-one _ _ h)
+
+pub getD-grown : {A : Type 0} (xs ys : List A) (d : A) (k : ℕ) → Grown xs ys → k < length xs → getD ys k d ≡ getD xs k d
+getD-grown xs ys d k g h = rw (g .is) (List·getD-append xs (g .more) d k h)
+
+pub length-grown : {A : Type 0} (xs ys : List A) → Grown xs ys → length xs ≤ length ys
+length-grown xs ys g = omega (arith, ap length (g .is), length-append xs (g .more))
 
 pub number-test : IsTest eqb
 number-test = record { sound = λ a b e. eqb-true a b e; complete = λ a. eq-eqb a a refl }
@@ -130,6 +150,11 @@ getD-upTo (suc m) k h = go (cmp k m) (getD-upTo m k)
     go (equal q) ih = getD-at (upTo m) m [] 0 k (length-upTo m ∙ sym q) ∙ sym q
     go (above q) ih = absurd (omega arith)
 
+pub getD-map : {A B : Type 0} (g : A → B) (xs : List A) (k : ℕ) (a : A) (b : B) → k < length xs → getD (map g xs) k b ≡ g (getD xs k a)
+getD-map g [] k a b h = absurd (omega arith)
+getD-map g (x ∷ xs) zero a b h = refl
+getD-map g (x ∷ xs) (suc k) a b h = getD-map g xs k a b (omega arith)
+
 pub map-snoc : {A : Type 0} (g : ℕ → A) (xs : List ℕ) (x : ℕ) → map g (xs ++ (x ∷ [])) ≡ map g xs ++ (g x ∷ [])
 map-snoc g [] x = refl
 map-snoc g (y ∷ ys) x = ap (_∷_ (g y)) (map-snoc g ys x)
@@ -151,28 +176,18 @@ unfolding finish
 finish-branch ws n i done e h = rw (e, ne-eqb (labelAt ws i) leafMark h, finish)
 
 -- a walk only adds
-pub record Grown (done xs : List ℕ) : Type 0 where
-  pub more : List ℕ
-  pub is : xs ≡ done ++ more
-
-grown-more : (done xs ys : List ℕ) → Grown done xs → Grown done (xs ++ ys)
-grown-more done xs ys g = record { more = g .more ++ ys; is = ap (λ z. z ++ ys) (g .is) ∙ append-assoc done (g .more) ys }
-
-grown-twice : (a b c : List ℕ) → Grown a b → Grown b c → Grown a c
-grown-twice a b c g h = record { more = g .more ++ h .more; is = h .is ∙ ap (λ z. z ++ h .more) (g .is) ∙ append-assoc a (g .more) (h .more) }
-
 pub grows : (ws : List ℕ) (n i : ℕ) (done : List ℕ) → Grown done (finish ws n i done)
 unfolding finish
-grows ws zero i done = record { more = []; is = sym (append-nil done) }
+grows ws zero i done = grown-none done
 grows ws (suc n) i done = go (flag (mem eqb i done)) (flag (eqb (labelAt ws i) leafMark))
     (grown-twice done (finish ws n (highAt ws i) done) (finish ws n (lowAt ws i) (finish ws n (highAt ws i) done)) (grows ws n (highAt ws i) done)
     (grows ws n (lowAt ws i) (finish ws n (highAt ws i) done)))
   where
     go : Flag (mem eqb i done) → Flag (eqb (labelAt ws i) leafMark) → Grown done (finish ws n (lowAt ws i) (finish ws n (highAt ws i) done))
         → Grown done (finish ws (suc n) i done)
-    go (isTrue e) x g = rw (finish-old ws (suc n) i done e) (record { more = []; is = sym (append-nil done) })
+    go (isTrue e) x g = rw (finish-old ws (suc n) i done e) (grown-none done)
     go (isFalse e) (isTrue q) g = rw (finish-leaf ws n i done e (eqb-true _ _ q)) (record { more = i ∷ []; is = refl })
     go (isFalse e) (isFalse q) g = rw (finish-branch ws n i done e (eqb-false _ _ q)) (grown-more done _ (i ∷ []) g)
 
 pub finish-keeps : (ws : List ℕ) (n i : ℕ) (done : List ℕ) (x : ℕ) → mem eqb x done ≡ true → mem eqb x (finish ws n i done) ≡ true
-finish-keeps ws n i done x h = let g = grows ws n i done in rw (g .is, mem-append eqb x done (g .more)) (or-one _ _ h)
+finish-keeps ws n i done x h = mem-grown eqb x done (finish ws n i done) (grows ws n i done) h
