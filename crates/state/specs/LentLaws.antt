@@ -1,0 +1,61 @@
+-- Laws of lent states: neither order nor repetition of the facts matters.
+use mathlib.Core.Path.{_≡_, refl, ap, sym, _∙_, fun-ext}
+use mathlib.Core.List.{List}
+use mathlib.Core.Bool.{Bool, true, false, _&&_, _||_}
+use Prim.Native.Nat.{ℕ, zero, suc, _≤_, _<_}
+use native.Mathlib.Omega.{arith}
+use lib.ListN.{getD, take}
+use lib.Dec.{eqb}
+use Rattle.basics.specs.Tests.{Cmp, below, equal, above, cmp, Flag, isTrue, isFalse, flag, Either, one, other, either, or-one, or-other}
+use Rattle.basics.specs.Members.{clash}
+use Rattle.state.specs.State.{State}
+use Rattle.state.specs.Lent.{factCount, predicateAt, objectsAt, saysFact, someBelow, stateOf}
+
+-- `someBelow`, made and taken apart
+pub some-made : (n : ℕ) (q : ℕ → Bool) (i : ℕ) → i < n → q i ≡ true → someBelow n q ≡ true
+some-made zero q i h e = absurd (omega arith)
+some-made (suc n) q i h e = go (cmp i n) (some-made n q i)
+  where
+    go : Cmp i n → (i < n → q i ≡ true → someBelow n q ≡ true) → (someBelow n q || q n) ≡ true
+    go (below l) ih = or-one (someBelow n q) (q n) (ih l e)
+    go (equal l) ih = or-other (someBelow n q) (q n) (rw (← l) e)
+    go (above l) ih = absurd (omega arith)
+
+pub some-found : (n : ℕ) (q : ℕ → Bool) → someBelow n q ≡ true → (i : ℕ) × (i < n) × (q i ≡ true)
+some-found zero q e = clash e refl
+some-found (suc n) q e = go (either (someBelow n q) (q n) e) (some-found n q)
+  where
+    go : Either (someBelow n q) (q n) → (someBelow n q ≡ true → (i : ℕ) × (i < n) × (q i ≡ true)) → (i : ℕ) × (i < suc n) × (q i ≡ true)
+    go (one p) ih = let f = ih p in let l = f .1 in (f .0, omega arith, f .2)
+    go (other p) ih = (n, omega arith, p)
+
+pub some-none : (n : ℕ) (q : ℕ → Bool) → ((i : ℕ) → i < n → q i ≡ false) → someBelow n q ≡ false
+some-none zero q h = refl
+some-none (suc n) q h = rw (some-none n q (λ i l. h i (omega arith)), h n (omega arith))
+
+-- two tests, of which each holds where the other does
+pub both-ways : (a b : Bool) → (a ≡ true → b ≡ true) → (b ≡ true → a ≡ true) → a ≡ b
+both-ways true b f g = sym (f refl)
+both-ways false true f g = g refl
+both-ways false false f g = refl
+
+-- what each row of `facts` says, some row of `others` says too
+pub record Among (ar facts others : List ℕ) : Type 0 where
+  pub each : (i : ℕ) → i < factCount facts → (j : ℕ) × (j < factCount others)
+      × ((p : ℕ) (os : List ℕ) → saysFact ar facts p os i ≡ true → saysFact ar others p os j ≡ true)
+
+-- facts in another order or repeated: the state is the same
+pub same-facts : (ar : List ℕ) (n : ℕ) (constants facts others : List ℕ) → Among ar facts others → Among ar others facts
+    → stateOf ar n constants facts ≡ stateOf ar n constants others
+unfolding stateOf
+same-facts ar n constants facts others a b =
+    let e : stateOf ar n constants facts .fact ≡ stateOf ar n constants others .fact
+    = fun-ext (λ p. fun-ext (λ os. both-ways _ _ (there facts others a p os) (there others facts b p os))) in
+    λ i. record { size = n; constant = stateOf ar n constants facts .constant; fact = e i }
+  where
+    there : (fs gs : List ℕ) → Among ar fs gs → (p : ℕ) (os : List ℕ) → someBelow (factCount fs) (saysFact ar fs p os) ≡ true
+        → someBelow (factCount gs) (saysFact ar gs p os) ≡ true
+    there fs gs w p os e =
+        let f = some-found (factCount fs) (saysFact ar fs p os) e in
+        let g = w .each (f .0) (f .1) in
+        some-made (factCount gs) (saysFact ar gs p os) (g .0) (g .1) (g .2 p os (f .2))

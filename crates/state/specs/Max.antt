@@ -1,0 +1,41 @@
+-- The highest value of a function over a part of a type, and maxima that compute (document 01, sections 'States and value' and 'Backup').
+use mathlib.Core.Path.{_≡_}
+use mathlib.Core.List.{List, [], _∷_}
+use Prim.Native.Nat.{ℕ, zero, suc, _+_, _≤_, _<_, max}
+
+-- x is the highest value of f on P: attained, and nothing above
+pub record IsMax {X : Type 0} (P : X → Type 0) (f : X → ℕ) (x : ℕ) : Type 0 where
+  pub point : X
+  pub inside : P point
+  pub value : f point ≡ x
+  pub bound : (a : X) → P a → f a ≤ x
+
+-- each value of f on P is met or passed by a value of g on Q
+abbrev pub Below : {X Y : Type 0} (P : X → Type 0) (f : X → ℕ) (Q : Y → Type 0) (g : Y → ℕ) → Type 0
+Below {X} {Y} P f Q g = (a : X) → P a → (b : Y) × Q b × (f a ≤ g b)
+
+-- the highest of f 0 .. f (n - 1); 0 if there is none
+unfoldable pub maxTo : ℕ → (ℕ → ℕ) → ℕ
+maxTo zero f = 0
+maxTo (suc n) f = max (maxTo n f) (f n)
+
+-- c objects below n
+pub data Tuple (n : ℕ) : ℕ → List ℕ → Type 0 where
+  none : Tuple n 0 []
+  more : {o c : ℕ} {os : List ℕ} → o < n → Tuple n c os → Tuple n (suc c) (o ∷ os)
+
+-- the highest over all tuples of c objects below n
+unfoldable pub maxTuples : ℕ → ℕ → (List ℕ → ℕ) → ℕ
+unfolding maxTo
+maxTuples n zero f = f []
+maxTuples n (suc c) f = maxTo n (λ o. maxTuples n c (λ os. f (o ∷ os)))
+
+-- the highest and the sum over a list
+module _ {A : Type 0} where
+  unfoldable pub maxOf : List A → (A → ℕ) → ℕ
+  maxOf [] f = 0
+  maxOf (a ∷ l) f = max (f a) (maxOf l f)
+
+  unfoldable pub sumOf : List A → (A → ℕ) → ℕ
+  sumOf [] f = 0
+  sumOf (a ∷ l) f = f a + sumOf l f
