@@ -1,7 +1,7 @@
 -- The same as isListing, said for proofs: children stand before their parents. ListingValid proves the two equivalent.
 use mathlib.Core.Path.{_≡_}
 use mathlib.Core.Logic.{_≢_}
-use mathlib.Core.Bool.{Bool, true, false}
+use mathlib.Core.Bool.{true, false}
 use mathlib.Core.List.{List, []}
 use Prim.Native.Nat.{ℕ, suc, pred, _*_, _≤_, _<_}
 use lib.ListN.{length}
