@@ -50,26 +50,26 @@ use Rattle.diagram.specs.WordLaws.{
 use Rattle.diagram.specs.RowDiagrams.{not-mark}
 
 -- the tests of isListing, one by one: a branch whose children are rows, wherever they stand
-pub record PlainBranch (ar : List ℕ) (ws : List ℕ) (i : ℕ) : Type 0 where
-  pub label : isLabel ar (labelAt ws i) ≡ true
-  pub high-row : highAt ws i < rowCount ws
-  pub low-row : lowAt ws i < rowCount ws
-  pub high-above : labelAt ws i < labelAt ws (highAt ws i)
-  pub low-above : labelAt ws i < labelAt ws (lowAt ws i)
-  pub differ : highAt ws i ≢ lowAt ws i
+record PlainBranch (ar : List ℕ) (ws : List ℕ) (i : ℕ) : Type 0 where
+  label : isLabel ar (labelAt ws i) ≡ true
+  high-row : highAt ws i < rowCount ws
+  low-row : lowAt ws i < rowCount ws
+  high-above : labelAt ws i < labelAt ws (highAt ws i)
+  low-above : labelAt ws i < labelAt ws (lowAt ws i)
+  differ : highAt ws i ≢ lowAt ws i
 
-pub data PlainRow (ar : List ℕ) (ws : List ℕ) (i : ℕ) : Type 0 where
+data PlainRow (ar : List ℕ) (ws : List ℕ) (i : ℕ) : Type 0 where
   plain-leaf : LeafRow ws i → PlainRow ar ws i
   plain-branch : PlainBranch ar ws i → PlainRow ar ws i
 
-pub record Plain (ar ws : List ℕ) : Type 0 where
-  pub arities : areArities ar ≡ true
-  pub whole : length ws ≡ rowCount ws * 3
-  pub some : 1 ≤ rowCount ws
-  pub few : rowCount ws ≤ mostRows
-  pub each : (i : ℕ) → i < rowCount ws → PlainRow ar ws i
-  pub apart : (i j : ℕ) → i < rowCount ws → j < i → equalRows ws j i ≡ false
-  pub order : finish ws (rowCount ws) (pred (rowCount ws)) [] ≡ upTo (rowCount ws)
+record Plain (ar ws : List ℕ) : Type 0 where
+  arities : areArities ar ≡ true
+  whole : length ws ≡ rowCount ws * 3
+  some : 1 ≤ rowCount ws
+  few : rowCount ws ≤ mostRows
+  each : (i : ℕ) → i < rowCount ws → PlainRow ar ws i
+  apart : (i j : ℕ) → i < rowCount ws → j < i → equalRows ws j i ≡ false
+  order : finish ws (rowCount ws) (pred (rowCount ws)) [] ≡ upTo (rowCount ws)
 
 module _ (ar ws : List ℕ) (v : Plain ar ws) where
   inner-branch : (k : ℕ) → k < rowCount ws → labelAt ws k ≢ leafMark → PlainBranch ar ws k
@@ -167,7 +167,7 @@ module _ (ar ws : List ℕ) (v : Plain ar ws) where
       let r = z′ e in
       (in-upTo (highAt ws k) k (r .0), in-upTo (lowAt ws k) k (r .1))
 
-  pub plain-valid : Valid ar ws
+  plain-valid : Valid ar ws
   plain-valid = record {
     arities = v .arities;
     whole = v .whole;
@@ -191,7 +191,7 @@ module _ (ar ws : List ℕ) (v : Plain ar ws) where
             differ = r .differ;
           })
 
-pub valid-plain : (ar ws : List ℕ) → Valid ar ws → Plain ar ws
+valid-plain : (ar ws : List ℕ) → Valid ar ws → Plain ar ws
 valid-plain ar ws v = record {
   arities = v .arities;
   whole = v .whole;
