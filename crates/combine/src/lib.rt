@@ -1,0 +1,1 @@
+// Combination of two diagrams. What it is stands in specs/.
