@@ -1,4 +1,9 @@
 -- Combination (document 01, section 'Combination').
 pub mod Apply
+pub mod Pairs
+pub mod Visit
 pub mod Walk
 pub mod ApplyLaws
+pub mod Snoc
+pub mod PairLaws
+pub mod VisitLaws

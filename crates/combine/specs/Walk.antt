@@ -1,6 +1,7 @@
 -- How the walk of a pair goes on: a view over which the laws of combination recurse.
 use mathlib.Core.Path.{_≡_}
-use Prim.Native.Nat.{ℕ, suc, _≤_, _<_}
+use Prim.Native.Nat.{ℕ, suc, _+_, _≤_, _<_}
+use native.Mathlib.Omega.{arith}
 use Rattle.basics.specs.Tests.{Cmp, below, equal, above, cmp}
 use Rattle.diagram.specs.Diagram.{Diagram, leaf, branch, From}
 
@@ -34,3 +35,20 @@ walk (branch l t f) (branch k u g) = elim (cmp l k) [
 pub from-below : (n l : ℕ) (d : Diagram) → From n d → Below l d → From (suc l) d
 from-below n l (leaf v) o h = tt
 from-below n l (branch k u g) o h = (h, o .1, o .2)
+
+-- how many branches a diagram has as a tree: a pair goes down to smaller ones
+unfoldable pub size : Diagram → ℕ
+size (leaf v) = 0
+size (branch l t f) = suc (size t + size f)
+
+pub small-true : {l : ℕ} {a b t u f g : Diagram} → Step l a b t u f g → size t + size u < size a + size b
+unfolding size
+small-true (left h) = omega arith
+small-true (right h) = omega arith
+small-true (both e) = omega arith
+
+pub small-false : {l : ℕ} {a b t u f g : Diagram} → Step l a b t u f g → size f + size g < size a + size b
+unfolding size
+small-false (left h) = omega arith
+small-false (right h) = omega arith
+small-false (both e) = omega arith
