@@ -7,3 +7,4 @@ pub mod ApplyLaws
 pub mod Snoc
 pub mod PairLaws
 pub mod VisitLaws
+pub mod OverflowLaws
