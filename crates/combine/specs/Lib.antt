@@ -8,3 +8,6 @@ pub mod Snoc
 pub mod PairLaws
 pub mod VisitLaws
 pub mod OverflowLaws
+pub mod Formed
+pub mod RowLaws
+pub mod FormedLaws
