@@ -11,3 +11,5 @@ pub mod OverflowLaws
 pub mod Formed
 pub mod RowLaws
 pub mod FormedLaws
+pub mod Canon
+pub mod GoodLaws
