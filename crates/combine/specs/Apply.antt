@@ -1,7 +1,7 @@
 -- Two diagrams combined leaf by leaf (document 01, section 'Combination').
-use mathlib.Core.Bool.{Bool, true, false}
+use mathlib.Core.Bool.{true, false}
 use Prim.Native.Nat.{ℕ}
-use Rattle.basics.specs.Tests.{Cmp, below, equal, above, cmp}
+use Rattle.basics.specs.Tests.{below, equal, above, cmp}
 use Rattle.diagram.specs.Diagram.{Diagram, leaf, branch, same}
 
 -- the reduced branch: no branch has two equal children

@@ -1,15 +1,14 @@
 -- Two ordered reduced diagrams that mean the same are equal; so a combination is the one diagram with its meaning.
 use mathlib.Core.Path.{_≡_, refl, ap, sym, _∙_}
-use mathlib.Core.Logic.{_≢_}
 use mathlib.Core.Bool.{Bool, true, false, cond}
-use Prim.Native.Nat.{ℕ, zero, suc, _+_, _≤_, _<_}
+use Prim.Native.Nat.{ℕ, suc, _<_}
 use native.Mathlib.Omega.{arith}
 use lib.Dec.{eqb}
 use borrow.Author.Tests.{eq-eqb, ne-eqb}
 use Rattle.diagram.specs.Diagram.{Diagram, leaf, branch, eval, From, Ordered, Reduced}
 use Rattle.diagram.specs.DiagramLaws.{from-weaken}
 use Rattle.combine.specs.Apply.{apply}
-use Rattle.combine.specs.Walk.{Step, left, right, both, Walk, ends, on, walk, from-below}
+use Rattle.combine.specs.Walk.{left, right, both, Walk, ends, on, walk, from-below}
 use Rattle.combine.specs.ApplyLaws.{eval-apply, ordered-apply, reduced-apply}
 
 -- the choice c with b at l

@@ -4,7 +4,7 @@ use mathlib.Core.Bool.{Bool, true, false}
 use mathlib.Core.List.{List, [], _∷_, _++_}
 use Prim.Native.Nat.{ℕ}
 use Rattle.basics.specs.Members.{mem}
-use Rattle.diagram.specs.Diagram.{Diagram, leaf, branch, same}
+use Rattle.diagram.specs.Diagram.{Diagram, branch, same}
 use Rattle.combine.specs.Apply.{apply}
 use Rattle.combine.specs.Pairs.{Pair}
 

@@ -1,16 +1,16 @@
 -- Laws of the rows formed: the pairs of a combination form the rows of its result.
 use mathlib.Core.Path.{_≡_, refl, ap, sym, _∙_}
-use mathlib.Core.Bool.{Bool, true, false}
+use mathlib.Core.Bool.{true, false}
 use mathlib.Core.List.{List, [], _∷_, _++_}
-use Prim.Native.Nat.{ℕ, zero, suc, _+_, _≤_, _<_}
+use Prim.Native.Nat.{ℕ}
 use native.Mathlib.Omega.{arith}
 use lib.ListN.{length}
 use Rattle.basics.specs.Tests.{Flag, isTrue, isFalse, flag, Either, one, other, either, or-one, or-other}
 use Rattle.basics.specs.Members.{mem, NoDup, Within, nodup-le, clash}
 use Rattle.diagram.specs.Diagram.{Diagram, leaf, branch, same}
-use Rattle.diagram.specs.Rows.{onto}
-use Rattle.diagram.specs.DiagramLaws.{same-eq, same-refl, diagram-test, onto-old, onto-leaf, onto-branch}
-use Rattle.combine.specs.Snoc.{mem-more, mem-snoc, snoc-cases, nodup-snoc, Begins, begins-refl, begins-trans, begins-snoc, mem-begins}
+use Rattle.diagram.specs.Rows.{onto, rows}
+use Rattle.diagram.specs.DiagramLaws.{same-eq, diagram-test, onto-old, onto-leaf, onto-branch}
+use Rattle.combine.specs.Snoc.{mem-snoc, snoc-cases, nodup-snoc, Begins, begins-refl, begins-trans, begins-snoc, mem-begins}
 use Rattle.combine.specs.Apply.{node, apply}
 use Rattle.combine.specs.Pairs.{Pair, samePair, pairs}
 use Rattle.combine.specs.Visit.{visit}
@@ -19,7 +19,7 @@ use Rattle.combine.specs.Walk.{Step, Walk, ends, on, walk}
 use Rattle.combine.specs.ApplyLaws.{node-same, node-differ, apply-leaves, apply-step}
 use Rattle.combine.specs.PairLaws.{pair-test}
 use Rattle.combine.specs.VisitLaws.{visit-old, visit-ends, visit-step, visit-within, pairs-within}
-use Rattle.combine.specs.RowLaws.{onto-keeps, onto-mem, onto-fresh, onto-closed}
+use Rattle.combine.specs.RowLaws.{rows-onto, nothing-rows, onto-mem, onto-fresh, onto-closed}
 
 -- the laws of `add` and `formed`: nothing else unfolds them
 pub add-old : (d : Diagram) (rs : List Diagram) → mem same d rs ≡ true → add d rs ≡ rs
@@ -82,6 +82,10 @@ formed-begins op rs [] = rw (formed-none op rs) (begins-refl rs)
 formed-begins op rs (p ∷ ps) =
     rw (formed-cons op rs p ps) (begins-trans rs (add (apply op (p .0) (p .1)) rs) (formed op (add (apply op (p .0) (p .1)) rs) ps)
     (add-begins (apply op (p .0) (p .1)) rs) (formed-begins op (add (apply op (p .0) (p .1)) rs) ps))
+
+-- forming more pairs only adds
+pub formed-prefix : (op : ℕ → ℕ → ℕ) (rs : List Diagram) (ps qs : List Pair) → Begins ps qs → Begins (formed op rs ps) (formed op rs qs)
+formed-prefix op rs ps qs b = rw (b .whole, formed-append op rs ps (b .rest)) (formed-begins op (formed op rs ps) (b .rest))
 
 pub formed-keeps : (op : ℕ → ℕ → ℕ) (rs : List Diagram) (ps : List Pair) → Within same rs (formed op rs ps)
 formed-keeps op rs ps x h = mem-begins same diagram-test x rs (formed op rs ps) (formed-begins op rs ps) h
@@ -200,6 +204,10 @@ formed-done op rs a b done c = forms-walk op rs (walk a b) done c
 pub formed-visit : (op : ℕ → ℕ → ℕ) (rs : List Diagram) (a b : Diagram) → ClosedRows rs → formed op rs (visit a b []) ≡ onto (apply op a b) rs
 unfolding formed
 formed-visit op rs a b c = formed-done op rs a b [] c
+
+-- in an empty space they are the rows of the result's listing
+pub formed-rows : (op : ℕ → ℕ → ℕ) (a b : Diagram) → formed op [] (visit a b []) ≡ rows (apply op a b)
+formed-rows op a b = formed-visit op [] a b nothing-rows ∙ sym (rows-onto (apply op a b))
 
 -- in whatever order every pair forms its diagram, the rows formed are those of the result put onto rs
 pub record FormedPairs (op : ℕ → ℕ → ℕ) (rs : List Diagram) (a b : Diagram) : Type 0 where

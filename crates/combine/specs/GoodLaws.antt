@@ -1,27 +1,26 @@
 -- Labels, values and variables of a combination: a good one of good operands.
-use mathlib.Core.Path.{_≡_, refl, ap, sym, _∙_}
+use mathlib.Core.Path.{_≡_, refl}
 use mathlib.Core.Bool.{Bool, true, false, _||_}
-use mathlib.Core.List.{List, [], _∷_}
-use Prim.Native.Nat.{ℕ, zero, suc, _+_, _≤_, _<_}
-use native.Mathlib.Omega.{arith}
+use mathlib.Core.List.{List}
+use Prim.Native.Nat.{ℕ, _≤_}
 use lib.ListN.{length}
 use lib.Dec.{eqb, ltb}
 use borrow.Author.Tests.{le-ltb}
-use Rattle.basics.specs.Tests.{Flag, isTrue, isFalse, flag, Either, one, other, either, or-one, or-other}
+use Rattle.basics.specs.Tests.{Flag, isTrue, isFalse, flag, Either, one, other}
 use Rattle.basics.specs.Members.{mem, clash}
 use Rattle.label.specs.Labels.{isLabel, termsOf, unpacked}
 use Rattle.diagram.specs.Sizes.{mostRows, highestValue}
-use Rattle.diagram.specs.Diagram.{Diagram, leaf, branch, same, Ordered, Reduced}
+use Rattle.diagram.specs.Diagram.{Diagram, leaf, branch, same}
 use Rattle.diagram.specs.DiagramLaws.{same-eq}
 use Rattle.diagram.specs.Rows.{rows}
 use Rattle.diagram.specs.Listing.{Fine, Good}
 use Rattle.diagram.specs.Variables.{occurs}
 use Rattle.combine.specs.Apply.{node, apply}
-use Rattle.combine.specs.Pairs.{Pair, samePair, pairs, tooHigh, overflows}
+use Rattle.combine.specs.Pairs.{pairs, tooHigh, overflows}
 use Rattle.combine.specs.Walk.{Step, left, right, both, Walk, ends, on, walk}
 use Rattle.combine.specs.ApplyLaws.{node-same, node-differ, apply-leaves, apply-step, ordered-apply, reduced-apply}
-use Rattle.combine.specs.PairLaws.{pairs-where, Where, root, by-true, by-false, pairs-alone, step-inner}
-use Rattle.combine.specs.OverflowLaws.{Overflow, overflow-found, overflow-made, overflows-less, calm-true, calm-false, calm-ends}
+use Rattle.combine.specs.PairLaws.{pairs-where, Where, root, by-true, by-false, pairs-alone}
+use Rattle.combine.specs.OverflowLaws.{Overflow, overflow-found, overflow-made, calm-true, calm-false, calm-ends}
 
 or-false-one : (a b : Bool) → (a || b) ≡ false → a ≡ false
 or-false-one true b e = e

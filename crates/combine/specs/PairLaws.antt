@@ -1,18 +1,17 @@
 -- The pairs are the least closed set that holds both roots; the laws of overflow.
-use mathlib.Core.Path.{_≡_, refl, ap, ap₂, sym, _∙_}
-use mathlib.Core.Bool.{Bool, true, false, _&&_, _||_, cond, true≢false}
+use mathlib.Core.Path.{_≡_, refl, ap, sym}
+use mathlib.Core.Bool.{Bool, true, false, cond}
 use mathlib.Core.List.{List, [], _∷_, _++_}
-use Prim.Native.Nat.{ℕ, zero, suc, _+_, _≤_, _<_}
+use Prim.Native.Nat.{ℕ}
 use native.Mathlib.Omega.{arith}
 use lib.ListN.{length}
-use lib.Dec.{leb}
 use borrow.Author.Tests.{le-leb, lt-leb}
-use Rattle.basics.specs.Tests.{Cmp, below, equal, above, cmp, and-left, and-right, Flag, isTrue, isFalse, flag, Either, one, other, either, or-one, or-other}
-use Rattle.basics.specs.Members.{IsTest, mem, nub, NoDup, Within, mem-append, nodup-count, clash}
+use Rattle.basics.specs.Tests.{Cmp, below, equal, above, cmp, and-left, and-right, Either, one, other, either, or-one, or-other}
+use Rattle.basics.specs.Members.{IsTest, mem, NoDup, nodup-count, clash}
 use Rattle.diagram.specs.Diagram.{Diagram, leaf, branch, same}
 use Rattle.diagram.specs.DiagramLaws.{same-eq, same-refl}
 use Rattle.combine.specs.Snoc.{append-cases, append-one, append-other}
-use Rattle.combine.specs.Pairs.{Pair, samePair, isLeaf, bothLeaves, descend, successor, ClosedPairs, LeastPairs, pairs, pairCount, tooHigh, overflows}
+use Rattle.combine.specs.Pairs.{Pair, samePair, bothLeaves, descend, successor, ClosedPairs, LeastPairs, pairs, pairCount}
 use Rattle.combine.specs.Walk.{Below, Step, left, right, both, Walk, ends, on, walk}
 
 pub pair-test : IsTest samePair
@@ -152,28 +151,27 @@ shut-walk (on s x y) p h n way = shut-step s (shut-walk x) (shut-walk y) p h n w
 pub pairs-closed : (a b : Diagram) → ClosedPairs (pairs a b)
 pairs-closed a b = record { successors = shut-walk (walk a b) }
 
--- the successors of a pair of a closed set
-pub closed-true : (m : List Pair) {l : ℕ} {a b t u f g : Diagram} → ClosedPairs m → Step l a b t u f g → mem samePair (a, b) m ≡ true → mem samePair (t, u) m ≡ true
-closed-true m {a = a} {b = b} c s h = rw (successor-step true s) at (c .successors (a, b) h (step-inner s) true)
-
-pub closed-false : (m : List Pair) {l : ℕ} {a b t u f g : Diagram} → ClosedPairs m → Step l a b t u f g → mem samePair (a, b) m ≡ true → mem samePair (f, g) m ≡ true
-closed-false m {a = a} {b = b} c s h = rw (successor-step false s) at (c .successors (a, b) h (step-inner s) false)
-
-within-step : (m : List Pair) {l : ℕ} {a b t u f g : Diagram} → Step l a b t u f g → mem samePair (a, b) m ≡ true
-    → Within samePair (pairs t u) m → Within samePair (pairs f g) m → Within samePair (pairs a b) m
-within-step m {a = a} {b = b} {t = t} {u = u} {f = f} {g = g} s h x y p e = go (pairs-where p s e)
+-- what holds of both roots and, with each pair, of its successors holds of every pair
+induct-walk : (H : Pair → Type 0) → ((p : Pair) → H p → bothLeaves p ≡ false → (w : Bool) → H (successor w p))
+    → {a b : Diagram} → Walk a b → H (a, b) → (p : Pair) → mem samePair p (pairs a b) ≡ true → H p
+induct-walk H k (ends v w) h p e = rw (pairs-alone p v w e) h
+induct-walk H k (on {a = a} {b = b} {t = t} {u = u} {f = f} {g = g} s x y) h p e =
+    let n = k (a, b) h (step-inner s) in
+    let ht : H (t, u) = rw (successor-step true s) at (n true) in
+    let hf : H (f, g) = rw (successor-step false s) at (n false) in
+    go (pairs-where p s e) (induct-walk H k x ht p) (induct-walk H k y hf p)
   where
-    go : Where p a b t u f g → mem samePair p m ≡ true
-    go (root q) = rw q h
-    go (by-true q) = x p q
-    go (by-false q) = y p q
+    go : Where p a b t u f g → (mem samePair p (pairs t u) ≡ true → H p) → (mem samePair p (pairs f g) ≡ true → H p) → H p
+    go (root q) m n = rw q h
+    go (by-true q) m n = m q
+    go (by-false q) m n = n q
 
-least-walk : (m : List Pair) → ClosedPairs m → {a b : Diagram} → Walk a b → mem samePair (a, b) m ≡ true → Within samePair (pairs a b) m
-least-walk m c (ends v w) h p e = rw (pairs-alone p v w e) h
-least-walk m c (on s x y) h p e = within-step m s h (least-walk m c x (closed-true m c s h)) (least-walk m c y (closed-false m c s h)) p e
+pub pairs-induct : (H : Pair → Type 0) → ((p : Pair) → H p → bothLeaves p ≡ false → (w : Bool) → H (successor w p))
+    → (a b : Diagram) → H (a, b) → (p : Pair) → mem samePair p (pairs a b) ≡ true → H p
+pairs-induct H k a b h p e = induct-walk H k (walk a b) h p e
 
 pub pairs-least : (a b : Diagram) → LeastPairs a b (pairs a b)
-pairs-least a b = record { roots = pairs-root a b; closed = pairs-closed a b; least = λ n r c. least-walk n c (walk a b) r }
+pairs-least a b = record { roots = pairs-root a b; closed = pairs-closed a b; least = λ n r c. pairs-induct (λ p. mem samePair p n ≡ true) (c .successors) a b r }
 
 -- how many pairs a list has that is the least set, without repeats
 pub least-count : (a b : Diagram) (m : List Pair) → NoDup samePair m → LeastPairs a b m → length m ≡ pairCount a b

@@ -5,7 +5,7 @@ use mathlib.Core.List.{List, [], _∷_, _++_}
 use Prim.Native.Nat.{ℕ}
 use lib.ListN.{length}
 use lib.Dec.{leb, ltb}
-use Rattle.basics.specs.Tests.{Cmp, below, equal, above, cmp}
+use Rattle.basics.specs.Tests.{below, equal, above, cmp}
 use Rattle.basics.specs.Members.{mem, nub, Within}
 use Rattle.diagram.specs.Sizes.{highestValue}
 use Rattle.diagram.specs.Diagram.{Diagram, leaf, branch, same}

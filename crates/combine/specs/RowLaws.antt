@@ -1,14 +1,14 @@
 -- Laws of `onto` about members, repeats and children.
-use mathlib.Core.Path.{_≡_, refl, ap, sym, _∙_}
-use mathlib.Core.Bool.{Bool, true, false}
+use mathlib.Core.Path.{_≡_, refl}
+use mathlib.Core.Bool.{true, false}
 use mathlib.Core.List.{List, [], _∷_, _++_}
-use Prim.Native.Nat.{ℕ, zero, suc, _+_, _≤_, _<_}
+use Prim.Native.Nat.{ℕ, _≤_}
 use native.Mathlib.Omega.{arith}
 use Rattle.basics.specs.Tests.{Flag, isTrue, isFalse, flag, Either, one, other}
 use Rattle.basics.specs.Members.{mem, NoDup, Within, clash}
 use Rattle.diagram.specs.Diagram.{Diagram, leaf, branch, same}
 use Rattle.diagram.specs.Rows.{onto, rows}
-use Rattle.diagram.specs.DiagramLaws.{same-eq, same-refl, diagram-test, onto-old, onto-leaf, onto-branch}
+use Rattle.diagram.specs.DiagramLaws.{same-eq, diagram-test, onto-old, onto-leaf, onto-branch}
 use Rattle.combine.specs.Snoc.{Begins, begins-refl, begins-trans, begins-snoc, mem-begins, mem-more, mem-snoc, snoc-cases, nodup-snoc}
 use Rattle.combine.specs.Formed.{ClosedRows}
 use Rattle.combine.specs.Walk.{size}

@@ -1,9 +1,12 @@
 -- Lists that grow at the end, by a Bool test of equality.
 use mathlib.Core.Path.{_≡_, refl, ap, sym, _∙_}
-use mathlib.Core.Bool.{Bool, true, false, _||_, or-false}
+use mathlib.Core.Bool.{Bool, true, false, or-false}
 use mathlib.Core.List.{List, [], _∷_, _++_, append-nil, append-assoc}
+use Prim.Native.Nat.{ℕ, _≤_, _<_}
+use native.Mathlib.Omega.{arith}
+use lib.ListN.{length, getD, length-append, List·getD-append}
 use Rattle.basics.specs.Tests.{Flag, isTrue, isFalse, flag, Either, one, other, either, or-one, or-other}
-use Rattle.basics.specs.Members.{IsTest, mem, NoDup, Within, mem-append, clash}
+use Rattle.basics.specs.Members.{IsTest, mem, NoDup, mem-append, clash}
 
 -- l stands at the beginning of m
 pub record Begins {A : Type 0} (l m : List A) : Type 0 where
@@ -18,6 +21,12 @@ begins-trans l m n p q = record { rest = p .rest ++ q .rest; whole = q .whole �
 
 pub begins-snoc : {A : Type 0} (l : List A) (x : A) → Begins l (l ++ (x ∷ []))
 begins-snoc l x = record { rest = x ∷ []; whole = refl }
+
+pub begins-length : {A : Type 0} (l m : List A) → Begins l m → length l ≤ length m
+begins-length l m p = rw (p .whole, length-append l (p .rest)) (omega arith)
+
+pub begins-getD : {A : Type 0} (l m : List A) (i : ℕ) (d : A) → Begins l m → i < length l → getD m i d ≡ getD l i d
+begins-getD l m i d p h = rw (p .whole) (List·getD-append l (p .rest) d i h)
 
 module _ {A : Type 0} (eq : A → A → Bool) where
   pub mem-more : (y x : A) (l : List A) → mem eq y l ≡ true → mem eq y (l ++ (x ∷ [])) ≡ true

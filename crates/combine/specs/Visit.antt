@@ -1,7 +1,7 @@
 -- The walk of a combination, each pair once, in the order in which it finishes them.
-use mathlib.Core.Bool.{Bool, true, false}
+use mathlib.Core.Bool.{true, false}
 use mathlib.Core.List.{List, [], _∷_, _++_}
-use Rattle.basics.specs.Tests.{Cmp, below, equal, above, cmp}
+use Rattle.basics.specs.Tests.{below, equal, above, cmp}
 use Rattle.basics.specs.Members.{mem}
 use Rattle.diagram.specs.Diagram.{Diagram, leaf, branch, same}
 use Rattle.combine.specs.Pairs.{Pair, samePair}

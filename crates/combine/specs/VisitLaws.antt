@@ -1,18 +1,18 @@
 -- Laws of `visit`: how it goes on, that it only adds, repeats nothing, and finishes the pairs of the combination.
-use mathlib.Core.Path.{_≡_, refl, ap, ap₂, sym, _∙_}
-use mathlib.Core.Bool.{Bool, true, false, _&&_, _||_, cond}
+use mathlib.Core.Path.{_≡_, refl}
+use mathlib.Core.Bool.{Bool, true, false, cond}
 use mathlib.Core.List.{List, [], _∷_, _++_}
-use Prim.Native.Nat.{ℕ, zero, suc, _+_, _≤_, _<_}
+use Prim.Native.Nat.{ℕ, _+_, _≤_}
 use native.Mathlib.Omega.{arith}
 use lib.ListN.{length}
 use Rattle.basics.specs.Tests.{Cmp, below, equal, above, cmp, Flag, isTrue, isFalse, flag, Either, one, other}
-use Rattle.basics.specs.Members.{IsTest, mem, NoDup, Within, clash}
-use Rattle.diagram.specs.Diagram.{Diagram, leaf, branch, same}
+use Rattle.basics.specs.Members.{mem, NoDup, Within, clash}
+use Rattle.diagram.specs.Diagram.{Diagram, leaf, branch}
 use Rattle.combine.specs.Snoc.{Begins, begins-refl, begins-trans, begins-snoc, mem-more, mem-snoc, mem-begins, snoc-cases, nodup-snoc}
 use Rattle.combine.specs.Pairs.{Pair, samePair, bothLeaves, successor, ClosedPairs, LeastPairs, pairs, pairCount}
 use Rattle.combine.specs.Visit.{visit}
 use Rattle.combine.specs.Walk.{Below, Step, left, right, both, Walk, ends, on, walk, size, small-true, small-false}
-use Rattle.combine.specs.PairLaws.{pair-test, successor-step, step-inner, pairs-leaves, pairs-root, pairs-closed, pairs-least, in-true, in-false, least-count, Where, root, by-true, by-false, pairs-where, pairs-alone}
+use Rattle.combine.specs.PairLaws.{pair-test, successor-step, pairs-root, pairs-least, in-true, in-false, least-count, Where, root, by-true, by-false, pairs-where, pairs-alone}
 
 -- the laws of `visit`: nothing else unfolds it
 pub visit-old : (a b : Diagram) (done : List Pair) → mem samePair (a, b) done ≡ true → visit a b done ≡ done

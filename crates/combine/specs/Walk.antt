@@ -1,8 +1,8 @@
 -- How the walk of a pair goes on: a view over which the laws of combination recurse.
 use mathlib.Core.Path.{_≡_}
-use Prim.Native.Nat.{ℕ, suc, _+_, _≤_, _<_}
+use Prim.Native.Nat.{ℕ, suc, _+_, _<_}
 use native.Mathlib.Omega.{arith}
-use Rattle.basics.specs.Tests.{Cmp, below, equal, above, cmp}
+use Rattle.basics.specs.Tests.{below, equal, above, cmp}
 use Rattle.diagram.specs.Diagram.{Diagram, leaf, branch, From}
 
 -- l is lower than the label at d's root, if there is one
