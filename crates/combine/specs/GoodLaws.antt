@@ -1,20 +1,22 @@
 -- Labels, values and variables of a combination: a good one of good operands.
 use mathlib.Core.Path.{_≡_, refl}
 use mathlib.Core.Bool.{Bool, true, false, _||_}
-use mathlib.Core.List.{List}
-use Prim.Native.Nat.{ℕ, _≤_}
+use mathlib.Core.List.{List, _∷_}
+use Prim.Native.Nat.{ℕ, zero, suc, _≤_}
+use native.Mathlib.Omega.{arith}
 use lib.ListN.{length}
 use lib.Dec.{eqb, ltb}
 use borrow.Author.Tests.{le-ltb}
 use Rattle.basics.specs.Tests.{Flag, isTrue, isFalse, flag, Either, one, other}
 use Rattle.basics.specs.Members.{mem, clash}
+use Rattle.label.specs.Limits.{firstVariable, variableCount}
 use Rattle.label.specs.Labels.{isLabel, termsOf, unpacked}
 use Rattle.diagram.specs.Sizes.{mostRows, highestValue}
 use Rattle.diagram.specs.Diagram.{Diagram, leaf, branch, same}
 use Rattle.diagram.specs.DiagramLaws.{same-eq}
 use Rattle.diagram.specs.Rows.{rows}
 use Rattle.diagram.specs.Listing.{Fine, Good}
-use Rattle.diagram.specs.Variables.{occurs}
+use Rattle.diagram.specs.Variables.{occurs, pickList, occurring, variables}
 use Rattle.combine.specs.Apply.{node, apply}
 use Rattle.combine.specs.Pairs.{pairs, tooHigh, overflows}
 use Rattle.combine.specs.Walk.{Step, left, right, both, Walk, ends, on, walk}
@@ -90,6 +92,20 @@ occurs-apply op ar t a b h = go (flag (occurs ar t a)) (flag (occurs ar t b))
     go (isTrue e) d = one e
     go (isFalse e) (isTrue d) = other d
     go (isFalse e) (isFalse d) = clash h (quiet-apply op ar t a b e d)
+
+-- a diagram has at most 32 variables
+pick-length : (b : Bool) (t : ℕ) (xs : List ℕ) → length (pickList b (t ∷ xs) xs) ≤ suc (length xs)
+pick-length true t xs = omega arith
+pick-length false t xs = omega arith
+
+occurring-length : (ar : List ℕ) (d : Diagram) (t n : ℕ) → length (occurring ar d t n) ≤ n
+unfolding occurring
+occurring-length ar d t zero = omega arith
+occurring-length ar d t (suc n) = omega (arith, pick-length (occurs ar t d) t (occurring ar d (suc t) n), occurring-length ar d (suc t) n)
+
+pub variables-few : (ar : List ℕ) (d : Diagram) → length (variables ar d) ≤ variableCount
+unfolding variables
+variables-few ar d = occurring-length ar d firstVariable variableCount
 
 -- ranges: labels are the operands', values are the leaf pairs' results
 pub fine-every : (ar : List ℕ) (d : Diagram) → Fine ar d → EveryLabel (λ l. isLabel ar l ≡ true) d
