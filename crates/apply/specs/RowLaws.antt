@@ -9,9 +9,9 @@ use Rattle.basics.specs.Members.{mem, NoDup, Within, clash}
 use Rattle.diagram.specs.Diagram.{Diagram, leaf, branch, same}
 use Rattle.diagram.specs.Rows.{onto, rows}
 use Rattle.diagram.specs.DiagramLaws.{same-eq, diagram-test, onto-old, onto-leaf, onto-branch}
-use Rattle.combine.specs.Snoc.{Begins, begins-refl, begins-trans, begins-snoc, mem-begins, mem-more, mem-snoc, snoc-cases, nodup-snoc}
-use Rattle.combine.specs.Formed.{ClosedRows}
-use Rattle.combine.specs.Walk.{size}
+use Rattle.apply.specs.Snoc.{Begins, begins-refl, begins-trans, begins-snoc, mem-begins, mem-more, mem-snoc, snoc-cases, nodup-snoc}
+use Rattle.apply.specs.Formed.{ClosedRows}
+use Rattle.apply.specs.Walk.{size}
 
 pub rows-onto : (d : Diagram) → rows d ≡ onto d []
 unfolding rows

@@ -12,13 +12,13 @@ use Rattle.diagram.specs.Rows.{rows}
 use Rattle.diagram.specs.Words.{isListing, labelAt, highAt, lowAt, isLeafRow, isBranchRow, equalRows, areDistinct, finish, areNumbered}
 use Rattle.diagram.specs.Listing.{listing, diagramOf}
 use Rattle.diagram.specs.Variables.{variables, closed, after}
-use Rattle.combine.specs.declared.Operation.the-variants.{Sum, Product, Max}
-use Rattle.combine.specs.declared.Names.the-variants.{Apart, Shared}
-use Rattle.combine.specs.declared.Combined.the-variants.{Done, Refused}
-use Rattle.combine.specs.Apply.{apply}
-use Rattle.combine.specs.Pairs.{pairs, pairCount, overflows}
-use Rattle.combine.specs.Formed.{formed}
-use Rattle.combine.specs.Combination.{combination, rowsFormed, diagramAnswer, combineAnswer}
+use Rattle.apply.specs.declared.Operation.the-variants.{Sum, Product, Max}
+use Rattle.apply.specs.declared.Names.the-variants.{Apart, Shared}
+use Rattle.apply.specs.declared.Combined.the-variants.{Done, Refused}
+use Rattle.apply.specs.Apply.{apply}
+use Rattle.apply.specs.Pairs.{pairs, pairCount, overflows}
+use Rattle.apply.specs.Formed.{formed}
+use Rattle.apply.specs.Combination.{combination, rowsFormed, diagramAnswer, combineAnswer}
 
 -- equality has arity 2, predicate 1 has 1, the others none
 abbrev arities : List ℕ

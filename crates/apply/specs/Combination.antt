@@ -12,15 +12,15 @@ use Rattle.diagram.specs.Rows.{onto, rows}
 use Rattle.diagram.specs.Words.{isListing}
 use Rattle.diagram.specs.Listing.{listing, diagramOf}
 use Rattle.diagram.specs.Variables.{variables, closed, after}
-use Rattle.combine.specs.declared.Operation.{Operation}
-use Rattle.combine.specs.declared.Operation.the-variants.{Sum, Product, Max}
-use Rattle.combine.specs.declared.Names.{Names}
-use Rattle.combine.specs.declared.Names.the-variants.{Apart, Shared}
-use Rattle.combine.specs.declared.Combined.{Combined}
-use Rattle.combine.specs.declared.Combined.the-variants.{Done, Refused}
-use Rattle.combine.specs.Apply.{apply}
-use Rattle.combine.specs.Pairs.{pairs, pairCount, overflows}
-use Rattle.combine.specs.Formed.{formed}
+use Rattle.apply.specs.declared.Operation.{Operation}
+use Rattle.apply.specs.declared.Operation.the-variants.{Sum, Product, Max}
+use Rattle.apply.specs.declared.Names.{Names}
+use Rattle.apply.specs.declared.Names.the-variants.{Apart, Shared}
+use Rattle.apply.specs.declared.Combined.{Combined}
+use Rattle.apply.specs.declared.Combined.the-variants.{Done, Refused}
+use Rattle.apply.specs.Apply.{apply}
+use Rattle.apply.specs.Pairs.{pairs, pairCount, overflows}
+use Rattle.apply.specs.Formed.{formed}
 
 -- sum, product and max are offered
 abbrev pub operate : Operation → ℕ → ℕ → ℕ

@@ -8,11 +8,11 @@ use Rattle.basics.specs.Tests.{Flag, isTrue, isFalse, flag, Either, one, other,
 use Rattle.basics.specs.Members.{mem, Within, clash}
 use Rattle.diagram.specs.Sizes.{highestValue}
 use Rattle.diagram.specs.Diagram.{Diagram, leaf}
-use Rattle.combine.specs.Pairs.{Pair, samePair, pairs, tooHigh, overflows}
-use Rattle.combine.specs.Visit.{visit}
-use Rattle.combine.specs.Walk.{Step}
-use Rattle.combine.specs.PairLaws.{pair-test, pairs-root, in-true, in-false}
-use Rattle.combine.specs.VisitLaws.{visit-within, pairs-within}
+use Rattle.apply.specs.Pairs.{Pair, samePair, pairs, tooHigh, overflows}
+use Rattle.apply.specs.Visit.{visit}
+use Rattle.apply.specs.Walk.{Step}
+use Rattle.apply.specs.PairLaws.{pair-test, pairs-root, in-true, in-false}
+use Rattle.apply.specs.VisitLaws.{visit-within, pairs-within}
 
 -- the laws of `overflows`: nothing else unfolds it
 pub overflows-none : (op : ℕ → ℕ → ℕ) → overflows op [] ≡ false

@@ -5,8 +5,8 @@ use mathlib.Core.List.{List, [], _∷_, _++_}
 use Prim.Native.Nat.{ℕ}
 use Rattle.basics.specs.Members.{mem}
 use Rattle.diagram.specs.Diagram.{Diagram, branch, same}
-use Rattle.combine.specs.Apply.{apply}
-use Rattle.combine.specs.Pairs.{Pair}
+use Rattle.apply.specs.Apply.{apply}
+use Rattle.apply.specs.Pairs.{Pair}
 
 abbrev pub pickRows : Bool → List Diagram → List Diagram → List Diagram
 pickRows true x y = x

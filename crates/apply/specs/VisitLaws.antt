@@ -8,11 +8,11 @@ use lib.ListN.{length}
 use Rattle.basics.specs.Tests.{Cmp, below, equal, above, cmp, Flag, isTrue, isFalse, flag, Either, one, other}
 use Rattle.basics.specs.Members.{mem, NoDup, Within, clash}
 use Rattle.diagram.specs.Diagram.{Diagram, leaf, branch}
-use Rattle.combine.specs.Snoc.{Begins, begins-refl, begins-trans, begins-snoc, mem-more, mem-snoc, mem-begins, snoc-cases, nodup-snoc}
-use Rattle.combine.specs.Pairs.{Pair, samePair, bothLeaves, successor, ClosedPairs, LeastPairs, pairs, pairCount}
-use Rattle.combine.specs.Visit.{visit}
-use Rattle.combine.specs.Walk.{Below, Step, left, right, both, Walk, ends, on, walk, size, small-true, small-false}
-use Rattle.combine.specs.PairLaws.{pair-test, successor-step, pairs-root, pairs-least, in-true, in-false, least-count, Where, root, by-true, by-false, pairs-where, pairs-alone}
+use Rattle.apply.specs.Snoc.{Begins, begins-refl, begins-trans, begins-snoc, mem-more, mem-snoc, mem-begins, snoc-cases, nodup-snoc}
+use Rattle.apply.specs.Pairs.{Pair, samePair, bothLeaves, successor, ClosedPairs, LeastPairs, pairs, pairCount}
+use Rattle.apply.specs.Visit.{visit}
+use Rattle.apply.specs.Walk.{Below, Step, left, right, both, Walk, ends, on, walk, size, small-true, small-false}
+use Rattle.apply.specs.PairLaws.{pair-test, successor-step, pairs-root, pairs-least, in-true, in-false, least-count, Where, root, by-true, by-false, pairs-where, pairs-alone}
 
 -- the laws of `visit`: nothing else unfolds it
 pub visit-old : (a b : Diagram) (done : List Pair) → mem samePair (a, b) done ≡ true → visit a b done ≡ done

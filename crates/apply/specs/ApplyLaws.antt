@@ -6,8 +6,8 @@ use native.Mathlib.Omega.{arith}
 use Rattle.basics.specs.Tests.{Cmp, below, equal, above, cmp, cond-const, Flag, isTrue, isFalse, flag}
 use Rattle.diagram.specs.Diagram.{Diagram, leaf, branch, same, eval, From, Ordered, Reduced}
 use Rattle.diagram.specs.DiagramLaws.{same-eq, same-ne, from-weaken}
-use Rattle.combine.specs.Apply.{node, apply}
-use Rattle.combine.specs.Walk.{Below, Step, left, right, both, Walk, ends, on, walk, from-below}
+use Rattle.apply.specs.Apply.{node, apply}
+use Rattle.apply.specs.Walk.{Below, Step, left, right, both, Walk, ends, on, walk, from-below}
 
 -- the laws of `node`: nothing else unfolds it
 pub node-same : (l : ℕ) (t f : Diagram) → same t f ≡ true → node l t f ≡ t

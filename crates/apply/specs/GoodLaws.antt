@@ -17,12 +17,12 @@ use Rattle.diagram.specs.DiagramLaws.{same-eq}
 use Rattle.diagram.specs.Rows.{rows}
 use Rattle.diagram.specs.Listing.{Fine, Good}
 use Rattle.diagram.specs.Variables.{occurs, pickList, occurring, variables}
-use Rattle.combine.specs.Apply.{node, apply}
-use Rattle.combine.specs.Pairs.{pairs, tooHigh, overflows}
-use Rattle.combine.specs.Walk.{Step, left, right, both, Walk, ends, on, walk}
-use Rattle.combine.specs.ApplyLaws.{node-same, node-differ, apply-leaves, apply-step, ordered-apply, reduced-apply}
-use Rattle.combine.specs.PairLaws.{pairs-where, Where, root, by-true, by-false, pairs-alone}
-use Rattle.combine.specs.OverflowLaws.{Overflow, overflow-found, overflow-made, calm-true, calm-false, calm-ends}
+use Rattle.apply.specs.Apply.{node, apply}
+use Rattle.apply.specs.Pairs.{pairs, tooHigh, overflows}
+use Rattle.apply.specs.Walk.{Step, left, right, both, Walk, ends, on, walk}
+use Rattle.apply.specs.ApplyLaws.{node-same, node-differ, apply-leaves, apply-step, ordered-apply, reduced-apply}
+use Rattle.apply.specs.PairLaws.{pairs-where, Where, root, by-true, by-false, pairs-alone}
+use Rattle.apply.specs.OverflowLaws.{Overflow, overflow-found, overflow-made, calm-true, calm-false, calm-ends}
 
 or-false-one : (a b : Bool) → (a || b) ≡ false → a ≡ false
 or-false-one true b e = e

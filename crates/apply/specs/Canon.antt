@@ -7,9 +7,9 @@ use lib.Dec.{eqb}
 use borrow.Author.Tests.{eq-eqb, ne-eqb}
 use Rattle.diagram.specs.Diagram.{Diagram, leaf, branch, eval, From, Ordered, Reduced}
 use Rattle.diagram.specs.DiagramLaws.{from-weaken}
-use Rattle.combine.specs.Apply.{apply}
-use Rattle.combine.specs.Walk.{left, right, both, Walk, ends, on, walk, from-below}
-use Rattle.combine.specs.ApplyLaws.{eval-apply, ordered-apply, reduced-apply}
+use Rattle.apply.specs.Apply.{apply}
+use Rattle.apply.specs.Walk.{left, right, both, Walk, ends, on, walk, from-below}
+use Rattle.apply.specs.ApplyLaws.{eval-apply, ordered-apply, reduced-apply}
 
 -- the choice c with b at l
 unfoldable pub put : (ℕ → Bool) → ℕ → Bool → ℕ → Bool

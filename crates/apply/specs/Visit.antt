@@ -4,7 +4,7 @@ use mathlib.Core.List.{List, [], _∷_, _++_}
 use Rattle.basics.specs.Tests.{below, equal, above, cmp}
 use Rattle.basics.specs.Members.{mem}
 use Rattle.diagram.specs.Diagram.{Diagram, leaf, branch, same}
-use Rattle.combine.specs.Pairs.{Pair, samePair}
+use Rattle.apply.specs.Pairs.{Pair, samePair}
 
 -- the pairs of `done`, and behind them those from (a, b) on that are not there yet: the successor by true first, the pair itself last
 unfoldable pub visit : Diagram → Diagram → List Pair → List Pair

@@ -16,19 +16,19 @@ use Rattle.diagram.specs.Rows.{onto, rows}
 use Rattle.diagram.specs.Words.{isListing}
 use Rattle.diagram.specs.Listing.{listing, diagramOf, Good}
 use Rattle.diagram.specs.Variables.{closed, after}
-use Rattle.combine.specs.declared.Operation.{Operation}
-use Rattle.combine.specs.declared.Names.{Names}
-use Rattle.combine.specs.declared.Names.the-variants.{Apart, Shared}
-use Rattle.combine.specs.declared.Combined.{Combined}
-use Rattle.combine.specs.declared.Combined.the-variants.{Done, Refused}
-use Rattle.combine.specs.Apply.{apply}
-use Rattle.combine.specs.Pairs.{pairs, pairCount, overflows}
-use Rattle.combine.specs.Formed.{ClosedRows}
-use Rattle.combine.specs.ApplyLaws.{eval-apply}
-use Rattle.combine.specs.RowLaws.{rows-onto, nothing-rows, onto-closed, onto-nodup}
-use Rattle.combine.specs.FormedLaws.{formed-count}
-use Rattle.combine.specs.GoodLaws.{good-apply}
-use Rattle.combine.specs.Combination.{operate, leftOperand, rightOperand, combination, tooMany, operandRows, rowsFormed, pickCombined, diagramAnswer, combineAnswer, combineResult}
+use Rattle.apply.specs.declared.Operation.{Operation}
+use Rattle.apply.specs.declared.Names.{Names}
+use Rattle.apply.specs.declared.Names.the-variants.{Apart, Shared}
+use Rattle.apply.specs.declared.Combined.{Combined}
+use Rattle.apply.specs.declared.Combined.the-variants.{Done, Refused}
+use Rattle.apply.specs.Apply.{apply}
+use Rattle.apply.specs.Pairs.{pairs, pairCount, overflows}
+use Rattle.apply.specs.Formed.{ClosedRows}
+use Rattle.apply.specs.ApplyLaws.{eval-apply}
+use Rattle.apply.specs.RowLaws.{rows-onto, nothing-rows, onto-closed, onto-nodup}
+use Rattle.apply.specs.FormedLaws.{formed-count}
+use Rattle.apply.specs.GoodLaws.{good-apply}
+use Rattle.apply.specs.Combination.{operate, leftOperand, rightOperand, combination, tooMany, operandRows, rowsFormed, pickCombined, diagramAnswer, combineAnswer, combineResult}
 
 -- the rows formed are the operands' as renamed and those of the result before it is closed up
 pub operands-closed : (names : Names) (ar : List ℕ) (a b : Diagram) → ClosedRows (operandRows names ar a b)

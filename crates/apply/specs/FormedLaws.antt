@@ -10,16 +10,16 @@ use Rattle.basics.specs.Members.{mem, NoDup, Within, nodup-le, clash}
 use Rattle.diagram.specs.Diagram.{Diagram, leaf, branch, same}
 use Rattle.diagram.specs.Rows.{onto, rows}
 use Rattle.diagram.specs.DiagramLaws.{same-eq, diagram-test, onto-old, onto-leaf, onto-branch}
-use Rattle.combine.specs.Snoc.{mem-snoc, snoc-cases, nodup-snoc, Begins, begins-refl, begins-trans, begins-snoc, mem-begins}
-use Rattle.combine.specs.Apply.{node, apply}
-use Rattle.combine.specs.Pairs.{Pair, samePair, pairs}
-use Rattle.combine.specs.Visit.{visit}
-use Rattle.combine.specs.Formed.{add, formed, ClosedRows}
-use Rattle.combine.specs.Walk.{Step, Walk, ends, on, walk}
-use Rattle.combine.specs.ApplyLaws.{node-same, node-differ, apply-leaves, apply-step}
-use Rattle.combine.specs.PairLaws.{pair-test}
-use Rattle.combine.specs.VisitLaws.{visit-old, visit-ends, visit-step, visit-within, pairs-within}
-use Rattle.combine.specs.RowLaws.{rows-onto, nothing-rows, onto-mem, onto-fresh, onto-closed}
+use Rattle.apply.specs.Snoc.{mem-snoc, snoc-cases, nodup-snoc, Begins, begins-refl, begins-trans, begins-snoc, mem-begins}
+use Rattle.apply.specs.Apply.{node, apply}
+use Rattle.apply.specs.Pairs.{Pair, samePair, pairs}
+use Rattle.apply.specs.Visit.{visit}
+use Rattle.apply.specs.Formed.{add, formed, ClosedRows}
+use Rattle.apply.specs.Walk.{Step, Walk, ends, on, walk}
+use Rattle.apply.specs.ApplyLaws.{node-same, node-differ, apply-leaves, apply-step}
+use Rattle.apply.specs.PairLaws.{pair-test}
+use Rattle.apply.specs.VisitLaws.{visit-old, visit-ends, visit-step, visit-within, pairs-within}
+use Rattle.apply.specs.RowLaws.{rows-onto, nothing-rows, onto-mem, onto-fresh, onto-closed}
 
 -- the laws of `add` and `formed`: nothing else unfolds them
 pub add-old : (d : Diagram) (rs : List Diagram) → mem same d rs ≡ true → add d rs ≡ rs

@@ -10,9 +10,9 @@ use Rattle.basics.specs.Tests.{Cmp, below, equal, above, cmp, and-left, and-rig
 use Rattle.basics.specs.Members.{IsTest, mem, NoDup, nodup-count, clash}
 use Rattle.diagram.specs.Diagram.{Diagram, leaf, branch, same}
 use Rattle.diagram.specs.DiagramLaws.{same-eq, same-refl}
-use Rattle.combine.specs.Snoc.{append-cases, append-one, append-other}
-use Rattle.combine.specs.Pairs.{Pair, samePair, bothLeaves, descend, successor, ClosedPairs, LeastPairs, pairs, pairCount}
-use Rattle.combine.specs.Walk.{Below, Step, left, right, both, Walk, ends, on, walk}
+use Rattle.apply.specs.Snoc.{append-cases, append-one, append-other}
+use Rattle.apply.specs.Pairs.{Pair, samePair, bothLeaves, descend, successor, ClosedPairs, LeastPairs, pairs, pairCount}
+use Rattle.apply.specs.Walk.{Below, Step, left, right, both, Walk, ends, on, walk}
 
 pub pair-test : IsTest samePair
 pair-test = record {
