@@ -1,0 +1,28 @@
+-- Diagrams whose labels are changed in order, and their listings (document 01, sections 'Terms, labels, listings' and 'Combination').
+use mathlib.Core.Bool.{cond}
+use mathlib.Core.List.{List, [], _∷_}
+use Prim.Native.Nat.{ℕ, _<_}
+use lib.Dec.{eqb}
+use Rattle.label.specs.Limits.{leafMark}
+use Rattle.diagram.specs.Diagram.{Diagram, leaf, branch}
+
+-- every label of d is in Q
+abbrev pub Labels : (ℕ → Type 0) → Diagram → Type 0
+Labels Q (leaf v) = Unit {0}
+Labels Q (branch l t f) = Q l × Labels Q t × Labels Q f
+
+-- every label of the diagrams ds is in Q
+abbrev pub AllLabels : (ℕ → Type 0) → List Diagram → Type 0
+AllLabels Q [] = Unit {0}
+AllLabels Q (d ∷ ds) = Labels Q d × AllLabels Q ds
+
+-- g keeps the order of the labels in Q
+pub record Keeps (Q : ℕ → Type 0) (g : ℕ → ℕ) : Type 0 where
+  pub order : (l k : ℕ) → Q l → Q k → l < k → g l < g k
+
+-- the words of rows, each branch's label changed by g
+abbrev pub relabelled : (ℕ → ℕ) → List ℕ → List ℕ
+relabelled g [] = []
+relabelled g (x ∷ []) = x ∷ []
+relabelled g (x ∷ y ∷ []) = x ∷ y ∷ []
+relabelled g (x ∷ y ∷ z ∷ ws) = cond (eqb x leafMark) x (g x) ∷ y ∷ z ∷ relabelled g ws

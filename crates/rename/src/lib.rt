@@ -1,0 +1,1 @@
+// Renaming of listings: closing up, moving apart and freeing.
