@@ -1,9 +1,12 @@
 -- Diagrams whose labels are changed in order, and their listings (document 01, sections 'Terms, labels, listings' and 'Combination').
-use mathlib.Core.Bool.{cond}
+use mathlib.Core.Path.{_≡_}
+use mathlib.Core.Bool.{true, cond}
 use mathlib.Core.List.{List, [], _∷_}
 use Prim.Native.Nat.{ℕ, _<_}
 use lib.Dec.{eqb}
 use Rattle.label.specs.Limits.{leafMark}
+use Rattle.label.specs.Labels.{isLabel}
+use Rattle.label.specs.Renamings.{EachIn}
 use Rattle.diagram.specs.Diagram.{Diagram, leaf, branch}
 
 -- every label of d is in Q
@@ -26,3 +29,11 @@ relabelled g [] = []
 relabelled g (x ∷ []) = x ∷ []
 relabelled g (x ∷ y ∷ []) = x ∷ y ∷ []
 relabelled g (x ∷ y ∷ z ∷ ws) = cond (eqb x leafMark) x (g x) ∷ y ∷ z ∷ relabelled g ws
+
+-- P names every term of every label of d
+abbrev pub Terms : List ℕ → (ℕ → Type 0) → Diagram → Type 0
+Terms ar P d = Labels (EachIn ar P) d
+
+-- labels under the arity list ar whose terms P names
+abbrev pub Named : List ℕ → (ℕ → Type 0) → ℕ → Type 0
+Named ar P l = (isLabel ar l ≡ true) × EachIn ar P l
