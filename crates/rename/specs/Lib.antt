@@ -7,6 +7,7 @@ pub mod TermLaws
 pub mod VariableLaws
 pub mod ClosingLaws
 pub mod Valuations
+pub mod ValuationLaws
 pub mod ApartLaws
 pub mod Freeing
 pub mod FreeingLaws
