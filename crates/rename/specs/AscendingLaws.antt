@@ -174,3 +174,11 @@ rank-consecutive m (suc n) t h k = go (cmp m t) (rank-consecutive (suc m) n t)
     go (below q) ih = rw (lt-ltb m t q) (omega (arith, ih q (omega arith)))
     go (equal q) ih = rw (le-ltb m t (omega arith)) (omega (arith, rank-none (suc m) (consecutive (suc m) n) t (consecutive-ascending (suc m) n) (omega arith)))
     go (above q) ih = absurd (omega arith)
+
+pub rank-most : (xs : List ℕ) (t : ℕ) → rank xs t ≤ length xs
+rank-most [] t = omega arith
+rank-most (x ∷ xs) t = go (flag (ltb x t)) (rank-most xs t)
+  where
+    go : Flag (ltb x t) → rank xs t ≤ length xs → cond (ltb x t) 1 0 + rank xs t ≤ suc (length xs)
+    go (isTrue p) ih = rw p (omega arith)
+    go (isFalse p) ih = rw p (omega arith)

@@ -53,7 +53,7 @@ module _ (ar : List ℕ) (c : ℕ) (d : Diagram) (good : Good ar d) (free : Free
       go (parameter h k) = inl k
       go (variable h k) = inr (h, k)
 
-  terms-freed : Terms ar (Freed c) d
+  pub terms-freed : Terms ar (Freed c) d
   terms-freed = terms-each-occurs ar (Freed c) d occurs-freed
 
   increasing : Increasing (Freed c) (freeing c)

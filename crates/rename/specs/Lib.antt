@@ -11,3 +11,8 @@ pub mod ValuationLaws
 pub mod ApartLaws
 pub mod Freeing
 pub mod FreeingLaws
+pub mod Maps
+pub mod MapLaws
+pub mod Calls
+pub mod Steps
+pub mod RenamedWords

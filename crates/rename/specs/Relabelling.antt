@@ -23,12 +23,16 @@ AllLabels Q (d ∷ ds) = Labels Q d × AllLabels Q ds
 pub record Keeps (Q : ℕ → Type 0) (g : ℕ → ℕ) : Type 0 where
   pub order : (l k : ℕ) → Q l → Q k → l < k → g l < g k
 
+-- the first word of a row: a branch's label changed by g, or a leaf's mark
+abbrev pub labelled : (ℕ → ℕ) → ℕ → ℕ
+labelled g x = cond (eqb x leafMark) x (g x)
+
 -- the words of rows, each branch's label changed by g
 abbrev pub relabelled : (ℕ → ℕ) → List ℕ → List ℕ
 relabelled g [] = []
 relabelled g (x ∷ []) = x ∷ []
 relabelled g (x ∷ y ∷ []) = x ∷ y ∷ []
-relabelled g (x ∷ y ∷ z ∷ ws) = cond (eqb x leafMark) x (g x) ∷ y ∷ z ∷ relabelled g ws
+relabelled g (x ∷ y ∷ z ∷ ws) = labelled g x ∷ y ∷ z ∷ relabelled g ws
 
 -- P names every term of every label of d
 abbrev pub Terms : List ℕ → (ℕ → Type 0) → Diagram → Type 0
