@@ -1,7 +1,7 @@
 -- Operands apart have their own variables: what each of them is assigned is chosen freely (document 01, section 'Combination').
 use mathlib.Core.Path.{_≡_, ap, _∙_}
 use mathlib.Core.Logic.{_⊎_, inl, inr}
-use mathlib.Core.Bool.{Bool, true, false, cond}
+use mathlib.Core.Bool.{Bool, true, cond}
 use mathlib.Core.List.{List}
 use Prim.Native.Nat.{ℕ, _+_, _-_, _≤_, _<_}
 use native.Mathlib.Omega.{arith}
@@ -18,8 +18,8 @@ use Rattle.diagram.specs.Listing.{Good}
 use Rattle.diagram.specs.Variables.{occurs, variables, closed, after}
 use Rattle.rename.specs.AscendingLaws.{place-rank}
 use Rattle.rename.specs.VariableLaws.{terms-each-occurs, occurs-numbered, variables-ascending, variables-few}
-use Rattle.rename.specs.Valuations.{leafOf, Joined, Parted, ApartFree}
-use Rattle.rename.specs.ValuationLaws.{leaf-agree, leaf-closedFrom}
+use Rattle.rename.specs.Valuations.{leafOf, Joined, Parted, ApartFree, ClosedBy, OpenedBy, ClosedFree}
+use Rattle.rename.specs.ValuationLaws.{cond-below, leaf-agree, leaf-closedFrom}
 
 -- terms below 32 by θa, the variables that follow by θa at the variables vs, those behind them by θb at the variables us
 joining : List ℕ → List ℕ → (ℕ → ℕ) → (ℕ → ℕ) → ℕ → ℕ
@@ -50,11 +50,7 @@ module _ (vs us : List ℕ) (θa θb : ℕ → ℕ) where
 
   joining-range : (n : ℕ) → ((t : ℕ) → θa t < n) → ((t : ℕ) → θb t < n) → (t : ℕ) → joining vs us θa θb t < n
   unfolding joining
-  joining-range n p q t = pick (ltb t firstVariable) (p t) (pick (ltb t (firstVariable + length vs)) (p (getD vs (t - firstVariable) 0)) (q (getD us (t - (firstVariable + length vs)) 0)))
-    where
-      pick : (b : Bool) {x y : ℕ} → x < n → y < n → cond b x y < n
-      pick true h k = h
-      pick false h k = k
+  joining-range n p q t = cond-below n (ltb t firstVariable) (p t) (cond-below n (ltb t (firstVariable + length vs)) (p (getD vs (t - firstVariable) 0)) (q (getD us (t - (firstVariable + length vs)) 0)))
 
 -- a variable of d by its number
 numbered-variable : (ar : List ℕ) (d : Diagram) → Good ar d → (t : ℕ) → occurs ar t d ≡ true → firstVariable ≤ t → mem eqb t (variables ar d) ≡ true
@@ -65,10 +61,10 @@ numbered-variable ar d good t e h = go (occurs-numbered ar d (good .fine) t e .1
     go (inr z) = z
 
 -- an assignment θ that gives the numbered terms of d what η gives them
-through : (ar : List ℕ) (m : ℕ) (d : Diagram) (θ η : ℕ → ℕ) → firstVariable ≤ m → m + length (variables ar d) ≤ termBase → Good ar d
+through : (ar : List ℕ) (m : ℕ) (d : Diagram) (θ η : ℕ → ℕ) → Good ar d
     → ((t : ℕ) → t < firstVariable → θ t ≡ η t) → ((t : ℕ) → mem eqb t (variables ar d) ≡ true → θ (m + rank (variables ar d) t) ≡ η t)
     → (t : ℕ) → occurs ar t d ≡ true → θ (numbering (variables ar d) m t) ≡ η t
-through ar m d θ η low room good p q t e = go (cmp t firstVariable)
+through ar m d θ η good p q t e = go (cmp t firstVariable)
   where
     high : firstVariable ≤ t → θ (numbering (variables ar d) m t) ≡ η t
     high k = rw (numbering-high (variables ar d) m t k) (q t (numbered-variable ar d good t e k))
@@ -77,6 +73,47 @@ through ar m d θ η low room good p q t e = go (cmp t firstVariable)
     go (below k) = rw (numbering-low (variables ar d) m t k) (p t k)
     go (equal k) = high (omega arith)
     go (above k) = high (omega arith)
+
+-- terms below 32 by θ, the variables from m on by θ at the variables vs
+closing : List ℕ → ℕ → (ℕ → ℕ) → ℕ → ℕ
+closing vs m θ t = cond (ltb t firstVariable) (θ t) (θ (getD vs (t - m) 0))
+
+module _ (ar : List ℕ) (m : ℕ) (d : Diagram) (low : firstVariable ≤ m) (room : m + length (variables ar d) ≤ termBase) (good : Good ar d) where
+  closing-low : (θ : ℕ → ℕ) (t : ℕ) → t < firstVariable → closing (variables ar d) m θ t ≡ θ t
+  unfolding closing
+  closing-low θ t h = rw (lt-ltb t firstVariable h)
+
+  closing-range : (θ : ℕ → ℕ) (n : ℕ) → ((t : ℕ) → θ t < n) → (t : ℕ) → closing (variables ar d) m θ t < n
+  unfolding closing
+  closing-range θ n p t = cond-below n (ltb t firstVariable) (p t) (p (getD (variables ar d) (t - m) 0))
+
+  closing-variable : (θ : ℕ → ℕ) (t : ℕ) → mem eqb t (variables ar d) ≡ true → closing (variables ar d) m θ (m + rank (variables ar d) t) ≡ θ t
+  unfolding closing
+  closing-variable θ t e =
+      let k = rank (variables ar d) t in
+      let z : m + k - m ≡ k = omega arith in
+      rw (le-ltb (m + k) firstVariable (omega arith), z) (ap θ (place-rank firstVariable (variables ar d) t (variables-ascending ar d) e))
+
+  closed-by : (θ : ℕ → ℕ) → ClosedBy ar m d θ
+  closed-by θ = record {
+    assign = closing (variables ar d) m θ;
+    low = closing-low θ;
+    range = closing-range θ;
+    value = λ h. leaf-closedFrom ar m d low room good h (closing (variables ar d) m θ)
+        ∙ leaf-agree ar h _ θ d (terms-each-occurs ar _ d (through ar m d (closing (variables ar d) m θ) θ good (closing-low θ) (closing-variable θ)));
+  }
+
+  opened-by : (θ : ℕ → ℕ) → OpenedBy ar m d θ
+  opened-by θ = record {
+    assign = λ t. θ (numbering (variables ar d) m t);
+    low = λ t k. ap θ (numbering-low (variables ar d) m t k);
+    range = λ n p t. p _;
+    value = λ h. leaf-closedFrom ar m d low room good h θ;
+  }
+
+  -- closing up and moving apart keep the leaves that assignments reach
+  pub closed-free : ClosedFree ar m d
+  closed-free = record { closed-by = closed-by; opened-by = opened-by }
 
 module _ (ar : List ℕ) (a b : Diagram) (good-a : Good ar a) (good-b : Good ar b) (room : length (variables ar a) + length (variables ar b) ≤ variableCount) where
   room-a : firstVariable + length (variables ar a) ≤ termBase
@@ -103,9 +140,9 @@ module _ (ar : List ℕ) (a b : Diagram) (good-a : Good ar a) (good-b : Good ar 
     low = joining-low vs us θa θb;
     range = joining-range vs us θa θb;
     first = λ h. leaf-closed h θ
-        ∙ leaf-agree ar h _ θa a (terms-each-occurs ar _ a (through ar firstVariable a θ θa (omega arith) room-a good-a (joining-low vs us θa θb) on-a));
+        ∙ leaf-agree ar h _ θa a (terms-each-occurs ar _ a (through ar firstVariable a θ θa good-a (joining-low vs us θa θb) on-a));
     second = λ h. leaf-after h θ
-        ∙ leaf-agree ar h _ θb b (terms-each-occurs ar _ b (through ar (firstVariable + length vs) b θ θb after-firstVariable room-b good-b (λ t k. joining-low vs us θa θb t k ∙ agree t k) on-b));
+        ∙ leaf-agree ar h _ θb b (terms-each-occurs ar _ b (through ar (firstVariable + length vs) b θ θb good-b (λ t k. joining-low vs us θa θb t k ∙ agree t k) on-b));
   }
     where
       vs : List ℕ

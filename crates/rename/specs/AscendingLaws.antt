@@ -88,8 +88,8 @@ ascending-nodup n [] a = tt
 ascending-nodup n (x ∷ xs) a = (ascending-not (suc x) xs x (a .1) (omega arith), ascending-nodup (suc x) xs (a .1))
 
 -- the first numbers of two ascending lists of the same members are equal
-first-least : (n m x y : ℕ) (xs ys : List ℕ) → Ascending m (y ∷ ys) → Within eqb (x ∷ xs) (y ∷ ys) → y ≤ x
-first-least n m x y xs ys a w = go (either (eqb x y) _ (w x (or-one _ _ (eq-eqb x x refl))))
+first-least : (m x y : ℕ) (xs ys : List ℕ) → Ascending m (y ∷ ys) → Within eqb (x ∷ xs) (y ∷ ys) → y ≤ x
+first-least m x y xs ys a w = go (either (eqb x y) _ (w x (or-one _ _ (eq-eqb x x refl))))
   where
     go : Either (eqb x y) (mem eqb x ys) → y ≤ x
     go (one q) = omega (arith, eqb-true x y q)
@@ -108,8 +108,8 @@ ascending-one n m [] [] a b v w = refl
 ascending-one n m [] (y ∷ ys) a b v w = clash (w y (or-one _ _ (eq-eqb y y refl))) refl
 ascending-one n m (x ∷ xs) [] a b v w = clash (v x (or-one _ _ (eq-eqb x x refl))) refl
 ascending-one n m (x ∷ xs) (y ∷ ys) a b v w =
-    let h = first-least n m x y xs ys b v in
-    let k = first-least m n y x ys xs a w in
+    let h = first-least m x y xs ys b v in
+    let k = first-least n y x ys xs a w in
     let e : x ≡ y = omega arith in
     let f : y ≡ x = omega arith in
     let r = ascending-one (suc x) (suc y) xs ys (a .1) (b .1) (rest-within x y xs ys e (a .1) v) (rest-within y x ys xs f (b .1) w) in

@@ -1,7 +1,7 @@
 -- Laws of freeing (document 01, section 'Regression').
 use mathlib.Core.Path.{_≡_, ap, _∙_}
 use mathlib.Core.Logic.{_⊎_, inl, inr}
-use mathlib.Core.Bool.{Bool, true, false, cond}
+use mathlib.Core.Bool.{Bool, true, cond}
 use mathlib.Core.List.{List}
 use Prim.Native.Nat.{ℕ, _+_, _-_, _≤_, _<_}
 use native.Mathlib.Omega.{arith}
@@ -19,7 +19,7 @@ use Rattle.diagram.specs.Variables.{occurs}
 use Rattle.rename.specs.Relabelling.{Terms, relabelled}
 use Rattle.rename.specs.VariableLaws.{Origin, terms-each-occurs, occurs-term, renaming-good, renaming-rows, renaming-listing, occurs-renaming, renaming-occurs}
 use Rattle.rename.specs.Valuations.{leafOf}
-use Rattle.rename.specs.ValuationLaws.{leaf-agree, leaf-renaming}
+use Rattle.rename.specs.ValuationLaws.{cond-below, leaf-agree, leaf-renaming}
 use Rattle.rename.specs.Freeing.{freed, Freeable, FreedBy, BoundBy, FreedFree}
 
 pub freeing-other : (c t : ℕ) → firstParameter + c ≤ t → t < firstVariable → freeing c t ≡ t
@@ -110,11 +110,7 @@ module _ (ar : List ℕ) (c : ℕ) (d : Diagram) (good : Good ar d) (free : Free
 
   unbinding-range : (η ζ : ℕ → ℕ) (n : ℕ) → ((t : ℕ) → η t < n) → ((t : ℕ) → ζ t < n) → (t : ℕ) → unbinding η ζ t < n
   unfolding unbinding
-  unbinding-range η ζ n p q t = pick (ltb t firstParameter) (p t) (pick (ltb t firstVariable) (q t) (pick (ltb t (firstVariable + c)) (p _) (p _)))
-    where
-      pick : (b : Bool) {x y : ℕ} → x < n → y < n → cond b x y < n
-      pick true h k = h
-      pick false h k = k
+  unbinding-range η ζ n p q t = cond-below n (ltb t firstParameter) (p t) (cond-below n (ltb t firstVariable) (q t) (cond-below n (ltb t (firstVariable + c)) (p _) (p _)))
 
   unbinding-freeing : (η ζ : ℕ → ℕ) (t : ℕ) → occurs ar t d ≡ true → unbinding η ζ (freeing c t) ≡ η t
   unfolding unbinding

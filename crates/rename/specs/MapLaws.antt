@@ -9,17 +9,22 @@ use lib.Seq.{getD-at}
 use lib.Dec.{eqb, ltb}
 use borrow.Author.Tests.{eq-eqb, ne-eqb, lt-ltb, le-ltb}
 use Rattle.basics.specs.Tests.{Flag, isTrue, isFalse, flag, Cmp, below, equal, above, cmp}
-use Rattle.basics.specs.Members.{mem}
-use Rattle.label.specs.Limits.{firstVariable, variableCount, termBase}
+use Rattle.basics.specs.Members.{mem, clash}
+use Rattle.label.specs.Limits.{firstVariable, variableCount, termBase, firstParameter, parameterCount}
 use Rattle.label.specs.Callers.{TermMap}
-use Rattle.label.specs.Renamings.{rank, numbering, freeing}
-use Rattle.label.specs.RenamingLaws.{rank-below, numbering-high}
+use Rattle.label.specs.Renamings.{rank, numbering, freeing, mapOf}
+use Rattle.label.specs.RenamingLaws.{rank-below, numbering-high, numbering-low}
 use Rattle.diagram.specs.Diagram.{Diagram}
 use Rattle.diagram.specs.Variables.{occurs, pickList, occurring, variables}
 use Rattle.rename.specs.Ascending.{Ascending}
 use Rattle.rename.specs.AscendingLaws.{ascending-weaken, ascending-not, rank-none}
 use Rattle.rename.specs.Maps.{tabled, isUsed, usedFrom, usedVariables, Marks, closeAt, freeAt}
 use Rattle.rename.specs.Calls.{Closable}
+use mathlib.Core.Logic.{_⊎_, inl, inr}
+use Rattle.label.specs.LabelLaws.{term-below}
+use Rattle.diagram.specs.Listing.{Good}
+use Rattle.rename.specs.VariableLaws.{occurs-term}
+use Rattle.rename.specs.Freeing.{Freeable}
 
 -- the laws of `tabled`: nothing else unfolds it
 pub tabled-none : (f : ℕ → ℕ) → tabled f 0 ≡ []
@@ -113,7 +118,7 @@ rank-next n (x ∷ xs) t a = go (cmp x t) (rank-next (suc x) xs t (a .1))
         )
 
 -- marks of a diagram's terms
-used-occurs : (ar : List ℕ) (d : Diagram) (used : List ℕ) → Marks ar d used → (t : ℕ) → t < termBase → isUsed used t ≡ occurs ar t d
+pub used-occurs : (ar : List ℕ) (d : Diagram) (used : List ℕ) → Marks ar d used → (t : ℕ) → t < termBase → isUsed used t ≡ occurs ar t d
 unfolding isUsed
 used-occurs ar d used m t h = rw (m .mark t h) (go (occurs ar t d))
   where
@@ -166,6 +171,25 @@ close-below used first t room h = go (cmp t firstVariable) (flag (isUsed used t)
 pub close-terms : (used : List ℕ) (first : ℕ) (map rest : List ℕ) → Closable used first map → TermMap (tabled (closeAt used first) termBase ++ rest)
 close-terms used first map rest c = tabled-terms (closeAt used first) rest (λ t h. close-below used first t (c .room) h)
 
+-- a written map has the number of each term that is no variable or is used
+pub close-numbers : (used : List ℕ) (first : ℕ) (rest : List ℕ) (t : ℕ) → t < termBase → (t < firstVariable) ⊎ (isUsed used t ≡ true)
+    → mapOf (tabled (closeAt used first) termBase ++ rest) t ≡ numbering (usedVariables used) first t
+close-numbers used first rest t h p = tabled-at (closeAt used first) termBase rest t h ∙ go (cmp t firstVariable) p
+  where
+    high : firstVariable ≤ t → (t < firstVariable) ⊎ (isUsed used t ≡ true) → closeAt used first t ≡ numbering (usedVariables used) first t
+    high k (inl x) = absurd (omega arith)
+    high k (inr x) = close-used used first t k x
+
+    go : Cmp t firstVariable → (t < firstVariable) ⊎ (isUsed used t ≡ true) → closeAt used first t ≡ numbering (usedVariables used) first t
+    go (below k) x = close-low used first t k ∙ sym (numbering-low (usedVariables used) first t k)
+    go (equal k) x = high (omega arith) x
+    go (above k) x = high (omega arith) x
+
+-- a call on the marks of a diagram's terms
+pub marks-closable : (ar : List ℕ) (d : Diagram) (used : List ℕ) (first : ℕ) (map : List ℕ) → Marks ar d used → termBase ≤ length map
+    → first + length (variables ar d) ≤ termBase → Closable used first map
+marks-closable ar d used first map m w r = record { marks = m .whole; whole = w; room = rw (used-variables ar d used m) r }
+
 -- the laws of `freeAt`: nothing else unfolds it
 pub free-is : (c t : ℕ) → freeing c t < termBase → freeAt c t ≡ freeing c t
 unfolding freeAt
@@ -185,3 +209,26 @@ free-below c t = go (cmp (freeing c t) termBase)
 
 pub free-terms : (c : ℕ) (rest : List ℕ) → TermMap (tabled (freeAt c) termBase ++ rest)
 free-terms c rest = tabled-terms (freeAt c) rest (λ t h. free-below c t)
+
+pub free-numbers : (c : ℕ) (rest : List ℕ) (t : ℕ) → t < termBase → freeing c t < termBase → mapOf (tabled (freeAt c) termBase ++ rest) t ≡ freeing c t
+free-numbers c rest t h k = tabled-at (freeAt c) termBase rest t h ∙ free-is c t k
+
+-- no parameter past the count is marked, and no variable that would pass 63
+pub marks-freeable : (ar : List ℕ) (c : ℕ) (d : Diagram) (used : List ℕ) → Good ar d → Marks ar d used → c ≤ parameterCount
+    → ((t : ℕ) → firstParameter + c ≤ t → t < firstVariable → isUsed used t ≡ false) → ((t : ℕ) → termBase ≤ t + c → t < termBase → isUsed used t ≡ false)
+    → Freeable ar c d
+marks-freeable ar c d used good m few p q = record {
+  count = few;
+  parameters = λ t e h. first t e h (cmp t (firstParameter + c));
+  variables = λ t e h. second t e (cmp (t + c) termBase);
+}
+  where
+    first : (t : ℕ) → occurs ar t d ≡ true → t < firstVariable → Cmp t (firstParameter + c) → t < firstParameter + c
+    first t e h (below k) = k
+    first t e h (equal k) = clash e (sym (used-occurs ar d used m t (omega arith)) ∙ p t (omega arith) h)
+    first t e h (above k) = clash e (sym (used-occurs ar d used m t (omega arith)) ∙ p t (omega arith) h)
+
+    second : (t : ℕ) → occurs ar t d ≡ true → Cmp (t + c) termBase → t + c < termBase
+    second t e (below k) = k
+    second t e (equal k) = let b = term-below t (occurs-term ar d t (good .fine) e) in clash e (sym (used-occurs ar d used m t b) ∙ q t (omega arith) b)
+    second t e (above k) = let b = term-below t (occurs-term ar d t (good .fine) e) in clash e (sym (used-occurs ar d used m t b) ∙ q t (omega arith) b)

@@ -9,20 +9,20 @@ use lib.ListN.{length}
 use lib.Dec.{eqb}
 use Rattle.basics.specs.Tests.{Cmp, below, equal, above, cmp}
 use Rattle.basics.specs.Members.{mem}
-use Rattle.label.specs.Limits.{firstVariable, termBase}
+use Rattle.label.specs.Limits.{firstVariable, termBase, variableCount}
 use Rattle.label.specs.LabelLaws.{term-below}
 use Rattle.label.specs.Renamings.{mapOf, renamed, numbering, freeing, Increasing, EachIn}
 use Rattle.label.specs.RenamingLaws.{Numbered, Freed, numbering-low, numbering-increasing, freeing-increasing}
 use Rattle.diagram.specs.Diagram.{Diagram, relabel}
 use Rattle.diagram.specs.Listing.{listing, diagramOf, Good}
 use Rattle.diagram.specs.Words.{isListing}
-use Rattle.diagram.specs.Variables.{variables, closedFrom}
+use Rattle.diagram.specs.Variables.{variables, closedFrom, closed, after}
 use Rattle.diagram.specs.DiagramOfListing.{listing-diagram, good-diagram}
 use Rattle.diagram.specs.ListingValid.{listing-is-valid}
 use Rattle.rename.specs.Relabelling.{Terms, relabelled}
 use Rattle.rename.specs.RelabelLaws.{labels-weaken, relabel-agree}
 use Rattle.rename.specs.TermLaws.{each-weaken, renamed-agree}
-use Rattle.rename.specs.VariableLaws.{terms-numbered, renaming-listing}
+use Rattle.rename.specs.VariableLaws.{terms-numbered, renaming-listing, variables-few}
 use Rattle.rename.specs.Freeing.{freed, Freeable}
 use Rattle.rename.specs.FreeingLaws.{terms-freed}
 use Rattle.rename.specs.Maps.{tabled, usedVariables, Marks, closeAt, freeAt}
@@ -72,6 +72,19 @@ module _ (ar : List ℕ) (d : Diagram) (good : Good ar d) (used : List ℕ) (mar
   closed-words low room =
       renamed-listing ar d (Numbered (variables ar d)) (numbering (variables ar d) m) _ good (numbering-increasing (variables ar d) m low room)
       (terms-numbered ar d (good .fine)) close-agrees
+
+-- one listing, closed up
+pub close-words : (ar : List ℕ) (d : Diagram) (used rest : List ℕ) → Good ar d → Marks ar d used
+    → relabelled (renamed ar (mapOf (tabled (closeAt used firstVariable) termBase ++ rest))) (listing d) ≡ listing (closed ar d)
+unfolding closed
+close-words ar d used rest good marks = closed-words ar d good used marks firstVariable rest (omega arith) (omega (arith, variables-few ar d))
+
+-- the second operand, moved behind the first
+pub after-words : (ar : List ℕ) (a b : Diagram) (used rest : List ℕ) → Good ar b → Marks ar b used → length (variables ar a) + length (variables ar b) ≤ variableCount
+    → relabelled (renamed ar (mapOf (tabled (closeAt used (firstVariable + length (variables ar a))) termBase ++ rest))) (listing b) ≡ listing (after ar a b)
+unfolding after
+after-words ar a b used rest good marks room =
+    closed-words ar b good used marks (firstVariable + length (variables ar a)) rest (omega arith) (omega arith)
 
 -- freeing, by the map that free_map writes
 module _ (ar : List ℕ) (c : ℕ) (d : Diagram) (good : Good ar d) (free : Freeable ar c d) (rest : List ℕ) where

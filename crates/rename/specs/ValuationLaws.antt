@@ -1,8 +1,8 @@
 -- Laws of valuations: terms renamed in their order are read through the renaming.
 use mathlib.Core.Path.{_≡_, ap, ap₂, _∙_}
-use mathlib.Core.Bool.{Bool, true}
+use mathlib.Core.Bool.{Bool, true, false, cond}
 use mathlib.Core.List.{List, map, map-map}
-use Prim.Native.Nat.{ℕ, _+_, _≤_}
+use Prim.Native.Nat.{ℕ, _+_, _≤_, _<_}
 use lib.ListN.{length}
 use Rattle.label.specs.Limits.{firstVariable, termBase}
 use Rattle.label.specs.Labels.{areArities, predicateOf, unpacked, termsOf, isLabel}
@@ -17,6 +17,11 @@ use Rattle.rename.specs.AscendingLaws.{map-agree}
 use Rattle.rename.specs.TermLaws.{each-terms}
 use Rattle.rename.specs.VariableLaws.{named-labels, terms-numbered}
 use Rattle.rename.specs.Valuations.{holds, leafOf}
+
+-- a choice of two numbers below n is below n
+pub cond-below : (n : ℕ) (b : Bool) {x y : ℕ} → x < n → y < n → cond b x y < n
+cond-below n true h k = h
+cond-below n false h k = k
 
 -- assignments that agree on the terms of d lead to the same leaf
 pub leaf-agree : (ar : List ℕ) (h : ℕ → List ℕ → Bool) (θ η : ℕ → ℕ) (d : Diagram) → Terms ar (λ t. θ t ≡ η t) d → leafOf ar h θ d ≡ leafOf ar h η d

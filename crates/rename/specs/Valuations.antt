@@ -6,7 +6,7 @@ use Prim.Native.Nat.{ℕ, _<_}
 use Rattle.label.specs.Limits.{firstVariable}
 use Rattle.label.specs.Labels.{predicateOf, unpacked, termsOf}
 use Rattle.diagram.specs.Diagram.{Diagram, eval}
-use Rattle.diagram.specs.Variables.{closed, after}
+use Rattle.diagram.specs.Variables.{closed, after, closedFrom}
 
 -- the choice that an assignment θ of objects to terms makes, where h says which predicates hold of which objects
 unfoldable pub holds : List ℕ → (ℕ → List ℕ → Bool) → (ℕ → ℕ) → ℕ → Bool
@@ -15,6 +15,25 @@ holds ar h θ l = h (predicateOf l) (map θ (termsOf ar (unpacked l)))
 -- the leaf that an assignment leads to
 abbrev pub leafOf : List ℕ → (ℕ → List ℕ → Bool) → (ℕ → ℕ) → Diagram → ℕ
 leafOf ar h θ d = eval (holds ar h θ) d
+
+-- an assignment that leads the renamed diagram where θ leads d
+pub record ClosedBy (ar : List ℕ) (m : ℕ) (d : Diagram) (θ : ℕ → ℕ) : Type 0 where
+  pub assign : ℕ → ℕ
+  pub low : (t : ℕ) → t < firstVariable → assign t ≡ θ t
+  pub range : (n : ℕ) → ((t : ℕ) → θ t < n) → (t : ℕ) → assign t < n
+  pub value : (h : ℕ → List ℕ → Bool) → leafOf ar h assign (closedFrom ar m d) ≡ leafOf ar h θ d
+
+-- and one that leads d where θ leads the renamed diagram
+pub record OpenedBy (ar : List ℕ) (m : ℕ) (d : Diagram) (θ : ℕ → ℕ) : Type 0 where
+  pub assign : ℕ → ℕ
+  pub low : (t : ℕ) → t < firstVariable → assign t ≡ θ t
+  pub range : (n : ℕ) → ((t : ℕ) → θ t < n) → (t : ℕ) → assign t < n
+  pub value : (h : ℕ → List ℕ → Bool) → leafOf ar h θ (closedFrom ar m d) ≡ leafOf ar h assign d
+
+-- renamed variables are assigned as freely as they were: the same leaves are reached
+pub record ClosedFree (ar : List ℕ) (m : ℕ) (d : Diagram) : Type 0 where
+  pub closed-by : (θ : ℕ → ℕ) → ClosedBy ar m d θ
+  pub opened-by : (θ : ℕ → ℕ) → OpenedBy ar m d θ
 
 -- one assignment for both operands apart, which leads each of them where its own assignment leads it
 pub record Joined (ar : List ℕ) (a b : Diagram) (θa θb : ℕ → ℕ) : Type 0 where

@@ -1,7 +1,7 @@
 -- Laws of the terms and the variables of a diagram, and of diagrams whose terms are renamed in their order.
 use mathlib.Core.Path.{_≡_, refl, sym}
 use mathlib.Core.Logic.{_⊎_, inl, inr}
-use mathlib.Core.Bool.{true, _||_}
+use mathlib.Core.Bool.{true, _||_, false}
 use mathlib.Core.List.{List, _∷_, map}
 use Prim.Native.Nat.{ℕ, zero, suc, _+_, _≤_, _<_}
 use native.Mathlib.Omega.{arith}
@@ -52,6 +52,13 @@ occurs-terms ar P (branch l x y) t q e = go (either (mem eqb t (termsOf ar (unpa
         inner : Either (occurs ar t x) (occurs ar t y) → P t
         inner (one r) = i r
         inner (other r) = j r
+
+pub not-occurs : (ar : List ℕ) (P : ℕ → Type 0) (d : Diagram) (t : ℕ) → Terms ar P d → (P t → ⊥) → occurs ar t d ≡ false
+not-occurs ar P d t q n = go (flag (occurs ar t d))
+  where
+    go : Flag (occurs ar t d) → occurs ar t d ≡ false
+    go (isTrue e) = absurd (n (occurs-terms ar P d t q e))
+    go (isFalse e) = e
 
 -- what is true of every term that occurs
 pub terms-each-occurs : (ar : List ℕ) (P : ℕ → Type 0) (d : Diagram) → ((t : ℕ) → occurs ar t d ≡ true → P t) → Terms ar P d
