@@ -122,7 +122,7 @@ module _ {ws heads : List ℕ} {limit count k label first second : ℕ} where
       (let z : count + 1 ≡ n = cc in sym z),
       omega (arith, t .within),
       ap (λ (c : ℕ). putEntry ws count k c label first second) (d ∙ ap (λ (c : ℕ). getD heads c 0) (h .0)),
-      ap (λ (c : ℕ). set heads c (count + 1)) (h .0)
+      ap (λ (c : ℕ). set heads c (count + 1)) (h .0),
     );
     full = λ q. absurd (let z : _≡_ {A = ℕ} 0 1 = cc in omega arith);
   }

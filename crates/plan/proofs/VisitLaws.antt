@@ -15,9 +15,9 @@ use Rattle.table.specs.Chains.{prev}
 use Rattle.table.specs.ChainLaws.{prev-le, prev-gap, prev-hits}
 use Rattle.diagram.specs.Words.{labelAt, highAt}
 use Rattle.plan.specs.Walk.{Pair, samePair, isEnd, lesser, pairLabel, onHigh, onLow, walked, mostRows, Leading}
-use Rattle.plan.specs.WalkLaws.{end-label, branch-label, high-below, low-below, high-leading, low-leading, extends-length, extends-getD, walked-old, walked-end, walked-branch, walked-extends, walked-fresh}
+use Rattle.plan.specs.WalkLaws.{mem-at, mem-nowhere, place-one, end-label, branch-label, high-below, low-below, high-leading, low-leading, extends-length, extends-getD, walked-old, walked-end, walked-branch, walked-extends, walked-fresh, walked-root}
 use Rattle.plan.specs.Plan.{buckets, keyCount, keyOf, hashOf, keyAt, putEntry, Index, origin, Entry, Plan, Touched, wentTo, Ready, Planned, pairsAt, Reached, Overrun, Visited, Entered}
-use Rattle.plan.specs.PlanLaws.{key-one, mem-at, mem-nowhere, length-pairs, plan-pairs, plan-added, index-touched}
+use Rattle.plan.specs.PlanLaws.{key-one, length-pairs, plan-pairs, plan-added, index-touched}
 use Rattle.plan.specs.declared.Went.{Went}
 use Rattle.plan.specs.declared.Went.the-variants.{To, Full}
 
@@ -176,8 +176,8 @@ module _ {x y ws heads : List ℕ} {limit count i j : ℕ} (r : Ready x y ws hea
         unfolding us vs
         high-full e = visited-full (record {
           many =
-            let a : limit < length us = subst (λ (q : Pair). limit < length (walked x y q (pairsAt ws count))) (s .0) (v .full e .many) in
-            omega (arith, after-length, extends-length (walked-extends x y (onLow x y (i, j)) us));
+              let a : limit < length us = subst (λ (q : Pair). limit < length (walked x y q (pairsAt ws count))) (s .0) (v .full e .many) in
+              omega (arith, after-length, extends-length (walked-extends x y (onLow x y (i, j)) us));
           touched = v .full e .touched;
         })
 
@@ -230,3 +230,43 @@ module _ {x y ws heads : List ℕ} {limit count i j : ℕ} (r : Ready x y ws hea
                   (λ h. clash h (is-branch branch))
                   (λ h. (first-less, omega (arith, low-reached .less, low-reached .count-is), first-is, low-reached .number-is))
                   (low-reached .count-is) (key .0) a)
+
+-- the ways through `walk`
+pub walk-ready : {x y ws heads : List ℕ} {limit i j : ℕ} → Leading x y (i, j) → Plan x y ws heads limit [] → Ready x y ws heads limit 0 (i, j)
+unfolding pairsAt
+walk-ready a t = record { leading = a; plan = t }
+
+pub walk-new : (ws : List ℕ) (p : Pair) → mem samePair p (pairsAt ws 0) ≡ false
+unfolding pairsAt
+walk-new ws p = refl
+
+-- the answer, where the pairs are few enough, and where not
+went-few : (limit : ℕ) (ps : List Pair) → length ps ≤ limit → wentTo limit ps ≡ To (length ps - 1) (length ps)
+unfolding wentTo
+went-few limit ps h = rw (le-leb (length ps) limit h)
+
+went-many : (limit : ℕ) (ps : List Pair) → limit < length ps → wentTo limit ps ≡ Full
+unfolding wentTo
+went-many limit ps h = rw (lt-leb (length ps) limit h)
+
+planned : (x y : List ℕ) (limit : ℕ) (p : Pair) → Leading x y p → (z : Went) (ws heads : List ℕ) → Visited x y limit p (walked x y p []) z ws heads
+    → Planned x y limit (walked x y p []) z ws heads
+planned x y limit p a (To k n) ws heads v =
+    let r : Reached x y limit p (walked x y p []) k n ws heads = v .to k n refl in
+    let few : length (walked x y p []) ≤ limit = r .plan .index .within in
+    let is : k ≡ length (walked x y p []) - 1 =
+    place-one origin (walked x y p []) (r .plan .apart) k (length (walked x y p []) - 1) (omega (arith, r .less, r .count-is))
+    (omega (arith, walked-root x y p a origin .0)) (r .number-is ∙ sym (walked-root x y p a origin .1)) in
+    record {
+      answer = ap (λ (m : ℕ). To m n) is ∙ ap (To (length (walked x y p []) - 1)) (sym (r .count-is)) ∙ sym (went-few limit (walked x y p []) few);
+      plan = λ h. r .plan;
+      touched = λ h. absurd (omega arith);
+    }
+planned x y limit p a Full ws heads v =
+    let o : Overrun limit (walked x y p []) ws heads = v .full refl in
+    record { answer = sym (went-many limit (walked x y p []) (o .many)); plan = λ h. absurd (omega (arith, o .many)); touched = λ h. o .touched }
+
+pub walk-out : (ws : List ℕ) {x y ws′ heads′ : List ℕ} {limit i j : ℕ} {z : Went} → Leading x y (i, j) → Visited x y limit (i, j) (walked x y (i, j) (pairsAt ws 0)) z ws′ heads′
+    → Planned x y limit (walked x y (i, j) []) z ws′ heads′
+unfolding pairsAt
+walk-out ws {x} {y} {ws′} {heads′} {limit} {i} {j} {z} a v = planned x y limit (i, j) a z ws′ heads′ v

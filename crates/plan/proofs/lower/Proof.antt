@@ -2,16 +2,13 @@ use borrow.Author.Needs.{needs}
 use Rattle.plan.proofs.StepLaws.{lower-le, lower-gt}
 use Rattle.plan.proofs.lower.Statement.{statement}
 use Rattle.plan.proofs.lower.Tie as tie
-use Rattle.plan.proofs.lower.Reads as reads
-use Rattle.plan.proofs.lower.Lts as lts
 
--- src/lib.rt:50:9
 returns : tie.Need-returns
 returns c = search lower-le
 
--- src/lib.rt:46:1
 returns-2 : tie.Need-returns-2
 returns-2 c = search lower-gt
 
 pub lower-spec : {M : Type 1} → statement M
-lower-spec = tie.close (tie.spec returns returns-2)
+lower-spec =
+    tie.close (tie.spec returns returns-2)
