@@ -1,8 +1,198 @@
 // States and the value of a diagram in one.
+ghost use mathlib.Core.Path.{_≡_};
+ghost use mathlib.Core.Bool.{Bool, true, false, cond};
+ghost use mathlib.Core.List.{[], _∷_};
+ghost use Prim.Native.Nat.{ℕ, _+_, _*_, _^_, _<_, _≤_};
+ghost use lib.ListN.{length, getD, take};
+ghost use lib.Dec.{ltb, leb};
+ghost use Rattle.label.specs.Labels.{unpacked};
+ghost use Rattle.diagram.specs.Words.{labelAt, highAt, lowAt, rowCount};
+ghost use Rattle.state.specs.Lent.{factWords, factCount, someBelow};
+ghost use Rattle.state.specs.Index.{buckets, mostIndexed, indexedCount, listed, rowObjects, says, used, bucketOf, bucketAt, Indexed, Asked, Sought};
+ghost use Rattle.state.specs.Search.{free, Walkable, Tops, lentTruth, unboundIn, objectsIn, Best, Ready};
 use refusal::Refusal;
 
 // What valuing answers: the highest leaf, or why there is none.
 pub enum Valued {
     Value(u64),
     Refused(Refusal),
+}
+
+// The objects of a fact, or of a label's places.
+pub struct Objects {
+    pub first: u64,
+    pub second: u64,
+    pub third: u64,
+    pub fourth: u64,
+}
+
+// A term that has no object yet.
+const FREE: u64 = 18446744073709551615;
+// A leaf's first word.
+const LEAF: u64 = 4294967295;
+// No term has this number.
+const NONE: usize = 64;
+// Buckets of the index of facts.
+const BUCKETS: usize = 2048;
+// Rows of facts in the index at most.
+const INDEXED: usize = 4096;
+
+// The arity of predicate p.
+fn arity(arities: &[u64], p: u64) -> u64
+    ensures { λ r. ⌜ r ≡ getD (now (arities .entry)) p 0 ⌝ }
+{
+    let i = p as usize;
+    if i < arities.len() {
+        return arities[i];
+    }
+    0
+}
+
+// The objects of row i of the facts.
+fn row_objects(facts: &[u64], i: usize) -> Objects
+    requires { ⌜ i * factWords + factWords ≤ length (now facts) ⌝ }
+    ensures { λ r. ⌜ r ≡ rowObjects (now (facts .entry)) i ⌝ }
+{
+    Objects {
+        first: facts[i * 5 + 1],
+        second: facts[i * 5 + 2],
+        third: facts[i * 5 + 3],
+        fourth: facts[i * 5 + 4],
+    }
+}
+
+// What stands in place k of an arity: the object, or where the place is unused, fill.
+fn place(arity: u64, k: u64, o: u64, fill: u64) -> u64
+    ensures { λ r. ⌜ r ≡ cond (ltb k arity) o fill ⌝ }
+{
+    if k < arity {
+        return o;
+    }
+    fill
+}
+
+// The objects, with fill in the places past the arity.
+fn in_use(arity: u64, fill: u64, o: Objects) -> Objects
+    ensures { λ r. ⌜ r ≡ used arity fill o ⌝ }
+{
+    Objects {
+        first: place(arity, 0, o.first, fill),
+        second: place(arity, 1, o.second, fill),
+        third: place(arity, 2, o.third, fill),
+        fourth: place(arity, 3, o.fourth, fill),
+    }
+}
+
+// The bucket of a fact.
+fn hash(p: u64, o: Objects) -> usize
+    ensures { λ r. ⌜ (r ≡ bucketOf p o) × (r < buckets) ⌝ }
+{
+    let x = p % 4294967296 * 30011
+        + o.first % 4294967296 * 40503
+        + o.second % 4294967296 * 60493
+        + o.third % 4294967296 * 52711
+        + o.fourth % 4294967296 * 36013;
+    ((x + x / 1024 + x / 1048576) as usize) % BUCKETS
+}
+
+// The bucket of row i.
+fn row_hash(arities: &[u64], facts: &[u64], fill: u64, i: usize) -> usize
+    requires { ⌜ i * factWords + factWords ≤ length (now facts) ⌝ }
+    ensures { λ r. ⌜ (r ≡ bucketAt (now (arities .entry)) (now (facts .entry)) fill i) × (r < buckets) ⌝ }
+{
+    let p = facts[i * 5];
+    hash(p, in_use(arity(arities, p), fill, row_objects(facts, i)))
+}
+
+// Makes the index of the facts.
+fn index_facts(arities: &[u64], facts: &[u64], fill: u64, index: &mut [u16])
+    requires { ⌜ Indexed (now arities) (now facts) fill (now index) 0 ⌝ }
+    ensures { λ _. ⌜ Indexed (now (arities .entry)) (now (facts .entry)) fill (now (index .exit)) (indexedCount (now (facts .entry))) ⌝ }
+{
+    let rows = facts.len() / 5;
+    let mut i = 0;
+    while i < rows {
+        if i == INDEXED {
+            return;
+        }
+        let h = row_hash(arities, facts, fill, i);
+        index[BUCKETS + i] = index[h];
+        index[h] = (i + 1) as u16;
+        i += 1;
+    }
+}
+
+// Whether row i says that p holds of the first k objects.
+fn row_says(facts: &[u64], i: usize, k: u64, p: u64, o: Objects) -> bool
+    requires { ⌜ i * factWords + factWords ≤ length (now facts) ⌝ }
+    ensures { λ r. ⌜ r ≡ says (now (facts .entry)) k p o i ⌝ }
+{
+    if facts[i * 5] != p {
+        return false;
+    }
+    if k == 0 {
+        return true;
+    }
+    if facts[i * 5 + 1] != o.first {
+        return false;
+    }
+    if k == 1 {
+        return true;
+    }
+    if facts[i * 5 + 2] != o.second {
+        return false;
+    }
+    if k == 2 {
+        return true;
+    }
+    if facts[i * 5 + 3] != o.third {
+        return false;
+    }
+    if k == 3 {
+        return true;
+    }
+    facts[i * 5 + 4] == o.fourth
+}
+
+// Whether an indexed row says it.
+fn indexed(facts: &[u64], index: &[u16], k: u64, p: u64, o: Objects) -> bool
+    requires { ⌜ Asked (now facts) (now index) k p o ⌝ }
+    ensures { λ r. ⌜ Sought (says (now (facts .entry)) k p o) 0 (indexedCount (now (facts .entry))) r ⌝ }
+{
+    let h = hash(p, o);
+    let mut at = basics::wide(index[h]);
+    while at != 0 {
+        let i = at - 1;
+        if row_says(facts, i, k, p, o) {
+            return true;
+        }
+        at = basics::wide(index[BUCKETS + i]);
+    }
+    false
+}
+
+// Whether a row behind the indexed ones says it.
+fn scanned(facts: &[u64], k: u64, p: u64, o: Objects) -> bool
+    ensures { λ r. ⌜ Sought (says (now (facts .entry)) k p o) mostIndexed (factCount (now (facts .entry))) r ⌝ }
+{
+    let rows = facts.len() / 5;
+    let mut i = INDEXED;
+    while i < rows {
+        if row_says(facts, i, k, p, o) {
+            return true;
+        }
+        i += 1;
+    }
+    false
+}
+
+// Whether a row of the facts says that p, of arity k, holds of the objects.
+fn found(facts: &[u64], index: &[u16], k: u64, p: u64, o: Objects) -> bool
+    requires { ⌜ Asked (now facts) (now index) k p o ⌝ }
+    ensures { λ r. ⌜ r ≡ someBelow (factCount (now (facts .entry))) (says (now (facts .entry)) k p o) ⌝ }
+{
+    if indexed(facts, index, k, p, o) {
+        return true;
+    }
+    scanned(facts, k, p, o)
 }
