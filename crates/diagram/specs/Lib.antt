@@ -6,3 +6,17 @@ pub mod Words
 pub mod Listing
 pub mod Variables
 pub mod DiagramLaws
+pub mod Canonicity
+pub mod Validity
+pub mod RowLists
+pub mod WordLaws
+pub mod ListingLaws
+pub mod RowLaws
+pub mod Shown
+pub mod WrittenRows
+pub mod RowDiagrams
+pub mod DiagramOfListing
+pub mod ListingValid
+pub mod ListingOfDiagram
+pub mod Listings
+pub mod ListingExamples

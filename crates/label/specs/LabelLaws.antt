@@ -11,6 +11,7 @@ use Rattle.basics.specs.Tests.{and-left, and-right, Flag, isTrue, isFalse, flag
 use Rattle.label.specs.Limits.{termBase, predicateCount, leafMark}
 use Rattle.label.specs.Terms.{isConstant, isParameter, isVariable, isTerm}
 use Rattle.label.specs.Labels.{packed, predicateOf, unpacked, placeFits, inOrder, isAtom, isLabel, before, firstDiffers}
+use Rattle.label.specs.Callers.{Places}
 use Rattle.label.specs.declared.Atom.{Atom}
 
 -- terms are below the base of the packing
@@ -26,13 +27,6 @@ term-below t e = go (either (ltb t 16) _ e)
     go (one q) = omega (arith, ltb-true t 16 q)
     go (other q) = rest (either (leb 16 t && ltb t 20) _ q)
 
--- every place is below the base
-pub record Places (a : Atom) : Type 0 where
-  pub first-below : a .first < termBase
-  pub second-below : a .second < termBase
-  pub third-below : a .third < termBase
-  pub fourth-below : a .fourth < termBase
-
 place-below : (n k t : ℕ) → placeFits n k t ≡ true → t < termBase
 unfolding placeFits
 place-below n k t e = go (flag (ltb k n))
@@ -41,13 +35,16 @@ place-below n k t e = go (flag (ltb k n))
     go (isTrue q) = term-below t (rw q at e)
     go (isFalse q) = let z : eqb t 0 ≡ true = rw q at e in omega (arith, eqb-true t 0 z)
 
--- the tests of an atom, one by one
+-- the tests of an atom, one by one: its places under the arity n, then all of them
+pub record PlacesFit (n : ℕ) (a : Atom) : Type 0 where
+  pub first-fits : placeFits n 0 (a .first) ≡ true
+  pub second-fits : placeFits n 1 (a .second) ≡ true
+  pub third-fits : placeFits n 2 (a .third) ≡ true
+  pub fourth-fits : placeFits n 3 (a .fourth) ≡ true
+
 pub record Fitting (ar : List ℕ) (a : Atom) : Type 0 where
   pub predicate-fits : a .predicate < predicateCount
-  pub first-fits : placeFits (getD ar (a .predicate) 0) 0 (a .first) ≡ true
-  pub second-fits : placeFits (getD ar (a .predicate) 0) 1 (a .second) ≡ true
-  pub third-fits : placeFits (getD ar (a .predicate) 0) 2 (a .third) ≡ true
-  pub fourth-fits : placeFits (getD ar (a .predicate) 0) 3 (a .fourth) ≡ true
+  pub places-fit : PlacesFit (getD ar (a .predicate) 0) a
   pub ordered : inOrder a ≡ true
 
 pub atom-fits : (ar : List ℕ) (a : Atom) → isAtom ar a ≡ true → Fitting ar a
@@ -60,21 +57,24 @@ atom-fits ar a e =
     let e₄ = and-right (placeFits n 2 (a .third)) _ e₃ in
     record {
       predicate-fits = ltb-true _ _ (and-left (ltb (a .predicate) predicateCount) _ e);
-      first-fits = and-left (placeFits n 0 (a .first)) _ e₁;
-      second-fits = and-left (placeFits n 1 (a .second)) _ e₂;
-      third-fits = and-left (placeFits n 2 (a .third)) _ e₃;
-      fourth-fits = and-left (placeFits n 3 (a .fourth)) _ e₄;
+      places-fit = record {
+        first-fits = and-left (placeFits n 0 (a .first)) _ e₁;
+        second-fits = and-left (placeFits n 1 (a .second)) _ e₂;
+        third-fits = and-left (placeFits n 2 (a .third)) _ e₃;
+        fourth-fits = and-left (placeFits n 3 (a .fourth)) _ e₄;
+      };
       ordered = and-right (placeFits n 3 (a .fourth)) _ e₄;
     }
 
 pub fits-atom : (ar : List ℕ) (a : Atom) → Fitting ar a → isAtom ar a ≡ true
 unfolding isAtom
 fits-atom ar a f =
-    rw (lt-ltb (a .predicate) predicateCount (f .predicate-fits), f .first-fits, f .second-fits, f .third-fits, f .fourth-fits, f .ordered)
+    let p = f .places-fit in
+    rw (lt-ltb (a .predicate) predicateCount (f .predicate-fits), p .first-fits, p .second-fits, p .third-fits, p .fourth-fits, f .ordered)
 
 pub atom-places : (ar : List ℕ) (a : Atom) → isAtom ar a ≡ true → Places a
 atom-places ar a e =
-    let f = atom-fits ar a e in
+    let f = atom-fits ar a e .places-fit in
     record {
       first-below = place-below _ 0 _ (f .first-fits);
       second-below = place-below _ 1 _ (f .second-fits);

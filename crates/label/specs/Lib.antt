@@ -3,4 +3,6 @@ pub mod Limits
 pub mod Terms
 pub mod Labels
 pub mod Renamings
+pub mod Callers
 pub mod LabelLaws
+pub mod RenamingLaws

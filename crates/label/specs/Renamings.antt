@@ -1,11 +1,12 @@
 -- Maps of terms, and labels renamed by them (document 01, sections 'Combination' and 'Regression').
-use mathlib.Core.Bool.{Bool, true, false, cond}
+use mathlib.Core.Bool.{true, cond}
 use mathlib.Core.List.{List, [], _∷_}
 use mathlib.Core.Path.{_≡_}
 use Prim.Native.Nat.{ℕ, zero, suc, _+_, _-_, _≤_, _<_}
-use lib.ListN.{length, getD}
-use lib.Dec.{eqb, ltb}
-use Rattle.label.specs.Limits.{firstParameter, parameterCount, firstVariable, constantCount}
+use lib.ListN.{getD}
+use lib.Dec.{ltb}
+use Rattle.label.specs.Limits.{firstParameter, firstVariable}
+use Rattle.label.specs.Terms.{isTerm}
 use Rattle.label.specs.Labels.{packed, unpacked, testOf, predicateOf}
 use Rattle.label.specs.declared.Atom.{Atom}
 use Rattle.label.specs.declared.Test.{Test}
@@ -52,6 +53,18 @@ freeing c t =
     (cond (ltb t (firstParameter + c)) (t + (firstVariable - firstParameter))
     (cond (ltb t firstVariable) t (t + c)))
 
--- ρ keeps the order of the terms that P names
+-- ρ turns the terms that P names into terms and keeps their order
 pub record Increasing (P : ℕ → Type 0) (ρ : ℕ → ℕ) : Type 0 where
-  pub keeps : (t u : ℕ) → P t → P u → t < u → ρ t < ρ u
+  pub terms : (t : ℕ) → P t → isTerm (ρ t) ≡ true
+  pub order : (t u : ℕ) → P t → P u → t < u → ρ t < ρ u
+
+-- P names every term of an atom of arity n
+pub record EachTerm (P : ℕ → Type 0) (n : ℕ) (a : Atom) : Type 0 where
+  pub on-first : 0 < n → P (a .first)
+  pub on-second : 1 < n → P (a .second)
+  pub on-third : 2 < n → P (a .third)
+  pub on-fourth : 3 < n → P (a .fourth)
+
+-- P names every term of the label l
+abbrev pub EachIn : List ℕ → (ℕ → Type 0) → ℕ → Type 0
+EachIn ar P l = EachTerm P (getD ar (predicateOf l) 0) (unpacked l)

@@ -3,10 +3,11 @@ ghost use mathlib.Core.Path.{_≡_};
 ghost use Prim.Native.Nat.{ℕ, _+_, _*_, _<_, _≤_};
 ghost use lib.ListN.{length, getD};
 ghost use lib.Dec.{ltb};
-ghost use Rattle.label.specs.Limits.{constantCount, parameterCount, variableCount, termBase, predicateCount, mostPlaces};
+ghost use Rattle.label.specs.Limits.{constantCount, parameterCount, variableCount, termBase, predicateCount};
 ghost use Rattle.label.specs.Terms.{isTerm, kindOf, constantTerm, parameterTerm, variableTerm};
-ghost use Rattle.label.specs.Labels.{areArities, packed, unpacked, placeFits, isAtom, isLabel, before, equates, testOf};
+ghost use Rattle.label.specs.Labels.{areArities, packed, predicateOf, unpacked, placeFits, isLabel, isLabelUnder, before, equates, testOf};
 ghost use Rattle.label.specs.Renamings.{mapOf, placed, mapped, moved, renamed};
+ghost use Rattle.label.specs.Callers.{Packable, Mappable, Movable, Replaced};
 
 // What a term is, by its number.
 pub enum Kind {
@@ -100,4 +101,237 @@ pub struct Label {
 pub enum Test {
     Always,
     Is(Label),
+}
+
+impl Atom {
+    // The atom's label.
+    pub fn pack(self) -> Label
+        requires { ⌜ Packable self ⌝ }
+        ensures { λ r. ⌜ r .packed ≡ packed self ⌝ }
+    {
+        Label {
+            packed: self.predicate * Label::PREDICATE_WEIGHT
+                + self.first * Label::FIRST_WEIGHT
+                + self.second * Label::SECOND_WEIGHT
+                + self.third * Label::THIRD_WEIGHT
+                + self.fourth,
+        }
+    }
+
+    // What the atom asks: an equality with its smaller term first, t = t as plain truth.
+    pub fn test(self) -> Test
+        requires { ⌜ Packable self ⌝ }
+        ensures { λ r. ⌜ r ≡ testOf self ⌝ }
+    {
+        if self.predicate != Label::EQUALITY {
+            return Test::Is(self.pack());
+        }
+        equate(self.first, self.second)
+    }
+
+    // The atom of arity n with all of its terms replaced together, term t by map[t].
+    pub fn mapped(self, n: u64, map: &[u64]) -> Atom
+        requires { ⌜ Mappable self (now map) ⌝ }
+        ensures { λ r. ⌜ r ≡ mapped (mapOf (now (map .entry))) n self ⌝ }
+    {
+        Atom {
+            predicate: self.predicate,
+            first: placed(map, n, 0, self.first),
+            second: placed(map, n, 1, self.second),
+            third: placed(map, n, 2, self.third),
+            fourth: placed(map, n, 3, self.fourth),
+        }
+    }
+}
+
+impl Label {
+    pub const PREDICATES: usize = 32;
+
+    pub const PLACES: u64 = 4;
+
+    pub const EQUALITY: u64 = 0;
+
+    pub const EQUALITY_ARITY: u64 = 2;
+
+    pub const PREDICATE_WEIGHT: u64 = 16777216;
+
+    pub const FIRST_WEIGHT: u64 = 262144;
+
+    pub const SECOND_WEIGHT: u64 = 4096;
+
+    pub const THIRD_WEIGHT: u64 = 64;
+    // What stands in a leaf's first word: above every label.
+    pub const LEAF: u64 = 4294967295;
+
+    // The predicate of the label.
+    pub fn predicate(self) -> u64
+        ensures { λ r. ⌜ r ≡ predicateOf (self .packed) ⌝ }
+    {
+        self.packed / Label::PREDICATE_WEIGHT
+    }
+
+    // The label's atom.
+    pub fn unpack(self) -> Atom
+        ensures { λ r. ⌜ r ≡ unpacked (self .packed) ⌝ }
+    {
+        let l = self.packed;
+        Atom {
+            predicate: l / Label::PREDICATE_WEIGHT,
+            first: l / Label::FIRST_WEIGHT % Term::BASE,
+            second: l / Label::SECOND_WEIGHT % Term::BASE,
+            third: l / Label::THIRD_WEIGHT % Term::BASE,
+            fourth: l % Term::BASE,
+        }
+    }
+
+    // Whether this label comes before the other one.
+    pub fn before(self, other: Label) -> bool
+        ensures { λ r. ⌜ r ≡ before (unpacked (self .packed)) (unpacked (other .packed)) ⌝ }
+    {
+        self.packed < other.packed
+    }
+
+    // Whether the number is a label under the arity list, which is known to be one.
+    pub fn fits(self, arities: &[u64]) -> bool
+        requires { ⌜ predicateCount ≤ length (now arities) ⌝ }
+        ensures { λ r. ⌜ r ≡ isLabel (now (arities .entry)) (self .packed) ⌝ }
+    {
+        let a = self.unpack();
+        let p = a.predicate as usize;
+        if p >= Label::PREDICATES {
+            return false;
+        }
+        let n = arities[p];
+        if !place_fits(n, 0, a.first) {
+            return false;
+        }
+        if !place_fits(n, 1, a.second) {
+            return false;
+        }
+        if !place_fits(n, 2, a.third) {
+            return false;
+        }
+        if !place_fits(n, 3, a.fourth) {
+            return false;
+        }
+        if p != 0 {
+            return true;
+        }
+        if a.first >= a.second {
+            return false;
+        }
+        true
+    }
+
+    // Whether the list is an arity list and the number a label under it.
+    pub fn is_under(self, arities: &[u64]) -> bool
+        ensures { λ r. ⌜ r ≡ isLabelUnder (now (arities .entry)) (self .packed) ⌝ }
+    {
+        if !are_arities(arities) {
+            return false;
+        }
+        self.fits(arities)
+    }
+
+    // The label's atom with all of its terms replaced together, term t by map[t].
+    fn replaced(self, arities: &[u64], map: &[u64]) -> Atom
+        requires { ⌜ Movable (now arities) (now map) (self .packed) ⌝ }
+        ensures { λ r. ⌜ Replaced (now (arities .entry)) (now (map .entry)) (self .packed) r ⌝ }
+    {
+        let a = self.unpack();
+        let p = a.predicate as usize;
+        let n = arities[p];
+        a.mapped(n, map)
+    }
+
+    // What the label asks once its terms are replaced.
+    pub fn moved(self, arities: &[u64], map: &[u64]) -> Test
+        requires { ⌜ Movable (now arities) (now map) (self .packed) ⌝ }
+        ensures { λ r. ⌜ r ≡ moved (now (arities .entry)) (mapOf (now (map .entry))) (self .packed) ⌝ }
+    {
+        let a = self.replaced(arities, map);
+        a.test()
+    }
+
+    // The label renamed by a map that keeps the order of its terms.
+    pub fn renamed(self, arities: &[u64], map: &[u64]) -> Label
+        requires { ⌜ Movable (now arities) (now map) (self .packed) ⌝ }
+        ensures { λ r. ⌜ r .packed ≡ renamed (now (arities .entry)) (mapOf (now (map .entry))) (self .packed) ⌝ }
+    {
+        let a = self.replaced(arities, map);
+        a.pack()
+    }
+}
+
+// What the equality of two terms asks.
+pub fn equate(t: u64, u: u64) -> Test
+    requires { ⌜ t < termBase ⌝ }
+    requires { ⌜ u < termBase ⌝ }
+    ensures { λ r. ⌜ r ≡ equates t u ⌝ }
+{
+    if t == u {
+        return Test::Always;
+    }
+    if t < u {
+        return Test::Is(Label {
+            packed: t * Label::FIRST_WEIGHT + u * Label::SECOND_WEIGHT,
+        });
+    }
+    Test::Is(Label {
+        packed: u * Label::FIRST_WEIGHT + t * Label::SECOND_WEIGHT,
+    })
+}
+
+// Whether place k of a predicate of arity n may hold t.
+fn place_fits(n: u64, k: u64, t: u64) -> bool
+    ensures { λ r. ⌜ r ≡ placeFits n k t ⌝ }
+{
+    if k < n {
+        return is_term(t);
+    }
+    t == 0
+}
+
+// Whether t is the number of a term.
+pub fn is_term(t: u64) -> bool
+    ensures { λ r. ⌜ r ≡ isTerm t ⌝ }
+{
+    if t < Term::FIRST_PARAMETER + Term::PARAMETERS {
+        return true;
+    }
+    if t < Term::FIRST_VARIABLE {
+        return false;
+    }
+    t < Term::FIRST_VARIABLE + Term::VARIABLES
+}
+
+// Place k of a predicate of arity n with its term t replaced.
+fn placed(map: &[u64], n: u64, k: u64, t: u64) -> u64
+    requires { ⌜ t < length (now map) ⌝ }
+    ensures { λ r. ⌜ r ≡ placed (mapOf (now (map .entry))) n k t ⌝ }
+{
+    if k < n {
+        return map[t as usize];
+    }
+    0
+}
+
+// Whether the words are an arity list: 32 arities, the first 2, each at most 4.
+pub fn are_arities(arities: &[u64]) -> bool
+    ensures { λ r. ⌜ r ≡ areArities (now (arities .entry)) ⌝ }
+{
+    if arities.len() != Label::PREDICATES {
+        return false;
+    }
+    if arities[0] != Label::EQUALITY_ARITY {
+        return false;
+    }
+    let mut i = 0usize;
+    while i < Label::PREDICATES {
+        if arities[i] > Label::PLACES {
+            return false;
+        }
+        i += 1;
+    }
+    true
 }

@@ -1,0 +1,43 @@
+-- What callers of the inner functions of this crate must know.
+use mathlib.Core.List.{List}
+use mathlib.Core.Path.{_≡_}
+use mathlib.Core.Bool.{true}
+use Prim.Native.Nat.{ℕ, _≤_, _<_}
+use lib.ListN.{length, getD}
+use Rattle.label.specs.Limits.{predicateCount, termBase}
+use Rattle.label.specs.Labels.{isLabel, predicateOf, unpacked}
+use Rattle.label.specs.Renamings.{mapOf, mapped}
+use Rattle.label.specs.declared.Atom.{Atom}
+
+-- every place is below the base
+pub record Places (a : Atom) : Type 0 where
+  pub first-below : a .first < termBase
+  pub second-below : a .second < termBase
+  pub third-below : a .third < termBase
+  pub fourth-below : a .fourth < termBase
+
+-- an atom that packs
+pub record Packable (a : Atom) : Type 0 where
+  pub predicate-below : a .predicate < predicateCount
+  pub places : Places a
+
+-- a lent map of terms: a term for each term
+pub record TermMap (map : List ℕ) : Type 0 where
+  pub whole : termBase ≤ length map
+  pub below : (t : ℕ) → t < termBase → getD map t 0 < termBase
+
+-- an atom whose places the map has
+pub record Mappable (a : Atom) (map : List ℕ) : Type 0 where
+  pub whole : termBase ≤ length map
+  pub places : Places a
+
+-- a label and a map of its terms
+pub record Movable (ar map : List ℕ) (l : ℕ) : Type 0 where
+  pub arities : predicateCount ≤ length ar
+  pub terms : TermMap map
+  pub label : isLabel ar l ≡ true
+
+-- the atom r of the label l with its terms replaced
+pub record Replaced (ar map : List ℕ) (l : ℕ) (r : Atom) : Type 0 where
+  pub atom : r ≡ mapped (mapOf map) (getD ar (predicateOf l) 0) (unpacked l)
+  pub packable : Packable r

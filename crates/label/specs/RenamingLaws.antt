@@ -1,0 +1,352 @@
+-- Laws of renamed labels: a map that keeps the order of terms keeps labels normal and in order. Closing up, moving apart and freeing are such maps.
+use mathlib.Core.Path.{_≡_, refl, sym, ap, subst, _∙_}
+use mathlib.Core.Logic.{_⊎_, inl, inr}
+use mathlib.Core.Bool.{Bool, true, false, not, _&&_, _||_, cond}
+use mathlib.Core.List.{List, [], _∷_, map}
+use Prim.Native.Nat.{ℕ, zero, suc, _+_, _-_, _/_, _≤_, _<_}
+use native.Mathlib.Omega.{arith}
+use lib.ListN.{length, getD, take}
+use lib.Seq.{take-nil}
+use lib.Dec.{eqb, ltb, leb}
+use borrow.Author.Tests.{ltb-true, ltb-false, leb-true, eqb-true, eqb-false, lt-ltb, le-ltb, le-leb, lt-leb, eq-eqb, ne-eqb}
+use Rattle.basics.specs.Tests.{and-left, and-right, Flag, isTrue, isFalse, flag, Either, one, other, either, or-one, or-other, Cmp, below, equal, above, cmp}
+use Rattle.basics.specs.Members.{mem, clash}
+use Rattle.label.specs.Limits.{termBase, firstVariable, firstParameter, parameterCount}
+use Rattle.label.specs.Terms.{isConstant, isParameter, isVariable, isTerm}
+use Rattle.label.specs.Labels.{areArities, packed, predicateOf, unpacked, placeFits, inOrder, isAtom, isLabel, termsOf, before, firstDiffers, equates, testOf, labelOf}
+use Rattle.label.specs.Renamings.{placed, mapped, moved, renamed, rank, numbering, freeing, Increasing, EachTerm, EachIn}
+use Rattle.label.specs.Callers.{Places}
+use Rattle.label.specs.LabelLaws.{Fitting, PlacesFit, atom-fits, fits-atom, atom-places, label-fits, label-places, label-packed, packed-unpacked, unpacked-packed, before-packed}
+use Rattle.label.specs.declared.Atom.{Atom}
+use Rattle.label.specs.declared.Test.the-variants.{Always, Is}
+
+pub placed-used : (ρ : ℕ → ℕ) (n k t : ℕ) → k < n → placed ρ n k t ≡ ρ t
+unfolding placed
+placed-used ρ n k t h = rw (lt-ltb k n h)
+
+pub placed-unused : (ρ : ℕ → ℕ) (n k t : ℕ) → n ≤ k → placed ρ n k t ≡ 0
+unfolding placed
+placed-unused ρ n k t h = rw (le-ltb k n h)
+
+unused-zero : (n k t : ℕ) → n ≤ k → placeFits n k t ≡ true → t ≡ 0
+unfolding placeFits
+unused-zero n k t h e = eqb-true t 0 (rw (le-ltb k n h) at e)
+
+equality-arity : (ar : List ℕ) → areArities ar ≡ true → getD ar 0 0 ≡ 2
+unfolding areArities
+equality-arity ar e = eqb-true _ _ (and-left (eqb (getD ar 0 0) 2) _ (and-right (eqb (length ar) 32) _ e))
+
+predicate-is : (l : ℕ) → unpacked l .predicate ≡ predicateOf l
+unfolding unpacked predicateOf
+predicate-is l = refl
+
+mapped-terms : (ρ : ℕ → ℕ) (n x y z w : ℕ) → take n (placed ρ n 0 x ∷ placed ρ n 1 y ∷ placed ρ n 2 z ∷ placed ρ n 3 w ∷ []) ≡ map ρ (take n (x ∷ y ∷ z ∷ w ∷ []))
+mapped-terms ρ zero x y z w = refl
+mapped-terms ρ (suc zero) x y z w = rw (placed-used ρ 1 0 x (omega arith))
+mapped-terms ρ (suc (suc zero)) x y z w = rw (placed-used ρ 2 0 x (omega arith), placed-used ρ 2 1 y (omega arith))
+mapped-terms ρ (suc (suc (suc zero))) x y z w = rw (placed-used ρ 3 0 x (omega arith), placed-used ρ 3 1 y (omega arith), placed-used ρ 3 2 z (omega arith))
+mapped-terms ρ (suc (suc (suc (suc n)))) x y z w =
+    rw (
+      placed-used ρ (suc (suc (suc (suc n)))) 0 x (omega arith),
+      placed-used ρ (suc (suc (suc (suc n)))) 1 y (omega arith),
+      placed-used ρ (suc (suc (suc (suc n)))) 2 z (omega arith),
+      placed-used ρ (suc (suc (suc (suc n)))) 3 w (omega arith),
+      take-nil n,
+    )
+
+packed-less : (l k : ℕ) → l < k → ltb (packed (unpacked l)) (packed (unpacked k)) ≡ true
+packed-less l k h = rw (packed-unpacked l, packed-unpacked k) (lt-ltb l k h)
+
+-- an atom in order asks its own label
+in-order-test : (ar : List ℕ) → getD ar 0 0 ≡ 2 → (a : Atom) → Fitting ar a → testOf a ≡ labelOf a
+unfolding testOf equates inOrder
+in-order-test ar two a f = go (flag (eqb (a .predicate) 0))
+  where
+    go : Flag (eqb (a .predicate) 0) → testOf a ≡ labelOf a
+    go (isTrue q) =
+        let z : a .predicate ≡ 0 = eqb-true _ _ q in
+        let n : getD ar (a .predicate) 0 ≡ 2 = rw z two in
+        let e₃ = unused-zero _ 2 (a .third) (omega arith) (f .places-fit .third-fits) in
+        let e₄ = unused-zero _ 3 (a .fourth) (omega arith) (f .places-fit .fourth-fits) in
+        let o = f .ordered in
+        let k : ltb (a .first) (a .second) ≡ true = rw q at o in
+        let h = ltb-true (a .first) (a .second) k in
+        rw (q, ne-eqb (a .first) (a .second) (omega arith), lt-ltb (a .first) (a .second) h)
+        (sym (λ i. labelOf (record { predicate = z i; first = a .first; second = a .second; third = e₃ i; fourth = e₄ i })))
+    go (isFalse q) = rw q
+
+module _ (P : ℕ → Type 0) (ρ : ℕ → ℕ) (inc : Increasing P ρ) where
+  -- a place stays one
+  place-maps : (n k t : ℕ) → (k < n → P t) → placeFits n k (placed ρ n k t) ≡ true
+  unfolding placeFits
+  place-maps n k t p = go (cmp k n)
+    where
+      go : Cmp k n → cond (ltb k n) (isTerm (placed ρ n k t)) (eqb (placed ρ n k t) 0) ≡ true
+      go (below q) = rw (lt-ltb k n q, placed-used ρ n k t q) (inc .terms t (p q))
+      go (equal q) = rw (le-ltb k n (omega arith), placed-unused ρ n k t (omega arith))
+      go (above q) = rw (le-ltb k n (omega arith), placed-unused ρ n k t (omega arith))
+
+  -- and the first difference of two atoms stays where it is
+  place-differs : (n k t u : ℕ) (r r′ : Bool) → placeFits n k t ≡ true → placeFits n k u ≡ true → (k < n → P t) → (k < n → P u)
+      → (r ≡ true → r′ ≡ true) → firstDiffers t u r ≡ true → firstDiffers (placed ρ n k t) (placed ρ n k u) r′ ≡ true
+  place-differs n k t u r r′ ft fu pt pu rest e = go (either (ltb t u) _ e)
+    where
+      less : t < u → Cmp k n → firstDiffers (placed ρ n k t) (placed ρ n k u) r′ ≡ true
+      less h (below q) = rw (placed-used ρ n k t q, placed-used ρ n k u q, lt-ltb (ρ t) (ρ u) (inc .order t u (pt q) (pu q) h))
+      less h (equal q) = absurd (omega (arith, unused-zero n k u (omega arith) fu))
+      less h (above q) = absurd (omega (arith, unused-zero n k u (omega arith) fu))
+
+      go : Either (ltb t u) (eqb t u && r) → firstDiffers (placed ρ n k t) (placed ρ n k u) r′ ≡ true
+      go (one q) = less (ltb-true t u q) (cmp k n)
+      go (other q) =
+          let x = eqb-true t u (and-left _ _ q) in
+          or-other (ltb (placed ρ n k t) (placed ρ n k u)) _
+          (rw (eq-eqb (placed ρ n k t) (placed ρ n k u) (ap (placed ρ n k) x), rest (and-right (eqb t u) _ q)))
+
+  last-differs : (n k t u : ℕ) → placeFits n k t ≡ true → placeFits n k u ≡ true → (k < n → P t) → (k < n → P u)
+      → ltb t u ≡ true → ltb (placed ρ n k t) (placed ρ n k u) ≡ true
+  last-differs n k t u ft fu pt pu e =
+      go (either (ltb (placed ρ n k t) (placed ρ n k u)) _ (place-differs n k t u false false ft fu pt pu (λ z. z) (or-one _ _ e)))
+    where
+      go : Either (ltb (placed ρ n k t) (placed ρ n k u)) (eqb (placed ρ n k t) (placed ρ n k u) && false) → ltb (placed ρ n k t) (placed ρ n k u) ≡ true
+      go (one q) = q
+      go (other q) = clash (and-right (eqb (placed ρ n k t) (placed ρ n k u)) false q) refl
+
+  places-before : (n : ℕ) (a b : Atom) → PlacesFit n a → PlacesFit n b → EachTerm P n a → EachTerm P n b
+      → firstDiffers (a .first) (b .first) (firstDiffers (a .second) (b .second) (firstDiffers (a .third) (b .third) (ltb (a .fourth) (b .fourth)))) ≡ true
+      → firstDiffers (placed ρ n 0 (a .first)) (placed ρ n 0 (b .first)) (firstDiffers (placed ρ n 1 (a .second)) (placed ρ n 1 (b .second))
+      (firstDiffers (placed ρ n 2 (a .third)) (placed ρ n 2 (b .third)) (ltb (placed ρ n 3 (a .fourth)) (placed ρ n 3 (b .fourth))))) ≡ true
+  places-before n a b fa fb pa pb =
+      place-differs n 0 _ _ _ _ (fa .first-fits) (fb .first-fits) (pa .on-first) (pb .on-first)
+      (place-differs n 1 _ _ _ _ (fa .second-fits) (fb .second-fits) (pa .on-second) (pb .on-second)
+      (place-differs n 2 _ _ _ _ (fa .third-fits) (fb .third-fits) (pa .on-third) (pb .on-third)
+      (last-differs n 3 _ _ (fa .fourth-fits) (fb .fourth-fits) (pa .on-fourth) (pb .on-fourth))))
+
+  mapped-before : (ar : List ℕ) (a b : Atom) → Fitting ar a → Fitting ar b → EachTerm P (getD ar (a .predicate) 0) a → EachTerm P (getD ar (b .predicate) 0) b
+      → before a b ≡ true → before (mapped ρ (getD ar (a .predicate) 0) a) (mapped ρ (getD ar (b .predicate) 0) b) ≡ true
+  unfolding before mapped
+  mapped-before ar a b fa fb pa pb e = go (either (ltb (a .predicate) (b .predicate)) _ e)
+    where
+      rest : Bool
+      rest = firstDiffers (a .first) (b .first) (firstDiffers (a .second) (b .second) (firstDiffers (a .third) (b .third) (ltb (a .fourth) (b .fourth))))
+
+      go : Either (ltb (a .predicate) (b .predicate)) (eqb (a .predicate) (b .predicate) && rest)
+          → before (mapped ρ (getD ar (a .predicate) 0) a) (mapped ρ (getD ar (b .predicate) 0) b) ≡ true
+      go (one q) = or-one _ _ q
+      go (other q) =
+          let z = eqb-true _ _ (and-left _ _ q) in
+          let n : getD ar (b .predicate) 0 ≡ getD ar (a .predicate) 0 = ap (λ (p : ℕ). getD ar p 0) (sym z) in
+          let r = places-before (getD ar (a .predicate) 0) a b (fa .places-fit) (subst (λ (m : ℕ). PlacesFit m b) n (fb .places-fit)) pa
+          (subst (λ (m : ℕ). EachTerm P m b) n pb) (and-right (eqb (a .predicate) (b .predicate)) rest q) in
+          or-other (ltb (a .predicate) (b .predicate)) _ (rw (eq-eqb (a .predicate) (b .predicate) z, n) r)
+
+  -- an equality keeps its smaller term first
+  mapped-order : (n : ℕ) (a : Atom) → (a .predicate ≡ 0 → n ≡ 2) → EachTerm P n a → inOrder a ≡ true → inOrder (mapped ρ n a) ≡ true
+  unfolding mapped inOrder
+  mapped-order n a two p o = go (flag (eqb (a .predicate) 0))
+    where
+      go : Flag (eqb (a .predicate) 0) → (not (eqb (a .predicate) 0) || ltb (placed ρ n 0 (a .first)) (placed ρ n 1 (a .second))) ≡ true
+      go (isTrue q) =
+          let e = two (eqb-true _ _ q) in
+          let h : ltb (a .first) (a .second) ≡ true = rw q at o in
+          rw (q, placed-used ρ n 0 (a .first) (omega arith), placed-used ρ n 1 (a .second) (omega arith))
+          (lt-ltb _ _ (inc .order _ _ (p .on-first (omega arith)) (p .on-second (omega arith)) (ltb-true _ _ h)))
+      go (isFalse q) = rw q
+
+  module _ (ar : List ℕ) (good : areArities ar ≡ true) where
+    two-places : (a : Atom) → a .predicate ≡ 0 → getD ar (a .predicate) 0 ≡ 2
+    two-places a e = rw e (equality-arity ar good)
+
+    -- atoms stay atoms
+    mapped-atom : (a : Atom) → isAtom ar a ≡ true → EachTerm P (getD ar (a .predicate) 0) a → isAtom ar (mapped ρ (getD ar (a .predicate) 0) a) ≡ true
+    unfolding mapped
+    mapped-atom a e p =
+        let n = getD ar (a .predicate) 0 in
+        let f = atom-fits ar a e in
+        fits-atom ar _ (record {
+          predicate-fits = f .predicate-fits;
+          places-fit = record {
+            first-fits = place-maps n 0 (a .first) (p .on-first);
+            second-fits = place-maps n 1 (a .second) (p .on-second);
+            third-fits = place-maps n 2 (a .third) (p .on-third);
+            fourth-fits = place-maps n 3 (a .fourth) (p .on-fourth);
+          };
+          ordered = mapped-order n a (two-places a) p (f .ordered);
+        })
+
+    label-atom : (l : ℕ) → isLabel ar l ≡ true → EachIn ar P l → isAtom ar (mapped ρ (getD ar (predicateOf l) 0) (unpacked l)) ≡ true
+    unfolding isLabel unpacked predicateOf
+    label-atom l e p = mapped-atom (unpacked l) e p
+
+    -- the renamed label's atom
+    pub renamed-atom : (l : ℕ) → isLabel ar l ≡ true → EachIn ar P l → unpacked (renamed ar ρ l) ≡ mapped ρ (getD ar (predicateOf l) 0) (unpacked l)
+    unfolding renamed
+    renamed-atom l e p = unpacked-packed _ (atom-places ar _ (label-atom l e p))
+
+    -- labels stay labels
+    pub renamed-label : (l : ℕ) → isLabel ar l ≡ true → EachIn ar P l → isLabel ar (renamed ar ρ l) ≡ true
+    unfolding renamed
+    renamed-label l e p = let a = label-atom l e p in label-packed ar _ (atom-places ar _ a) ∙ a
+
+    -- nothing is turned round
+    pub moved-renamed : (l : ℕ) → isLabel ar l ≡ true → EachIn ar P l → moved ar ρ l ≡ Is (record { packed = renamed ar ρ l })
+    unfolding moved renamed
+    moved-renamed l e p = in-order-test ar (equality-arity ar good) _ (atom-fits ar _ (label-atom l e p))
+
+    before-labels : (l k : ℕ) → Fitting ar (unpacked l) → Fitting ar (unpacked k) → EachIn ar P l → EachIn ar P k → before (unpacked l) (unpacked k) ≡ true
+        → before (mapped ρ (getD ar (predicateOf l) 0) (unpacked l)) (mapped ρ (getD ar (predicateOf k) 0) (unpacked k)) ≡ true
+    unfolding unpacked predicateOf
+    before-labels l k fl fk pl pk e = mapped-before ar (unpacked l) (unpacked k) fl fk pl pk e
+
+    -- labels keep their order
+    pub renamed-less : (l k : ℕ) → isLabel ar l ≡ true → isLabel ar k ≡ true → EachIn ar P l → EachIn ar P k → l < k → renamed ar ρ l < renamed ar ρ k
+    unfolding renamed
+    renamed-less l k el ek pl pk h =
+        let b : before (unpacked l) (unpacked k) ≡ true =
+        sym (before-packed (unpacked l) (unpacked k) (label-places ar l el) (label-places ar k ek)) ∙ packed-less l k h in
+        let al = label-atom l el pl in
+        let ak = label-atom k ek pk in
+        ltb-true _ _ (before-packed _ _ (atom-places ar _ al) (atom-places ar _ ak) ∙ before-labels l k (label-fits ar l el) (label-fits ar k ek) pl pk b)
+
+    -- the terms are those that ρ gives
+    pub renamed-terms : (l : ℕ) → isLabel ar l ≡ true → EachIn ar P l → termsOf ar (unpacked (renamed ar ρ l)) ≡ map ρ (termsOf ar (unpacked l))
+    unfolding termsOf mapped unpacked predicateOf
+    renamed-terms l e p = ap (termsOf ar) (renamed-atom l e p) ∙ mapped-terms ρ (getD ar (l / 16777216) 0) _ _ _ _
+
+-- closing up and moving apart
+abbrev pub Numbered : List ℕ → ℕ → Type 0
+Numbered vs t = (isTerm t ≡ true) × ((t < firstVariable) ⊎ (mem eqb t vs ≡ true))
+
+rank-mono : (vs : List ℕ) (t u : ℕ) → t ≤ u → rank vs t ≤ rank vs u
+rank-mono [] t u h = omega arith
+rank-mono (v ∷ vs) t u h = go (flag (ltb v t)) (flag (ltb v u)) (rank-mono vs t u h)
+  where
+    go : Flag (ltb v t) → Flag (ltb v u) → rank vs t ≤ rank vs u → cond (ltb v t) 1 0 + rank vs t ≤ cond (ltb v u) 1 0 + rank vs u
+    go (isTrue p) (isTrue q) ih = rw (p, q) (omega arith)
+    go (isTrue p) (isFalse q) ih = absurd (omega (arith, ltb-true v t p, ltb-false v u q))
+    go (isFalse p) (isTrue q) ih = rw (p, q) (omega arith)
+    go (isFalse p) (isFalse q) ih = rw (p, q) (omega arith)
+
+rank-less : (vs : List ℕ) (t u : ℕ) → mem eqb t vs ≡ true → t < u → rank vs t < rank vs u
+rank-less [] t u e h = clash e refl
+rank-less (v ∷ vs) t u e h = go (flag (eqb t v)) (flag (ltb v t)) (flag (ltb v u)) (rank-less vs t u)
+  where
+    go : Flag (eqb t v) → Flag (ltb v t) → Flag (ltb v u) → (mem eqb t vs ≡ true → t < u → rank vs t < rank vs u)
+        → cond (ltb v t) 1 0 + rank vs t < cond (ltb v u) 1 0 + rank vs u
+    go (isTrue x) p q ih =
+        let z = eqb-true t v x in
+        rw (le-ltb v t (omega arith), lt-ltb v u (omega arith)) (omega (arith, rank-mono vs t u (omega arith)))
+    go (isFalse x) (isTrue p) (isTrue q) ih = let m : mem eqb t vs ≡ true = rw x at e in rw (p, q) (omega (arith, ih m h))
+    go (isFalse x) (isTrue p) (isFalse q) ih = absurd (omega (arith, ltb-true v t p, ltb-false v u q))
+    go (isFalse x) (isFalse p) (isTrue q) ih = let m : mem eqb t vs ≡ true = rw x at e in rw (p, q) (omega (arith, ih m h))
+    go (isFalse x) (isFalse p) (isFalse q) ih = let m : mem eqb t vs ≡ true = rw x at e in rw (p, q) (omega (arith, ih m h))
+
+rank-le : (vs : List ℕ) (t : ℕ) → rank vs t ≤ length vs
+rank-le [] t = omega arith
+rank-le (v ∷ vs) t = go (flag (ltb v t)) (rank-le vs t)
+  where
+    go : Flag (ltb v t) → rank vs t ≤ length vs → cond (ltb v t) 1 0 + rank vs t ≤ suc (length vs)
+    go (isTrue p) ih = rw p (omega arith)
+    go (isFalse p) ih = rw p (omega arith)
+
+pub rank-below : (vs : List ℕ) (t : ℕ) → mem eqb t vs ≡ true → rank vs t < length vs
+rank-below vs t e = omega (arith, rank-less vs t (suc t) e (omega arith), rank-le vs (suc t))
+
+pub numbering-low : (vs : List ℕ) (m t : ℕ) → t < firstVariable → numbering vs m t ≡ t
+unfolding numbering
+numbering-low vs m t h = rw (lt-ltb t firstVariable h)
+
+pub numbering-high : (vs : List ℕ) (m t : ℕ) → firstVariable ≤ t → numbering vs m t ≡ m + rank vs t
+unfolding numbering
+numbering-high vs m t h = rw (le-ltb t firstVariable h)
+
+variable-term : (t : ℕ) → firstVariable ≤ t → t < termBase → isTerm t ≡ true
+unfolding isTerm isConstant isParameter isVariable
+variable-term t h k = rw (le-ltb t 16 (omega arith), le-leb 16 t (omega arith), le-ltb t 20 (omega arith), le-leb 32 t h, lt-ltb t 64 k)
+
+-- the variables vs, renamed from m on, fit below 64: the map keeps the order of the constants, the parameters and vs
+pub numbering-increasing : (vs : List ℕ) (m : ℕ) → firstVariable ≤ m → m + length vs ≤ termBase → Increasing (Numbered vs) (numbering vs m)
+numbering-increasing vs m h room = record { terms = λ t p. term t p (cmp t firstVariable); order = λ t u p q l. less t u p q l (cmp t firstVariable) (cmp u firstVariable) }
+  where
+    in-vs : (t : ℕ) → Numbered vs t → firstVariable ≤ t → mem eqb t vs ≡ true
+    in-vs t p k = go (p .1)
+      where
+        go : (t < firstVariable) ⊎ (mem eqb t vs ≡ true) → mem eqb t vs ≡ true
+        go (inl x) = absurd (omega arith)
+        go (inr x) = x
+
+    high : (t : ℕ) → Numbered vs t → firstVariable ≤ t → isTerm (numbering vs m t) ≡ true
+    high t p k = rw (numbering-high vs m t k) (variable-term (m + rank vs t) (omega arith) (omega (arith, rank-below vs t (in-vs t p k))))
+
+    term : (t : ℕ) → Numbered vs t → Cmp t firstVariable → isTerm (numbering vs m t) ≡ true
+    term t p (below k) = rw (numbering-low vs m t k) (p .0)
+    term t p (equal k) = high t p (omega arith)
+    term t p (above k) = high t p (omega arith)
+
+    both : (t u : ℕ) → Numbered vs t → t < u → firstVariable ≤ t → numbering vs m t < numbering vs m u
+    both t u p l k =
+        rw (numbering-high vs m t k, numbering-high vs m u (omega arith)) (omega (arith, rank-less vs t u (in-vs t p k) l))
+
+    less : (t u : ℕ) → Numbered vs t → Numbered vs u → t < u → Cmp t firstVariable → Cmp u firstVariable → numbering vs m t < numbering vs m u
+    less t u p q l (below j) (below k) = rw (numbering-low vs m t j, numbering-low vs m u k) l
+    less t u p q l (below j) (equal k) = rw (numbering-low vs m t j, numbering-high vs m u (omega arith)) (omega arith)
+    less t u p q l (below j) (above k) = rw (numbering-low vs m t j, numbering-high vs m u (omega arith)) (omega arith)
+    less t u p q l (equal j) k = both t u p l (omega arith)
+    less t u p q l (above j) k = both t u p l (omega arith)
+
+-- freeing: constants, the action's parameters, and the variables that stay below 64
+abbrev pub Freed : ℕ → ℕ → Type 0
+Freed c t = (isTerm t ≡ true) × ((t < firstParameter + c) ⊎ ((firstVariable ≤ t) × (t + c < termBase)))
+
+pub freeing-constant : (c t : ℕ) → t < firstParameter → freeing c t ≡ t
+unfolding freeing
+freeing-constant c t h = rw (lt-ltb t firstParameter h)
+
+pub freeing-parameter : (c t : ℕ) → firstParameter ≤ t → t < firstParameter + c → freeing c t ≡ t + (firstVariable - firstParameter)
+unfolding freeing
+freeing-parameter c t h k = rw (le-ltb t firstParameter h, lt-ltb t (firstParameter + c) k)
+
+pub freeing-variable : (c t : ℕ) → firstParameter + c ≤ firstVariable → firstVariable ≤ t → freeing c t ≡ t + c
+unfolding freeing
+freeing-variable c t m h = rw (le-ltb t firstParameter (omega arith), le-ltb t (firstParameter + c) (omega arith), le-ltb t firstVariable h)
+
+-- where freeing puts a term
+data Image (c t : ℕ) : Type 0 where
+  constant : t < firstParameter → freeing c t ≡ t → Image c t
+  parameter : firstParameter ≤ t → t < firstParameter + c → freeing c t ≡ t + (firstVariable - firstParameter) → Image c t
+  variable : firstVariable ≤ t → t + c < termBase → freeing c t ≡ t + c → Image c t
+
+-- the parameters from 16 on turn into variables, which the others follow
+pub freeing-increasing : (c : ℕ) → c ≤ parameterCount → Increasing (Freed c) (freeing c)
+freeing-increasing c m = record { terms = term; order = less }
+  where
+    image : (t : ℕ) → Freed c t → Image c t
+    image t p = go (p .1) (cmp t firstParameter)
+      where
+        go : (t < firstParameter + c) ⊎ ((firstVariable ≤ t) × (t + c < termBase)) → Cmp t firstParameter → Image c t
+        go (inl h) (below k) = constant k (freeing-constant c t k)
+        go (inl h) (equal k) = parameter (omega arith) h (freeing-parameter c t (omega arith) h)
+        go (inl h) (above k) = parameter (omega arith) h (freeing-parameter c t (omega arith) h)
+        go (inr h) k = variable (h .0) (h .1) (freeing-variable c t (omega arith) (h .0))
+
+    term : (t : ℕ) → Freed c t → isTerm (freeing c t) ≡ true
+    term t p = go (image t p)
+      where
+        go : Image c t → isTerm (freeing c t) ≡ true
+        go (constant k e) = rw e (p .0)
+        go (parameter j k e) = variable-term (freeing c t) (omega arith) (omega arith)
+        go (variable j k e) = variable-term (freeing c t) (omega arith) (omega arith)
+
+    less : (t u : ℕ) → Freed c t → Freed c u → t < u → freeing c t < freeing c u
+    less t u p q h = go (image t p) (image u q)
+      where
+        go : Image c t → Image c u → freeing c t < freeing c u
+        go (constant k e) (constant k′ e′) = omega arith
+        go (constant k e) (parameter j′ k′ e′) = omega arith
+        go (constant k e) (variable j′ k′ e′) = omega arith
+        go (parameter j k e) (constant k′ e′) = absurd (omega arith)
+        go (parameter j k e) (parameter j′ k′ e′) = omega arith
+        go (parameter j k e) (variable j′ k′ e′) = omega arith
+        go (variable j k e) (constant k′ e′) = absurd (omega arith)
+        go (variable j k e) (parameter j′ k′ e′) = absurd (omega arith)
+        go (variable j k e) (variable j′ k′ e′) = omega arith
