@@ -17,8 +17,8 @@ use Rattle.diagram.specs.Words.{equalLists}
 use Rattle.state.specs.declared.Objects.{Objects}
 use Rattle.state.specs.Lent.{factCount, factWords, predicateAt, objectsAt, someBelow, saidBy, saysFact}
 use Rattle.state.specs.LentLaws.{some-made, some-none}
-use Rattle.state.specs.Chains.{prev}
-use Rattle.state.specs.ChainLaws.{test, prev-same, prev-other, prev-zero, prev-le, prev-gap, prev-hits}
+use Rattle.table.specs.Chains.{prev}
+use Rattle.table.specs.ChainLaws.{test, prev-same, prev-other, prev-zero, prev-le, prev-gap, prev-hits}
 use Rattle.state.specs.Index.{buckets, mostIndexed, indexedCount, listed, rowObjects, says, used, bucketOf, bucketAt, Indexed, Asked, Sought}
 
 and-one : (b : Bool) → b ≡ (b && true)

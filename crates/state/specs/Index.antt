@@ -8,7 +8,7 @@ use lib.Dec.{eqb, ltb}
 use Rattle.diagram.specs.Words.{equalLists}
 use Rattle.state.specs.declared.Objects.{Objects}
 use Rattle.state.specs.Lent.{factWords, factCount, predicateAt, objectsAt}
-use Rattle.state.specs.Chains.{prev}
+use Rattle.table.specs.Chains.{prev}
 
 -- the index has this many buckets, and holds this many rows of facts at most; the rows behind them are searched one by one
 abbrev pub buckets : ℕ

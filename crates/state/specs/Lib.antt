@@ -5,11 +5,9 @@ pub mod Terms
 pub mod Highest
 pub mod Lent
 pub mod ValueCall
-pub mod Chains
 pub mod Index
 pub mod Search
 pub mod MaxLaws
 pub mod ValueLaws
 pub mod HighestLaws
 pub mod LentLaws
-pub mod ChainLaws

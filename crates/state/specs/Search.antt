@@ -1,46 +1,30 @@
 -- The search for the highest leaf: rows are followed, and a term is given an object only when a label on the way needs it.
 use mathlib.Core.Path.{_≡_}
-use mathlib.Core.Bool.{Bool, true, false, cond}
+use mathlib.Core.Bool.{Bool, true, false}
 use mathlib.Core.List.{List, [], _∷_, map}
 use Prim.Native.Nat.{ℕ, zero, suc, _+_, _*_, _≤_, _<_}
-use lib.ListN.{length, getD}
+use lib.ListN.{length, getD, take}
 use lib.Dec.{eqb}
-use Rattle.label.specs.Limits.{termBase, leafMark, mostPlaces}
-use Rattle.label.specs.Labels.{areArities, isLabel, predicateOf, unpacked, termsOf}
+use Rattle.label.specs.Limits.{termBase, leafMark}
+use Rattle.label.specs.Labels.{areArities, isAtom, predicateOf, unpacked, termsOf}
 use Rattle.label.specs.declared.Atom.{Atom}
-use Rattle.diagram.specs.Sizes.{mostRows, highestValue}
 use Rattle.diagram.specs.Diagram.{Diagram, eval}
-use Rattle.diagram.specs.Words.{labelAt, highAt, lowAt, rowCount}
-use Rattle.diagram.specs.Listing.{treeAt}
+use Rattle.diagram.specs.Words.{labelAt, highAt, rowCount}
+use Rattle.diagram.specs.Validity.{Valid, tree}
 use Rattle.state.specs.declared.Objects.{Objects}
 use Rattle.state.specs.State.{equated}
 use Rattle.state.specs.Lent.{saidBy}
-use Rattle.state.specs.Chains.{pickNat}
-use Rattle.state.specs.Index.{Indexed, indexedCount}
+use Rattle.table.specs.Chains.{pickNat}
+use Rattle.state.specs.Index.{listed, Indexed, indexedCount}
 
 -- what stands in `env`, a word for each term, where a term has no object yet: no object is that high
 abbrev pub free : ℕ
 free = 18446744073709551615
 
--- what the search needs of a lent listing: rows whose children stand before them
-pub record Walkable (ar ws : List ℕ) : Type 0 where
-  pub arities : areArities ar ≡ true
-  pub whole : rowCount ws * 3 ≤ length ws
-  pub some : 1 ≤ rowCount ws
-  pub few : rowCount ws ≤ mostRows
-  pub leaf-value : (i : ℕ) → i < rowCount ws → labelAt ws i ≡ leafMark → highAt ws i ≤ highestValue
-  pub label : (i : ℕ) → i < rowCount ws → (labelAt ws i ≡ leafMark → ⊥) → isLabel ar (labelAt ws i) ≡ true
-  pub true-before : (i : ℕ) → i < rowCount ws → (labelAt ws i ≡ leafMark → ⊥) → highAt ws i < i
-  pub false-before : (i : ℕ) → i < rowCount ws → (labelAt ws i ≡ leafMark → ⊥) → lowAt ws i < i
-
--- the diagram of row r, whose children stand before it
-unfoldable pub rowTree : List ℕ → ℕ → Diagram
-unfolding treeAt
-rowTree ws r = treeAt ws (suc r) r
-
--- `high` has for each of the first n rows a number that no leaf below the row passes
+-- `high` has for each of the first n rows a number that no leaf below the row passes, and for a leaf its value
 pub record Tops (ws high : List ℕ) (n : ℕ) : Type 0 where
-  pub bound : (r : ℕ) → r < n → (c : ℕ → Bool) → eval c (rowTree ws r) ≤ getD high r 0
+  pub bound : (r : ℕ) → r < n → (c : ℕ → Bool) → eval c (tree ws r) ≤ getD high r 0
+  pub leaves : (r : ℕ) → r < n → labelAt ws r ≡ leafMark → getD high r 0 ≡ highAt ws r
 
 -- whether p holds of the objects os, by lent facts
 abbrev pub lentTruth : List ℕ → List ℕ → ℕ → List ℕ → Bool
@@ -53,7 +37,7 @@ lentHolds ar facts θ l = lentTruth ar facts (predicateOf l) (map θ (termsOf ar
 
 -- the leaf to which θ leads from row r
 unfoldable pub leafFrom : List ℕ → List ℕ → List ℕ → (ℕ → ℕ) → ℕ → ℕ
-leafFrom ar facts ws θ r = eval (lentHolds ar facts θ) (rowTree ws r)
+leafFrom ar facts ws θ r = eval (lentHolds ar facts θ) (tree ws r)
 
 -- θ gives every term one of n objects, and terms that have one in env that one
 pub record Extends (n : ℕ) (env : List ℕ) (θ : ℕ → ℕ) : Type 0 where
@@ -90,6 +74,26 @@ objectsIn env a = record {
   fourth = getD env (a .fourth) 0;
 }
 
+-- whether an atom holds of its places' objects
+unfoldable pub tells : List ℕ → List ℕ → List ℕ → Atom → Bool
+unfolding objectsIn
+tells ar facts env a = lentTruth ar facts (a .predicate) (take (getD ar (a .predicate) 0) (listed (objectsIn env a)))
+
+-- env has a word for each of the atom's places
+pub record Placed (env : List ℕ) (a : Atom) : Type 0 where
+  pub places : length env ≡ termBase
+  pub first-below : a .first < termBase
+  pub second-below : a .second < termBase
+  pub third-below : a .third < termBase
+  pub fourth-below : a .fourth < termBase
+
+-- what the truth of an atom needs
+pub record Telling (ar facts index env : List ℕ) (a : Atom) : Type 0 where
+  pub arities : areArities ar ≡ true
+  pub atom-fits : isAtom ar a ≡ true
+  pub places : length env ≡ termBase
+  pub indexed : Indexed ar facts (getD env 0 0) index (indexedCount facts)
+
 -- b is the best so far, or one more than a leaf that is reached from row r
 pub data Hit (ar facts ws env : List ℕ) (n r best b : ℕ) : Type 0 where
   old : b ≡ best → Hit ar facts ws env n r best b
@@ -104,7 +108,7 @@ pub record Best (ar facts ws env : List ℕ) (n r best b : ℕ) (env′ : List �
 
 -- what the search needs
 pub record Ready (ws high ar facts index env : List ℕ) (n : ℕ) : Type 0 where
-  pub walkable : Walkable ar ws
+  pub valid : Valid ar ws
   pub places : rowCount ws ≤ length high
   pub tops : Tops ws high (rowCount ws)
   pub indexed : Indexed ar facts (getD env 0 0) index (indexedCount facts)

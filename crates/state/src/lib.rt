@@ -5,11 +5,14 @@ ghost use mathlib.Core.List.{[], _∷_};
 ghost use Prim.Native.Nat.{ℕ, _+_, _*_, _^_, _<_, _≤_};
 ghost use lib.ListN.{length, getD, take};
 ghost use lib.Dec.{ltb, leb};
-ghost use Rattle.label.specs.Labels.{unpacked};
+ghost use Rattle.label.specs.Limits.{termBase};
+ghost use Rattle.table.specs.Chains.{pickNat};
 ghost use Rattle.diagram.specs.Words.{labelAt, highAt, lowAt, rowCount};
 ghost use Rattle.state.specs.Lent.{factWords, factCount, someBelow};
 ghost use Rattle.state.specs.Index.{buckets, mostIndexed, indexedCount, listed, rowObjects, says, used, bucketOf, bucketAt, Indexed, Asked, Sought};
-ghost use Rattle.state.specs.Search.{free, Walkable, Tops, lentTruth, unboundIn, objectsIn, Best, Ready};
+ghost use Rattle.state.specs.Search.{free, freeCount, Tops, unboundIn, objectsIn, tells, Placed, Telling, Best, Ready};
+use label::Atom;
+use label::Label;
 use refusal::Refusal;
 
 // What valuing answers: the highest leaf, or why there is none.
@@ -28,8 +31,6 @@ pub struct Objects {
 
 // A term that has no object yet.
 const FREE: u64 = 18446744073709551615;
-// A leaf's first word.
-const LEAF: u64 = 4294967295;
 // No term has this number.
 const NONE: usize = 64;
 // Buckets of the index of facts.
@@ -195,4 +196,136 @@ fn found(facts: &[u64], index: &[u16], k: u64, p: u64, o: Objects) -> bool
         return true;
     }
     scanned(facts, k, p, o)
+}
+
+// The first place of the atom whose term has no object yet, or NONE.
+fn unbound(env: &[u64], a: Atom) -> usize
+    requires { ⌜ Placed (now env) a ⌝ }
+    ensures { λ r. ⌜ r ≡ unboundIn (now (env .entry)) a ⌝ }
+{
+    let first = a.first as usize;
+    if env[first] == FREE {
+        return first;
+    }
+    let second = a.second as usize;
+    if env[second] == FREE {
+        return second;
+    }
+    let third = a.third as usize;
+    if env[third] == FREE {
+        return third;
+    }
+    let fourth = a.fourth as usize;
+    if env[fourth] == FREE {
+        return fourth;
+    }
+    NONE
+}
+
+// The objects of the atom's places.
+fn objects_of(env: &[u64], a: Atom) -> Objects
+    requires { ⌜ Placed (now env) a ⌝ }
+    ensures { λ r. ⌜ r ≡ objectsIn (now (env .entry)) a ⌝ }
+{
+    let first = a.first as usize;
+    let second = a.second as usize;
+    let third = a.third as usize;
+    let fourth = a.fourth as usize;
+    Objects {
+        first: env[first],
+        second: env[second],
+        third: env[third],
+        fourth: env[fourth],
+    }
+}
+
+// Whether the atom holds of its objects.
+fn truth(arities: &[u64], facts: &[u64], index: &[u16], env: &[u64], a: Atom) -> bool
+    requires { ⌜ Telling (now arities) (now facts) (now index) (now env) a ⌝ }
+    ensures { λ r. ⌜ r ≡ tells (now (arities .entry)) (now (facts .entry)) (now (env .entry)) a ⌝ }
+{
+    let o = objects_of(env, a);
+    let p = a.predicate;
+    if p == Label::EQUALITY {
+        return o.first == o.second;
+    }
+    let q = p as usize;
+    found(facts, index, arities[q], p, o)
+}
+
+// The row under a test's answer.
+fn follow(words: &[u64], r: usize, answer: bool) -> usize
+    requires { ⌜ r * 3 + 3 ≤ length (now words) ⌝ }
+    ensures { λ x. ⌜ x ≡ pickNat answer (highAt (now (words .entry)) r) (lowAt (now (words .entry)) r) ⌝ }
+{
+    if answer {
+        return words[r * 3 + 1] as usize;
+    }
+    words[r * 3 + 2] as usize
+}
+
+// Follows the rows from r0 on while the best leaf below can be passed. best and the answer are one more than the best leaf, 0 for none.
+fn go(
+    words: &[u64],
+    high: &[u64],
+    arities: &[u64],
+    facts: &[u64],
+    index: &[u16],
+    env: &mut [u64],
+    n: u64,
+    r0: usize,
+    best: u64,
+) -> u64
+    requires { ⌜ Ready (now words) (now high) (now arities) (now facts) (now index) (now env) n ⌝ }
+    requires { ⌜ r0 < rowCount (now words) ⌝ }
+    ensures { λ b. ⌜ Best (now (arities .entry)) (now (facts .entry)) (now (words .entry)) (now (env .entry)) n r0 best b (now (env .exit)) ⌝ }
+{
+    let mut r = r0;
+    while high[r] >= best {
+        let l = words[r * 3];
+        if l == Label::LEAF {
+            return words[r * 3 + 1] + 1;
+        }
+        let a = Label { packed: l }.unpack();
+        let t = unbound(env, a);
+        if t != NONE {
+            return bind(words, high, arities, facts, index, env, n, r, t, best);
+        }
+        r = follow(words, r, truth(arities, facts, index, env, a));
+    }
+    best
+}
+
+// Gives the term t each object in turn, and follows the rows from r on.
+fn bind(
+    words: &[u64],
+    high: &[u64],
+    arities: &[u64],
+    facts: &[u64],
+    index: &[u16],
+    env: &mut [u64],
+    n: u64,
+    r: usize,
+    t: usize,
+    best: u64,
+) -> u64
+    requires { ⌜ Ready (now words) (now high) (now arities) (now facts) (now index) (now env) n ⌝ }
+    requires { ⌜ r < rowCount (now words) ⌝ }
+    requires { ⌜ t < termBase ⌝ }
+    requires { ⌜ getD (now env) t 0 ≡ free ⌝ }
+    ensures { λ b. ⌜ Best (now (arities .entry)) (now (facts .entry)) (now (words .entry)) (now (env .entry)) n r best b (now (env .exit)) ⌝ }
+{
+    let mut b = best;
+    let mut v = 0;
+    while v < n {
+        if high[r] < b {
+            env[t] = FREE;
+            return b;
+        }
+        env[t] = v;
+        b = go(words, high, arities, facts, index, env, n, r, b);
+        v += 1;
+    }
+    env[t] = FREE;
+    b
 }
