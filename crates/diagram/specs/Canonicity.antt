@@ -1,7 +1,7 @@
 -- Canonicity: two ordered reduced diagrams that mean the same are equal.
 use mathlib.Core.Path.{_≡_, refl, ap, sym, _∙_}
 use mathlib.Core.Bool.{Bool, true, false, cond}
-use Prim.Native.Nat.{ℕ, zero, suc, _≤_, _<_}
+use Prim.Native.Nat.{ℕ, suc, _<_}
 use native.Mathlib.Omega.{arith}
 use lib.Dec.{eqb}
 use borrow.Author.Tests.{eq-eqb, ne-eqb}
@@ -62,8 +62,10 @@ lone-leaf : (v : ℕ) (b : Diagram) → Ordered b → Reduced b → Alike (leaf 
 unfolding eval
 lone-leaf v (leaf w) o r h = ap leaf (h (λ n. true))
 lone-leaf v (branch k u g) o r h =
-    let p = lone-leaf v u (from-ordered _ u (o .1)) (r .1) (alike-sym u (leaf v) (alike-true k u g (leaf v) (o .1) tt (alike-sym (leaf v) (branch k u g) h))) in
-    let q = lone-leaf v g (from-ordered _ g (o .2)) (r .2) (alike-sym g (leaf v) (alike-false k u g (leaf v) (o .2) tt (alike-sym (leaf v) (branch k u g) h))) in
+    let p = lone-leaf v u (from-ordered _ u (o .1)) (r .1)
+    (alike-sym u (leaf v) (alike-true k u g (leaf v) (o .1) tt (alike-sym (leaf v) (branch k u g) h))) in
+    let q = lone-leaf v g (from-ordered _ g (o .2)) (r .2)
+    (alike-sym g (leaf v) (alike-false k u g (leaf v) (o .2) tt (alike-sym (leaf v) (branch k u g) h))) in
     absurd (r .0 (sym p ∙ q))
 
 abbrev Unique : Diagram → Type 0
@@ -91,8 +93,10 @@ meet l t f k u g it jf iu jg o r p s h (equal e) =
     let ou : From (suc l) u = rw e (p .1) in
     let og : From (suc l) g = rw e (p .2) in
     let h' : Alike (branch l t f) (branch l u g) = rw (← e) at h in
-    let x = it u (from-ordered _ t (o .1)) (r .1) (from-ordered _ u (p .1)) (s .1) (λ c. sym (eval-true c l t f (o .1)) ∙ h' (choosing c l true) ∙ eval-true c l u g ou) in
-    let y = jf g (from-ordered _ f (o .2)) (r .2) (from-ordered _ g (p .2)) (s .2) (λ c. sym (eval-false c l t f (o .2)) ∙ h' (choosing c l false) ∙ eval-false c l u g og) in
+    let x = it u (from-ordered _ t (o .1)) (r .1) (from-ordered _ u (p .1)) (s .1)
+    (λ c. sym (eval-true c l t f (o .1)) ∙ h' (choosing c l true) ∙ eval-true c l u g ou) in
+    let y = jf g (from-ordered _ f (o .2)) (r .2) (from-ordered _ g (p .2)) (s .2)
+    (λ c. sym (eval-false c l t f (o .2)) ∙ h' (choosing c l false) ∙ eval-false c l u g og) in
     cc
 
 -- the second diagram is taken apart here

@@ -1,11 +1,10 @@
 -- Valid words are the listing of their diagram, which is ordered and reduced; and only one listing has a meaning.
-use mathlib.Core.Path.{_≡_, refl, ap, sym, _∙_}
-use mathlib.Core.List.{List, [], _∷_, map}
-use Prim.Native.Nat.{ℕ, zero, suc, pred, _*_, _≤_, _<_}
+use mathlib.Core.Path.{_≡_, ap, sym, _∙_}
+use mathlib.Core.List.{List, [], map}
+use Prim.Native.Nat.{ℕ, pred, _*_, _<_}
 use native.Mathlib.Omega.{arith}
-use lib.ListN.{length, length-map}
+use lib.ListN.{length-map}
 use lib.Seq.{take-all}
-use Rattle.diagram.specs.Diagram.{Diagram}
 use Rattle.diagram.specs.Rows.{rows}
 use Rattle.diagram.specs.Words.{labelAt, rowCount, upTo}
 use Rattle.diagram.specs.Listing.{listing, diagramOf, Good}
@@ -40,7 +39,8 @@ module _ (ar ws : List ℕ) (v : Valid ar ws) where
   unfolding listing
   listing-diagram =
       let w = v .whole in
-      rw rows-are (words-are ws (rowCount ws) (tree ws) shown-rows (rowCount ws) (omega arith) (omega arith) (λ i h e. leaf-row ar ws (rowCount ws) valid-rows i h e .third)
+      rw rows-are (words-are ws (rowCount ws) (tree ws) shown-rows (rowCount ws) (omega arith) (omega arith)
+      (λ i h e. leaf-row ar ws (rowCount ws) valid-rows i h e .third)
       ∙ take-all (rowCount ws * 3) ws (omega arith))
 
   pub good-diagram : Good ar (diagramOf ws)
@@ -51,7 +51,7 @@ module _ (ar ws : List ℕ) (v : Valid ar ws) where
       let l : r < n = omega arith in
       record {
         arities = v .arities;
-        ordered = rw diagram-is (from-weaken 0 (labelAt ws (pred (rowCount ws))) (tree ws (pred (rowCount ws))) (omega arith) (tree-from ar ws n valid-rows r l));
+        ordered = rw diagram-is (from-weaken 0 (labelAt ws r) (tree ws r) (omega arith) (tree-from ar ws n valid-rows r l));
         reduced = rw diagram-is (tree-reduced ar ws n valid-rows r l);
         fine = rw diagram-is (tree-fine ar ws n valid-rows r l);
         few = rw rows-are (omega (arith, v .few, length-map (upTo (rowCount ws)) (tree ws), length-upTo (rowCount ws)));
@@ -62,4 +62,6 @@ pub one-listing : (ar ws us : List ℕ) → Valid ar ws → Valid ar us → Alik
 one-listing ar ws us v w h =
     let g = good-diagram ar ws v in
     let k = good-diagram ar us w in
-    sym (listing-diagram ar ws v) ∙ ap listing (canonicity (diagramOf ws) (diagramOf us) (g .ordered) (g .reduced) (k .ordered) (k .reduced) h) ∙ listing-diagram ar us w
+    sym (listing-diagram ar ws v)
+    ∙ ap listing (canonicity (diagramOf ws) (diagramOf us) (g .ordered) (g .reduced) (k .ordered) (k .reduced) h)
+    ∙ listing-diagram ar us w

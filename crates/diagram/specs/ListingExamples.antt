@@ -1,13 +1,13 @@
 -- Examples of listings, by computation.
 use mathlib.Core.Path.{_≡_, refl}
-use mathlib.Core.Bool.{Bool, true, false}
-use mathlib.Core.List.{List, [], _∷_, _++_}
+use mathlib.Core.Bool.{true, false}
+use mathlib.Core.List.{List, [], _∷_}
 use Prim.Native.Nat.{ℕ}
 use lib.ListN.{replicate}
 use Rattle.label.specs.Limits.{leafMark}
 use Rattle.label.specs.Terms.{isTerm, isConstant, isParameter, isVariable}
 use Rattle.label.specs.Labels.{areArities, isLabel, isAtom, unpacked, placeFits, inOrder}
-use Rattle.diagram.specs.Diagram.{Diagram, leaf, branch, same}
+use Rattle.diagram.specs.Diagram.{leaf, branch, same}
 use Rattle.diagram.specs.Words.{labelAt, highAt, lowAt, isLeafRow, isBranchRow, equalRows, areDistinct, finish, upTo, areNumbered, isListing}
 use Rattle.diagram.specs.Listing.{listing, diagramOf}
 
@@ -21,7 +21,9 @@ shown =
     leafMark ∷ 120 ∷ 0 ∷ leafMark ∷ 30 ∷ 0 ∷ 16777216 ∷ 0 ∷ 1 ∷ leafMark ∷ 0 ∷ 0 ∷ 16777216 ∷ 0 ∷ 3 ∷ 131072 ∷ 2 ∷ 4 ∷ []
 
 shown-is-listing : isListing arities shown ≡ true
-unfolding isListing areArities isLeafRow isBranchRow isLabel isAtom unpacked placeFits inOrder isTerm isConstant isParameter isVariable areDistinct equalRows areNumbered finish labelAt highAt lowAt arities shown
+unfolding
+    isListing areArities isLeafRow isBranchRow isLabel isAtom unpacked placeFits inOrder isTerm isConstant isParameter isVariable
+    areDistinct equalRows areNumbered finish labelAt highAt lowAt arities shown
 shown-is-listing = refl
 
 shown-diagram : diagramOf shown ≡ branch 131072 (branch 16777216 (leaf 120) (leaf 30)) (branch 16777216 (leaf 120) (leaf 0))
@@ -41,5 +43,7 @@ unfolding finish labelAt highAt lowAt twice
 twice-numbered = refl
 
 twice-no-listing : isListing arities twice ≡ false
-unfolding isListing areArities isLeafRow isBranchRow isLabel isAtom unpacked placeFits inOrder isTerm isConstant isParameter isVariable areDistinct equalRows areNumbered finish labelAt highAt lowAt arities twice
+unfolding
+    isListing areArities isLeafRow isBranchRow isLabel isAtom unpacked placeFits inOrder isTerm isConstant isParameter isVariable
+    areDistinct equalRows areNumbered finish labelAt highAt lowAt arities twice
 twice-no-listing = refl

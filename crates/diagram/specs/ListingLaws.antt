@@ -1,12 +1,11 @@
 -- Laws of the decoder, of row numbers and of the encoder.
-use mathlib.Core.Path.{_≡_, refl, ap, sym, _∙_}
+use mathlib.Core.Path.{_≡_, refl, ap, sym}
 use mathlib.Core.Logic.{_≢_}
-use mathlib.Core.Bool.{Bool, true, false}
+use mathlib.Core.Bool.{true, false}
 use mathlib.Core.List.{List, [], _∷_, _++_}
-use Prim.Native.Nat.{ℕ, zero, suc, _+_, _*_, _≤_, _<_}
+use Prim.Native.Nat.{ℕ, zero, suc, _+_, _*_, _<_}
 use native.Mathlib.Omega.{arith}
 use lib.ListN.{length, getD}
-use lib.Dec.{eqb}
 use borrow.Author.Tests.{ne-eqb, eq-eqb}
 use Rattle.basics.specs.Tests.{Flag, isTrue, isFalse, flag, or-one, or-other}
 use Rattle.basics.specs.Members.{mem, clash}
@@ -96,7 +95,8 @@ module _ (x y z : ℕ) (ws : List ℕ) (k : ℕ) where
   unfolding lowAt
   low-next = let e : suc k * 3 + 2 ≡ suc (suc (suc (k * 3 + 2))) = omega arith in rw e
 
-pub encode-at : (w rs : List Diagram) (k : ℕ) → k < length rs → Encoded w (getD rs k (leaf 0)) (labelAt (encode w rs) k) (highAt (encode w rs) k) (lowAt (encode w rs) k)
+pub encode-at : (w rs : List Diagram) (k : ℕ) → k < length rs
+    → Encoded w (getD rs k (leaf 0)) (labelAt (encode w rs) k) (highAt (encode w rs) k) (lowAt (encode w rs) k)
 unfolding encode labelAt highAt lowAt
 encode-at w [] k h = absurd (omega arith)
 encode-at w (leaf v ∷ rs) zero h = (refl, refl, refl)
@@ -104,7 +104,11 @@ encode-at w (branch l t f ∷ rs) zero h = (refl, refl, refl)
 encode-at w (leaf v ∷ rs) (suc k) h =
     rw (label-next leafMark v 0 (encode w rs) k, high-next leafMark v 0 (encode w rs) k, low-next leafMark v 0 (encode w rs) k) (encode-at w rs k (omega arith))
 encode-at w (branch l t f ∷ rs) (suc k) h =
-    rw (label-next l (index t w) (index f w) (encode w rs) k, high-next l (index t w) (index f w) (encode w rs) k, low-next l (index t w) (index f w) (encode w rs) k)
+    rw (
+      label-next l (index t w) (index f w) (encode w rs) k,
+      high-next l (index t w) (index f w) (encode w rs) k,
+      low-next l (index t w) (index f w) (encode w rs) k,
+    )
     (encode-at w rs k (omega arith))
 
 pub length-encode : (w rs : List Diagram) → length (encode w rs) ≡ length rs * 3

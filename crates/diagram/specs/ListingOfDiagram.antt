@@ -1,26 +1,22 @@
 -- The listing of a good diagram is valid, and its diagram is the diagram.
 use mathlib.Core.Path.{_≡_, refl, ap, sym, _∙_}
-use mathlib.Core.Logic.{_≢_}
-use mathlib.Core.Bool.{Bool, true, false}
-use mathlib.Core.List.{List, [], _∷_, _++_, map}
-use Prim.Native.Nat.{ℕ, zero, suc, pred, _+_, _*_, _≤_, _<_}
+use mathlib.Core.Bool.{true, false}
+use mathlib.Core.List.{List, []}
+use Prim.Native.Nat.{ℕ, suc, pred, _<_}
 use native.Mathlib.Omega.{arith}
-use lib.ListN.{length, getD, take}
-use lib.Seq.{take-all, take-suc}
+use lib.ListN.{length}
 use lib.Dec.{eqb}
 use borrow.Author.Tests.{eqb-true, eqb-false}
 use Rattle.basics.specs.Tests.{Flag, isTrue, isFalse, flag}
-use Rattle.basics.specs.Members.{mem}
 use Rattle.label.specs.Limits.{leafMark}
-use Rattle.label.specs.Labels.{isLabel}
 use Rattle.label.specs.LabelLaws.{label-below}
-use Rattle.diagram.specs.Diagram.{Diagram, leaf, branch, same, From, Reduced}
+use Rattle.diagram.specs.Diagram.{Diagram, leaf, branch, From}
 use Rattle.diagram.specs.Rows.{onto, rows}
 use Rattle.diagram.specs.Words.{labelAt, highAt, lowAt, rowCount, equalRows, upTo, finish}
-use Rattle.diagram.specs.Listing.{index, encode, listing, treeAt, diagramOf, Fine, Good}
-use Rattle.diagram.specs.Validity.{LeafRow, BranchRow, ValidRow, a-leaf, a-branch, Valid}
-use Rattle.diagram.specs.RowLists.{isPart, rowTree, Kept, Encoded, Written}
-use Rattle.diagram.specs.WordLaws.{below-upTo, map-snoc, differ-rows}
+use Rattle.diagram.specs.Listing.{index, encode, listing, diagramOf, Fine, Good}
+use Rattle.diagram.specs.Validity.{ValidRow, a-leaf, a-branch, Valid}
+use Rattle.diagram.specs.RowLists.{isPart, rowTree, Encoded, Written}
+use Rattle.diagram.specs.WordLaws.{below-upTo, differ-rows}
 use Rattle.diagram.specs.ListingLaws.{mem-getD, encode-at, length-encode}
 use Rattle.diagram.specs.RowLaws.{
   PartOf,
@@ -38,7 +34,7 @@ use Rattle.diagram.specs.RowLaws.{
   rows-root,
 }
 use Rattle.diagram.specs.Shown.{Shown, agrees, reads, map-inj}
-use Rattle.diagram.specs.WrittenRows.{written-shown, child-number}
+use Rattle.diagram.specs.WrittenRows.{written-shown, child-number, rows-places}
 
 -- the parts of a good diagram are good
 pub part-fine : (ar : List ℕ) (x d : Diagram) → Fine ar d → isPart x d ≡ true → Fine ar x
@@ -58,14 +54,6 @@ good-part ar x d g p = record {
   fine = part-fine ar x d (g .fine) p;
   few = omega (arith, g .few, part-rows x d p);
 }
-
-all-places : (rs : List Diagram) (d : Diagram) (n : ℕ) → n ≤ length rs → map (λ k. getD rs k d) (upTo n) ≡ take n rs
-all-places rs d zero h = refl
-all-places rs d (suc n) h = rw (map-snoc (λ k. getD rs k d) (upTo n) n, all-places rs d n (omega arith)) (sym (take-suc rs n d (omega arith)))
-
--- every row, by its number
-pub rows-places : (rs : List Diagram) → map (rowTree rs) (upTo (length rs)) ≡ rs
-rows-places rs = all-places rs (leaf 0) (length rs) (omega arith) ∙ take-all (length rs) rs (omega arith)
 
 module _ (ar : List ℕ) (d : Diagram) (g : Good ar d) where
   abbrev R : List Diagram

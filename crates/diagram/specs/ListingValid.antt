@@ -1,7 +1,7 @@
 -- isListing and Valid are equivalent: that children stand before their parents need not be said, it follows from the numbering and from the labels.
-use mathlib.Core.Path.{_≡_, refl, ap, sym, _∙_, subst}
+use mathlib.Core.Path.{_≡_, refl, ap, sym, subst}
 use mathlib.Core.Logic.{_≢_}
-use mathlib.Core.Bool.{Bool, true, false, not, _&&_, _||_}
+use mathlib.Core.Bool.{Bool, true, false, not, _||_}
 use mathlib.Core.List.{List, [], _∷_, _++_}
 use Prim.Native.Nat.{ℕ, zero, suc, pred, _+_, _*_, _≤_, _<_}
 use native.Mathlib.Omega.{arith}
@@ -14,32 +14,62 @@ use Rattle.basics.specs.Members.{mem, mem-append, NoDup, Within, nodup-le, clas
 use Rattle.label.specs.Limits.{leafMark}
 use Rattle.label.specs.Labels.{areArities, isLabel}
 use Rattle.diagram.specs.Sizes.{mostRows, highestValue}
-use Rattle.diagram.specs.Words.{labelAt, highAt, lowAt, rowCount, upTo, finish, isLeafRow, isBranchRow, everyBelow, equalRows, areDistinct, equalLists, areNumbered, isListing}
-use Rattle.diagram.specs.Validity.{LeafRow, BranchRow, ValidRow, a-leaf, a-branch, Valid}
-use Rattle.diagram.specs.WordLaws.{number-test, mem-upTo, in-upTo, length-upTo, take-upTo, getD-upTo, finish-old, finish-leaf, finish-branch, finish-keeps, every-below, below-every, lists-equal, equal-lists}
+use Rattle.diagram.specs.Words.{
+  labelAt,
+  highAt,
+  lowAt,
+  rowCount,
+  upTo,
+  finish,
+  isLeafRow,
+  isBranchRow,
+  everyBelow,
+  equalRows,
+  areDistinct,
+  equalLists,
+  areNumbered,
+  isListing,
+}
+use Rattle.diagram.specs.Validity.{LeafRow, ValidRow, a-leaf, a-branch, Valid}
+use Rattle.diagram.specs.WordLaws.{
+  number-test,
+  mem-upTo,
+  in-upTo,
+  length-upTo,
+  take-upTo,
+  getD-upTo,
+  finish-old,
+  finish-leaf,
+  finish-branch,
+  finish-keeps,
+  every-below,
+  below-every,
+  lists-equal,
+  equal-lists,
+}
 use Rattle.diagram.specs.RowDiagrams.{not-mark}
 
 -- the tests of isListing, one by one: a branch whose children are rows, wherever they stand
-pub record PlainBranch (ar : List ℕ) (ws : List ℕ) (i : ℕ) : Type 0 where
-  pub label : isLabel ar (labelAt ws i) ≡ true
-  pub high-row : highAt ws i < rowCount ws
-  pub low-row : lowAt ws i < rowCount ws
-  pub high-above : labelAt ws i < labelAt ws (highAt ws i)
-  pub low-above : labelAt ws i < labelAt ws (lowAt ws i)
-  pub differ : highAt ws i ≢ lowAt ws i
+record PlainBranch (ar : List ℕ) (ws : List ℕ) (i : ℕ) : Type 0 where
+  label : isLabel ar (labelAt ws i) ≡ true
+  high-row : highAt ws i < rowCount ws
+  low-row : lowAt ws i < rowCount ws
+  high-above : labelAt ws i < labelAt ws (highAt ws i)
+  low-above : labelAt ws i < labelAt ws (lowAt ws i)
+  differ : highAt ws i ≢ lowAt ws i
 
-pub data PlainRow (ar : List ℕ) (ws : List ℕ) (i : ℕ) : Type 0 where
+data PlainRow (ar : List ℕ) (ws : List ℕ) (i : ℕ) : Type 0 where
   plain-leaf : LeafRow ws i → PlainRow ar ws i
   plain-branch : PlainBranch ar ws i → PlainRow ar ws i
 
-pub record Plain (ar ws : List ℕ) : Type 0 where
-  pub arities : areArities ar ≡ true
-  pub whole : length ws ≡ rowCount ws * 3
-  pub some : 1 ≤ rowCount ws
-  pub few : rowCount ws ≤ mostRows
-  pub each : (i : ℕ) → i < rowCount ws → PlainRow ar ws i
-  pub apart : (i j : ℕ) → i < rowCount ws → j < i → equalRows ws j i ≡ false
-  pub order : finish ws (rowCount ws) (pred (rowCount ws)) [] ≡ upTo (rowCount ws)
+record Plain (ar ws : List ℕ) : Type 0 where
+  arities : areArities ar ≡ true
+  whole : length ws ≡ rowCount ws * 3
+  some : 1 ≤ rowCount ws
+  few : rowCount ws ≤ mostRows
+  each : (i : ℕ) → i < rowCount ws → PlainRow ar ws i
+  apart : (i j : ℕ) → i < rowCount ws → j < i → equalRows ws j i ≡ false
+  order : finish ws (rowCount ws) (pred (rowCount ws)) [] ≡ upTo (rowCount ws)
 
 module _ (ar ws : List ℕ) (v : Plain ar ws) where
   inner-branch : (k : ℕ) → k < rowCount ws → labelAt ws k ≢ leafMark → PlainBranch ar ws k
@@ -137,22 +167,52 @@ module _ (ar ws : List ℕ) (v : Plain ar ws) where
       let r = z′ e in
       (in-upTo (highAt ws k) k (r .0), in-upTo (lowAt ws k) k (r .1))
 
-  pub plain-valid : Valid ar ws
-  plain-valid = record { arities = v .arities; whole = v .whole; some = v .some; few = v .few; each = λ i h. go i h (v .each i h); apart = v .apart; order = v .order }
+  plain-valid : Valid ar ws
+  plain-valid = record {
+    arities = v .arities;
+    whole = v .whole;
+    some = v .some;
+    few = v .few;
+    each = λ i h. go i h (v .each i h);
+    apart = v .apart;
+    order = v .order;
+  }
     where
       go : (i : ℕ) → i < rowCount ws → PlainRow ar ws i → ValidRow ar ws i
       go i h (plain-leaf r) = a-leaf r
       go i h (plain-branch r) =
           let z = earlier i h (not-mark ar (labelAt ws i) (r .label)) in
-          a-branch (record { label = r .label; high-before = z .0; low-before = z .1; high-above = r .high-above; low-above = r .low-above; differ = r .differ })
+          a-branch (record {
+            label = r .label;
+            high-before = z .0;
+            low-before = z .1;
+            high-above = r .high-above;
+            low-above = r .low-above;
+            differ = r .differ;
+          })
 
-pub valid-plain : (ar ws : List ℕ) → Valid ar ws → Plain ar ws
-valid-plain ar ws v = record { arities = v .arities; whole = v .whole; some = v .some; few = v .few; each = λ i h. go i h (v .each i h); apart = v .apart; order = v .order }
+valid-plain : (ar ws : List ℕ) → Valid ar ws → Plain ar ws
+valid-plain ar ws v = record {
+  arities = v .arities;
+  whole = v .whole;
+  some = v .some;
+  few = v .few;
+  each = λ i h. go i h (v .each i h);
+  apart = v .apart;
+  order = v .order;
+}
   where
     go : (i : ℕ) → i < rowCount ws → ValidRow ar ws i → PlainRow ar ws i
     go i h (a-leaf r) = plain-leaf r
     go i h (a-branch r) = let x = r .high-before in let y = r .low-before in
-        plain-branch (record { label = r .label; high-row = omega arith; low-row = omega arith; high-above = r .high-above; low-above = r .low-above; differ = r .differ })
+        plain-branch (record {
+          label = r .label;
+          high-row = omega arith;
+          low-row = omega arith;
+          high-above = r .high-above;
+          low-above = r .low-above;
+          differ = r .differ;
+        })
 
 -- the tests and the records
 leaf-row-test : (ws : List ℕ) (i : ℕ) → isLeafRow ws i ≡ true → LeafRow ws i

@@ -1,9 +1,9 @@
 -- The diagrams of valid rows: each row stands for one, different rows for different ones, ordered, reduced and within the ranges.
-use mathlib.Core.Path.{_≡_, refl, ap₂, sym, _∙_}
+use mathlib.Core.Path.{_≡_, ap₂, sym, _∙_}
 use mathlib.Core.Logic.{_≢_}
-use mathlib.Core.Bool.{Bool, true, false}
+use mathlib.Core.Bool.{true}
 use mathlib.Core.List.{List}
-use Prim.Native.Nat.{ℕ, zero, suc, _≤_, _<_}
+use Prim.Native.Nat.{ℕ, zero, suc, _<_}
 use native.Mathlib.Omega.{arith}
 use lib.Dec.{eqb}
 use borrow.Author.Tests.{eqb-true, eqb-false}
@@ -11,7 +11,7 @@ use Rattle.basics.specs.Tests.{Flag, isTrue, isFalse, flag, Cmp, cmp, below, eq
 use Rattle.label.specs.Limits.{leafMark}
 use Rattle.label.specs.Labels.{isLabel}
 use Rattle.label.specs.LabelLaws.{label-below}
-use Rattle.diagram.specs.Diagram.{Diagram, leaf, branch, From, Reduced}
+use Rattle.diagram.specs.Diagram.{leaf, branch, From, Reduced}
 use Rattle.diagram.specs.Words.{labelAt, highAt, lowAt}
 use Rattle.diagram.specs.Listing.{treeAt, Fine}
 use Rattle.diagram.specs.Validity.{LeafRow, BranchRow, ValidRow, a-leaf, a-branch, ValidRows, tree}
@@ -93,10 +93,12 @@ module _ (ar ws : List ℕ) (m : ℕ) (v : ValidRows ar ws m) where
           let w : leaf (highAt ws a) ≡ leaf (highAt ws b) = sym (leaves a h p′) ∙ e ∙ leaves b k q′ in
           single a b h k (p′ ∙ sym q′) (cc) (leaf-row a h p′ .third ∙ sym (leaf-row b k q′ .third))
       go (isTrue p) (isFalse q) =
-          let w : leaf (highAt ws a) ≡ branch (labelAt ws b) (tree ws (highAt ws b)) (tree ws (lowAt ws b)) = sym (leaves a h (eqb-true _ _ p)) ∙ e ∙ branches b k (eqb-false _ _ q) in
+          let w : leaf (highAt ws a) ≡ branch (labelAt ws b) (tree ws (highAt ws b)) (tree ws (lowAt ws b))
+          = sym (leaves a h (eqb-true _ _ p)) ∙ e ∙ branches b k (eqb-false _ _ q) in
           cc
       go (isFalse p) (isTrue q) =
-          let w : branch (labelAt ws a) (tree ws (highAt ws a)) (tree ws (lowAt ws a)) ≡ leaf (highAt ws b) = sym (branches a h (eqb-false _ _ p)) ∙ e ∙ leaves b k (eqb-true _ _ q) in
+          let w : branch (labelAt ws a) (tree ws (highAt ws a)) (tree ws (lowAt ws a)) ≡ leaf (highAt ws b)
+          = sym (branches a h (eqb-false _ _ p)) ∙ e ∙ leaves b k (eqb-true _ _ q) in
           cc
       go (isFalse p) (isFalse q) =
           let p′ = eqb-false _ _ p in

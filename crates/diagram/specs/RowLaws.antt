@@ -1,21 +1,20 @@
 -- Laws of the rows of diagrams: `onto` adds to rows that are kept in order what is missing, and only parts of its diagram.
 use mathlib.Core.Path.{_≡_, refl, ap, sym, _∙_}
-use mathlib.Core.Logic.{_≢_}
 use mathlib.Core.Bool.{Bool, true, false, _||_, or-false}
 use mathlib.Core.List.{List, [], _∷_, _++_}
-use Prim.Native.Nat.{ℕ, zero, suc, pred, _+_, _≤_, _<_}
+use Prim.Native.Nat.{ℕ, suc, pred, _+_, _≤_, _<_}
 use native.Mathlib.Omega.{arith}
 use lib.ListN.{length, getD, length-append, List·getD-append}
 use lib.Seq.{getD-at}
 use Rattle.basics.specs.Tests.{Flag, isTrue, isFalse, flag, Cmp, cmp, below, equal, above, Either, one, other, either, or-one, or-other}
 use Rattle.basics.specs.Members.{mem, mem-append, NoDup, Within, nodup-le, clash}
-use Rattle.diagram.specs.Diagram.{Diagram, leaf, branch, same, From, Ordered, Reduced}
+use Rattle.diagram.specs.Diagram.{Diagram, leaf, branch, same, From, Reduced}
 use Rattle.diagram.specs.Rows.{onto, rows}
 use Rattle.diagram.specs.Listing.{index}
-use Rattle.diagram.specs.RowLists.{Grown, isPart, Earlier, Kept}
+use Rattle.diagram.specs.RowLists.{Grown, rowTree, isPart, Earlier, Kept}
 use Rattle.diagram.specs.DiagramLaws.{same-eq, same-refl, diagram-test, from-weaken, onto-old, onto-leaf, onto-branch}
-use Rattle.diagram.specs.WordLaws.{grown-none, grown-more, grown-twice, mem-grown, length-grown}
-use Rattle.diagram.specs.ListingLaws.{getD-index, index-less, index-append, index-new, mem-getD}
+use Rattle.diagram.specs.WordLaws.{grown-none, grown-more, grown-twice, mem-grown}
+use Rattle.diagram.specs.ListingLaws.{getD-index, index-less, index-append, mem-getD}
 
 -- two tests that hold together are equal
 pub same-tests : (a b : Bool) → (a ≡ true → b ≡ true) → (b ≡ true → a ≡ true) → a ≡ b
@@ -218,13 +217,13 @@ module _ (rs : List Diagram) (x : Diagram) (k : Kept rs) (n : mem same x rs ≡ 
   length-more : length (rs ++ (x ∷ [])) ≡ suc (length rs)
   length-more = omega (arith, length-append rs (x ∷ []))
 
-  at-old : (i : ℕ) → i < length rs → getD (rs ++ (x ∷ [])) i (leaf 0) ≡ getD rs i (leaf 0)
+  at-old : (i : ℕ) → i < length rs → getD (rs ++ (x ∷ [])) i (leaf 0) ≡ rowTree rs i
   at-old i h = List·getD-append rs (x ∷ []) (leaf 0) i h
 
   at-new : (i : ℕ) → i ≡ length rs → getD (rs ++ (x ∷ [])) i (leaf 0) ≡ x
   at-new i h = getD-at rs x [] (leaf 0) i (sym h)
 
-  not-old : (i : ℕ) → i < length rs → getD rs i (leaf 0) ≡ x → ⊥
+  not-old : (i : ℕ) → i < length rs → rowTree rs i ≡ x → ⊥
   not-old i h e = clash (mem-getD rs i (leaf 0) h) (rw e n)
 
   kept-more : Kept (rs ++ (x ∷ []))
@@ -280,11 +279,20 @@ unfolding rows
 rows-kept d = onto-kept d [] kept-none
 
 -- the number of a row
-pub kept-index : (rs : List Diagram) (k : ℕ) → Kept rs → k < length rs → index (getD rs k (leaf 0)) rs ≡ k
+pub kept-index : (rs : List Diagram) (k : ℕ) → Kept rs → k < length rs → index (rowTree rs k) rs ≡ k
 kept-index rs k z h =
-    let x = getD rs k (leaf 0) in
+    let x = rowTree rs k in
     let m = mem-getD rs k (leaf 0) h in
     z .distinct (index x rs) k (index-less x rs m) h (getD-index x rs (leaf 0) m)
+
+pub kept-index-is : (rs : List Diagram) (k : ℕ) (x : Diagram) → Kept rs → k < length rs → rowTree rs k ≡ x → index x rs ≡ k
+kept-index-is rs k x z h e = rw (← e) (kept-index rs k z h)
+
+pub row-mem : (rs : List Diagram) (k : ℕ) (x : Diagram) → k < length rs → rowTree rs k ≡ x → mem same x rs ≡ true
+row-mem rs k x h e = rw (← e) (mem-getD rs k (leaf 0) h)
+
+pub index-inj : (x y : Diagram) (rs : List Diagram) → mem same x rs ≡ true → mem same y rs ≡ true → index x rs ≡ index y rs → x ≡ y
+index-inj x y rs p q e = sym (getD-index x rs (leaf 0) p) ∙ ap (λ k. rowTree rs k) e ∙ getD-index y rs (leaf 0) q
 
 -- the children of a row are rows, before it
 pub kept-children : (rs : List Diagram) (l : ℕ) (t f : Diagram) → Kept rs → mem same (branch l t f) rs ≡ true
@@ -328,7 +336,7 @@ onto-parts d x rs h = go (onto-from d x rs h)
     go (other e) = other (mem-rows d x ∙ e)
 
 -- rows that are kept have no repeats, so they are counted by their length
-nodup-places : (rs : List Diagram) → ((a b : ℕ) → a < length rs → b < length rs → getD rs a (leaf 0) ≡ getD rs b (leaf 0) → a ≡ b) → NoDup same rs
+nodup-places : (rs : List Diagram) → ((a b : ℕ) → a < length rs → b < length rs → rowTree rs a ≡ rowTree rs b → a ≡ b) → NoDup same rs
 nodup-places [] h = tt
 nodup-places (r ∷ rs) h = (go (flag (mem same r rs)), nodup-places rs (λ a b p q e. let z = h (suc a) (suc b) (omega arith) (omega arith) e in omega arith))
   where

@@ -2,11 +2,11 @@
 -- encoding of the diagrams. Listings use it in both directions, and working spaces, with different `tree`s.
 use mathlib.Core.Path.{_≡_, refl, ap, ap₂, sym, _∙_}
 use mathlib.Core.Logic.{_≢_}
-use mathlib.Core.Bool.{Bool, true, false}
+use mathlib.Core.Bool.{false}
 use mathlib.Core.List.{List, [], _∷_, _++_, map, append-assoc}
 use Prim.Native.Nat.{ℕ, zero, suc, _+_, _*_, _≤_, _<_}
 use native.Mathlib.Omega.{arith}
-use lib.ListN.{length, getD, take, length-map}
+use lib.ListN.{length, take, length-map}
 use lib.Seq.{take-suc}
 use lib.Dec.{eqb}
 use borrow.Author.Tests.{eqb-true, eqb-false, eq-eqb}
@@ -156,5 +156,10 @@ module _ (ws : List ℕ) (m : ℕ) (tree : ℕ → Diagram) (s : Shown ws m tree
   unfolding encode
   words-are zero h l th = refl
   words-are (suc k) h l th =
-      rw (map-snoc tree (upTo k) k, encode-append Rows (map tree (upTo k)) (tree k ∷ []), words-are k (omega arith) l th, row-words k (omega arith) (th k (omega arith)))
+      rw (
+        map-snoc tree (upTo k) k,
+        encode-append Rows (map tree (upTo k)) (tree k ∷ []),
+        words-are k (omega arith) l th,
+        row-words k (omega arith) (th k (omega arith)),
+      )
       (sym (take-row k (omega arith)))

@@ -1,25 +1,34 @@
 -- Laws of rows that stand in words: they are shown; a row is added at the end; equal rows are found by their words.
 use mathlib.Core.Path.{_≡_, refl, ap, ap₂, sym, _∙_}
 use mathlib.Core.Logic.{_≢_}
-use mathlib.Core.Bool.{Bool, true, false}
+use mathlib.Core.Bool.{true, false}
 use mathlib.Core.List.{List, [], _∷_, _++_, map}
-use Prim.Native.Nat.{ℕ, zero, suc, _≤_, _<_}
+use Prim.Native.Nat.{ℕ, zero, suc, _*_, _≤_, _<_}
 use native.Mathlib.Omega.{arith}
-use lib.ListN.{length, getD, length-append, length-map, List·getD-append}
-use lib.Seq.{getD-at}
+use lib.ListN.{length, getD, take, length-append, length-map, List·getD-append}
+use lib.Seq.{getD-at, take-all, take-suc}
 use lib.Dec.{eqb}
 use borrow.Author.Tests.{eqb-true, eqb-false}
 use Rattle.basics.specs.Tests.{Flag, isTrue, isFalse, flag, Cmp, cmp, below, equal, above}
-use Rattle.basics.specs.Members.{mem, clash}
+use Rattle.basics.specs.Members.{mem}
 use Rattle.label.specs.Limits.{leafMark}
 use Rattle.diagram.specs.Diagram.{Diagram, leaf, branch, same}
+use Rattle.diagram.specs.Rows.{rows}
 use Rattle.diagram.specs.Words.{labelAt, highAt, lowAt, upTo}
-use Rattle.diagram.specs.WordLaws.{below-upTo, length-upTo, mem-upTo, getD-upTo, getD-map}
-use Rattle.diagram.specs.Listing.{index}
+use Rattle.diagram.specs.WordLaws.{below-upTo, length-upTo, mem-upTo, getD-upTo, getD-map, map-snoc}
+use Rattle.diagram.specs.Listing.{index, encode, listing}
 use Rattle.diagram.specs.RowLists.{Earlier, Kept, Encoded, Written, SameRows, rowTree}
 use Rattle.diagram.specs.ListingLaws.{getD-index, index-less, index-append}
 use Rattle.diagram.specs.RowLaws.{kept-none, kept-leaf, kept-branch, kept-index}
-use Rattle.diagram.specs.Shown.{Shown, mem-tree, index-is}
+use Rattle.diagram.specs.Shown.{Shown, mem-tree, index-is, words-are}
+
+all-places : (rs : List Diagram) (d : Diagram) (n : ℕ) → n ≤ length rs → map (λ k. getD rs k d) (upTo n) ≡ take n rs
+all-places rs d zero h = refl
+all-places rs d (suc n) h = rw (map-snoc (λ k. getD rs k d) (upTo n) n, all-places rs d n (omega arith)) (sym (take-suc rs n d (omega arith)))
+
+-- every row, by its number
+pub rows-places : (rs : List Diagram) → map (rowTree rs) (upTo (length rs)) ≡ rs
+rows-places rs = all-places rs (leaf 0) (length rs) (omega arith) ∙ take-all (length rs) rs (omega arith)
 
 module _ (ws : List ℕ) (rs : List Diagram) (w : Written ws rs) where
   -- a child is found by its number
@@ -52,6 +61,18 @@ module _ (ws : List ℕ) (rs : List Diagram) (w : Written ws rs) where
           go : (x : Diagram) → rowTree rs k ≡ x → Encoded rs x (labelAt ws k) (highAt ws k) (lowAt ws k) → (highAt ws k < k) × (lowAt ws k < k)
           go (leaf v) q n = absurd (e (n .0))
           go (branch l t f) q n = let z = w .kept .children k l t f h q in rw (n .1, n .2) (z .0 .before, z .1 .before)
+
+  -- the words are the encoding of the rows
+  pub written-words : length rs * 3 ≤ length ws → encode rs rs ≡ take (length rs * 3) ws
+  written-words h =
+      ap₂ encode (sym (rows-places rs)) (sym (rows-places rs)) ∙ words-are ws (length rs) (rowTree rs) written-shown (length rs) (omega arith) h third
+    where
+      third : (k : ℕ) → k < length rs → labelAt ws k ≡ leafMark → lowAt ws k ≡ 0
+      third k l e = go (rowTree rs k) refl (w .words k l)
+        where
+          go : (x : Diagram) → rowTree rs k ≡ x → Encoded rs x (labelAt ws k) (highAt ws k) (lowAt ws k) → lowAt ws k ≡ 0
+          go (leaf v) q n = n .2
+          go (branch a t f) q n = let z = w .labels k a t f l q in absurd (omega (arith, n .0))
 
   -- the words of a row, by its diagram
   pub leaf-words : (k v : ℕ) → k < length rs → rowTree rs k ≡ leaf v → (labelAt ws k ≡ leafMark) × (highAt ws k ≡ v) × (lowAt ws k ≡ 0)
@@ -94,6 +115,11 @@ module _ (ws : List ℕ) (rs : List Diagram) (w : Written ws rs) where
           let n = branch-words (index x rs) l (rowTree rs a) (rowTree rs b) m (getD-index x rs (leaf 0) e) in
           absurd (h (index x rs) m (n .0) (n .1 ∙ kept-index rs a (w .kept) ha) (n .2 ∙ kept-index rs b (w .kept) hb))
       go (isFalse e) = e
+
+-- the rows of a diagram in words: the words are its listing
+pub written-listing-words : (ws : List ℕ) (d : Diagram) → Written ws (rows d) → length (rows d) * 3 ≤ length ws → take (length (rows d) * 3) ws ≡ listing d
+unfolding listing
+written-listing-words ws d w h = sym (written-words ws (rows d) w h)
 
 pub written-none : (ws : List ℕ) → Written ws []
 written-none ws = record { kept = kept-none; labels = λ k l t f h e. absurd (omega arith); words = λ k h. absurd (omega arith) }
