@@ -2,17 +2,17 @@
 use mathlib.Core.Path.{_≡_}
 use mathlib.Core.Bool.{Bool, true, false}
 use mathlib.Core.List.{List, [], _∷_, map}
-use Prim.Native.Nat.{ℕ, zero, suc, _+_, _*_, _≤_, _<_}
+use Prim.Native.Nat.{ℕ, zero, suc, _+_, _*_, _≤_, _<_, max}
 use lib.ListN.{length, getD, take}
 use lib.Dec.{eqb}
-use Rattle.label.specs.Limits.{termBase, leafMark}
+use Rattle.label.specs.Limits.{termBase, leafMark, firstParameter}
 use Rattle.label.specs.Labels.{areArities, isAtom, predicateOf, unpacked, termsOf}
 use Rattle.label.specs.declared.Atom.{Atom}
 use Rattle.diagram.specs.Diagram.{Diagram, eval}
-use Rattle.diagram.specs.Words.{labelAt, highAt, rowCount}
+use Rattle.diagram.specs.Words.{labelAt, highAt, lowAt, rowCount}
 use Rattle.diagram.specs.Validity.{Valid, tree}
 use Rattle.state.specs.declared.Objects.{Objects}
-use Rattle.state.specs.State.{equated}
+use Rattle.state.specs.State.{equated, low}
 use Rattle.state.specs.Lent.{saidBy}
 use Rattle.table.specs.Chains.{pickNat}
 use Rattle.state.specs.Index.{listed, Indexed, indexedCount}
@@ -25,6 +25,16 @@ free = 18446744073709551615
 pub record Tops (ws high : List ℕ) (n : ℕ) : Type 0 where
   pub bound : (r : ℕ) → r < n → (c : ℕ → Bool) → eval c (tree ws r) ≤ getD high r 0
   pub leaves : (r : ℕ) → r < n → labelAt ws r ≡ leafMark → getD high r 0 ≡ highAt ws r
+
+-- room for a number for each row
+pub record Topping (ws high : List ℕ) : Type 0 where
+  pub arities : List ℕ
+  pub valid : Valid arities ws
+  pub places : rowCount ws ≤ length high
+
+-- the number of row i, by those of its children
+unfoldable pub topAt : List ℕ → List ℕ → ℕ → ℕ
+topAt ws high i = pickNat (eqb (labelAt ws i) leafMark) (highAt ws i) (max (getD high (highAt ws i) 0) (getD high (lowAt ws i) 0))
 
 -- whether p holds of the objects os, by lent facts
 abbrev pub lentTruth : List ℕ → List ℕ → ℕ → List ℕ → Bool
@@ -51,6 +61,16 @@ pub record Env (n : ℕ) (env : List ℕ) : Type 0 where
   pub most : n ≤ free
   pub first-bound : getD env 0 0 ≡ free → ⊥
   pub range : (t : ℕ) → t < termBase → (getD env t 0 ≡ free → ⊥) → getD env t 0 < n
+
+-- what a term that is no variable has: a constant its object, a parameter that of constant 0
+unfoldable pub fixedIn : List ℕ → ℕ → ℕ
+fixedIn constants t = low firstParameter t (getD constants t 0) (getD constants 0 0)
+
+-- the first m terms have their objects, the others none
+pub record Started (constants env : List ℕ) (m : ℕ) : Type 0 where
+  pub places : length env ≡ termBase
+  pub bound : (t : ℕ) → t < m → getD env t 0 ≡ fixedIn constants t
+  pub unbound : (t : ℕ) → m ≤ t → t < termBase → getD env t 0 ≡ free
 
 -- how many terms have no object yet
 abbrev pub freeCount : List ℕ → ℕ

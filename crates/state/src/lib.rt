@@ -5,12 +5,15 @@ ghost use mathlib.Core.List.{[], _∷_};
 ghost use Prim.Native.Nat.{ℕ, _+_, _*_, _^_, _<_, _≤_};
 ghost use lib.ListN.{length, getD, take};
 ghost use lib.Dec.{ltb, leb};
-ghost use Rattle.label.specs.Limits.{termBase};
+ghost use Rattle.label.specs.Limits.{termBase, firstVariable};
 ghost use Rattle.table.specs.Chains.{pickNat};
-ghost use Rattle.diagram.specs.Words.{labelAt, highAt, lowAt, rowCount};
-ghost use Rattle.state.specs.Lent.{factWords, factCount, someBelow};
+ghost use Rattle.diagram.specs.Words.{highAt, lowAt, rowCount, isListing};
+ghost use Rattle.diagram.specs.Listing.{diagramOf};
+ghost use Rattle.state.specs.State.{meaning};
+ghost use Rattle.state.specs.Highest.{highest};
+ghost use Rattle.state.specs.Lent.{factWords, factCount, someBelow, stateOf, isState};
 ghost use Rattle.state.specs.Index.{buckets, mostIndexed, indexedCount, listed, rowObjects, says, used, bucketOf, bucketAt, Indexed, Asked, Sought};
-ghost use Rattle.state.specs.Search.{free, freeCount, Tops, unboundIn, objectsIn, tells, Placed, Telling, Best, Ready};
+ghost use Rattle.state.specs.Search.{free, Topping, Tops, topAt, fixedIn, Started, unboundIn, objectsIn, tells, Placed, Telling, Best, Ready};
 use label::Atom;
 use label::Label;
 use refusal::Refusal;
@@ -328,4 +331,88 @@ fn bind(
     }
     env[t] = FREE;
     b
+}
+
+// The highest leaf below row i, where its children's are known.
+fn top(words: &[u64], high: &[u64], i: usize) -> u64
+    requires { ⌜ Topping (now words) (now high) ⌝ }
+    requires { ⌜ i < rowCount (now words) ⌝ }
+    ensures { λ r. ⌜ r ≡ topAt (now (words .entry)) (now (high .entry)) i ⌝ }
+{
+    if words[i * 3] == Label::LEAF {
+        return words[i * 3 + 1];
+    }
+    let t = words[i * 3 + 1] as usize;
+    let f = words[i * 3 + 2] as usize;
+    let x = high[t];
+    let y = high[f];
+    if x < y {
+        return y;
+    }
+    x
+}
+
+// Each row's highest leaf.
+fn tops(words: &[u64], high: &mut [u64])
+    requires { ⌜ Topping (now words) (now high) ⌝ }
+    ensures { λ _. ⌜ Tops (now (words .entry)) (now (high .exit)) (rowCount (now (words .entry))) ⌝ }
+{
+    let rows = words.len() / 3;
+    let mut i = 0;
+    while i < rows {
+        let x = top(words, high, i);
+        high[i] = x;
+        i += 1;
+    }
+}
+
+// The object of constant c.
+fn constant(constants: &[u64], c: usize) -> u64
+    ensures { λ r. ⌜ r ≡ getD (now (constants .entry)) c 0 ⌝ }
+{
+    if c < constants.len() {
+        return constants[c];
+    }
+    0
+}
+
+// The object of the term t, which is no variable.
+fn fixed(constants: &[u64], t: usize) -> u64
+    ensures { λ r. ⌜ r ≡ fixedIn (now (constants .entry)) t ⌝ }
+{
+    if t < 16 {
+        return constant(constants, t);
+    }
+    constant(constants, 0)
+}
+
+// Gives the terms that are no variables their objects.
+fn start(constants: &[u64], env: &mut [u64])
+    requires { ⌜ Started (now constants) (now env) 0 ⌝ }
+    ensures { λ _. ⌜ Started (now (constants .entry)) (now (env .exit)) firstVariable ⌝ }
+{
+    let mut t = 0;
+    while t < 32 {
+        let o = fixed(constants, t);
+        env[t] = o;
+        t += 1;
+    }
+}
+
+// The highest leaf of a listing over all valuations of a state.
+pub fn highest_leaf(arities: &[u64], words: &[u64], n: u64, constants: &[u64], facts: &[u64]) -> u64
+    requires { ⌜ isListing (now arities) (now words) ≡ true ⌝ }
+    requires { ⌜ isState (now arities) n (now constants) (now facts) ≡ true ⌝ }
+    ensures { λ r. ⌜ r ≡ highest (stateOf (now (arities .entry)) n (now (constants .entry)) (now (facts .entry))) [] (meaning (now (arities .entry)) (diagramOf (now (words .entry)))) ⌝ }
+{
+    let mut high = [0u64; 1024];
+    tops(words, &mut high);
+    let mut env = [FREE; 64];
+    start(constants, &mut env);
+    let fill = env[0];
+    let mut index = [0u16; 6144];
+    index_facts(arities, facts, fill, &mut index);
+    let root = words.len() / 3 - 1;
+    let best = go(words, &high, arities, facts, &index, &mut env, n, root, 0);
+    best - 1
 }
