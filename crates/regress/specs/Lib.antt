@@ -1,0 +1,7 @@
+-- Regression, replacement and freeing (document 01, section 'Regression').
+-- definitions
+pub mod Calls
+pub mod Step
+pub mod Regression
+pub mod Next
+pub mod RegressCall
