@@ -5,3 +5,8 @@ pub mod Step
 pub mod Regression
 pub mod Next
 pub mod RegressCall
+pub mod Result
+-- laws
+pub mod CallLaws
+pub mod StepLaws
+pub mod RegressionLaws
