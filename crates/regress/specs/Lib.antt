@@ -10,3 +10,4 @@ pub mod Result
 pub mod CallLaws
 pub mod StepLaws
 pub mod RegressionLaws
+pub mod MovedLaws
