@@ -6,8 +6,10 @@ pub mod Regression
 pub mod Next
 pub mod RegressCall
 pub mod Result
+pub mod Parameters
 -- laws
 pub mod CallLaws
 pub mod StepLaws
 pub mod RegressionLaws
 pub mod MovedLaws
+pub mod ResultLaws
