@@ -13,3 +13,4 @@ pub mod StepLaws
 pub mod RegressionLaws
 pub mod MovedLaws
 pub mod ResultLaws
+pub mod NextLaws

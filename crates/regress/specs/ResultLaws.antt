@@ -261,7 +261,7 @@ unfolding regressedDiagram
 reduced-regressed ar truths d = reduced-rebuilt (truthDiagram ar truths) d
 
 -- each choice leads to a leaf of the old diagram: that of the truths that T gives
-bit : (x : ℕ) → x ≤ 1 → x ≡ cond (eqb x 1) 1 0
+pub bit : (x : ℕ) → x ≤ 1 → x ≡ cond (eqb x 1) 1 0
 bit x l = go (flag (eqb x 1))
   where
     go : Flag (eqb x 1) → x ≡ cond (eqb x 1) 1 0
