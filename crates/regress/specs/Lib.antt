@@ -13,4 +13,5 @@ pub mod StepLaws
 pub mod RegressionLaws
 pub mod MovedLaws
 pub mod ResultLaws
+pub mod FreeingLaws
 pub mod NextLaws
