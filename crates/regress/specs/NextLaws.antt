@@ -33,7 +33,7 @@ use Rattle.regress.specs.CallLaws.{Accepted, accepted-mono}
 use Rattle.regress.specs.Result.{replaced, truthGiven, truthDiagram, regressedDiagram, AtMost}
 use Rattle.regress.specs.Parameters.{Allowed, Within, Labels, GoodTruth, GoodTruths, WithinTruths}
 use Rattle.regress.specs.ResultLaws.{
-  value-meaning, eval-rebuilt, value-replaced, label-terms, argument-low, argument-high, argument-terms, bit, terms-regressed, terms-every, every-terms, good-regressed,
+  value-meaning, eval-rebuilt, value-replaced, label-terms, argument-low, argument-high, argument-terms, bit, terms-regressed, terms-every, every-terms, good-regressed, label-predicate,
 }
 use Rattle.regress.specs.FreeingLaws.{fixed-constant}
 use Rattle.regress.specs.Next.{inner, factAfter, next, meanings}
@@ -74,7 +74,7 @@ module _ (ar : List ℕ) (good : areArities ar ≡ true) (truths : Truths) (g : 
           → eval (λ k. holds s θ (atomOf ar k)) (truthGiven ar o l)
           ≡ cond (factAfter s os (Option·map (meaning ar) o) (suc p) (map θ (termsOf ar (unpacked l)))) 1 0
       go none q = rw e refl
-      go (some d) q = truth-used l d h (g .each (suc p) d q)
+      go (some d) q = truth-used l d h (g .each (suc p) d (omega arith) (let x = label-predicate ar l h in omega arith) q)
 
   pub truth-value : (l : ℕ) → isLabel ar l ≡ true
       → eval (λ k. holds s θ (atomOf ar k)) (truthDiagram ar truths l) ≡ cond (holds (next s os (meanings ar truths)) θ (atomOf ar l)) 1 0
@@ -95,7 +95,7 @@ pub within-regressed : (c : ℕ) (ar : List ℕ) → areArities ar ≡ true → 
     → (d : Diagram) → Labels ar d → Within c (meaning ar d) → Within c (meaning ar (regressedDiagram ar truths d))
 within-regressed c ar good truths g v d w h = record {
   terms = terms-regressed ar truths good g (Allowed c) (λ z. absurd (omega arith))
-      (λ p t e. Terms-mono (Allowed c) (λ x. x < firstVariable → Allowed c x) (λ x k q. k) (meaning ar t) (v .each p t e .terms)) d w (h .terms);
+      (λ p t i j e. Terms-mono (Allowed c) (λ x. x < firstVariable → Allowed c x) (λ x k q. k) (meaning ar t) (v .each p t i j e .terms)) d w (h .terms);
 }
 
 -- and no variable but those of the old diagram
@@ -150,7 +150,7 @@ pub variables-regressed : (ar : List ℕ) → areArities ar ≡ true → (truths
 variables-regressed ar good truths g d w t h o =
     terms-occur (λ x. firstVariable ≤ x → occurs ar x d ≡ true) ar t (regressedDiagram ar truths d)
     (terms-regressed ar truths good g (λ x. firstVariable ≤ x → occurs ar x d ≡ true) (λ z. absurd (omega arith))
-    (λ p u e. terms-all (λ x. x < firstVariable → firstVariable ≤ x → occurs ar x d ≡ true) (λ x k z. absurd (omega arith)) (meaning ar u))
+    (λ p u i j e. terms-all (λ x. x < firstVariable → firstVariable ≤ x → occurs ar x d ≡ true) (λ x k z. absurd (omega arith)) (meaning ar u))
     d w (Terms-mono _ (λ x. firstVariable ≤ x → occurs ar x d ≡ true) (λ x k z. k) (meaning ar d) (occur-terms ar d))) o h
 
 -- what an accepted regression of a good diagram is

@@ -4,8 +4,8 @@ use mathlib.Core.Path.{_≡_}
 use mathlib.Core.Bool.{true}
 use mathlib.Core.List.{List}
 use mathlib.Core.Option.{Option, some}
-use Prim.Native.Nat.{ℕ, _+_, _≤_}
-use Rattle.label.specs.Limits.{firstParameter, firstVariable}
+use Prim.Native.Nat.{ℕ, _+_, _≤_, _<_}
+use Rattle.label.specs.Limits.{firstParameter, firstVariable, predicateCount}
 use Rattle.label.specs.Labels.{isLabel}
 use Rattle.diagram.specs.Diagram.{Tree, Diagram}
 use Rattle.state.specs.State.{Atomic, meaning}
@@ -30,9 +30,10 @@ pub record GoodTruth (ar : List ℕ) (d : Diagram) : Type 0 where
   pub labels : Labels ar d
   pub bits : AtMost 1 d
 
+-- those of the predicates that labels have, but equality
 pub record GoodTruths (ar : List ℕ) (truths : Truths) : Type 0 where
-  pub each : (p : ℕ) (d : Diagram) → truths p ≡ some d → GoodTruth ar d
+  pub each : (p : ℕ) (d : Diagram) → 0 < p → p < predicateCount → truths p ≡ some d → GoodTruth ar d
 
 -- no truth diagram has a parameter from the c-th on
 pub record WithinTruths (c : ℕ) (ar : List ℕ) (truths : Truths) : Type 0 where
-  pub each : (p : ℕ) (d : Diagram) → truths p ≡ some d → Within c (meaning ar d)
+  pub each : (p : ℕ) (d : Diagram) → 0 < p → p < predicateCount → truths p ≡ some d → Within c (meaning ar d)

@@ -10,7 +10,7 @@ use lib.Seq.{take-nil}
 use lib.Dec.{eqb, ltb}
 use borrow.Author.Tests.{eqb-true, eqb-false, lt-ltb, le-ltb, ne-eqb}
 use Rattle.basics.specs.Tests.{Flag, isTrue, isFalse, flag}
-use Rattle.label.specs.Limits.{firstVariable}
+use Rattle.label.specs.Limits.{firstVariable, predicateCount}
 use Rattle.label.specs.Terms.{isTerm, isConstant}
 use Rattle.label.specs.Labels.{areArities, predicateOf, unpacked, placeFits, isLabel, termsOf}
 use Rattle.label.specs.LabelLaws.{label-fits}
@@ -193,15 +193,24 @@ argument-in P z ts w t h = by-low (P (argument ts t)) firstVariable t
 pub argument-terms : (ts : List ℕ) → Each Term ts → (t : ℕ) → isTerm t ≡ true → isTerm (argument ts t) ≡ true
 argument-terms ts w t h = argument-in Term zero-term ts w t (λ k. h)
 
--- T for a label: order, reduction, leaves 0 and 1, labels, terms
-truth-good : (ar : List ℕ) (truths : Truths) → GoodTruths ar truths → (p : ℕ) (d : Diagram) → truthOf truths p ≡ some d → GoodTruth ar d
+-- a truth diagram that is used is one of a predicate that is no equality
+truth-of-some : (truths : Truths) (p : ℕ) (d : Diagram) → truthOf truths p ≡ some d → (0 < p) × (truths p ≡ some d)
 unfolding truthOf
-truth-good ar truths g p d e = go (flag (eqb p 0))
+truth-of-some truths p d e = go (flag (eqb p 0))
   where
-    go : Flag (eqb p 0) → GoodTruth ar d
+    go : Flag (eqb p 0) → (0 < p) × (truths p ≡ some d)
     go (isTrue q) = let z : none ≡ some d = rw q at e in let y : _≡_ {A = ℕ} 0 1 = cc in absurd (omega arith)
-    go (isFalse q) = let z : truths p ≡ some d = rw q at e in g .each p d z
+    go (isFalse q) = (let n = eqb-false p 0 q in omega arith, rw q at e)
 
+pub label-predicate : (ar : List ℕ) (l : ℕ) → isLabel ar l ≡ true → predicateOf l < predicateCount
+unfolding predicateOf unpacked
+label-predicate ar l h = label-fits ar l h .predicate-fits
+
+truth-good : (ar : List ℕ) (truths : Truths) → GoodTruths ar truths → (l : ℕ) → isLabel ar l ≡ true → (d : Diagram) → truthOf truths (predicateOf l) ≡ some d
+    → GoodTruth ar d
+truth-good ar truths g l h d e = let x = truth-of-some truths (predicateOf l) d e in g .each (predicateOf l) d (x .0) (label-predicate ar l h) (x .1)
+
+-- T for a label: order, reduction, leaves 0 and 1, labels, terms
 module _ (ar : List ℕ) (l : ℕ) where
   given-ordered : (o : Option Diagram) → Ordered (truthGiven ar o l)
   unfolding truthGiven
@@ -243,13 +252,13 @@ module _ (ar : List ℕ) (truths : Truths) where
   unfolding truthDiagram
   reduced-truth l = given-reduced ar l (truthOf truths (predicateOf l))
 
-  pub most-truth : GoodTruths ar truths → (l : ℕ) → AtMost 1 (truthDiagram ar truths l)
+  pub most-truth : GoodTruths ar truths → (l : ℕ) → isLabel ar l ≡ true → AtMost 1 (truthDiagram ar truths l)
   unfolding truthDiagram
-  most-truth g l = given-bits ar l (truthOf truths (predicateOf l)) (truth-good ar truths g (predicateOf l))
+  most-truth g l h = given-bits ar l (truthOf truths (predicateOf l)) (truth-good ar truths g l h)
 
   pub labels-truth : areArities ar ≡ true → GoodTruths ar truths → (l : ℕ) → isLabel ar l ≡ true → Labels ar (truthDiagram ar truths l)
   unfolding truthDiagram
-  labels-truth good g l h = given-labels ar l good h (truthOf truths (predicateOf l)) (truth-good ar truths g (predicateOf l))
+  labels-truth good g l h = given-labels ar l good h (truthOf truths (predicateOf l)) (truth-good ar truths g l h)
 
 -- regression: order and reduction
 pub ordered-regressed : (ar : List ℕ) (truths : Truths) (d : Diagram) → Ordered (regressedDiagram ar truths d)
@@ -268,20 +277,16 @@ bit x l = go (flag (eqb x 1))
     go (isTrue e) = rw e (eqb-true x 1 e)
     go (isFalse e) = rw e (let n = eqb-false x 1 e in omega arith)
 
-every-any : (d : Diagram) → EveryLabel (λ l. Unit {0}) d
-every-any (leaf v) = tt
-every-any (branch l t f) = (tt, every-any t, every-any f)
-
-pub eval-regressed : (ar : List ℕ) (truths : Truths) → GoodTruths ar truths → (c : ℕ → Bool) (d : Diagram)
+pub eval-regressed : (ar : List ℕ) (truths : Truths) → GoodTruths ar truths → (c : ℕ → Bool) (d : Diagram) → Labels ar d
     → eval c (regressedDiagram ar truths d) ≡ eval (λ l. eqb (eval c (truthDiagram ar truths l)) 1) d
 unfolding regressedDiagram
-eval-regressed ar truths g c d =
-    eval-rebuilt c (λ l. eqb (eval c (truthDiagram ar truths l)) 1) (truthDiagram ar truths) (λ l. Unit {0})
-    (λ l u. bit (eval c (truthDiagram ar truths l)) (eval-most 1 c (truthDiagram ar truths l) (most-truth ar truths g l))) d (every-any d)
+eval-regressed ar truths g c d w =
+    eval-rebuilt c (λ l. eqb (eval c (truthDiagram ar truths l)) 1) (truthDiagram ar truths) (λ l. isLabel ar l ≡ true)
+    (λ l h. bit (eval c (truthDiagram ar truths l)) (eval-most 1 c (truthDiagram ar truths l) (most-truth ar truths g l h))) d w
 
-pub most-regressed : (ar : List ℕ) (truths : Truths) → GoodTruths ar truths → (b : ℕ) (d : Diagram) → AtMost b d → AtMost b (regressedDiagram ar truths d)
-most-regressed ar truths g b d h =
-    most-eval b 0 (regressedDiagram ar truths d) (ordered-regressed ar truths d) (λ c. rw (eval-regressed ar truths g c d) (eval-most b _ d h))
+pub most-regressed : (ar : List ℕ) (truths : Truths) → GoodTruths ar truths → (b : ℕ) (d : Diagram) → Labels ar d → AtMost b d → AtMost b (regressedDiagram ar truths d)
+most-regressed ar truths g b d w h =
+    most-eval b 0 (regressedDiagram ar truths d) (ordered-regressed ar truths d) (λ c. rw (eval-regressed ar truths g c d w) (eval-most b _ d h))
 
 pub labels-regressed : (ar : List ℕ) (truths : Truths) → areArities ar ≡ true → GoodTruths ar truths → (d : Diagram) → Labels ar d → Labels ar (regressedDiagram ar truths d)
 unfolding regressedDiagram
@@ -289,23 +294,15 @@ labels-regressed ar truths good g d w =
     every-rebuilt (λ l. isLabel ar l ≡ true) (λ l. isLabel ar l ≡ true) (truthDiagram ar truths) (labels-truth ar truths good g) d w
 
 -- its terms: those of the old diagram, and what the truth diagrams have but their arguments
-truth-of-some : (truths : Truths) (p : ℕ) (d : Diagram) → truthOf truths p ≡ some d → truths p ≡ some d
-unfolding truthOf
-truth-of-some truths p d e = go (flag (eqb p 0))
-  where
-    go : Flag (eqb p 0) → truths p ≡ some d
-    go (isTrue q) = let z : none ≡ some d = rw q at e in let y : _≡_ {A = ℕ} 0 1 = cc in absurd (omega arith)
-    go (isFalse q) = rw q at e
-
 pub terms-regressed : (ar : List ℕ) (truths : Truths) → areArities ar ≡ true → GoodTruths ar truths → (P : ℕ → Type 0) → P 0
-    → ((p : ℕ) (t : Diagram) → truths p ≡ some t → Terms (λ x. x < firstVariable → P x) (meaning ar t))
+    → ((p : ℕ) (t : Diagram) → 0 < p → p < predicateCount → truths p ≡ some t → Terms (λ x. x < firstVariable → P x) (meaning ar t))
     → (d : Diagram) → Labels ar d → Terms P (meaning ar d) → Terms P (meaning ar (regressedDiagram ar truths d))
 unfolding regressedDiagram truthDiagram
 terms-regressed ar truths good g P z m d w v =
     every-terms P ar (regressedDiagram ar truths d) (every-rebuilt (λ l. (isLabel ar l ≡ true) × Each P (args (atomOf ar l))) (λ l. Each P (args (atomOf ar l)))
     (truthDiagram ar truths)
-    (λ l h. terms-every P ar (truthDiagram ar truths l) (given-terms ar l good (h .0) P z (truthOf truths (predicateOf l)) (truth-good ar truths g (predicateOf l))
-    (λ t e. m (predicateOf l) t (truth-of-some truths (predicateOf l) t e)) (h .1)))
+    (λ l h. terms-every P ar (truthDiagram ar truths l) (given-terms ar l good (h .0) P z (truthOf truths (predicateOf l)) (truth-good ar truths g l (h .0))
+    (λ t e. let x = truth-of-some truths (predicateOf l) t e in m (predicateOf l) t (x .0) (label-predicate ar l (h .0)) (x .1)) (h .1)))
     d (every-both (λ l. isLabel ar l ≡ true) (λ l. Each P (args (atomOf ar l))) d w (terms-every P ar d v)))
 
 -- a good result
@@ -324,6 +321,6 @@ good-regressed ar truths d g h n = record {
   ordered = ordered-regressed ar truths d;
   reduced = reduced-regressed ar truths d;
   fine = fine-most ar (regressedDiagram ar truths d) (labels-regressed ar truths (h .arities) g d (fine-every ar d (h .fine)))
-      (most-regressed ar truths g highestValue d (most-fine ar d (h .fine)));
+      (most-regressed ar truths g highestValue d (fine-every ar d (h .fine)) (most-fine ar d (h .fine)));
   few = n;
 }
