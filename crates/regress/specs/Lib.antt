@@ -15,3 +15,4 @@ pub mod MovedLaws
 pub mod ResultLaws
 pub mod FreeingLaws
 pub mod NextLaws
+pub mod RegressCallLaws
