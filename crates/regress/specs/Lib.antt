@@ -16,3 +16,4 @@ pub mod ResultLaws
 pub mod FreeingLaws
 pub mod NextLaws
 pub mod RegressCallLaws
+pub mod FreeCallLaws

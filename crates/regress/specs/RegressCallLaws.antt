@@ -194,7 +194,7 @@ accepted-checks {A} {P} ar truths p (suc n) after h = rw (checks-cons ar truths 
     go (some t) e ih = accepted-pick (leafAbove 1 t) Truth _ (λ b. accepted-pick (unboundVariable ar (getD ar p 0) t) Unbound _ (λ u.
         ih (λ y. h (all (λ d k. let z : some t ≡ some d = sym e ∙ k in let q : t ≡ d = cc in subst (Passes ar (getD ar p 0)) q (record { bits = b; bound = u })) y))))
 
-not-false : (b : Bool) → not b ≡ false → b ≡ true
+pub not-false : (b : Bool) → not b ≡ false → b ≡ true
 not-false true e = refl
 not-false false e = clash refl e
 
