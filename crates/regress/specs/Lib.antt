@@ -17,3 +17,4 @@ pub mod FreeingLaws
 pub mod NextLaws
 pub mod RegressCallLaws
 pub mod FreeCallLaws
+pub mod Cases

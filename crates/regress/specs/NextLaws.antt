@@ -33,7 +33,19 @@ use Rattle.regress.specs.CallLaws.{Accepted, accepted-mono}
 use Rattle.regress.specs.Result.{replaced, truthGiven, truthDiagram, regressedDiagram, AtMost}
 use Rattle.regress.specs.Parameters.{Allowed, Within, Labels, GoodTruth, GoodTruths, WithinTruths}
 use Rattle.regress.specs.ResultLaws.{
-  value-meaning, eval-rebuilt, value-replaced, label-terms, argument-low, argument-high, argument-terms, bit, terms-regressed, terms-every, every-terms, good-regressed, label-predicate,
+  value-meaning,
+  eval-rebuilt,
+  value-replaced,
+  label-terms,
+  argument-low,
+  argument-high,
+  argument-terms,
+  bit,
+  terms-regressed,
+  terms-every,
+  every-terms,
+  good-regressed,
+  label-predicate,
 }
 use Rattle.regress.specs.FreeingLaws.{fixed-constant}
 use Rattle.regress.specs.Next.{inner, factAfter, next, meanings}
@@ -130,11 +142,11 @@ unfolding meaning relabel occurs atomOf
 occur-terms ar (leaf v) = tt
 occur-terms ar (branch l x y) = (
   Each-mono _ (λ t. (mem eqb t (termsOf ar (unpacked l)) || (occurs ar t x || occurs ar t y)) ≡ true) (λ t h. or-one _ _ h) (termsOf ar (unpacked l))
-  (each-mem (termsOf ar (unpacked l)) (termsOf ar (unpacked l)) (λ t h. h)),
+      (each-mem (termsOf ar (unpacked l)) (termsOf ar (unpacked l)) (λ t h. h)),
   Terms-mono _ (λ t. (mem eqb t (termsOf ar (unpacked l)) || (occurs ar t x || occurs ar t y)) ≡ true)
-  (λ t h. or-other (mem eqb t (termsOf ar (unpacked l))) _ (or-one _ _ h)) (meaning ar x) (occur-terms ar x),
+      (λ t h. or-other (mem eqb t (termsOf ar (unpacked l))) _ (or-one _ _ h)) (meaning ar x) (occur-terms ar x),
   Terms-mono _ (λ t. (mem eqb t (termsOf ar (unpacked l)) || (occurs ar t x || occurs ar t y)) ≡ true)
-  (λ t h. or-other (mem eqb t (termsOf ar (unpacked l))) _ (or-other (occurs ar t x) _ h)) (meaning ar y) (occur-terms ar y),
+      (λ t h. or-other (mem eqb t (termsOf ar (unpacked l))) _ (or-other (occurs ar t x) _ h)) (meaning ar y) (occur-terms ar y),
 )
 
 terms-all : (P : ℕ → Type 0) → ((t : ℕ) → P t) → (d : Tree Atomic) → Terms P d

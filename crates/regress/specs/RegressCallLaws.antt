@@ -32,8 +32,21 @@ use Rattle.regress.specs.Result.{AtMost}
 use Rattle.regress.specs.Parameters.{GoodTruth, GoodTruths}
 use Rattle.regress.specs.NextLaws.{Tells, regressed-tells}
 use Rattle.regress.specs.RegressCall.{
-  truthCount, truthWords, truthsOf, areListings, leafAbove, anyOccurs, unboundVariable, checkTruth, checkTruths, regressOutcome, regressedAs, writtenAs,
-  regressAnswer, regressResult, freeOutcome,
+  truthCount,
+  truthWords,
+  truthsOf,
+  areListings,
+  leafAbove,
+  anyOccurs,
+  unboundVariable,
+  checkTruth,
+  checkTruths,
+  regressOutcome,
+  regressedAs,
+  writtenAs,
+  regressAnswer,
+  regressResult,
+  freeOutcome,
 }
 
 -- the laws of `truthsOf`, `areListings`, `leafAbove`, `anyOccurs` and `checkTruths`: nothing else unfolds them

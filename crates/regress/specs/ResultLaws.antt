@@ -159,9 +159,13 @@ each-take (suc (suc (suc zero))) x y z w a b c d =
     (used-term 3 0 x (omega arith) a, (used-term 3 1 y (omega arith) b, (used-term 3 2 z (omega arith) c, tt)))
 each-take (suc (suc (suc (suc n)))) x y z w a b c d = (
   used-term (suc (suc (suc (suc n)))) 0 x (omega arith) a,
-  (used-term (suc (suc (suc (suc n)))) 1 y (omega arith) b,
-  (used-term (suc (suc (suc (suc n)))) 2 z (omega arith) c,
-  (used-term (suc (suc (suc (suc n)))) 3 w (omega arith) d, rw (take-nil n) tt))),
+  (
+    used-term (suc (suc (suc (suc n)))) 1 y (omega arith) b,
+    (
+      used-term (suc (suc (suc (suc n)))) 2 z (omega arith) c,
+      (used-term (suc (suc (suc (suc n)))) 3 w (omega arith) d, rw (take-nil n) tt),
+    ),
+  ),
 )
 
 pub label-terms : (ar : List ℕ) (l : ℕ) → isLabel ar l ≡ true → Each Term (termsOf ar (unpacked l))
