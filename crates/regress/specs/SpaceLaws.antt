@@ -12,6 +12,7 @@ use Rattle.basics.specs.Tests.{Flag, isTrue, isFalse, flag, Either, one, other,
 use Rattle.basics.specs.Members.{mem, Within, clash}
 use Rattle.refusal.specs.declared.Refusal.{Refusal}
 use Rattle.label.specs.Labels.{unpacked, termsOf}
+use Rattle.label.specs.Renamings.{moved}
 use Rattle.diagram.specs.Sizes.{spaceRows}
 use Rattle.diagram.specs.Diagram.{Diagram, leaf, branch, same, Reduced}
 use Rattle.diagram.specs.DiagramLaws.{diagram-test, same-refl}
@@ -29,10 +30,10 @@ use Rattle.apply.specs.Snoc.{Begins, mem-begins, snoc-cases}
 use Rattle.apply.specs.RowLaws.{onto-mem}
 use Rattle.apply.specs.FormedLaws.{add-leaf, add-node, formed-visit}
 use Rattle.regress.specs.Calls.{Outcome, ok, refused, andThen, Run, pure, bind, form, combine}
-use Rattle.regress.specs.CallLaws.{Both, both-bind, same-answer, same-rows, form-forms, combine-combines, kept-closed, Steady}
-use Rattle.regress.specs.Step.{labelTest, exchanged, rowStep}
+use Rattle.regress.specs.CallLaws.{Both, both-bind, same-answer, same-rows, form-old, form-forms, combine-combines, kept-closed, Steady, steady-pure}
+use Rattle.regress.specs.Step.{labelTest, testDiagram, exchanged, rowStep}
 use Rattle.regress.specs.StepLaws.{exchanged-apply}
-use Rattle.regress.specs.Regression.{resultOf, rowResult, rowResults, lastOf, overRows, Truths, truthAt}
+use Rattle.regress.specs.Regression.{resultOf, rowResult, rowResults, lastOf, overRows, replacement, Truths, truthAt}
 use Rattle.regress.specs.RegressionLaws.{row-leaf, row-branch, results-none, results-cons, over-rows, steady-row, steady-truth}
 use Rattle.regress.specs.Result.{AtMost}
 use Rattle.regress.specs.RegressCall.{truthCount, truthWords, areListings, leafAbove, checkTruth, checkTruths}
@@ -150,6 +151,16 @@ exchanged-test l = refl
 pub exchanged-rows : (T : Diagram) (rs : List Diagram) → Kept rs → AtMost 1 T → Reduced T
     → formed (λ v w. w - v) rs (visit T (leaf 1) []) ≡ onto (exchanged T) rs
 exchanged-rows T rs k b r = formed-visit (λ v w. w - v) rs T (leaf 1) (kept-closed rs k) ∙ ap (λ (d : Diagram). onto d rs) (sym (exchanged-apply T b r))
+
+-- a row step whose T and 1 - T are there already
+pub step-again : (T t f : Diagram) (rs : List Diagram) → mem same T rs ≡ true → mem same (exchanged T) rs ≡ true → length rs ≤ spaceRows
+    → rowStep T t f rs ≡ bind (combine _*_ T t) (λ p. bind (combine _*_ (exchanged T) f) (λ q. combine _+_ p q)) rs
+unfolding rowStep
+step-again T t f rs h k l = rw (form-old T rs h l, form-old (exchanged T) rs k l) refl
+
+pub lands-replacement : (ar : List ℕ) (σ : ℕ → ℕ) (d : Diagram) → Lands (replacement ar σ d)
+unfolding replacement
+lands-replacement ar σ d = over-lands (λ l. pure (testDiagram (moved ar σ l))) (λ l. steady-pure (testDiagram (moved ar σ l))) d
 
 -- checks of truth diagrams that go from predicate to predicate
 pub listings-fail : (ar truths spans : List ℕ) (p n q : ℕ) → p ≤ q → q < p + n → (truthCount spans q ≡ 0 → ⊥) → isListing ar (truthWords truths spans q) ≡ false
