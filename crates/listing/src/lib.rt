@@ -96,24 +96,33 @@ fn are_valid_rows(
 }
 
 // Walks from row i, where the first n rows are finished: how many are finished then, or 0 if not in order.
-fn walk(words: &[u64], i: usize, n: usize) -> usize
+fn visit(words: &[u64], i: usize, n: usize) -> usize
     requires { ⌜ Downward (now words) i ⌝ }
     ensures { λ r. ⌜ Walked (now (words .entry)) i n r ⌝ }
 {
     if i < n {
         return n;
     }
+    walk(words, i, n)
+}
+
+// The same for a row that is not finished. Apart from visit, so that a child that is finished costs no call.
+fn walk(words: &[u64], i: usize, n: usize) -> usize
+    requires { ⌜ Downward (now words) i ⌝ }
+    requires { ⌜ n ≤ i ⌝ }
+    ensures { λ r. ⌜ Walked (now (words .entry)) i n r ⌝ }
+{
     if words[i * 3] == Label::LEAF {
         if i == n {
             return i + 1;
         }
         return 0;
     }
-    let a = walk(words, words[i * 3 + 1] as usize, n);
+    let a = visit(words, words[i * 3 + 1] as usize, n);
     if a == 0 {
         return 0;
     }
-    let b = walk(words, words[i * 3 + 2] as usize, a);
+    let b = visit(words, words[i * 3 + 2] as usize, a);
     if b == i {
         return i + 1;
     }

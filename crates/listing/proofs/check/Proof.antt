@@ -26,7 +26,7 @@ returns-5 : tie.Need-returns-5
 returns-5 c = search check-rows
 
 walk-requires : tie.Need-walk-requires
-walk-requires c κs = search check-down
+walk-requires c κs = (search check-down, search needs)
 
 returns-6 : tie.Need-returns-6
 returns-6 c = search check-order
