@@ -1,8 +1,7 @@
 -- The ways through the functions of the walk, each in the words of what its callees ensure.
-use mathlib.Core.Bool.{Bool, true, false}
 use mathlib.Core.Path.{_≡_, refl, sym, ap, subst, _∙_}
 use mathlib.Core.Logic.{⊎-elim}
-use mathlib.Core.List.{List, [], _∷_, _++_}
+use mathlib.Core.List.{List}
 use Prim.Native.Nat.{ℕ, zero, suc, _+_, _-_, _*_, _<_, _≤_, zero-le}
 use native.Mathlib.Omega.{arith}
 use lib.ListN.{length, getD, set, length-set}
@@ -11,10 +10,9 @@ use Rattle.basics.specs.Tests.{Cmp, below, equal, above, cmp}
 use Rattle.table.specs.Chains.{prev}
 use Rattle.table.specs.ChainLaws.{test, prev-same, prev-other, prev-le, prev-gap, prev-hits, prev-none}
 use Rattle.diagram.specs.Words.{labelAt, highAt, lowAt}
-use Rattle.plan.specs.Walk.{Pair, lesser, descend, onHigh, onLow}
+use Rattle.plan.specs.Walk.{lesser, onHigh, onLow}
 use Rattle.plan.specs.WalkLaws.{lesser-le, lesser-gt, descend-first, descend-second, descend-both}
-use Rattle.plan.specs.Plan.{buckets, keyCount, keyOf, hashOf, keyAt, linkAt, hashAt, putEntry, Index, Clean, Touched, Entered}
-use Rattle.plan.specs.declared.Went.{Went}
+use Rattle.plan.specs.Plan.{buckets, keyCount, hashOf, keyAt, linkAt, hashAt, putEntry, Index, Clean, Touched, Entered}
 use Rattle.plan.specs.declared.Went.the-variants.{To, Full}
 
 -- the search of a chain for the key k: the entries at or above `at` are passed, and `at` is 0 or one more than an entry of k's bucket

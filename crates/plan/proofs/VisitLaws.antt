@@ -1,13 +1,12 @@
 -- The ways through `visit`, `below` and `walk`, each in the words of what its callees ensure.
-use mathlib.Core.Bool.{Bool, true, false}
+use mathlib.Core.Bool.{true, false}
 use mathlib.Core.Path.{_≡_, refl, sym, ap, subst, _∙_}
 use mathlib.Core.List.{List, [], _∷_, _++_}
-use Prim.Native.Nat.{ℕ, suc, _+_, _-_, _*_, _<_, _≤_}
+use Prim.Native.Nat.{ℕ, _+_, _-_, _*_, _<_, _≤_}
 use native.Mathlib.Omega.{arith}
 use borrow.Author.Tests.{le-leb, lt-leb}
 use lib.ListN.{length, getD, set, length-append}
 use lib.Seq.{getD-at}
-use lib.Dec.{leb}
 use Rattle.basics.specs.Tests.{Flag, isTrue, isFalse, flag}
 use Rattle.basics.specs.Members.{mem, clash}
 use Rattle.label.specs.Limits.{leafMark}
@@ -16,7 +15,7 @@ use Rattle.table.specs.ChainLaws.{prev-le, prev-gap, prev-hits}
 use Rattle.diagram.specs.Words.{labelAt, highAt}
 use Rattle.plan.specs.Walk.{Pair, samePair, isEnd, lesser, pairLabel, onHigh, onLow, walked, mostRows, Leading}
 use Rattle.plan.specs.WalkLaws.{mem-at, mem-nowhere, place-one, end-label, branch-label, high-below, low-below, high-leading, low-leading, extends-length, extends-getD, walked-old, walked-end, walked-branch, walked-extends, walked-fresh, walked-root}
-use Rattle.plan.specs.Plan.{buckets, keyCount, keyOf, hashOf, keyAt, putEntry, Index, origin, Entry, Plan, Touched, wentTo, Ready, Planned, pairsAt, Reached, Overrun, Visited, Entered}
+use Rattle.plan.specs.Plan.{keyCount, keyOf, hashOf, keyAt, putEntry, Index, origin, Entry, Plan, Touched, wentTo, Ready, Planned, pairsAt, Reached, Overrun, Visited, Entered}
 use Rattle.plan.specs.PlanLaws.{key-one, length-pairs, plan-pairs, plan-added, index-touched}
 use Rattle.plan.specs.declared.Went.{Went}
 use Rattle.plan.specs.declared.Went.the-variants.{To, Full}

@@ -2,4 +2,5 @@
 pub mod Walk
 pub mod Plan
 pub mod WalkLaws
+pub mod PairSet
 pub mod PlanLaws

@@ -1,16 +1,16 @@
 -- The plan of a combination: the pairs of a walk in finishing order, five words each, with a hash index over them.
-use mathlib.Core.Bool.{Bool, true, false, cond}
+use mathlib.Core.Bool.{true, false, cond}
 use mathlib.Core.Path.{_≡_}
 use mathlib.Core.List.{List, [], _∷_, _++_}
 use Prim.Native.Nat.{ℕ, zero, suc, _+_, _-_, _*_, _/_, _%_, _<_, _≤_}
 use lib.ListN.{length, getD, set}
-use lib.Dec.{eqb, leb}
+use lib.Dec.{leb}
 use Rattle.basics.specs.Members.{NoDup}
 use Rattle.table.specs.Chains.{prev}
 use Rattle.diagram.specs.Words.{highAt}
 use Rattle.plan.specs.declared.Went.{Went}
 use Rattle.plan.specs.declared.Went.the-variants.{To, Full}
-use Rattle.plan.specs.Walk.{Pair, samePair, isEnd, pairLabel, onHigh, onLow, walked, mostRows, Leading}
+use Rattle.plan.specs.Walk.{Pair, samePair, isEnd, pairLabel, onHigh, onLow, mostRows, Leading}
 
 -- the number of buckets of the index
 abbrev pub buckets : ℕ

@@ -1,25 +1,23 @@
 -- Laws of the plan: its keys, its words after a store, the index over them, an entry more, and clearing.
-use mathlib.Core.Bool.{Bool, true, false, _||_}
+use mathlib.Core.Bool.{true, false}
 use mathlib.Core.Path.{_≡_, refl, sym, ap, subst, _∙_}
-use mathlib.Core.Logic.{_⊎_, inl, inr, ⊎-elim}
+use mathlib.Core.Logic.{_⊎_, ⊎-elim}
 use mathlib.Core.List.{List, [], _∷_, _++_}
-use Prim.Native.Nat.{ℕ, zero, suc, _+_, _-_, _*_, _/_, _%_, _<_, _≤_, zero-le, suc-le-suc}
+use Prim.Native.Nat.{ℕ, zero, suc, _+_, _-_, _*_, _<_, _≤_, zero-le}
 use native.Mathlib.Nat.{eq-or-lt-of-le, le-of-suc-le-suc}
 use native.Mathlib.Numerals.{add-one}
 use native.Mathlib.Omega.{arith}
-use borrow.Author.Tests.{le-leb, lt-leb}
 use lib.ListN.{length, getD, set, length-append, length-set, List·getD-append}
 use lib.Seq.{getD-at, getD-set-same, getD-set-other, ext-getD}
-use lib.Dec.{eqb, leb}
-use Rattle.basics.specs.Tests.{Cmp, below, equal, above, cmp, Flag, isTrue, isFalse, flag, or-one, or-other}
-use Rattle.basics.specs.Members.{mem, NoDup, clash}
+use Rattle.basics.specs.Tests.{Flag, isTrue, isFalse, flag}
+use Rattle.basics.specs.Members.{mem}
 use Rattle.label.specs.Limits.{leafMark}
 use Rattle.diagram.specs.Words.{highAt}
 use Rattle.table.specs.Chains.{prev}
 use Rattle.table.specs.ChainLaws.{test, prev-zero, prev-same, prev-other, prev-none, prev-ext}
 use Rattle.plan.specs.Walk.{Pair, samePair, isEnd, pairLabel, onHigh, onLow, mostRows, Leading}
-use Rattle.plan.specs.WalkLaws.{pair-ext, pair-test, nodup-more, end-label, branch-label}
-use Rattle.plan.specs.Plan.{buckets, mostPairs, keyCount, keyOf, pairOf, hashOf, keyAt, linkAt, pairLabelAt, firstAt, secondAt, hashAt, putEntry, Index, origin, Branch, End, Entry, Plan, Clean, Touched, pairsAt}
+use Rattle.plan.specs.WalkLaws.{pair-ext, nodup-more, end-label, branch-label}
+use Rattle.plan.specs.Plan.{buckets, mostPairs, keyCount, keyOf, pairOf, hashOf, keyAt, linkAt, pairLabelAt, firstAt, secondAt, hashAt, putEntry, Index, origin, Entry, Plan, Clean, Touched, pairsAt}
 
 -- keys
 pub key-less : (p : Pair) → p .0 < mostRows → p .1 < mostRows → keyOf p < keyCount

@@ -1,20 +1,20 @@
 -- Laws of the walk of pairs: where a step leads, one step of the walk, that it only adds, what it adds, that it adds no pair twice, and that its depth does not matter.
-use mathlib.Core.Bool.{Bool, true, false, cond, _&&_, _||_, or-false}
+use mathlib.Core.Bool.{true, false, _||_, or-false}
 use mathlib.Core.Path.{_≡_, refl, sym, ap, subst, _∙_}
 use mathlib.Core.Logic.{_⊎_, inl, inr, ⊎-elim}
 use mathlib.Core.List.{List, [], _∷_, _++_, append-nil, append-assoc}
-use Prim.Native.Nat.{ℕ, zero, suc, _+_, _-_, _*_, _<_, _≤_, suc-le-suc}
+use Prim.Native.Nat.{ℕ, zero, suc, _+_, _-_, _<_, _≤_, suc-le-suc}
 use native.Mathlib.Nat.{le-of-suc-le-suc}
 use native.Mathlib.Omega.{arith}
-use borrow.Author.Tests.{eqb-true, eqb-false, eq-eqb, ne-eqb, le-leb, lt-leb}
+use borrow.Author.Tests.{eqb-true, eq-eqb, le-leb, lt-leb}
 use lib.ListN.{length, getD, length-append, List·getD-append}
 use lib.Seq.{getD-at}
-use lib.Dec.{eqb, leb}
+use lib.Dec.{eqb}
 use Rattle.basics.specs.Tests.{Cmp, below, equal, above, cmp, Flag, isTrue, isFalse, flag, Either, one, other, either, and-left, and-right, or-one, or-other}
 use Rattle.basics.specs.Members.{IsTest, mem, NoDup, mem-append, clash}
 use Rattle.label.specs.Limits.{leafMark}
 use Rattle.diagram.specs.Words.{labelAt, highAt, lowAt}
-use Rattle.plan.specs.Walk.{Pair, samePair, isEnd, lesser, pairLabel, descend, onHigh, onLow, finishPairs, walked, mostRows, Leads, Leading}
+use Rattle.plan.specs.Walk.{Pair, samePair, isEnd, lesser, pairLabel, descend, onHigh, onLow, finishPairs, walked, Leads, Leading}
 
 -- pairs
 pub pair-ext : (p q : Pair) → p .0 ≡ q .0 → p .1 ≡ q .1 → p ≡ q

@@ -9,6 +9,10 @@ ghost use Rattle.table.specs.Chains.{prev};
 ghost use Rattle.plan.specs.Walk.{samePair, lesser, onHigh, onLow, walked, mostRows, Leading};
 ghost use Rattle.plan.specs.Plan.{buckets, keyCount, keyOf, hashOf, keyAt, Index, Plan, Clean, Touched, Ready, Planned, pairsAt, Visited, Entered};
 
+// The number of buckets of the index.
+pub const BUCKETS: usize = 4096;
+// The words of an entry of the plan.
+pub const ENTRY_WORDS: usize = 5;
 // A leaf's first word.
 const LEAF: u64 = 4294967295;
 
@@ -31,7 +35,7 @@ fn key(i: usize, j: usize) -> u64
     requires { ⌜ (i < mostRows) × (j < mostRows) ⌝ }
     ensures { λ r. ⌜ (r ≡ keyOf (i, j)) × (r < keyCount) ⌝ }
 {
-    (i * 2048 + j) as u64
+    (i * diagram::SPACE_ROWS + j) as u64
 }
 
 // The bucket of a key.
@@ -39,7 +43,7 @@ fn hash(k: u64) -> usize
     requires { ⌜ k < keyCount ⌝ }
     ensures { λ r. ⌜ (r ≡ hashOf k) × (r < buckets) ⌝ }
 {
-    ((k * 2654435769) / 65536 % 4096) as usize
+    ((k * 2654435769 / 65536) as usize) % BUCKETS
 }
 
 // The lower of two labels.
@@ -62,10 +66,10 @@ fn find(plan: &[u64], heads: &[u16], limit: usize, count: usize, k: u64) -> usiz
     let mut at = basics::wide(heads[h]);
     while at != 0 {
         let i = at - 1;
-        if plan[i * 5] == k {
+        if plan[i * ENTRY_WORDS] == k {
             return at;
         }
-        at = plan[i * 5 + 1] as usize;
+        at = plan[i * ENTRY_WORDS + 1] as usize;
     }
     0
 }
@@ -120,11 +124,11 @@ fn add(
         return Went::Full;
     }
     let h = hash(k);
-    plan[count * 5] = k;
-    plan[count * 5 + 1] = basics::wide(heads[h]) as u64;
-    plan[count * 5 + 2] = label;
-    plan[count * 5 + 3] = first;
-    plan[count * 5 + 4] = second;
+    plan[count * ENTRY_WORDS] = k;
+    plan[count * ENTRY_WORDS + 1] = basics::wide(heads[h]) as u64;
+    plan[count * ENTRY_WORDS + 2] = label;
+    plan[count * ENTRY_WORDS + 3] = first;
+    plan[count * ENTRY_WORDS + 4] = second;
     heads[h] = (count + 1) as u16;
     Went::To(count, count + 1)
 }
@@ -213,7 +217,7 @@ pub fn clear(plan: &[u64], heads: &mut [u16], count: usize)
 {
     let mut i = 0;
     while i < count {
-        let h = hash(plan[i * 5]);
+        let h = hash(plan[i * ENTRY_WORDS]);
         heads[h] = 0;
         i += 1;
     }

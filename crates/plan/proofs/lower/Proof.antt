@@ -1,4 +1,3 @@
-use borrow.Author.Needs.{needs}
 use Rattle.plan.proofs.StepLaws.{lower-le, lower-gt}
 use Rattle.plan.proofs.lower.Statement.{statement}
 use Rattle.plan.proofs.lower.Tie as tie
