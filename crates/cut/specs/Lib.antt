@@ -1,0 +1,4 @@
+-- Cuts (document 01, section 'Cut').
+pub mod Paths
+pub mod Match
+pub mod Cut
