@@ -2,3 +2,6 @@
 pub mod Paths
 pub mod Match
 pub mod Cut
+pub mod MovedLaws
+pub mod MatchLaws
+pub mod CoverLaws
