@@ -188,7 +188,7 @@ module _ (ar : List ℕ) (d : Diagram) (good : areArities ar ≡ true) (fine : F
   -- of the first n rows, row k is the highest, true edge first, whose edge on the side b may go; or none may
   pub data Chosen (rs : List Diagram) (n : ℕ) : Choice → Type 0 where
     highest : (k : ℕ) (b : Bool) → k < n → MayGo ar d b (rowTree rs k) → (b ≡ false → MayGo ar d true (rowTree rs k) → ⊥)
-      → ((i : ℕ) (c : Bool) → k < i → i < n → MayGo ar d c (rowTree rs i) → ⊥) → Chosen rs n (goes k b)
+        → ((i : ℕ) (c : Bool) → k < i → i < n → MayGo ar d c (rowTree rs i) → ⊥) → Chosen rs n (goes k b)
     nothing : ((i : ℕ) (c : Bool) → i < n → MayGo ar d c (rowTree rs i) → ⊥) → Chosen rs n stays
 
   may-not : (c : Bool) (r : Diagram) → mayGo ar d c r ≡ false → MayGo ar d c r → ⊥

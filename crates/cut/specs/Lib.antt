@@ -5,3 +5,6 @@ pub mod Cut
 pub mod MovedLaws
 pub mod MatchLaws
 pub mod CoverLaws
+pub mod TruthLaws
+pub mod ReduceLaws
+pub mod CutExamples

@@ -136,10 +136,18 @@ fits-unused n k t h e = eqb-true t 0 (rw (le-ltb k n h) at e)
 -- the places of an atom that fits are its terms, and 0
 terms-at : (n : ℕ) → n ≤ 4 → (a : Atom) → PlacesFit n a → let us = take n (a .first ∷ a .second ∷ a .third ∷ a .fourth ∷ []) in
     (getD us 0 0 ≡ a .first) × (getD us 1 0 ≡ a .second) × (getD us 2 0 ≡ a .third) × (getD us 3 0 ≡ a .fourth)
-terms-at zero h a f = (sym (fits-unused 0 0 _ (omega arith) (f .first-fits)), sym (fits-unused 0 1 _ (omega arith) (f .second-fits)),
-    sym (fits-unused 0 2 _ (omega arith) (f .third-fits)), sym (fits-unused 0 3 _ (omega arith) (f .fourth-fits)))
-terms-at (suc zero) h a f = (refl, sym (fits-unused 1 1 _ (omega arith) (f .second-fits)),
-    sym (fits-unused 1 2 _ (omega arith) (f .third-fits)), sym (fits-unused 1 3 _ (omega arith) (f .fourth-fits)))
+terms-at zero h a f = (
+  sym (fits-unused 0 0 _ (omega arith) (f .first-fits)),
+  sym (fits-unused 0 1 _ (omega arith) (f .second-fits)),
+  sym (fits-unused 0 2 _ (omega arith) (f .third-fits)),
+  sym (fits-unused 0 3 _ (omega arith) (f .fourth-fits)),
+)
+terms-at (suc zero) h a f = (
+  refl,
+  sym (fits-unused 1 1 _ (omega arith) (f .second-fits)),
+  sym (fits-unused 1 2 _ (omega arith) (f .third-fits)),
+  sym (fits-unused 1 3 _ (omega arith) (f .fourth-fits)),
+)
 terms-at (suc (suc zero)) h a f = (refl, refl, sym (fits-unused 2 2 _ (omega arith) (f .third-fits)), sym (fits-unused 2 3 _ (omega arith) (f .fourth-fits)))
 terms-at (suc (suc (suc zero))) h a f = (refl, refl, refl, sym (fits-unused 3 3 _ (omega arith) (f .fourth-fits)))
 terms-at (suc (suc (suc (suc zero)))) h a f = (refl, refl, refl, refl)
@@ -225,9 +233,11 @@ packed-terms : (ar : List ℕ) (p : ℕ) (us : List ℕ) (k : ℕ) → areAritie
 unfolding predicateOf termsOf unpacked
 packed-terms ar p us k g n h e =
     let a : unpacked k ≡ atomFrom p us = ap unpacked (sym e) ∙ unpacked-packed (atomFrom p us) (from-places p us h) in
-    let q : k / 16777216 ≡ p = ap (λ (x : Atom). x .predicate) a in
-    (q, ap (termsOf ar) a ∙ ap (λ (m : ℕ). take m (getD us 0 0 ∷ getD us 1 0 ∷ getD us 2 0 ∷ getD us 3 0 ∷ [])) (sym n)
-    ∙ list-of us (omega (arith, arity-most ar p g)))
+    let q : k / 16777216 ≡ p = ap (λ (x : Atom). x .predicate) a in (
+      q,
+      ap (termsOf ar) a ∙ ap (λ (m : ℕ). take m (getD us 0 0 ∷ getD us 1 0 ∷ getD us 2 0 ∷ getD us 3 0 ∷ [])) (sym n)
+          ∙ list-of us (omega (arith, arity-most ar p g)),
+    )
 
 always-not : {A : Type 0} (k : ℕ) → Always ≡ Is (record { packed = k }) → A
 always-not k e = let z : _≡_ {A = ℕ} 0 1 = cc in absurd (omega arith)
