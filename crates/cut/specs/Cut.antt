@@ -19,6 +19,7 @@ use Rattle.diagram.specs.RowLists.{rowTree}
 use Rattle.diagram.specs.Words.{isListing}
 use Rattle.diagram.specs.Listing.{listing, diagramOf}
 use Rattle.diagram.specs.Variables.{closed}
+use Rattle.apply.specs.Apply.{node}
 use Rattle.cut.specs.Paths.{Literal, Path, paths, literals, termsIn, through, mostPaths}
 use Rattle.cut.specs.Match.{start, matches}
 use Rattle.cut.specs.declared.Edge.{Edge}
@@ -113,20 +114,15 @@ choice ar d = choiceBelow ar d (rows d) (length (rows d))
 
 -- ===== What is left =====
 
--- the branch with label l over t and f, or t where both are equal
 abbrev pub pickDiagram : Bool → Diagram → Diagram → Diagram
 pickDiagram true x y = x
 pickDiagram false x y = y
 
-unfoldable pub joined : ℕ → Diagram → Diagram → Diagram
-unfolding same
-joined l t f = pickDiagram (same t f) t (branch l t f)
-
 -- the diagram d reduced
 unfoldable pub reduced : Diagram → Diagram
-unfolding joined
+unfolding node
 reduced (leaf v) = leaf v
-reduced (branch l t f) = joined l (reduced t) (reduced f)
+reduced (branch l t f) = node l (reduced t) (reduced f)
 
 -- the edge of the row r on the side b goes to leaf 0, wherever r stands in the diagram
 unfoldable pub cutAt : Diagram → Bool → Diagram → Diagram

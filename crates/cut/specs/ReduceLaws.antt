@@ -15,44 +15,37 @@ use Rattle.diagram.specs.Diagram.{Diagram, leaf, branch, same, From, Ordered, R
 use Rattle.diagram.specs.DiagramLaws.{same-eq, same-ne, from-weaken, onto-old, onto-leaf, onto-branch}
 use Rattle.diagram.specs.Rows.{onto, rows}
 use Rattle.diagram.specs.Listing.{Fine, Good}
+use Rattle.apply.specs.Apply.{node}
+use Rattle.apply.specs.ApplyLaws.{node-same, node-differ}
 use Rattle.cut.specs.Paths.{Path, Step, stepBefore, paths, mostPaths}
-use Rattle.cut.specs.Cut.{pickDiagram, joined, reduced, cutAt}
+use Rattle.cut.specs.Cut.{pickDiagram, reduced, cutAt}
 use Rattle.cut.specs.MatchLaws.{mem-unmap}
 
--- the two laws of `joined`
-pub joined-same : (l : ℕ) (t f : Diagram) → same t f ≡ true → joined l t f ≡ t
-unfolding joined
-joined-same l t f e = rw e
-
-pub joined-differ : (l : ℕ) (t f : Diagram) → same t f ≡ false → joined l t f ≡ branch l t f
-unfolding joined
-joined-differ l t f e = rw e
-
--- a property of both parts and of the branch is one of the joined diagram
-by-joined : (P : Diagram → Type 0) (l : ℕ) (t f : Diagram) → P t → (t ≢ f → P (branch l t f)) → P (joined l t f)
-by-joined P l t f u v = go (flag (same t f))
+-- a property of both parts and of the branch is one of their node
+by-node : (P : Diagram → Type 0) (l : ℕ) (t f : Diagram) → P t → (t ≢ f → P (branch l t f)) → P (node l t f)
+by-node P l t f u v = go (flag (same t f))
   where
-    go : Flag (same t f) → P (joined l t f)
-    go (isTrue e) = subst P (sym (joined-same l t f e)) u
-    go (isFalse e) = subst P (sym (joined-differ l t f e)) (v (same-ne t f e))
+    go : Flag (same t f) → P (node l t f)
+    go (isTrue e) = subst P (sym (node-same l t f e)) u
+    go (isFalse e) = subst P (sym (node-differ l t f e)) (v (same-ne t f e))
 
 pub reduced-from : (n : ℕ) (d : Diagram) → From n d → From n (reduced d)
 unfolding reduced
 reduced-from n (leaf v) o = tt
 reduced-from n (branch l t f) o =
-    by-joined (From n) l (reduced t) (reduced f) (from-weaken n (suc l) (reduced t) (omega (arith, o .0)) (reduced-from (suc l) t (o .1)))
+    by-node (From n) l (reduced t) (reduced f) (from-weaken n (suc l) (reduced t) (omega (arith, o .0)) (reduced-from (suc l) t (o .1)))
     (λ z. (o .0, reduced-from (suc l) t (o .1), reduced-from (suc l) f (o .2)))
 
 pub reduced-reduced : (d : Diagram) → Reduced (reduced d)
 unfolding reduced
 reduced-reduced (leaf v) = tt
-reduced-reduced (branch l t f) = by-joined Reduced l (reduced t) (reduced f) (reduced-reduced t) (λ z. (z, reduced-reduced t, reduced-reduced f))
+reduced-reduced (branch l t f) = by-node Reduced l (reduced t) (reduced f) (reduced-reduced t) (λ z. (z, reduced-reduced t, reduced-reduced f))
 
 pub reduced-fine : (ar : List ℕ) (d : Diagram) → Fine ar d → Fine ar (reduced d)
 unfolding reduced
 reduced-fine ar (leaf v) h = h
 reduced-fine ar (branch l t f) h =
-    by-joined (Fine ar) l (reduced t) (reduced f) (reduced-fine ar t (h .1)) (λ z. (h .0, reduced-fine ar t (h .1), reduced-fine ar f (h .2)))
+    by-node (Fine ar) l (reduced t) (reduced f) (reduced-fine ar t (h .1)) (λ z. (h .0, reduced-fine ar t (h .1), reduced-fine ar f (h .2)))
 
 by-pick : (P : Diagram → Type 0) (b : Bool) (x y : Diagram) → P x → P y → P (pickDiagram b x y)
 by-pick P true x y u v = u
@@ -119,7 +112,7 @@ reduced-paths : (d : Diagram) → length (paths (reduced d)) ≤ length (paths d
 unfolding reduced
 reduced-paths (leaf v) = omega arith
 reduced-paths (branch l t f) =
-    by-joined (λ x. length (paths x) ≤ length (paths (branch l t f))) l (reduced t) (reduced f)
+    by-node (λ x. length (paths x) ≤ length (paths (branch l t f))) l (reduced t) (reduced f)
     (omega (arith, paths-branch l t f, reduced-paths t))
     (λ z. omega (arith, paths-branch l t f, paths-branch l (reduced t) (reduced f), reduced-paths t, reduced-paths f))
 

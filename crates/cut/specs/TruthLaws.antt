@@ -22,9 +22,10 @@ use Rattle.state.specs.Highest.{Highest}
 use Rattle.state.specs.Max.{IsMax}
 use Rattle.state.specs.MaxLaws.{max-by, max-same}
 use Rattle.state.specs.ValueLaws.{map-map, fits-after}
+use Rattle.apply.specs.ApplyLaws.{eval-node}
 use Rattle.cut.specs.Paths.{Literal, Step, Path, stepBefore, paths, literals, literalOf, termsIn, isEdge, through}
 use Rattle.cut.specs.Match.{turned}
-use Rattle.cut.specs.Cut.{Matched, plain, found, Replacement, Cover, target, MayGo, may, pickDiagram, joined, reduced, cutAt}
+use Rattle.cut.specs.Cut.{Matched, plain, found, Replacement, Cover, target, MayGo, may, pickDiagram, reduced, cutAt}
 use Rattle.cut.specs.MovedLaws.{asks, moved-asks, terms-length, Asked, straight, across, ask-is, ask-always}
 use Rattle.cut.specs.MatchLaws.{mem-map, mem-unmap}
 use Rattle.cut.specs.CoverLaws.{in-small}
@@ -243,18 +244,10 @@ module _ (ar : List ℕ) (good : areArities ar ≡ true) where
               )
 
 -- ===== Reduction =====
-pub eval-joined : (c : ℕ → Bool) (l : ℕ) (t f : Diagram) → eval c (joined l t f) ≡ cond (c l) (eval c t) (eval c f)
-unfolding joined eval
-eval-joined c l t f = go (flag (same t f))
-  where
-    go : Flag (same t f) → eval c (pickDiagram (same t f) t (branch l t f)) ≡ cond (c l) (eval c t) (eval c f)
-    go (isTrue e) = rw (e, same-eq t f e) (sym (cond-const (c l) (eval c f)))
-    go (isFalse e) = rw e
-
 pub eval-reduced : (c : ℕ → Bool) (d : Diagram) → eval c (reduced d) ≡ eval c d
 unfolding eval reduced
 eval-reduced c (leaf v) = refl
-eval-reduced c (branch l t f) = eval-joined c l (reduced t) (reduced f) ∙ ap₂ (cond (c l)) (eval-reduced c t) (eval-reduced c f)
+eval-reduced c (branch l t f) = eval-node c l (reduced t) (reduced f) ∙ ap₂ (cond (c l)) (eval-reduced c t) (eval-reduced c f)
 
 -- a cut leaves the highest leaf in every state; closing up is left
 pub cut-keeps : (ar : List ℕ) → areArities ar ≡ true → (d r : Diagram) (b : Bool) → MayGo ar d b r

@@ -1,0 +1,2 @@
+-- What the functions of the check ensure.
+pub mod Check
