@@ -1,0 +1,10 @@
+-- Cuts (document 01, section 'Cut').
+pub mod Paths
+pub mod Match
+pub mod Cut
+pub mod MovedLaws
+pub mod MatchLaws
+pub mod CoverLaws
+pub mod TruthLaws
+pub mod ReduceLaws
+pub mod CutExamples
