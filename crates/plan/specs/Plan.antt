@@ -1,0 +1,156 @@
+-- The plan of a combination: the pairs of a walk in finishing order, five words each, with a hash index over them.
+use mathlib.Core.Bool.{Bool, true, false, cond}
+use mathlib.Core.Path.{_≡_}
+use mathlib.Core.List.{List, [], _∷_, _++_}
+use Prim.Native.Nat.{ℕ, zero, suc, _+_, _-_, _*_, _/_, _%_, _<_, _≤_}
+use lib.ListN.{length, getD, set}
+use lib.Dec.{eqb, leb}
+use Rattle.basics.specs.Members.{NoDup}
+use Rattle.table.specs.Chains.{prev}
+use Rattle.diagram.specs.Words.{highAt}
+use Rattle.plan.specs.declared.Went.{Went}
+use Rattle.plan.specs.declared.Went.the-variants.{To, Full}
+use Rattle.plan.specs.Walk.{Pair, samePair, isEnd, pairLabel, onHigh, onLow, walked, mostRows, Leading}
+
+-- the number of buckets of the index
+abbrev pub buckets : ℕ
+buckets = 4096
+
+-- the most pairs that can be indexed: an entry of the index is one more than a place, in 16 bits
+abbrev pub mostPairs : ℕ
+mostPairs = 65535
+
+-- a pair as one number, and back
+abbrev pub keyCount : ℕ
+keyCount = mostRows * mostRows
+
+unfoldable pub keyOf : Pair → ℕ
+keyOf p = p .0 * mostRows + p .1
+
+unfoldable pub pairOf : ℕ → Pair
+pairOf k = (k / mostRows, k % mostRows)
+
+-- the bucket of a key
+unfoldable pub hashOf : ℕ → ℕ
+hashOf k = k * 2654435769 / 65536 % buckets
+
+-- the words of entry k: its pair's key; its link; its pair's label; the numbers of the successors by true and by false, or the two values of an end
+unfoldable pub keyAt : List ℕ → ℕ → ℕ
+keyAt ws k = getD ws (k * 5) 0
+
+unfoldable pub linkAt : List ℕ → ℕ → ℕ
+linkAt ws k = getD ws (k * 5 + 1) 0
+
+unfoldable pub pairLabelAt : List ℕ → ℕ → ℕ
+pairLabelAt ws k = getD ws (k * 5 + 2) 0
+
+unfoldable pub firstAt : List ℕ → ℕ → ℕ
+firstAt ws k = getD ws (k * 5 + 3) 0
+
+unfoldable pub secondAt : List ℕ → ℕ → ℕ
+secondAt ws k = getD ws (k * 5 + 4) 0
+
+unfoldable pub hashAt : List ℕ → ℕ → ℕ
+hashAt ws k = hashOf (keyAt ws k)
+
+-- the plan with an entry written at place k, in the order of the stores
+unfoldable pub putEntry : List ℕ → (k key link label first second : ℕ) → List ℕ
+putEntry ws k key link label first second =
+    set (set (set (set (set ws (k * 5) key) (k * 5 + 1) link) (k * 5 + 2) label) (k * 5 + 3) first) (k * 5 + 4) second
+
+-- heads and links index the first count entries of the plan, which has room for `limit`: a bucket's head is its last entry, an entry's link the one
+-- before it in its bucket, both one up, and 0 for none
+pub record Index (ws heads : List ℕ) (limit count : ℕ) : Type 0 where
+  pub words : limit * 5 ≤ length ws
+  pub slots : buckets ≤ length heads
+  pub small : limit ≤ mostPairs
+  pub within : count ≤ limit
+  pub keys : (k : ℕ) → k < count → keyAt ws k < keyCount
+  pub head : (b : ℕ) → b < buckets → getD heads b 0 ≡ prev (hashAt ws) b count
+  pub link : (k : ℕ) → k < count → linkAt ws k ≡ prev (hashAt ws) (hashAt ws k) k
+
+-- what stands for no pair
+abbrev pub origin : Pair
+origin = (0, 0)
+
+-- a branch pair's entry k holds the numbers of its two successors, which are earlier entries
+pub record Branch (x y ws : List ℕ) (ps : List Pair) (k : ℕ) (p : Pair) : Type 0 where
+  pub first-less : firstAt ws k < k
+  pub second-less : secondAt ws k < k
+  pub first : getD ps (firstAt ws k) origin ≡ onHigh x y p
+  pub second : getD ps (secondAt ws k) origin ≡ onLow x y p
+
+-- an end's entry k holds the values of its two leaves
+pub record End (x y ws : List ℕ) (k : ℕ) (p : Pair) : Type 0 where
+  pub first : firstAt ws k ≡ highAt x (p .0)
+  pub second : secondAt ws k ≡ highAt y (p .1)
+
+-- entry k is that of the pair p
+pub record Entry (x y ws : List ℕ) (ps : List Pair) (k : ℕ) (p : Pair) : Type 0 where
+  pub few-x : p .0 < mostRows
+  pub few-y : p .1 < mostRows
+  pub key : keyAt ws k ≡ keyOf p
+  pub label : pairLabelAt ws k ≡ pairLabel x y p
+  pub end : isEnd x y p ≡ true → End x y ws k p
+  pub branch : isEnd x y p ≡ false → Branch x y ws ps k p
+
+-- the first entries of the plan are those of the pairs ps, no pair twice, and are indexed
+pub record Plan (x y ws heads : List ℕ) (limit : ℕ) (ps : List Pair) : Type 0 where
+  pub index : Index ws heads limit (length ps)
+  pub entry : (k : ℕ) → k < length ps → Entry x y ws ps k (getD ps k origin)
+  pub apart : NoDup samePair ps
+
+-- no bucket is in use
+pub record Clean (heads : List ℕ) : Type 0 where
+  pub slots : buckets ≤ length heads
+  pub zeros : (b : ℕ) → b < buckets → getD heads b 0 ≡ 0
+
+-- what `clear` requires: only the buckets of the first count entries may be in use
+pub record Touched (ws heads : List ℕ) (count : ℕ) : Type 0 where
+  pub words : count * 5 ≤ length ws
+  pub slots : buckets ≤ length heads
+  pub keys : (k : ℕ) → k < count → keyAt ws k < keyCount
+  pub others : (b : ℕ) → b < buckets → ((k : ℕ) → k < count → hashAt ws k ≡ b → ⊥) → getD heads b 0 ≡ 0
+
+-- the answer of a walk that finishes the pairs ps, the root last: its number and how many they are, or that they are more than `limit`
+unfoldable pub wentTo : ℕ → List Pair → Went
+wentTo limit ps = cond (leb (length ps) limit) (To (length ps - 1) (length ps)) Full
+
+-- what a walk from p requires: the operands lead down from its rows, and the plan is that of the pairs ps
+pub record Ready (x y ws heads : List ℕ) (limit : ℕ) (p : Pair) (ps : List Pair) : Type 0 where
+  pub leading : Leading x y p
+  pub plan : Plan x y ws heads limit ps
+
+-- what `walk` ensures, ps being the pairs of the walk: the answer, the plan of these pairs, and, where they are too many, that the index can be cleared
+pub record Planned (x y : List ℕ) (limit : ℕ) (ps : List Pair) (r : Went) (ws heads : List ℕ) : Type 0 where
+  pub answer : r ≡ wentTo limit ps
+  pub plan : length ps ≤ limit → Plan x y ws heads limit ps
+  pub touched : limit < length ps → Touched ws heads limit
+
+-- the pairs of the first n entries of a plan, by their keys
+unfoldable pub pairsAt : List ℕ → ℕ → List Pair
+pairsAt ws zero = []
+pairsAt ws (suc n) = pairsAt ws n ++ (pairOf (keyAt ws n) ∷ [])
+
+-- what `visit` and `below` ensure, ps being the pairs after a walk from p: p's number and how many pairs there are, with their plan, or that they are too many
+pub record Reached (x y : List ℕ) (limit : ℕ) (p : Pair) (ps : List Pair) (number count : ℕ) (ws heads : List ℕ) : Type 0 where
+  pub less : number < count
+  pub count-is : length ps ≡ count
+  pub number-is : getD ps number origin ≡ p
+  pub plan : Plan x y ws heads limit ps
+
+pub record Overrun (limit : ℕ) (ps : List Pair) (ws heads : List ℕ) : Type 0 where
+  pub many : limit < length ps
+  pub touched : Touched ws heads limit
+
+pub record Visited (x y : List ℕ) (limit : ℕ) (p : Pair) (ps : List Pair) (r : Went) (ws heads : List ℕ) : Type 0 where
+  pub to : (number count : ℕ) → r ≡ To number count → Reached x y limit p ps number count ws heads
+  pub full : r ≡ Full → Overrun limit ps ws heads
+
+-- what `add` ensures: an entry at the end, or that there is no room
+pub record Entered (ws heads : List ℕ) (limit count key label first second : ℕ) (r : Went) (ws′ heads′ : List ℕ) : Type 0 where
+  pub to : (number n : ℕ) → r ≡ To number n
+      → (number ≡ count) × (n ≡ count + 1) × (count < limit)
+      × (ws′ ≡ putEntry ws count key (getD heads (hashOf key) 0) label first second)
+      × (heads′ ≡ set heads (hashOf key) (count + 1))
+  pub full : r ≡ Full → (count ≡ limit) × (ws′ ≡ ws) × (heads′ ≡ heads)

@@ -1,0 +1,71 @@
+-- The pairs of rows that a combination reaches (document 01, section 'Combination'), in the order in which a walk finishes them.
+use mathlib.Core.Bool.{Bool, true, false, cond, _&&_}
+use mathlib.Core.Path.{_≡_}
+use mathlib.Core.List.{List, [], _∷_, _++_}
+use Prim.Native.Nat.{ℕ, zero, suc, _+_, _*_, _<_, _≤_}
+use lib.ListN.{length}
+use lib.Dec.{eqb, leb}
+use Rattle.basics.specs.Members.{mem}
+use Rattle.label.specs.Limits.{leafMark}
+use Rattle.diagram.specs.Words.{labelAt, highAt, lowAt}
+
+-- a row of the first operand and a row of the second
+abbrev pub Pair : Type 0
+Pair = ℕ × ℕ
+
+unfoldable pub samePair : Pair → Pair → Bool
+samePair p q = eqb (p .0) (q .0) && eqb (p .1) (q .1)
+
+-- both rows are leaves
+unfoldable pub isEnd : List ℕ → List ℕ → Pair → Bool
+isEnd x y p = eqb (labelAt x (p .0)) leafMark && eqb (labelAt y (p .1)) leafMark
+
+unfoldable pub lesser : ℕ → ℕ → ℕ
+lesser a b = cond (leb a b) a b
+
+-- the lower label of the two; a leaf's mark is above every label
+unfoldable pub pairLabel : List ℕ → List ℕ → Pair → ℕ
+pairLabel x y p = lesser (labelAt x (p .0)) (labelAt y (p .1))
+
+-- "descend by true and by false in every operand whose label is the lower one, in both if equal"
+unfoldable pub descend : (List ℕ → ℕ → ℕ) → List ℕ → List ℕ → Pair → Pair
+descend child x y p =
+    (cond (leb (labelAt x (p .0)) (labelAt y (p .1))) (child x (p .0)) (p .0), cond (leb (labelAt y (p .1)) (labelAt x (p .0))) (child y (p .1)) (p .1))
+
+abbrev pub onHigh : List ℕ → List ℕ → Pair → Pair
+onHigh x y p = descend highAt x y p
+
+abbrev pub onLow : List ℕ → List ℕ → Pair → Pair
+onLow x y p = descend lowAt x y p
+
+-- the pairs that a walk from p finishes, true branch first, after those of `done`; it goes at most `depth` pairs deep
+unfoldable pub finishPairs : List ℕ → List ℕ → ℕ → Pair → List Pair → List Pair
+finishPairs x y zero p done = done
+finishPairs x y (suc depth) p done = elim (mem samePair p done) [
+  | true ↦ done
+  | false ↦ elim (isEnd x y p) [
+    | true ↦ done ++ (p ∷ [])
+    | false ↦ finishPairs x y depth (onLow x y p) (finishPairs x y depth (onHigh x y p) done) ++ (p ∷ [])
+  ]
+]
+
+-- the same, as deep as it goes: each step is to an earlier row of an operand
+unfoldable pub walked : List ℕ → List ℕ → Pair → List Pair → List Pair
+walked x y p done = finishPairs x y (suc (p .0 + p .1)) p done
+
+-- rows on either side at most: those of a working space
+abbrev pub mostRows : ℕ
+mostRows = 2048
+
+-- the rows of x up to row i are there and lead down: a branch's children are earlier rows, and no label is above a leaf's mark
+pub record Leads (x : List ℕ) (i : ℕ) : Type 0 where
+  pub room : i * 3 + 3 ≤ length x
+  pub few : i < mostRows
+  pub most : (k : ℕ) → k ≤ i → labelAt x k ≤ leafMark
+  pub high : (k : ℕ) → k ≤ i → (labelAt x k ≡ leafMark → ⊥) → highAt x k < k
+  pub low : (k : ℕ) → k ≤ i → (labelAt x k ≡ leafMark → ⊥) → lowAt x k < k
+
+-- the rows of x and y up to those of the pair p do
+pub record Leading (x y : List ℕ) (p : Pair) : Type 0 where
+  pub first : Leads x (p .0)
+  pub second : Leads y (p .1)

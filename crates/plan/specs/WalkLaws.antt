@@ -1,0 +1,355 @@
+-- Laws of the walk of pairs: where a step leads, one step of the walk, that it only adds, what it adds, that it adds no pair twice, and that its depth does not matter.
+use mathlib.Core.Bool.{Bool, true, false, cond, _&&_, _||_, or-false}
+use mathlib.Core.Path.{_≡_, refl, sym, ap, subst, _∙_}
+use mathlib.Core.Logic.{_⊎_, inl, inr, ⊎-elim}
+use mathlib.Core.List.{List, [], _∷_, _++_, append-nil, append-assoc}
+use Prim.Native.Nat.{ℕ, zero, suc, _+_, _*_, _<_, _≤_}
+use native.Mathlib.Omega.{arith}
+use borrow.Author.Tests.{eqb-true, eqb-false, eq-eqb, ne-eqb, le-leb, lt-leb}
+use lib.ListN.{length, getD, length-append, List·getD-append}
+use lib.Dec.{eqb, leb}
+use Rattle.basics.specs.Tests.{Cmp, below, equal, above, cmp, Flag, isTrue, isFalse, flag, Either, one, other, either, and-left, and-right, or-one, or-other}
+use Rattle.basics.specs.Members.{IsTest, mem, NoDup, mem-append, clash}
+use Rattle.label.specs.Limits.{leafMark}
+use Rattle.diagram.specs.Words.{labelAt, highAt, lowAt}
+use Rattle.plan.specs.Walk.{Pair, samePair, isEnd, lesser, pairLabel, descend, onHigh, onLow, finishPairs, walked, mostRows, Leads, Leading}
+
+-- pairs
+pub pair-ext : (p q : Pair) → p .0 ≡ q .0 → p .1 ≡ q .1 → p ≡ q
+pair-ext p q a b = λ t. (a t, b t)
+
+pub pair-test : IsTest samePair
+unfolding samePair
+pair-test = record {
+  sound = λ p q e. pair-ext p q (eqb-true _ _ (and-left _ _ e)) (eqb-true _ _ (and-right (eqb (p .0) (q .0)) _ e));
+  complete = λ p. rw (eq-eqb (p .0) (p .0) refl, eq-eqb (p .1) (p .1) refl);
+}
+
+-- a pair that is the other one backwards
+pair-turned : (p q : Pair) → samePair p q ≡ false → samePair q p ≡ false
+pair-turned p q e = go (flag (samePair q p))
+  where
+    go : Flag (samePair q p) → samePair q p ≡ false
+    go (isTrue h) = clash (subst (λ (z : Pair). samePair p z ≡ true) (sym (pair-test .sound q p h)) (pair-test .complete p)) e
+    go (isFalse h) = h
+
+-- the lesser of two numbers
+pub lesser-le : (a b : ℕ) → a ≤ b → lesser a b ≡ a
+unfolding lesser
+lesser-le a b h = rw (le-leb a b h)
+
+pub lesser-gt : (a b : ℕ) → b < a → lesser a b ≡ b
+unfolding lesser
+lesser-gt a b h = rw (lt-leb a b h)
+
+-- when a pair is an end
+module _ (x y : List ℕ) (p : Pair) where
+  pub end-leaves : isEnd x y p ≡ true → (labelAt x (p .0) ≡ leafMark) × (labelAt y (p .1) ≡ leafMark)
+  unfolding isEnd
+  end-leaves e = (eqb-true _ _ (and-left _ _ e), eqb-true _ _ (and-right (eqb (labelAt x (p .0)) leafMark) _ e))
+
+  pub leaves-end : labelAt x (p .0) ≡ leafMark → labelAt y (p .1) ≡ leafMark → isEnd x y p ≡ true
+  unfolding isEnd
+  leaves-end a b = rw (eq-eqb (labelAt x (p .0)) leafMark a, eq-eqb (labelAt y (p .1)) leafMark b)
+
+  pub branch-one : isEnd x y p ≡ false → labelAt x (p .0) ≡ leafMark → labelAt y (p .1) ≡ leafMark → ⊥
+  branch-one e a b = clash (leaves-end a b) e
+
+  pub one-branch : (labelAt x (p .0) ≡ leafMark → labelAt y (p .1) ≡ leafMark → ⊥) → isEnd x y p ≡ false
+  one-branch f = go (flag (isEnd x y p))
+    where
+      go : Flag (isEnd x y p) → isEnd x y p ≡ false
+      go (isTrue h) = absurd (f (end-leaves h .0) (end-leaves h .1))
+      go (isFalse h) = h
+
+  -- the label of an end is a leaf's mark, and so is no other's
+  pub end-label : isEnd x y p ≡ true → pairLabel x y p ≡ leafMark
+  unfolding pairLabel
+  end-label e = rw (end-leaves e .0, end-leaves e .1) (lesser-le leafMark leafMark (omega arith))
+
+-- where a pair leads
+module _ (child : List ℕ → ℕ → ℕ) (x y : List ℕ) (p : Pair) where
+  pub descend-first : labelAt x (p .0) < labelAt y (p .1) → descend child x y p ≡ (child x (p .0), p .1)
+  unfolding descend
+  descend-first h = rw (le-leb (labelAt x (p .0)) (labelAt y (p .1)) (omega arith), lt-leb (labelAt y (p .1)) (labelAt x (p .0)) h)
+
+  pub descend-second : labelAt y (p .1) < labelAt x (p .0) → descend child x y p ≡ (p .0, child y (p .1))
+  unfolding descend
+  descend-second h = rw (lt-leb (labelAt x (p .0)) (labelAt y (p .1)) h, le-leb (labelAt y (p .1)) (labelAt x (p .0)) (omega arith))
+
+  pub descend-both : labelAt x (p .0) ≡ labelAt y (p .1) → descend child x y p ≡ (child x (p .0), child y (p .1))
+  unfolding descend
+  descend-both h = rw (le-leb (labelAt x (p .0)) (labelAt y (p .1)) (omega arith), le-leb (labelAt y (p .1)) (labelAt x (p .0)) (omega arith))
+
+-- q has no later row than p on either side
+pub record Under (q p : Pair) : Type 0 where
+  pub first : q .0 ≤ p .0
+  pub second : q .1 ≤ p .1
+
+pub record Below (q p : Pair) : Type 0 where
+  pub under : Under q p
+  pub less : q .0 + q .1 < p .0 + p .1
+
+pub under-trans : {p q r : Pair} → Under p q → Under q r → Under p r
+under-trans a b = record { first = omega (arith, a .first, b .first); second = omega (arith, a .second, b .second) }
+
+pub leads-under : {x : List ℕ} {i k : ℕ} → Leads x i → k ≤ i → Leads x k
+leads-under {x} {i} {k} a h = record {
+  room = omega (arith, a .room);
+  few = omega (arith, a .few);
+  most = λ n l. a .most n (omega arith);
+  high = λ n l. a .high n (omega arith);
+  low = λ n l. a .low n (omega arith);
+}
+
+pub leading-under : {x y : List ℕ} {p q : Pair} → Leading x y p → Under q p → Leading x y q
+leading-under a u = record { first = leads-under (a .first) (u .first); second = leads-under (a .second) (u .second) }
+
+module _ (x y : List ℕ) (p : Pair) (a : Leading x y p) (e : isEnd x y p ≡ false) where
+  descend-below : (child : List ℕ → ℕ → ℕ) → ((labelAt x (p .0) ≡ leafMark → ⊥) → child x (p .0) < p .0) → ((labelAt y (p .1) ≡ leafMark → ⊥) → child y (p .1) < p .1)
+      → Below (descend child x y p) p
+  descend-below child f g = go (cmp (labelAt x (p .0)) (labelAt y (p .1)))
+    where
+      made : (q : Pair) → descend child x y p ≡ q → Below q p → Below (descend child x y p) p
+      made q d b = subst (λ (z : Pair). Below z p) (sym d) b
+
+      go : Cmp (labelAt x (p .0)) (labelAt y (p .1)) → Below (descend child x y p) p
+      go (below h) =
+          let c : child x (p .0) < p .0 = f (λ l. omega (arith, a .second .most (p .1) (omega arith))) in
+          made _ (descend-first child x y p h) (record { under = record { first = omega arith; second = omega arith }; less = omega arith })
+      go (above h) =
+          let c : child y (p .1) < p .1 = g (λ l. omega (arith, a .first .most (p .0) (omega arith))) in
+          made _ (descend-second child x y p h) (record { under = record { first = omega arith; second = omega arith }; less = omega arith })
+      go (equal h) =
+          let c : child x (p .0) < p .0 = f (λ l. branch-one x y p e l (sym h ∙ l)) in
+          let d : child y (p .1) < p .1 = g (λ l. branch-one x y p e (h ∙ l) l) in
+          made _ (descend-both child x y p h) (record { under = record { first = omega arith; second = omega arith }; less = omega arith })
+
+  pub high-below : Below (onHigh x y p) p
+  high-below = descend-below highAt (a .first .high (p .0) (omega arith)) (a .second .high (p .1) (omega arith))
+
+  pub low-below : Below (onLow x y p) p
+  low-below = descend-below lowAt (a .first .low (p .0) (omega arith)) (a .second .low (p .1) (omega arith))
+
+  pub high-leading : Leading x y (onHigh x y p)
+  high-leading = leading-under a (high-below .under)
+
+  pub low-leading : Leading x y (onLow x y p)
+  low-leading = leading-under a (low-below .under)
+
+  -- only an end has a leaf's mark for its label
+  pub branch-label : pairLabel x y p < leafMark
+  unfolding pairLabel
+  branch-label = go (cmp (labelAt x (p .0)) (labelAt y (p .1)))
+    where
+      i : labelAt x (p .0) ≤ leafMark
+      i = a .first .most (p .0) (omega arith)
+
+      j : labelAt y (p .1) ≤ leafMark
+      j = a .second .most (p .1) (omega arith)
+
+      go : Cmp (labelAt x (p .0)) (labelAt y (p .1)) → lesser (labelAt x (p .0)) (labelAt y (p .1)) < leafMark
+      go (below h) = omega (arith, j, lesser-le (labelAt x (p .0)) (labelAt y (p .1)) (omega arith))
+      go (above h) = omega (arith, i, lesser-gt (labelAt x (p .0)) (labelAt y (p .1)) h)
+      go (equal h) = go′ (cmp (labelAt x (p .0)) leafMark)
+        where
+          go′ : Cmp (labelAt x (p .0)) leafMark → lesser (labelAt x (p .0)) (labelAt y (p .1)) < leafMark
+          go′ (below l) = omega (arith, lesser-le (labelAt x (p .0)) (labelAt y (p .1)) (omega arith))
+          go′ (equal l) = absurd (branch-one x y p e l (sym h ∙ l))
+          go′ (above l) = absurd (omega (arith, i))
+
+-- one step of the walk
+module _ (x y : List ℕ) (depth : ℕ) (p : Pair) (done : List Pair) where
+  pub finish-old : mem samePair p done ≡ true → finishPairs x y (suc depth) p done ≡ done
+  unfolding finishPairs
+  finish-old m = rw (m, finishPairs)
+
+  pub finish-end : mem samePair p done ≡ false → isEnd x y p ≡ true → finishPairs x y (suc depth) p done ≡ done ++ (p ∷ [])
+  unfolding finishPairs
+  finish-end m e = rw (m, e, finishPairs)
+
+  pub finish-branch : mem samePair p done ≡ false → isEnd x y p ≡ false
+      → finishPairs x y (suc depth) p done ≡ finishPairs x y depth (onLow x y p) (finishPairs x y depth (onHigh x y p) done) ++ (p ∷ [])
+  unfolding finishPairs
+  finish-branch m e = rw (m, e, finishPairs)
+
+-- the walk only adds
+pub record Extends (done ps : List Pair) : Type 0 where
+  pub rest : List Pair
+  pub is : ps ≡ done ++ rest
+
+pub extends-same : (done : List Pair) → Extends done done
+extends-same done = record { rest = []; is = sym (append-nil done) }
+
+pub extends-more : {a b : List Pair} (l : List Pair) → Extends a b → Extends a (b ++ l)
+extends-more {a} {b} l e = record { rest = e .rest ++ l; is = ap (λ (z : List Pair). z ++ l) (e .is) ∙ append-assoc a (e .rest) l }
+
+pub extends-trans : {a b c : List Pair} → Extends a b → Extends b c → Extends a c
+extends-trans {a} {b} {c} e f = subst (Extends a) (sym (f .is)) (extends-more (f .rest) e)
+
+module _ {done ps : List Pair} (e : Extends done ps) where
+  pub extends-length : length done ≤ length ps
+  extends-length = omega (arith, ap length (e .is), length-append done (e .rest))
+
+  pub extends-getD : (o : Pair) (k : ℕ) → k < length done → getD ps k o ≡ getD done k o
+  extends-getD o k h = ap (λ (l : List Pair). getD l k o) (e .is) ∙ List·getD-append done (e .rest) o k h
+
+  pub extends-mem : (q : Pair) → mem samePair q done ≡ true → mem samePair q ps ≡ true
+  extends-mem q h = ap (mem samePair q) (e .is) ∙ mem-append samePair q done (e .rest) ∙ or-one _ _ h
+
+pub finish-extends : (x y : List ℕ) (depth : ℕ) (p : Pair) (done : List Pair) → Extends done (finishPairs x y depth p done)
+unfolding finishPairs
+finish-extends x y zero p done = extends-same done
+finish-extends x y (suc depth) p done =
+    go (flag (mem samePair p done)) (flag (isEnd x y p)) (finish-extends x y depth (onHigh x y p) done)
+    (finish-extends x y depth (onLow x y p) (finishPairs x y depth (onHigh x y p) done))
+  where
+    go : Flag (mem samePair p done) → Flag (isEnd x y p) → Extends done (finishPairs x y depth (onHigh x y p) done)
+        → Extends (finishPairs x y depth (onHigh x y p) done) (finishPairs x y depth (onLow x y p) (finishPairs x y depth (onHigh x y p) done))
+        → Extends done (finishPairs x y (suc depth) p done)
+    go (isTrue m) e a b = subst (Extends done) (sym (finish-old x y depth p done m)) (extends-same done)
+    go (isFalse m) (isTrue e) a b = subst (Extends done) (sym (finish-end x y depth p done m e)) (extends-more _ (extends-same done))
+    go (isFalse m) (isFalse e) a b = subst (Extends done) (sym (finish-branch x y depth p done m e)) (extends-more _ (extends-trans a b))
+
+-- membership of a list with one more pair
+pub mem-last : (p : Pair) (l : List Pair) → mem samePair p (l ++ (p ∷ [])) ≡ true
+mem-last p l = mem-append samePair p l (p ∷ []) ∙ or-other (mem samePair p l) _ (or-one _ _ (pair-test .complete p))
+
+pub mem-more : (q p : Pair) (l : List Pair) → mem samePair q (l ++ (p ∷ [])) ≡ true → (mem samePair q l ≡ true) ⊎ (q ≡ p)
+mem-more q p l h = go (either (mem samePair q l) (samePair q p || false) (sym (mem-append samePair q l (p ∷ [])) ∙ h))
+  where
+    go : Either (mem samePair q l) (samePair q p || false) → (mem samePair q l ≡ true) ⊎ (q ≡ p)
+    go (one e) = inl e
+    go (other e) = inr (pair-test .sound q p (sym (or-false (samePair q p)) ∙ e))
+
+-- every pair that it adds has no later rows than the pair where it starts
+pub finish-members : (x y : List ℕ) (depth : ℕ) (p : Pair) (done : List Pair) → Leading x y p → (q : Pair) → mem samePair q (finishPairs x y depth p done) ≡ true
+    → (mem samePair q done ≡ true) ⊎ Under q p
+unfolding finishPairs
+finish-members x y zero p done a q h = inl h
+finish-members x y (suc depth) p done a q h =
+    go (flag (mem samePair p done)) (flag (isEnd x y p)) (λ a q. finish-members x y depth (onHigh x y p) done a q)
+    (λ a q. finish-members x y depth (onLow x y p) (finishPairs x y depth (onHigh x y p) done) a q)
+  where
+    self : (l : List Pair) → (mem samePair q l ≡ true → (mem samePair q done ≡ true) ⊎ Under q p) → mem samePair q (l ++ (p ∷ [])) ≡ true
+        → (mem samePair q done ≡ true) ⊎ Under q p
+    self l f k = ⊎-elim f (λ (e : q ≡ p). inr (record { first = omega (arith, ap (λ (z : Pair). z .0) e); second = omega (arith, ap (λ (z : Pair). z .1) e) })) (mem-more q p l k)
+
+    go : Flag (mem samePair p done) → Flag (isEnd x y p)
+        → (Leading x y (onHigh x y p) → (q : Pair) → mem samePair q (finishPairs x y depth (onHigh x y p) done) ≡ true → (mem samePair q done ≡ true) ⊎ Under q (onHigh x y p))
+        → (Leading x y (onLow x y p) → (q : Pair) → mem samePair q (finishPairs x y depth (onLow x y p) (finishPairs x y depth (onHigh x y p) done)) ≡ true
+        → (mem samePair q (finishPairs x y depth (onHigh x y p) done) ≡ true) ⊎ Under q (onLow x y p))
+        → (mem samePair q done ≡ true) ⊎ Under q p
+    go (isTrue m) e u v = inl (subst (λ (l : List Pair). mem samePair q l ≡ true) (finish-old x y depth p done m) h)
+    go (isFalse m) (isTrue e) u v = self done inl (subst (λ (l : List Pair). mem samePair q l ≡ true) (finish-end x y depth p done m e) h)
+    go (isFalse m) (isFalse e) u v =
+        self (finishPairs x y depth (onLow x y p) (finishPairs x y depth (onHigh x y p) done))
+        (λ k. ⊎-elim (λ i. ⊎-elim inl (λ j. inr (under-trans j (high-below x y p a e .under))) (u (high-leading x y p a e) q i))
+        (λ j. inr (under-trans j (low-below x y p a e .under))) (v (low-leading x y p a e) q k))
+        (subst (λ (l : List Pair). mem samePair q l ≡ true) (finish-branch x y depth p done m e) h)
+
+-- a branch pair that is not there is not there after the walks from its successors
+pub finish-fresh : (x y : List ℕ) (f g : ℕ) (p : Pair) (done : List Pair) → Leading x y p → isEnd x y p ≡ false → mem samePair p done ≡ false
+    → mem samePair p (finishPairs x y f (onLow x y p) (finishPairs x y g (onHigh x y p) done)) ≡ false
+finish-fresh x y f g p done a e m = go (flag (mem samePair p (finishPairs x y f (onLow x y p) (finishPairs x y g (onHigh x y p) done))))
+  where
+    not-under : (q : Pair) → Below q p → Under p q → ⊥
+    not-under q b u = omega (arith, b .less, u .first, u .second)
+
+    go : Flag (mem samePair p (finishPairs x y f (onLow x y p) (finishPairs x y g (onHigh x y p) done)))
+        → mem samePair p (finishPairs x y f (onLow x y p) (finishPairs x y g (onHigh x y p) done)) ≡ false
+    go (isTrue h) =
+        absurd (⊎-elim
+        (λ k. ⊎-elim (λ (i : mem samePair p done ≡ true). clash i m) (not-under (onHigh x y p) (high-below x y p a e))
+        (finish-members x y g (onHigh x y p) done (high-leading x y p a e) p k))
+        (not-under (onLow x y p) (low-below x y p a e))
+        (finish-members x y f (onLow x y p) (finishPairs x y g (onHigh x y p) done) (low-leading x y p a e) p h))
+    go (isFalse h) = h
+
+-- no pair twice
+pub nodup-more : (p : Pair) (l : List Pair) → NoDup samePair l → mem samePair p l ≡ false → NoDup samePair (l ++ (p ∷ []))
+nodup-more p [] d m = (refl, tt)
+nodup-more p (q ∷ l) d m = go (flag (samePair p q)) (flag (mem samePair p l)) (nodup-more p l (d .1))
+  where
+    go : Flag (samePair p q) → Flag (mem samePair p l) → (mem samePair p l ≡ false → NoDup samePair (l ++ (p ∷ []))) → NoDup samePair ((q ∷ l) ++ (p ∷ []))
+    go (isTrue e) n u = clash (or-one (samePair p q) (mem samePair p l) e) m
+    go (isFalse e) (isTrue n) u = clash (or-other (samePair p q) (mem samePair p l) n) m
+    go (isFalse e) (isFalse n) u = (mem-append samePair q l (p ∷ []) ∙ rw (d .0, pair-turned p q e), u n)
+
+pub finish-nodup : (x y : List ℕ) (depth : ℕ) (p : Pair) (done : List Pair) → Leading x y p → NoDup samePair done → NoDup samePair (finishPairs x y depth p done)
+unfolding finishPairs
+finish-nodup x y zero p done a d = d
+finish-nodup x y (suc depth) p done a d =
+    go (flag (mem samePair p done)) (flag (isEnd x y p)) (λ b. finish-nodup x y depth (onHigh x y p) done b d)
+    (λ b k. finish-nodup x y depth (onLow x y p) (finishPairs x y depth (onHigh x y p) done) b k)
+  where
+    go : Flag (mem samePair p done) → Flag (isEnd x y p) → (Leading x y (onHigh x y p) → NoDup samePair (finishPairs x y depth (onHigh x y p) done))
+        → (Leading x y (onLow x y p) → NoDup samePair (finishPairs x y depth (onHigh x y p) done)
+        → NoDup samePair (finishPairs x y depth (onLow x y p) (finishPairs x y depth (onHigh x y p) done)))
+        → NoDup samePair (finishPairs x y (suc depth) p done)
+    go (isTrue m) e u v = subst (NoDup samePair) (sym (finish-old x y depth p done m)) d
+    go (isFalse m) (isTrue e) u v = subst (NoDup samePair) (sym (finish-end x y depth p done m e)) (nodup-more p done d m)
+    go (isFalse m) (isFalse e) u v =
+        subst (NoDup samePair) (sym (finish-branch x y depth p done m e))
+        (nodup-more p (finishPairs x y depth (onLow x y p) (finishPairs x y depth (onHigh x y p) done)) (v (low-leading x y p a e) (u (high-leading x y p a e))) (finish-fresh x y depth depth p done a e m))
+
+-- any depth above the sum of the pair's rows will do
+pub finish-depth : (x y : List ℕ) (f g : ℕ) (p : Pair) (done : List Pair) → Leading x y p → p .0 + p .1 < f → p .0 + p .1 < g → finishPairs x y f p done ≡ finishPairs x y g p done
+finish-depth x y zero g p done a lf lg = absurd (omega arith)
+finish-depth x y (suc f) zero p done a lf lg = absurd (omega arith)
+finish-depth x y (suc f) (suc g) p done a lf lg = go (flag (mem samePair p done)) (flag (isEnd x y p)) (λ q l. finish-depth x y f g q l)
+  where
+    go : Flag (mem samePair p done) → Flag (isEnd x y p)
+        → ((q : Pair) (l : List Pair) → Leading x y q → q .0 + q .1 < f → q .0 + q .1 < g → finishPairs x y f q l ≡ finishPairs x y g q l)
+        → finishPairs x y (suc f) p done ≡ finishPairs x y (suc g) p done
+    go (isTrue m) e u = finish-old x y f p done m ∙ sym (finish-old x y g p done m)
+    go (isFalse m) (isTrue e) u = finish-end x y f p done m e ∙ sym (finish-end x y g p done m e)
+    go (isFalse m) (isFalse e) u =
+        let b : onHigh x y p .0 + onHigh x y p .1 < p .0 + p .1 = high-below x y p a e .less in
+        let c : onLow x y p .0 + onLow x y p .1 < p .0 + p .1 = low-below x y p a e .less in
+        finish-branch x y f p done m e
+        ∙ ap (λ (l : List Pair). l ++ (p ∷ [])) (ap (finishPairs x y f (onLow x y p)) (u (onHigh x y p) done (high-leading x y p a e) (omega arith) (omega arith))
+        ∙ u (onLow x y p) (finishPairs x y g (onHigh x y p) done) (low-leading x y p a e) (omega arith) (omega arith))
+        ∙ sym (finish-branch x y g p done m e)
+
+-- the walk as deep as it goes
+module _ (x y : List ℕ) (p : Pair) (done : List Pair) where
+  pub walked-old : mem samePair p done ≡ true → walked x y p done ≡ done
+  unfolding walked
+  walked-old m = finish-old x y (p .0 + p .1) p done m
+
+  pub walked-end : mem samePair p done ≡ false → isEnd x y p ≡ true → walked x y p done ≡ done ++ (p ∷ [])
+  unfolding walked
+  walked-end m e = finish-end x y (p .0 + p .1) p done m e
+
+  pub walked-branch : Leading x y p → mem samePair p done ≡ false → isEnd x y p ≡ false
+      → walked x y p done ≡ walked x y (onLow x y p) (walked x y (onHigh x y p) done) ++ (p ∷ [])
+  unfolding walked
+  walked-branch a m e =
+      let b : onHigh x y p .0 + onHigh x y p .1 < p .0 + p .1 = high-below x y p a e .less in
+      let c : onLow x y p .0 + onLow x y p .1 < p .0 + p .1 = low-below x y p a e .less in
+      finish-branch x y (p .0 + p .1) p done m e
+      ∙ ap (λ (l : List Pair). l ++ (p ∷ []))
+      (ap (finishPairs x y (p .0 + p .1) (onLow x y p))
+      (finish-depth x y (p .0 + p .1) (suc (onHigh x y p .0 + onHigh x y p .1)) (onHigh x y p) done (high-leading x y p a e) b (omega arith))
+      ∙ finish-depth x y (p .0 + p .1) (suc (onLow x y p .0 + onLow x y p .1)) (onLow x y p) (walked x y (onHigh x y p) done) (low-leading x y p a e) c (omega arith))
+
+  pub walked-depth : (depth : ℕ) → Leading x y p → p .0 + p .1 < depth → finishPairs x y depth p done ≡ walked x y p done
+  unfolding walked
+  walked-depth depth a h = finish-depth x y depth (suc (p .0 + p .1)) p done a h (omega arith)
+
+  pub walked-extends : Extends done (walked x y p done)
+  unfolding walked
+  walked-extends = finish-extends x y (suc (p .0 + p .1)) p done
+
+  pub walked-members : Leading x y p → (q : Pair) → mem samePair q (walked x y p done) ≡ true → (mem samePair q done ≡ true) ⊎ Under q p
+  unfolding walked
+  walked-members a q h = finish-members x y (suc (p .0 + p .1)) p done a q h
+
+  pub walked-nodup : Leading x y p → NoDup samePair done → NoDup samePair (walked x y p done)
+  unfolding walked
+  walked-nodup a d = finish-nodup x y (suc (p .0 + p .1)) p done a d
+
+  pub walked-fresh : Leading x y p → isEnd x y p ≡ false → mem samePair p done ≡ false → mem samePair p (walked x y (onLow x y p) (walked x y (onHigh x y p) done)) ≡ false
+  unfolding walked
+  walked-fresh a e m = finish-fresh x y _ _ p done a e m
