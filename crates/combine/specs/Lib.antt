@@ -1,0 +1,4 @@
+pub mod Callers
+pub mod RowPairs
+pub mod Results
+pub mod ResultLaws

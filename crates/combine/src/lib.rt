@@ -1,0 +1,88 @@
+// Combination of two diagrams: the plan's leaves checked, its rows formed, the result written.
+use apply::Operation;
+ghost use mathlib.Core.Path.{_≡_};
+ghost use Prim.Native.Nat.{ℕ, _+_, _*_, _<_, _≤_, max};
+ghost use lib.ListN.{length};
+ghost use lib.Dec.{ltb};
+ghost use Rattle.diagram.specs.Sizes.{highestValue};
+ghost use Rattle.apply.specs.Combination.{operate};
+ghost use Rattle.combine.specs.Results.{exceedsAt, exceeds, Sound, SoundAt};
+ghost use Rattle.combine.specs.Callers.{Values, Calm};
+
+// Both factors up to this have a product of at most 10^18.
+const SMALL: u64 = 1000000000;
+
+// Whether the product of two values is above 10^18.
+fn product_too_high(v: u64, w: u64) -> bool
+    requires { ⌜ Values v w ⌝ }
+    ensures { λ r. ⌜ r ≡ ltb highestValue (v * w) ⌝ }
+{
+    if v <= SMALL {
+        if w <= SMALL {
+            return false;
+        }
+    }
+    if v == 0 {
+        return false;
+    }
+    w > diagram::VALUE / v
+}
+
+// Whether the result of two leaves is above 10^18.
+fn too_high(op: Operation, v: u64, w: u64) -> bool
+    requires { ⌜ Values v w ⌝ }
+    ensures { λ r. ⌜ r ≡ ltb highestValue (operate op v w) ⌝ }
+{
+    match op {
+        Operation::Sum => v + w > diagram::VALUE,
+        Operation::Product => product_too_high(v, w),
+        Operation::Max => false,
+    }
+}
+
+// The result of two leaves, which is not above 10^18.
+fn result(op: Operation, v: u64, w: u64) -> u64
+    requires { ⌜ Calm op v w ⌝ }
+    ensures { λ r. ⌜ r ≡ operate op v w ⌝ }
+{
+    match op {
+        Operation::Sum => v + w,
+        Operation::Product => v * w,
+        Operation::Max => greater(v, w),
+    }
+}
+
+fn greater(v: u64, w: u64) -> u64
+    ensures { λ r. ⌜ r ≡ max v w ⌝ }
+{
+    if v < w {
+        return w;
+    }
+    v
+}
+
+// Whether entry k of the plan is a pair of leaves whose result is above 10^18.
+fn too_high_at(plan: &[u64], n: usize, k: usize, op: Operation) -> bool
+    requires { ⌜ SoundAt (now plan) n k ⌝ }
+    ensures { λ r. ⌜ r ≡ exceedsAt (operate op) (now (plan .entry)) k ⌝ }
+{
+    if plan[k * 5 + 2] != label::Label::LEAF {
+        return false;
+    }
+    too_high(op, plan[k * 5 + 3], plan[k * 5 + 4])
+}
+
+// Whether a pair of leaves among the first n pairs of the plan has a result above 10^18.
+fn overflow(plan: &[u64], n: usize, op: Operation) -> bool
+    requires { ⌜ Sound (now plan) n ⌝ }
+    ensures { λ r. ⌜ r ≡ exceeds (operate op) (now (plan .entry)) n ⌝ }
+{
+    let mut k = 0;
+    while k < n {
+        if too_high_at(plan, n, k, op) {
+            return true;
+        }
+        k += 1;
+    }
+    false
+}
