@@ -2,3 +2,5 @@ pub mod Callers
 pub mod RowPairs
 pub mod Results
 pub mod ResultLaws
+pub mod Paired
+pub mod PairedLaws

@@ -75,7 +75,7 @@ pub exceeds-more : (op : ℕ → ℕ → ℕ) (ws : List ℕ) (k : ℕ) → exce
 unfolding exceeds
 exceeds-more op ws k = refl
 
-getD-map : {A B : Type 0} (f : A → B) (xs : List A) (k : ℕ) (d : A) (e : B) → k < length xs → getD (map f xs) k e ≡ f (getD xs k d)
+pub getD-map : {A B : Type 0} (f : A → B) (xs : List A) (k : ℕ) (d : A) (e : B) → k < length xs → getD (map f xs) k e ≡ f (getD xs k d)
 getD-map f [] k d e h = absurd (omega arith)
 getD-map f (x ∷ xs) zero d e h = refl
 getD-map f (x ∷ xs) (suc k) d e h = getD-map f xs k d e (omega arith)

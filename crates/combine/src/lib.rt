@@ -86,3 +86,10 @@ fn overflow(plan: &[u64], n: usize, op: Operation) -> bool
     }
     false
 }
+
+// What pairing up answers: the pairs of the plan, that they are too many, or that a pair of leaves has a result above 10^18.
+pub enum Paired {
+    Pairs(usize),
+    TooMany,
+    TooHigh,
+}
