@@ -1,0 +1,2 @@
+-- The working space (document 01, section 'Combination').
+pub mod Space
