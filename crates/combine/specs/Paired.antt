@@ -16,7 +16,8 @@ use Rattle.apply.specs.Formed.{ClosedRows}
 use Rattle.plan.specs.Walk.{Leading}
 use Rattle.plan.specs.Plan.{Plan, Clean}
 use Rattle.combine.specs.RowPairs.{Operand}
-use Rattle.combine.specs.Results.{results, addAll, exceeds, Sound}
+use Rattle.combine.specs.Results.{results, exceeds, Sound}
+use Rattle.store.specs.Space.{addAll}
 use Rattle.combine.specs.declared.Paired.{Paired}
 use Rattle.combine.specs.declared.Paired.the-variants.{Pairs, TooMany, TooHigh}
 

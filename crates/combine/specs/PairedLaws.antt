@@ -30,7 +30,8 @@ use Rattle.plan.specs.PlanLaws.{plan-touched}
 use Rattle.plan.specs.declared.Went.{Went}
 use Rattle.plan.specs.declared.Went.the-variants.{To, Full}
 use Rattle.combine.specs.RowPairs.{Operand, AllInside, pairTree, agrees}
-use Rattle.combine.specs.Results.{results, addAll, exceeds, Sound}
+use Rattle.combine.specs.Results.{results, exceeds, Sound}
+use Rattle.store.specs.Space.{addAll}
 use Rattle.combine.specs.ResultLaws.{pairResult, results-are, added-formed, exceeds-are, plan-sound, getD-map}
 use Rattle.combine.specs.Paired.{Pairable, pickPaired, pairAnswer, Forms, PairedUp}
 use Rattle.combine.specs.declared.Paired.{Paired}

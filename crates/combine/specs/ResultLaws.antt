@@ -25,7 +25,8 @@ use Rattle.plan.specs.Walk as rows
 use Rattle.plan.specs.WalkLaws.{end-label, branch-label, end-leaves}
 use Rattle.plan.specs.Plan.{pairLabelAt, firstAt, secondAt, origin, Plan, Entry, Branch, End}
 use Rattle.combine.specs.RowPairs.{Operand, Inside, AllInside, pairTree, Onward, onward, ending}
-use Rattle.combine.specs.Results.{pickDiagram, isEndAt, resultAt, results, addAll, exceedsAt, exceeds, Sound}
+use Rattle.combine.specs.Results.{isEndAt, resultAt, results, exceedsAt, exceeds, Sound}
+use Rattle.store.specs.Space.{addAll}
 
 -- the laws of these definitions
 pub end-at : (ws : List ℕ) (k : ℕ) → pairLabelAt ws k ≡ leafMark → isEndAt ws k ≡ true

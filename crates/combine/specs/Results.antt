@@ -9,12 +9,8 @@ use Rattle.label.specs.Limits.{leafMark}
 use Rattle.diagram.specs.Sizes.{highestValue}
 use Rattle.diagram.specs.Diagram.{Diagram, leaf, branch}
 use Rattle.apply.specs.Apply.{node}
-use Rattle.apply.specs.Formed.{add}
+use Rattle.store.specs.Space.{pickDiagram}
 use Rattle.plan.specs.Plan.{pairLabelAt, firstAt, secondAt}
-
-abbrev pub pickDiagram : Bool → Diagram → Diagram → Diagram
-pickDiagram true x y = x
-pickDiagram false x y = y
 
 -- entry k is an end: a pair of leaves
 unfoldable pub isEndAt : List ℕ → ℕ → Bool
@@ -30,11 +26,6 @@ resultAt op ws done k =
 unfoldable pub results : (ℕ → ℕ → ℕ) → List ℕ → ℕ → List Diagram
 results op ws zero = []
 results op ws (suc k) = results op ws k ++ (resultAt op ws (results op ws k) k ∷ [])
-
--- the rows rs with the diagrams ds added one after another
-unfoldable pub addAll : List Diagram → List Diagram → List Diagram
-addAll rs [] = rs
-addAll rs (d ∷ ds) = addAll (add d rs) ds
 
 -- some end among the first n entries has a result above 10^18
 unfoldable pub exceedsAt : (ℕ → ℕ → ℕ) → List ℕ → ℕ → Bool

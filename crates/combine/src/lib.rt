@@ -1,5 +1,6 @@
 // Combination of two diagrams: the plan's leaves checked, its rows formed, the result written.
 use apply::Operation;
+use store::Formed;
 ghost use mathlib.Core.Path.{_≡_};
 ghost use Prim.Native.Nat.{ℕ, _+_, _*_, _<_, _≤_, max};
 ghost use lib.ListN.{length};
@@ -7,7 +8,11 @@ ghost use lib.Dec.{ltb};
 ghost use Rattle.diagram.specs.Sizes.{highestValue};
 ghost use Rattle.apply.specs.Combination.{operate};
 ghost use Rattle.combine.specs.Results.{exceedsAt, exceeds, Sound, SoundAt};
-ghost use Rattle.combine.specs.Callers.{Values, Calm};
+ghost use Rattle.apply.specs.Formed.{add};
+ghost use Rattle.plan.specs.Plan.{pairLabelAt, firstAt, secondAt};
+ghost use Rattle.store.specs.Space.{diagramsOf, Holds, Formation};
+ghost use Rattle.combine.specs.Callers.{Values, Calm, EntryOf};
+ghost use Rattle.combine.specs.Forming.{entryAt, FormableAt};
 
 // Both factors up to this have a product of at most 10^18.
 const SMALL: u64 = 1000000000;
@@ -92,4 +97,53 @@ pub enum Paired {
     Pairs(usize),
     TooMany,
     TooHigh,
+}
+
+// The words of entry k of a plan of n entries: its label; its first and its second successor or value.
+fn label_at(plan: &[u64], n: usize, k: usize) -> u64
+    requires { ⌜ EntryOf (now plan) n k ⌝ }
+    ensures { λ r. ⌜ r ≡ pairLabelAt (now (plan .entry)) k ⌝ }
+{
+    plan[k * 5 + 2]
+}
+
+fn first_at(plan: &[u64], n: usize, k: usize) -> u64
+    requires { ⌜ EntryOf (now plan) n k ⌝ }
+    ensures { λ r. ⌜ r ≡ firstAt (now (plan .entry)) k ⌝ }
+{
+    plan[k * 5 + 3]
+}
+
+fn second_at(plan: &[u64], n: usize, k: usize) -> u64
+    requires { ⌜ EntryOf (now plan) n k ⌝ }
+    ensures { λ r. ⌜ r ≡ secondAt (now (plan .entry)) k ⌝ }
+{
+    plan[k * 5 + 4]
+}
+
+// Forms the row of entry k of the plan; the last word of each earlier entry is the number of its row.
+fn form_at(
+    plan: &[u64],
+    n: usize,
+    k: usize,
+    op: Operation,
+    space: &mut [u64],
+    heads: &mut [u16],
+    links: &mut [u16],
+    count: usize,
+) -> Formed
+    requires { ⌜ FormableAt op (now plan) n k count ⌝ }
+    requires { ⌜ Holds (now space) (now heads) (now links) count ⌝ }
+    ensures { λ r. ⌜ Formation (entryAt op (now (plan .entry)) (now (space .entry)) k) (add (entryAt op (now (plan .entry)) (now (space .entry)) k) (diagramsOf (now (space .entry)) count)) r (now (space .exit)) (now (heads .exit)) (now (links .exit)) ⌝ }
+{
+    let label = label_at(plan, n, k);
+    let first = first_at(plan, n, k);
+    let second = second_at(plan, n, k);
+    if label == label::Label::LEAF {
+        let value = result(op, first, second);
+        return store::leaf(space, heads, links, count, value);
+    }
+    let high = second_at(plan, n, first as usize) as usize;
+    let low = second_at(plan, n, second as usize) as usize;
+    store::branch(space, heads, links, count, label, high, low)
 }
