@@ -2,7 +2,7 @@
 use mathlib.Core.Path.{_≡_}
 use mathlib.Core.Bool.{Bool, true, false}
 use mathlib.Core.List.{List}
-use Prim.Native.Nat.{ℕ, _*_, _≤_, _<_}
+use Prim.Native.Nat.{ℕ, _*_, _-_, _≤_, _<_}
 use lib.ListN.{length, getD}
 use Rattle.label.specs.Limits.{leafMark}
 use Rattle.diagram.specs.Diagram.{Diagram, leaf}
@@ -13,7 +13,7 @@ use Rattle.apply.specs.Apply.{node}
 use Rattle.plan.specs.Plan.{pairLabelAt, firstAt, secondAt}
 use Rattle.store.specs.Space.{diagramsOf, Holds, addAll, pickDiagram}
 use Rattle.combine.specs.Callers.{Calm}
-use Rattle.combine.specs.Results.{isEndAt, results}
+use Rattle.combine.specs.Results.{isEndAt, results, exceeds, Sound}
 
 -- what entry k forms, once the last word of each earlier entry is the number of the row that it formed
 unfoldable pub entryAt : Operation → List ℕ → List ℕ → ℕ → Diagram
@@ -44,3 +44,13 @@ pub record Forming (op : Operation) (ws₀ : List ℕ) (rs : List Diagram) (ws :
   pub ahead : (j : ℕ) → k ≤ j → secondAt ws j ≡ secondAt ws₀ j
   pub number : (j : ℕ) → j < k → secondAt ws j < rows
   pub formed : (j : ℕ) → j < k → tree s (secondAt ws j) ≡ getD (results (operate op) ws₀ k) j (leaf 0)
+
+-- what `form` requires: entries that can be worked on, none of them with a result above 10^18
+pub record Formable (op : Operation) (ws : List ℕ) (n : ℕ) : Type 0 where
+  pub sound : Sound ws n
+  pub calm : exceeds (operate op) ws n ≡ false
+  pub some : 0 < n
+
+-- the last of the diagrams
+unfoldable pub lastOf : List Diagram → Diagram
+lastOf ds = getD ds (length ds - 1) (leaf 0)

@@ -7,12 +7,12 @@ ghost use lib.ListN.{length};
 ghost use lib.Dec.{ltb};
 ghost use Rattle.diagram.specs.Sizes.{highestValue};
 ghost use Rattle.apply.specs.Combination.{operate};
-ghost use Rattle.combine.specs.Results.{exceedsAt, exceeds, Sound, SoundAt};
+ghost use Rattle.combine.specs.Results.{exceedsAt, exceeds, results, Sound, SoundAt};
 ghost use Rattle.apply.specs.Formed.{add};
 ghost use Rattle.plan.specs.Plan.{pairLabelAt, firstAt, secondAt};
-ghost use Rattle.store.specs.Space.{diagramsOf, Holds, Formation};
+ghost use Rattle.store.specs.Space.{diagramsOf, Holds, Formation, addAll};
 ghost use Rattle.combine.specs.Callers.{Values, Calm, EntryOf};
-ghost use Rattle.combine.specs.Forming.{entryAt, FormableAt};
+ghost use Rattle.combine.specs.Forming.{entryAt, FormableAt, Formable, lastOf};
 
 // Both factors up to this have a product of at most 10^18.
 const SMALL: u64 = 1000000000;
