@@ -4,7 +4,7 @@ use mathlib.Core.Bool.{Bool, true, false, _||_, _&&_, true≢false}
 use mathlib.Core.List.{List, [], _∷_, _++_}
 use Prim.Native.Nat.{ℕ, zero, suc, _+_, _*_, _-_, _≤_, _<_}
 use native.Mathlib.Omega.{arith}
-use lib.ListN.{length, getD, set, take, List·getD-append}
+use lib.ListN.{length, getD, set, take, length-set, List·getD-append}
 use lib.Seq.{getD-set-same, getD-set-other, getD-at, take-all, take-append-le}
 use lib.Dec.{eqb, ltb}
 use borrow.Author.Tests.{le-leb, lt-leb}
@@ -71,9 +71,10 @@ module _ {op : Operation} {ws : List ℕ} {n k count : ℕ} (f : FormableAt op w
     module _ {h w : ℕ} (eh : h ≡ secondAt ws x) (ew : w ≡ secondAt ws y) where
       pub branch-children : Children count l h w
       branch-children = record {
-          label-below = rw el (kids .label);
-          high-there = rw (eh, ex) (kids .high);
-          low-there = rw (ew, ey) (kids .low) }
+        label-below = rw el (kids .label);
+        high-there = rw (eh, ex) (kids .high);
+        low-there = rw (ew, ey) (kids .low);
+      }
 
       pub branch-out : (s : List ℕ) {r : Formed} {s′ h′ l′ : List ℕ}
           → Formation (node l (tree s h) (tree s w)) (add (node l (tree s h) (tree s w)) (diagramsOf s count)) r s′ h′ l′
@@ -82,7 +83,7 @@ module _ {op : Operation} {ws : List ℕ} {n k count : ℕ} (f : FormableAt op w
           let eh′ : h ≡ secondAt ws (firstAt ws k) = eh ∙ ap (secondAt ws) ex in
           let ew′ : w ≡ secondAt ws (secondAt ws k) = ew ∙ ap (secondAt ws) ey in
           let z : node l (tree s h) (tree s w) ≡ entryAt op ws s k =
-                  (λ i. node (el i) (tree s (eh′ i)) (tree s (ew′ i))) ∙ sym (entry-branch op ws s k (branch-at ws k (λ q. n≢ (el ∙ q)))) in
+          (λ i. node (el i) (tree s (eh′ i)) (tree s (ew′ i))) ∙ sym (entry-branch op ws s k (branch-at ws k (λ q. n≢ (el ∙ q)))) in
           subst (λ (d : Diagram). Formation d (add d (diagramsOf s count)) r s′ h′ l′) z p
 
 or-left : (a b : Bool) → (a || b) ≡ false → a ≡ false
@@ -104,6 +105,7 @@ calm-entry op ws (suc n) k h e d = go (cmp k n) (calm-entry op ws n k)
   where
     both : (exceeds op ws n || exceedsAt op ws n) ≡ false
     both = sym (exceeds-more op ws n) ∙ e
+
     go : Cmp k n → (k < n → exceeds op ws n ≡ false → isEndAt ws k ≡ true → ltb highestValue (op (firstAt ws k) (secondAt ws k)) ≡ false)
         → ltb highestValue (op (firstAt ws k) (secondAt ws k)) ≡ false
     go (below q) ih = ih q (or-left (exceeds op ws n) _ both) d
@@ -178,21 +180,23 @@ module _ {op : Operation} {ws₀ : List ℕ} {rs : List Diagram} {n : ℕ} (able
 
   pub formable-at : n * 5 ≤ length ws → FormableAt op ws n k rows
   formable-at room = record {
-      room = room;
-      less = less;
-      ends = λ e. rw (now .firsts k, now .ahead k (omega arith)) (calm-at (sym end-same ∙ e));
-      branches = λ e. kids (sym end-same ∙ e) }
+    room = room;
+    less = less;
+    ends = λ e. rw (now .firsts k, now .ahead k (omega arith)) (calm-at (sym end-same ∙ e));
+    branches = λ e. kids (sym end-same ∙ e);
+  }
     where
       kids : isEndAt ws₀ k ≡ false → ChildRows ws n k rows
       kids e =
           let t = able .sound .firsts k less e in
           let f = able .sound .seconds k less e in
           record {
-              label = rw (now .labels k) (able .sound .labels k less e);
-              first = omega (arith, now .firsts k);
-              second = omega (arith, now .ahead k (omega arith));
-              high = rw (now .firsts k) (now .number (firstAt ws₀ k) t);
-              low = rw (now .ahead k (omega arith)) (now .number (secondAt ws₀ k) f) }
+            label = rw (now .labels k) (able .sound .labels k less e);
+            first = omega (arith, now .firsts k);
+            second = omega (arith, now .ahead k (omega arith));
+            high = rw (now .firsts k) (now .number (firstAt ws₀ k) t);
+            low = rw (now .ahead k (omega arith)) (now .number (secondAt ws₀ k) f);
+          }
 
   entry-is : entryAt op ws s k ≡ resultAt (operate op) ws₀ (results (operate op) ws₀ k) k
   entry-is = go (flag (isEndAt ws₀ k))
@@ -205,9 +209,9 @@ module _ {op : Operation} {ws₀ : List ℕ} {rs : List Diagram} {n : ℕ} (able
           let t = able .sound .firsts k less e in
           let f = able .sound .seconds k less e in
           let eh : tree s (secondAt ws (firstAt ws k)) ≡ getD (results (operate op) ws₀ k) (firstAt ws₀ k) (leaf 0) =
-                  ap (λ (i : ℕ). tree s (secondAt ws i)) (now .firsts k) ∙ now .formed (firstAt ws₀ k) t in
+          ap (λ (i : ℕ). tree s (secondAt ws i)) (now .firsts k) ∙ now .formed (firstAt ws₀ k) t in
           let el : tree s (secondAt ws (secondAt ws k)) ≡ getD (results (operate op) ws₀ k) (secondAt ws₀ k) (leaf 0) =
-                  ap (λ (i : ℕ). tree s (secondAt ws i)) (now .ahead k (omega arith)) ∙ now .formed (secondAt ws₀ k) f in
+          ap (λ (i : ℕ). tree s (secondAt ws i)) (now .ahead k (omega arith)) ∙ now .formed (secondAt ws₀ k) f in
           let en = now .labels k in
           entry-branch op ws s k (end-same ∙ e) ∙ (λ i. node (en i) (eh i) (el i)) ∙ sym (result-branch (operate op) ws₀ (results (operate op) ws₀ k) k e)
 
@@ -219,18 +223,20 @@ module _ {op : Operation} {ws₀ : List ℕ} {rs : List Diagram} {n : ℕ} (able
   module _ {row then : ℕ} {s′ h′ l′ : List ℕ} (p : Formation (entryAt op ws s k) (add (entryAt op ws s k) (diagramsOf s rows)) (Row row then) s′ h′ l′) (room : n * 5 ≤ length ws) where
     forming-suc : Forming op ws₀ rs (set ws (k * 5 + 4) row) (suc k) s′ h′ l′ then
     forming-suc = record {
-        holds = p .holds;
-        diagrams = formation-row p .3 ∙ rows-then;
-        labels = λ j. label-kept ws k row j ∙ now .labels j;
-        firsts = λ j. first-kept ws k row j ∙ now .firsts j;
-        ahead = λ j h. second-kept ws k row j (omega arith) ∙ now .ahead j (omega arith);
-        number = λ j h. number-at j (cmp j k) h;
-        formed = λ j h. formed-at j (cmp j k) h }
+      holds = p .holds;
+      diagrams = formation-row p .3 ∙ rows-then;
+      labels = λ j. label-kept ws k row j ∙ now .labels j;
+      firsts = λ j. first-kept ws k row j ∙ now .firsts j;
+      ahead = λ j h. second-kept ws k row j (omega arith) ∙ now .ahead j (omega arith);
+      number = λ j h. number-at j (cmp j k) h;
+      formed = λ j h. formed-at j (cmp j k) h;
+    }
       where
         number-at : (j : ℕ) → Cmp j k → j < suc k → secondAt (set ws (k * 5 + 4) row) j < then
         number-at j (below q) h = rw (second-kept ws k row j (omega arith)) (omega (arith, now .number j q, rows-grow (entryAt op ws s k) s rows p))
         number-at j (equal q) h = rw (q, second-set ws k row (omega arith)) (row-there (entryAt op ws s k) s rows p)
         number-at j (above q) h = absurd (omega arith)
+
         formed-at : (j : ℕ) → Cmp j k → j < suc k → tree s′ (secondAt (set ws (k * 5 + 4) row) j) ≡ getD (results (operate op) ws₀ (suc k)) j (leaf 0)
         formed-at j (below q) h =
             ap (tree s′) (second-kept ws k row j (omega arith)) ∙ old-tree (entryAt op ws s k) s rows p (secondAt ws j) (now .number j q) ∙ now .formed j q
@@ -251,13 +257,14 @@ module _ {op : Operation} {ws₀ : List ℕ} {rs : List Diagram} {n : ℕ} (able
 -- form: how it starts
 pub forming-start : {op : Operation} {ws s heads links : List ℕ} {count : ℕ} → Holds s heads links count → Forming op ws (diagramsOf s count) ws 0 s heads links count
 forming-start {op} {ws} {s} {heads} {links} {count} h = record {
-    holds = h;
-    diagrams = sym (ap (addAll (diagramsOf s count)) (results-none (operate op) ws) ∙ add-all-none (diagramsOf s count));
-    labels = λ j. refl;
-    firsts = λ j. refl;
-    ahead = λ j l. refl;
-    number = λ j l. absurd (omega arith);
-    formed = λ j l. absurd (omega arith) }
+  holds = h;
+  diagrams = sym (ap (addAll (diagramsOf s count)) (results-none (operate op) ws) ∙ add-all-none (diagramsOf s count));
+  labels = λ j. refl;
+  firsts = λ j. refl;
+  ahead = λ j l. refl;
+  number = λ j l. absurd (omega arith);
+  formed = λ j l. absurd (omega arith);
+}
 
 -- adding diagrams and working on more entries only adds rows
 add-all-append : (rs ds es : List Diagram) → addAll rs (ds ++ es) ≡ addAll (addAll rs ds) es
@@ -307,9 +314,10 @@ form-full {op} {ws₀} {rs} {n} able {ws} {k} {s} {heads} {links} {rows} now les
     let over : spaceRows < length (addAll rs (results (operate op) ws₀ (suc k))) = subst (λ (ds : List Diagram). spaceRows < length ds) e (formation-full p) in
     let b = added-begin (operate op) ws₀ rs (suc k) n (omega arith) in
     record {
-        answer = full-is _ _ (omega (arith, begins-length _ _ b));
-        diagrams = p .diagrams ∙ ap (take spaceRows) e ∙ sym (take-begin spaceRows _ _ b (omega arith));
-        holds = p .holds }
+      answer = full-is _ _ (omega (arith, begins-length _ _ b));
+      diagrams = p .diagrams ∙ ap (take spaceRows) e ∙ sym (take-begin spaceRows _ _ b (omega arith));
+      holds = p .holds;
+    }
 
 -- form: the end
 pub form-row : {op : Operation} {ws₀ : List ℕ} {rs : List Diagram} {n : ℕ} → Formable op ws₀ n → {ws : List ℕ} {k : ℕ} {s heads links : List ℕ} {rows last : ℕ}
@@ -323,14 +331,69 @@ form-row {op} {ws₀} {rs} {n} able {ws} {k} {s} {heads} {links} {rows} {last} n
     let ds : diagramsOf s rows ≡ addAll rs (results (operate op) ws₀ n) = now .diagrams ∙ ap (λ (i : ℕ). addAll rs (results (operate op) ws₀ i)) e in
     let there : last < rows = rw la (now .number (k - 1) (omega arith)) in
     let is-last : tree s last ≡ getD (results (operate op) ws₀ n) (length (results (operate op) ws₀ n) - 1) (leaf 0) =
-            ap (tree s) la ∙ now .formed (k - 1) (omega arith)
-            ∙ ap₂ (λ (i j : ℕ). getD (results (operate op) ws₀ i) j (leaf 0)) e (omega (arith, length-results (operate op) ws₀ n)) in
+    ap (tree s) la ∙ now .formed (k - 1) (omega arith)
+    ∙ ap₂ (λ (i j : ℕ). getD (results (operate op) ws₀ i) j (leaf 0)) e (omega (arith, length-results (operate op) ws₀ n)) in
     let len = length-diagrams s rows in
     let few : rows ≤ spaceRows = now .holds .table .within in
     let place : index (getD (results (operate op) ws₀ n) (length (results (operate op) ws₀ n) - 1) (leaf 0)) (diagramsOf s rows) ≡ last =
-            kept-index-is (diagramsOf s rows) last _ (now .holds .written .kept) (omega arith) (diagram-at s rows last there ∙ is-last) in
+    kept-index-is (diagramsOf s rows) last _ (now .holds .written .kept) (omega arith) (diagram-at s rows last there ∙ is-last) in
     let size : length (addAll rs (results (operate op) ws₀ n)) ≡ rows = sym (ap length ds) ∙ len in
     record {
-        answer = ap (Row last) (sym size) ∙ row-is _ _ last (omega arith) (ap (index _) (sym ds) ∙ place);
-        diagrams = ds ∙ sym (take-all spaceRows (addAll rs (results (operate op) ws₀ n)) (omega arith));
-        holds = now .holds }
+      answer = ap (Row last) (sym size) ∙ row-is _ _ last (omega arith) (ap (index _) (sym ds) ∙ place);
+      diagrams = ds ∙ sym (take-all spaceRows (addAll rs (results (operate op) ws₀ n)) (omega arith));
+      holds = now .holds;
+    }
+
+-- form: the loop, begun with the plan ws₀ and a space of count rows
+pub record FormLoop (op : Operation) (ws₀ s₀ h₀ l₀ : List ℕ) (count n : ℕ) (ws s h l : List ℕ) (rows last k : ℕ) : Type 0 where
+  pub most : k ≤ n
+  pub plan-length : length ws ≡ length ws₀
+  pub space-length : length s ≡ length s₀
+  pub heads-length : length h ≡ length h₀
+  pub links-length : length l ≡ length l₀
+  pub forming : Forming op ws₀ (diagramsOf s₀ count) ws k s h l rows
+  pub last-is : 0 < k → last ≡ secondAt ws (k - 1)
+
+pub loop-start : {op : Operation} {ws s h l : List ℕ} {count n : ℕ} → Holds s h l count → FormLoop op ws s h l count n ws s h l count 0 0
+loop-start x = record {
+  most = omega arith;
+  plan-length = refl;
+  space-length = refl;
+  heads-length = refl;
+  links-length = refl;
+  forming = forming-start x;
+  last-is = λ z. absurd (omega arith);
+}
+
+module _ {op : Operation} {ws₀ s₀ h₀ l₀ : List ℕ} {count n : ℕ} {ws s h l : List ℕ} {rows last k : ℕ} (able : Formable op ws₀ n)
+    (inv : FormLoop op ws₀ s₀ h₀ l₀ count n ws s h l rows last k) where
+  pub loop-room : n * 5 ≤ length ws
+  loop-room = rw (inv .plan-length) (able .sound .room)
+
+  pub loop-formable : k < n → FormableAt op ws n k rows
+  loop-formable less = formable-at able (inv .forming) less loop-room
+
+  pub loop-space : Holds s h l rows
+  loop-space = inv .forming .holds
+
+  pub loop-end : n ≤ k → Formation (lastOf (results (operate op) ws₀ n)) (addAll (diagramsOf s₀ count) (results (operate op) ws₀ n)) (Row last rows) s h l
+  loop-end e = form-row able (inv .forming) (inv .last-is) (inv .most) e
+
+  module _ (less : k < n) {r : Formed} {s′ h′ l′ : List ℕ} (p : Formation (entryAt op ws s k) (add (entryAt op ws s k) (diagramsOf s rows)) r s′ h′ l′) where
+    pub loop-full : r ≡ Full → Formation (lastOf (results (operate op) ws₀ n)) (addAll (diagramsOf s₀ count) (results (operate op) ws₀ n)) Full s′ h′ l′
+    loop-full e = form-full able (inv .forming) less (subst (λ (x : Formed). Formation (entryAt op ws s k) (add (entryAt op ws s k) (diagramsOf s rows)) x s′ h′ l′) e p)
+
+    pub loop-step : {row then : ℕ} → r ≡ Row row then → length s′ ≡ length s → length h′ ≡ length h → length l′ ≡ length l
+        → FormLoop op ws₀ s₀ h₀ l₀ count n (set ws (k * 5 + 4) row) s′ h′ l′ then row (k + 1)
+    loop-step {row} {then} e ks kh kl =
+        let q : Formation (entryAt op ws s k) (add (entryAt op ws s k) (diagramsOf s rows)) (Row row then) s′ h′ l′ =
+        subst (λ (x : Formed). Formation (entryAt op ws s k) (add (entryAt op ws s k) (diagramsOf s rows)) x s′ h′ l′) e p in
+        record {
+          most = omega arith;
+          plan-length = length-set ws (k * 5 + 4) row ∙ inv .plan-length;
+          space-length = ks ∙ inv .space-length;
+          heads-length = kh ∙ inv .heads-length;
+          links-length = kl ∙ inv .links-length;
+          forming = forming-on able (inv .forming) less q loop-room;
+          last-is = last-on able (inv .forming) less q loop-room;
+        }

@@ -147,3 +147,32 @@ fn form_at(
     let low = second_at(plan, n, second as usize) as usize;
     store::branch(space, heads, links, count, label, high, low)
 }
+
+// Forms the rows of the first n entries of the plan, one after another: the last one's row, and the rows in the space then. The plan's last words are overwritten.
+fn form(
+    plan: &mut [u64],
+    n: usize,
+    op: Operation,
+    space: &mut [u64],
+    heads: &mut [u16],
+    links: &mut [u16],
+    count: usize,
+) -> Formed
+    requires { ⌜ Formable op (now plan) n ⌝ }
+    requires { ⌜ Holds (now space) (now heads) (now links) count ⌝ }
+    ensures { λ r. ⌜ Formation (lastOf (results (operate op) (now (plan .entry)) n)) (addAll (diagramsOf (now (space .entry)) count) (results (operate op) (now (plan .entry)) n)) r (now (space .exit)) (now (heads .exit)) (now (links .exit)) ⌝ }
+{
+    let mut rows = count;
+    let mut last = 0usize;
+    let mut k = 0usize;
+    while k < n {
+        let Formed::Row(row, then) = form_at(plan, n, k, op, space, heads, links, rows) else {
+            return Formed::Full;
+        };
+        plan[k * 5 + 4] = row as u64;
+        last = row;
+        rows = then;
+        k += 1;
+    }
+    Formed::Row(last, rows)
+}
