@@ -9,7 +9,7 @@ use native.Mathlib.Numerals.{add-one}
 use lib.ListN.{length, getD, length-append}
 use lib.Seq.{getD-at}
 use Rattle.basics.specs.Tests.{Cmp, cmp, below, equal, above, Flag, isTrue, isFalse, flag}
-use Rattle.label.specs.Limits.{leafMark, predicateCount}
+use Rattle.label.specs.Limits.{leafMark}
 use Rattle.label.specs.Labels.{areArities}
 use Rattle.diagram.specs.Sizes.{mostRows}
 use Rattle.diagram.specs.Words.{labelAt, highAt, lowAt, rowCount, upTo, finish, isListing}

@@ -1,2 +1,4 @@
--- What the functions of the check ensure.
+-- What the check of listings and the count of their terms ensure.
 pub mod Check
+pub mod Used
+pub mod UsedLaws

@@ -1,14 +1,19 @@
-// The check that lent words are a listing (refusal 14).
+// The check that lent words are a listing (refusal 14), and the terms that a listing uses.
 use label::Label;
+use label::Term;
 use table::Found;
 ghost use mathlib.Core.Path.{_≡_};
-ghost use Prim.Native.Nat.{ℕ, _+_, _*_, _<_, _≤_};
+ghost use Prim.Native.Nat.{_+_, _*_, _<_, _≤_};
+ghost use mathlib.Core.Bool.{cond};
+ghost use lib.Dec.{eqb};
 ghost use lib.ListN.{length};
-ghost use Rattle.label.specs.Limits.{predicateCount};
+ghost use Rattle.label.specs.Limits.{predicateCount, termBase};
 ghost use Rattle.table.specs.Table.{Table};
 ghost use Rattle.diagram.specs.Words.{isListing};
-ghost use Rattle.diagram.specs.Validity.{ValidRow, ValidRows};
+ghost use Rattle.diagram.specs.Listing.{diagramOf};
+ghost use Rattle.diagram.specs.Validity.{ValidRow, ValidRows, Valid};
 ghost use Rattle.listing.specs.Check.{Decides, Entered, Downward, Walked};
+ghost use Rattle.listing.specs.Used.{rowTerms, marked, Markable, Cleared, Used, markedVariables};
 
 // Whether row i is a leaf or a branch, its children before it.
 fn is_valid_row(arities: &[u64], words: &[u64], i: usize) -> bool
@@ -141,4 +146,83 @@ pub fn check(arities: &[u64], words: &[u64]) -> bool
         return false;
     }
     true
+}
+
+// Clears the marks, one for each term.
+fn clear(marks: &mut [u64])
+    requires { ⌜ length (now marks) ≡ termBase ⌝ }
+    ensures { λ _. ⌜ Cleared (now (marks .exit)) ⌝ }
+{
+    let mut t = 0;
+    while t < (Term::BASE as usize) {
+        marks[t] = 0;
+        t += 1;
+    }
+}
+
+// Marks the terms of row i's label.
+fn mark_row(arities: &[u64], words: &[u64], marks: &mut [u64], i: usize)
+    requires { ⌜ Markable (now arities) (now words) (now marks) i ⌝ }
+    ensures { λ _. ⌜ now (marks .exit) ≡ marked (rowTerms (now (arities .entry)) (now (words .entry)) i) (now (marks .entry)) ⌝ }
+{
+    let l = words[i * 3];
+    if l == Label::LEAF {
+        return;
+    }
+    let n = arities[(l / Label::PREDICATE_WEIGHT) as usize];
+    if n == 0 {
+        return;
+    }
+    marks[(l / Label::FIRST_WEIGHT % Term::BASE) as usize] = 1;
+    if n == 1 {
+        return;
+    }
+    marks[(l / Label::SECOND_WEIGHT % Term::BASE) as usize] = 1;
+    if n == 2 {
+        return;
+    }
+    marks[(l / Label::THIRD_WEIGHT % Term::BASE) as usize] = 1;
+    if n == 3 {
+        return;
+    }
+    marks[(l % Term::BASE) as usize] = 1;
+}
+
+// Marks the terms that occur in the listing: 1 for each of them, 0 for the others.
+pub fn used(arities: &[u64], words: &[u64], marks: &mut [u64])
+    requires { ⌜ Valid (now arities) (now words) ⌝ }
+    requires { ⌜ length (now marks) ≡ termBase ⌝ }
+    ensures { λ _. ⌜ Used (now (arities .entry)) (diagramOf (now (words .entry))) (now (marks .exit)) ⌝ }
+{
+    clear(marks);
+    let m = words.len() / 3;
+    let mut i = 0;
+    while i < m {
+        mark_row(arities, words, marks, i);
+        i += 1;
+    }
+}
+
+// 1 for a mark that is set, 0 for another.
+fn counted(mark: u64) -> usize
+    ensures { λ r. ⌜ r ≡ cond (eqb mark 0) 0 1 ⌝ }
+{
+    if mark == 0 {
+        return 0;
+    }
+    1
+}
+
+// How many variables are marked.
+pub fn count_variables(marks: &[u64]) -> usize
+    requires { ⌜ length (now marks) ≡ termBase ⌝ }
+    ensures { λ r. ⌜ r ≡ markedVariables (now (marks .entry)) ⌝ }
+{
+    let mut n = 0;
+    let mut t = Term::FIRST_VARIABLE as usize;
+    while t < (Term::BASE as usize) {
+        n += counted(marks[t]);
+        t += 1;
+    }
+    n
 }

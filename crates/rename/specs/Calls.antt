@@ -1,0 +1,35 @@
+-- What callers of this crate must know.
+use mathlib.Core.Path.{_≡_}
+use mathlib.Core.Logic.{_≢_}
+use mathlib.Core.Bool.{true}
+use mathlib.Core.List.{List}
+use Prim.Native.Nat.{ℕ, _+_, _≤_}
+use lib.ListN.{length}
+use Rattle.label.specs.Limits.{termBase, predicateCount, parameterCount, leafMark}
+use Rattle.label.specs.Labels.{isLabel}
+use Rattle.label.specs.Callers.{TermMap}
+use Rattle.diagram.specs.Words.{isListing}
+use Rattle.rename.specs.Maps.{usedVariables}
+
+-- the used variables, numbered from `first` on, fit below 64
+pub record Closable (used : List ℕ) (first : ℕ) (map : List ℕ) : Type 0 where
+  pub marks : termBase ≤ length used
+  pub whole : termBase ≤ length map
+  pub room : first + length (usedVariables used) ≤ termBase
+
+-- an action's parameter count
+pub record Countable (count : ℕ) (map : List ℕ) : Type 0 where
+  pub few : count ≤ parameterCount
+  pub whole : termBase ≤ length map
+
+-- a word that is a label, or marks a leaf
+pub record Word (ar map : List ℕ) (x : ℕ) : Type 0 where
+  pub arities : predicateCount ≤ length ar
+  pub terms : TermMap map
+  pub label : x ≢ leafMark → isLabel ar x ≡ true
+
+-- a listing, a map of its terms, and room for the listing
+pub record Renamable (ar ws map out : List ℕ) : Type 0 where
+  pub listing : isListing ar ws ≡ true
+  pub terms : TermMap map
+  pub room : length ws ≤ length out

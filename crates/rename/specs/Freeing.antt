@@ -1,0 +1,43 @@
+-- Freeing the parameters of an action (document 01, section 'Regression').
+use mathlib.Core.Path.{_≡_}
+use mathlib.Core.Bool.{Bool, true}
+use mathlib.Core.List.{List}
+use Prim.Native.Nat.{ℕ, _+_, _≤_, _<_}
+use Rattle.label.specs.Limits.{firstParameter, parameterCount, firstVariable, termBase}
+use Rattle.label.specs.Renamings.{renamed, freeing}
+use Rattle.diagram.specs.Diagram.{Diagram, relabel}
+use Rattle.diagram.specs.Variables.{occurs}
+use Rattle.rename.specs.Valuations.{leafOf}
+
+-- parameter 16 + i turned into variable 32 + i, the other variables moved up by the parameter count c
+unfoldable pub freed : List ℕ → ℕ → Diagram → Diagram
+unfolding relabel
+freed ar c d = relabel (renamed ar (freeing c)) d
+
+-- no parameter past the count occurs, and no variable would pass 63
+pub record Freeable (ar : List ℕ) (c : ℕ) (d : Diagram) : Type 0 where
+  pub count : c ≤ parameterCount
+  pub parameters : (t : ℕ) → occurs ar t d ≡ true → t < firstVariable → t < firstParameter + c
+  pub variables : (t : ℕ) → occurs ar t d ≡ true → firstVariable ≤ t → t + c < termBase
+
+-- an assignment that leads the freed diagram where η leads d; parameters, which the freed diagram no longer has, by ζ
+pub record FreedBy (ar : List ℕ) (c : ℕ) (d : Diagram) (η ζ : ℕ → ℕ) : Type 0 where
+  pub assign : ℕ → ℕ
+  pub constants : (t : ℕ) → t < firstParameter → assign t ≡ η t
+  pub parameters : (t : ℕ) → firstParameter ≤ t → t < firstVariable → assign t ≡ ζ t
+  pub range : (n : ℕ) → ((t : ℕ) → η t < n) → ((t : ℕ) → ζ t < n) → (t : ℕ) → assign t < n
+  pub value : (h : ℕ → List ℕ → Bool) → leafOf ar h assign (freed ar c d) ≡ leafOf ar h η d
+
+-- an assignment for the freed diagram, read back: parameter 16 + i has what variable 32 + i is assigned
+pub record BoundBy (ar : List ℕ) (c : ℕ) (d : Diagram) (θ : ℕ → ℕ) : Type 0 where
+  pub assign : ℕ → ℕ
+  pub constants : (t : ℕ) → t < firstParameter → assign t ≡ θ t
+  pub parameters : (i : ℕ) → i < c → assign (firstParameter + i) ≡ θ (firstVariable + i)
+  pub others : (t : ℕ) → firstParameter + c ≤ t → t < firstVariable → assign t ≡ θ t
+  pub range : (n : ℕ) → ((t : ℕ) → θ t < n) → (t : ℕ) → assign t < n
+  pub value : (h : ℕ → List ℕ → Bool) → leafOf ar h θ (freed ar c d) ≡ leafOf ar h assign d
+
+-- parameters that are freed are assigned freely, as the variables are
+pub record FreedFree (ar : List ℕ) (c : ℕ) (d : Diagram) : Type 0 where
+  pub freed-by : (η ζ : ℕ → ℕ) → FreedBy ar c d η ζ
+  pub bound-by : (θ : ℕ → ℕ) → BoundBy ar c d θ

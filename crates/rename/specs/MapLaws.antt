@@ -1,0 +1,234 @@
+-- Laws of the maps that the calls write.
+use mathlib.Core.Path.{_≡_, refl, ap, sym, _∙_}
+use mathlib.Core.Bool.{Bool, true, false, not, cond}
+use mathlib.Core.List.{List, [], _∷_, _++_}
+use Prim.Native.Nat.{ℕ, zero, suc, _+_, _≤_, _<_}
+use native.Mathlib.Omega.{arith}
+use lib.ListN.{length, getD, length-append, List·getD-append}
+use lib.Seq.{getD-at}
+use lib.Dec.{eqb, ltb}
+use borrow.Author.Tests.{eq-eqb, ne-eqb, lt-ltb, le-ltb}
+use Rattle.basics.specs.Tests.{Flag, isTrue, isFalse, flag, Cmp, below, equal, above, cmp}
+use Rattle.basics.specs.Members.{mem, clash}
+use Rattle.label.specs.Limits.{firstVariable, variableCount, termBase, firstParameter, parameterCount}
+use Rattle.label.specs.Callers.{TermMap}
+use Rattle.label.specs.Renamings.{rank, numbering, freeing, mapOf}
+use Rattle.label.specs.RenamingLaws.{rank-below, numbering-high, numbering-low}
+use Rattle.diagram.specs.Diagram.{Diagram}
+use Rattle.diagram.specs.Variables.{occurs, pickList, occurring, variables}
+use Rattle.rename.specs.Ascending.{Ascending}
+use Rattle.rename.specs.AscendingLaws.{ascending-weaken, ascending-not, rank-none}
+use Rattle.rename.specs.Maps.{tabled, isUsed, usedFrom, usedVariables, Marks, closeAt, freeAt}
+use Rattle.rename.specs.Calls.{Closable}
+use mathlib.Core.Logic.{_⊎_, inl, inr}
+use Rattle.label.specs.LabelLaws.{term-below}
+use Rattle.diagram.specs.Listing.{Good}
+use Rattle.rename.specs.VariableLaws.{occurs-term}
+use Rattle.rename.specs.Freeing.{Freeable}
+
+-- the laws of `tabled`: nothing else unfolds it
+pub tabled-none : (f : ℕ → ℕ) → tabled f 0 ≡ []
+unfolding tabled
+tabled-none f = refl
+
+pub tabled-next : (f : ℕ → ℕ) (n : ℕ) → tabled f (suc n) ≡ tabled f n ++ (f n ∷ [])
+unfolding tabled
+tabled-next f n = refl
+
+pub length-tabled : (f : ℕ → ℕ) (n : ℕ) → length (tabled f n) ≡ n
+length-tabled f zero = rw (tabled-none f)
+length-tabled f (suc n) = rw (tabled-next f n) (omega (arith, length-append (tabled f n) (f n ∷ []), length-tabled f n))
+
+getD-tabled : (f : ℕ → ℕ) (n t : ℕ) → t < n → getD (tabled f n) t 0 ≡ f t
+getD-tabled f zero t h = absurd (omega arith)
+getD-tabled f (suc n) t h = rw (tabled-next f n) (go (cmp t n) (getD-tabled f n t))
+  where
+    go : Cmp t n → (t < n → getD (tabled f n) t 0 ≡ f t) → getD (tabled f n ++ (f n ∷ [])) t 0 ≡ f t
+    go (below q) ih = List·getD-append (tabled f n) (f n ∷ []) 0 t (omega (arith, length-tabled f n)) ∙ ih q
+    go (equal q) ih = getD-at (tabled f n) (f n) [] 0 t (length-tabled f n ∙ sym q) ∙ ap f (sym q)
+    go (above q) ih = absurd (omega arith)
+
+-- what a written map has for each term
+pub tabled-at : (f : ℕ → ℕ) (n : ℕ) (rest : List ℕ) (t : ℕ) → t < n → getD (tabled f n ++ rest) t 0 ≡ f t
+tabled-at f n rest t h = List·getD-append (tabled f n) rest 0 t (omega (arith, length-tabled f n)) ∙ getD-tabled f n t h
+
+pub tabled-terms : (f : ℕ → ℕ) (rest : List ℕ) → ((t : ℕ) → t < termBase → f t < termBase) → TermMap (tabled f termBase ++ rest)
+tabled-terms f rest h = record {
+  whole = omega (arith, length-append (tabled f termBase) rest, length-tabled f termBase);
+  below = λ t k. rw (tabled-at f termBase rest t k) (h t k);
+}
+
+-- marked terms
+used-ascending : (used : List ℕ) (t n : ℕ) → Ascending t (usedFrom used t n)
+unfolding usedFrom
+used-ascending used t zero = tt
+used-ascending used t (suc n) = go (flag (isUsed used t)) (used-ascending used (suc t) n)
+  where
+    go : Flag (isUsed used t) → Ascending (suc t) (usedFrom used (suc t) n) → Ascending t (pickList (isUsed used t) (t ∷ usedFrom used (suc t) n) (usedFrom used (suc t) n))
+    go (isTrue p) ih = rw p (omega arith, ih)
+    go (isFalse p) ih = rw p (ascending-weaken t (suc t) (usedFrom used (suc t) n) (omega arith) ih)
+
+-- marked terms are members, others are not
+used-mem : (used : List ℕ) (t n u : ℕ) → t ≤ u → u < t + n → mem eqb u (usedFrom used t n) ≡ isUsed used u
+unfolding usedFrom
+used-mem used t zero u h k = absurd (omega arith)
+used-mem used t (suc n) u h k = go (flag (isUsed used t)) (cmp t u) (used-mem used (suc t) n u)
+  where
+    go : Flag (isUsed used t) → Cmp t u → (suc t ≤ u → u < suc t + n → mem eqb u (usedFrom used (suc t) n) ≡ isUsed used u)
+        → mem eqb u (pickList (isUsed used t) (t ∷ usedFrom used (suc t) n) (usedFrom used (suc t) n)) ≡ isUsed used u
+    go (isTrue p) (below q) ih = rw (p, ne-eqb u t (omega arith)) (ih q (omega arith))
+    go (isTrue p) (equal q) ih = rw (p, eq-eqb u t (sym q), ← q) (sym p)
+    go (isFalse p) (below q) ih = rw p (ih q (omega arith))
+    go (isFalse p) (equal q) ih = rw (p, ← q) (ascending-not (suc t) (usedFrom used (suc t) n) t (used-ascending used (suc t) n) (omega arith) ∙ sym p)
+    go (isTrue p) (above q) ih = absurd (omega arith)
+    go (isFalse p) (above q) ih = absurd (omega arith)
+
+pub used-variables-ascending : (used : List ℕ) → Ascending firstVariable (usedVariables used)
+unfolding usedVariables
+used-variables-ascending used = used-ascending used firstVariable variableCount
+
+pub used-variable : (used : List ℕ) (u : ℕ) → firstVariable ≤ u → u < termBase → mem eqb u (usedVariables used) ≡ isUsed used u
+unfolding usedVariables
+used-variable used u h k = used-mem used firstVariable variableCount u h k
+
+-- one more number is below t + 1 if t is there
+pub rank-next : (n : ℕ) (xs : List ℕ) (t : ℕ) → Ascending n xs → rank xs (suc t) ≡ rank xs t + cond (mem eqb t xs) 1 0
+rank-next n [] t a = refl
+rank-next n (x ∷ xs) t a = go (cmp x t) (rank-next (suc x) xs t (a .1))
+  where
+    go : Cmp x t → rank xs (suc t) ≡ rank xs t + cond (mem eqb t xs) 1 0
+        → cond (ltb x (suc t)) 1 0 + rank xs (suc t) ≡ cond (ltb x t) 1 0 + rank xs t + cond (mem eqb t (x ∷ xs)) 1 0
+    go (below q) ih = rw (lt-ltb x (suc t) (omega arith), lt-ltb x t q, ne-eqb t x (omega arith), ih) (omega arith)
+    go (equal q) ih =
+        rw (
+          lt-ltb x (suc t) (omega arith),
+          le-ltb x t (omega arith),
+          eq-eqb t x (sym q),
+          rank-none (suc x) xs (suc t) (a .1) (omega arith),
+          rank-none (suc x) xs t (a .1) (omega arith),
+        )
+    go (above q) ih =
+        rw (
+          le-ltb x (suc t) (omega arith),
+          le-ltb x t (omega arith),
+          ne-eqb t x (omega arith),
+          ascending-not (suc x) xs t (a .1) (omega arith),
+          rank-none (suc x) xs (suc t) (a .1) (omega arith),
+          rank-none (suc x) xs t (a .1) (omega arith),
+        )
+
+-- marks of a diagram's terms
+pub used-occurs : (ar : List ℕ) (d : Diagram) (used : List ℕ) → Marks ar d used → (t : ℕ) → t < termBase → isUsed used t ≡ occurs ar t d
+unfolding isUsed
+used-occurs ar d used m t h = rw (m .mark t h) (go (occurs ar t d))
+  where
+    go : (b : Bool) → not (eqb (cond b 1 0) 0) ≡ b
+    go true = refl
+    go false = refl
+
+used-occurring : (ar : List ℕ) (d : Diagram) (used : List ℕ) → Marks ar d used → (t n : ℕ) → t + n ≤ termBase → usedFrom used t n ≡ occurring ar d t n
+unfolding usedFrom occurring
+used-occurring ar d used m t zero h = refl
+used-occurring ar d used m t (suc n) h = rw (used-occurs ar d used m t (omega arith), used-occurring ar d used m (suc t) n (omega arith))
+
+-- the marked variables are the diagram's
+pub used-variables : (ar : List ℕ) (d : Diagram) (used : List ℕ) → Marks ar d used → usedVariables used ≡ variables ar d
+unfolding usedVariables variables
+used-variables ar d used m = used-occurring ar d used m firstVariable variableCount (omega arith)
+
+-- the laws of `closeAt`: nothing else unfolds it
+pub close-low : (used : List ℕ) (first t : ℕ) → t < firstVariable → closeAt used first t ≡ t
+unfolding closeAt
+close-low used first t h = rw (lt-ltb t firstVariable h)
+
+pub close-used : (used : List ℕ) (first t : ℕ) → firstVariable ≤ t → isUsed used t ≡ true → closeAt used first t ≡ numbering (usedVariables used) first t
+unfolding closeAt
+close-used used first t h e = rw (le-ltb t firstVariable h, e)
+
+pub close-unused : (used : List ℕ) (first t : ℕ) → firstVariable ≤ t → isUsed used t ≡ false → closeAt used first t ≡ 0
+unfolding closeAt
+close-unused used first t h e = rw (le-ltb t firstVariable h, e)
+
+pub close-below : (used : List ℕ) (first t : ℕ) → first + length (usedVariables used) ≤ termBase → t < termBase → closeAt used first t < termBase
+close-below used first t room h = go (cmp t firstVariable) (flag (isUsed used t))
+  where
+    high : firstVariable ≤ t → Flag (isUsed used t) → closeAt used first t < termBase
+    high k (isTrue e) =
+        omega (
+          arith,
+          close-used used first t k e,
+          numbering-high (usedVariables used) first t k,
+          rank-below (usedVariables used) t (used-variable used t k h ∙ e),
+        )
+    high k (isFalse e) = omega (arith, close-unused used first t k e)
+
+    go : Cmp t firstVariable → Flag (isUsed used t) → closeAt used first t < termBase
+    go (below k) f = omega (arith, close-low used first t k)
+    go (equal k) f = high (omega arith) f
+    go (above k) f = high (omega arith) f
+
+-- the written map is one of terms
+pub close-terms : (used : List ℕ) (first : ℕ) (map rest : List ℕ) → Closable used first map → TermMap (tabled (closeAt used first) termBase ++ rest)
+close-terms used first map rest c = tabled-terms (closeAt used first) rest (λ t h. close-below used first t (c .room) h)
+
+-- a written map has the number of each term that is no variable or is used
+pub close-numbers : (used : List ℕ) (first : ℕ) (rest : List ℕ) (t : ℕ) → t < termBase → (t < firstVariable) ⊎ (isUsed used t ≡ true)
+    → mapOf (tabled (closeAt used first) termBase ++ rest) t ≡ numbering (usedVariables used) first t
+close-numbers used first rest t h p = tabled-at (closeAt used first) termBase rest t h ∙ go (cmp t firstVariable) p
+  where
+    high : firstVariable ≤ t → (t < firstVariable) ⊎ (isUsed used t ≡ true) → closeAt used first t ≡ numbering (usedVariables used) first t
+    high k (inl x) = absurd (omega arith)
+    high k (inr x) = close-used used first t k x
+
+    go : Cmp t firstVariable → (t < firstVariable) ⊎ (isUsed used t ≡ true) → closeAt used first t ≡ numbering (usedVariables used) first t
+    go (below k) x = close-low used first t k ∙ sym (numbering-low (usedVariables used) first t k)
+    go (equal k) x = high (omega arith) x
+    go (above k) x = high (omega arith) x
+
+-- a call on the marks of a diagram's terms
+pub marks-closable : (ar : List ℕ) (d : Diagram) (used : List ℕ) (first : ℕ) (map : List ℕ) → Marks ar d used → termBase ≤ length map
+    → first + length (variables ar d) ≤ termBase → Closable used first map
+marks-closable ar d used first map m w r = record { marks = m .whole; whole = w; room = rw (used-variables ar d used m) r }
+
+-- the laws of `freeAt`: nothing else unfolds it
+pub free-is : (c t : ℕ) → freeing c t < termBase → freeAt c t ≡ freeing c t
+unfolding freeAt
+free-is c t h = rw (lt-ltb (freeing c t) termBase h)
+
+pub free-out : (c t : ℕ) → termBase ≤ freeing c t → freeAt c t ≡ 0
+unfolding freeAt
+free-out c t h = rw (le-ltb (freeing c t) termBase h)
+
+pub free-below : (c t : ℕ) → freeAt c t < termBase
+free-below c t = go (cmp (freeing c t) termBase)
+  where
+    go : Cmp (freeing c t) termBase → freeAt c t < termBase
+    go (below h) = omega (arith, free-is c t h)
+    go (equal h) = omega (arith, free-out c t (omega arith))
+    go (above h) = omega (arith, free-out c t (omega arith))
+
+pub free-terms : (c : ℕ) (rest : List ℕ) → TermMap (tabled (freeAt c) termBase ++ rest)
+free-terms c rest = tabled-terms (freeAt c) rest (λ t h. free-below c t)
+
+pub free-numbers : (c : ℕ) (rest : List ℕ) (t : ℕ) → t < termBase → freeing c t < termBase → mapOf (tabled (freeAt c) termBase ++ rest) t ≡ freeing c t
+free-numbers c rest t h k = tabled-at (freeAt c) termBase rest t h ∙ free-is c t k
+
+-- no parameter past the count is marked, and no variable that would pass 63
+pub marks-freeable : (ar : List ℕ) (c : ℕ) (d : Diagram) (used : List ℕ) → Good ar d → Marks ar d used → c ≤ parameterCount
+    → ((t : ℕ) → firstParameter + c ≤ t → t < firstVariable → isUsed used t ≡ false) → ((t : ℕ) → termBase ≤ t + c → t < termBase → isUsed used t ≡ false)
+    → Freeable ar c d
+marks-freeable ar c d used good m few p q = record {
+  count = few;
+  parameters = λ t e h. first t e h (cmp t (firstParameter + c));
+  variables = λ t e h. second t e (cmp (t + c) termBase);
+}
+  where
+    first : (t : ℕ) → occurs ar t d ≡ true → t < firstVariable → Cmp t (firstParameter + c) → t < firstParameter + c
+    first t e h (below k) = k
+    first t e h (equal k) = clash e (sym (used-occurs ar d used m t (omega arith)) ∙ p t (omega arith) h)
+    first t e h (above k) = clash e (sym (used-occurs ar d used m t (omega arith)) ∙ p t (omega arith) h)
+
+    second : (t : ℕ) → occurs ar t d ≡ true → Cmp (t + c) termBase → t + c < termBase
+    second t e (below k) = k
+    second t e (equal k) = let b = term-below t (occurs-term ar d t (good .fine) e) in clash e (sym (used-occurs ar d used m t b) ∙ q t (omega arith) b)
+    second t e (above k) = let b = term-below t (occurs-term ar d t (good .fine) e) in clash e (sym (used-occurs ar d used m t b) ∙ q t (omega arith) b)

@@ -1,0 +1,43 @@
+-- Diagrams whose labels are changed in order, and their listings (document 01, sections 'Terms, labels, listings' and 'Combination').
+use mathlib.Core.Path.{_≡_}
+use mathlib.Core.Bool.{true, cond}
+use mathlib.Core.List.{List, [], _∷_}
+use Prim.Native.Nat.{ℕ, _<_}
+use lib.Dec.{eqb}
+use Rattle.label.specs.Limits.{leafMark}
+use Rattle.label.specs.Labels.{isLabel}
+use Rattle.label.specs.Renamings.{EachIn}
+use Rattle.diagram.specs.Diagram.{Diagram, leaf, branch}
+
+-- every label of d is in Q
+abbrev pub Labels : (ℕ → Type 0) → Diagram → Type 0
+Labels Q (leaf v) = Unit {0}
+Labels Q (branch l t f) = Q l × Labels Q t × Labels Q f
+
+-- every label of the diagrams ds is in Q
+abbrev pub AllLabels : (ℕ → Type 0) → List Diagram → Type 0
+AllLabels Q [] = Unit {0}
+AllLabels Q (d ∷ ds) = Labels Q d × AllLabels Q ds
+
+-- g keeps the order of the labels in Q
+pub record Keeps (Q : ℕ → Type 0) (g : ℕ → ℕ) : Type 0 where
+  pub order : (l k : ℕ) → Q l → Q k → l < k → g l < g k
+
+-- the first word of a row: a branch's label changed by g, or a leaf's mark
+abbrev pub labelled : (ℕ → ℕ) → ℕ → ℕ
+labelled g x = cond (eqb x leafMark) x (g x)
+
+-- the words of rows, each branch's label changed by g
+abbrev pub relabelled : (ℕ → ℕ) → List ℕ → List ℕ
+relabelled g [] = []
+relabelled g (x ∷ []) = x ∷ []
+relabelled g (x ∷ y ∷ []) = x ∷ y ∷ []
+relabelled g (x ∷ y ∷ z ∷ ws) = labelled g x ∷ y ∷ z ∷ relabelled g ws
+
+-- P names every term of every label of d
+abbrev pub Terms : List ℕ → (ℕ → Type 0) → Diagram → Type 0
+Terms ar P d = Labels (EachIn ar P) d
+
+-- labels under the arity list ar whose terms P names
+abbrev pub Named : List ℕ → (ℕ → Type 0) → ℕ → Type 0
+Named ar P l = (isLabel ar l ≡ true) × EachIn ar P l
