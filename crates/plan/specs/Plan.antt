@@ -116,11 +116,6 @@ pub record Touched (ws heads : List ℕ) (count : ℕ) : Type 0 where
 unfoldable pub wentTo : ℕ → List Pair → Went
 wentTo limit ps = cond (leb (length ps) limit) (To (length ps - 1) (length ps)) Full
 
--- what a walk from p requires: the operands lead down from its rows, and the plan is that of the pairs ps
-pub record Ready (x y ws heads : List ℕ) (limit : ℕ) (p : Pair) (ps : List Pair) : Type 0 where
-  pub leading : Leading x y p
-  pub plan : Plan x y ws heads limit ps
-
 -- what `walk` ensures, ps being the pairs of the walk: the answer, the plan of these pairs, and, where they are too many, that the index can be cleared
 pub record Planned (x y : List ℕ) (limit : ℕ) (ps : List Pair) (r : Went) (ws heads : List ℕ) : Type 0 where
   pub answer : r ≡ wentTo limit ps
@@ -131,6 +126,11 @@ pub record Planned (x y : List ℕ) (limit : ℕ) (ps : List Pair) (r : Went) (w
 unfoldable pub pairsAt : List ℕ → ℕ → List Pair
 pairsAt ws zero = []
 pairsAt ws (suc n) = pairsAt ws n ++ (pairOf (keyAt ws n) ∷ [])
+
+-- what a walk from p that goes on after count entries requires
+pub record Ready (x y ws heads : List ℕ) (limit count : ℕ) (p : Pair) : Type 0 where
+  pub leading : Leading x y p
+  pub plan : Plan x y ws heads limit (pairsAt ws count)
 
 -- what `visit` and `below` ensure, ps being the pairs after a walk from p: p's number and how many pairs there are, with their plan, or that they are too many
 pub record Reached (x y : List ℕ) (limit : ℕ) (p : Pair) (ps : List Pair) (number count : ℕ) (ws heads : List ℕ) : Type 0 where

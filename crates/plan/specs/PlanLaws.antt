@@ -38,20 +38,6 @@ pub hash-less : (k : ℕ) → hashOf k < buckets
 unfolding hashOf
 hash-less k = omega arith
 
--- membership by index
-pub mem-at : (o : Pair) (ps : List Pair) (k : ℕ) → k < length ps → mem samePair (getD ps k o) ps ≡ true
-mem-at o [] k h = absurd (omega arith)
-mem-at o (p ∷ ps) zero h = or-one (samePair p p) (mem samePair p ps) (pair-test .complete p)
-mem-at o (p ∷ ps) (suc k) h = or-other (samePair (getD ps k o) p) _ (mem-at o ps k (le-of-suc-le-suc h))
-
-pub mem-nowhere : (o q : Pair) (ps : List Pair) → ((k : ℕ) → k < length ps → getD ps k o ≡ q → ⊥) → mem samePair q ps ≡ false
-mem-nowhere o q [] f = refl
-mem-nowhere o q (p ∷ ps) f = go (flag (samePair q p)) (mem-nowhere o q ps (λ k h. f (suc k) (suc-le-suc h)))
-  where
-    go : Flag (samePair q p) → mem samePair q ps ≡ false → (samePair q p || mem samePair q ps) ≡ false
-    go (isTrue e) m = absurd (f 0 (omega arith) (sym (pair-test .sound q p e)))
-    go (isFalse e) m = rw (e, m)
-
 -- the pairs by their keys
 pub length-pairs : (ws : List ℕ) (n : ℕ) → length (pairsAt ws n) ≡ n
 unfolding pairsAt

@@ -3,10 +3,12 @@ use mathlib.Core.Bool.{Bool, true, false, cond, _&&_, _||_, or-false}
 use mathlib.Core.Path.{_≡_, refl, sym, ap, subst, _∙_}
 use mathlib.Core.Logic.{_⊎_, inl, inr, ⊎-elim}
 use mathlib.Core.List.{List, [], _∷_, _++_, append-nil, append-assoc}
-use Prim.Native.Nat.{ℕ, zero, suc, _+_, _*_, _<_, _≤_}
+use Prim.Native.Nat.{ℕ, zero, suc, _+_, _-_, _*_, _<_, _≤_, suc-le-suc}
+use native.Mathlib.Nat.{le-of-suc-le-suc}
 use native.Mathlib.Omega.{arith}
 use borrow.Author.Tests.{eqb-true, eqb-false, eq-eqb, ne-eqb, le-leb, lt-leb}
 use lib.ListN.{length, getD, length-append, List·getD-append}
+use lib.Seq.{getD-at}
 use lib.Dec.{eqb, leb}
 use Rattle.basics.specs.Tests.{Cmp, below, equal, above, cmp, Flag, isTrue, isFalse, flag, Either, one, other, either, and-left, and-right, or-one, or-other}
 use Rattle.basics.specs.Members.{IsTest, mem, NoDup, mem-append, clash}
@@ -222,6 +224,20 @@ mem-more q p l h = go (either (mem samePair q l) (samePair q p || false) (sym (m
     go (one e) = inl e
     go (other e) = inr (pair-test .sound q p (sym (or-false (samePair q p)) ∙ e))
 
+-- membership by index
+pub mem-at : (o : Pair) (ps : List Pair) (k : ℕ) → k < length ps → mem samePair (getD ps k o) ps ≡ true
+mem-at o [] k h = absurd (omega arith)
+mem-at o (p ∷ ps) zero h = or-one (samePair p p) (mem samePair p ps) (pair-test .complete p)
+mem-at o (p ∷ ps) (suc k) h = or-other (samePair (getD ps k o) p) _ (mem-at o ps k (le-of-suc-le-suc h))
+
+pub mem-nowhere : (o q : Pair) (ps : List Pair) → ((k : ℕ) → k < length ps → getD ps k o ≡ q → ⊥) → mem samePair q ps ≡ false
+mem-nowhere o q [] f = refl
+mem-nowhere o q (p ∷ ps) f = go (flag (samePair q p)) (mem-nowhere o q ps (λ k h. f (suc k) (suc-le-suc h)))
+  where
+    go : Flag (samePair q p) → mem samePair q ps ≡ false → (samePair q p || mem samePair q ps) ≡ false
+    go (isTrue e) m = absurd (f 0 (omega arith) (sym (pair-test .sound q p e)))
+    go (isFalse e) m = rw (e, m)
+
 -- every pair that it adds has no later rows than the pair where it starts
 pub finish-members : (x y : List ℕ) (depth : ℕ) (p : Pair) (done : List Pair) → Leading x y p → (q : Pair) → mem samePair q (finishPairs x y depth p done) ≡ true
     → (mem samePair q done ≡ true) ⊎ Under q p
@@ -353,3 +369,24 @@ module _ (x y : List ℕ) (p : Pair) (done : List Pair) where
   pub walked-fresh : Leading x y p → isEnd x y p ≡ false → mem samePair p done ≡ false → mem samePair p (walked x y (onLow x y p) (walked x y (onHigh x y p) done)) ≡ false
   unfolding walked
   walked-fresh a e m = finish-fresh x y _ _ p done a e m
+
+-- a list without repeats has each pair at one place
+pub place-one : (o : Pair) (ps : List Pair) → NoDup samePair ps → (k l : ℕ) → k < length ps → l < length ps → getD ps k o ≡ getD ps l o → k ≡ l
+place-one o [] d k l h g e = absurd (omega arith)
+place-one o (p ∷ ps) d zero zero h g e = refl
+place-one o (p ∷ ps) d zero (suc l) h g e = clash (subst (λ (q : Pair). mem samePair q ps ≡ true) (sym e) (mem-at o ps l (le-of-suc-le-suc g))) (d .0)
+place-one o (p ∷ ps) d (suc k) zero h g e = clash (subst (λ (q : Pair). mem samePair q ps ≡ true) e (mem-at o ps k (le-of-suc-le-suc h))) (d .0)
+place-one o (p ∷ ps) d (suc k) (suc l) h g e = ap suc (place-one o ps (d .1) k l (le-of-suc-le-suc h) (le-of-suc-le-suc g) e)
+
+-- the walk of no pairs yet finishes its root, and that last
+pub walked-root : (x y : List ℕ) (p : Pair) → Leading x y p → (o : Pair) → (0 < length (walked x y p [])) × (getD (walked x y p []) (length (walked x y p []) - 1) o ≡ p)
+walked-root x y p a o = go (flag (isEnd x y p))
+  where
+    root : (us : List Pair) → walked x y p [] ≡ us ++ (p ∷ []) → (0 < length (walked x y p [])) × (getD (walked x y p []) (length (walked x y p []) - 1) o ≡ p)
+    root us e =
+        let l : length (walked x y p []) ≡ length us + 1 = ap length e ∙ length-append us (p ∷ []) in
+        (omega arith, ap (λ (qs : List Pair). getD qs (length (walked x y p []) - 1) o) e ∙ getD-at us p [] o (length (walked x y p []) - 1) (omega arith))
+
+    go : Flag (isEnd x y p) → (0 < length (walked x y p [])) × (getD (walked x y p []) (length (walked x y p []) - 1) o ≡ p)
+    go (isTrue e) = root [] (walked-end x y p [] refl e)
+    go (isFalse e) = root (walked x y (onLow x y p) (walked x y (onHigh x y p) [])) (walked-branch x y p [] a refl e)

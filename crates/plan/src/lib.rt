@@ -1,4 +1,13 @@
 // The walk of pairs of a combination, and the plan that it writes into lent space.
+ghost use mathlib.Core.Path.{_≡_};
+ghost use mathlib.Core.Bool.{false};
+ghost use mathlib.Core.List.{[]};
+ghost use Prim.Native.Nat.{_+_, _*_, _<_, _≤_};
+ghost use lib.ListN.{length};
+ghost use Rattle.basics.specs.Members.{mem};
+ghost use Rattle.table.specs.Chains.{prev};
+ghost use Rattle.plan.specs.Walk.{samePair, lesser, onHigh, onLow, walked, mostRows, Leading};
+ghost use Rattle.plan.specs.Plan.{buckets, keyCount, keyOf, hashOf, keyAt, Index, Plan, Clean, Touched, Ready, Planned, pairsAt, Visited, Entered};
 
 // A leaf's first word.
 const LEAF: u64 = 4294967295;
@@ -7,4 +16,205 @@ const LEAF: u64 = 4294967295;
 pub enum Went {
     To(usize, usize),
     Full,
+}
+
+// The rows of a pair's two successors: (hi, hj) on high, (li, lj) on low.
+pub struct Ways {
+    pub hi: usize,
+    pub hj: usize,
+    pub li: usize,
+    pub lj: usize,
+}
+
+// The key of a pair.
+fn key(i: usize, j: usize) -> u64
+    requires { ⌜ (i < mostRows) × (j < mostRows) ⌝ }
+    ensures { λ r. ⌜ (r ≡ keyOf (i, j)) × (r < keyCount) ⌝ }
+{
+    (i * 2048 + j) as u64
+}
+
+// The bucket of a key.
+fn hash(k: u64) -> usize
+    requires { ⌜ k < keyCount ⌝ }
+    ensures { λ r. ⌜ (r ≡ hashOf k) × (r < buckets) ⌝ }
+{
+    ((k * 2654435769) / 65536 % 4096) as usize
+}
+
+// The lower of two labels.
+fn lower(a: u64, b: u64) -> u64
+    ensures { λ r. ⌜ r ≡ lesser a b ⌝ }
+{
+    if a <= b {
+        return a;
+    }
+    b
+}
+
+// One more than the number of the entry with the key, or 0.
+fn find(plan: &[u64], heads: &[u16], limit: usize, count: usize, k: u64) -> usize
+    requires { ⌜ Index (now plan) (now heads) limit count ⌝ }
+    requires { ⌜ k < keyCount ⌝ }
+    ensures { λ r. ⌜ r ≡ prev (keyAt (now (plan .entry))) k count ⌝ }
+{
+    let h = hash(k);
+    let mut at = basics::wide(heads[h]);
+    while at != 0 {
+        let i = at - 1;
+        if plan[i * 5] == k {
+            return at;
+        }
+        at = plan[i * 5 + 1] as usize;
+    }
+    0
+}
+
+// The successors of a pair, all read before anything is stored.
+fn successors(x: &[u64], y: &[u64], i: usize, j: usize) -> Ways
+    requires { ⌜ (i * 3 + 3 ≤ length (now x)) × (j * 3 + 3 ≤ length (now y)) ⌝ }
+    ensures { λ r. ⌜ ((r .hi, r .hj) ≡ onHigh (now (x .entry)) (now (y .entry)) (i, j)) × ((r .li, r .lj) ≡ onLow (now (x .entry)) (now (y .entry)) (i, j)) ⌝ }
+{
+    let a = x[i * 3];
+    let b = y[j * 3];
+    if a < b {
+        return Ways {
+            hi: x[i * 3 + 1] as usize,
+            hj: j,
+            li: x[i * 3 + 2] as usize,
+            lj: j,
+        };
+    }
+    if b < a {
+        return Ways {
+            hi: i,
+            hj: y[j * 3 + 1] as usize,
+            li: i,
+            lj: y[j * 3 + 2] as usize,
+        };
+    }
+    Ways {
+        hi: x[i * 3 + 1] as usize,
+        hj: y[j * 3 + 1] as usize,
+        li: x[i * 3 + 2] as usize,
+        lj: y[j * 3 + 2] as usize,
+    }
+}
+
+// Writes an entry at the end, if there is room.
+fn add(
+    plan: &mut [u64],
+    heads: &mut [u16],
+    limit: usize,
+    count: usize,
+    k: u64,
+    label: u64,
+    first: u64,
+    second: u64,
+) -> Went
+    requires { ⌜ Index (now plan) (now heads) limit count ⌝ }
+    requires { ⌜ k < keyCount ⌝ }
+    ensures { λ r. ⌜ Entered (now (plan .entry)) (now (heads .entry)) limit count k label first second r (now (plan .exit)) (now (heads .exit)) ⌝ }
+{
+    if count == limit {
+        return Went::Full;
+    }
+    let h = hash(k);
+    plan[count * 5] = k;
+    plan[count * 5 + 1] = basics::wide(heads[h]) as u64;
+    plan[count * 5 + 2] = label;
+    plan[count * 5 + 3] = first;
+    plan[count * 5 + 4] = second;
+    heads[h] = (count + 1) as u16;
+    Went::To(count, count + 1)
+}
+
+// Walks from a pair, which may be in the plan already.
+fn visit(
+    x: &[u64],
+    y: &[u64],
+    plan: &mut [u64],
+    heads: &mut [u16],
+    limit: usize,
+    count: usize,
+    i: usize,
+    j: usize,
+) -> Went
+    requires { ⌜ Ready (now x) (now y) (now plan) (now heads) limit count (i, j) ⌝ }
+    ensures { λ r. ⌜ Visited (now (x .entry)) (now (y .entry)) limit (i, j) (walked (now (x .entry)) (now (y .entry)) (i, j) (pairsAt (now (plan .entry)) count)) r (now (plan .exit)) (now (heads .exit)) ⌝ }
+{
+    let at = find(plan, heads, limit, count, key(i, j));
+    if at != 0 {
+        return Went::To(at - 1, count);
+    }
+    below(x, y, plan, heads, limit, count, i, j)
+}
+
+// Walks from a pair that is not in the plan.
+fn below(
+    x: &[u64],
+    y: &[u64],
+    plan: &mut [u64],
+    heads: &mut [u16],
+    limit: usize,
+    count: usize,
+    i: usize,
+    j: usize,
+) -> Went
+    requires { ⌜ Ready (now x) (now y) (now plan) (now heads) limit count (i, j) ⌝ }
+    requires { ⌜ mem samePair (i, j) (pairsAt (now plan) count) ≡ false ⌝ }
+    ensures { λ r. ⌜ Visited (now (x .entry)) (now (y .entry)) limit (i, j) (walked (now (x .entry)) (now (y .entry)) (i, j) (pairsAt (now (plan .entry)) count)) r (now (plan .exit)) (now (heads .exit)) ⌝ }
+{
+    let l = lower(x[i * 3], y[j * 3]);
+    if l == LEAF {
+        return add(
+            plan,
+            heads,
+            limit,
+            count,
+            key(i, j),
+            l,
+            x[i * 3 + 1],
+            y[j * 3 + 1],
+        );
+    }
+    let s = successors(x, y, i, j);
+    let Went::To(t, n) = visit(x, y, plan, heads, limit, count, s.hi, s.hj) else {
+        return Went::Full;
+    };
+    let Went::To(f, m) = visit(x, y, plan, heads, limit, n, s.li, s.lj) else {
+        return Went::Full;
+    };
+    add(plan, heads, limit, m, key(i, j), l, t as u64, f as u64)
+}
+
+// Walks the pairs of two row spaces from row i of x and row j of y, and writes their plan. The index must be clean, and is in use after.
+pub fn walk(
+    x: &[u64],
+    y: &[u64],
+    plan: &mut [u64],
+    heads: &mut [u16],
+    limit: usize,
+    i: usize,
+    j: usize,
+) -> Went
+    requires { ⌜ Leading (now x) (now y) (i, j) ⌝ }
+    requires { ⌜ Plan (now x) (now y) (now plan) (now heads) limit [] ⌝ }
+    ensures { λ r. ⌜ Planned (now (x .entry)) (now (y .entry)) limit (walked (now (x .entry)) (now (y .entry)) (i, j) []) r (now (plan .exit)) (now (heads .exit)) ⌝ }
+{
+    below(x, y, plan, heads, limit, 0, i, j)
+}
+
+// Empties the index of the first count entries: clears the buckets that they touched.
+pub fn clear(plan: &[u64], heads: &mut [u16], count: usize)
+    requires { ⌜ Touched (now plan) (now heads) count ⌝ }
+    ensures { λ _. ⌜ length (now (heads .exit)) ≡ length (now (heads .entry)) ⌝ }
+    ensures { λ _. ⌜ Clean (now (heads .exit)) ⌝ }
+{
+    let mut i = 0;
+    while i < count {
+        let h = hash(plan[i * 5]);
+        heads[h] = 0;
+        i += 1;
+    }
 }

@@ -3,9 +3,9 @@ use mathlib.Core.List.{List, [], _∷_}
 use mathlib.Core.Bool.{Bool, true, false, _&&_, _||_}
 use Prim.Native.Nat.{ℕ, zero, suc, _+_, _*_, _/_}
 use lib.ListN.{length, getD, take}
-use lib.Dec.{eqb}
+use lib.Dec.{eqb, ltb, leb}
 use Rattle.label.specs.Limits.{constantCount}
-use Rattle.diagram.specs.Words.{equalLists}
+use Rattle.diagram.specs.Words.{equalLists, everyBelow}
 use Rattle.state.specs.State.{State, low}
 
 -- words of a row of facts: its predicate and four objects
@@ -33,11 +33,32 @@ abbrev pub someBelow : ℕ → (ℕ → Bool) → Bool
 someBelow zero q = false
 someBelow (suc n) q = someBelow n q || q n
 
--- the lent state: p holds of os if some row says so
-unfoldable pub stateOf : List ℕ → ℕ → List ℕ → List ℕ → State
+-- some row says that p holds of os
+unfoldable pub saidBy : List ℕ → List ℕ → ℕ → List ℕ → Bool
 unfolding saysFact
+saidBy ar facts p os = someBelow (factCount facts) (saysFact ar facts p os)
+
+-- the lent state; places past the last constant have object 0
+unfoldable pub stateOf : List ℕ → ℕ → List ℕ → List ℕ → State
+unfolding saidBy
 stateOf ar n constants facts = record {
   size = n;
   constant = λ c. low constantCount c (getD constants c 0) 0;
-  fact = λ p os. someBelow (factCount facts) (saysFact ar facts p os);
+  fact = saidBy ar facts;
 }
+
+-- every object of the list is below n
+abbrev pub allBelow : ℕ → List ℕ → Bool
+allBelow n [] = true
+allBelow n (o ∷ os) = ltb o n && allBelow n os
+
+-- row i names objects below n only
+unfoldable pub namesBelow : List ℕ → ℕ → List ℕ → ℕ → Bool
+unfolding predicateAt objectsAt
+namesBelow ar n facts i = allBelow n (take (getD ar (predicateAt facts i) 0) (objectsAt facts i))
+
+-- there is an object, and no object that the lent words name is n or beyond
+unfoldable pub isState : List ℕ → ℕ → List ℕ → List ℕ → Bool
+unfolding namesBelow
+isState ar n constants facts =
+    leb 1 n && (everyBelow constantCount (λ c. ltb (getD constants c 0) n) && everyBelow (factCount facts) (namesBelow ar n facts))

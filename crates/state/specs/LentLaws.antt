@@ -9,7 +9,7 @@ use lib.Dec.{eqb}
 use Rattle.basics.specs.Tests.{Cmp, below, equal, above, cmp, Flag, isTrue, isFalse, flag, Either, one, other, either, or-one, or-other}
 use Rattle.basics.specs.Members.{clash}
 use Rattle.state.specs.State.{State}
-use Rattle.state.specs.Lent.{factCount, predicateAt, objectsAt, saysFact, someBelow, stateOf}
+use Rattle.state.specs.Lent.{factCount, saysFact, someBelow, saidBy, stateOf}
 
 -- `someBelow`, made and taken apart
 pub some-made : (n : ℕ) (q : ℕ → Bool) (i : ℕ) → i < n → q i ≡ true → someBelow n q ≡ true
@@ -47,7 +47,7 @@ pub record Among (ar facts others : List ℕ) : Type 0 where
 -- facts in another order or repeated: the state is the same
 pub same-facts : (ar : List ℕ) (n : ℕ) (constants facts others : List ℕ) → Among ar facts others → Among ar others facts
     → stateOf ar n constants facts ≡ stateOf ar n constants others
-unfolding stateOf
+unfolding stateOf saidBy
 same-facts ar n constants facts others a b =
     let e : stateOf ar n constants facts .fact ≡ stateOf ar n constants others .fact
     = fun-ext (λ p. fun-ext (λ os. both-ways _ _ (there facts others a p os) (there others facts b p os))) in

@@ -4,6 +4,9 @@ pub mod State
 pub mod Terms
 pub mod Highest
 pub mod Lent
+pub mod ValueCall
+pub mod Index
+pub mod Search
 pub mod MaxLaws
 pub mod ValueLaws
 pub mod HighestLaws

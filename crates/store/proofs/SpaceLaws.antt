@@ -27,7 +27,7 @@ use Rattle.diagram.specs.DiagramLaws.{same-eq, same-refl}
 use Rattle.diagram.specs.Words.{labelAt, highAt, lowAt, upTo}
 use Rattle.diagram.specs.WordLaws.{length-upTo, map-snoc, getD-map, getD-upTo}
 use Rattle.diagram.specs.Listing.{index}
-use Rattle.diagram.specs.ListingLaws.{index-new}
+use Rattle.diagram.specs.ListingLaws.{index-new, index-less, getD-index}
 use Rattle.diagram.specs.Validity.{tree}
 use Rattle.diagram.specs.RowLists.{rowTree, Written, SameRows}
 use Rattle.diagram.specs.RowLaws.{kept-index-is, row-mem}
@@ -35,10 +35,12 @@ use Rattle.diagram.specs.Shown.{reads}
 use Rattle.diagram.specs.WrittenRows.{written-shown, rows-places, written-none, written-leaf, written-branch, leaf-found, branch-found, leaf-missing, branch-missing}
 use Rattle.apply.specs.Apply.{node}
 use Rattle.apply.specs.ApplyLaws.{node-same, node-differ}
-use Rattle.apply.specs.Formed.{add}
+use Rattle.apply.specs.Snoc.{Begins, begins-length, begins-getD}
+use Rattle.apply.specs.Formed.{add, ClosedRows}
 use Rattle.apply.specs.FormedLaws.{add-old, add-new}
 use Rattle.store.specs.declared.Formed.{Formed}
 use Rattle.store.specs.declared.Formed.the-variants.{Row, Full}
+use Rattle.store.specs.AddLaws.{kept-closed}
 use Rattle.store.specs.Space.{diagramsOf, Holds, standsFor, Formable, a-leaf, a-branch, Children, pickFormed, formAnswer, rowsThen, Formation}
 
 -- the diagrams of the rows, by number
@@ -124,11 +126,11 @@ found-is s n r i e =
     (h, sym (getD-rows s r n i h) ∙ ap (λ (k : ℕ). getD (rows s n) k r) (sym q) ∙ f .row)
 
 -- what a row stands for
-stands-leaf : (s : List ℕ) (r : TableRow) → r .label ≡ leafMark → standsFor s r ≡ leaf (r .high)
+pub stands-leaf : (s : List ℕ) (r : TableRow) → r .label ≡ leafMark → standsFor s r ≡ leaf (r .high)
 unfolding standsFor
 stands-leaf s r e = rw (eq-eqb (r .label) leafMark e)
 
-stands-branch : (s : List ℕ) (r : TableRow) → r .label < leafMark → standsFor s r ≡ branch (r .label) (tree s (r .high)) (tree s (r .low))
+pub stands-branch : (s : List ℕ) (r : TableRow) → r .label < leafMark → standsFor s r ≡ branch (r .label) (tree s (r .high)) (tree s (r .low))
 unfolding standsFor
 stands-branch s r h = rw (ne-eqb (r .label) leafMark (λ e. omega arith))
 
@@ -309,3 +311,34 @@ module _ {d : Diagram} {rs : List Diagram} {s heads links : List ℕ} where
       go : Flag (leb (length rs) spaceRows) → Full ≡ pickFormed (leb (length rs) spaceRows) (Row (index d rs) (length rs)) Full → spaceRows < length rs
       go (isTrue e) a = let b : Full ≡ Row (index d rs) (length rs) = rw e at a in absurd (let z : _≡_ {A = ℕ} 0 1 = cc in omega arith)
       go (isFalse e) a = leb-false (length rs) spaceRows e
+
+-- the rows of a space hold with each branch its children
+pub holds-closed : {s heads links : List ℕ} {count : ℕ} → Holds s heads links count → ClosedRows (diagramsOf s count)
+holds-closed {s} {heads} {links} {count} h = kept-closed (diagramsOf s count) (h .written .kept)
+
+module _ {d : Diagram} {rs : List Diagram} {s heads links : List ℕ} {i n : ℕ} (f : Formation d rs (Row i n) s heads links) where
+  -- the row that was formed stands for its diagram
+  pub formation-tree : mem same d rs ≡ true → (i < n) × (tree s i ≡ d)
+  formation-tree m =
+      let r = formation-row f in
+      let h : i < n = omega (arith, r .1, r .2, index-less d rs m) in
+      (h, sym (diagram-at s n i h) ∙ ap (λ (x : List Diagram). rowTree x i) (r .3) ∙ ap (rowTree rs) (r .1) ∙ getD-index d rs (leaf 0) m)
+
+  -- rows that were there stand for what they stood for
+  pub formation-old : (us : List ℕ) (count : ℕ) → Begins (diagramsOf us count) rs → (k : ℕ) → k < count → (k < n) × (tree s k ≡ tree us k)
+  formation-old us count b k h =
+      let r = formation-row f in
+      let l = length-diagrams us count in
+      let k′ : k < n = omega (arith, r .2, begins-length (diagramsOf us count) rs b) in
+      (k′, sym (diagram-at s n k k′) ∙ ap (λ (x : List Diagram). rowTree x k) (r .3) ∙ begins-getD (diagramsOf us count) rs k (leaf 0) b (omega arith) ∙ diagram-at us count k h)
+
+-- where there is no room for some rows, there is none for more
+pub full-more : {d : Diagram} {rs : List Diagram} {s heads links : List ℕ} (e : Diagram) (qs : List Diagram) → Formation d rs Full s heads links → Begins rs qs
+    → Formation e qs Full s heads links
+full-more {d} {rs} {s} {heads} {links} e qs f b =
+    let h = formation-full f in
+    record {
+      answer = sym (answer-full e qs (omega (arith, begins-length rs qs b)));
+      diagrams = f .diagrams ∙ sym (ap (take spaceRows) (b .whole) ∙ take-append-le spaceRows rs (b .rest) (omega arith));
+      holds = f .holds;
+    }

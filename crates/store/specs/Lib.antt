@@ -1,2 +1,4 @@
 -- The working space (document 01, section 'Combination').
 pub mod Space
+pub mod Load
+pub mod AddLaws

@@ -1,0 +1,151 @@
+-- The ways through the functions of the walk, each in the words of what its callees ensure.
+use mathlib.Core.Bool.{Bool, true, false}
+use mathlib.Core.Path.{_≡_, refl, sym, ap, subst, _∙_}
+use mathlib.Core.Logic.{⊎-elim}
+use mathlib.Core.List.{List, [], _∷_, _++_}
+use Prim.Native.Nat.{ℕ, zero, suc, _+_, _-_, _*_, _<_, _≤_, zero-le}
+use native.Mathlib.Omega.{arith}
+use lib.ListN.{length, getD, set, length-set}
+use lib.Seq.{getD-set-same, getD-set-other}
+use Rattle.basics.specs.Tests.{Cmp, below, equal, above, cmp}
+use Rattle.table.specs.Chains.{prev}
+use Rattle.table.specs.ChainLaws.{test, prev-same, prev-other, prev-le, prev-gap, prev-hits, prev-none}
+use Rattle.diagram.specs.Words.{labelAt, highAt, lowAt}
+use Rattle.plan.specs.Walk.{Pair, lesser, descend, onHigh, onLow}
+use Rattle.plan.specs.WalkLaws.{lesser-le, lesser-gt, descend-first, descend-second, descend-both}
+use Rattle.plan.specs.Plan.{buckets, keyCount, keyOf, hashOf, keyAt, linkAt, hashAt, putEntry, Index, Clean, Touched, Entered}
+use Rattle.plan.specs.declared.Went.{Went}
+use Rattle.plan.specs.declared.Went.the-variants.{To, Full}
+
+-- the search of a chain for the key k: the entries at or above `at` are passed, and `at` is 0 or one more than an entry of k's bucket
+pub record Chain (ws : List ℕ) (count k at : ℕ) : Type 0 where
+  pub below : at ≤ count
+  pub bucket : (i : ℕ) → at ≡ suc i → hashAt ws i ≡ hashOf k
+  pub passed : (i : ℕ) → at ≤ i → i < count → keyAt ws i ≡ k → ⊥
+
+in-bucket : (ws : List ℕ) (k i : ℕ) → keyAt ws i ≡ k → hashAt ws i ≡ hashOf k
+unfolding hashAt
+in-bucket ws k i e = ap hashOf e
+
+-- one more than the last place where f is b
+last-place : (f : ℕ → ℕ) (b n i : ℕ) → i < n → f i ≡ b → ((k : ℕ) → i < k → k < n → f k ≡ b → ⊥) → prev f b n ≡ suc i
+last-place f b zero i h e g = absurd (omega arith)
+last-place f b (suc n) i h e g =
+    ⊎-elim (λ (p : i ≡ n). prev-same f b n (ap f (sym p) ∙ e) ∙ ap suc (sym p))
+    (λ (p : i ≡ n → ⊥). prev-other f b n (g n (omega arith) (omega arith)) ∙ last-place f b n i (omega arith) e (λ k l m. g k l (omega arith)))
+    (test i n)
+
+module _ {ws heads : List ℕ} {limit count k : ℕ} (t : Index ws heads limit count) where
+  pub chain-start : {b at : ℕ} → (b ≡ hashOf k) × (b < buckets) → at ≡ getD heads b 0 → Chain ws count k at
+  chain-start {b} {at} h e =
+      let q : at ≡ prev (hashAt ws) b count = e ∙ t .head b (h .1) in
+      record {
+        below = omega (arith, prev-le (hashAt ws) b count);
+        bucket = λ i p. prev-hits (hashAt ws) b count i (sym q ∙ p) ∙ h .0;
+        passed = λ i l m p. prev-gap (hashAt ws) b count i (omega arith) m (in-bucket ws k i p ∙ sym (h .0));
+      }
+
+  module _ {at : ℕ} (w : Chain ws count k at) (n : at ≡ 0 → ⊥) where
+    up : suc (at - 1) ≡ at
+    up = omega arith
+
+    link-is : linkAt ws (at - 1) ≡ prev (hashAt ws) (hashAt ws (at - 1)) (at - 1)
+    link-is = t .link (at - 1) (omega (arith, w .below))
+
+    pub chain-hit : getD ws ((at - 1) * 5) 0 ≡ k → at ≡ prev (keyAt ws) k count
+    unfolding keyAt
+    chain-hit e = sym (last-place (keyAt ws) k count (at - 1) (omega (arith, w .below)) e (λ i l m. w .passed i (omega arith) m) ∙ up)
+
+    pub chain-on : (getD ws ((at - 1) * 5) 0 ≡ k → ⊥) → Chain ws count k (getD ws ((at - 1) * 5 + 1) 0)
+    unfolding keyAt linkAt
+    chain-on f = record {
+      below = omega (arith, link-is, prev-le (hashAt ws) (hashAt ws (at - 1)) (at - 1), w .below);
+      bucket = λ j p. prev-hits (hashAt ws) (hashAt ws (at - 1)) (at - 1) j (sym link-is ∙ p) ∙ w .bucket (at - 1) (sym up);
+      passed = λ i l m p. on i l m p (cmp i (at - 1));
+    }
+      where
+        on : (i : ℕ) → linkAt ws (at - 1) ≤ i → i < count → keyAt ws i ≡ k → Cmp i (at - 1) → ⊥
+        on i l m p (below u) =
+            prev-gap (hashAt ws) (hashAt ws (at - 1)) (at - 1) i (omega (arith, link-is)) u (in-bucket ws k i p ∙ sym (w .bucket (at - 1) (sym up)))
+        on i l m p (equal u) = f (subst (λ (j : ℕ). keyAt ws j ≡ k) u p)
+        on i l m p (above u) = w .passed i (omega arith) m p
+
+    pub chain-less : getD ws ((at - 1) * 5 + 1) 0 < at
+    unfolding linkAt
+    chain-less = omega (arith, link-is, prev-le (hashAt ws) (hashAt ws (at - 1)) (at - 1))
+
+  pub chain-none : {at : ℕ} → Chain ws count k at → at ≡ 0 → 0 ≡ prev (keyAt ws) k count
+  chain-none w e = sym (prev-none (keyAt ws) k count (λ i l p. w .passed i (omega arith) l p))
+
+-- the loop of `clear`: the buckets that no entry from i on has are clean
+pub record Clearing (ws heads : List ℕ) (count i : ℕ) : Type 0 where
+  pub below : i ≤ count
+  pub slots : buckets ≤ length heads
+  pub others : (b : ℕ) → b < buckets → ((k : ℕ) → i ≤ k → k < count → hashAt ws k ≡ b → ⊥) → getD heads b 0 ≡ 0
+
+pub clear-start : {ws heads : List ℕ} {count : ℕ} → Touched ws heads count → Clearing ws heads count 0
+clear-start t = record { below = zero-le; slots = t .slots; others = λ b h f. t .others b h (λ k l. f k zero-le l) }
+
+pub clear-key : {ws heads : List ℕ} {count i : ℕ} → Touched ws heads count → i < count → getD ws (i * 5) 0 < keyCount
+unfolding keyAt
+clear-key {ws} {heads} {count} {i} t h = t .keys i h
+
+pub clear-on : {ws heads : List ℕ} {count i b : ℕ} → Clearing ws heads count i → i < count → (b ≡ hashOf (getD ws (i * 5) 0)) × (b < buckets)
+    → Clearing ws (set heads b 0) count (i + 1)
+unfolding hashAt keyAt
+clear-on {ws} {heads} {count} {i} {b} w l h = record {
+  below = omega arith;
+  slots = rw length-set (w .slots);
+  others = λ c m f. ⊎-elim
+      (λ (e : c ≡ b). subst (λ (z : ℕ). getD (set heads b 0) z 0 ≡ 0) (sym e) (getD-set-same heads b 0 0 (omega (arith, h .1, w .slots))))
+      (λ (e : c ≡ b → ⊥). getD-set-other heads b c 0 0 e
+      ∙ w .others c m (λ k u v q. ⊎-elim (λ (s : k ≡ i). e (sym q ∙ ap (hashAt ws) s ∙ sym (h .0))) (λ (s : k ≡ i → ⊥). f k (omega arith) v q) (test k i)))
+      (test c b);
+}
+
+pub clear-end : {ws heads : List ℕ} {count i : ℕ} → Clearing ws heads count i → count ≤ i → Clean heads
+clear-end {ws} {heads} {count} {i} w h = record { slots = w .slots; zeros = λ b l. w .others b l (λ k u v q. omega arith) }
+
+-- the ways out of `add`
+module _ {ws heads : List ℕ} {limit count k label first second : ℕ} where
+  pub add-full : count ≡ limit → Entered ws heads limit count k label first second Full ws heads
+  add-full e = record { to = λ m n q. absurd (let z : _≡_ {A = ℕ} 0 1 = cc in omega arith); full = λ q. (e, refl, refl) }
+
+  pub add-to : {b link : ℕ} → Index ws heads limit count → (count ≡ limit → ⊥) → (b ≡ hashOf k) × (b < buckets) → link ≡ getD heads b 0
+      → Entered ws heads limit count k label first second (To count (count + 1))
+      (set (set (set (set (set ws (count * 5) k) (count * 5 + 1) link) (count * 5 + 2) label) (count * 5 + 3) first) (count * 5 + 4) second)
+      (set heads b (count + 1))
+  unfolding putEntry
+  add-to {b} {link} t f h d = record {
+    to = λ m n q. (
+      (let z : count ≡ m = cc in sym z),
+      (let z : count + 1 ≡ n = cc in sym z),
+      omega (arith, t .within),
+      ap (λ (c : ℕ). putEntry ws count k c label first second) (d ∙ ap (λ (c : ℕ). getD heads c 0) (h .0)),
+      ap (λ (c : ℕ). set heads c (count + 1)) (h .0),
+    );
+    full = λ q. absurd (let z : _≡_ {A = ℕ} 0 1 = cc in omega arith);
+  }
+
+-- the ways out of `lower`
+pub lower-le : {a b : ℕ} → a ≤ b → a ≡ lesser a b
+lower-le {a} {b} h = sym (lesser-le a b h)
+
+pub lower-gt : {a b : ℕ} → b < a → b ≡ lesser a b
+lower-gt {a} {b} h = sym (lesser-gt a b h)
+
+-- the ways out of `successors`
+module _ (x y : List ℕ) (i j : ℕ) where
+  pub ways-first : getD x (i * 3) 0 < getD y (j * 3) 0 → ((getD x (i * 3 + 1) 0, j) ≡ onHigh x y (i, j)) × ((getD x (i * 3 + 2) 0, j) ≡ onLow x y (i, j))
+  unfolding labelAt highAt lowAt
+  ways-first h = (sym (descend-first highAt x y (i, j) h), sym (descend-first lowAt x y (i, j) h))
+
+  pub ways-second : getD y (j * 3) 0 < getD x (i * 3) 0 → ((i, getD y (j * 3 + 1) 0) ≡ onHigh x y (i, j)) × ((i, getD y (j * 3 + 2) 0) ≡ onLow x y (i, j))
+  unfolding labelAt highAt lowAt
+  ways-second h = (sym (descend-second highAt x y (i, j) h), sym (descend-second lowAt x y (i, j) h))
+
+  pub ways-both : getD y (j * 3) 0 ≤ getD x (i * 3) 0 → getD x (i * 3) 0 ≤ getD y (j * 3) 0
+      → ((getD x (i * 3 + 1) 0, getD y (j * 3 + 1) 0) ≡ onHigh x y (i, j)) × ((getD x (i * 3 + 2) 0, getD y (j * 3 + 2) 0) ≡ onLow x y (i, j))
+  unfolding labelAt highAt lowAt
+  ways-both h g = let e : labelAt x i ≡ labelAt y j = omega arith in
+      (sym (descend-both highAt x y (i, j) e), sym (descend-both lowAt x y (i, j) e))

@@ -1,0 +1,30 @@
+use borrow.Author.Needs.{needs}
+use Rattle.plan.proofs.StepLaws.{Clearing, clear-start, clear-key, clear-on, clear-end}
+use mathlib.Core.Path.{_≡_}
+use Prim.Native.Nat.{_-_}
+use lib.ListN.{length}
+use Rattle.plan.proofs.clear.Statement.{statement}
+use Rattle.plan.proofs.clear.Tie as tie
+
+abbrev Inv-loop : tie.InvT-loop
+Inv-loop plan heads₀ count i₀ heads i = (length heads ≡ length heads₀) × Clearing plan heads count i
+
+abbrev μ-loop : tie.MeasureT-loop
+μ-loop plan heads₀ count i₀ heads i = count - i
+
+loop-holds : tie.Need-loop-holds Inv-loop μ-loop
+loop-holds c = (search needs, search clear-start)
+
+hash-requires : tie.Need-hash-requires Inv-loop μ-loop
+hash-requires c κs = search clear-key
+
+loop-again : tie.Need-loop-again Inv-loop μ-loop
+loop-again c = (search needs, search clear-on)
+
+returns : tie.Need-returns Inv-loop μ-loop
+returns c = (search needs, search clear-end)
+
+pub clear-spec : {M : Type 1} → statement M
+clear-spec =
+    tie.close
+    (tie.spec Inv-loop μ-loop loop-holds (λ c. search needs) (λ c. search needs) (λ c. search needs) hash-requires (λ c. search needs) (λ c. search needs) (λ c. search needs) (λ c. search needs) loop-again (λ c. search needs) returns)

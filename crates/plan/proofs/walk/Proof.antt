@@ -1,0 +1,14 @@
+use Rattle.plan.proofs.VisitLaws.{walk-ready, walk-new, walk-out}
+use borrow.Author.Needs.{needs}
+use Rattle.plan.proofs.walk.Statement.{statement}
+use Rattle.plan.proofs.walk.Tie as tie
+
+below-requires : tie.Need-below-requires
+below-requires c κs = let h = c .before .before .before .before .before .before .pre in (walk-ready (h .0) (h .1), walk-new _ _)
+
+returns : tie.Need-returns
+returns c = walk-out _ (c .before .before .before .before .before .before .before .before .before .before .before .pre .0) (c .before .before .before .before .below .ensures)
+
+pub walk-spec : {M : Type 1} → statement M
+walk-spec =
+    tie.close (tie.spec below-requires (λ c. search needs) (λ c. search needs) returns)

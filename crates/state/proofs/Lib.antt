@@ -1,0 +1,3 @@
+pub mod FactLaws
+pub mod SearchLaws
+pub mod StartLaws
