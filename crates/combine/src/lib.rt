@@ -1,5 +1,6 @@
 // Combination of two diagrams: the plan's leaves checked, its rows formed, the result written.
 use apply::Operation;
+use plan::Went;
 use store::Formed;
 ghost use mathlib.Core.Path.{_≡_};
 ghost use Prim.Native.Nat.{ℕ, _+_, _*_, _<_, _≤_, max};
@@ -8,7 +9,9 @@ ghost use lib.Dec.{ltb};
 ghost use Rattle.diagram.specs.Sizes.{highestValue};
 ghost use Rattle.apply.specs.Combination.{operate};
 ghost use Rattle.combine.specs.Results.{exceedsAt, exceeds, results, Sound, SoundAt};
+ghost use Rattle.diagram.specs.Validity.{tree};
 ghost use Rattle.apply.specs.Formed.{add};
+ghost use Rattle.combine.specs.Paired.{Pairable, PairedUp};
 ghost use Rattle.plan.specs.Plan.{pairLabelAt, firstAt, secondAt};
 ghost use Rattle.store.specs.Space.{diagramsOf, Holds, Formation, addAll};
 ghost use Rattle.combine.specs.Callers.{Values, Calm, EntryOf};
@@ -92,13 +95,6 @@ fn overflow(plan: &[u64], n: usize, op: Operation) -> bool
     false
 }
 
-// What pairing up answers: the pairs of the plan, that they are too many, or that a pair of leaves has a result above 10^18.
-pub enum Paired {
-    Pairs(usize),
-    TooMany,
-    TooHigh,
-}
-
 // The words of entry k of a plan of n entries: its label; its first and its second successor or value.
 fn label_at(plan: &[u64], n: usize, k: usize) -> u64
     requires { ⌜ EntryOf (now plan) n k ⌝ }
@@ -175,4 +171,36 @@ fn form(
         k += 1;
     }
     Formed::Row(last, rows)
+}
+
+// What pairing up answers: the pairs of the plan, that they are too many, or that a pair of leaves has a result above 10^18.
+pub enum Paired {
+    Pairs(usize),
+    TooMany,
+    TooHigh,
+}
+
+// Walks the pairs of row i of x and row j of y, writes their plan, and checks its leaves. The index is clean before and after.
+fn pair_up(
+    x: &[u64],
+    y: &[u64],
+    plan: &mut [u64],
+    index: &mut [u16],
+    limit: usize,
+    i: usize,
+    j: usize,
+    op: Operation,
+) -> Paired
+    requires { ⌜ Pairable (now x) (now y) (now plan) (now index) limit i j ⌝ }
+    ensures { λ r. ⌜ PairedUp op limit (tree (now (x .entry)) i) (tree (now (y .entry)) j) r (now (plan .exit)) (now (index .exit)) ⌝ }
+{
+    let Went::To(_, n) = plan::walk(x, y, plan, index, limit, i, j) else {
+        plan::clear(plan, index, limit);
+        return Paired::TooMany;
+    };
+    plan::clear(plan, index, n);
+    if overflow(plan, n, op) {
+        return Paired::TooHigh;
+    }
+    Paired::Pairs(n)
 }

@@ -3,30 +3,11 @@ use Rattle.plan.specs.Plan.{secondAt}
 use borrow.Author.Needs.{needs}
 use Rattle.combine.proofs.second_at.Statement.{statement}
 use Rattle.combine.proofs.second_at.Tie as tie
-use Rattle.combine.proofs.second_at.Reads as reads
-use Rattle.combine.proofs.second_at.Lts as lts
 
--- src/lib.rt:121:10
-mul-result : tie.Need-mul-result
-mul-result c = search needs
-
--- src/lib.rt:121:10
-add-result : tie.Need-add-result
-add-result c = search needs
-
--- src/lib.rt:121:5
-mul-result-2 : tie.Need-mul-result-2
-mul-result-2 c = search needs
-
--- src/lib.rt:121:5
-shared-slice-read-result : tie.Need-shared-slice-read-result
-shared-slice-read-result c = search needs
-
--- src/lib.rt:117:1
 returns : tie.Need-returns
 unfolding secondAt
 returns c = refl
 
 pub second-at-spec : {M : Type 1} → statement M
 second-at-spec =
-    tie.close (tie.spec mul-result add-result mul-result-2 shared-slice-read-result returns)
+    tie.close (tie.spec (λ c. search needs) (λ c. search needs) (λ c. search needs) (λ c. search needs) returns)
