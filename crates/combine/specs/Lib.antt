@@ -5,3 +5,5 @@ pub mod Forming
 pub mod ResultLaws
 pub mod Paired
 pub mod PairedLaws
+pub mod Joining
+pub mod JoiningLaws

@@ -12,6 +12,7 @@ ghost use Rattle.combine.specs.Results.{exceedsAt, exceeds, results, Sou
 ghost use Rattle.diagram.specs.Validity.{tree};
 ghost use Rattle.apply.specs.Formed.{add};
 ghost use Rattle.combine.specs.Paired.{Pairable, PairedUp};
+ghost use Rattle.combine.specs.Joining.{Joint, FormedAll};
 ghost use Rattle.plan.specs.Plan.{pairLabelAt, firstAt, secondAt};
 ghost use Rattle.store.specs.Space.{diagramsOf, Holds, Formation, addAll};
 ghost use Rattle.combine.specs.Callers.{Values, Calm, EntryOf};
@@ -203,4 +204,84 @@ fn pair_up(
         return Paired::TooHigh;
     }
     Paired::Pairs(n)
+}
+
+// What one combination in a working space answers: the result's row, the rows in the space then and the pairs; or why there is none.
+pub enum Joined {
+    At(usize, usize, usize),
+    TooManyPairs,
+    TooHighValue,
+    NoRoom,
+}
+
+// Combines the last rows of two listings; the rows formed go behind those of the working space.
+pub fn join_listings(
+    x: &[u64],
+    y: &[u64],
+    plan: &mut [u64],
+    index: &mut [u16],
+    limit: usize,
+    i: usize,
+    j: usize,
+    op: Operation,
+    space: &mut [u64],
+    heads: &mut [u16],
+    links: &mut [u16],
+    count: usize,
+) -> Joined
+    requires { ⌜ Pairable (now x) (now y) (now plan) (now index) limit i j ⌝ }
+    requires { ⌜ Holds (now space) (now heads) (now links) count ⌝ }
+    ensures { λ r. ⌜ Joint op limit (tree (now (x .entry)) i) (tree (now (y .entry)) j) (now (space .entry)) count r (now (space .exit)) (now (heads .exit)) (now (links .exit)) (now (index .exit)) ⌝ }
+{
+    let p = pair_up(x, y, plan, index, limit, i, j, op);
+    match p {
+        Paired::Pairs(n) => formed(plan, n, op, space, heads, links, count),
+        Paired::TooMany => Joined::TooManyPairs,
+        Paired::TooHigh => Joined::TooHighValue,
+    }
+}
+
+// Combines two rows of the working space.
+pub fn join_rows(
+    plan: &mut [u64],
+    index: &mut [u16],
+    limit: usize,
+    i: usize,
+    j: usize,
+    op: Operation,
+    space: &mut [u64],
+    heads: &mut [u16],
+    links: &mut [u16],
+    count: usize,
+) -> Joined
+    requires { ⌜ Pairable (now space) (now space) (now plan) (now index) limit i j ⌝ }
+    requires { ⌜ Holds (now space) (now heads) (now links) count ⌝ }
+    ensures { λ r. ⌜ Joint op limit (tree (now (space .entry)) i) (tree (now (space .entry)) j) (now (space .entry)) count r (now (space .exit)) (now (heads .exit)) (now (links .exit)) (now (index .exit)) ⌝ }
+{
+    let p = pair_up(space, space, plan, index, limit, i, j, op);
+    match p {
+        Paired::Pairs(n) => formed(plan, n, op, space, heads, links, count),
+        Paired::TooMany => Joined::TooManyPairs,
+        Paired::TooHigh => Joined::TooHighValue,
+    }
+}
+
+// Forms the rows of a plan of n pairs.
+fn formed(
+    plan: &mut [u64],
+    n: usize,
+    op: Operation,
+    space: &mut [u64],
+    heads: &mut [u16],
+    links: &mut [u16],
+    count: usize,
+) -> Joined
+    requires { ⌜ Formable op (now plan) n ⌝ }
+    requires { ⌜ Holds (now space) (now heads) (now links) count ⌝ }
+    ensures { λ r. ⌜ FormedAll op (now (plan .entry)) n (now (space .entry)) count r (now (space .exit)) (now (heads .exit)) (now (links .exit)) ⌝ }
+{
+    let Formed::Row(row, rows) = form(plan, n, op, space, heads, links, count) else {
+        return Joined::NoRoom;
+    };
+    Joined::At(row, rows, n)
 }
