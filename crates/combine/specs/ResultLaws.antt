@@ -1,0 +1,198 @@
+-- A plan's entries form what its pairs of diagrams form.
+use mathlib.Core.Path.{_≡_, refl, ap, ap₂, sym, _∙_, subst}
+use mathlib.Core.Bool.{Bool, true, false, _&&_, _||_, or-false, or-assoc}
+use mathlib.Core.List.{List, [], _∷_, _++_, map}
+use Prim.Native.Nat.{ℕ, zero, suc, _+_, _*_, _≤_, _<_}
+use native.Mathlib.Omega.{arith}
+use lib.ListN.{length, getD, take, length-append, List·getD-append}
+use lib.Seq.{take-suc, take-all, getD-take, length-take-le}
+use lib.Dec.{eqb, ltb}
+use borrow.Author.Tests.{eqb-true, eqb-false, eq-eqb, ne-eqb}
+use Rattle.basics.specs.Tests.{Flag, isTrue, isFalse, flag}
+use Rattle.label.specs.Limits.{leafMark}
+use Rattle.diagram.specs.Sizes.{highestValue}
+use Rattle.diagram.specs.Diagram.{Diagram, leaf, branch}
+use Rattle.diagram.specs.Words.{labelAt, highAt, lowAt}
+use Rattle.apply.specs.Apply.{node, apply}
+use Rattle.apply.specs.ApplyLaws.{apply-leaves, apply-step}
+use Rattle.apply.specs.Pairs.{Pair, overflows, tooHigh}
+use Rattle.apply.specs.Walk.{Step, left, right, both}
+use Rattle.apply.specs.OverflowLaws.{overflows-none, overflows-cons, overflows-append}
+use Rattle.apply.specs.Formed.{add, formed}
+use Rattle.apply.specs.FormedLaws.{formed-none, formed-cons}
+use Rattle.plan.specs.Walk.{isEnd, pairLabel, onHigh, onLow}
+use Rattle.plan.specs.Walk as rows
+use Rattle.plan.specs.WalkLaws.{end-label, branch-label, end-leaves}
+use Rattle.plan.specs.Plan.{pairLabelAt, firstAt, secondAt, origin, Plan, Entry, Branch, End}
+use Rattle.combine.specs.RowPairs.{Operand, Inside, AllInside, pairTree, Onward, onward, ending}
+use Rattle.combine.specs.Results.{isEndAt, resultAt, results, exceedsAt, exceeds, Sound}
+use Rattle.store.specs.Space.{addAll}
+
+-- the laws of these definitions
+pub end-at : (ws : List ℕ) (k : ℕ) → pairLabelAt ws k ≡ leafMark → isEndAt ws k ≡ true
+unfolding isEndAt
+end-at ws k e = eq-eqb _ _ e
+
+pub branch-at : (ws : List ℕ) (k : ℕ) → (pairLabelAt ws k ≡ leafMark → ⊥) → isEndAt ws k ≡ false
+unfolding isEndAt
+branch-at ws k e = ne-eqb _ _ e
+
+pub result-end : (op : ℕ → ℕ → ℕ) (ws : List ℕ) (done : List Diagram) (k : ℕ) → isEndAt ws k ≡ true → resultAt op ws done k ≡ leaf (op (firstAt ws k) (secondAt ws k))
+unfolding resultAt
+result-end op ws done k e = rw e
+
+pub result-branch : (op : ℕ → ℕ → ℕ) (ws : List ℕ) (done : List Diagram) (k : ℕ) → isEndAt ws k ≡ false
+    → resultAt op ws done k ≡ node (pairLabelAt ws k) (getD done (firstAt ws k) (leaf 0)) (getD done (secondAt ws k) (leaf 0))
+unfolding resultAt
+result-branch op ws done k e = rw e
+
+pub results-none : (op : ℕ → ℕ → ℕ) (ws : List ℕ) → results op ws 0 ≡ []
+unfolding results
+results-none op ws = refl
+
+pub results-more : (op : ℕ → ℕ → ℕ) (ws : List ℕ) (k : ℕ) → results op ws (suc k) ≡ results op ws k ++ (resultAt op ws (results op ws k) k ∷ [])
+unfolding results
+results-more op ws k = refl
+
+pub length-results : (op : ℕ → ℕ → ℕ) (ws : List ℕ) (k : ℕ) → length (results op ws k) ≡ k
+unfolding results
+length-results op ws zero = refl
+length-results op ws (suc k) = omega (arith, length-append (results op ws k) (resultAt op ws (results op ws k) k ∷ []), length-results op ws k)
+
+pub add-all-none : (rs : List Diagram) → addAll rs [] ≡ rs
+unfolding addAll
+add-all-none rs = refl
+
+pub add-all-snoc : (rs ds : List Diagram) (d : Diagram) → addAll rs (ds ++ (d ∷ [])) ≡ add d (addAll rs ds)
+unfolding addAll
+add-all-snoc rs [] d = refl
+add-all-snoc rs (e ∷ ds) d = add-all-snoc (add e rs) ds d
+
+pub exceeds-none : (op : ℕ → ℕ → ℕ) (ws : List ℕ) → exceeds op ws 0 ≡ false
+unfolding exceeds
+exceeds-none op ws = refl
+
+pub exceeds-more : (op : ℕ → ℕ → ℕ) (ws : List ℕ) (k : ℕ) → exceeds op ws (suc k) ≡ (exceeds op ws k || exceedsAt op ws k)
+unfolding exceeds
+exceeds-more op ws k = refl
+
+pub getD-map : {A B : Type 0} (f : A → B) (xs : List A) (k : ℕ) (d : A) (e : B) → k < length xs → getD (map f xs) k e ≡ f (getD xs k d)
+getD-map f [] k d e h = absurd (omega arith)
+getD-map f (x ∷ xs) zero d e h = refl
+getD-map f (x ∷ xs) (suc k) d e h = getD-map f xs k d e (omega arith)
+
+map-append : {A B : Type 0} (f : A → B) (xs ys : List A) → map f (xs ++ ys) ≡ map f xs ++ map f ys
+map-append f [] ys = refl
+map-append f (x ∷ xs) ys = ap (_∷_ (f x)) (map-append f xs ys)
+
+-- a pair that is not both leaves has no result of its own
+inner-calm : (op : ℕ → ℕ → ℕ) {l : ℕ} {a b t u f g : Diagram} → Step l a b t u f g → tooHigh op a b ≡ false
+inner-calm op (left h) = refl
+inner-calm op (right {k = k} {u = u} {g = g} {a = a} h) = go a
+  where
+    go : (d : Diagram) → tooHigh op d (branch k u g) ≡ false
+    go (leaf v) = refl
+    go (branch j t f) = refl
+inner-calm op (both e) = refl
+
+module _ (x y : List ℕ) (m n : ℕ) (tx ty : ℕ → Diagram) (ox : Operand x m tx) (oy : Operand y n ty)
+    (ws heads : List ℕ) (limit : ℕ) (ps : List rows.Pair) (plan : Plan x y ws heads limit ps) (inside : AllInside x y m n tx ty ox oy ps) where
+  -- what a pair of rows forms
+  abbrev pub pairResult : (ℕ → ℕ → ℕ) → rows.Pair → Diagram
+  pairResult op p = apply op (tx (p .0)) (ty (p .1))
+
+  at-inside : (qs : List rows.Pair) → AllInside x y m n tx ty ox oy qs → (k : ℕ) → k < length qs → Inside x y m n tx ty ox oy (getD qs k origin)
+  at-inside [] a k h = absurd (omega arith)
+  at-inside (q ∷ qs) a zero h = a .0
+  at-inside (q ∷ qs) a (suc k) h = at-inside qs (a .1) k (omega arith)
+
+  label-end : (k : ℕ) → k < length ps → isEndAt ws k ≡ isEnd x y (getD ps k origin)
+  label-end k h = go (flag (isEnd x y (getD ps k origin)))
+    where
+      go : Flag (isEnd x y (getD ps k origin)) → isEndAt ws k ≡ isEnd x y (getD ps k origin)
+      go (isTrue e) = end-at ws k (plan .entry k h .label ∙ end-label x y (getD ps k origin) e) ∙ sym e
+      go (isFalse e) =
+          let o = onward x y m n tx ty ox oy (getD ps k origin) (at-inside ps inside k h) e in
+          branch-at ws k (λ z. omega (arith, o .label-less, sym (plan .entry k h .label) ∙ z)) ∙ sym e
+
+  results-step : (op : ℕ → ℕ → ℕ) (k : ℕ) → k < length ps → results op ws k ≡ map (pairResult op) (take k ps)
+      → resultAt op ws (results op ws k) k ≡ pairResult op (getD ps k origin)
+  results-step op k h ih = go (flag (isEnd x y (getD ps k origin)))
+    where
+      p : rows.Pair
+      p = getD ps k origin
+
+      child : (j : ℕ) → j < k → getD (results op ws k) j (leaf 0) ≡ pairResult op (getD ps j origin)
+      child j l =
+          ap (λ (ds : List Diagram). getD ds j (leaf 0)) ih
+          ∙ getD-map (pairResult op) (take k ps) j origin (leaf 0) (omega (arith, length-take-le k ps (omega arith)))
+          ∙ ap (pairResult op) (getD-take k ps j origin l)
+
+      go : Flag (isEnd x y (getD ps k origin)) → resultAt op ws (results op ws k) k ≡ pairResult op (getD ps k origin)
+      go (isTrue e) =
+          let v = plan .entry k h .end e in
+          let z = ending x y m n tx ty ox oy (getD ps k origin) (at-inside ps inside k h) e in
+          result-end op ws (results op ws k) k (label-end k h ∙ e)
+          ∙ ap leaf (ap₂ op (v .first) (v .second))
+          ∙ sym (apply-leaves op _ _) ∙ ap₂ (apply op) (sym (z .0)) (sym (z .1))
+      go (isFalse e) =
+          let b = plan .entry k h .branch e in
+          let o = onward x y m n tx ty ox oy (getD ps k origin) (at-inside ps inside k h) e in
+          result-branch op ws (results op ws k) k (label-end k h ∙ e)
+          ∙ ap₂ (node (pairLabelAt ws k)) (child (firstAt ws k) (b .first-less) ∙ ap (pairResult op) (b .first)) (child (secondAt ws k) (b .second-less) ∙ ap (pairResult op) (b .second))
+          ∙ ap (λ (l : ℕ). node l (pairResult op (onHigh x y p)) (pairResult op (onLow x y p))) (plan .entry k h .label)
+          ∙ sym (apply-step op (o .step))
+
+  -- the entries form, in their order, what their pairs of diagrams form
+  pub results-are : (op : ℕ → ℕ → ℕ) (k : ℕ) → k ≤ length ps → results op ws k ≡ map (pairResult op) (take k ps)
+  results-are op zero h = results-none op ws
+  results-are op (suc k) h =
+      let ih = results-are op k (omega arith) in
+      results-more op ws k ∙ ap₂ (λ (ds : List Diagram) (d : Diagram). ds ++ (d ∷ [])) ih (results-step op k h ih)
+      ∙ sym (map-append (pairResult op) (take k ps) (getD ps k origin ∷ [])) ∙ ap (map (pairResult op)) (sym (take-suc ps k origin h))
+
+  -- rows added in the order of the entries are the rows formed by the pairs
+  pub added-formed : (op : ℕ → ℕ → ℕ) (rs : List Diagram) (qs : List rows.Pair)
+      → addAll rs (map (pairResult op) qs) ≡ formed op rs (map (pairTree x y m n tx ty ox oy) qs)
+  unfolding addAll
+  added-formed op rs [] = sym (formed-none op rs)
+  added-formed op rs (q ∷ qs) = added-formed op (add (pairResult op q) rs) qs ∙ sym (formed-cons op rs _ _)
+
+  exceeds-step : (op : ℕ → ℕ → ℕ) (k : ℕ) → k < length ps → exceedsAt op ws k ≡ overflows op (pairTree x y m n tx ty ox oy (getD ps k origin) ∷ [])
+  unfolding exceedsAt
+  exceeds-step op k h = go (flag (isEnd x y (getD ps k origin)))
+    where
+      go : Flag (isEnd x y (getD ps k origin)) → (isEndAt ws k && ltb highestValue (op (firstAt ws k) (secondAt ws k))) ≡ overflows op (pairTree x y m n tx ty ox oy (getD ps k origin) ∷ [])
+      go (isTrue e) =
+          let v = plan .entry k h .end e in
+          let z = ending x y m n tx ty ox oy (getD ps k origin) (at-inside ps inside k h) e in
+          rw (label-end k h, e, v .first, v .second, overflows-cons op (pairTree x y m n tx ty ox oy (getD ps k origin)) [], overflows-none op, z .0, z .1) (sym (or-false _))
+      go (isFalse e) =
+          let o = onward x y m n tx ty ox oy (getD ps k origin) (at-inside ps inside k h) e in
+          rw (label-end k h, e, overflows-cons op (pairTree x y m n tx ty ox oy (getD ps k origin)) [], overflows-none op, inner-calm op (o .step))
+
+  -- an end among the entries exceeds exactly if one of the pairs of leaves does
+  pub exceeds-are : (op : ℕ → ℕ → ℕ) (k : ℕ) → k ≤ length ps → exceeds op ws k ≡ overflows op (map (pairTree x y m n tx ty ox oy) (take k ps))
+  exceeds-are op zero h = exceeds-none op ws ∙ sym (overflows-none op)
+  exceeds-are op (suc k) h =
+      exceeds-more op ws k ∙ ap₂ _||_ (exceeds-are op k (omega arith)) (exceeds-step op k h)
+      ∙ sym (overflows-append op (map (pairTree x y m n tx ty ox oy) (take k ps)) (pairTree x y m n tx ty ox oy (getD ps k origin) ∷ []))
+      ∙ ap (overflows op) (sym (map-append (pairTree x y m n tx ty ox oy) (take k ps) (getD ps k origin ∷ [])) ∙ ap (map (pairTree x y m n tx ty ox oy)) (sym (take-suc ps k origin h)))
+
+  -- the entries can be worked on
+  pub plan-sound : Sound ws (length ps)
+  plan-sound = record {
+    room = omega (arith, plan .index .words, plan .index .within);
+    labels = λ k h e. let o = onward x y m n tx ty ox oy (getD ps k origin) (at-inside ps inside k h) (sym (label-end k h) ∙ e) in
+        rw (plan .entry k h .label) (o .label-less);
+    firsts = λ k h e. plan .entry k h .branch (sym (label-end k h) ∙ e) .first-less;
+    seconds = λ k h e. plan .entry k h .branch (sym (label-end k h) ∙ e) .second-less;
+    values = λ k h e. end-values k h (sym (label-end k h) ∙ e);
+  }
+    where
+      end-values : (k : ℕ) → k < length ps → isEnd x y (getD ps k origin) ≡ true → (firstAt ws k ≤ highestValue) × (secondAt ws k ≤ highestValue)
+      end-values k h e =
+          let v = plan .entry k h .end e in
+          let z = end-leaves x y (getD ps k origin) e in
+          let a = at-inside ps inside k h in
+          (rw (v .first) (ox .values (getD ps k origin .0) (a .0) (z .0)), rw (v .second) (oy .values (getD ps k origin .1) (a .1) (z .1)))
