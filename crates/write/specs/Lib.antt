@@ -1,0 +1,2 @@
+-- Writing the listing of a row of the working space.
+pub mod Numbering
