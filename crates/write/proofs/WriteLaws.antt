@@ -39,23 +39,23 @@ use Rattle.write.specs.Writing.{renumbered, listedRows, Renumberable, Em
 use Rattle.write.proofs.NumberLaws.{Place, place-of}
 
 -- the laws of `renumbered` and `listedRows`
-renumbered-leaf : (s marks : List ℕ) (k : ℕ) → labelAt s k ≡ leafMark → renumbered s marks k ≡ record { label = leafMark; high = highAt s k; low = 0 }
+pub renumbered-leaf : (s marks : List ℕ) (k : ℕ) → labelAt s k ≡ leafMark → renumbered s marks k ≡ record { label = leafMark; high = highAt s k; low = 0 }
 unfolding renumbered
 renumbered-leaf s marks k e = rw (eq-eqb (labelAt s k) leafMark e)
 
-renumbered-branch : (s marks : List ℕ) (k : ℕ) → labelAt s k ≢ leafMark
+pub renumbered-branch : (s marks : List ℕ) (k : ℕ) → labelAt s k ≢ leafMark
     → renumbered s marks k ≡ record { label = labelAt s k; high = getD marks (highAt s k) 0 - 1; low = getD marks (lowAt s k) 0 - 1 }
 unfolding renumbered
 renumbered-branch s marks k e = rw (ne-eqb (labelAt s k) leafMark e)
 
-abbrev rowWords : Row → List ℕ
+abbrev pub rowWords : Row → List ℕ
 rowWords r = r .label ∷ r .high ∷ r .low ∷ []
 
-listed-none : (s marks : List ℕ) → listedRows s marks [] ≡ []
+pub listed-none : (s marks : List ℕ) → listedRows s marks [] ≡ []
 unfolding listedRows
 listed-none s marks = refl
 
-listed-snoc : (s marks ks : List ℕ) (k : ℕ) → listedRows s marks (ks ++ (k ∷ [])) ≡ listedRows s marks ks ++ rowWords (renumbered s marks k)
+pub listed-snoc : (s marks ks : List ℕ) (k : ℕ) → listedRows s marks (ks ++ (k ∷ [])) ≡ listedRows s marks ks ++ rowWords (renumbered s marks k)
 unfolding listedRows
 listed-snoc s marks [] k = refl
 listed-snoc s marks (x ∷ xs) k = rw (listed-snoc s marks xs k)
