@@ -7,6 +7,9 @@ ghost use Prim.Native.Nat.{_*_, _≤_};
 ghost use lib.ListN.{length, take, drop};
 ghost use Rattle.write.specs.Numbering.{Marked, Unmarked, Placeable, Placed, Downward, Numbered};
 ghost use Rattle.write.specs.Writing.{renumbered, listedRows, Renumberable, Emittable, Writable, WritePost};
+ghost use Rattle.diagram.specs.Listing.{listing};
+ghost use Rattle.store.specs.Load.{renamedOf};
+ghost use Rattle.write.specs.Renaming.{listedIn, wordAfter, Word, Renamable};
 
 // What writing a listing answers: its rows, or that they are too many.
 pub enum Listed {
@@ -124,6 +127,32 @@ pub fn copy(space: &[u64], count: usize, out: &mut [u64])
     let mut i = 0;
     while i < n {
         out[i] = space[i];
+        i += 1;
+    }
+}
+
+// The first word of a row renamed: a label, or a leaf's mark.
+fn word_after(arities: &[u64], map: &[u64], x: u64) -> u64
+    requires { ⌜ Word (now arities) (now map) x ⌝ }
+    ensures { λ r. ⌜ r ≡ wordAfter (now (arities .entry)) (now (map .entry)) x ⌝ }
+{
+    if x == Label::LEAF {
+        return x;
+    }
+    let l = Label { packed: x };
+    let r = l.renamed(arities, map);
+    r.packed
+}
+
+// Renames the listing that the first m rows of the buffer are, by a map of terms that keeps their order. The words behind stay.
+pub fn rename(arities: &[u64], map: &[u64], out: &mut [u64], m: usize)
+    requires { ⌜ Renamable (now arities) (now map) (now out) m ⌝ }
+    ensures { λ _. ⌜ now (out .exit) ≡ listing (renamedOf (now (arities .entry)) (now (map .entry)) (listedIn (now (out .entry)) m)) ++ drop (m * 3) (now (out .entry)) ⌝ }
+{
+    let mut i = 0;
+    while i < m {
+        let x = word_after(arities, map, out[i * 3]);
+        out[i * 3] = x;
         i += 1;
     }
 }
