@@ -1,0 +1,4 @@
+pub mod NumberLaws
+pub mod WriteLaws
+pub mod ResultLaws
+pub mod RenameLaws
