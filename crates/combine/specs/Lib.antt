@@ -7,3 +7,4 @@ pub mod Paired
 pub mod PairedLaws
 pub mod Joining
 pub mod JoiningLaws
+pub mod Calls
