@@ -27,7 +27,7 @@ use Rattle.state.specs.State.{Atomic, atom, atomOf, meaning, State, Good
 use Rattle.state.specs.ValueLaws.{low-lt, low-ge, by-low}
 use Rattle.state.specs.Highest.{Highest, highest, Bound}
 use Rattle.state.specs.HighestLaws.{highest-is}
-use Rattle.state.specs.Lent.{factCount, stateOf, isState, namesBelow}
+use Rattle.state.specs.Lent.{constantsBelow, stateOf, isState}
 use Rattle.state.specs.Index.{Indexed, indexedCount}
 use Rattle.state.specs.Search.{
   free,
@@ -176,10 +176,10 @@ pub record Lendable (n : ℕ) (constants : List ℕ) : Type 0 where
   pub placed : (c : ℕ) → c < constantCount → getD constants c 0 < n
 
 pub state-lendable : (ar : List ℕ) (n : ℕ) (constants facts : List ℕ) → isState ar n constants facts ≡ true → Lendable n constants
-unfolding isState
+unfolding isState constantsBelow
 state-lendable ar n constants facts e = record {
   some = leb-true 1 n (and-left (leb 1 n) _ e);
-  placed = λ c h. ltb-true _ _ (below-every constantCount (λ c. ltb (getD constants c 0) n) c (and-left (everyBelow constantCount (λ c. ltb (getD constants c 0) n)) _ (and-right (leb 1 n) _ e)) h);
+  placed = λ c h. ltb-true _ _ (below-every constantCount (λ c. ltb (getD constants c 0) n) c (and-left (constantsBelow n constants) _ (and-right (leb 1 n) _ e)) h);
 }
 
 module _ (ar : List ℕ) (n : ℕ) (constants facts : List ℕ) (f : Lendable n constants) where

@@ -57,8 +57,12 @@ unfoldable pub namesBelow : List ℕ → ℕ → List ℕ → ℕ → Bool
 unfolding predicateAt objectsAt
 namesBelow ar n facts i = allBelow n (take (getD ar (predicateAt facts i) 0) (objectsAt facts i))
 
+-- the constants' objects are below n
+unfoldable pub constantsBelow : ℕ → List ℕ → Bool
+constantsBelow n constants = everyBelow constantCount (λ c. ltb (getD constants c 0) n)
+
 -- there is an object, and no object that the lent words name is n or beyond
 unfoldable pub isState : List ℕ → ℕ → List ℕ → List ℕ → Bool
-unfolding namesBelow
+unfolding namesBelow constantsBelow
 isState ar n constants facts =
-    leb 1 n && (everyBelow constantCount (λ c. ltb (getD constants c 0) n) && everyBelow (factCount facts) (namesBelow ar n facts))
+    leb 1 n && (constantsBelow n constants && everyBelow (factCount facts) (namesBelow ar n facts))

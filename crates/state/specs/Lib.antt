@@ -7,6 +7,7 @@ pub mod Lent
 pub mod ValueCall
 pub mod Index
 pub mod Search
+pub mod Marks
 pub mod MaxLaws
 pub mod ValueLaws
 pub mod HighestLaws

@@ -36,7 +36,6 @@ pickValued false x y = y
 
 -- the checks in their order, then the highest leaf
 unfoldable pub valueAnswer : List ℕ → List ℕ → ℕ → List ℕ → List ℕ → Valued
-unfolding isListing isState parameters valuations highest stateOf meaning diagramOf
 valueAnswer ar ws n constants facts =
     pickValued (not (isListing ar ws)) (Refused Listing)
     (pickValued (not (isState ar n constants facts)) (Refused Range)

@@ -2,16 +2,18 @@
 ghost use mathlib.Core.Path.{_≡_};
 ghost use mathlib.Core.Bool.{Bool, true, false, cond};
 ghost use mathlib.Core.List.{[], _∷_};
-ghost use Prim.Native.Nat.{ℕ, _+_, _*_, _^_, _<_, _≤_};
+ghost use Prim.Native.Nat.{ℕ, _+_, _-_, _*_, _^_, _<_, _≤_};
 ghost use lib.ListN.{length, getD, take};
-ghost use lib.Dec.{ltb, leb};
+ghost use lib.Dec.{eqb, ltb, leb};
 ghost use Rattle.label.specs.Limits.{termBase, firstVariable};
 ghost use Rattle.table.specs.Chains.{pickNat};
-ghost use Rattle.diagram.specs.Words.{highAt, lowAt, rowCount, isListing};
+ghost use Rattle.diagram.specs.Words.{highAt, lowAt, rowCount, isListing, everyBelow};
 ghost use Rattle.diagram.specs.Listing.{diagramOf};
 ghost use Rattle.state.specs.State.{meaning};
 ghost use Rattle.state.specs.Highest.{highest};
-ghost use Rattle.state.specs.Lent.{factWords, factCount, someBelow, stateOf, isState};
+ghost use Rattle.state.specs.Lent.{factWords, factCount, someBelow, allBelow, namesBelow, constantsBelow, stateOf, isState};
+ghost use Rattle.state.specs.Marks.{markPlaces, Marked, countMarks};
+ghost use Rattle.state.specs.ValueCall.{mostValuations, valueAnswer};
 ghost use Rattle.state.specs.Index.{buckets, mostIndexed, indexedCount, listed, rowObjects, says, used, bucketOf, bucketAt, Indexed, Asked, Sought};
 ghost use Rattle.state.specs.Search.{free, Topping, Tops, topAt, fixedIn, Started, unboundIn, objectsIn, tells, Placed, Telling, Best, Ready};
 use label::Atom;
@@ -34,12 +36,22 @@ pub struct Objects {
 
 // A term that has no object yet.
 const FREE: u64 = 18446744073709551615;
-// No term has this number.
+// Terms are numbered below this, which is the number of none.
 const NONE: usize = 64;
+// Constants, the numbers past the last of them and of the parameters, and the first variable's.
+const CONSTANTS: usize = 16;
+
+const PARAMETERS: usize = 16;
+
+const PARAMETERS_END: usize = 20;
+
+const VARIABLES: usize = 32;
 // Buckets of the index of facts.
 const BUCKETS: usize = 2048;
 // Rows of facts in the index at most.
 const INDEXED: usize = 4096;
+// Valuations at most.
+const VALUATIONS: u64 = 1000000;
 
 // The arity of predicate p.
 fn arity(arities: &[u64], p: u64) -> u64
@@ -380,7 +392,7 @@ fn constant(constants: &[u64], c: usize) -> u64
 fn fixed(constants: &[u64], t: usize) -> u64
     ensures { λ r. ⌜ r ≡ fixedIn (now (constants .entry)) t ⌝ }
 {
-    if t < 16 {
+    if t < CONSTANTS {
         return constant(constants, t);
     }
     constant(constants, 0)
@@ -392,7 +404,7 @@ fn start(constants: &[u64], env: &mut [u64])
     ensures { λ _. ⌜ Started (now (constants .entry)) (now (env .exit)) firstVariable ⌝ }
 {
     let mut t = 0;
-    while t < 32 {
+    while t < VARIABLES {
         let o = fixed(constants, t);
         env[t] = o;
         t += 1;
@@ -415,4 +427,185 @@ pub fn highest_leaf(arities: &[u64], words: &[u64], n: u64, constants: &[u64], f
     let root = words.len() / 3 - 1;
     let best = go(words, &high, arities, facts, &index, &mut env, n, root, 0);
     best - 1
+}
+
+// Marks the atom's places.
+fn mark_places(marks: &mut [u64], a: Atom)
+    requires { ⌜ Placed (now marks) a ⌝ }
+    ensures { λ _. ⌜ now (marks .exit) ≡ markPlaces (now (marks .entry)) a ⌝ }
+{
+    let first = a.first as usize;
+    let second = a.second as usize;
+    let third = a.third as usize;
+    let fourth = a.fourth as usize;
+    marks[first] = 1;
+    marks[second] = 1;
+    marks[third] = 1;
+    marks[fourth] = 1;
+}
+
+// Marks the terms of row i.
+fn mark_row(words: &[u64], i: usize, marks: &mut [u64])
+    requires { ⌜ i * 3 + 3 ≤ length (now words) ⌝ }
+    requires { ⌜ Marked (now words) (now marks) i ⌝ }
+    ensures { λ _. ⌜ Marked (now (words .entry)) (now (marks .exit)) (i + 1) ⌝ }
+{
+    let l = words[i * 3];
+    if l == Label::LEAF {
+        return;
+    }
+    mark_places(marks, Label { packed: l }.unpack());
+}
+
+// Marks the terms of all rows.
+fn mark(words: &[u64], marks: &mut [u64])
+    requires { ⌜ Marked (now words) (now marks) 0 ⌝ }
+    ensures { λ _. ⌜ Marked (now (words .entry)) (now (marks .exit)) (rowCount (now (words .entry))) ⌝ }
+{
+    let rows = words.len() / 3;
+    let mut i = 0;
+    while i < rows {
+        mark_row(words, i, marks);
+        i += 1;
+    }
+}
+
+// 1 for a marked term, 0 for others.
+fn bit(marks: &[u64], t: usize) -> u64
+    requires { ⌜ t < length (now marks) ⌝ }
+    ensures { λ r. ⌜ r ≡ pickNat (eqb (getD (now (marks .entry)) t 0) 1) 1 0 ⌝ }
+{
+    if marks[t] == 1 {
+        return 1;
+    }
+    0
+}
+
+// How many of the terms from first on, as far as end, are marked.
+fn marked(marks: &[u64], first: usize, end: usize) -> u64
+    requires { ⌜ first ≤ end ⌝ }
+    requires { ⌜ end ≤ length (now marks) ⌝ }
+    requires { ⌜ end ≤ termBase ⌝ }
+    ensures { λ r. ⌜ r ≡ countMarks (now (marks .entry)) first (end - first) ⌝ }
+{
+    let mut t = end;
+    let mut c = 0;
+    while t > first {
+        t -= 1;
+        c += bit(marks, t);
+    }
+    c
+}
+
+// Whether n to the power v is within the limit.
+fn few(n: u64, v: u64) -> bool
+    requires { ⌜ 0 < n ⌝ }
+    ensures { λ r. ⌜ r ≡ leb (n ^ v) mostValuations ⌝ }
+{
+    if v == 0 {
+        return true;
+    }
+    if n > VALUATIONS {
+        return false;
+    }
+    let mut p = 1;
+    let mut i = 0;
+    while i < v {
+        p = p * n;
+        if p > VALUATIONS {
+            return false;
+        }
+        i += 1;
+    }
+    true
+}
+
+// Whether the objects are below n.
+fn below(o: Objects, n: u64) -> bool
+    ensures { λ r. ⌜ r ≡ allBelow n (listed o) ⌝ }
+{
+    if o.first >= n {
+        return false;
+    }
+    if o.second >= n {
+        return false;
+    }
+    if o.third >= n {
+        return false;
+    }
+    o.fourth < n
+}
+
+// Whether row i of the facts names objects below n only.
+fn row_fits(arities: &[u64], n: u64, facts: &[u64], i: usize) -> bool
+    requires { ⌜ i * factWords + factWords ≤ length (now facts) ⌝ }
+    requires { ⌜ 0 < n ⌝ }
+    ensures { λ r. ⌜ r ≡ namesBelow (now (arities .entry)) n (now (facts .entry)) i ⌝ }
+{
+    let p = facts[i * 5];
+    below(in_use(arity(arities, p), 0, row_objects(facts, i)), n)
+}
+
+// Whether the facts name objects below n only.
+fn facts_fit(arities: &[u64], n: u64, facts: &[u64]) -> bool
+    requires { ⌜ 0 < n ⌝ }
+    ensures { λ r. ⌜ r ≡ everyBelow (factCount (now (facts .entry))) (namesBelow (now (arities .entry)) n (now (facts .entry))) ⌝ }
+{
+    let rows = facts.len() / 5;
+    let mut i = 0;
+    while i < rows {
+        if !row_fits(arities, n, facts, i) {
+            return false;
+        }
+        i += 1;
+    }
+    true
+}
+
+// Whether the constants' objects are below n.
+fn constants_fit(n: u64, constants: &[u64]) -> bool
+    ensures { λ r. ⌜ r ≡ constantsBelow n (now (constants .entry)) ⌝ }
+{
+    let mut c = 0;
+    while c < CONSTANTS {
+        if constant(constants, c) >= n {
+            return false;
+        }
+        c += 1;
+    }
+    true
+}
+
+// Whether there is an object, and no object named is n or beyond.
+fn state_fits(arities: &[u64], n: u64, constants: &[u64], facts: &[u64]) -> bool
+    ensures { λ r. ⌜ r ≡ isState (now (arities .entry)) n (now (constants .entry)) (now (facts .entry)) ⌝ }
+{
+    if n == 0 {
+        return false;
+    }
+    if !constants_fit(n, constants) {
+        return false;
+    }
+    facts_fit(arities, n, facts)
+}
+
+// The value of a listing in a state that are lent with an arity list: the highest leaf over all valuations.
+pub fn value(arities: &[u64], words: &[u64], n: u64, constants: &[u64], facts: &[u64]) -> Valued
+    ensures { λ r. ⌜ r ≡ valueAnswer (now (arities .entry)) (now (words .entry)) n (now (constants .entry)) (now (facts .entry)) ⌝ }
+{
+    if !listing::check(arities, words) {
+        return Valued::Refused(Refusal::Listing);
+    }
+    if !state_fits(arities, n, constants, facts) {
+        return Valued::Refused(Refusal::Range);
+    }
+    let mut marks = [0u64; 64];
+    mark(words, &mut marks);
+    if marked(&marks, PARAMETERS, PARAMETERS_END) != 0 {
+        return Valued::Refused(Refusal::Unbound);
+    }
+    if !few(n, marked(&marks, VARIABLES, NONE)) {
+        return Valued::Refused(Refusal::Valuations);
+    }
+    Valued::Value(highest_leaf(arities, words, n, constants, facts))
 }

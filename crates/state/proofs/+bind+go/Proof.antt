@@ -44,19 +44,16 @@ bind-Inv-loop words high arities facts index env₀ n r t best b₀ v₀ env b v
 abbrev bind-μ-loop : bind-lts.MeasureT-loop
 bind-μ-loop words high arities facts index env₀ n r t best b₀ v₀ env b v = n - v
 
--- src/lib.rt:320:5
 bind-loop-holds :
     (t : ℕ) →
     bind-lts.Need-loop-holds (go-below t, go.Post) (bind-at t) bind.Post bind-Inv-loop bind-μ-loop
 bind-loop-holds t c = search giving-start
 
--- src/lib.rt:321:12
 bind-mul-if1 :
     (t : ℕ) →
     bind-lts.Need-mul-if1 (go-below t, go.Post) (bind-at t) bind.Post bind-Inv-loop bind-μ-loop
 bind-mul-if1 t c = search needs
 
--- src/lib.rt:321:12
 bind-shared-slice-read-if1 :
     (t : ℕ) →
     bind-lts.Need-shared-slice-read-if1
@@ -67,13 +64,11 @@ bind-shared-slice-read-if1 :
     bind-μ-loop
 bind-shared-slice-read-if1 t c = search needs
 
--- src/lib.rt:322:13
 bind-mul-env :
     (t : ℕ) →
     bind-lts.Need-mul-env (go-below t, go.Post) (bind-at t) bind.Post bind-Inv-loop bind-μ-loop
 bind-mul-env t c = search needs
 
--- src/lib.rt:322:13
 bind-slice-write-env :
     (t : ℕ) →
     bind-lts.Need-slice-write-env
@@ -84,7 +79,6 @@ bind-slice-write-env :
     bind-μ-loop
 bind-slice-write-env t c = search giving-room
 
--- src/lib.rt:323:13
 bind-same-length :
     (t : ℕ) →
     bind-lts.Need-same-length
@@ -95,19 +89,16 @@ bind-same-length :
     bind-μ-loop
 bind-same-length t c = ap length (c .before .before .before .loop .inv .word)
 
--- src/lib.rt:323:13
 bind-returns :
     (t : ℕ) →
     bind-lts.Need-returns (go-below t, go.Post) (bind-at t) bind.Post bind-Inv-loop bind-μ-loop
 bind-returns t c = search giving-cut
 
--- src/lib.rt:325:9
 bind-mul-env-2 :
     (t : ℕ) →
     bind-lts.Need-mul-env-2 (go-below t, go.Post) (bind-at t) bind.Post bind-Inv-loop bind-μ-loop
 bind-mul-env-2 t c = search needs
 
--- src/lib.rt:325:9
 bind-slice-write-env-2 :
     (t : ℕ) →
     bind-lts.Need-slice-write-env-2
@@ -118,7 +109,6 @@ bind-slice-write-env-2 :
     bind-μ-loop
 bind-slice-write-env-2 t c = search giving-room
 
--- src/lib.rt:326:9
 bind-go-requires :
     (t : ℕ) →
     bind-lts.Need-go-requires
@@ -129,31 +119,26 @@ bind-go-requires :
     bind-μ-loop
 bind-go-requires t c κs = (go-falls (c .before .before .before .before .loop .inv) (c .before .before .before .loop-test .taken) (c .before .before .before .before .before .before .before .before .before .before .before .pre .0), (giving-ready (c .before .before .before .before .loop .inv) (c .before .before .before .loop-test .taken), c .before .before .before .before .before .before .before .before .before .before .before .pre .1 .1 .0))
 
--- src/lib.rt:327:9
 bind-add-v :
     (t : ℕ) →
     bind-lts.Need-add-v (go-below t, go.Post) (bind-at t) bind.Post bind-Inv-loop bind-μ-loop
 bind-add-v t c = search needs
 
--- src/lib.rt:320:5
 bind-loop-less :
     (t : ℕ) →
     bind-lts.Need-loop-less (go-below t, go.Post) (bind-at t) bind.Post bind-Inv-loop bind-μ-loop
 bind-loop-less t c = search needs
 
--- src/lib.rt:320:5
 bind-loop-again :
     (t : ℕ) →
     bind-lts.Need-loop-again (go-below t, go.Post) (bind-at t) bind.Post bind-Inv-loop bind-μ-loop
 bind-loop-again t c = search giving-on
 
--- src/lib.rt:329:5
 bind-mul-env-3 :
     (t : ℕ) →
     bind-lts.Need-mul-env-3 (go-below t, go.Post) (bind-at t) bind.Post bind-Inv-loop bind-μ-loop
 bind-mul-env-3 t c = search needs
 
--- src/lib.rt:329:5
 bind-slice-write-env-3 :
     (t : ℕ) →
     bind-lts.Need-slice-write-env-3
@@ -164,7 +149,6 @@ bind-slice-write-env-3 :
     bind-μ-loop
 bind-slice-write-env-3 t c = search giving-room
 
--- src/lib.rt:300:1
 bind-same-length-2 :
     (t : ℕ) →
     bind-lts.Need-same-length-2
@@ -175,7 +159,6 @@ bind-same-length-2 :
     bind-μ-loop
 bind-same-length-2 t c = ap length (c .before .loop .inv .word)
 
--- src/lib.rt:300:1
 bind-returns-2 :
     (t : ℕ) →
     bind-lts.Need-returns-2 (go-below t, go.Post) (bind-at t) bind.Post bind-Inv-loop bind-μ-loop
@@ -187,244 +170,22 @@ go-Inv-loop words high arities facts index env₀ n r0 best r₀ env r = Going w
 abbrev go-μ-loop : go-lts.MeasureT-loop
 go-μ-loop words high arities facts index env₀ n r0 best r₀ env r = r
 
--- src/lib.rt:284:5
-go-loop-holds : (t : ℕ) → go-lts.Need-loop-holds (
-  unpack-reads.Asked,
-  unpack-reads.Learnt,
-  unbound-reads.Asked,
-  unbound-reads.Learnt,
-  bind-below t,
-  bind.Post,
-  truth-reads.Asked,
-  truth-reads.Learnt,
-  follow-reads.Asked,
-  follow-reads.Learnt,
-) (go-at t) go.Post go-Inv-loop go-μ-loop
+go-loop-holds : (t : ℕ) → go-lts.Need-loop-holds (unpack-reads.Asked, unpack-reads.Learnt, unbound-reads.Asked, unbound-reads.Learnt, bind-below t, bind.Post, truth-reads.Asked, truth-reads.Learnt, follow-reads.Asked, follow-reads.Learnt) (go-at t) go.Post go-Inv-loop go-μ-loop
 go-loop-holds t c = search going-start
 
--- src/lib.rt:284:11
-go-mul-if1 : (t : ℕ) → go-lts.Need-mul-if1 (
-  unpack-reads.Asked,
-  unpack-reads.Learnt,
-  unbound-reads.Asked,
-  unbound-reads.Learnt,
-  bind-below t,
-  bind.Post,
-  truth-reads.Asked,
-  truth-reads.Learnt,
-  follow-reads.Asked,
-  follow-reads.Learnt,
-) (go-at t) go.Post go-Inv-loop go-μ-loop
-go-mul-if1 t c = search needs
-
--- src/lib.rt:284:11
-go-shared-slice-read-if1 : (t : ℕ) → go-lts.Need-shared-slice-read-if1 (
-  unpack-reads.Asked,
-  unpack-reads.Learnt,
-  unbound-reads.Asked,
-  unbound-reads.Learnt,
-  bind-below t,
-  bind.Post,
-  truth-reads.Asked,
-  truth-reads.Learnt,
-  follow-reads.Asked,
-  follow-reads.Learnt,
-) (go-at t) go.Post go-Inv-loop go-μ-loop
-go-shared-slice-read-if1 t c = search needs
-
--- src/lib.rt:285:23
-go-mul-l : (t : ℕ) → go-lts.Need-mul-l (
-  unpack-reads.Asked,
-  unpack-reads.Learnt,
-  unbound-reads.Asked,
-  unbound-reads.Learnt,
-  bind-below t,
-  bind.Post,
-  truth-reads.Asked,
-  truth-reads.Learnt,
-  follow-reads.Asked,
-  follow-reads.Learnt,
-) (go-at t) go.Post go-Inv-loop go-μ-loop
-go-mul-l t c = search needs
-
--- src/lib.rt:285:17
-go-mul-l-2 : (t : ℕ) → go-lts.Need-mul-l-2 (
-  unpack-reads.Asked,
-  unpack-reads.Learnt,
-  unbound-reads.Asked,
-  unbound-reads.Learnt,
-  bind-below t,
-  bind.Post,
-  truth-reads.Asked,
-  truth-reads.Learnt,
-  follow-reads.Asked,
-  follow-reads.Learnt,
-) (go-at t) go.Post go-Inv-loop go-μ-loop
-go-mul-l-2 t c = search needs
-
--- src/lib.rt:285:17
-go-shared-slice-read-l : (t : ℕ) → go-lts.Need-shared-slice-read-l (
-  unpack-reads.Asked,
-  unpack-reads.Learnt,
-  unbound-reads.Asked,
-  unbound-reads.Learnt,
-  bind-below t,
-  bind.Post,
-  truth-reads.Asked,
-  truth-reads.Learnt,
-  follow-reads.Asked,
-  follow-reads.Learnt,
-) (go-at t) go.Post go-Inv-loop go-μ-loop
-go-shared-slice-read-l t c = search needs
-
--- src/lib.rt:287:26
-go-mul-result : (t : ℕ) → go-lts.Need-mul-result (
-  unpack-reads.Asked,
-  unpack-reads.Learnt,
-  unbound-reads.Asked,
-  unbound-reads.Learnt,
-  bind-below t,
-  bind.Post,
-  truth-reads.Asked,
-  truth-reads.Learnt,
-  follow-reads.Asked,
-  follow-reads.Learnt,
-) (go-at t) go.Post go-Inv-loop go-μ-loop
-go-mul-result t c = search needs
-
--- src/lib.rt:287:26
-go-add-result : (t : ℕ) → go-lts.Need-add-result (
-  unpack-reads.Asked,
-  unpack-reads.Learnt,
-  unbound-reads.Asked,
-  unbound-reads.Learnt,
-  bind-below t,
-  bind.Post,
-  truth-reads.Asked,
-  truth-reads.Learnt,
-  follow-reads.Asked,
-  follow-reads.Learnt,
-) (go-at t) go.Post go-Inv-loop go-μ-loop
-go-add-result t c = search needs
-
--- src/lib.rt:287:20
-go-mul-result-2 : (t : ℕ) → go-lts.Need-mul-result-2 (
-  unpack-reads.Asked,
-  unpack-reads.Learnt,
-  unbound-reads.Asked,
-  unbound-reads.Learnt,
-  bind-below t,
-  bind.Post,
-  truth-reads.Asked,
-  truth-reads.Learnt,
-  follow-reads.Asked,
-  follow-reads.Learnt,
-) (go-at t) go.Post go-Inv-loop go-μ-loop
-go-mul-result-2 t c = search needs
-
--- src/lib.rt:287:20
-go-shared-slice-read-result : (t : ℕ) → go-lts.Need-shared-slice-read-result (
-  unpack-reads.Asked,
-  unpack-reads.Learnt,
-  unbound-reads.Asked,
-  unbound-reads.Learnt,
-  bind-below t,
-  bind.Post,
-  truth-reads.Asked,
-  truth-reads.Learnt,
-  follow-reads.Asked,
-  follow-reads.Learnt,
-) (go-at t) go.Post go-Inv-loop go-μ-loop
-go-shared-slice-read-result t c = search needs
-
--- src/lib.rt:287:20
-go-add-result-2 : (t : ℕ) → go-lts.Need-add-result-2 (
-  unpack-reads.Asked,
-  unpack-reads.Learnt,
-  unbound-reads.Asked,
-  unbound-reads.Learnt,
-  bind-below t,
-  bind.Post,
-  truth-reads.Asked,
-  truth-reads.Learnt,
-  follow-reads.Asked,
-  follow-reads.Learnt,
-) (go-at t) go.Post go-Inv-loop go-μ-loop
+go-add-result-2 : (t : ℕ) → go-lts.Need-add-result-2 (unpack-reads.Asked, unpack-reads.Learnt, unbound-reads.Asked, unbound-reads.Learnt, bind-below t, bind.Post, truth-reads.Asked, truth-reads.Learnt, follow-reads.Asked, follow-reads.Learnt) (go-at t) go.Post go-Inv-loop go-μ-loop
 go-add-result-2 t c = omega (arith, going-value (c .before .before .before .before .before .loop .inv) (c .before .if2 .taken))
 
--- src/lib.rt:287:13
-go-same-length : (t : ℕ) → go-lts.Need-same-length (
-  unpack-reads.Asked,
-  unpack-reads.Learnt,
-  unbound-reads.Asked,
-  unbound-reads.Learnt,
-  bind-below t,
-  bind.Post,
-  truth-reads.Asked,
-  truth-reads.Learnt,
-  follow-reads.Asked,
-  follow-reads.Learnt,
-) (go-at t) go.Post go-Inv-loop go-μ-loop
+go-same-length : (t : ℕ) → go-lts.Need-same-length (unpack-reads.Asked, unpack-reads.Learnt, unbound-reads.Asked, unbound-reads.Learnt, bind-below t, bind.Post, truth-reads.Asked, truth-reads.Learnt, follow-reads.Asked, follow-reads.Learnt) (go-at t) go.Post go-Inv-loop go-μ-loop
 go-same-length t c = ap length (c .before .before .before .before .before .loop .inv .still)
 
--- src/lib.rt:287:13
-go-returns : (t : ℕ) → go-lts.Need-returns (
-  unpack-reads.Asked,
-  unpack-reads.Learnt,
-  unbound-reads.Asked,
-  unbound-reads.Learnt,
-  bind-below t,
-  bind.Post,
-  truth-reads.Asked,
-  truth-reads.Learnt,
-  follow-reads.Asked,
-  follow-reads.Learnt,
-) (go-at t) go.Post go-Inv-loop go-μ-loop
+go-returns : (t : ℕ) → go-lts.Need-returns (unpack-reads.Asked, unpack-reads.Learnt, unbound-reads.Asked, unbound-reads.Learnt, bind-below t, bind.Post, truth-reads.Asked, truth-reads.Learnt, follow-reads.Asked, follow-reads.Learnt) (go-at t) go.Post go-Inv-loop go-μ-loop
 go-returns t c = search going-leaf
 
--- src/lib.rt:289:13
-go-unpack-requires : (t : ℕ) → go-lts.Need-unpack-requires (
-  unpack-reads.Asked,
-  unpack-reads.Learnt,
-  unbound-reads.Asked,
-  unbound-reads.Learnt,
-  bind-below t,
-  bind.Post,
-  truth-reads.Asked,
-  truth-reads.Learnt,
-  follow-reads.Asked,
-  follow-reads.Learnt,
-) (go-at t) go.Post go-Inv-loop go-μ-loop
-go-unpack-requires t c κs = search needs
-
--- src/lib.rt:290:13
-go-unbound-requires : (t : ℕ) → go-lts.Need-unbound-requires (
-  unpack-reads.Asked,
-  unpack-reads.Learnt,
-  unbound-reads.Asked,
-  unbound-reads.Learnt,
-  bind-below t,
-  bind.Post,
-  truth-reads.Asked,
-  truth-reads.Learnt,
-  follow-reads.Asked,
-  follow-reads.Learnt,
-) (go-at t) go.Post go-Inv-loop go-μ-loop
+go-unbound-requires : (t : ℕ) → go-lts.Need-unbound-requires (unpack-reads.Asked, unpack-reads.Learnt, unbound-reads.Asked, unbound-reads.Learnt, bind-below t, bind.Post, truth-reads.Asked, truth-reads.Learnt, follow-reads.Asked, follow-reads.Learnt) (go-at t) go.Post go-Inv-loop go-μ-loop
 go-unbound-requires t c κs = search going-placed
 
--- src/lib.rt:292:13
-go-bind-requires : (t : ℕ) → go-lts.Need-bind-requires (
-  unpack-reads.Asked,
-  unpack-reads.Learnt,
-  unbound-reads.Asked,
-  unbound-reads.Learnt,
-  bind-below t,
-  bind.Post,
-  truth-reads.Asked,
-  truth-reads.Learnt,
-  follow-reads.Asked,
-  follow-reads.Learnt,
-) (go-at t) go.Post go-Inv-loop go-μ-loop
+go-bind-requires : (t : ℕ) → go-lts.Need-bind-requires (unpack-reads.Asked, unpack-reads.Learnt, unbound-reads.Asked, unbound-reads.Learnt, bind-below t, bind.Post, truth-reads.Asked, truth-reads.Learnt, follow-reads.Asked, follow-reads.Learnt) (go-at t) go.Post go-Inv-loop go-μ-loop
 go-bind-requires t c κs =
     let g = c .before .before .before .before .before .before .before .before .before .loop .inv in
     let ea = c .before .before .before .before .unpack .ensures in
@@ -433,191 +194,34 @@ go-bind-requires t c κs =
     let h = c .before .if3 .taken in
     (going-falls g ea nl et (c .before .before .before .before .before .before .before .before .before .before .before .before .before .before .before .before .pre .0) h, (g .along .ready, (g .along .within, (going-term g ea nl et h, going-free g ea nl et h))))
 
--- src/lib.rt:292:13
-go-same-length-2 : (t : ℕ) → go-lts.Need-same-length-2 (
-  unpack-reads.Asked,
-  unpack-reads.Learnt,
-  unbound-reads.Asked,
-  unbound-reads.Learnt,
-  bind-below t,
-  bind.Post,
-  truth-reads.Asked,
-  truth-reads.Learnt,
-  follow-reads.Asked,
-  follow-reads.Learnt,
-) (go-at t) go.Post go-Inv-loop go-μ-loop
+go-same-length-2 : (t : ℕ) → go-lts.Need-same-length-2 (unpack-reads.Asked, unpack-reads.Learnt, unbound-reads.Asked, unbound-reads.Learnt, bind-below t, bind.Post, truth-reads.Asked, truth-reads.Learnt, follow-reads.Asked, follow-reads.Learnt) (go-at t) go.Post go-Inv-loop go-μ-loop
 go-same-length-2 t c = going-kept (c .before .before .before .before .before .before .before .before .before .before .before .before .loop .inv) (c .before .before .bind .ensures)
 
--- src/lib.rt:292:13
-go-returns-2 : (t : ℕ) → go-lts.Need-returns-2 (
-  unpack-reads.Asked,
-  unpack-reads.Learnt,
-  unbound-reads.Asked,
-  unbound-reads.Learnt,
-  bind-below t,
-  bind.Post,
-  truth-reads.Asked,
-  truth-reads.Learnt,
-  follow-reads.Asked,
-  follow-reads.Learnt,
-) (go-at t) go.Post go-Inv-loop go-μ-loop
+go-returns-2 : (t : ℕ) → go-lts.Need-returns-2 (unpack-reads.Asked, unpack-reads.Learnt, unbound-reads.Asked, unbound-reads.Learnt, bind-below t, bind.Post, truth-reads.Asked, truth-reads.Learnt, follow-reads.Asked, follow-reads.Learnt) (go-at t) go.Post go-Inv-loop go-μ-loop
 go-returns-2 t c = search going-bind
 
--- src/lib.rt:294:30
-go-truth-requires : (t : ℕ) → go-lts.Need-truth-requires (
-  unpack-reads.Asked,
-  unpack-reads.Learnt,
-  unbound-reads.Asked,
-  unbound-reads.Learnt,
-  bind-below t,
-  bind.Post,
-  truth-reads.Asked,
-  truth-reads.Learnt,
-  follow-reads.Asked,
-  follow-reads.Learnt,
-) (go-at t) go.Post go-Inv-loop go-μ-loop
+go-truth-requires : (t : ℕ) → go-lts.Need-truth-requires (unpack-reads.Asked, unpack-reads.Learnt, unbound-reads.Asked, unbound-reads.Learnt, bind-below t, bind.Post, truth-reads.Asked, truth-reads.Learnt, follow-reads.Asked, follow-reads.Learnt) (go-at t) go.Post go-Inv-loop go-μ-loop
 go-truth-requires t c κs = search going-telling
 
--- src/lib.rt:294:9
-go-follow-requires : (t : ℕ) → go-lts.Need-follow-requires (
-  unpack-reads.Asked,
-  unpack-reads.Learnt,
-  unbound-reads.Asked,
-  unbound-reads.Learnt,
-  bind-below t,
-  bind.Post,
-  truth-reads.Asked,
-  truth-reads.Learnt,
-  follow-reads.Asked,
-  follow-reads.Learnt,
-) (go-at t) go.Post go-Inv-loop go-μ-loop
-go-follow-requires t c κs = search needs
-
--- src/lib.rt:284:5
-go-loop-less : (t : ℕ) → go-lts.Need-loop-less (
-  unpack-reads.Asked,
-  unpack-reads.Learnt,
-  unbound-reads.Asked,
-  unbound-reads.Learnt,
-  bind-below t,
-  bind.Post,
-  truth-reads.Asked,
-  truth-reads.Learnt,
-  follow-reads.Asked,
-  follow-reads.Learnt,
-) (go-at t) go.Post go-Inv-loop go-μ-loop
+go-loop-less : (t : ℕ) → go-lts.Need-loop-less (unpack-reads.Asked, unpack-reads.Learnt, unbound-reads.Asked, unbound-reads.Learnt, bind-below t, bind.Post, truth-reads.Asked, truth-reads.Learnt, follow-reads.Asked, follow-reads.Learnt) (go-at t) go.Post go-Inv-loop go-μ-loop
 go-loop-less t c = going-less (c .before .before .before .before .before .before .before .before .before .before .before .loop .inv) (c .before .before .before .before .before .before .unpack .ensures) (c .before .before .before .before .before .before .before .if2 .left) (c .before .before .before .before .unbound .ensures) (c .before .before .before .if3 .left) (c .before .truth .ensures) (c .follow .ensures)
 
--- src/lib.rt:284:5
-go-loop-again : (t : ℕ) → go-lts.Need-loop-again (
-  unpack-reads.Asked,
-  unpack-reads.Learnt,
-  unbound-reads.Asked,
-  unbound-reads.Learnt,
-  bind-below t,
-  bind.Post,
-  truth-reads.Asked,
-  truth-reads.Learnt,
-  follow-reads.Asked,
-  follow-reads.Learnt,
-) (go-at t) go.Post go-Inv-loop go-μ-loop
+go-loop-again : (t : ℕ) → go-lts.Need-loop-again (unpack-reads.Asked, unpack-reads.Learnt, unbound-reads.Asked, unbound-reads.Learnt, bind-below t, bind.Post, truth-reads.Asked, truth-reads.Learnt, follow-reads.Asked, follow-reads.Learnt) (go-at t) go.Post go-Inv-loop go-μ-loop
 go-loop-again t c = going-on (c .before .before .before .before .before .before .before .before .before .before .before .loop .inv) (c .before .before .before .before .before .before .unpack .ensures) (c .before .before .before .before .before .before .before .if2 .left) (c .before .before .before .before .unbound .ensures) (c .before .before .before .if3 .left) (c .before .truth .ensures) (c .follow .ensures)
 
--- src/lib.rt:268:1
-go-same-length-3 : (t : ℕ) → go-lts.Need-same-length-3 (
-  unpack-reads.Asked,
-  unpack-reads.Learnt,
-  unbound-reads.Asked,
-  unbound-reads.Learnt,
-  bind-below t,
-  bind.Post,
-  truth-reads.Asked,
-  truth-reads.Learnt,
-  follow-reads.Asked,
-  follow-reads.Learnt,
-) (go-at t) go.Post go-Inv-loop go-μ-loop
+go-same-length-3 : (t : ℕ) → go-lts.Need-same-length-3 (unpack-reads.Asked, unpack-reads.Learnt, unbound-reads.Asked, unbound-reads.Learnt, bind-below t, bind.Post, truth-reads.Asked, truth-reads.Learnt, follow-reads.Asked, follow-reads.Learnt) (go-at t) go.Post go-Inv-loop go-μ-loop
 go-same-length-3 t c = ap length (c .before .before .loop .inv .still)
 
--- src/lib.rt:268:1
-go-returns-3 : (t : ℕ) → go-lts.Need-returns-3 (
-  unpack-reads.Asked,
-  unpack-reads.Learnt,
-  unbound-reads.Asked,
-  unbound-reads.Learnt,
-  bind-below t,
-  bind.Post,
-  truth-reads.Asked,
-  truth-reads.Learnt,
-  follow-reads.Asked,
-  follow-reads.Learnt,
-) (go-at t) go.Post go-Inv-loop go-μ-loop
+go-returns-3 : (t : ℕ) → go-lts.Need-returns-3 (unpack-reads.Asked, unpack-reads.Learnt, unbound-reads.Asked, unbound-reads.Learnt, bind-below t, bind.Post, truth-reads.Asked, truth-reads.Learnt, follow-reads.Asked, follow-reads.Learnt) (go-at t) go.Post go-Inv-loop go-μ-loop
 go-returns-3 t c = search going-cut
 
 pub +bind+go-spec : {M : Type 1} → statement M
 +bind+go-spec =
-    close
-    μ-bind
-    μ-go
-    (λ t. bind-lts.spec
-    (go-below t, go.Post)
-    (bind-at t)
-    bind.Post
-    bind-Inv-loop
-    bind-μ-loop
-    (bind-loop-holds t)
-    (bind-mul-if1 t)
-    (bind-shared-slice-read-if1 t)
-    (bind-mul-env t)
-    (bind-slice-write-env t)
-    (bind-same-length t)
-    (bind-returns t)
-    (bind-mul-env-2 t)
-    (bind-slice-write-env-2 t)
-    (bind-go-requires t)
-    (bind-add-v t)
-    (bind-loop-less t)
-    (bind-loop-again t)
-    (bind-mul-env-3 t)
-    (bind-slice-write-env-3 t)
-    (bind-same-length-2 t)
-    (bind-returns-2 t))
-    λ t. go-lts.spec (
-      unpack-reads.Asked,
-      unpack-reads.Learnt,
-      unbound-reads.Asked,
-      unbound-reads.Learnt,
-      bind-below t,
-      bind.Post,
-      truth-reads.Asked,
-      truth-reads.Learnt,
-      follow-reads.Asked,
-      follow-reads.Learnt,
-    )
-    (go-at t)
-    go.Post
-    go-Inv-loop
-    go-μ-loop
-    (go-loop-holds t)
-    (go-mul-if1 t)
-    (go-shared-slice-read-if1 t)
-    (go-mul-l t)
-    (go-mul-l-2 t)
-    (go-shared-slice-read-l t)
-    (go-mul-result t)
-    (go-add-result t)
-    (go-mul-result-2 t)
-    (go-shared-slice-read-result t)
-    (go-add-result-2 t)
-    (go-same-length t)
-    (go-returns t)
-    (go-unpack-requires t)
-    (go-unbound-requires t)
-    (go-bind-requires t)
-    (go-same-length-2 t)
-    (go-returns-2 t)
-    (go-truth-requires t)
-    (go-follow-requires t)
-    (go-loop-less t)
-    (go-loop-again t)
-    (go-same-length-3 t)
-    (go-returns-3 t)
+    close μ-bind μ-go
+    (λ t. bind-lts.spec (go-below t, go.Post) (bind-at t) bind.Post bind-Inv-loop bind-μ-loop (bind-loop-holds t) (bind-mul-if1 t) (bind-shared-slice-read-if1 t) (bind-mul-env t) (bind-slice-write-env t) (bind-same-length t) (bind-returns t) (bind-mul-env-2 t) (bind-slice-write-env-2 t) (bind-go-requires t) (bind-add-v t) (bind-loop-less t) (bind-loop-again t) (bind-mul-env-3 t) (bind-slice-write-env-3 t) (bind-same-length-2 t) (bind-returns-2 t))
+    λ t. go-lts.spec
+    (unpack-reads.Asked, unpack-reads.Learnt, unbound-reads.Asked, unbound-reads.Learnt, bind-below t, bind.Post, truth-reads.Asked, truth-reads.Learnt, follow-reads.Asked, follow-reads.Learnt)
+    (go-at t) go.Post go-Inv-loop go-μ-loop (go-loop-holds t) (λ c. search needs) (λ c. search needs) (λ c. search needs) (λ c. search needs)
+    (λ c. search needs) (λ c. search needs) (λ c. search needs) (λ c. search needs) (λ c. search needs) (go-add-result-2 t) (go-same-length t)
+    (go-returns t) (λ c κs. search needs) (go-unbound-requires t) (go-bind-requires t) (go-same-length-2 t) (go-returns-2 t) (go-truth-requires t)
+    (λ c κs. search needs) (go-loop-less t) (go-loop-again t) (go-same-length-3 t) (go-returns-3 t)

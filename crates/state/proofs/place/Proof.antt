@@ -1,16 +1,13 @@
 use Rattle.state.proofs.FactLaws.{place-in, place-out}
 use Rattle.state.proofs.place.Statement.{statement}
 use Rattle.state.proofs.place.Tie as tie
-use Rattle.state.proofs.place.Reads as reads
-use Rattle.state.proofs.place.Lts as lts
 
--- src/lib.rt:69:9
 returns : tie.Need-returns
 returns c = place-in _ _ _ _ (c .if1 .taken)
 
--- src/lib.rt:65:1
 returns-2 : tie.Need-returns-2
 returns-2 c = place-out _ _ _ _ (c .if1 .left)
 
 pub place-spec : {M : Type 1} → statement M
-place-spec = tie.close (tie.spec returns returns-2)
+place-spec =
+    tie.close (tie.spec returns returns-2)

@@ -2,42 +2,25 @@ use native.Mathlib.Omega.{arith}
 use Rattle.state.proofs.SearchLaws.{telling-placed, telling-predicate, telling-read, truth-equal, truth-asked, truth-found}
 use Rattle.state.proofs.truth.Statement.{statement}
 use Rattle.state.proofs.truth.Tie as tie
-use Rattle.state.proofs.truth.Reads as reads
-use Rattle.state.proofs.truth.Lts as lts
-use Rattle.state.proofs.found.Reads as found-reads
-use Rattle.state.proofs.objects_of.Reads as objects-of-reads
 
--- src/lib.rt:247:9
 objects-of-requires : tie.Need-objects-of-requires
 objects-of-requires c κs = search telling-placed
 
--- src/lib.rt:250:9
 returns : tie.Need-returns
 returns c = search truth-equal
 
--- src/lib.rt:253:25
 mul-found : tie.Need-mul-found
 mul-found c = omega (arith, telling-predicate (c .before .before .before .before .before .before .pre))
 
--- src/lib.rt:253:25
 shared-slice-read-found : tie.Need-shared-slice-read-found
 shared-slice-read-found c = search telling-read
 
--- src/lib.rt:253:5
 found-requires : tie.Need-found-requires
 found-requires c κs = search truth-asked
 
--- src/lib.rt:243:1
 returns-2 : tie.Need-returns-2
 returns-2 c = search truth-found
 
 pub truth-spec : {M : Type 1} → statement M
 truth-spec =
-    tie.close
-    (tie.spec
-    objects-of-requires
-    returns
-    mul-found
-    shared-slice-read-found
-    found-requires
-    returns-2)
+    tie.close (tie.spec objects-of-requires returns mul-found shared-slice-read-found found-requires returns-2)
