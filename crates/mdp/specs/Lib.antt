@@ -1,0 +1,6 @@
+-- Models, the Bellman values, backups, and runs of backups and cuts (document 01, sections 'Backup' and 'Cut').
+-- definitions
+pub mod Model
+pub mod Bellman
+pub mod Backup
+pub mod Runs
