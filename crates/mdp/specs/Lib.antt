@@ -4,3 +4,5 @@ pub mod Model
 pub mod Bellman
 pub mod Backup
 pub mod Runs
+-- laws
+pub mod CallLaws
