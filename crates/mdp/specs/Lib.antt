@@ -6,3 +6,4 @@ pub mod Backup
 pub mod Runs
 -- laws
 pub mod CallLaws
+pub mod BackupLaws
