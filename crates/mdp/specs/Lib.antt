@@ -7,3 +7,6 @@ pub mod Runs
 -- laws
 pub mod CallLaws
 pub mod BackupLaws
+pub mod CutLaws
+pub mod RunLaws
+pub mod Table
