@@ -32,7 +32,7 @@ use Rattle.regress.specs.Parameters.{Allowed, Within, GoodTruths, WithinTruths}
 use Rattle.regress.specs.Next.{next, meanings}
 use Rattle.regress.specs.NextLaws.{Tells, regressed-tells, regressed-highest, next-good}
 use Rattle.mdp.specs.Model.{Variant, Action, Model, scale, Every, GoodVariant, GoodAction, GoodModel}
-use Rattle.mdp.specs.Bellman.{weightIn, after, bellman}
+use Rattle.mdp.specs.Bellman.{weightIn, stateAfter, rewardIn, bellman}
 use Rattle.mdp.specs.Backup.{combined, freedOutcome, variantsSum, actionsBest, highestScale, mostSteps, scaleEnds, backup}
 use Rattle.mdp.specs.CallLaws.{within-more, leaf-listed, leaf-within, leaf-value, within-closed, closed-highest, Made, shared-made, Added, apart-added, FreedTo, freed-to}
 
@@ -54,9 +54,9 @@ weight-same ar c v few g s os θ f = value-same (λ t. t < firstParameter + c) s
 weight-within : (ar : List ℕ) (c : ℕ) (v : Variant) → GoodVariant ar c v → Within c (meaning ar (v .weight))
 weight-within ar c v g = record { terms = Terms-mono (λ t. t < firstParameter + c) (Allowed c) (λ t l k. absurd (omega arith)) (meaning ar (v .weight)) (g .weight) }
 
-after-good : (ar : List ℕ) (s : State) (os : List ℕ) (v : Variant) → Good s → Good (after ar s os v)
-unfolding after
-after-good ar s os v g = next-good s os (meanings ar (v .truths)) g
+stateAfter-good : (ar : List ℕ) (s : State) (os : List ℕ) (v : Variant) → Good s → Good (stateAfter ar s os v)
+unfolding stateAfter
+stateAfter-good ar s os v g = next-good s os (meanings ar (v .truths)) g
 
 -- ===== The steps of a backup =====
 
@@ -106,16 +106,16 @@ has-none ar y d l w h = record {
 
 -- the sum over the variants of the weighted values of the next states
 abbrev pub gain : List ℕ → ℕ → (State → ℕ) → State → List ℕ → List Variant → ℕ
-gain ar g x s os vs = sumOf vs (λ v. g * weightIn ar s os v * x (after ar s os v))
+gain ar g x s os vs = sumOf vs (λ v. g * weightIn ar s os v * x (stateAfter ar s os v))
 
 module _ (ar : List ℕ) (good : areArities ar ≡ true) (g : ℕ) (g-few : g ≤ highestValue) (x : State → ℕ) (d : Diagram) (vals : Values ar x d) where
-  regressed-has : (c : ℕ) (v : Variant) → GoodVariant ar c v → (r : Diagram) → Tells ar (v .truths) d r → Has ar c (λ s os. x (after ar s os v)) r
-  unfolding after
+  regressed-has : (c : ℕ) (v : Variant) → GoodVariant ar c v → (r : Diagram) → Tells ar (v .truths) d r → Has ar c (λ s os. x (stateAfter ar s os v)) r
+  unfolding stateAfter
   regressed-has c v gv r tells = record {
     listed = tells .good;
     within = tells .within c (truths-within ar c v gv) (within-more c ar d (vals .within));
-    high = λ s gs os t. regressed-highest ar (v .truths) d r tells (vals .within) s gs os (bound-tuple gs t) (x (after ar s os v))
-        (vals .high (after ar s os v) (after-good ar s os v gs));
+    high = λ s gs os t. regressed-highest ar (v .truths) d r tells (vals .within) s gs os (bound-tuple gs t) (x (stateAfter ar s os v))
+        (vals .high (stateAfter ar s os v) (stateAfter-good ar s os v gs));
   }
 
   variants-sum : (c : ℕ) → c ≤ parameterCount → (vs : List Variant) → Every (GoodVariant ar c) vs → (y : State → List ℕ → ℕ) (sum : Diagram) → Has ar c y sum
@@ -128,10 +128,10 @@ module _ (ar : List ℕ) (good : areArities ar ≡ true) (g : ℕ) (g-few : g �
       accepted-then (combined Product Shared ar r w) (shared-made Product ar r w (hr .good) (hw .listed)) (λ p hp.
       accepted-then (combined Sum Apart ar sum p) (apart-added ar sum p (h .listed) (hp .listed)) (λ sum′ ha.
       accepted-mono
-      (variants-sum c few vs (gs .1) (λ s os. y s os + x (after ar s os v) * (weightIn ar s os v * g)) sum′ (record {
+      (variants-sum c few vs (gs .1) (λ s os. y s os + x (stateAfter ar s os v) * (weightIn ar s os v * g)) sum′ (record {
         listed = ha .listed;
         within = ha .within c (h .within) (hp .within c (regressed-has c v (gs .0) r hr .within) (hw .within c (weight-within ar c v (gs .0)) (leaf-within c ar g)));
-        high = λ s gd os t. ha .high s os (y s os) (x (after ar s os v) * (weightIn ar s os v * g)) (h .high s gd os t)
+        high = λ s gd os t. ha .high s os (y s os) (x (stateAfter ar s os v) * (weightIn ar s os v * g)) (h .high s gd os t)
             (max-scale (weightIn ar s os v * g) (regressed-has c v (gs .0) r hr .high s gd os t) (λ θ f.
             hp .values s θ ∙ ap (λ (n : ℕ). value s (meaning ar r) θ * n) (hw .values s θ ∙ times (weight-same ar c v few (gs .0) s os θ f) (leaf-value ar s g θ))));
       }))
@@ -176,7 +176,7 @@ pub bound-none : (s : State) → Good s → Bound s []
 bound-none s g = record { each = λ i. g .placed 0 }
 
 pub backup-is : (m : Model) → GoodModel m → (k : ℕ) (d : Diagram) → Values (m .arities) (bellman m k) d → Accepted (Values (m .arities) (bellman m (suc k))) (backup m k d)
-unfolding backup bellman
+unfolding backup bellman rewardIn
 backup-is m gm k d vals =
     let ar = m .arities in
     let p = scale m ^ suc k in

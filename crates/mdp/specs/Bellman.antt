@@ -12,19 +12,24 @@ unfoldable pub weightIn : List ℕ → State → List ℕ → Variant → ℕ
 unfolding value start meaning
 weightIn ar s os v = value s (meaning ar (v .weight)) (start s os)
 
--- the state after a variant, its truth diagrams read in s with the tuple os for the parameters
-unfoldable pub after : List ℕ → State → List ℕ → Variant → State
+-- the next state under a variant, its truth diagrams read in s with the tuple os for the parameters
+unfoldable pub stateAfter : List ℕ → State → List ℕ → Variant → State
 unfolding next meaning
-after ar s os v = next s os (meanings ar (v .truths))
+stateAfter ar s os v = next s os (meanings ar (v .truths))
+
+-- the reward's value
+unfoldable pub rewardIn : Model → State → ℕ
+unfolding highest meaning
+rewardIn m s = highest s [] (meaning (m .arities) (m .reward))
 
 -- M0(s) is the reward's value; M(k+1)(s) = S^(k+1) · M0(s) + the highest, over actions and object tuples, of the sum over variants of
 -- G · weight · Mk(next state)
 unfoldable pub bellman : Model → ℕ → State → ℕ
-unfolding highest meaning scale maxOf maxTuples sumOf weightIn after
-bellman m zero s = highest s [] (meaning (m .arities) (m .reward))
+unfolding rewardIn scale maxOf maxTuples sumOf weightIn stateAfter
+bellman m zero s = rewardIn m s
 bellman m (suc k) s =
-    scale m ^ suc k * highest s [] (meaning (m .arities) (m .reward))
+    scale m ^ suc k * rewardIn m s
     + maxOf (m .actions) (λ a.
     maxTuples (s .size) (a .count) (λ os.
     sumOf (a .variants) (λ v.
-    m .numerator * weightIn (m .arities) s os v * bellman m k (after (m .arities) s os v))))
+    m .numerator * weightIn (m .arities) s os v * bellman m k (stateAfter (m .arities) s os v))))

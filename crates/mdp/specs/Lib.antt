@@ -9,4 +9,5 @@ pub mod CallLaws
 pub mod BackupLaws
 pub mod CutLaws
 pub mod RunLaws
+pub mod StepLaws
 pub mod Table

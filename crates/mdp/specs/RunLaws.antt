@@ -10,7 +10,7 @@ use Rattle.state.specs.HighestLaws.{highest-is}
 use Rattle.regress.specs.Calls.{Outcome, ok, refused}
 use Rattle.regress.specs.CallLaws.{Accepted}
 use Rattle.mdp.specs.Model.{Model, GoodModel}
-use Rattle.mdp.specs.Bellman.{bellman}
+use Rattle.mdp.specs.Bellman.{rewardIn, bellman}
 use Rattle.mdp.specs.Backup.{backup}
 use Rattle.mdp.specs.Runs.{Call, aBackup, aCut, Held, cutOutcome, taken, call, runFrom, begin, run}
 use Rattle.mdp.specs.BackupLaws.{Values, bound-none, backup-is}
@@ -36,7 +36,7 @@ module _ (m : Model) (good : GoodModel m) where
   runFrom-right (c ∷ l) h r = runFrom-right l (call m c h) (call-right c h r)
 
   pub begin-right : Right m (begin m)
-  unfolding begin bellman
+  unfolding begin bellman rewardIn
   begin-right = record {
     listed = good .reward-listed;
     is-closed = good .reward-closed;
