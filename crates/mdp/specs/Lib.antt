@@ -4,10 +4,12 @@ pub mod Model
 pub mod Bellman
 pub mod Backup
 pub mod Runs
+pub mod Example
 -- laws
 pub mod CallLaws
 pub mod BackupLaws
 pub mod CutLaws
 pub mod RunLaws
 pub mod StepLaws
+pub mod ExampleLaws
 pub mod Table

@@ -29,46 +29,9 @@ use Rattle.cut.specs.declared.Edge.the-variants.{False}
 use Rattle.cut.specs.declared.Cut.the-variants.{Done as CutDone, Refused as CutRefused}
 use Rattle.cut.specs.Cut.{diagramAnswer as cutAnswer}
 use Rattle.mdp.specs.Model.{Variant, Action, Model, scale}
+use Rattle.mdp.specs.Example.{forFirst, noTruths, runModel, nothingTrue, stockAtHub}
 use Rattle.mdp.specs.Backup.{backup}
 use Rattle.mdp.specs.Runs.{Call, aBackup, aCut, run}
-
--- a truth diagram for predicate 1 alone, or none
-abbrev forFirst : Diagram → Truths
-forFirst d zero = none
-forFirst d (suc zero) = some d
-forFirst d (suc (suc p)) = none
-
-abbrev noTruths : Truths
-noTruths p = none
-
--- document 01's run: hub is constant 0, stock predicate 1
-abbrev runModel : Model
-runModel = record {
-  arities = 2 ∷ 1 ∷ replicate 30 0;
-  total = 4;
-  numerator = 1;
-  denominator = 2;
-  reward = branch 16777216 (leaf 10) (leaf 0);
-  actions = record {
-    count = 1;
-    variants =
-        record { weight = leaf 3; truths = forFirst (branch 4325376 (leaf 1) (branch 25165824 (leaf 1) (leaf 0))) }
-        ∷ record { weight = leaf 1; truths = noTruths }
-        ∷ [];
-  } ∷ [];
-}
-
--- two objects, hub is object 0; nothing is true, then the stock of object 0
-abbrev nothingTrue : State
-nothingTrue = record { size = 2; constant = λ c. 0; fact = λ p os. false }
-
-abbrev isNought : List ℕ → Bool
-isNought [] = false
-isNought (o ∷ []) = eqb o 0
-isNought (o ∷ n ∷ os) = false
-
-abbrev stockAtHub : State
-stockAtHub = record { size = 2; constant = λ c. 0; fact = λ p os. eqb p 1 && isNought os }
 
 -- what (value) prints: value, k, S^k
 abbrev shown : Model → List Call → State → ℕ × ℕ × ℕ
