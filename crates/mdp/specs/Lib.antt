@@ -11,5 +11,6 @@ pub mod BackupLaws
 pub mod CutLaws
 pub mod RunLaws
 pub mod StepLaws
+pub mod ValuedLaws
 pub mod ExampleLaws
 pub mod Table
