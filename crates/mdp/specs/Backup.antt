@@ -1,7 +1,7 @@
 -- A backup is a row of calls; the first refusal met is the answer (document 01, section 'Backup').
 use mathlib.Core.Bool.{Bool, _||_}
 use mathlib.Core.List.{List, [], _∷_}
-use Prim.Native.Nat.{ℕ, zero, suc, _-_, _^_}
+use Prim.Native.Nat.{ℕ, suc, _-_, _^_}
 use lib.Dec.{eqb, ltb}
 use Rattle.refusal.specs.declared.Refusal.the-variants.{Variables, Scale}
 use Rattle.label.specs.Limits.{termBase}

@@ -2,9 +2,9 @@
 use mathlib.Core.Path.{_≡_, refl, ap, sym, _∙_, subst}
 use mathlib.Core.Bool.{Bool, true, false, _||_}
 use mathlib.Core.List.{List, [], _∷_}
-use Prim.Native.Nat.{ℕ, zero, suc, _+_, _*_, _^_, _≤_, _<_, max}
+use Prim.Native.Nat.{ℕ, suc, _+_, _*_, _^_, _≤_, _<_, max}
 use native.Mathlib.Omega.{arith}
-use native.Mathlib.Nat.{le-refl, le-of-eq, zero-add}
+use native.Mathlib.Nat.{le-of-eq, zero-add}
 use lib.Dec.{ltb, eqb}
 use borrow.Author.Tests.{ltb-false}
 use Rattle.refusal.specs.declared.Refusal.the-variants.{Scale}
@@ -18,23 +18,21 @@ use Rattle.apply.specs.declared.Operation.the-variants.{Sum, Product, Max}
 use Rattle.apply.specs.declared.Names.the-variants.{Apart, Shared}
 use Rattle.apply.specs.GoodLaws.{fine-every}
 use Rattle.rename.specs.ClosingLaws.{closed-good}
-use Rattle.state.specs.Max.{IsMax, Tuple, none, maxTuples, maxOf, sumOf}
+use Rattle.state.specs.Max.{Tuple, none, maxTuples, maxOf, sumOf}
 use Rattle.state.specs.MaxLaws.{max-scale, max-both}
 use Rattle.state.specs.State.{meaning, State, Good, value, fixed, Fits}
-use Rattle.state.specs.Terms.{Terms}
 use Rattle.state.specs.ValueLaws.{low-lt, Terms-mono, value-same}
 use Rattle.state.specs.Highest.{Highest, Bound, start, highest}
 use Rattle.state.specs.HighestLaws.{start-fits, bound-tuple, highest-is}
-use Rattle.regress.specs.Calls.{Outcome, ok, refused, andThen, pickOutcome}
-use Rattle.regress.specs.CallLaws.{Accepted, accepted-ok, accepted-refused, accepted-then, accepted-pick, accepted-mono}
+use Rattle.regress.specs.CallLaws.{Accepted, accepted-ok, accepted-then, accepted-pick, accepted-mono}
 use Rattle.regress.specs.Regression.{regressed}
 use Rattle.regress.specs.Parameters.{Allowed, Within, GoodTruths, WithinTruths}
-use Rattle.regress.specs.Next.{next, meanings}
+use Rattle.regress.specs.Next.{meanings}
 use Rattle.regress.specs.NextLaws.{Tells, regressed-tells, regressed-highest, next-good}
 use Rattle.mdp.specs.Model.{Variant, Action, Model, scale, Every, GoodVariant, GoodAction, GoodModel}
 use Rattle.mdp.specs.Bellman.{weightIn, stateAfter, rewardIn, bellman}
 use Rattle.mdp.specs.Backup.{combined, freedOutcome, variantsSum, actionsBest, highestScale, mostSteps, scaleEnds, backup}
-use Rattle.mdp.specs.CallLaws.{within-more, leaf-listed, leaf-within, leaf-value, within-closed, closed-highest, Made, shared-made, Added, apart-added, FreedTo, freed-to}
+use Rattle.mdp.specs.CallLaws.{within-more, leaf-listed, leaf-within, leaf-value, within-closed, closed-highest, shared-made, apart-added, freed-to}
 
 -- ===== Variants =====
 

@@ -5,7 +5,7 @@ use Rattle.state.specs.State.{State, meaning, value}
 use Rattle.state.specs.Max.{maxTuples, maxOf, sumOf}
 use Rattle.state.specs.Highest.{start, highest}
 use Rattle.regress.specs.Next.{next, meanings}
-use Rattle.mdp.specs.Model.{Variant, Action, Model, scale}
+use Rattle.mdp.specs.Model.{Variant, Model, scale}
 
 -- the weight of a variant, read in s with the tuple os for the parameters
 unfoldable pub weightIn : List ℕ → State → List ℕ → Variant → ℕ

@@ -1,12 +1,11 @@
 -- What the calls of a backup give, each in terms of listings, parameters and highest leaves.
-use mathlib.Core.Path.{_≡_, refl, ap, ap₂, sym, _∙_, subst}
-use mathlib.Core.Bool.{Bool, true, false}
-use mathlib.Core.List.{List, [], _∷_}
-use Prim.Native.Nat.{ℕ, zero, suc, _+_, _-_, _≤_, _<_}
+use mathlib.Core.Path.{_≡_, refl, ap₂, sym, _∙_, subst}
+use mathlib.Core.Bool.{true, false}
+use mathlib.Core.List.{List, []}
+use Prim.Native.Nat.{ℕ, _+_, _-_, _≤_, _<_}
 use native.Mathlib.Omega.{arith}
-use native.Mathlib.Nat.{le-of-eq, le-refl}
+use native.Mathlib.Nat.{le-of-eq}
 use lib.ListN.{length}
-use lib.Dec.{ltb}
 use borrow.Author.Tests.{ltb-false}
 use Rattle.basics.specs.Tests.{Cmp, below, equal, above, cmp, Flag, isTrue, isFalse, flag}
 use Rattle.basics.specs.Members.{clash}
@@ -14,36 +13,35 @@ use Rattle.refusal.specs.declared.Refusal.the-variants.{Variables}
 use Rattle.label.specs.Limits.{firstParameter, parameterCount, firstVariable, variableCount, termBase}
 use Rattle.label.specs.LabelLaws.{term-below}
 use Rattle.label.specs.Labels.{areArities}
-use Rattle.label.specs.Renamings.{numbering, freeing}
+use Rattle.label.specs.Renamings.{numbering}
 use Rattle.label.specs.RenamingLaws.{Numbered, numbering-low, numbering-high, numbering-increasing}
 use Rattle.diagram.specs.Sizes.{mostRows, highestValue}
-use Rattle.diagram.specs.Diagram.{Diagram, leaf, branch, eval, relabel}
+use Rattle.diagram.specs.Diagram.{Diagram, leaf, eval, relabel}
 use Rattle.diagram.specs.Rows.{rows, onto}
 use Rattle.diagram.specs.Listing.{Fine, Good as Listed}
 use Rattle.diagram.specs.Variables.{occurs, variables, closedFrom, closed, after}
 use Rattle.apply.specs.declared.Operation.{Operation}
-use Rattle.apply.specs.declared.Operation.the-variants.{Sum, Product, Max}
+use Rattle.apply.specs.declared.Operation.the-variants.{Sum}
 use Rattle.apply.specs.declared.Names.the-variants.{Apart, Shared}
 use Rattle.apply.specs.declared.Combined.{Combined}
 use Rattle.apply.specs.declared.Combined.the-variants.{Done, Refused}
 use Rattle.apply.specs.Apply.{apply}
-use Rattle.apply.specs.ApplyLaws.{eval-apply, ordered-apply, reduced-apply}
+use Rattle.apply.specs.ApplyLaws.{eval-apply}
 use Rattle.apply.specs.GoodLaws.{every-apply, fine-apply, good-apply, fine-every}
 use Rattle.apply.specs.Combination.{operate, combination, diagramAnswer}
-use Rattle.apply.specs.CombinationLaws.{Accepted as Allowed-by, done-accepted, eval-shared, good-shared}
-use Rattle.rename.specs.Valuations.{holds as chooses, leafOf, ClosedBy, OpenedBy, ClosedFree, Joined, Parted, ApartFree}
+use Rattle.apply.specs.CombinationLaws.{done-accepted, good-shared}
+use Rattle.rename.specs.Valuations.{holds as chooses, leafOf, ClosedFree, ApartFree}
 use Rattle.rename.specs.Freeing.{freed, Freeable}
-use Rattle.rename.specs.VariableLaws.{Origin, variables-few, terms-numbered, occurs-term, renaming-rows}
-use Rattle.rename.specs.ClosingLaws.{closedFrom-good, occurs-closedFrom, closed-good, closed-twice, after-good}
+use Rattle.rename.specs.VariableLaws.{variables-few, terms-numbered, occurs-term, renaming-rows}
+use Rattle.rename.specs.ClosingLaws.{occurs-closedFrom, closed-good, closed-twice, after-good}
 use Rattle.rename.specs.ApartLaws.{closed-free, apart-free}
 use Rattle.rename.specs.FreeingLaws.{freed-good}
-use Rattle.state.specs.Max.{IsMax, Tuple, maxTuples}
+use Rattle.state.specs.Max.{Tuple, maxTuples}
 use Rattle.state.specs.MaxLaws.{max-by}
-use Rattle.state.specs.State.{Atomic, atomOf, meaning, State, Good, truth, holds, value, Fits}
-use Rattle.state.specs.Terms.{Each, args, Terms}
+use Rattle.state.specs.State.{atomOf, meaning, State, Good, truth, holds, value}
+use Rattle.state.specs.Terms.{Each, args}
 use Rattle.state.specs.ValueLaws.{Terms-mono}
 use Rattle.state.specs.Highest.{Highest}
-use Rattle.regress.specs.Calls.{Outcome, ok, refused, pickOutcome}
 use Rattle.regress.specs.CallLaws.{Accepted, accepted-ok, accepted-refused, accepted-pick}
 use Rattle.regress.specs.Parameters.{Allowed, Within}
 use Rattle.regress.specs.ResultLaws.{value-meaning, terms-every, every-terms}

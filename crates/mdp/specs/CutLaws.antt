@@ -2,7 +2,7 @@
 use mathlib.Core.Path.{_≡_, refl, sym, subst}
 use mathlib.Core.Bool.{Bool, true, false, not, _&&_}
 use mathlib.Core.List.{List, []}
-use Prim.Native.Nat.{ℕ, suc, _≤_, _<_}
+use Prim.Native.Nat.{ℕ, _≤_}
 use lib.ListN.{length}
 use lib.Dec.{ltb}
 use borrow.Author.Tests.{ltb-false}
@@ -10,19 +10,16 @@ use Rattle.refusal.specs.declared.Refusal.the-variants.{Paths}
 use Rattle.diagram.specs.Diagram.{Diagram, leaf, branch, same}
 use Rattle.diagram.specs.Rows.{rows}
 use Rattle.diagram.specs.RowLists.{rowTree}
-use Rattle.diagram.specs.Listing.{Good as Listed}
-use Rattle.diagram.specs.Variables.{closed}
 use Rattle.apply.specs.GoodLaws.{EveryLabel, every-node}
 use Rattle.rename.specs.ClosingLaws.{closed-good, closed-twice}
-use Rattle.state.specs.State.{atomOf, meaning, State, Good}
+use Rattle.state.specs.State.{atomOf, meaning, State}
 use Rattle.state.specs.Terms.{Each, args}
-use Rattle.regress.specs.Calls.{Outcome, ok, refused}
 use Rattle.regress.specs.CallLaws.{Accepted, accepted-ok, accepted-refused}
 use Rattle.regress.specs.Parameters.{Allowed, Within}
 use Rattle.regress.specs.ResultLaws.{terms-every, every-terms}
-use Rattle.cut.specs.declared.Cut.the-variants.{Done, Refused}
+use Rattle.cut.specs.declared.Cut.the-variants.{Refused}
 use Rattle.cut.specs.Paths.{paths, mostPaths}
-use Rattle.cut.specs.Cut.{MayGo, Choice, goes, stays, choice, pickDiagram, reduced, cutAt, cutDiagram, pickCut, edgeOf, isTrueEdge, chosenAnswer, diagramAnswer}
+use Rattle.cut.specs.Cut.{MayGo, Choice, pickDiagram, reduced, cutAt, cutDiagram, pickCut, edgeOf, isTrueEdge, chosenAnswer, diagramAnswer}
 use Rattle.cut.specs.CoverLaws.{Chosen, highest, nothing, chosen}
 use Rattle.cut.specs.TruthLaws.{cut-keeps}
 use Rattle.cut.specs.ReduceLaws.{cut-good}

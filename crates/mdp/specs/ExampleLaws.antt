@@ -1,12 +1,11 @@
 -- The model of document 01's run is one that reading can accept.
 use mathlib.Core.Path.{_≡_, refl, subst}
-use mathlib.Core.Bool.{true}
-use mathlib.Core.List.{List, [], _∷_, _++_}
+use mathlib.Core.List.{List, [], _∷_}
 use mathlib.Core.Option.{Option, some, none}
-use Prim.Native.Nat.{ℕ, zero, suc, _+_, _≤_, _<_}
+use Prim.Native.Nat.{ℕ, zero, suc, _<_}
 use native.Mathlib.Omega.{arith}
-use lib.ListN.{length, getD, replicate}
-use Rattle.label.specs.Limits.{leafMark, firstVariable, predicateCount}
+use lib.ListN.{getD}
+use Rattle.label.specs.Limits.{leafMark, predicateCount}
 use Rattle.label.specs.Terms.{isTerm, isConstant, isParameter, isVariable}
 use Rattle.label.specs.Labels.{areArities, isLabel, isAtom, placeFits, inOrder, packed, unpacked, predicateOf, termsOf}
 use Rattle.label.specs.Renamings.{renamed, mapped, placed, numbering}
@@ -16,10 +15,8 @@ use Rattle.diagram.specs.Listing.{Good, diagramOf, treeAt}
 use Rattle.diagram.specs.Listings.{is-listing-good}
 use Rattle.diagram.specs.Variables.{closed}
 use Rattle.state.specs.State.{atomOf, meaning}
-use Rattle.state.specs.Terms.{Terms}
-use Rattle.regress.specs.Parameters.{Within}
-use Rattle.mdp.specs.Model.{GoodTruthDiagram, GoodVariant, GoodAction, GoodModel}
-use Rattle.mdp.specs.Example.{forFirst, noTruths, runModel}
+use Rattle.mdp.specs.Model.{GoodTruthDiagram, GoodModel}
+use Rattle.mdp.specs.Example.{forFirst, runModel}
 
 abbrev ar : List ℕ
 ar = runModel .arities

@@ -1,7 +1,6 @@
 -- Runs of backups and cuts on one model (document 01, sections 'Backup' and 'Cut').
-use mathlib.Core.Bool.{Bool}
 use mathlib.Core.List.{List, [], _∷_}
-use Prim.Native.Nat.{ℕ, zero, suc}
+use Prim.Native.Nat.{ℕ, suc}
 use Rattle.diagram.specs.Diagram.{Diagram}
 use Rattle.regress.specs.Calls.{Outcome, ok, refused}
 use Rattle.cut.specs.declared.Cut.{Cut}

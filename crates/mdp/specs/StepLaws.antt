@@ -2,7 +2,7 @@
 use mathlib.Core.Path.{_≡_, refl, ap, sym, _∙_}
 use mathlib.Core.Bool.{Bool, true, false, _||_}
 use mathlib.Core.List.{List, [], _∷_}
-use Prim.Native.Nat.{ℕ, zero, suc, _+_, _*_, _-_, _^_, _≤_, _<_}
+use Prim.Native.Nat.{ℕ, suc, _+_, _*_, _-_, _^_, _≤_, _<_}
 use native.Mathlib.Omega.{arith}
 use native.Mathlib.Nat.{pow-suc, pow-zero}
 use lib.Dec.{ltb, eqb}
@@ -10,9 +10,9 @@ use borrow.Author.Tests.{lt-ltb, le-ltb, ltb-false, eq-eqb, ne-eqb, eqb-false}
 use Rattle.basics.specs.Tests.{Flag, isTrue, isFalse, flag}
 use Rattle.basics.specs.Members.{clash}
 use Rattle.refusal.specs.declared.Refusal.{Refusal}
-use Rattle.refusal.specs.declared.Refusal.the-variants.{Variables, Scale, Paths, Nothing}
-use Rattle.label.specs.Limits.{firstParameter, parameterCount, firstVariable, termBase}
-use Rattle.diagram.specs.Sizes.{highestValue, resultWords, spaceWords}
+use Rattle.refusal.specs.declared.Refusal.the-variants.{Variables, Scale}
+use Rattle.label.specs.Limits.{firstParameter, parameterCount, termBase}
+use Rattle.diagram.specs.Sizes.{resultWords, spaceWords}
 use Rattle.diagram.specs.Diagram.{Diagram, leaf}
 use Rattle.diagram.specs.Variables.{occurs, closed}
 use Rattle.diagram.specs.Words.{isListing}

@@ -1,17 +1,14 @@
 -- The ten marked cases of document 01's checklist, computed from the definitions.
 use mathlib.Core.Path.{_≡_, refl}
-use mathlib.Core.Bool.{Bool, true, false, _&&_, cond}
 use mathlib.Core.List.{List, [], _∷_}
-use mathlib.Core.Option.{Option, some, none}
-use Prim.Native.Nat.{ℕ, zero, suc, _+_, _*_, _^_}
-use lib.ListN.{length, replicate}
-use lib.Dec.{eqb}
+use Prim.Native.Nat.{ℕ, _^_}
+use lib.ListN.{replicate}
 use Rattle.refusal.specs.declared.Refusal.the-variants.{Value, Scale, Nothing}
 use Rattle.label.specs.Terms.{isVariable}
 use Rattle.label.specs.Labels.{termsOf, unpacked, predicateOf, packed, testOf, equates}
 use Rattle.label.specs.Renamings.{moved, renamed, mapped, placed, numbering, freeing}
 use Rattle.diagram.specs.Sizes.{highestValue}
-use Rattle.diagram.specs.Diagram.{Diagram, leaf, branch}
+use Rattle.diagram.specs.Diagram.{leaf}
 use Rattle.diagram.specs.Variables.{variables, closed, after}
 use Rattle.apply.specs.Apply.{apply}
 use Rattle.apply.specs.Pairs.{pairs, pairCount, overflows}
@@ -22,13 +19,13 @@ use Rattle.apply.specs.declared.Combined.the-variants.{Done, Refused}
 use Rattle.apply.specs.Combination.{rowsFormed, combination, diagramAnswer}
 use Rattle.state.specs.State.{meaning, State}
 use Rattle.state.specs.Highest.{highest}
-use Rattle.regress.specs.Calls.{Outcome, ok, refused, andThen}
+use Rattle.regress.specs.Calls.{ok, refused, andThen}
 use Rattle.regress.specs.Step.{labelTest}
-use Rattle.regress.specs.Regression.{Truths, truthAt}
+use Rattle.regress.specs.Regression.{truthAt}
 use Rattle.cut.specs.declared.Edge.the-variants.{False}
 use Rattle.cut.specs.declared.Cut.the-variants.{Done as CutDone, Refused as CutRefused}
 use Rattle.cut.specs.Cut.{diagramAnswer as cutAnswer}
-use Rattle.mdp.specs.Model.{Variant, Action, Model, scale}
+use Rattle.mdp.specs.Model.{Model, scale}
 use Rattle.mdp.specs.Example.{forFirst, noTruths, runModel, nothingTrue, stockAtHub}
 use Rattle.mdp.specs.Backup.{backup}
 use Rattle.mdp.specs.Runs.{Call, aBackup, aCut, run}

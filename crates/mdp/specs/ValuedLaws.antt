@@ -1,17 +1,17 @@
 -- The number that valuing answers after a run is Mk of the lent state.
-use mathlib.Core.Path.{_≡_, refl, ap, sym, _∙_, subst}
-use mathlib.Core.Bool.{Bool, true, false, not, _&&_}
-use mathlib.Core.List.{List, [], _∷_}
+use mathlib.Core.Path.{_≡_, refl, ap, _∙_}
+use mathlib.Core.Bool.{Bool, true, false, not}
+use mathlib.Core.List.{List, []}
 use Prim.Native.Nat.{ℕ, zero, suc, _+_, _≤_, _<_}
 use native.Mathlib.Omega.{arith}
 use lib.ListN.{length, getD}
 use lib.Dec.{eqb, ltb, leb}
-use borrow.Author.Tests.{ltb-true, leb-true, le-ltb, eq-eqb}
+use borrow.Author.Tests.{ltb-true, leb-true, le-ltb}
 use Rattle.basics.specs.Tests.{and-left, and-right, Flag, isTrue, isFalse, flag}
 use Rattle.refusal.specs.declared.Refusal.the-variants.{Listing, Range, Unbound, Valuations}
-use Rattle.label.specs.Limits.{constantCount, firstParameter, parameterCount, firstVariable}
+use Rattle.label.specs.Limits.{constantCount, firstParameter, parameterCount}
 use Rattle.diagram.specs.Diagram.{Diagram}
-use Rattle.diagram.specs.Words.{isListing, everyBelow}
+use Rattle.diagram.specs.Words.{isListing}
 use Rattle.diagram.specs.WordLaws.{below-every}
 use Rattle.diagram.specs.Listing.{listing, diagramOf}
 use Rattle.diagram.specs.ListingOfDiagram.{diagram-listing}
@@ -20,7 +20,7 @@ use Rattle.diagram.specs.Variables.{occurs, occurring}
 use Rattle.state.specs.State.{meaning, Good, low}
 use Rattle.state.specs.ValueLaws.{low-lt, low-ge, by-low}
 use Rattle.state.specs.Highest.{highest}
-use Rattle.state.specs.Lent.{stateOf, isState, namesBelow, factCount}
+use Rattle.state.specs.Lent.{stateOf, isState}
 use Rattle.state.specs.declared.Valued.{Valued}
 use Rattle.state.specs.declared.Valued.the-variants.{Value, Refused}
 use Rattle.state.specs.ValueCall.{mostValuations, parameters, valuations, pickValued, valueAnswer}
