@@ -1,0 +1,81 @@
+-- A cut leaves a value diagram one of the same values.
+use mathlib.Core.Path.{_≡_, refl, sym, subst}
+use mathlib.Core.Bool.{Bool, true, false, not, _&&_}
+use mathlib.Core.List.{List, []}
+use Prim.Native.Nat.{ℕ, _≤_}
+use lib.ListN.{length}
+use lib.Dec.{ltb}
+use borrow.Author.Tests.{ltb-false}
+use Rattle.refusal.specs.declared.Refusal.the-variants.{Paths}
+use Rattle.diagram.specs.Diagram.{Diagram, leaf, branch, same}
+use Rattle.diagram.specs.Rows.{rows}
+use Rattle.diagram.specs.RowLists.{rowTree}
+use Rattle.apply.specs.GoodLaws.{EveryLabel, every-node}
+use Rattle.rename.specs.ClosingLaws.{closed-good, closed-twice}
+use Rattle.state.specs.State.{atomOf, meaning, State}
+use Rattle.state.specs.Terms.{Each, args}
+use Rattle.regress.specs.CallLaws.{Accepted, accepted-ok, accepted-refused}
+use Rattle.regress.specs.Parameters.{Allowed, Within}
+use Rattle.regress.specs.ResultLaws.{terms-every, every-terms}
+use Rattle.cut.specs.declared.Cut.the-variants.{Refused}
+use Rattle.cut.specs.Paths.{paths, mostPaths}
+use Rattle.cut.specs.Cut.{MayGo, Choice, pickDiagram, reduced, cutAt, cutDiagram, pickCut, edgeOf, isTrueEdge, chosenAnswer, diagramAnswer}
+use Rattle.cut.specs.CoverLaws.{Chosen, highest, nothing, chosen}
+use Rattle.cut.specs.TruthLaws.{cut-keeps}
+use Rattle.cut.specs.ReduceLaws.{cut-good}
+use Rattle.mdp.specs.Runs.{leaves, cutOutcome}
+use Rattle.mdp.specs.CallLaws.{within-closed, closed-highest}
+use Rattle.mdp.specs.BackupLaws.{Values}
+
+-- the labels that are left are labels of the diagram
+every-pick : (P : ℕ → Type 0) (b : Bool) (x y : Diagram) → EveryLabel P x → EveryLabel P y → EveryLabel P (pickDiagram b x y)
+every-pick P true x y u v = u
+every-pick P false x y u v = v
+
+every-cut : (P : ℕ → Type 0) (r : Diagram) (b : Bool) (d : Diagram) → EveryLabel P d → EveryLabel P (cutAt r b d)
+unfolding cutAt
+every-cut P r b (leaf v) h = tt
+every-cut P r b (branch l t f) h = (
+  h .0,
+  every-pick P (same r (branch l t f) && b) (leaf 0) (cutAt r b t) tt (every-cut P r b t (h .1)),
+  every-pick P (same r (branch l t f) && not b) (leaf 0) (cutAt r b f) tt (every-cut P r b f (h .2)),
+)
+
+every-reduced : (P : ℕ → Type 0) (d : Diagram) → EveryLabel P d → EveryLabel P (reduced d)
+unfolding reduced
+every-reduced P (leaf v) h = tt
+every-reduced P (branch l t f) h = every-node P l (reduced t) (reduced f) (h .0) (every-reduced P t (h .1)) (every-reduced P f (h .2))
+
+within-cut : (c : ℕ) (ar : List ℕ) (r : Diagram) (b : Bool) (d : Diagram) → Within c (meaning ar d) → Within c (meaning ar (reduced (cutAt r b d)))
+within-cut c ar r b d w = record {
+  terms = every-terms (Allowed c) ar (reduced (cutAt r b d)) (every-reduced (λ l. Each (Allowed c) (args (atomOf ar l))) (cutAt r b d)
+      (every-cut (λ l. Each (Allowed c) (args (atomOf ar l))) r b d (terms-every (Allowed c) ar d (w .terms))));
+}
+
+edge-side : (b : Bool) → isTrueEdge (edgeOf b) ≡ b
+edge-side true = refl
+edge-side false = refl
+
+cut-values : (ar : List ℕ) (y : State → ℕ) (d : Diagram) → Values ar y d → length (paths d) ≤ mostPaths → (k : ℕ) (b : Bool) → MayGo ar d b (rowTree (rows d) k)
+    → Values ar y (cutDiagram ar d k b)
+unfolding cutDiagram
+cut-values ar y d v few k b mg =
+    let r = rowTree (rows d) k in
+    let good = cut-good ar d r b (v .listed) few in
+    record {
+      listed = closed-good ar (reduced (cutAt r b d)) good;
+      is-closed = closed-twice ar (reduced (cutAt r b d)) good;
+      within = within-closed 0 ar (reduced (cutAt r b d)) good (within-cut 0 ar r b d (v .within));
+      high = λ s g. closed-highest ar (reduced (cutAt r b d)) good s [] (y s) (cut-keeps ar (v .listed .arities) d r b mg s [] (y s) (v .high s g));
+    }
+
+pub cut-is : (ar : List ℕ) (y : State → ℕ) (d : Diagram) → Values ar y d → Accepted (Values ar y) (cutOutcome ar d)
+unfolding cutOutcome diagramAnswer chosenAnswer
+cut-is ar y d v = go (ltb mostPaths (length (paths d))) refl (chosen ar d (v .listed .arities) (v .listed .fine))
+  where
+    go : (x : Bool) → ltb mostPaths (length (paths d)) ≡ x → {c : Choice} → Chosen ar d (v .listed .arities) (v .listed .fine) (rows d) (length (rows d)) c
+        → Accepted (Values ar y) (leaves ar d (pickCut x (Refused Paths) (chosenAnswer ar d c)))
+    go true e c = accepted-refused
+    go false e (nothing n) = accepted-refused
+    go false e (highest k b h mg t a) =
+        accepted-ok (subst (λ (x : Bool). Values ar y (cutDiagram ar d k x)) (sym (edge-side b)) (cut-values ar y d v (ltb-false mostPaths (length (paths d)) e) k b mg))

@@ -1,0 +1,80 @@
+-- The model of document 01's run is one that reading can accept.
+use mathlib.Core.Path.{_≡_, refl, subst}
+use mathlib.Core.List.{List, [], _∷_}
+use mathlib.Core.Option.{Option, some, none}
+use Prim.Native.Nat.{ℕ, zero, suc, _<_}
+use native.Mathlib.Omega.{arith}
+use lib.ListN.{getD}
+use Rattle.label.specs.Limits.{leafMark, predicateCount}
+use Rattle.label.specs.Terms.{isTerm, isConstant, isParameter, isVariable}
+use Rattle.label.specs.Labels.{areArities, isLabel, isAtom, placeFits, inOrder, packed, unpacked, predicateOf, termsOf}
+use Rattle.label.specs.Renamings.{renamed, mapped, placed, numbering}
+use Rattle.diagram.specs.Diagram.{Diagram, leaf, branch, relabel}
+use Rattle.diagram.specs.Words.{isListing, labelAt, highAt, lowAt, isLeafRow, isBranchRow, equalRows, areDistinct, finish, areNumbered}
+use Rattle.diagram.specs.Listing.{Good, diagramOf, treeAt}
+use Rattle.diagram.specs.Listings.{is-listing-good}
+use Rattle.diagram.specs.Variables.{closed}
+use Rattle.state.specs.State.{atomOf, meaning}
+use Rattle.mdp.specs.Model.{GoodTruthDiagram, GoodModel}
+use Rattle.mdp.specs.Example.{forFirst, runModel}
+
+abbrev ar : List ℕ
+ar = runModel .arities
+
+abbrev truthDiagram : Diagram
+truthDiagram = branch 4325376 (leaf 1) (branch 25165824 (leaf 1) (leaf 0))
+
+reward-good : Good ar (runModel .reward)
+unfolding isListing areArities isLabel isAtom unpacked placeFits isTerm isConstant isParameter isVariable inOrder isLeafRow isBranchRow labelAt highAt lowAt areDistinct equalRows areNumbered finish diagramOf treeAt
+reward-good = is-listing-good ar (leafMark ∷ 10 ∷ 0 ∷ leafMark ∷ 0 ∷ 0 ∷ 16777216 ∷ 0 ∷ 1 ∷ []) refl
+
+weight-good : Good ar (leaf 3) × Good ar (leaf 1)
+unfolding isListing areArities isLabel isAtom unpacked placeFits isTerm isConstant isParameter isVariable inOrder isLeafRow isBranchRow labelAt highAt lowAt areDistinct equalRows areNumbered finish diagramOf treeAt
+weight-good = (is-listing-good ar (leafMark ∷ 3 ∷ 0 ∷ []) refl, is-listing-good ar (leafMark ∷ 1 ∷ 0 ∷ []) refl)
+
+truth-good : Good ar truthDiagram
+unfolding isListing areArities isLabel isAtom unpacked placeFits isTerm isConstant isParameter isVariable inOrder isLeafRow isBranchRow labelAt highAt lowAt areDistinct equalRows areNumbered finish diagramOf treeAt
+truth-good = is-listing-good ar (leafMark ∷ 1 ∷ 0 ∷ leafMark ∷ 0 ∷ 0 ∷ 25165824 ∷ 0 ∷ 1 ∷ 4325376 ∷ 0 ∷ 2 ∷ []) refl
+
+truth-diagram-good : GoodTruthDiagram ar 1 1 truthDiagram
+unfolding meaning relabel atomOf unpacked termsOf predicateOf
+truth-diagram-good = record {
+  listed = truth-good;
+  bits = (omega arith, (omega arith, omega arith));
+  parameters = record { terms = (((λ h. absurd (omega arith)), ((λ h. omega arith), tt)), tt, (((λ h. omega arith), tt), tt, tt)) };
+  arguments = ((omega arith, (omega arith, tt)), tt, ((omega arith, tt), tt, tt));
+}
+
+nothing : {A : Type 0} {d : Diagram} → _≡_ {A = Option Diagram} none (some d) → A
+nothing e = let z : _≡_ {A = ℕ} 0 1 = cc in absurd (omega arith)
+
+pub run-model-good : GoodModel runModel
+unfolding areArities meaning relabel atomOf unpacked termsOf predicateOf closed renamed packed mapped placed numbering
+run-model-good = record {
+  arities = refl;
+  total-some = omega arith;
+  total-few = omega arith;
+  denominator-some = omega arith;
+  denominator-few = omega arith;
+  numerator-few = omega arith;
+  reward-listed = reward-good;
+  reward-closed = refl;
+  reward = record { terms = (((λ h. absurd (omega arith)), tt), tt, tt) };
+  actions-few = omega arith;
+  actions = (
+    record {
+      few = omega arith;
+      variants-few = omega arith;
+      variants = (
+        record { listed = weight-good .0; weight = tt; truths = done },
+        (record { listed = weight-good .1; weight = tt; truths = λ p d h k e. nothing e }, tt),
+      );
+    },
+    tt,
+  );
+}
+  where
+    done : (p : ℕ) (d : Diagram) → 0 < p → p < predicateCount → forFirst truthDiagram p ≡ some d → GoodTruthDiagram ar 1 (getD ar p 0) d
+    done zero d h k e = absurd (omega arith)
+    done (suc zero) d h k e = let q : truthDiagram ≡ d = cc in subst (GoodTruthDiagram ar 1 1) q truth-diagram-good
+    done (suc (suc p)) d h k e = nothing e

@@ -1,0 +1,55 @@
+-- Demand 3, whole: after every list of backups and cuts, refused ones among them, the highest leaf of the value diagram is Mk, in every state.
+use mathlib.Core.Path.{_≡_, refl}
+use mathlib.Core.List.{List, [], _∷_}
+use Prim.Native.Nat.{ℕ, suc}
+use Rattle.diagram.specs.Diagram.{Diagram}
+use Rattle.state.specs.MaxLaws.{max-one}
+use Rattle.state.specs.State.{meaning, State, Good}
+use Rattle.state.specs.Highest.{highest}
+use Rattle.state.specs.HighestLaws.{highest-is}
+use Rattle.regress.specs.Calls.{Outcome, ok, refused}
+use Rattle.regress.specs.CallLaws.{Accepted}
+use Rattle.mdp.specs.Model.{Model, GoodModel}
+use Rattle.mdp.specs.Bellman.{rewardIn, bellman}
+use Rattle.mdp.specs.Backup.{backup}
+use Rattle.mdp.specs.Runs.{Call, aBackup, aCut, Held, cutOutcome, taken, call, runFrom, begin, run}
+use Rattle.mdp.specs.BackupLaws.{Values, bound-none, backup-is}
+use Rattle.mdp.specs.CutLaws.{cut-is}
+
+-- the value diagram has a listing, is closed up, has no parameter, and its highest leaf in every state is Mk
+abbrev pub Right : Model → Held → Type 0
+Right m h = Values (m .arities) (bellman m (h .steps)) (h .diagram)
+
+taken-right : (m : Model) (h : Held) (o : Outcome Diagram) (k : ℕ) → Right m h → Accepted (Values (m .arities) (bellman m k)) o → Right m (taken h o k)
+taken-right m h (ok d) k r a = a .given d refl
+taken-right m h (refused e) k r a = r
+
+module _ (m : Model) (good : GoodModel m) where
+  pub call-right : (c : Call) (h : Held) → Right m h → Right m (call m c h)
+  unfolding call
+  call-right aBackup h r = taken-right m h (backup m (h .steps) (h .diagram)) (suc (h .steps)) r (backup-is m good (h .steps) (h .diagram) r)
+  call-right aCut h r = taken-right m h (cutOutcome (m .arities) (h .diagram)) (h .steps) r (cut-is (m .arities) (bellman m (h .steps)) (h .diagram) r)
+
+  pub runFrom-right : (l : List Call) (h : Held) → Right m h → Right m (runFrom m l h)
+  unfolding runFrom
+  runFrom-right [] h r = r
+  runFrom-right (c ∷ l) h r = runFrom-right l (call m c h) (call-right c h r)
+
+  pub begin-right : Right m (begin m)
+  unfolding begin bellman rewardIn
+  begin-right = record {
+    listed = good .reward-listed;
+    is-closed = good .reward-closed;
+    within = good .reward;
+    high = λ s g. highest-is s [] g (bound-none s g) (meaning (m .arities) (m .reward));
+  }
+
+  pub run-right : (l : List Call) → Right m (run m l)
+  unfolding run
+  run-right l = runFrom-right l (begin m) begin-right
+
+-- for every model that reading can accept, every list of backups and cuts, every state of one object or more
+pub demand-3 : (m : Model) → GoodModel m → (l : List Call) (s : State) → Good s
+    → highest s [] (meaning (m .arities) (run m l .diagram)) ≡ bellman m (run m l .steps) s
+demand-3 m good l s g =
+    max-one (highest-is s [] g (bound-none s g) (meaning (m .arities) (run m l .diagram))) (run-right m good l .high s g)

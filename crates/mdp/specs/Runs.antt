@@ -1,0 +1,52 @@
+-- Runs of backups and cuts on one model (document 01, sections 'Backup' and 'Cut').
+use mathlib.Core.List.{List, [], _∷_}
+use Prim.Native.Nat.{ℕ, suc}
+use Rattle.diagram.specs.Diagram.{Diagram}
+use Rattle.regress.specs.Calls.{Outcome, ok, refused}
+use Rattle.cut.specs.declared.Cut.{Cut}
+use Rattle.cut.specs.declared.Cut.the-variants.{Done, Refused}
+use Rattle.cut.specs.Cut.{diagramAnswer, cutDiagram, isTrueEdge}
+use Rattle.mdp.specs.Model.{Model}
+use Rattle.mdp.specs.Backup.{backup}
+
+pub data Call : Type 0 where
+  aBackup : Call
+  aCut : Call
+
+-- the value diagram, and k
+pub record Held : Type 0 where
+  pub diagram : Diagram
+  pub steps : ℕ
+
+-- a cut that is answered leaves its diagram; over 256 paths is 17, no edge 16
+abbrev pub leaves : List ℕ → Diagram → Cut → Outcome Diagram
+leaves ar d (Done k e n) = ok (cutDiagram ar d k (isTrueEdge e))
+leaves ar d (Refused r) = refused r
+
+unfoldable pub cutOutcome : List ℕ → Diagram → Outcome Diagram
+unfolding diagramAnswer cutDiagram
+cutOutcome ar d = leaves ar d (diagramAnswer ar d)
+
+-- an accepted call replaces the value diagram and k; a refused one leaves both
+abbrev pub taken : Held → Outcome Diagram → ℕ → Held
+taken h (ok d) k = record { diagram = d; steps = k }
+taken h (refused r) k = h
+
+-- an accepted backup adds 1 to k, an accepted cut leaves it
+unfoldable pub call : Model → Call → Held → Held
+unfolding backup cutOutcome
+call m aBackup h = taken h (backup m (h .steps) (h .diagram)) (suc (h .steps))
+call m aCut h = taken h (cutOutcome (m .arities) (h .diagram)) (h .steps)
+
+unfoldable pub runFrom : Model → List Call → Held → Held
+unfolding call
+runFrom m [] h = h
+runFrom m (c ∷ l) h = runFrom m l (call m c h)
+
+-- the value diagram starts as the reward read, k as 0
+unfoldable pub begin : Model → Held
+begin m = record { diagram = m .reward; steps = 0 }
+
+unfoldable pub run : Model → List Call → Held
+unfolding runFrom begin
+run m l = runFrom m l (begin m)

@@ -1,0 +1,212 @@
+-- The laws of the definitions, one for each case, as code meets them.
+use mathlib.Core.Path.{_≡_, refl, ap, sym, _∙_}
+use mathlib.Core.Bool.{Bool, true, false, _||_}
+use mathlib.Core.List.{List, [], _∷_}
+use Prim.Native.Nat.{ℕ, suc, _+_, _*_, _-_, _^_, _≤_, _<_}
+use native.Mathlib.Omega.{arith}
+use native.Mathlib.Nat.{pow-suc, pow-zero}
+use lib.Dec.{ltb, eqb}
+use borrow.Author.Tests.{lt-ltb, le-ltb, ltb-false, eq-eqb, ne-eqb, eqb-false}
+use Rattle.basics.specs.Tests.{Flag, isTrue, isFalse, flag}
+use Rattle.basics.specs.Members.{clash}
+use Rattle.refusal.specs.declared.Refusal.{Refusal}
+use Rattle.refusal.specs.declared.Refusal.the-variants.{Variables, Scale}
+use Rattle.label.specs.Limits.{firstParameter, parameterCount, termBase}
+use Rattle.diagram.specs.Sizes.{resultWords, spaceWords}
+use Rattle.diagram.specs.Diagram.{Diagram, leaf}
+use Rattle.diagram.specs.Variables.{occurs, closed}
+use Rattle.diagram.specs.Words.{isListing}
+use Rattle.diagram.specs.Listing.{diagramOf}
+use Rattle.apply.specs.declared.Operation.{Operation}
+use Rattle.apply.specs.declared.Operation.the-variants.{Sum, Product, Max}
+use Rattle.apply.specs.declared.Names.{Names}
+use Rattle.apply.specs.declared.Names.the-variants.{Apart, Shared}
+use Rattle.apply.specs.declared.Combined.the-variants.{Done, Refused}
+use Rattle.apply.specs.Combination.{combination, diagramAnswer}
+use Rattle.rename.specs.Freeing.{freed}
+use Rattle.state.specs.State.{meaning}
+use Rattle.regress.specs.Calls.{Outcome, ok, refused, andThen, pickOutcome}
+use Rattle.regress.specs.Regression.{regressed}
+use Rattle.regress.specs.Parameters.{Within}
+use Rattle.regress.specs.RegressCall.{anyOccurs, freeOutcome}
+use Rattle.regress.specs.RegressCallLaws.{quiet-any}
+use Rattle.regress.specs.FreeCallLaws.{free-variables, free-ok}
+use Rattle.cut.specs.declared.Edge.{Edge}
+use Rattle.cut.specs.declared.Cut.the-variants.{Done as CutDone, Refused as CutRefused}
+use Rattle.cut.specs.Cut.{cutDiagram, isTrueEdge, diagramAnswer as cutAnswer}
+use Rattle.mdp.specs.Model.{Variant, Action, Model, scale}
+use Rattle.mdp.specs.Backup.{combined, freedOutcome, variantsSum, actionsBest, highestScale, mostSteps, scaleEnds, backup}
+use Rattle.mdp.specs.Runs.{Call, aBackup, aCut, Held, cutOutcome, taken, call, runFrom, begin, run}
+use Rattle.mdp.specs.CallLaws.{each-within}
+
+-- ===== Combination and freeing =====
+
+module _ (op : Operation) (names : Names) (ar : List ℕ) (a b : Diagram) where
+  pub combined-done : (n pairs : ℕ) → diagramAnswer op names ar a b ≡ Done n pairs → combined op names ar a b ≡ ok (combination op names ar a b)
+  unfolding combined
+  combined-done n pairs e = rw e
+
+  pub combined-refused : (r : Refusal) → diagramAnswer op names ar a b ≡ Refused r → combined op names ar a b ≡ refused r
+  unfolding combined
+  combined-refused r e = rw e
+
+module _ (ar : List ℕ) (c : ℕ) (d : Diagram) where
+  pub freed-variables : anyOccurs ar d (termBase - c) c ≡ true → freedOutcome ar c d ≡ refused Variables
+  unfolding freedOutcome
+  freed-variables e = rw e
+
+  pub freed-ok : anyOccurs ar d (termBase - c) c ≡ false → freedOutcome ar c d ≡ ok (freed ar c d)
+  unfolding freedOutcome
+  freed-ok e = rw e
+
+-- the library's freeing of a listing without a parameter past the count answers the same
+pub free-call : (ar words : List ℕ) (c outLength workLength : ℕ) → isListing ar words ≡ true → resultWords ≤ outLength → spaceWords ≤ workLength → c ≤ parameterCount
+    → Within c (meaning ar (diagramOf words)) → freeOutcome ar words c outLength workLength ≡ freedOutcome ar c (diagramOf words)
+unfolding freed
+free-call ar words c outLength workLength e room space few w = go (flag (anyOccurs ar (diagramOf words) (termBase - c) c))
+  where
+    past : anyOccurs ar (diagramOf words) (firstParameter + c) (parameterCount - c) ≡ false
+    past = quiet-any ar (diagramOf words) (firstParameter + c) (parameterCount - c) (λ t h k. quiet t h k (flag (occurs ar t (diagramOf words))))
+      where
+        quiet : (t : ℕ) → firstParameter + c ≤ t → t < firstParameter + c + (parameterCount - c) → Flag (occurs ar t (diagramOf words)) → occurs ar t (diagramOf words) ≡ false
+        quiet t h k (isFalse q) = q
+        quiet t h k (isTrue q) = let z = each-within c ar (diagramOf words) w t q h in absurd (omega arith)
+
+    go : Flag (anyOccurs ar (diagramOf words) (termBase - c) c) → freeOutcome ar words c outLength workLength ≡ freedOutcome ar c (diagramOf words)
+    go (isTrue q) = free-variables ar words c outLength workLength e room space few past q ∙ sym (freed-variables ar c (diagramOf words) q)
+    go (isFalse q) = free-ok ar words c outLength workLength e room space few past q ∙ sym (freed-ok ar c (diagramOf words) q)
+
+-- ===== Backup =====
+
+module _ (ar : List ℕ) (g : ℕ) (d sum : Diagram) where
+  pub sum-none : variantsSum ar g d sum [] ≡ ok sum
+  unfolding variantsSum
+  sum-none = refl
+
+  pub sum-next : (v : Variant) (vs : List Variant) → variantsSum ar g d sum (v ∷ vs) ≡ andThen (regressed ar (v .truths) d) (λ r.
+      andThen (combined Product Shared ar (v .weight) (leaf g)) (λ w.
+      andThen (combined Product Shared ar r w) (λ p.
+      andThen (combined Sum Apart ar sum p) (λ sum′.
+      variantsSum ar g d sum′ vs))))
+  unfolding variantsSum
+  sum-next v vs = refl
+
+module _ (ar : List ℕ) (g : ℕ) (d best : Diagram) where
+  pub best-none : actionsBest ar g d best [] ≡ ok best
+  unfolding actionsBest
+  best-none = refl
+
+  pub best-next : (a : Action) (l : List Action) → actionsBest ar g d best (a ∷ l) ≡ andThen (variantsSum ar g d (leaf 0) (a .variants)) (λ q.
+      andThen (freedOutcome ar (a .count) q) (λ f.
+      andThen (combined Max Shared ar best (closed ar f)) (λ best′.
+      actionsBest ar g d best′ l)))
+  unfolding actionsBest
+  best-next a l = refl
+
+-- S^(k+1) from S^k
+pub scale-next : (m : Model) (k : ℕ) → scale m ^ suc k ≡ scale m ^ k * scale m
+scale-next m k = pow-suc (scale m) k
+
+module _ (m : Model) (k : ℕ) where
+  pub ends-scale : highestScale < scale m ^ suc k → scaleEnds m k ≡ true
+  unfolding scaleEnds
+  ends-scale h = rw (lt-ltb highestScale (scale m ^ suc k) h)
+
+  pub ends-steps : k ≡ mostSteps → scaleEnds m k ≡ true
+  unfolding scaleEnds
+  ends-steps e = go (ltb highestScale (scale m ^ suc k))
+    where
+      go : (b : Bool) → (b || eqb k mostSteps) ≡ true
+      go true = refl
+      go false = eq-eqb k mostSteps e
+
+  pub goes-on : scale m ^ suc k ≤ highestScale → (k ≡ mostSteps → ⊥) → scaleEnds m k ≡ false
+  unfolding scaleEnds
+  goes-on h n = rw (le-ltb highestScale (scale m ^ suc k) h, ne-eqb k mostSteps n)
+
+  pub on-scale : scaleEnds m k ≡ false → (scale m ^ suc k ≤ highestScale) × (k ≡ mostSteps → ⊥)
+  unfolding scaleEnds
+  on-scale e = go (ltb highestScale (scale m ^ suc k)) refl e
+    where
+      go : (b : Bool) → ltb highestScale (scale m ^ suc k) ≡ b → (b || eqb k mostSteps) ≡ false → (scale m ^ suc k ≤ highestScale) × (k ≡ mostSteps → ⊥)
+      go true q z = clash refl z
+      go false q z = (ltb-false highestScale (scale m ^ suc k) q, eqb-false k mostSteps z)
+
+  -- the calls, once 12 is judged
+  abbrev pub rowOfCalls : Diagram → Outcome Diagram
+  rowOfCalls d =
+      andThen (actionsBest (m .arities) (m .numerator) d (leaf 0) (m .actions)) (λ best.
+      andThen (combined Product Shared (m .arities) (m .reward) (leaf (scale m ^ suc k))) (λ r.
+      combined Sum Apart (m .arities) best r))
+
+  pub backup-ends : (d : Diagram) → scaleEnds m k ≡ true → backup m k d ≡ refused Scale
+  unfolding backup
+  backup-ends d e = ap (λ (b : Bool). pickOutcome b (refused Scale) (rowOfCalls d)) e
+
+  pub backup-row : (d : Diagram) → scaleEnds m k ≡ false → backup m k d ≡ rowOfCalls d
+  unfolding backup
+  backup-row d e = ap (λ (b : Bool). pickOutcome b (refused Scale) (rowOfCalls d)) e
+
+-- ===== Runs =====
+
+module _ (ar : List ℕ) (d : Diagram) where
+  pub cut-done : (k : ℕ) (e : Edge) (n : ℕ) → cutAnswer ar d ≡ CutDone k e n → cutOutcome ar d ≡ ok (cutDiagram ar d k (isTrueEdge e))
+  unfolding cutOutcome
+  cut-done k e n h = rw h
+
+  pub cut-refused : (r : Refusal) → cutAnswer ar d ≡ CutRefused r → cutOutcome ar d ≡ refused r
+  unfolding cutOutcome
+  cut-refused r h = rw h
+
+module _ (m : Model) where
+  pub call-backup : (h : Held) → call m aBackup h ≡ taken h (backup m (h .steps) (h .diagram)) (suc (h .steps))
+  unfolding call
+  call-backup h = refl
+
+  pub call-cut : (h : Held) → call m aCut h ≡ taken h (cutOutcome (m .arities) (h .diagram)) (h .steps)
+  unfolding call
+  call-cut h = refl
+
+  pub run-none : (h : Held) → runFrom m [] h ≡ h
+  unfolding runFrom
+  run-none h = refl
+
+  pub run-next : (c : Call) (l : List Call) (h : Held) → runFrom m (c ∷ l) h ≡ runFrom m l (call m c h)
+  unfolding runFrom
+  run-next c l h = refl
+
+  pub run-begins : (l : List Call) → run m l ≡ runFrom m l (record { diagram = m .reward; steps = 0 })
+  unfolding run begin
+  run-begins l = refl
+
+-- ===== k and S^k stay in their ranges =====
+
+pub record InRange (m : Model) (k : ℕ) : Type 0 where
+  pub steps : k ≤ mostSteps
+  pub power : scale m ^ k ≤ highestScale
+
+range-taken : (m : Model) (h : Held) (o : Outcome Diagram) (k : ℕ) → InRange m (h .steps) → ((d : Diagram) → o ≡ ok d → InRange m k) → InRange m (taken h o k .steps)
+range-taken m h (ok d) k r a = a d refl
+range-taken m h (refused e) k r a = r
+
+range-call : (m : Model) (c : Call) (h : Held) → InRange m (h .steps) → InRange m (call m c h .steps)
+unfolding call
+range-call m aCut h r = range-taken m h (cutOutcome (m .arities) (h .diagram)) (h .steps) r (λ d e. r)
+range-call m aBackup h r = range-taken m h (backup m (h .steps) (h .diagram)) (suc (h .steps)) r (λ d e. go d e (flag (scaleEnds m (h .steps))))
+  where
+    go : (d : Diagram) → backup m (h .steps) (h .diagram) ≡ ok d → Flag (scaleEnds m (h .steps)) → InRange m (suc (h .steps))
+    go d e (isTrue q) = let f = sym (backup-ends m (h .steps) (h .diagram) q) ∙ e in let z : _≡_ {A = ℕ} 0 1 = cc in absurd (omega arith)
+    go d e (isFalse q) =
+        let o = on-scale m (h .steps) q in
+        let u = r .steps in
+        let v = o .1 in
+        record { steps = omega arith; power = o .0 }
+
+range-run : (m : Model) (l : List Call) (h : Held) → InRange m (h .steps) → InRange m (runFrom m l h .steps)
+unfolding runFrom
+range-run m [] h r = r
+range-run m (c ∷ l) h r = range-run m l (call m c h) (range-call m c h r)
+
+pub run-range : (m : Model) (l : List Call) → InRange m (run m l .steps)
+unfolding run begin
+run-range m l = range-run m l (begin m) (record { steps = omega arith; power = omega (arith, pow-zero (scale m)) })

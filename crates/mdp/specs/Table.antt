@@ -1,0 +1,68 @@
+-- The ten marked cases of document 01's checklist, computed from the definitions.
+use mathlib.Core.Path.{_≡_, refl}
+use mathlib.Core.List.{List, [], _∷_}
+use Prim.Native.Nat.{ℕ, _^_}
+use lib.ListN.{replicate}
+use Rattle.refusal.specs.declared.Refusal.the-variants.{Value, Scale, Nothing}
+use Rattle.label.specs.Terms.{isVariable}
+use Rattle.label.specs.Labels.{termsOf, unpacked, predicateOf, packed, testOf, equates}
+use Rattle.label.specs.Renamings.{moved, renamed, mapped, placed, numbering, freeing}
+use Rattle.diagram.specs.Sizes.{highestValue}
+use Rattle.diagram.specs.Diagram.{leaf}
+use Rattle.diagram.specs.Variables.{variables, closed, after}
+use Rattle.apply.specs.Apply.{apply}
+use Rattle.apply.specs.Pairs.{pairs, pairCount, overflows}
+use Rattle.apply.specs.Formed.{formed}
+use Rattle.apply.specs.declared.Operation.the-variants.{Sum}
+use Rattle.apply.specs.declared.Names.the-variants.{Shared}
+use Rattle.apply.specs.declared.Combined.the-variants.{Done, Refused}
+use Rattle.apply.specs.Combination.{rowsFormed, combination, diagramAnswer}
+use Rattle.state.specs.State.{meaning, State}
+use Rattle.state.specs.Highest.{highest}
+use Rattle.regress.specs.Calls.{ok, refused, andThen}
+use Rattle.regress.specs.Step.{labelTest}
+use Rattle.regress.specs.Regression.{truthAt}
+use Rattle.cut.specs.declared.Edge.the-variants.{False}
+use Rattle.cut.specs.declared.Cut.the-variants.{Done as CutDone, Refused as CutRefused}
+use Rattle.cut.specs.Cut.{diagramAnswer as cutAnswer}
+use Rattle.mdp.specs.Model.{Model, scale}
+use Rattle.mdp.specs.Example.{forFirst, noTruths, runModel, nothingTrue, stockAtHub}
+use Rattle.mdp.specs.Backup.{backup}
+use Rattle.mdp.specs.Runs.{Call, aBackup, aCut, run}
+
+-- what (value) prints: value, k, S^k
+abbrev shown : Model → List Call → State → ℕ × ℕ × ℕ
+shown m l s = (highest s [] (meaning (m .arities) (run m l .diagram)), run m l .steps, scale m ^ run m l .steps)
+
+-- S = 8, reward 1, one action that changes nothing
+abbrev eightModel : Model
+eightModel = record {
+  arities = 2 ∷ replicate 31 0;
+  total = 4;
+  numerator = 1;
+  denominator = 2;
+  reward = leaf 1;
+  actions = record { count = 0; variants = record { weight = leaf 4; truths = noTruths } ∷ [] } ∷ [];
+}
+
+-- p(?a ?b) and p(?b ?a), with ?a = 32, ?b = 33
+abbrev ab : ℕ
+ab = 25300992
+
+abbrev ba : ℕ
+ba = 25559040
+
+-- The run's three values; both cut answers; 10^18 + 0 passes and 10^18 + 1 is refused; with S = 8 the 19th backup passes and the 20th is 12; the truth
+-- diagram of p(?a ?b) testing p(?a ?b), used at p(?b ?a), is the test of p(?b ?a).
+pub table : (shown runModel [] nothingTrue ≡ (0, 0, 1))
+    × (shown runModel (aBackup ∷ aCut ∷ []) nothingTrue ≡ (30, 1, 8))
+    × (shown runModel (aBackup ∷ aCut ∷ aCut ∷ []) stockAtHub ≡ (120, 1, 8))
+    × (cutAnswer (runModel .arities) (run runModel (aBackup ∷ []) .diagram) ≡ CutDone 5 False 5)
+    × (cutAnswer (runModel .arities) (run runModel (aBackup ∷ aCut ∷ []) .diagram) ≡ CutRefused Nothing)
+    × (diagramAnswer Sum Shared (runModel .arities) (leaf highestValue) (leaf 0) ≡ Done 1 1)
+    × (diagramAnswer Sum Shared (runModel .arities) (leaf highestValue) (leaf 1) ≡ Refused Value)
+    × (run eightModel (replicate 19 aBackup) .steps ≡ 19)
+    × (backup eightModel 19 (run eightModel (replicate 19 aBackup) .diagram) ≡ refused Scale)
+    × (andThen (truthAt (2 ∷ 2 ∷ replicate 30 0) (forFirst (labelTest ab)) ba []) (λ r. ok (r .0)) ≡ ok (labelTest ba))
+unfolding run highest meaning scale cutAnswer diagramAnswer combination rowsFormed formed pairs pairCount overflows apply backup truthAt variables closed after moved testOf equates renamed numbering freeing mapped placed packed unpacked predicateOf termsOf isVariable
+table = (refl, refl, refl, refl, refl, refl, refl, refl, refl, refl)

@@ -1,0 +1,1 @@
+// Models, backups, and runs of backups and cuts. What they are stands in specs/.
