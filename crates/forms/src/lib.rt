@@ -192,14 +192,14 @@ pub fn read_atom(s: &[u8]) -> Took
     Took::Bytes(j)
 }
 
-// An atom at the place that t answered.
+// A space and an atom at the place that t answered.
 fn atom_after(s: &[u8], t: Took) -> Took
-    ensures { λ r. ⌜ r ≡ t ▹ form (now (s .entry)) atomForm ⌝ }
+    ensures { λ r. ⌜ r ≡ t ▹ byte (now (s .entry)) 32 ▹ form (now (s .entry)) atomForm ⌝ }
 {
-    let Took::Bytes(i) = t else {
+    let Took::Bytes(i) = byte_after(s, t, b' ') else {
         return Took::Refused;
     };
-    let Took::Bytes(n) = read_atom(words::rest(s, i)) else {
+    let Took::Bytes(n) = read_atom(&s[i..]) else {
         return Took::Refused;
     };
     let j = i + n;
@@ -212,9 +212,8 @@ fn if_head(s: &[u8]) -> Took
 {
     let a = byte_after(s, Took::Bytes(0), b'i');
     let b = byte_after(s, a, b'f');
-    let c = byte_after(s, b, b' ');
-    let d = atom_after(s, c);
-    byte_after(s, d, b' ')
+    let c = atom_after(s, b);
+    byte_after(s, c, b' ')
 }
 
 // A diagram: a number, or an if form, with `depth` brackets open before it.

@@ -109,14 +109,15 @@ fn diagram_after(s: &[u8], t: Took) -> Took
     Took::Bytes(j)
 }
 
-// A name and words of a sort, up to the closing bracket, at the place that t answered.
-fn plain_after(s: &[u8], t: Took, sort: Sort) -> Took
-    ensures { λ r. ⌜ r ≡ t ▹ form (now (s .entry)) (plainForm sort) ⌝ }
+// The byte b, then a name and words of a sort, up to the closing bracket, at the place that t answered.
+fn plain_after(s: &[u8], t: Took, b: u8, sort: Sort) -> Took
+    requires { ⌜ 0 < b ⌝ }
+    ensures { λ r. ⌜ r ≡ t ▹ byte (now (s .entry)) b ▹ form (now (s .entry)) (plainForm sort) ⌝ }
 {
-    let Took::Bytes(i) = t else {
+    let Took::Bytes(i) = forms::byte_after(s, t, b) else {
         return Took::Refused;
     };
-    let Took::Bytes(n) = forms::read_plain(words::rest(s, i), sort) else {
+    let Took::Bytes(n) = forms::read_plain(&s[i..], sort) else {
         return Took::Refused;
     };
     let j = i + n;
@@ -154,8 +155,7 @@ fn read_two(s: &[u8], first: Sort, second: Sort) -> Took
 fn read_list(s: &[u8], sort: Sort) -> Took
     ensures { λ r. ⌜ r ≡ listForm sort (now (s .entry)) ⌝ }
 {
-    let a = forms::byte_after(s, Took::Bytes(0), b' ');
-    plain_after(s, a, sort)
+    plain_after(s, Took::Bytes(0), b' ', sort)
 }
 
 // DIAGRAM )
@@ -181,10 +181,9 @@ fn read_becomes(s: &[u8]) -> Took
     ensures { λ r. ⌜ r ≡ becomesForm (now (s .entry)) ⌝ }
 {
     let a = forms::byte_after(s, Took::Bytes(0), b' ');
-    let b = forms::byte_after(s, a, b'(');
-    let c = plain_after(s, b, Sort::Variable);
-    let d = diagram_after(s, c);
-    forms::byte_after(s, d, b')')
+    let b = plain_after(s, a, b'(', Sort::Variable);
+    let c = diagram_after(s, b);
+    forms::byte_after(s, c, b')')
 }
 
 // What stands behind the key word, up to the line's closing bracket.

@@ -10,4 +10,4 @@ returns c = cc
 
 pub read-list-spec : {M : Type 1} → statement M
 read-list-spec =
-    tie.close (tie.spec (λ c κs. search needs) (λ c κs. search needs) returns)
+    tie.close (tie.spec (λ c κs. search needs) returns)
