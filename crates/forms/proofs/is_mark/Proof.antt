@@ -1,0 +1,17 @@
+-- `forms::is_mark` meets its contract. Assumes nothing.
+use borrow.Author.Tests.{eq-eqb, ne-eqb}
+use Rattle.forms.specs.Form.{isMark}
+use Rattle.forms.proofs.is_mark.Statement.{statement}
+use Rattle.forms.proofs.is_mark.Tie as tie
+
+returns : tie.Need-returns
+unfolding isMark
+returns c = rw (eq-eqb _ _ (c .if1 .taken))
+
+returns-2 : tie.Need-returns-2
+unfolding isMark
+returns-2 c = rw (ne-eqb _ 63 (c .if1 .left))
+
+pub is-mark-spec : {M : Type 1} → statement M
+is-mark-spec =
+    tie.close (tie.spec returns returns-2)
