@@ -8,3 +8,4 @@ pub mod CoverLaws
 pub mod TruthLaws
 pub mod ReduceLaws
 pub mod CutExamples
+pub mod Search

@@ -1,0 +1,3 @@
+pub mod WayLaws
+pub mod TargetLaws
+pub mod SolveLaws
