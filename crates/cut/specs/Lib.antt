@@ -9,3 +9,4 @@ pub mod TruthLaws
 pub mod ReduceLaws
 pub mod CutExamples
 pub mod Search
+pub mod Routes

@@ -1,9 +1,14 @@
 // Cuts: an edge whose paths are all covered elsewhere goes to leaf 0.
+use label::Label;
 use refusal::Refusal;
 ghost use mathlib.Core.Path.{_≡_};
-ghost use Prim.Native.Nat.{ℕ, _+_, _-_, _*_, _/_, _<_, _≤_};
+ghost use Prim.Native.Nat.{ℕ, _+_, _-_, _*_, _/_, _<_, _≤_, min};
 ghost use lib.ListN.{length, getD};
-ghost use Rattle.label.specs.Limits.{termBase};
+ghost use Rattle.label.specs.Limits.{termBase, leafMark};
+ghost use Rattle.diagram.specs.Words.{labelAt};
+ghost use Rattle.diagram.specs.Validity.{tree};
+ghost use Rattle.cut.specs.Paths.{paths};
+ghost use Rattle.cut.specs.Routes.{Rows, Counted, At, Stepped};
 ghost use Rattle.cut.specs.Search.{slotFits, slotAfter, Slots, Replacing, BindPost, alike, plainWay, equalWay, wayAt, wayCount, TryPost, allKnown, Sorted, Finds, Images, Digits, Met, numberOf, Tabled, SolvePost};
 
 // The side of a row on which an edge leaves it.
@@ -263,4 +268,67 @@ fn solve(ord: &[u32], into: &[u32], tab: &[u32], theta: &mut [u64], n: usize, k:
         }
     }
     false
+}
+
+// A place on a path: a row, which of its paths, and the literal that led to it.
+struct Here {
+    row: usize,
+    rest: u64,
+    code: u64,
+}
+
+// How many paths row i has, as far as 256; 257 if more.
+fn count_row(words: &[u64], counts: &[u64], n: usize, i: usize) -> u64
+    requires { ⌜ Rows (now words) n ⌝ }
+    requires { ⌜ Counted (now words) (now counts) i ⌝ }
+    requires { ⌜ i < n ⌝ }
+    ensures { λ r. ⌜ r ≡ min 257 (length (paths (tree (now (words .entry)) i))) ⌝ }
+{
+    if words[i * 3] == Label::LEAF {
+        return 1;
+    }
+    let a = counts[words[i * 3 + 1] as usize];
+    let b = counts[words[i * 3 + 2] as usize];
+    if a + b > 256 {
+        return 257;
+    }
+    a + b
+}
+
+// Counts the paths of each of the n rows.
+fn count_paths(words: &[u64], counts: &mut [u64], n: usize)
+    requires { ⌜ Rows (now words) n ⌝ }
+    requires { ⌜ n ≤ length (now counts) ⌝ }
+    ensures { λ _. ⌜ Counted (now (words .entry)) (now (counts .exit)) n ⌝ }
+{
+    let mut i = 0;
+    while i < n {
+        counts[i] = count_row(words, counts, n, i);
+        i += 1;
+    }
+}
+
+// One step on from the branch row i on its path k.
+fn step_on(words: &[u64], counts: &[u64], n: usize, i: usize, k: u64) -> Here
+    requires { ⌜ Rows (now words) n ⌝ }
+    requires { ⌜ Counted (now words) (now counts) n ⌝ }
+    requires { ⌜ At (now words) n i k ⌝ }
+    requires { ⌜ (labelAt (now words) i ≡ leafMark → ⊥) ⌝ }
+    ensures { λ r. ⌜ Stepped (now (words .entry)) n i k r ⌝ }
+{
+    let l = words[i * 3];
+    let t = words[i * 3 + 1] as usize;
+    let c = counts[t];
+    if k < c {
+        return Here {
+            row: t,
+            rest: k,
+            code: l * 2 + 1,
+        };
+    }
+    Here {
+        row: words[i * 3 + 2] as usize,
+        rest: k - c,
+        code: l * 2,
+    }
 }
