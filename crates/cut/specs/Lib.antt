@@ -8,3 +8,5 @@ pub mod CoverLaws
 pub mod TruthLaws
 pub mod ReduceLaws
 pub mod CutExamples
+pub mod Search
+pub mod Routes

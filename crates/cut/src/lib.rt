@@ -1,5 +1,15 @@
 // Cuts: an edge whose paths are all covered elsewhere goes to leaf 0.
+use label::Label;
 use refusal::Refusal;
+ghost use mathlib.Core.Path.{_≡_};
+ghost use Prim.Native.Nat.{ℕ, _+_, _-_, _*_, _/_, _<_, _≤_, min};
+ghost use lib.ListN.{length, getD};
+ghost use Rattle.label.specs.Limits.{termBase, leafMark};
+ghost use Rattle.diagram.specs.Words.{labelAt};
+ghost use Rattle.diagram.specs.Validity.{tree};
+ghost use Rattle.cut.specs.Paths.{paths};
+ghost use Rattle.cut.specs.Routes.{Rows, Counted, At, Stepped};
+ghost use Rattle.cut.specs.Search.{slotFits, slotAfter, Slots, Replacing, BindPost, alike, plainWay, equalWay, wayAt, wayCount, TryPost, allKnown, Sorted, Finds, Images, Digits, Met, numberOf, Tabled, SolvePost};
 
 // The side of a row on which an edge leaves it.
 pub enum Edge {
@@ -11,4 +21,314 @@ pub enum Edge {
 pub enum Cut {
     Done(usize, Edge, usize),
     Refused(Refusal),
+}
+
+// What the four places of a literal may become.
+enum Way {
+    Terms(u64, u64, u64, u64),
+    Nothing,
+}
+
+// An entry of a table as a number.
+fn wide(x: u32) -> u64
+    ensures { λ r. ⌜ r ≡ x ⌝ }
+    ensures { λ r. ⌜ r < 4294967296 ⌝ }
+{
+    x as u64
+}
+
+// The term t, met at place m, is to become u: it is written where it comes first, else compared.
+fn place(tab: &[u32], theta: &mut [u64], m: u64, t: usize, u: u64) -> bool
+    requires { ⌜ t < length (now tab) ⌝ }
+    requires { ⌜ t < length (now theta) ⌝ }
+    requires { ⌜ m < 4096 ⌝ }
+    ensures { λ r. ⌜ r ≡ slotFits (now (tab .entry)) (now (theta .entry)) m t u ⌝ }
+    ensures { λ _. ⌜ now (theta .exit) ≡ slotAfter (now (tab .entry)) (now (theta .entry)) m t u ⌝ }
+{
+    if wide(tab[t]) == m + 1 {
+        theta[t] = u;
+        return true;
+    }
+    theta[t] == u
+}
+
+// The four places of the label l, from place m on, are to become a, b, c, d.
+fn bind(tab: &[u32], theta: &mut [u64], m: u64, l: u64, a: u64, b: u64, c: u64, d: u64) -> bool
+    requires { ⌜ Slots (now tab) m l ⌝ }
+    requires { ⌜ termBase ≤ length (now theta) ⌝ }
+    requires { ⌜ m + 4 < 4096 ⌝ }
+    ensures { λ r. ⌜ BindPost (now (tab .entry)) (now (theta .entry)) m l a b c d r (now (theta .exit)) ⌝ }
+{
+    if !place(tab, theta, m, (l / 262144 % 64) as usize, a) {
+        return false;
+    }
+    if !place(tab, theta, m + 1, (l / 4096 % 64) as usize, b) {
+        return false;
+    }
+    if !place(tab, theta, m + 2, (l / 64 % 64) as usize, c) {
+        return false;
+    }
+    place(tab, theta, m + 3, (l % 64) as usize, d)
+}
+
+// Whether two literals have one predicate and one sign.
+fn alike(x: u64, y: u64) -> bool
+    ensures { λ r. ⌜ r ≡ alike x y ⌝ }
+{
+    if x / 33554432 != y / 33554432 {
+        return false;
+    }
+    x % 2 == y % 2
+}
+
+// Way j of the literal x of another predicate than equality.
+fn plain_way(into: &[u32], x: u64, j: usize) -> Way
+    requires { ⌜ termBase + j < length (now into) ⌝ }
+    ensures { λ r. ⌜ r ≡ plainWay (now (into .entry)) x j ⌝ }
+{
+    let y = wide(into[64 + j]);
+    if !alike(x, y) {
+        return Way::Nothing;
+    }
+    let c = y / 2;
+    Way::Terms(c / 262144 % 64, c / 4096 % 64, c / 64 % 64, c % 64)
+}
+
+// Way j of an equality: literal j / 2, turned round for odd j; behind these t = t for each term.
+fn equal_way(into: &[u32], tab: &[u32], x: u64, j: usize) -> Way
+    requires { ⌜ termBase ≤ length (now into) ⌝ }
+    requires { ⌜ termBase + termBase ≤ length (now tab) ⌝ }
+    requires { ⌜ j < (length (now into) - termBase) * 2 + termBase ⌝ }
+    ensures { λ r. ⌜ r ≡ equalWay (now (into .entry)) (now (tab .entry)) x j ⌝ }
+{
+    let n = into.len() - 64;
+    if j < n * 2 {
+        let y = wide(into[64 + j / 2]);
+        if !alike(x, y) {
+            return Way::Nothing;
+        }
+        let c = y / 2;
+        if j % 2 == 0 {
+            return Way::Terms(c / 262144 % 64, c / 4096 % 64, c / 64 % 64, c % 64);
+        }
+        return Way::Terms(c / 4096 % 64, c / 262144 % 64, c / 64 % 64, c % 64);
+    }
+    let t = j - n * 2;
+    if x % 2 != 1 {
+        return Way::Nothing;
+    }
+    if wide(into[t]) != 0 {
+        return Way::Terms(t as u64, t as u64, 0, 0);
+    }
+    if wide(tab[64 + t]) != 0 {
+        return Way::Terms(t as u64, t as u64, 0, 0);
+    }
+    Way::Nothing
+}
+
+// Way j of the literal x.
+fn way_at(into: &[u32], tab: &[u32], x: u64, j: usize) -> Way
+    requires { ⌜ termBase ≤ length (now into) ⌝ }
+    requires { ⌜ termBase + termBase ≤ length (now tab) ⌝ }
+    requires { ⌜ j < wayCount (now into) x ⌝ }
+    ensures { λ r. ⌜ r ≡ wayAt (now (into .entry)) (now (tab .entry)) x j ⌝ }
+{
+    if x < 33554432 {
+        return equal_way(into, tab, x, j);
+    }
+    plain_way(into, x, j)
+}
+
+// How many ways there are for the literal x.
+fn way_count(into: &[u32], x: u64) -> usize
+    requires { ⌜ termBase ≤ length (now into) ⌝ }
+    ensures { λ r. ⌜ r ≡ wayCount (now (into .entry)) x ⌝ }
+{
+    if x < 33554432 {
+        return (into.len() - 64) * 2 + 64;
+    }
+    into.len() - 64
+}
+
+// Tries way j for the literal x, whose places stand from m on.
+fn attempt(into: &[u32], tab: &[u32], theta: &mut [u64], m: u64, x: u64, j: usize) -> bool
+    requires { ⌜ termBase ≤ length (now into) ⌝ }
+    requires { ⌜ termBase + termBase ≤ length (now tab) ⌝ }
+    requires { ⌜ j < wayCount (now into) x ⌝ }
+    requires { ⌜ Slots (now tab) m (x / 2) ⌝ }
+    requires { ⌜ termBase ≤ length (now theta) ⌝ }
+    requires { ⌜ m + 4 < 4096 ⌝ }
+    ensures { λ r. ⌜ TryPost (now (tab .entry)) (now (theta .entry)) m x r (now (theta .exit)) (wayAt (now (into .entry)) (now (tab .entry)) x j) ⌝ }
+{
+    let Way::Terms(a, b, c, d) = way_at(into, tab, x, j) else {
+        return false;
+    };
+    bind(tab, theta, m, x / 2, a, b, c, d)
+}
+
+// Whether the terms of the label l are all known before place m.
+fn all_known(tab: &[u32], m: u64, l: u64) -> bool
+    requires { ⌜ termBase ≤ length (now tab) ⌝ }
+    ensures { λ r. ⌜ r ≡ allKnown (now (tab .entry)) m l ⌝ }
+{
+    if wide(tab[(l / 262144 % 64) as usize]) > m {
+        return false;
+    }
+    if wide(tab[(l / 4096 % 64) as usize]) > m {
+        return false;
+    }
+    if wide(tab[(l / 64 % 64) as usize]) > m {
+        return false;
+    }
+    wide(tab[(l % 64) as usize]) <= m
+}
+
+// Whether y is one of the literals in order behind the first 64 entries.
+fn find(into: &[u32], y: u64) -> bool
+    requires { ⌜ Sorted (now into) ⌝ }
+    ensures { λ r. ⌜ Finds (now (into .entry)) y r ⌝ }
+{
+    let mut low = 64usize;
+    let mut high = into.len();
+    while low < high {
+        let mid = low + (high - low) / 2;
+        let x = wide(into[mid]);
+        if x == y {
+            return true;
+        }
+        if x < y {
+            low = mid + 1;
+        } else {
+            high = mid;
+        }
+    }
+    false
+}
+
+// Whether the literal x, all of whose terms are known, becomes one of the literals or t = t true.
+fn is_met(into: &[u32], theta: &[u64], x: u64) -> bool
+    requires { ⌜ Sorted (now into) ⌝ }
+    requires { ⌜ Images (now theta) x ⌝ }
+    ensures { λ r. ⌜ Met (now (into .entry)) (now (theta .entry)) x r ⌝ }
+{
+    let l = x / 2;
+    let a = theta[(l / 262144 % 64) as usize];
+    let b = theta[(l / 4096 % 64) as usize];
+    if x >= 33554432 {
+        let c = theta[(l / 64 % 64) as usize];
+        let d = theta[(l % 64) as usize];
+        return find(into, number(x / 33554432, a, b, c, d, x % 2));
+    }
+    if a == b {
+        return x % 2 == 1;
+    }
+    if a < b {
+        return find(into, number(0, a, b, 0, 0, x % 2));
+    }
+    find(into, number(0, b, a, 0, 0, x % 2))
+}
+
+// The number of a literal.
+fn number(p: u64, a: u64, b: u64, c: u64, d: u64, s: u64) -> u64
+    requires { ⌜ Digits p a b c d s ⌝ }
+    ensures { λ r. ⌜ r ≡ numberOf p a b c d s ⌝ }
+{
+    (p * 16777216 + a * 262144 + b * 4096 + c * 64 + d) * 2 + s
+}
+
+// Whether a replacement beyond theta takes the literals from k to n to those of the first path, or to t = t true. Tries each literal in turn, and
+// goes back when one has no match.
+fn solve(ord: &[u32], into: &[u32], tab: &[u32], theta: &mut [u64], n: usize, k: usize) -> bool
+    requires { ⌜ Tabled (now ord) (now tab) n ⌝ }
+    requires { ⌜ Sorted (now into) ⌝ }
+    requires { ⌜ Replacing (now tab) (now theta) (k * 4) ⌝ }
+    requires { ⌜ k ≤ n ⌝ }
+    ensures { λ r. ⌜ SolvePost (now (ord .entry)) (now (into .entry)) (now (tab .entry)) (now (theta .entry)) n k r (now (theta .exit)) ⌝ }
+{
+    if k == n {
+        return true;
+    }
+    let x = wide(ord[k]);
+    if all_known(tab, (k * 4) as u64, x / 2) {
+        if !is_met(into, theta, x) {
+            return false;
+        }
+        return solve(ord, into, tab, theta, n, k + 1);
+    }
+    let total = way_count(into, x);
+    let mut j = 0;
+    while j < total {
+        if attempt(into, tab, theta, (k * 4) as u64, x, j) {
+            if solve(ord, into, tab, theta, n, k + 1) {
+                return true;
+            }
+            j += 1;
+        } else {
+            j += 1;
+        }
+    }
+    false
+}
+
+// A place on a path: a row, which of its paths, and the literal that led to it.
+struct Here {
+    row: usize,
+    rest: u64,
+    code: u64,
+}
+
+// How many paths row i has, as far as 256; 257 if more.
+fn count_row(words: &[u64], counts: &[u64], n: usize, i: usize) -> u64
+    requires { ⌜ Rows (now words) n ⌝ }
+    requires { ⌜ Counted (now words) (now counts) i ⌝ }
+    requires { ⌜ i < n ⌝ }
+    ensures { λ r. ⌜ r ≡ min 257 (length (paths (tree (now (words .entry)) i))) ⌝ }
+{
+    if words[i * 3] == Label::LEAF {
+        return 1;
+    }
+    let a = counts[words[i * 3 + 1] as usize];
+    let b = counts[words[i * 3 + 2] as usize];
+    if a + b > 256 {
+        return 257;
+    }
+    a + b
+}
+
+// Counts the paths of each of the n rows.
+fn count_paths(words: &[u64], counts: &mut [u64], n: usize)
+    requires { ⌜ Rows (now words) n ⌝ }
+    requires { ⌜ n ≤ length (now counts) ⌝ }
+    ensures { λ _. ⌜ Counted (now (words .entry)) (now (counts .exit)) n ⌝ }
+{
+    let mut i = 0;
+    while i < n {
+        counts[i] = count_row(words, counts, n, i);
+        i += 1;
+    }
+}
+
+// One step on from the branch row i on its path k.
+fn step_on(words: &[u64], counts: &[u64], n: usize, i: usize, k: u64) -> Here
+    requires { ⌜ Rows (now words) n ⌝ }
+    requires { ⌜ Counted (now words) (now counts) n ⌝ }
+    requires { ⌜ At (now words) n i k ⌝ }
+    requires { ⌜ (labelAt (now words) i ≡ leafMark → ⊥) ⌝ }
+    ensures { λ r. ⌜ Stepped (now (words .entry)) n i k r ⌝ }
+{
+    let l = words[i * 3];
+    let t = words[i * 3 + 1] as usize;
+    let c = counts[t];
+    if k < c {
+        return Here {
+            row: t,
+            rest: k,
+            code: l * 2 + 1,
+        };
+    }
+    Here {
+        row: words[i * 3 + 2] as usize,
+        rest: k - c,
+        code: l * 2,
+    }
 }

@@ -1,0 +1,4 @@
+pub mod WayLaws
+pub mod TargetLaws
+pub mod SolveLaws
+pub mod RouteLaws
