@@ -7,6 +7,7 @@ pub mod Next
 pub mod RegressCall
 pub mod Result
 pub mod Parameters
+pub mod Freeing
 -- laws
 pub mod CallLaws
 pub mod StepLaws
