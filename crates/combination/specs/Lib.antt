@@ -1,0 +1,2 @@
+-- The public calls of a combination.
+pub mod Finishing
