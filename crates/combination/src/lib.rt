@@ -1,13 +1,31 @@
 // Public calls: sum, product and max of two lent listings, with names apart or shared.
-use apply::{Combined, Names, Operation};
+use apply::Combined;
+use apply::Names;
+use apply::Operation;
 use combine::Joined;
 use refusal::Refusal;
 ghost use mathlib.Core.Path.{_≡_};
 ghost use Rattle.apply.specs.declared.Names.the-variants.{Shared};
+ghost use Rattle.combine.specs.declared.Joined.the-variants.{At};
 ghost use Rattle.combine.specs.Calls.{Callable, Answered};
 ghost use Rattle.combination.specs.Finishing.{Finishable, Finished};
 
-// Writes the result that the first rows of the space are, or says why there is none.
+// Words of a plan of 4,096 pairs.
+const PLAN_WORDS: usize = 20480;
+
+// Writes the result that the first rows of the space are, unless they are too many.
+fn finish_rows(rows: usize, pairs: usize, space: &[u64], out: &mut [u64]) -> Combined
+    requires { ⌜ Finishable (At 0 rows pairs) (now space) (now out) ⌝ }
+    ensures { λ q. ⌜ Finished (At 0 rows pairs) (now (space .entry)) (now (out .entry)) q (now (out .exit)) ⌝ }
+{
+    if rows > diagram::ROWS {
+        return Combined::Refused(Refusal::Space);
+    }
+    write::copy(space, rows, out);
+    Combined::Done(rows, pairs)
+}
+
+// Writes the result of a combination in an empty space, or says why there is none.
 fn finish(r: Joined, space: &[u64], out: &mut [u64]) -> Combined
     requires { ⌜ Finishable r (now space) (now out) ⌝ }
     ensures { λ q. ⌜ Finished r (now (space .entry)) (now (out .entry)) q (now (out .exit)) ⌝ }
@@ -18,4 +36,39 @@ fn finish(r: Joined, space: &[u64], out: &mut [u64]) -> Combined
         Joined::TooHighValue => Combined::Refused(Refusal::Value),
         Joined::NoRoom => Combined::Refused(Refusal::Space),
     }
+}
+
+// Combines two listings with names shared, in an empty working space.
+fn combine_shared(
+    op: Operation,
+    arities: &[u64],
+    x: &[u64],
+    y: &[u64],
+    out: &mut [u64],
+    work: &mut [u64],
+) -> Combined
+    requires { ⌜ Callable (now arities) (now x) (now y) (now out) (now work) ⌝ }
+    ensures { λ r. ⌜ Answered op Shared (now (arities .entry)) (now (x .entry)) (now (y .entry)) (now (out .entry)) r (now (out .exit)) ⌝ }
+{
+    let mut plan = [0u64; PLAN_WORDS];
+    let mut index = [0u16; plan::BUCKETS];
+    let mut heads = [0u16; table::BUCKETS];
+    let mut links = [0u16; diagram::SPACE_ROWS];
+    let i = x.len() / 3 - 1;
+    let j = y.len() / 3 - 1;
+    let r = combine::join_listings(
+        x,
+        y,
+        &mut plan,
+        &mut index,
+        diagram::PAIRS,
+        i,
+        j,
+        op,
+        work,
+        &mut heads,
+        &mut links,
+        0,
+    );
+    finish(r, work, out)
 }
