@@ -70,5 +70,5 @@ module _ (op : Operation) (names : Names) (ar x y out work : List ℕ) where
           unfolding combineResult
           call-done {r} {out′} a =
               let z : r ≡ combineAnswer op names ar x y (length out) (length work) =
-                      a .answer ∙ sym (answer-diagrams op names ar x y (length out) (length work) (passed e f) (passed d g) h k) in
+              a .answer ∙ sym (answer-diagrams op names ar x y (length out) (length work) (passed e f) (passed d g) h k) in
               (z, a .words ∙ ap (λ (q : Combined). written q (listing (combination op names ar (diagramOf x) (diagramOf y))) out) z)

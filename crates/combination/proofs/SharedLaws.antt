@@ -8,7 +8,7 @@ use native.Mathlib.Omega.{arith}
 use lib.ListN.{length, take, drop, replicate, length-replicate, getD, getD-replicate}
 use lib.Seq.{length-take-le}
 use lib.Dec.{ltb}
-use borrow.Author.Tests.{lt-ltb, le-ltb}
+use borrow.Author.Tests.{lt-ltb, le-ltb, ltb-false}
 use Rattle.basics.specs.Tests.{Flag, isTrue, isFalse, flag}
 use Rattle.refusal.specs.declared.Refusal.the-variants.{Pairs, Value, Space}
 use Rattle.label.specs.Limits.{leafMark}
@@ -45,6 +45,7 @@ use Rattle.combine.specs.Calls.{Callable, Answered}
 use Rattle.combine.specs.declared.Joined.{Joined}
 use Rattle.combine.specs.declared.Joined.the-variants.{At, TooManyPairs, TooHighValue, NoRoom}
 use Rattle.combination.specs.Finishing.{rowsIn, finishAnswer, finishWords, Finishable, Finished}
+use Rattle.combination.specs.Sharing.{few, Operands, SharedIn}
 
 -- finish_rows
 module _ {n p : ℕ} {s out : List ℕ} (able : Finishable (At 0 n p) s out) where
@@ -172,37 +173,74 @@ module _ (op : Operation) (ar : List ℕ) (a b : Diagram) where
       ∙ written-listing-words s (apply (operate op) a b) (subst (Written s) z (h .written)) (omega (arith, h .table .words, h .table .within))
       ∙ ap listing (sym combination-is)
 
--- combine_shared
-pub shared-finishable : {op : Operation} {limit : ℕ} {a b : Diagram} {s₀ : List ℕ} {r : Joined} {s heads links hs out : List ℕ}
-    → Joint op limit a b s₀ 0 r s heads links hs → resultWords ≤ length out → Finishable r s out
-shared-finishable {op} {limit} {a} {b} {s₀} {r} {s} {heads} {links} {hs} {out} j h = record { there = there r (j .holds); room = h }
+-- shared_few and shared_many
+pub operands-of : {ar x y out work : List ℕ} → Callable ar x y out work → Operands ar x y work
+operands-of c = record { first = c .first; second = c .second; room = c .work-room }
+
+pub shared-in : (op : Operation) (limit : ℕ) (ar x y work : List ℕ) {r : Joined} {s heads links hs : List ℕ} → Operands ar x y work
+    → Joint op limit (tree x (length x / 3 - 1)) (tree y (length y / 3 - 1)) work 0 r s heads links hs → SharedIn op limit x y work r s
+shared-in op limit ar x y work {r} {s} {heads} {links} {hs} c j = record {
+  answer = j .answer ∙ (λ i. joinAnswer op limit (root-is ar x (c .first) i) (root-is ar y (c .second) i) (diagrams-none work i));
+  heads = heads;
+  links = links;
+  holds = j .holds;
+  diagrams = j .diagrams ∙ (λ i. diagramsAfter op (root-is ar x (c .first) i) (root-is ar y (c .second) i) (diagrams-none work i) r);
+}
+
+-- few pairs are no more than a call may have
+few-answer : (op : Operation) (a b : Diagram) (rs : List Diagram) (r : Joined) → (r ≡ TooManyPairs → ⊥) → r ≡ joinAnswer op few a b rs → r ≡ joinAnswer op mostPairs a b rs
+unfolding joinAnswer
+few-answer op a b rs r n e = go (flag (ltb few (pairCount a b)))
   where
-    there : (x : Joined) → Holds s heads links (countAfter 0 x) → rowsIn x * 3 ≤ length s
+    go : Flag (ltb few (pairCount a b)) → r ≡ joinAnswer op mostPairs a b rs
+    go (isTrue q) = absurd (n (rw q at e))
+    go (isFalse q) =
+        let l = ltb-false few (pairCount a b) q in
+        rw (le-ltb mostPairs (pairCount a b) (omega arith)) (rw q at e)
+
+pub few-many : {op : Operation} {x y work : List ℕ} {r : Joined} {s : List ℕ} → (r ≡ TooManyPairs → ⊥) → SharedIn op few x y work r s → SharedIn op mostPairs x y work r s
+few-many {op} {x} {y} {work} {r} {s} n j = record {
+  answer = few-answer op (diagramOf x) (diagramOf y) [] r n (j .answer);
+  heads = j .heads;
+  links = j .links;
+  holds = j .holds;
+  diagrams = j .diagrams;
+}
+
+-- combine_shared
+pub shared-finishable : {op : Operation} {limit : ℕ} {x y work : List ℕ} {r : Joined} {s out : List ℕ} → SharedIn op limit x y work r s → resultWords ≤ length out → Finishable r s out
+shared-finishable {op} {limit} {x} {y} {work} {r} {s} {out} j h = record { there = there r (j .holds); room = h }
+  where
+    there : (z : Joined) → Holds s (j .heads) (j .links) (countAfter 0 z) → rowsIn z * 3 ≤ length s
     there (At i n p) k = omega (arith, k .table .words, k .table .within)
     there TooManyPairs k = omega arith
     there TooHighValue k = omega arith
     there NoRoom k = omega arith
 
-pub shared-out : (op : Operation) (ar x y : List ℕ) {work out : List ℕ} {r : Joined} {s heads links hs : List ℕ} {q : Combined} {out′ : List ℕ}
-    → Callable ar x y out work → Joint op mostPairs (tree x (length x / 3 - 1)) (tree y (length y / 3 - 1)) work 0 r s heads links hs
-    → Finished r s out q out′ → Answered op Shared ar x y out q out′
+pub shared-out : (op : Operation) (ar x y : List ℕ) {work out : List ℕ} {r : Joined} {s : List ℕ} {q : Combined} {out′ : List ℕ}
+    → SharedIn op mostPairs x y work r s → Finished r s out q out′ → Answered op Shared ar x y out q out′
 unfolding finishWords
-shared-out op ar x y {work} {out} {r} {s} {heads} {links} {hs} {q} {out′} c j f = record {
-  answer = f .answer ∙ ap finishAnswer r-is ∙ answer-is op ar (diagramOf x) (diagramOf y);
-  words = f .words ∙ buffer r r-is (j .holds) (j .diagrams) ∙ ap (λ (z : Combined). written z (listing (combination op Shared ar (diagramOf x) (diagramOf y))) out) (sym (f .answer));
+shared-out op ar x y {work} {out} {r} {s} {q} {out′} j f = record {
+  answer = f .answer ∙ ap finishAnswer (j .answer) ∙ answer-is op ar (diagramOf x) (diagramOf y);
+  words = f .words ∙ buffer r (j .answer) (j .holds) (j .diagrams) ∙ ap (λ (z : Combined). written z (listing (combination op Shared ar (diagramOf x) (diagramOf y))) out) (sym (f .answer));
 }
   where
-    r-is : r ≡ joinAnswer op mostPairs (diagramOf x) (diagramOf y) []
-    r-is =
-        j .answer ∙ (λ i. joinAnswer op mostPairs (root-is ar x (c .first) i) (root-is ar y (c .second) i) (diagrams-none work i))
-
-    buffer : (z : Joined) → z ≡ joinAnswer op mostPairs (diagramOf x) (diagramOf y) [] → Holds s heads links (countAfter 0 z)
-        → diagramsOf s (countAfter 0 z) ≡ diagramsAfter op (tree x (length x / 3 - 1)) (tree y (length y / 3 - 1)) (diagramsOf work 0) z
+    buffer : (z : Joined) → z ≡ joinAnswer op mostPairs (diagramOf x) (diagramOf y) [] → Holds s (j .heads) (j .links) (countAfter 0 z)
+        → diagramsOf s (countAfter 0 z) ≡ diagramsAfter op (diagramOf x) (diagramOf y) [] z
         → finishWords z s out ≡ written (finishAnswer z) (listing (combination op Shared ar (diagramOf x) (diagramOf y))) out
     buffer (At i n p) e h k =
-        ap (λ (ws : List ℕ). written (finishAnswer (At i n p)) ws out)
-        (words-are op ar (diagramOf x) (diagramOf y) s heads links i n p e h
-        (k ∙ (λ t. onto (apply (operate op) (root-is ar x (c .first) t) (root-is ar y (c .second) t)) (diagrams-none work t))))
+        ap (λ (ws : List ℕ). written (finishAnswer (At i n p)) ws out) (words-are op ar (diagramOf x) (diagramOf y) s (j .heads) (j .links) i n p e h k)
     buffer TooManyPairs e h k = refl
     buffer TooHighValue e h k = refl
     buffer NoRoom e h k = refl
+
+-- the arms of combine_shared: an answer taken apart and put together again
+module _ {op : Operation} {x y work : List ℕ} {r : Joined} {s : List ℕ} (j : SharedIn op few x y work r s) where
+  pub arm-at : {i n p : ℕ} → r ≡ At i n p → SharedIn op mostPairs x y work (At i n p) s
+  arm-at {i} {n} {p} e = few-many (λ z. let k : At i n p ≡ TooManyPairs = z in let q : _≡_ {A = ℕ} 0 1 = cc in omega arith) (subst (λ (z : Joined). SharedIn op few x y work z s) e j)
+
+  pub arm-high : r ≡ TooHighValue → SharedIn op mostPairs x y work TooHighValue s
+  arm-high e = few-many (λ z. let k : TooHighValue ≡ TooManyPairs = z in let q : _≡_ {A = ℕ} 0 1 = cc in omega arith) (subst (λ (z : Joined). SharedIn op few x y work z s) e j)
+
+  pub arm-full : r ≡ NoRoom → SharedIn op mostPairs x y work NoRoom s
+  arm-full e = few-many (λ z. let k : NoRoom ≡ TooManyPairs = z in let q : _≡_ {A = ℕ} 0 1 = cc in omega arith) (subst (λ (z : Joined). SharedIn op few x y work z s) e j)

@@ -1,2 +1,3 @@
 -- The public calls of a combination.
 pub mod Finishing
+pub mod Sharing

@@ -11,7 +11,13 @@ ghost use Rattle.apply.specs.declared.Names.the-variants.{Shared};
 ghost use Rattle.combine.specs.declared.Joined.the-variants.{At};
 ghost use Rattle.combine.specs.Calls.{Callable, Answered};
 ghost use Rattle.combination.specs.Finishing.{Finishable, Finished};
+ghost use Rattle.combination.specs.Sharing.{few, Operands, SharedIn};
+ghost use Rattle.diagram.specs.Sizes.{mostPairs};
 
+// Pairs that room is first made for, and the words of such a plan.
+const FEW: usize = 256;
+
+const FEW_WORDS: usize = 1280;
 // Words of a plan of 4,096 pairs.
 const PLAN_WORDS: usize = 20480;
 
@@ -40,17 +46,37 @@ fn finish(r: Joined, space: &[u64], out: &mut [u64]) -> Combined
     }
 }
 
-// Combines two listings with names shared, in an empty working space.
-fn combine_shared(
-    op: Operation,
-    arities: &[u64],
-    x: &[u64],
-    y: &[u64],
-    out: &mut [u64],
-    work: &mut [u64],
-) -> Combined
-    requires { ⌜ Callable (now arities) (now x) (now y) (now out) (now work) ⌝ }
-    ensures { λ r. ⌜ Answered op Shared (now (arities .entry)) (now (x .entry)) (now (y .entry)) (now (out .entry)) r (now (out .exit)) ⌝ }
+// Combines the roots of two listings in an empty working space, with room for few pairs.
+fn shared_few(op: Operation, arities: &[u64], x: &[u64], y: &[u64], work: &mut [u64]) -> Joined
+    requires { ⌜ Operands (now arities) (now x) (now y) (now work) ⌝ }
+    ensures { λ r. ⌜ SharedIn op few (now (x .entry)) (now (y .entry)) (now (work .entry)) r (now (work .exit)) ⌝ }
+{
+    let mut plan = [0u64; FEW_WORDS];
+    let mut index = [0u16; plan::BUCKETS];
+    let mut heads = [0u16; table::BUCKETS];
+    let mut links = [0u16; diagram::SPACE_ROWS];
+    let i = x.len() / 3 - 1;
+    let j = y.len() / 3 - 1;
+    combine::join_listings(
+        x,
+        y,
+        &mut plan,
+        &mut index,
+        FEW,
+        i,
+        j,
+        op,
+        work,
+        &mut heads,
+        &mut links,
+        0,
+    )
+}
+
+// The same, with room for all pairs that a call may have.
+fn shared_many(op: Operation, arities: &[u64], x: &[u64], y: &[u64], work: &mut [u64]) -> Joined
+    requires { ⌜ Operands (now arities) (now x) (now y) (now work) ⌝ }
+    ensures { λ r. ⌜ SharedIn op mostPairs (now (x .entry)) (now (y .entry)) (now (work .entry)) r (now (work .exit)) ⌝ }
 {
     let mut plan = [0u64; PLAN_WORDS];
     let mut index = [0u16; plan::BUCKETS];
@@ -58,7 +84,7 @@ fn combine_shared(
     let mut links = [0u16; diagram::SPACE_ROWS];
     let i = x.len() / 3 - 1;
     let j = y.len() / 3 - 1;
-    let r = combine::join_listings(
+    combine::join_listings(
         x,
         y,
         &mut plan,
@@ -71,29 +97,29 @@ fn combine_shared(
         &mut heads,
         &mut links,
         0,
-    );
-    finish(r, work, out)
+    )
 }
 
-// The sum, product or max of two lent listings, written to `out`; `work` is the working space. Refused: 14 by operand, 18, then 8, 10, 11, 9.
-pub fn combine(op: Operation, names: Names, arities: &[u64], x: &[u64], y: &[u64], out: &mut [u64], work: &mut [u64]) -> Combined
-    ensures { λ r. ⌜ r ≡ combineAnswer op names (now (arities .entry)) (now (x .entry)) (now (y .entry)) (length (now (out .entry))) (length (now (work .entry))) ⌝ }
-    ensures { λ r. ⌜ now (out .exit) ≡ combineResult op names (now (arities .entry)) (now (x .entry)) (now (y .entry)) (length (now (work .entry))) (now (out .entry)) ⌝ }
+// Combines two listings with names shared. Most calls have few pairs: room for these is tried first, since clearing room for all costs more than their walk.
+fn combine_shared(
+    op: Operation,
+    arities: &[u64],
+    x: &[u64],
+    y: &[u64],
+    out: &mut [u64],
+    work: &mut [u64],
+) -> Combined
+    requires { ⌜ Callable (now arities) (now x) (now y) (now out) (now work) ⌝ }
+    ensures { λ r. ⌜ Answered op Shared (now (arities .entry)) (now (x .entry)) (now (y .entry)) (now (out .entry)) r (now (out .exit)) ⌝ }
 {
-    if !listing::check(arities, x) {
-        return Combined::Refused(Refusal::Listing);
-    }
-    if !listing::check(arities, y) {
-        return Combined::Refused(Refusal::Listing);
-    }
-    if out.len() < diagram::RESULT_WORDS {
-        return Combined::Refused(Refusal::Buffer);
-    }
-    if work.len() < diagram::SPACE_WORDS {
-        return Combined::Refused(Refusal::Buffer);
-    }
-    match names {
-        Names::Apart => apart::combine_apart(op, arities, x, y, out, work),
-        Names::Shared => combine_shared(op, arities, x, y, out, work),
+    let r = shared_few(op, arities, x, y, work);
+    match r {
+        Joined::TooManyPairs => {
+            let q = shared_many(op, arities, x, y, work);
+            finish(q, work, out)
+        }
+        Joined::At(i, rows, pairs) => finish(Joined::At(i, rows, pairs), work, out),
+        Joined::TooHighValue => finish(Joined::TooHighValue, work, out),
+        Joined::NoRoom => finish(Joined::NoRoom, work, out),
     }
 }

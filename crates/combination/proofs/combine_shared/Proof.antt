@@ -1,69 +1,124 @@
-use Rattle.combination.proofs.SharedLaws.{shared-pairable, shared-holds, shared-finishable, shared-out}
-use lib.Dec.{lit≤}
+use Rattle.combination.proofs.SharedLaws.{shared-finishable, shared-out, arm-at, arm-high, arm-full}
 use borrow.Author.Needs.{needs}
 use Rattle.combination.proofs.combine_shared.Statement.{statement}
 use Rattle.combination.proofs.combine_shared.Tie as tie
 use Rattle.combination.proofs.combine_shared.Reads as reads
 use Rattle.combination.proofs.combine_shared.Lts as lts
 use Rattle.combination.proofs.finish.Reads as finish-reads
-use Rattle.combine.proofs.join_listings.Reads as join-listings-reads
+use Rattle.combination.proofs.shared_few.Reads as shared-few-reads
+use Rattle.combination.proofs.shared_many.Reads as shared-many-reads
 
--- src/lib.rt:48:13
-sub-i : tie.Need-sub-i
-sub-i c = search needs
+-- src/lib.rt:81:9
+shared-few-requires : tie.Need-shared-few-requires
+shared-few-requires c κs = search needs
 
--- src/lib.rt:49:13
-sub-j : tie.Need-sub-j
-sub-j c = search needs
+-- src/lib.rt:84:52
+enum-told : tie.Need-enum-told
+enum-told c = search needs
 
--- src/lib.rt:50:42
-slice-aggregate-join-listings : tie.Need-slice-aggregate-join-listings
-slice-aggregate-join-listings c = search needs
+-- src/lib.rt:84:17
+shared-many-requires : tie.Need-shared-many-requires
+shared-many-requires c κs = search needs
 
--- src/lib.rt:50:53
-slice-aggregate-join-listings-2 : tie.Need-slice-aggregate-join-listings-2
-slice-aggregate-join-listings-2 c = search needs
-
--- src/lib.rt:50:97
-slice-aggregate-join-listings-3 : tie.Need-slice-aggregate-join-listings-3
-slice-aggregate-join-listings-3 c = search needs
-
--- src/lib.rt:50:109
-slice-aggregate-join-listings-4 : tie.Need-slice-aggregate-join-listings-4
-slice-aggregate-join-listings-4 c = search needs
-
--- src/lib.rt:50:9
-join-listings-requires : tie.Need-join-listings-requires
-join-listings-requires c κs = (shared-pairable _ 20480 4096 4096 (c .before .before .before .before .before .before .before .before .before .before .pre .first) (c .before .before .before .before .before .before .before .before .before .before .pre .second) (lit≤ tt) (lit≤ tt) (lit≤ tt), shared-holds _ 2048 2048 (c .before .before .before .before .before .before .before .before .before .before .pre .work-room) (lit≤ tt) (lit≤ tt))
-
--- src/lib.rt:51:5
+-- src/lib.rt:85:13
 finish-requires : tie.Need-finish-requires
-finish-requires c κs = shared-finishable (c .before .before .before .before .before .before .before .before .join-listings .ensures) (c .before .before .before .before .before .before .before .before .before .before .before .before .before .before .before .before .before .before .before .pre .out-room)
+finish-requires c κs = shared-finishable (c .before .before .before .before .shared-many .ensures) (c .before .before .before .before .before .before .before .before .before .before .before .before .before .before .before .before .before .pre .out-room)
 
--- src/lib.rt:40:1
+-- src/lib.rt:87:20
+enum-known-r : tie.Need-enum-known-r
+enum-known-r c = search needs
+
+-- src/lib.rt:87:39
+finish-requires-2 : tie.Need-finish-requires-2
+finish-requires-2 c κs = shared-finishable (arm-at (c .before .before .before .before .before .before .before .shared-few .ensures) (c .before .before .before .r .given .1)) (c .before .before .before .before .before .before .before .before .before .before .before .before .before .before .pre .out-room)
+
+-- src/lib.rt:88:40
+enum-told-2 : tie.Need-enum-told-2
+enum-told-2 c = search needs
+
+-- src/lib.rt:88:33
+finish-requires-3 : tie.Need-finish-requires-3
+finish-requires-3 c κs = search needs
+
+-- src/lib.rt:89:34
+enum-told-3 : tie.Need-enum-told-3
+enum-told-3 c = search needs
+
+-- src/lib.rt:89:27
+finish-requires-4 : tie.Need-finish-requires-4
+finish-requires-4 c κs = search needs
+
+-- src/lib.rt:77:1
 same-length : tie.Need-same-length
 same-length c = search needs
 
--- src/lib.rt:40:1
+-- src/lib.rt:77:1
 same-length-2 : tie.Need-same-length-2
 same-length-2 c = search needs
 
--- src/lib.rt:40:1
+-- src/lib.rt:77:1
 returns : tie.Need-returns
-returns c = shared-out _ _ _ _ (c .before .before .before .before .before .before .before .before .before .before .before .before .before .before .before .before .before .before .before .before .before .before .pre) (c .before .before .before .before .before .before .before .before .before .before .before .join-listings .ensures) (c .before .before .finish .ensures)
+returns c = shared-out _ _ _ _ (c .before .before .before .before .before .before .before .shared-many .ensures) (c .before .before .finish .ensures)
+
+-- src/lib.rt:77:1
+same-length-3 : tie.Need-same-length-3
+same-length-3 c = search needs
+
+-- src/lib.rt:77:1
+same-length-4 : tie.Need-same-length-4
+same-length-4 c = search needs
+
+-- src/lib.rt:77:1
+returns-2 : tie.Need-returns-2
+returns-2 c = shared-out _ _ _ _ (arm-at (c .before .before .before .before .before .before .before .before .before .before .shared-few .ensures) (c .before .before .before .before .before .before .r .given .1)) (c .before .before .finish2 .ensures)
+
+-- src/lib.rt:77:1
+same-length-5 : tie.Need-same-length-5
+same-length-5 c = search needs
+
+-- src/lib.rt:77:1
+same-length-6 : tie.Need-same-length-6
+same-length-6 c = search needs
+
+-- src/lib.rt:77:1
+returns-3 : tie.Need-returns-3
+returns-3 c = shared-out _ _ _ _ (arm-high (c .before .before .before .before .before .before .before .before .before .shared-few .ensures) (c .before .before .before .before .before .enum-told2 .given .1)) (c .before .before .finish3 .ensures)
+
+-- src/lib.rt:77:1
+same-length-7 : tie.Need-same-length-7
+same-length-7 c = search needs
+
+-- src/lib.rt:77:1
+same-length-8 : tie.Need-same-length-8
+same-length-8 c = search needs
+
+-- src/lib.rt:77:1
+returns-4 : tie.Need-returns-4
+returns-4 c = shared-out _ _ _ _ (arm-full (c .before .before .before .before .before .before .before .before .before .shared-few .ensures) (c .before .before .before .before .before .enum-told3 .given .1)) (c .before .before .finish4 .ensures)
 
 pub combine-shared-spec : {M : Type 1} → statement M
 combine-shared-spec =
     tie.close
     (tie.spec
-    sub-i
-    sub-j
-    slice-aggregate-join-listings
-    slice-aggregate-join-listings-2
-    slice-aggregate-join-listings-3
-    slice-aggregate-join-listings-4
-    join-listings-requires
+    shared-few-requires
+    enum-told
+    shared-many-requires
     finish-requires
+    enum-known-r
+    finish-requires-2
+    enum-told-2
+    finish-requires-3
+    enum-told-3
+    finish-requires-4
     same-length
     same-length-2
-    returns)
+    returns
+    same-length-3
+    same-length-4
+    returns-2
+    same-length-5
+    same-length-6
+    returns-3
+    same-length-7
+    same-length-8
+    returns-4)
