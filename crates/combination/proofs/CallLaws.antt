@@ -1,0 +1,74 @@
+-- The ways out of the public call.
+use mathlib.Core.Path.{_≡_, refl, sym, ap, _∙_}
+use mathlib.Core.Bool.{Bool, true, false, not, _||_}
+use mathlib.Core.List.{List}
+use Prim.Native.Nat.{ℕ, _≤_, _<_}
+use native.Mathlib.Omega.{arith}
+use lib.ListN.{length}
+use lib.Dec.{ltb}
+use borrow.Author.Tests.{lt-ltb}
+use Rattle.basics.specs.Tests.{or-one, or-other}
+use Rattle.refusal.specs.declared.Refusal.{Refusal}
+use Rattle.refusal.specs.declared.Refusal.the-variants.{Listing, Buffer}
+use Rattle.diagram.specs.Sizes.{resultWords, spaceWords}
+use Rattle.diagram.specs.Words.{isListing}
+use Rattle.diagram.specs.Listing.{diagramOf, listing}
+use Rattle.diagram.specs.ListingValid.{listing-is-valid}
+use Rattle.apply.specs.declared.Operation.{Operation}
+use Rattle.apply.specs.declared.Names.{Names}
+use Rattle.apply.specs.declared.Combined.{Combined}
+use Rattle.apply.specs.declared.Combined.the-variants.{Done, Refused}
+use Rattle.apply.specs.Combination.{combination, combineAnswer, combineResult, written}
+use Rattle.apply.specs.CombinationLaws.{answer-first, answer-second, answer-buffer, answer-diagrams, result-refused}
+use Rattle.combine.specs.Calls.{Callable, Answered}
+
+-- what the call promises: the answer, and the result buffer
+abbrev pub Promised : Operation → Names → List ℕ → List ℕ → List ℕ → List ℕ → List ℕ → Combined → List ℕ → Type 0
+Promised op names ar x y out work r out′ = (r ≡ combineAnswer op names ar x y (length out) (length work)) × (out′ ≡ combineResult op names ar x y (length work) out)
+
+-- `if !check(..)`
+passed : {b x : Bool} → b ≡ x → not b ≡ false → x ≡ true
+passed {b} {x} e f = sym e ∙ go b f
+  where
+    go : (y : Bool) → not y ≡ false → y ≡ true
+    go true q = refl
+    go false q = sym q
+
+failed : {b x : Bool} → b ≡ x → not b ≡ true → x ≡ false
+failed {b} {x} e f = sym e ∙ go b f
+  where
+    go : (y : Bool) → not y ≡ true → y ≡ false
+    go true q = sym q
+    go false q = refl
+
+module _ (op : Operation) (names : Names) (ar x y out work : List ℕ) where
+  refused : (r : Refusal) → combineAnswer op names ar x y (length out) (length work) ≡ Refused r → Promised op names ar x y out work (Refused r) out
+  refused r e = (sym e, sym (result-refused op names ar x y (length work) out r e))
+
+  module _ {b : Bool} (e : b ≡ isListing ar x) where
+    pub call-first : not b ≡ true → Promised op names ar x y out work (Refused Listing) out
+    call-first f = refused Listing (answer-first op names ar x y (length out) (length work) (failed e f))
+
+    module _ (f : not b ≡ false) {c : Bool} (d : c ≡ isListing ar y) where
+      pub call-second : not c ≡ true → Promised op names ar x y out work (Refused Listing) out
+      call-second g = refused Listing (answer-second op names ar x y (length out) (length work) (passed e f) (failed d g))
+
+      module _ (g : not c ≡ false) where
+        pub call-out : length out < resultWords → Promised op names ar x y out work (Refused Buffer) out
+        call-out h = refused Buffer (answer-buffer op names ar x y (length out) (length work) (passed e f) (passed d g) (or-one _ _ (lt-ltb (length out) resultWords h)))
+
+        pub call-work : length work < spaceWords → Promised op names ar x y out work (Refused Buffer) out
+        call-work h =
+            refused Buffer (answer-buffer op names ar x y (length out) (length work) (passed e f) (passed d g)
+            (or-other (ltb (length out) resultWords) _ (lt-ltb (length work) spaceWords h)))
+
+        module _ (h : resultWords ≤ length out) (k : spaceWords ≤ length work) where
+          pub call-able : Callable ar x y out work
+          call-able = record { first = listing-is-valid ar x (passed e f); second = listing-is-valid ar y (passed d g); out-room = h; work-room = k }
+
+          pub call-done : {r : Combined} {out′ : List ℕ} → Answered op names ar x y out r out′ → Promised op names ar x y out work r out′
+          unfolding combineResult
+          call-done {r} {out′} a =
+              let z : r ≡ combineAnswer op names ar x y (length out) (length work) =
+              a .answer ∙ sym (answer-diagrams op names ar x y (length out) (length work) (passed e f) (passed d g) h k) in
+              (z, a .words ∙ ap (λ (q : Combined). written q (listing (combination op names ar (diagramOf x) (diagramOf y))) out) z)

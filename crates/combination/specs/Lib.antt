@@ -1,0 +1,3 @@
+-- The public calls of a combination.
+pub mod Finishing
+pub mod Sharing

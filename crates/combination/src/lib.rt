@@ -1,0 +1,125 @@
+// Public calls: sum, product and max of two lent listings, with names apart or shared.
+use apply::Combined;
+use apply::Names;
+use apply::Operation;
+use combine::Joined;
+use refusal::Refusal;
+ghost use mathlib.Core.Path.{_≡_};
+ghost use lib.ListN.{length};
+ghost use Rattle.apply.specs.Combination.{combineAnswer, combineResult};
+ghost use Rattle.apply.specs.declared.Names.the-variants.{Shared};
+ghost use Rattle.combine.specs.declared.Joined.the-variants.{At};
+ghost use Rattle.combine.specs.Calls.{Callable, Answered};
+ghost use Rattle.combination.specs.Finishing.{Finishable, Finished};
+ghost use Rattle.combination.specs.Sharing.{few, Operands, SharedIn};
+ghost use Rattle.diagram.specs.Sizes.{mostPairs};
+
+// Pairs that room is first made for, and the words of such a plan.
+const FEW: usize = 256;
+
+const FEW_WORDS: usize = 1280;
+// Words of a plan of 4,096 pairs.
+const PLAN_WORDS: usize = 20480;
+
+// Writes the result that the first rows of the space are, unless they are too many.
+fn finish_rows(rows: usize, pairs: usize, space: &[u64], out: &mut [u64]) -> Combined
+    requires { ⌜ Finishable (At 0 rows pairs) (now space) (now out) ⌝ }
+    ensures { λ q. ⌜ Finished (At 0 rows pairs) (now (space .entry)) (now (out .entry)) q (now (out .exit)) ⌝ }
+{
+    if rows > diagram::ROWS {
+        return Combined::Refused(Refusal::Space);
+    }
+    write::copy(space, rows, out);
+    Combined::Done(rows, pairs)
+}
+
+// Writes the result of a combination in an empty space, or says why there is none.
+fn finish(r: Joined, space: &[u64], out: &mut [u64]) -> Combined
+    requires { ⌜ Finishable r (now space) (now out) ⌝ }
+    ensures { λ q. ⌜ Finished r (now (space .entry)) (now (out .entry)) q (now (out .exit)) ⌝ }
+{
+    match r {
+        Joined::At(_, rows, pairs) => finish_rows(rows, pairs, space, out),
+        Joined::TooManyPairs => Combined::Refused(Refusal::Pairs),
+        Joined::TooHighValue => Combined::Refused(Refusal::Value),
+        Joined::NoRoom => Combined::Refused(Refusal::Space),
+    }
+}
+
+// Combines the roots of two listings in an empty working space, with room for few pairs.
+fn shared_few(op: Operation, arities: &[u64], x: &[u64], y: &[u64], work: &mut [u64]) -> Joined
+    requires { ⌜ Operands (now arities) (now x) (now y) (now work) ⌝ }
+    ensures { λ r. ⌜ SharedIn op few (now (x .entry)) (now (y .entry)) (now (work .entry)) r (now (work .exit)) ⌝ }
+{
+    let mut plan = [0u64; FEW_WORDS];
+    let mut index = [0u16; plan::BUCKETS];
+    let mut heads = [0u16; table::BUCKETS];
+    let mut links = [0u16; diagram::SPACE_ROWS];
+    let i = x.len() / 3 - 1;
+    let j = y.len() / 3 - 1;
+    combine::join_listings(
+        x,
+        y,
+        &mut plan,
+        &mut index,
+        FEW,
+        i,
+        j,
+        op,
+        work,
+        &mut heads,
+        &mut links,
+        0,
+    )
+}
+
+// The same, with room for all pairs that a call may have.
+fn shared_many(op: Operation, arities: &[u64], x: &[u64], y: &[u64], work: &mut [u64]) -> Joined
+    requires { ⌜ Operands (now arities) (now x) (now y) (now work) ⌝ }
+    ensures { λ r. ⌜ SharedIn op mostPairs (now (x .entry)) (now (y .entry)) (now (work .entry)) r (now (work .exit)) ⌝ }
+{
+    let mut plan = [0u64; PLAN_WORDS];
+    let mut index = [0u16; plan::BUCKETS];
+    let mut heads = [0u16; table::BUCKETS];
+    let mut links = [0u16; diagram::SPACE_ROWS];
+    let i = x.len() / 3 - 1;
+    let j = y.len() / 3 - 1;
+    combine::join_listings(
+        x,
+        y,
+        &mut plan,
+        &mut index,
+        diagram::PAIRS,
+        i,
+        j,
+        op,
+        work,
+        &mut heads,
+        &mut links,
+        0,
+    )
+}
+
+// Combines two listings with names shared. Most calls have few pairs: room for these is tried first, since clearing room for all costs more than their walk.
+fn combine_shared(
+    op: Operation,
+    arities: &[u64],
+    x: &[u64],
+    y: &[u64],
+    out: &mut [u64],
+    work: &mut [u64],
+) -> Combined
+    requires { ⌜ Callable (now arities) (now x) (now y) (now out) (now work) ⌝ }
+    ensures { λ r. ⌜ Answered op Shared (now (arities .entry)) (now (x .entry)) (now (y .entry)) (now (out .entry)) r (now (out .exit)) ⌝ }
+{
+    let r = shared_few(op, arities, x, y, work);
+    match r {
+        Joined::TooManyPairs => {
+            let q = shared_many(op, arities, x, y, work);
+            finish(q, work, out)
+        }
+        Joined::At(i, rows, pairs) => finish(Joined::At(i, rows, pairs), work, out),
+        Joined::TooHighValue => finish(Joined::TooHighValue, work, out),
+        Joined::NoRoom => finish(Joined::NoRoom, work, out),
+    }
+}
