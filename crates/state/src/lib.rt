@@ -38,13 +38,13 @@ pub struct Objects {
 const FREE: u64 = 18446744073709551615;
 // Terms are numbered below this, which is the number of none.
 const NONE: usize = 64;
-// Constants, the numbers past the last of them and of the parameters, and the first variable's.
+// Constants are numbered below this,
 const CONSTANTS: usize = 16;
-
+// parameters from here
 const PARAMETERS: usize = 16;
-
+// to here,
 const PARAMETERS_END: usize = 20;
-
+// variables from here on.
 const VARIABLES: usize = 32;
 // Buckets of the index of facts.
 const BUCKETS: usize = 2048;

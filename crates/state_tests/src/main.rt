@@ -1,6 +1,5 @@
-// Tests of the value call: each answer on a line of its own, a value or a refusal's number.
+// Tests of the value call: each on a line of its own, by its number in the text below, with the value or the refusal's number.
 use libc::STDOUT_FILENO;
-use refusal::Refusal;
 use state::Valued;
 
 const LEAF: u64 = 4294967295;
@@ -22,6 +21,11 @@ const S_FIRST_TO_FOURTH: u64 = 75634851;
 const CONSTANTS_EQUAL: u64 = 4096;
 
 const CONSTANT_IS_VARIABLE: u64 = 131072;
+
+// A predicate of arity 0 that no label names: its fact says nothing.
+const OTHER: u64 = 31;
+// More than any object.
+const MOST: u64 = 18446744073709551615;
 
 const ARITIES: [u64; 32] = [
     2,
@@ -58,149 +62,57 @@ const ARITIES: [u64; 32] = [
     0,
 ];
 
-fn show(answer: Valued) {
+fn show(number: u64, answer: Valued) {
+    io::print_decimal(STDOUT_FILENO, number);
     match answer {
         Valued::Value(x) => {
-            io::write_all(STDOUT_FILENO, b"value ");
+            io::write_all(STDOUT_FILENO, b" value ");
             io::print_decimal(STDOUT_FILENO, x);
         }
         Valued::Refused(why) => {
-            io::write_all(STDOUT_FILENO, b"refused ");
+            io::write_all(STDOUT_FILENO, b" refused ");
             io::print_decimal(STDOUT_FILENO, why.number());
         }
     }
     io::write_all(STDOUT_FILENO, b"\n");
 }
 
-fn named(name: &[u8], answer: Valued) {
-    io::write_all(STDOUT_FILENO, name);
-    io::write_all(STDOUT_FILENO, b": ");
-    show(answer);
-}
-
-// A listing of one test, with a leaf for true and one for false.
-fn test(label: u64, yes: u64, no: u64) -> [u64; 9] {
-    [LEAF, yes, 0, LEAF, no, 0, label, 0, 1]
-}
-
-fn few_objects() {
+fn valued(number: u64, words: &[u64], n: u64, constants: &[u64], facts: &[u64]) {
     let arities = ARITIES;
-    let none = [0u64; 0];
-    let leaf = [LEAF, 7, 0];
-    named(b"a leaf", state::value(&arities, &leaf, 1, &none, &none));
-    let constant = test(P_CONSTANT, 10, 4);
-    let fact = [1, 0, 9, 9, 9];
-    named(
-        b"no variable, true",
-        state::value(&arities, &constant, 2, &none, &fact),
-    );
-    named(
-        b"no variable, false",
-        state::value(&arities, &constant, 2, &none, &none),
-    );
-    named(
-        b"no variable, most objects",
-        state::value(&arities, &constant, 18446744073709551615, &none, &fact),
-    );
-    let variable = test(P_VARIABLE, 10, 4);
-    let last = [1, 2, 0, 0, 0];
-    named(
-        b"a variable, the last object",
-        state::value(&arities, &variable, 3, &none, &last),
-    );
-    named(
-        b"a variable, no object",
-        state::value(&arities, &variable, 3, &none, &none),
-    );
-    let low = test(P_VARIABLE, 4, 10);
-    named(
-        b"a variable, false is higher",
-        state::value(&arities, &low, 3, &none, &last),
-    );
-    named(
-        b"one object, true",
-        state::value(&arities, &low, 1, &none, &fact),
-    );
-    named(
-        b"one object, false",
-        state::value(&arities, &low, 1, &none, &none),
-    );
-    let repeated = [1, 0, 0, 0, 0, 1, 2, 0, 0, 0, 1, 0, 0, 0, 0, 1, 2, 0, 0, 0];
-    named(
-        b"repeated facts",
-        state::value(&arities, &low, 3, &none, &repeated),
-    );
-    let all = [1, 2, 0, 0, 0, 1, 1, 0, 0, 0, 1, 0, 0, 0, 0, 1, 1, 0, 0, 0];
-    named(
-        b"all true, in another order",
-        state::value(&arities, &low, 3, &none, &all),
-    );
-    let part = [1, 0, 0, 0, 0, 1, 2, 0, 0];
-    named(
-        b"a part of a row names no fact",
-        state::value(&arities, &variable, 3, &none, &part),
-    );
+    show(number, state::value(&arities, words, n, constants, facts));
 }
 
-fn equalities() {
-    let arities = ARITIES;
-    let none = [0u64; 0];
-    let equal = test(CONSTANTS_EQUAL, 10, 4);
-    let shared = [1, 1];
-    named(
-        b"two constants on one object",
-        state::value(&arities, &equal, 2, &shared, &none),
-    );
-    let apart = [1, 0];
-    named(
-        b"two constants apart",
-        state::value(&arities, &equal, 2, &apart, &none),
-    );
-    let is = test(CONSTANT_IS_VARIABLE, 4, 10);
-    named(
-        b"a constant and a variable, one object",
-        state::value(&arities, &is, 1, &none, &none),
-    );
-    named(
-        b"a constant and a variable, two",
-        state::value(&arities, &is, 2, &shared, &none),
-    );
-    let back = test(CONSTANT_IS_VARIABLE, 10, 4);
-    named(
-        b"a constant and a variable, equal",
-        state::value(&arities, &back, 1000000, &shared, &none),
-    );
+// A test of one label, with a leaf for true and one for false, in a state of two constants and one fact.
+fn test(
+    number: u64,
+    label: u64,
+    yes: u64,
+    no: u64,
+    n: u64,
+    c0: u64,
+    c1: u64,
+    p: u64,
+    a: u64,
+    b: u64,
+    c: u64,
+    d: u64,
+) {
+    let words = [LEAF, yes, 0, LEAF, no, 0, label, 0, 1];
+    let constants = [c0, c1];
+    let facts = [p, a, b, c, d];
+    valued(number, &words, n, &constants, &facts);
 }
 
-fn arities_of_facts() {
-    let arities = ARITIES;
-    let none = [0u64; 0];
-    let plain = test(R, 10, 4);
-    let fact = [3, 77, 77, 77, 77];
-    named(
-        b"arity 0, true",
-        state::value(&arities, &plain, 1, &none, &fact),
-    );
-    named(
-        b"arity 0, false",
-        state::value(&arities, &plain, 1, &none, &none),
-    );
-    let four = test(S_FIRST_TO_FOURTH, 10, 4);
-    let facts = [4, 0, 1, 1, 0];
-    named(
-        b"arity 4, true",
-        state::value(&arities, &four, 2, &none, &facts),
-    );
-    named(
-        b"arity 4, false",
-        state::value(&arities, &four, 2, &none, &none),
-    );
+// A variable tested by p, in a state of facts of p.
+fn many(number: u64, yes: u64, no: u64, facts: &[u64]) {
+    let words = [LEAF, yes, 0, LEAF, no, 0, P_VARIABLE, 0, 1];
+    let constants = [0, 0];
+    valued(number, &words, 3, &constants, facts);
 }
 
-fn valuations() {
-    let arities = ARITIES;
-    let none = [0u64; 0];
-    let six = [
+// Six variables, and a seventh.
+fn six(number: u64, n: u64, o: u64) {
+    let words = [
         LEAF,
         9,
         0,
@@ -217,7 +129,13 @@ fn valuations() {
         2,
         3,
     ];
-    let seven = [
+    let constants = [0, 0];
+    let facts = [2, o, 0, 0, 0, 4, o, o, o, o];
+    valued(number, &words, n, &constants, &facts);
+}
+
+fn seven(number: u64, n: u64) {
+    let words = [
         LEAF,
         9,
         0,
@@ -240,124 +158,115 @@ fn valuations() {
         4,
         5,
     ];
-    let facts = [2, 9, 8, 0, 0, 4, 9, 9, 9, 9];
-    named(
-        b"six variables of ten objects",
-        state::value(&arities, &six, 10, &none, &facts),
+    let constants = [0, 0];
+    let facts = [OTHER, 0, 0, 0, 0];
+    valued(number, &words, n, &constants, &facts);
+}
+
+fn no_variable() {
+    // true, false, most objects
+    test(1, P_CONSTANT, 10, 4, 2, 0, 0, 1, 0, 9, 9, 9);
+    test(2, P_CONSTANT, 10, 4, 2, 0, 0, OTHER, 0, 0, 0, 0);
+    test(3, P_CONSTANT, 10, 4, MOST, 0, 0, 1, 0, 9, 9, 9);
+    // two constants on one object, and apart
+    test(4, CONSTANTS_EQUAL, 10, 4, 2, 1, 1, OTHER, 0, 0, 0, 0);
+    test(5, CONSTANTS_EQUAL, 10, 4, 2, 1, 0, OTHER, 0, 0, 0, 0);
+    // arity 0
+    test(6, R, 10, 4, 1, 0, 0, 3, 77, 77, 77, 77);
+    test(7, R, 10, 4, 1, 0, 0, OTHER, 0, 0, 0, 0);
+}
+
+fn variables() {
+    // the last object, no object, all but the last, one object true, one object false
+    test(11, P_VARIABLE, 10, 4, 3, 0, 0, 1, 2, 0, 0, 0);
+    test(12, P_VARIABLE, 10, 4, 3, 0, 0, OTHER, 0, 0, 0, 0);
+    test(13, P_VARIABLE, 4, 10, 3, 0, 0, 1, 2, 0, 0, 0);
+    test(14, P_VARIABLE, 4, 10, 1, 0, 0, 1, 0, 0, 0, 0);
+    test(15, P_VARIABLE, 4, 10, 1, 0, 0, OTHER, 0, 0, 0, 0);
+    // a constant and a variable: one object, two, a million
+    test(16, CONSTANT_IS_VARIABLE, 4, 10, 1, 0, 0, OTHER, 0, 0, 0, 0);
+    test(17, CONSTANT_IS_VARIABLE, 4, 10, 2, 1, 0, OTHER, 0, 0, 0, 0);
+    test(
+        18,
+        CONSTANT_IS_VARIABLE,
+        10,
+        4,
+        1000000,
+        999999,
+        0,
+        OTHER,
+        0,
+        0,
+        0,
+        0,
     );
-    named(
-        b"six variables of eleven",
-        state::value(&arities, &six, 11, &none, &facts),
-    );
-    named(
-        b"seven variables of ten",
-        state::value(&arities, &seven, 10, &none, &facts),
-    );
-    named(
-        b"seven variables of one",
-        state::value(&arities, &seven, 1, &none, &none),
-    );
-    named(
-        b"seven variables of two",
-        state::value(&arities, &seven, 2, &none, &none),
-    );
-    let one = test(P_VARIABLE, 10, 4);
-    named(
-        b"one variable of a million",
-        state::value(&arities, &one, 1000000, &none, &facts),
-    );
-    named(
-        b"one variable of one more",
-        state::value(&arities, &one, 1000001, &none, &facts),
-    );
-    named(
-        b"one variable of most",
-        state::value(&arities, &one, 18446744073709551615, &none, &facts),
-    );
+}
+
+fn valuations() {
+    // arity 4
+    test(21, S_FIRST_TO_FOURTH, 10, 4, 2, 0, 0, 4, 0, 1, 1, 0);
+    test(22, S_FIRST_TO_FOURTH, 10, 4, 2, 0, 0, OTHER, 0, 0, 0, 0);
+    // 10^6 valuations, and more
+    six(23, 10, 9);
+    six(24, 11, 9);
+    seven(25, 10);
+    seven(26, 1);
+    seven(27, 2);
+    test(28, P_VARIABLE, 10, 4, 1000001, 0, 0, OTHER, 0, 0, 0, 0);
+    test(29, P_VARIABLE, 10, 4, MOST, 0, 0, OTHER, 0, 0, 0, 0);
 }
 
 fn refusals() {
-    let arities = ARITIES;
-    let none = [0u64; 0];
-    let parameter = test(P_PARAMETER, 10, 4);
-    named(
-        b"a parameter",
-        state::value(&arities, &parameter, 1, &none, &none),
-    );
-    let turned = test(P_CONSTANT, 4, 4);
-    named(
-        b"two equal leaves",
-        state::value(&arities, &turned, 1, &none, &none),
-    );
-    let constant = test(P_CONSTANT, 10, 4);
-    named(
-        b"no arity list",
-        state::value(&none, &constant, 1, &none, &none),
-    );
-    named(b"no words", state::value(&arities, &none, 1, &none, &none));
-    named(
-        b"no objects",
-        state::value(&arities, &constant, 0, &none, &none),
-    );
-    let placed = [2];
-    named(
-        b"a constant at n",
-        state::value(&arities, &constant, 2, &placed, &none),
-    );
-    named(
-        b"a constant below n",
-        state::value(&arities, &constant, 3, &placed, &none),
-    );
-    let fact = [1, 2, 0, 0, 0];
-    named(
-        b"a fact's object at n",
-        state::value(&arities, &constant, 2, &none, &fact),
-    );
-    let unused = [1, 0, 2, 2, 2];
-    named(
-        b"an unused object at n",
-        state::value(&arities, &constant, 2, &none, &unused),
-    );
-    named(
-        b"range before unbound",
-        state::value(&arities, &parameter, 0, &none, &none),
-    );
-    named(
-        b"listing before range",
-        state::value(&arities, &turned, 0, &none, &none),
-    );
+    // a parameter; two equal leaves; no objects; a constant at n; a fact's object at n
+    test(31, P_PARAMETER, 10, 4, 1, 0, 0, OTHER, 0, 0, 0, 0);
+    test(32, P_CONSTANT, 4, 4, 1, 0, 0, OTHER, 0, 0, 0, 0);
+    test(33, P_CONSTANT, 10, 4, 0, 0, 0, OTHER, 0, 0, 0, 0);
+    test(34, P_CONSTANT, 10, 4, 2, 0, 2, OTHER, 0, 0, 0, 0);
+    test(35, P_CONSTANT, 10, 4, 2, 0, 0, 1, 2, 0, 0, 0);
+    // unused objects at n are no objects; range comes before unbound, listing before range
+    test(36, P_CONSTANT, 10, 4, 2, 0, 0, 1, 0, 2, 2, 2);
+    test(37, P_PARAMETER, 10, 4, 0, 0, 0, OTHER, 0, 0, 0, 0);
+    test(38, P_CONSTANT, 4, 4, 0, 0, 0, OTHER, 0, 0, 0, 0);
 }
 
-// A fact behind the indexed rows is found.
-fn many_facts() {
-    let arities = ARITIES;
+fn empty() {
     let none = [0u64; 0];
-    let mut facts = [0u64; 20500];
-    let variable = test(P_VARIABLE, 10, 4);
-    named(
-        b"many facts, none of p",
-        state::value(&arities, &variable, 3, &none, &facts),
-    );
-    facts[20495] = 1;
-    facts[20496] = 2;
-    named(
-        b"many facts, the last of p",
-        state::value(&arities, &variable, 3, &none, &facts),
-    );
-    facts[20495] = 0;
+    let leaf = [LEAF, 7, 0];
+    // a leaf; no words; no arity list
+    valued(41, &leaf, 1, &none, &none);
+    valued(42, &none, 1, &none, &none);
+    show(43, state::value(&none, &leaf, 1, &none, &none));
+}
+
+fn facts_in_turn() {
+    // repeated facts; all true, in another order; a part of a row names no fact
+    let repeated = [1, 0, 0, 0, 0, 1, 2, 0, 0, 0, 1, 0, 0, 0, 0, 1, 2, 0, 0, 0];
+    many(51, 4, 10, &repeated);
+    let all = [1, 2, 0, 0, 0, 1, 1, 0, 0, 0, 1, 0, 0, 0, 0, 1, 1, 0, 0, 0];
+    many(52, 4, 10, &all);
+    let part = [1, 0, 0, 0, 0, 1, 1, 0, 0, 0, 1, 2, 0, 0];
+    many(53, 4, 10, &part);
+}
+
+// The last indexed row and the one behind it are found.
+fn many_facts() {
+    let mut facts = [0u64; 20485];
+    many(61, 10, 4, &facts);
+    facts[20480] = 1;
+    facts[20481] = 2;
+    many(62, 10, 4, &facts);
+    facts[20480] = 0;
     facts[20475] = 1;
     facts[20476] = 1;
-    named(
-        b"many facts, the last indexed of p",
-        state::value(&arities, &variable, 3, &none, &facts),
-    );
+    many(63, 10, 4, &facts);
 }
 
 fn main() {
-    few_objects();
-    equalities();
-    arities_of_facts();
+    no_variable();
+    variables();
     valuations();
     refusals();
+    empty();
+    facts_in_turn();
     many_facts();
 }
