@@ -30,7 +30,7 @@ use Rattle.store.specs.Space.{diagramsOf}
 use Rattle.store.proofs.SpaceLaws.{length-diagrams, written-trees}
 use Rattle.write.specs.declared.Listed.{Listed}
 use Rattle.write.specs.declared.Listed.the-variants.{Rows, TooMany}
-use Rattle.write.specs.Numbering.{Marked, Unmarked, Downward, Numbered}
+use Rattle.write.specs.Numbering.{Marked, Unmarked, Unnumbered, Downward, Numbered}
 use Rattle.write.specs.Writing.{renumbered, listedRows, Renumberable, Emittable, Writable, writeAnswer, writeWords, WritePost}
 use Rattle.write.proofs.NumberLaws.{Place, place-of}
 use Rattle.write.proofs.WriteLaws.{rowWords, renumbered-leaf, renumbered-branch, listed-none, listed-snoc}
@@ -51,14 +51,17 @@ module _ {s : List ℕ} {count root : ℕ} {marks order out : List ℕ} (w : Wri
     children = λ k h e. trees .kids k (omega (arith, w .root-there)) e;
   }
 
-  pub write-start : Marked marks order 0
-  write-start = record {
+  nothing : Marked marks order 0
+  nothing = record {
     mark-places = w .unmarked .places;
     order-places = w .order-places;
     few = zero-le;
     numbered = λ i h. absurd (omega arith);
     marked = λ k i h e. let z = w .unmarked .zeros k h in absurd (omega arith);
   }
+
+  pub write-start : Unnumbered marks order 0 root
+  write-start = record { rows = nothing; none = w .unmarked .zeros root (omega (arith, w .within, w .root-there)) }
 
   module _ {m : ℕ} {marks′ order′ : List ℕ} (x : Numbered s marks order 0 root m marks′ order′) where
     abbrev D : Diagram
