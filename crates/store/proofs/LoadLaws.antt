@@ -22,7 +22,7 @@ use Rattle.label.specs.declared.Atom.{Atom}
 use Rattle.table.specs.declared.Row.{Row as TableRow}
 use Rattle.diagram.specs.Sizes.{mostRows, spaceRows}
 use Rattle.diagram.specs.Diagram.{Diagram, leaf, branch, same, relabel}
-use Rattle.diagram.specs.Rows.{rows}
+use Rattle.diagram.specs.Rows.{onto, rows}
 use Rattle.diagram.specs.Words.{labelAt, highAt, lowAt, rowCount, upTo, isListing}
 use Rattle.diagram.specs.WordLaws.{map-snoc}
 use Rattle.diagram.specs.Listing.{index, diagramOf}
@@ -38,7 +38,7 @@ use Rattle.apply.specs.FormedLaws.{add-mem, add-begins}
 use Rattle.store.specs.declared.Formed.{Formed}
 use Rattle.store.specs.declared.Formed.the-variants.{Row, Full}
 use Rattle.store.specs.Space.{diagramsOf, Holds, standsFor, Formable, a-leaf, a-branch, Formation, addAll}
-use Rattle.store.specs.AddLaws.{add-all-none, add-all-snoc, add-all-more}
+use Rattle.store.specs.AddLaws.{add-all-none, add-all-snoc, add-all-more, add-all-relabelled}
 use Rattle.store.specs.Load.{carried, renamedOf, Carriable, Loadable, Loaded}
 use Rattle.store.proofs.SpaceLaws.{
   length-diagrams,
@@ -51,6 +51,7 @@ use Rattle.store.proofs.SpaceLaws.{
   formation-tree,
   formation-old,
   full-more,
+  holds-closed,
 }
 
 -- a renamed label is a label's number
@@ -294,3 +295,11 @@ module _ {ar ws ts s₀ heads₀ links₀ numbers₀ : List ℕ} {count : ℕ} (
           let r = g .last (pred (rowCount ws)) (omega (arith, is-k, some)) in
           let e = g .each (pred (rowCount ws)) (omega (arith, is-k, some)) in
           rw (r, diagram-is ar ws good) e
+
+-- what `load` ensures, where the map keeps the listing's rows apart and in order: the renamed diagram is put onto the rows
+pub loaded-onto : {ar ws ts s heads links : List ℕ} {count : ℕ} {r : Formed} {s′ heads′ links′ numbers′ : List ℕ} → Holds s heads links count
+    → Loaded ar ws ts s count r s′ heads′ links′ numbers′ → rows (renamedOf ar ts (diagramOf ws)) ≡ map (renamedOf ar ts) (rows (diagramOf ws))
+    → Formation (renamedOf ar ts (diagramOf ws)) (onto (renamedOf ar ts (diagramOf ws)) (diagramsOf s count)) r s′ heads′ links′
+loaded-onto {ar} {ws} {ts} {s} {heads} {links} {count} {r} {s′} {heads′} {links′} h l e =
+    subst (λ (rs : List Diagram). Formation (renamedOf ar ts (diagramOf ws)) rs r s′ heads′ links′)
+    (add-all-relabelled (renamed ar (mapOf ts)) (diagramOf ws) (diagramsOf s count) (holds-closed h) e) (l .formation)

@@ -31,7 +31,7 @@ use Rattle.diagram.specs.ListingLaws.{index-new, index-less, getD-index}
 use Rattle.diagram.specs.Validity.{tree}
 use Rattle.diagram.specs.RowLists.{rowTree, Written, SameRows}
 use Rattle.diagram.specs.RowLaws.{kept-index-is, row-mem}
-use Rattle.diagram.specs.Shown.{reads}
+use Rattle.diagram.specs.Shown.{Shown, reads}
 use Rattle.diagram.specs.WrittenRows.{written-shown, rows-places, written-none, written-leaf, written-branch, leaf-found, branch-found, leaf-missing, branch-missing}
 use Rattle.apply.specs.Apply.{node}
 use Rattle.apply.specs.ApplyLaws.{node-same, node-differ}
@@ -342,3 +342,23 @@ full-more {d} {rs} {s} {heads} {links} e qs f b =
       diagrams = f .diagrams ∙ sym (ap (take spaceRows) (b .whole) ∙ take-append-le spaceRows rs (b .rest) (omega arith));
       holds = f .holds;
     }
+
+-- the rows of a space are shown by their words
+pub written-trees : (s : List ℕ) (count : ℕ) → Written s (diagramsOf s count) → Shown s count (tree s)
+written-trees s count w = record {
+  leaves = λ k h e. sym (at k h) ∙ v .leaves k (up k h) e;
+  branches = λ k h e.
+      let c = v .kids k (up k h) e in
+      sym (at k h) ∙ v .branches k (up k h) e ∙ ap₂ (branch (labelAt s k)) (at (highAt s k) (omega arith)) (at (lowAt s k) (omega arith));
+  kids = λ k h e. v .kids k (up k h) e;
+  inj = λ a b h k e. v .inj a b (up a h) (up b k) (at a h ∙ e ∙ sym (at b k));
+}
+  where
+    v : Shown s (length (diagramsOf s count)) (rowTree (diagramsOf s count))
+    v = written-shown s (diagramsOf s count) w
+
+    up : (k : ℕ) → k < count → k < length (diagramsOf s count)
+    up k h = omega (arith, length-diagrams s count)
+
+    at : (k : ℕ) → k < count → rowTree (diagramsOf s count) k ≡ tree s k
+    at k h = diagram-at s count k h

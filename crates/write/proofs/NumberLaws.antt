@@ -19,7 +19,7 @@ use Rattle.diagram.specs.Sizes.{spaceRows}
 use Rattle.diagram.specs.Words.{labelAt, highAt, lowAt, upTo, finish}
 use Rattle.diagram.specs.WordLaws.{number-test, mem-upTo, length-upTo, finish-old, finish-leaf, finish-branch}
 use Rattle.apply.specs.Snoc.{mem-snoc, mem-more, snoc-cases, nodup-snoc}
-use Rattle.write.specs.Numbering.{Marked, Unmarked, Placeable, Placed, Downward, Numbered}
+use Rattle.write.specs.Numbering.{Marked, Unmarked, Unnumbered, Placeable, Placed, Downward, Numbered}
 
 -- the first n of a list, by place
 pub record Place (xs : List ℕ) (n k : ℕ) : Type 0 where
@@ -164,53 +164,59 @@ module _ {s marks order : List ℕ} {n i : ℕ} (d : Downward s i) (m : Marked m
     above = λ k h. refl;
   }
 
-  module _ (z : w ≡ 0) where
-    none : getD marks i 0 ≡ 0
-    none = sym mk ∙ z
+  pub number-first : w ≡ 0 → Unnumbered marks order n i
+  number-first z = record { rows = m; none = sym mk ∙ z }
 
-    pub leaf-placeable : Placeable marks order n i
-    leaf-placeable = placeable m (d .small) none
+module _ {s marks order : List ℕ} {n i : ℕ} (d : Downward s i) (u : Unnumbered marks order n i) where
+  m : Marked marks order n
+  m = u .rows
 
-    pub number-leaf : getD s (i * 3) 0 ≡ leafMark → {r : ℕ} {marks′ order′ : List ℕ} → Placed marks order n i r marks′ order′
+  none : getD marks i 0 ≡ 0
+  none = u .none
+
+  pub leaf-placeable : Placeable marks order n i
+  leaf-placeable = placeable m (d .small) none
+
+  pub number-leaf : getD s (i * 3) 0 ≡ leafMark → {r : ℕ} {marks′ order′ : List ℕ} → Placed marks order n i r marks′ order′
+      → Numbered s marks order n i r marks′ order′
+  unfolding labelAt
+  number-leaf e {r} {marks′} {order′} p =
+      rw (p .count, p .marks-are, p .order-is) (record { rows = placed m (d .small) none; finished = fin; above = λ k h. getD-set-other marks i k (n + 1) 0 (λ q. omega arith) })
+    where
+      fin : (depth : ℕ) → i < depth → take (n + 1) (set order n i) ≡ finish s depth i (take n order)
+      fin zero h = absurd (omega arith)
+      fin (suc depth) h =
+          rw add-one (take-suc-set order n i (omega (arith, leaf-placeable .room, m .order-places)))
+          ∙ sym (finish-leaf s depth i (take n order) (mark-none m i none) e)
+
+  module _ (e : getD s (i * 3) 0 ≡ leafMark → ⊥) {a : ℕ} {m₁ o₁ : List ℕ} (x : Numbered s marks order n (getD s (i * 3 + 1) 0) a m₁ o₁)
+      {b : ℕ} {m₂ o₂ : List ℕ} (y : Numbered s m₁ o₁ a (getD s (i * 3 + 2) 0) b m₂ o₂) where
+    still : getD m₂ i 0 ≡ 0
+    still = y .above i (less-low d e) ∙ x .above i (less-high d e) ∙ none
+
+    pub branch-placeable : Placeable m₂ o₂ b i
+    branch-placeable = placeable (y .rows) (d .small) still
+
+    pub number-branch : {r : ℕ} {marks′ order′ : List ℕ} → Placed m₂ o₂ b i r marks′ order′
         → Numbered s marks order n i r marks′ order′
-    unfolding labelAt
-    number-leaf e {r} {marks′} {order′} p =
-        rw (p .count, p .marks-are, p .order-is) (record { rows = placed m (d .small) none; finished = fin; above = λ k h. getD-set-other marks i k (n + 1) 0 (λ q. omega arith) })
+    unfolding labelAt highAt lowAt
+    number-branch {r} {marks′} {order′} p =
+        rw (p .count, p .marks-are, p .order-is) (record { rows = placed (y .rows) (d .small) still; finished = fin; above = up })
       where
-        fin : (depth : ℕ) → i < depth → take (n + 1) (set order n i) ≡ finish s depth i (take n order)
+        up : (k : ℕ) → i < k → getD (set m₂ i (b + 1)) k 0 ≡ getD marks k 0
+        up k h =
+            let u = less-low d e in
+            let v = less-high d e in
+            getD-set-other m₂ i k (b + 1) 0 (λ q. omega arith) ∙ y .above k (omega arith) ∙ x .above k (omega arith)
+
+        fin : (depth : ℕ) → i < depth → take (b + 1) (set o₂ b i) ≡ finish s depth i (take n order)
         fin zero h = absurd (omega arith)
         fin (suc depth) h =
-            rw add-one (take-suc-set order n i (omega (arith, leaf-placeable .room, m .order-places)))
-            ∙ sym (finish-leaf s depth i (take n order) (mark-none m i none) e)
-
-    module _ (e : getD s (i * 3) 0 ≡ leafMark → ⊥) {a : ℕ} {m₁ o₁ : List ℕ} (x : Numbered s marks order n (getD s (i * 3 + 1) 0) a m₁ o₁)
-        {b : ℕ} {m₂ o₂ : List ℕ} (y : Numbered s m₁ o₁ a (getD s (i * 3 + 2) 0) b m₂ o₂) where
-      still : getD m₂ i 0 ≡ 0
-      still = y .above i (less-low d e) ∙ x .above i (less-high d e) ∙ none
-
-      pub branch-placeable : Placeable m₂ o₂ b i
-      branch-placeable = placeable (y .rows) (d .small) still
-
-      pub number-branch : {r : ℕ} {marks′ order′ : List ℕ} → Placed m₂ o₂ b i r marks′ order′
-          → Numbered s marks order n i r marks′ order′
-      unfolding labelAt highAt lowAt
-      number-branch {r} {marks′} {order′} p =
-          rw (p .count, p .marks-are, p .order-is) (record { rows = placed (y .rows) (d .small) still; finished = fin; above = up })
-        where
-          up : (k : ℕ) → i < k → getD (set m₂ i (b + 1)) k 0 ≡ getD marks k 0
-          up k h =
-              let u = less-low d e in
-              let v = less-high d e in
-              getD-set-other m₂ i k (b + 1) 0 (λ q. omega arith) ∙ y .above k (omega arith) ∙ x .above k (omega arith)
-
-          fin : (depth : ℕ) → i < depth → take (b + 1) (set o₂ b i) ≡ finish s depth i (take n order)
-          fin zero h = absurd (omega arith)
-          fin (suc depth) h =
-              let u = less-low d e in
-              let v = less-high d e in
-              rw add-one (take-suc-set o₂ b i (omega (arith, branch-placeable .room, y .rows .order-places)))
-              ∙ ap (λ (t : List ℕ). t ++ (i ∷ [])) (y .finished depth (omega arith) ∙ ap (finish s depth (lowAt s i)) (x .finished depth (omega arith)))
-              ∙ sym (finish-branch s depth i (take n order) (mark-none m i none) e)
+            let u = less-low d e in
+            let v = less-high d e in
+            rw add-one (take-suc-set o₂ b i (omega (arith, branch-placeable .room, y .rows .order-places)))
+            ∙ ap (λ (t : List ℕ). t ++ (i ∷ [])) (y .finished depth (omega arith) ∙ ap (finish s depth (lowAt s i)) (x .finished depth (omega arith)))
+            ∙ sym (finish-branch s depth i (take n order) (mark-none m i none) e)
 
 -- the loop of `unmark`: the rows numbered from j on may be marked
 pub record Unmarking (marks order : List ℕ) (m j : ℕ) : Type 0 where

@@ -24,36 +24,16 @@ use Rattle.diagram.specs.Validity.{tree}
 use Rattle.diagram.specs.RowLists.{rowTree, Written}
 use Rattle.diagram.specs.RowLaws.{rows-kept, kept-index-is}
 use Rattle.diagram.specs.Shown.{Shown, agrees, mem-tree}
-use Rattle.diagram.specs.WrittenRows.{written-shown, written-listing-words}
+use Rattle.diagram.specs.WrittenRows.{written-listing-words}
 use Rattle.apply.specs.RowLaws.{rows-onto}
 use Rattle.store.specs.Space.{diagramsOf}
-use Rattle.store.proofs.SpaceLaws.{length-diagrams, diagram-at}
+use Rattle.store.proofs.SpaceLaws.{length-diagrams, written-trees}
 use Rattle.write.specs.declared.Listed.{Listed}
 use Rattle.write.specs.declared.Listed.the-variants.{Rows, TooMany}
-use Rattle.write.specs.Numbering.{Marked, Unmarked, Downward, Numbered}
+use Rattle.write.specs.Numbering.{Marked, Unmarked, Unnumbered, Downward, Numbered}
 use Rattle.write.specs.Writing.{renumbered, listedRows, Renumberable, Emittable, Writable, writeAnswer, writeWords, WritePost}
 use Rattle.write.proofs.NumberLaws.{Place, place-of}
 use Rattle.write.proofs.WriteLaws.{rowWords, renumbered-leaf, renumbered-branch, listed-none, listed-snoc}
-
--- the rows of a space, by number
-pub written-trees : (s : List ℕ) (count : ℕ) → Written s (diagramsOf s count) → Shown s count (tree s)
-written-trees s count w = record {
-  leaves = λ k h e. sym (at k h) ∙ v .leaves k (up k h) e;
-  branches = λ k h e.
-      let c = v .kids k (up k h) e in
-      sym (at k h) ∙ v .branches k (up k h) e ∙ ap₂ (branch (labelAt s k)) (at (highAt s k) (omega arith)) (at (lowAt s k) (omega arith));
-  kids = λ k h e. v .kids k (up k h) e;
-  inj = λ a b h k e. v .inj a b (up a h) (up b k) (at a h ∙ e ∙ sym (at b k));
-}
-  where
-    v : Shown s (length (diagramsOf s count)) (rowTree (diagramsOf s count))
-    v = written-shown s (diagramsOf s count) w
-
-    up : (k : ℕ) → k < count → k < length (diagramsOf s count)
-    up k h = omega (arith, length-diagrams s count)
-
-    at : (k : ℕ) → k < count → rowTree (diagramsOf s count) k ≡ tree s k
-    at k h = diagram-at s count k h
 
 below-at : (m : ℕ) (xs : List ℕ) (i : ℕ) → AllBelow m xs → i < length xs → getD xs i 0 < m
 below-at m [] i a h = absurd (omega arith)
@@ -71,14 +51,17 @@ module _ {s : List ℕ} {count root : ℕ} {marks order out : List ℕ} (w : Wri
     children = λ k h e. trees .kids k (omega (arith, w .root-there)) e;
   }
 
-  pub write-start : Marked marks order 0
-  write-start = record {
+  nothing : Marked marks order 0
+  nothing = record {
     mark-places = w .unmarked .places;
     order-places = w .order-places;
     few = zero-le;
     numbered = λ i h. absurd (omega arith);
     marked = λ k i h e. let z = w .unmarked .zeros k h in absurd (omega arith);
   }
+
+  pub write-start : Unnumbered marks order 0 root
+  write-start = record { rows = nothing; none = w .unmarked .zeros root (omega (arith, w .within, w .root-there)) }
 
   module _ {m : ℕ} {marks′ order′ : List ℕ} (x : Numbered s marks order 0 root m marks′ order′) where
     abbrev D : Diagram

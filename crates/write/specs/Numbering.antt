@@ -22,6 +22,11 @@ pub record Unmarked (marks : List ℕ) : Type 0 where
   pub places : spaceRows ≤ length marks
   pub zeros : (k : ℕ) → k < spaceRows → getD marks k 0 ≡ 0
 
+-- n rows are numbered, and row i is not
+pub record Unnumbered (marks order : List ℕ) (n i : ℕ) : Type 0 where
+  pub rows : Marked marks order n
+  pub none : getD marks i 0 ≡ 0
+
 -- what `place` requires: row i has no number yet, and there is one
 pub record Placeable (marks order : List ℕ) (n i : ℕ) : Type 0 where
   pub rows : Marked marks order n

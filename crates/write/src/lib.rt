@@ -5,7 +5,7 @@ ghost use mathlib.Core.Path.{_≡_};
 ghost use mathlib.Core.List.{_++_};
 ghost use Prim.Native.Nat.{_*_, _≤_};
 ghost use lib.ListN.{length, take, drop};
-ghost use Rattle.write.specs.Numbering.{Marked, Unmarked, Placeable, Placed, Downward, Numbered};
+ghost use Rattle.write.specs.Numbering.{Marked, Unmarked, Unnumbered, Placeable, Placed, Downward, Numbered};
 ghost use Rattle.write.specs.Writing.{renumbered, listedRows, Renumberable, Emittable, Writable, WritePost};
 ghost use Rattle.diagram.specs.Listing.{listing};
 ghost use Rattle.store.specs.Load.{renamedOf};
@@ -27,8 +27,25 @@ fn place(marks: &mut [u16], order: &mut [u16], n: usize, i: usize) -> usize
     n + 1
 }
 
-// Walks from row i, true branch first, where n rows are numbered: numbers the rows as it finishes them, and says how many are numbered then.
-fn number(space: &[u64], marks: &mut [u16], order: &mut [u16], n: usize, i: usize) -> usize
+// Walks from row i, true branch first, where n rows are numbered and row i is not: numbers the rows as it finishes them, and says how many are numbered
+// then.
+pub fn number(space: &[u64], marks: &mut [u16], order: &mut [u16], n: usize, i: usize) -> usize
+    requires { ⌜ Downward (now space) i ⌝ }
+    requires { ⌜ Unnumbered (now marks) (now order) n i ⌝ }
+    ensures { λ r. ⌜ Numbered (now (space .entry)) (now (marks .entry)) (now (order .entry)) n i r (now (marks .exit)) (now (order .exit)) ⌝ }
+{
+    if space[i * 3] == Label::LEAF {
+        return place(marks, order, n, i);
+    }
+    let t = space[i * 3 + 1] as usize;
+    let f = space[i * 3 + 2] as usize;
+    let a = visit(space, marks, order, n, t);
+    let b = visit(space, marks, order, a, f);
+    place(marks, order, b, i)
+}
+
+// The same for a row that may have its number.
+fn visit(space: &[u64], marks: &mut [u16], order: &mut [u16], n: usize, i: usize) -> usize
     requires { ⌜ Downward (now space) i ⌝ }
     requires { ⌜ Marked (now marks) (now order) n ⌝ }
     ensures { λ r. ⌜ Numbered (now (space .entry)) (now (marks .entry)) (now (order .entry)) n i r (now (marks .exit)) (now (order .exit)) ⌝ }
@@ -36,14 +53,7 @@ fn number(space: &[u64], marks: &mut [u16], order: &mut [u16], n: usize, i: usiz
     if basics::wide(marks[i]) != 0 {
         return n;
     }
-    if space[i * 3] == Label::LEAF {
-        return place(marks, order, n, i);
-    }
-    let t = space[i * 3 + 1] as usize;
-    let f = space[i * 3 + 2] as usize;
-    let a = number(space, marks, order, n, t);
-    let b = number(space, marks, order, a, f);
-    place(marks, order, b, i)
+    number(space, marks, order, n, i)
 }
 
 // Takes the marks of the first m rows numbered away.
