@@ -1,0 +1,236 @@
+-- Laws of `combine_moved` and `combine_apart`: both operands' rows are formed as renamed, and their last rows combined.
+use mathlib.Core.Path.{_≡_, refl, sym, ap, _∙_, subst}
+use mathlib.Core.Bool.{true}
+use mathlib.Core.List.{List, []}
+use Prim.Native.Nat.{ℕ, _+_, _≤_, _<_}
+use native.Mathlib.Omega.{arith}
+use mir.Val.{Fits}
+use mir.Syntax.{w64}
+use lib.ListN.{length, replicate, length-replicate}
+use borrow.Author.Tests.{lt-ltb, le-ltb}
+use Rattle.basics.specs.Tests.{Either, one, other}
+use Rattle.basics.specs.Members.{mem, clash}
+use Rattle.label.specs.Limits.{firstVariable, variableCount}
+use Rattle.refusal.specs.declared.Refusal.the-variants.{Variables, Space}
+use Rattle.table.specs.Table.{buckets}
+use Rattle.table.proofs.TableLaws.{clean-made}
+use Rattle.diagram.specs.Sizes.{mostRows, spaceRows}
+use Rattle.diagram.specs.Diagram.{Diagram, same}
+use Rattle.diagram.specs.Rows.{onto}
+use Rattle.diagram.specs.Listing.{listing, diagramOf, Fine, Good}
+use Rattle.diagram.specs.Validity.{tree}
+use Rattle.diagram.specs.Variables.{variables, closedFrom, closed, after}
+use Rattle.diagram.specs.RowLists.{isPart}
+use Rattle.diagram.specs.RowLaws.{onto-mem, onto-from, onto-most, onto-kept, kept-none, row-mem}
+use Rattle.diagram.specs.ListingOfDiagram.{part-fine}
+use Rattle.diagram.specs.DiagramOfListing.{good-diagram}
+use Rattle.listing.specs.Used.{Used, markedVariables}
+use Rattle.listing.specs.UsedLaws.{marked-variables}
+use Rattle.rename.specs.VariableLaws.{variables-few}
+use Rattle.rename.specs.ClosingLaws.{closed-good, after-good}
+use Rattle.apply.specs.declared.Operation.{Operation}
+use Rattle.apply.specs.declared.Names.the-variants.{Apart}
+use Rattle.apply.specs.declared.Combined.{Combined}
+use Rattle.apply.specs.declared.Combined.the-variants.{Refused}
+use Rattle.apply.specs.Apply.{apply}
+use Rattle.apply.specs.RowLaws.{onto-begins}
+use Rattle.apply.specs.Snoc.{Begins}
+use Rattle.apply.specs.Combination.{operate, combination, operandRows, diagramAnswer, written}
+use Rattle.apply.specs.CombinationLaws.{rows-formed, diagrams-variables}
+use Rattle.store.specs.declared.Formed.{Formed}
+use Rattle.store.specs.declared.Formed.the-variants.{Row, Full}
+use Rattle.store.specs.Space.{diagramsOf, Formation}
+use Rattle.store.proofs.SpaceLaws.{length-diagrams, diagram-at, diagrams-none, holds-none, formation-row, formation-full, formation-tree, formation-old}
+use Rattle.combine.specs.Calls.{Callable, Answered}
+use Rattle.apart.specs.Operands.{Enterable, Separable}
+use Rattle.apart.specs.Results.{Joinable, resultAnswer, joinedAnswer, JoinedUp}
+
+-- the laws of closing up and moving apart by name
+closed-is : (ar : List ℕ) (d : Diagram) → closedFrom ar firstVariable d ≡ closed ar d
+unfolding closed
+closed-is ar d = refl
+
+after-is : (ar : List ℕ) (a b : Diagram) → closedFrom ar (firstVariable + length (variables ar a)) b ≡ after ar a b
+unfolding after
+after-is ar a b = refl
+
+-- what is left of the checks once the variables are counted
+answer-joined : (op : Operation) (ar : List ℕ) (a b : Diagram) → length (variables ar a) + length (variables ar b) ≤ variableCount
+    → joinedAnswer op ar (closed ar a) (after ar a b) (operandRows Apart ar a b) ≡ diagramAnswer op Apart ar a b
+unfolding joinedAnswer resultAnswer diagramAnswer combination
+answer-joined op ar a b h = rw (le-ltb variableCount (length (variables ar a) + length (variables ar b)) h, rows-formed op Apart ar a b)
+
+result-is : (op : Operation) (ar : List ℕ) (a b : Diagram) → closed ar (apply (operate op) (closed ar a) (after ar a b)) ≡ combination op Apart ar a b
+unfolding combination
+result-is op ar a b = refl
+
+-- `combine_moved`
+module _ {ar x y usedX usedY : List ℕ} {first : ℕ} {out work : List ℕ} (g : Separable ar x y usedX usedY first out work) where
+  abbrev D : Diagram
+  D = diagramOf x
+
+  abbrev E : Diagram
+  E = diagramOf y
+
+  -- the operands as renamed
+  abbrev A : Diagram
+  A = closed ar D
+
+  abbrev B : Diagram
+  B = after ar D E
+
+  good-x : Good ar D
+  good-x = good-diagram ar x (g .call .first)
+
+  good-y : Good ar E
+  good-y = good-diagram ar y (g .call .second)
+
+  good-a : Good ar A
+  good-a = closed-good ar D good-x
+
+  good-b : Good ar B
+  good-b = after-good ar D E good-x good-y (g .few)
+
+  few-a : length (onto A []) ≤ mostRows
+  few-a = omega (arith, onto-most A [] kept-none, good-a .few)
+
+  few-b : length (onto B (onto A [])) ≤ spaceRows
+  few-b = omega (arith, few-a, onto-most B (onto A []) (onto-kept A [] kept-none), good-b .few)
+
+  pub moved-first : (n₁ n₂ n₃ : ℕ) → buckets ≤ n₁ → spaceRows ≤ n₂ → mostRows ≤ n₃
+      → Enterable ar x usedX firstVariable work (replicate n₁ 0) (replicate n₂ 0) 0 (replicate n₃ 0)
+  moved-first n₁ n₂ n₃ h k l = record {
+    valid = g .call .first;
+    marks = g .first-marks;
+    low = omega arith;
+    room = omega (arith, variables-few ar D);
+    places = rw length-replicate l;
+    holds = holds-none work (replicate n₁ 0) (replicate n₂ 0) (omega (arith, g .call .work-room)) (rw length-replicate k) (clean-made n₁ h);
+  }
+
+  module _ {r₁ : Formed} {s₁ h₁ l₁ : List ℕ}
+      (f : Formation (closedFrom ar firstVariable D) (onto (closedFrom ar firstVariable D) (diagramsOf work 0)) r₁ s₁ h₁ l₁) where
+    first-formed : Formation A (onto A []) r₁ s₁ h₁ l₁
+    first-formed =
+        subst (λ (d : Diagram). Formation d (onto d []) r₁ s₁ h₁ l₁) (closed-is ar D)
+        (subst (λ (rs : List Diagram). Formation (closedFrom ar firstVariable D) (onto (closedFrom ar firstVariable D) rs) r₁ s₁ h₁ l₁) (diagrams-none work) f)
+
+    pub moved-full : (op : Operation) → r₁ ≡ Full → Answered op Apart ar x y out (Refused Space) out
+    moved-full op e =
+        let z = formation-full (subst (λ (r : Formed). Formation A (onto A []) r s₁ h₁ l₁) e first-formed) in
+        absurd (omega (arith, few-a))
+
+    module _ {i n : ℕ} (e : r₁ ≡ Row i n) where
+      first-row : Formation A (onto A []) (Row i n) s₁ h₁ l₁
+      first-row = subst (λ (r : Formed). Formation A (onto A []) r s₁ h₁ l₁) e first-formed
+
+      first-rows : diagramsOf s₁ n ≡ onto A []
+      first-rows = formation-row first-row .3
+
+      pub moved-second : {numbers : List ℕ} (n₃ : ℕ) → length numbers ≡ n₃ → mostRows ≤ n₃ → Enterable ar y usedY first s₁ h₁ l₁ n numbers
+      moved-second n₃ k h = record {
+        valid = g .call .second;
+        marks = g .second-marks;
+        low = omega (arith, g .first-is);
+        room = omega (arith, g .first-is, g .few);
+        places = omega (arith, k);
+        holds = first-row .holds;
+      }
+
+      module _ {r₂ : Formed} {s₂ h₂ l₂ : List ℕ}
+          (f′ : Formation (closedFrom ar first E) (onto (closedFrom ar first E) (diagramsOf s₁ n)) r₂ s₂ h₂ l₂) where
+        second-formed : Formation B (onto B (onto A [])) r₂ s₂ h₂ l₂
+        second-formed =
+            subst (λ (d : Diagram). Formation d (onto d (onto A [])) r₂ s₂ h₂ l₂) (ap (λ (m : ℕ). closedFrom ar m E) (g .first-is) ∙ after-is ar D E)
+            (subst (λ (rs : List Diagram). Formation (closedFrom ar first E) (onto (closedFrom ar first E) rs) r₂ s₂ h₂ l₂) first-rows f′)
+
+        pub moved-full-2 : (op : Operation) → r₂ ≡ Full → Answered op Apart ar x y out (Refused Space) out
+        moved-full-2 op e′ =
+            let z = formation-full (subst (λ (r : Formed). Formation B (onto B (onto A [])) r s₂ h₂ l₂) e′ second-formed) in
+            absurd (omega (arith, few-b))
+
+        module _ {j m : ℕ} (e′ : r₂ ≡ Row j m) where
+          second-row : Formation B (onto B (onto A [])) (Row j m) s₂ h₂ l₂
+          second-row = subst (λ (r : Formed). Formation B (onto B (onto A [])) r s₂ h₂ l₂) e′ second-formed
+
+          second-rows : diagramsOf s₂ m ≡ onto B (onto A [])
+          second-rows = formation-row second-row .3
+
+          begins : Begins (diagramsOf s₁ n) (onto B (onto A []))
+          begins = rw first-rows (onto-begins B (onto A []))
+
+          second-tree : (j < m) × (tree s₂ j ≡ B)
+          second-tree = formation-tree second-row (onto-mem B (onto A []))
+
+          first-tree : (i < m) × (tree s₂ i ≡ A)
+          first-tree =
+              let t = formation-tree first-row (onto-mem A []) in
+              let o = formation-old second-row s₁ n begins i (t .0) in
+              (o .0, o .1 ∙ t .1)
+
+          -- every row is a part of an operand
+          row-fine : (z : Diagram) → mem same z (onto B (onto A [])) ≡ true → Fine ar z
+          row-fine z h = go (onto-from B z (onto A []) h)
+            where
+              deeper : Either (mem same z []) (isPart z A) → Fine ar z
+              deeper (one q) = clash q refl
+              deeper (other q) = part-fine ar z A (good-a .fine) q
+
+              go : Either (mem same z (onto A [])) (isPart z B) → Fine ar z
+              go (one q) = deeper (onto-from A z [] q)
+              go (other q) = part-fine ar z B (good-b .fine) q
+
+          rows-fine : (k : ℕ) → k < m → Fine ar (tree s₂ k)
+          rows-fine k h =
+              row-fine (tree s₂ k) (rw second-rows at (row-mem (diagramsOf s₂ m) k (tree s₂ k) (omega (arith, length-diagrams s₂ m)) (diagram-at s₂ m k h)))
+
+          pub moved-joinable : Joinable ar s₂ h₂ l₂ m i j out
+          moved-joinable = record {
+            arities = good-x .arities;
+            holds = second-row .holds;
+            first = first-tree .0;
+            second = second-tree .0;
+            fine = rows-fine;
+            first-ordered = rw (first-tree .1) (good-a .ordered);
+            second-ordered = rw (second-tree .1) (good-b .ordered);
+            room = g .call .out-room;
+          }
+
+          pub moved-done : {op : Operation} {r : Combined} {out′ : List ℕ} → JoinedUp op ar (tree s₂ i) (tree s₂ j) (diagramsOf s₂ m) out r out′
+              → Answered op Apart ar x y out r out′
+          moved-done {op} {r} {out′} w =
+              let z : JoinedUp op ar A B (operandRows Apart ar D E) out r out′
+              = subst (λ (rs : List Diagram). JoinedUp op ar A B rs out r out′) second-rows
+              (subst (λ (b : Diagram). JoinedUp op ar A b (diagramsOf s₂ m) out r out′) (second-tree .1)
+              (subst (λ (a : Diagram). JoinedUp op ar a (tree s₂ j) (diagramsOf s₂ m) out r out′) (first-tree .1) w)) in
+              record {
+                answer = z .answer ∙ answer-joined op ar D E (g .few);
+                words = z .words ∙ ap (λ (d : Diagram). written r (listing d) out) (result-is op ar D E);
+              }
+
+-- `combine_apart`
+module _ {ar x y out work : List ℕ} (g : Callable ar x y out work) {usedX usedY : List ℕ} (u : Used ar (diagramOf x) usedX) (v : Used ar (diagramOf y) usedY)
+    {n m : ℕ} (p : n ≡ markedVariables usedX) (q : m ≡ markedVariables usedY) where
+  count-x : n ≡ length (variables ar (diagramOf x))
+  count-x = p ∙ marked-variables ar (diagramOf x) usedX u
+
+  count-y : m ≡ length (variables ar (diagramOf y))
+  count-y = q ∙ marked-variables ar (diagramOf y) usedY v
+
+  pub apart-fits : Fits w64 (n + m)
+  apart-fits = omega (arith, count-x, count-y, variables-few ar (diagramOf x), variables-few ar (diagramOf y))
+
+  pub apart-many : (op : Operation) → variableCount < n + m → Answered op Apart ar x y out (Refused Variables) out
+  apart-many op h = record {
+    answer = sym (diagrams-variables op Apart ar (diagramOf x) (diagramOf y) (lt-ltb variableCount (length (variables ar (diagramOf x)) + length (variables ar (diagramOf y))) (omega (arith, count-x, count-y))));
+    words = refl;
+  }
+
+  pub apart-separable : n + m ≤ variableCount → Separable ar x y usedX usedY (firstVariable + n) out work
+  apart-separable h = record {
+    call = g;
+    first-marks = u;
+    second-marks = v;
+    few = omega (arith, count-x, count-y);
+    first-is = ap (λ (k : ℕ). firstVariable + k) count-x;
+  }

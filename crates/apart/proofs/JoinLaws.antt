@@ -1,0 +1,247 @@
+-- Laws of `join`: two rows of the working space are combined there, and the result is written.
+use mathlib.Core.Path.{_≡_, refl, sym, ap, _∙_, subst}
+use mathlib.Core.Bool.{true, false}
+use mathlib.Core.List.{List}
+use Prim.Native.Nat.{ℕ, suc, _*_, _≤_, _<_}
+use native.Mathlib.Omega.{arith}
+use lib.ListN.{length, replicate, length-replicate, getD-replicate}
+use lib.Dec.{ltb}
+use borrow.Author.Tests.{lt-ltb, le-ltb, ltb-true, ltb-false}
+use Rattle.basics.specs.Tests.{Flag, isTrue, isFalse, flag}
+use Rattle.basics.specs.Members.{mem}
+use Rattle.label.specs.Limits.{leafMark}
+use Rattle.refusal.specs.declared.Refusal.the-variants.{Pairs, Value, Space}
+use Rattle.diagram.specs.Sizes.{spaceRows, mostPairs, highestValue}
+use Rattle.diagram.specs.Diagram.{Diagram, leaf, branch, same}
+use Rattle.diagram.specs.Words.{labelAt, highAt, lowAt}
+use Rattle.diagram.specs.Listing.{index, Fine}
+use Rattle.diagram.specs.ListingLaws.{index-less, getD-index}
+use Rattle.diagram.specs.Validity.{tree}
+use Rattle.diagram.specs.RowLists.{rowTree, Encoded}
+use Rattle.diagram.specs.RowLaws.{onto-mem}
+use Rattle.diagram.specs.Shown.{Shown}
+use Rattle.apply.specs.declared.Operation.{Operation}
+use Rattle.apply.specs.declared.Combined.{Combined}
+use Rattle.apply.specs.declared.Combined.the-variants.{Refused}
+use Rattle.apply.specs.Apply.{apply}
+use Rattle.apply.specs.ApplyLaws.{ordered-apply, reduced-apply}
+use Rattle.apply.specs.GoodLaws.{fine-apply}
+use Rattle.apply.specs.Pairs.{pairs, pairCount, overflows}
+use Rattle.apply.specs.Combination.{operate}
+use Rattle.plan.specs.Walk.{Leads}
+use Rattle.plan.specs.Plan.{buckets}
+use Rattle.plan.specs.PlanLaws.{plan-empty}
+use Rattle.store.specs.Space.{diagramsOf, Holds}
+use Rattle.store.proofs.SpaceLaws.{length-diagrams, diagram-at}
+use Rattle.write.proofs.ResultLaws.{written-trees}
+use Rattle.combine.specs.declared.Joined.{Joined}
+use Rattle.combine.specs.declared.Joined.the-variants.{At, TooManyPairs, TooHighValue, NoRoom}
+use Rattle.combine.specs.RowPairs.{Operand}
+use Rattle.combine.specs.Paired.{Pairable}
+use Rattle.combine.specs.Joining.{rowsAfter, joinAnswer, countAfter, diagramsAfter, Joint}
+use Rattle.apart.specs.Results.{Regular, Writable, resultAnswer, ResultWritten, Joinable, joinedAnswer, JoinedUp}
+
+-- the answers of `join_rows`, taken apart
+record Told (op : Operation) (limit : ℕ) (a b : Diagram) (rs : List Diagram) (k n p : ℕ) : Type 0 where
+  few : pairCount a b ≤ limit
+  calm : overflows (operate op) (pairs a b) ≡ false
+  room : length (rowsAfter op a b rs) ≤ spaceRows
+  row : k ≡ index (apply (operate op) a b) (rowsAfter op a b rs)
+  count : n ≡ length (rowsAfter op a b rs)
+  reached : p ≡ pairCount a b
+
+module _ (op : Operation) (limit : ℕ) (a b : Diagram) (rs : List Diagram) where
+  abbrev Many : Type 0
+  Many = Flag (ltb limit (pairCount a b))
+
+  abbrev High : Type 0
+  High = Flag (overflows (operate op) (pairs a b))
+
+  abbrev Wide : Type 0
+  Wide = Flag (ltb spaceRows (length (rowsAfter op a b rs)))
+
+  abbrev Result : Joined
+  Result = At (index (apply (operate op) a b) (rowsAfter op a b rs)) (length (rowsAfter op a b rs)) (pairCount a b)
+
+  at-told : {k n p : ℕ} → At k n p ≡ joinAnswer op limit a b rs → Told op limit a b rs k n p
+  unfolding joinAnswer
+  at-told {k} {n} {p} e = go (flag (ltb limit (pairCount a b))) (flag (overflows (operate op) (pairs a b))) (flag (ltb spaceRows (length (rowsAfter op a b rs))))
+    where
+      go : Many → High → Wide → Told op limit a b rs k n p
+      go (isTrue x) y z = let w : At k n p ≡ TooManyPairs = rw x at e in absurd (let o : _≡_ {A = ℕ} 0 1 = cc in omega arith)
+      go (isFalse x) (isTrue y) z = let w : At k n p ≡ TooHighValue = rw (x, y) at e in absurd (let o : _≡_ {A = ℕ} 0 1 = cc in omega arith)
+      go (isFalse x) (isFalse y) (isTrue z) = let w : At k n p ≡ NoRoom = rw (x, y, z) at e in absurd (let o : _≡_ {A = ℕ} 0 1 = cc in omega arith)
+      go (isFalse x) (isFalse y) (isFalse z) =
+          let w : At k n p ≡ Result = rw (x, y, z) at e in
+          record { few = ltb-false _ _ x; calm = y; room = ltb-false _ _ z; row = cc; count = cc; reached = cc }
+
+  many-told : TooManyPairs ≡ joinAnswer op limit a b rs → limit < pairCount a b
+  unfolding joinAnswer
+  many-told e = go (flag (ltb limit (pairCount a b))) (flag (overflows (operate op) (pairs a b))) (flag (ltb spaceRows (length (rowsAfter op a b rs))))
+    where
+      go : Many → High → Wide → limit < pairCount a b
+      go (isTrue x) y z = ltb-true _ _ x
+      go (isFalse x) (isTrue y) z = let w : TooManyPairs ≡ TooHighValue = rw (x, y) at e in absurd (let o : _≡_ {A = ℕ} 0 1 = cc in omega arith)
+      go (isFalse x) (isFalse y) (isTrue z) = let w : TooManyPairs ≡ NoRoom = rw (x, y, z) at e in absurd (let o : _≡_ {A = ℕ} 0 1 = cc in omega arith)
+      go (isFalse x) (isFalse y) (isFalse z) = let w : TooManyPairs ≡ Result = rw (x, y, z) at e in absurd (let o : _≡_ {A = ℕ} 0 1 = cc in omega arith)
+
+  high-told : TooHighValue ≡ joinAnswer op limit a b rs → (pairCount a b ≤ limit) × (overflows (operate op) (pairs a b) ≡ true)
+  unfolding joinAnswer
+  high-told e = go (flag (ltb limit (pairCount a b))) (flag (overflows (operate op) (pairs a b))) (flag (ltb spaceRows (length (rowsAfter op a b rs))))
+    where
+      go : Many → High → Wide → (pairCount a b ≤ limit) × (overflows (operate op) (pairs a b) ≡ true)
+      go (isTrue x) y z = let w : TooHighValue ≡ TooManyPairs = rw x at e in absurd (let o : _≡_ {A = ℕ} 0 1 = cc in omega arith)
+      go (isFalse x) (isTrue y) z = (ltb-false _ _ x, y)
+      go (isFalse x) (isFalse y) (isTrue z) = let w : TooHighValue ≡ NoRoom = rw (x, y, z) at e in absurd (let o : _≡_ {A = ℕ} 0 1 = cc in omega arith)
+      go (isFalse x) (isFalse y) (isFalse z) = let w : TooHighValue ≡ Result = rw (x, y, z) at e in absurd (let o : _≡_ {A = ℕ} 0 1 = cc in omega arith)
+
+  wide-told : NoRoom ≡ joinAnswer op limit a b rs → (pairCount a b ≤ limit) × (overflows (operate op) (pairs a b) ≡ false) × (spaceRows < length (rowsAfter op a b rs))
+  unfolding joinAnswer
+  wide-told e = go (flag (ltb limit (pairCount a b))) (flag (overflows (operate op) (pairs a b))) (flag (ltb spaceRows (length (rowsAfter op a b rs))))
+    where
+      go : Many → High → Wide → (pairCount a b ≤ limit) × (overflows (operate op) (pairs a b) ≡ false) × (spaceRows < length (rowsAfter op a b rs))
+      go (isTrue x) y z = let w : NoRoom ≡ TooManyPairs = rw x at e in absurd (let o : _≡_ {A = ℕ} 0 1 = cc in omega arith)
+      go (isFalse x) (isTrue y) z = let w : NoRoom ≡ TooHighValue = rw (x, y) at e in absurd (let o : _≡_ {A = ℕ} 0 1 = cc in omega arith)
+      go (isFalse x) (isFalse y) (isTrue z) = (ltb-false _ _ x, y, ltb-true _ _ z)
+      go (isFalse x) (isFalse y) (isFalse z) = let w : NoRoom ≡ Result = rw (x, y, z) at e in absurd (let o : _≡_ {A = ℕ} 0 1 = cc in omega arith)
+
+-- the laws of `joinedAnswer`
+module _ (op : Operation) (ar : List ℕ) (a b : Diagram) (rs : List Diagram) where
+  answer-pairs : mostPairs < pairCount a b → Refused Pairs ≡ joinedAnswer op ar a b rs
+  unfolding joinedAnswer
+  answer-pairs h = rw (lt-ltb mostPairs (pairCount a b) h)
+
+  answer-value : pairCount a b ≤ mostPairs → overflows (operate op) (pairs a b) ≡ true → Refused Value ≡ joinedAnswer op ar a b rs
+  unfolding joinedAnswer
+  answer-value h e = rw (le-ltb mostPairs (pairCount a b) h, e)
+
+  answer-space : pairCount a b ≤ mostPairs → overflows (operate op) (pairs a b) ≡ false → spaceRows < length (rowsAfter op a b rs) → Refused Space ≡ joinedAnswer op ar a b rs
+  unfolding joinedAnswer
+  answer-space h e l = rw (le-ltb mostPairs (pairCount a b) h, e, lt-ltb spaceRows (length (rowsAfter op a b rs)) l)
+
+  answer-result : pairCount a b ≤ mostPairs → overflows (operate op) (pairs a b) ≡ false → length (rowsAfter op a b rs) ≤ spaceRows
+      → resultAnswer ar (apply (operate op) a b) (pairCount a b) ≡ joinedAnswer op ar a b rs
+  unfolding joinedAnswer
+  answer-result h e l = rw (le-ltb mostPairs (pairCount a b) h, e, le-ltb spaceRows (length (rowsAfter op a b rs)) l)
+
+module _ {ar s heads links : List ℕ} {count i j : ℕ} {out : List ℕ} (g : Joinable ar s heads links count i j out) where
+  trees : Shown s count (tree s)
+  trees = written-trees s count (g .holds .written)
+
+  -- the words of a row
+  label-most : (k : ℕ) → k < count → labelAt s k ≤ leafMark
+  label-most k h = go (rowTree (diagramsOf s count) k) refl (g .holds .written .words k in-rows)
+    where
+      in-rows : k < length (diagramsOf s count)
+      in-rows = omega (arith, length-diagrams s count)
+
+      go : (x : Diagram) → rowTree (diagramsOf s count) k ≡ x → Encoded (diagramsOf s count) x (labelAt s k) (highAt s k) (lowAt s k) → labelAt s k ≤ leafMark
+      go (leaf v) q n = omega (arith, n .0)
+      go (branch l t f) q n = let z = g .holds .written .labels k l t f in-rows q in omega (arith, n .0)
+
+  value-most : (k : ℕ) → k < count → labelAt s k ≡ leafMark → highAt s k ≤ highestValue
+  value-most k h e = subst (Fine ar) (trees .leaves k h e) (g .fine k h)
+
+  operand : (m : ℕ) → m ≤ count → Operand s m (tree s)
+  operand m h = record {
+    shown = record {
+      leaves = λ k l e. trees .leaves k (omega arith) e;
+      branches = λ k l e. trees .branches k (omega arith) e;
+      kids = λ k l e. trees .kids k (omega arith) e;
+      inj = λ a b k l e. trees .inj a b (omega arith) (omega arith) e;
+    };
+    most = λ k l. label-most k (omega arith);
+    values = λ k l e. value-most k (omega arith) e;
+  }
+
+  leads : (k : ℕ) → k < count → Leads s k
+  leads k h = record {
+    room = omega (arith, g .holds .table .words, g .holds .table .within);
+    few = omega (arith, g .holds .table .within);
+    most = λ r l. label-most r (omega arith);
+    high = λ r l e. trees .kids r (omega arith) e .0;
+    low = λ r l e. trees .kids r (omega arith) e .1;
+  }
+
+  pub join-pairable : (n₁ n₂ : ℕ) → mostPairs * 5 ≤ n₁ → buckets ≤ n₂ → Pairable s s (replicate n₁ 0) (replicate n₂ 0) mostPairs i j
+  join-pairable n₁ n₂ h k = record {
+    first = operand (suc i) (omega (arith, g .first));
+    second = operand (suc j) (omega (arith, g .second));
+    leading = record { first = leads i (g .first); second = leads j (g .second) };
+    empty =
+        plan-empty s s (replicate n₁ 0) (replicate n₂ 0) mostPairs (rw length-replicate h) (omega arith)
+        (record { slots = rw length-replicate k; zeros = λ b l. getD-replicate n₂ b 0 0 (omega arith) });
+  }
+
+  module _ {op : Operation} {x : Joined} {s′ h′ l′ hs : List ℕ} (w : Joint op mostPairs (tree s i) (tree s j) s count x s′ h′ l′ hs) where
+    abbrev A : Diagram
+    A = tree s i
+
+    abbrev B : Diagram
+    B = tree s j
+
+    abbrev Rs : List Diagram
+    Rs = diagramsOf s count
+
+    abbrev D : Diagram
+    D = apply (operate op) A B
+
+    pub join-many : x ≡ TooManyPairs → JoinedUp op ar A B Rs out (Refused Pairs) out
+    join-many e = record { answer = answer-pairs op ar A B Rs (many-told op mostPairs A B Rs (sym e ∙ w .answer)); words = refl }
+
+    pub join-high : x ≡ TooHighValue → JoinedUp op ar A B Rs out (Refused Value) out
+    join-high e =
+        let t = high-told op mostPairs A B Rs (sym e ∙ w .answer) in
+        record { answer = answer-value op ar A B Rs (t .0) (t .1); words = refl }
+
+    pub join-full : x ≡ NoRoom → JoinedUp op ar A B Rs out (Refused Space) out
+    join-full e =
+        let t = wide-told op mostPairs A B Rs (sym e ∙ w .answer) in
+        record { answer = answer-space op ar A B Rs (t .0) (t .1) (t .2); words = refl }
+
+    module _ {k n p : ℕ} (e : x ≡ At k n p) where
+      told : Told op mostPairs A B Rs k n p
+      told = at-told op mostPairs A B Rs (sym e ∙ w .answer)
+
+      holds-then : Holds s′ h′ l′ n
+      holds-then = subst (λ (y : Joined). Holds s′ h′ l′ (countAfter count y)) e (w .holds)
+
+      rows-then : diagramsOf s′ n ≡ rowsAfter op A B Rs
+      rows-then = subst (λ (y : Joined). diagramsOf s′ (countAfter count y) ≡ diagramsAfter op A B Rs y) e (w .diagrams)
+
+      result-mem : mem same D (rowsAfter op A B Rs) ≡ true
+      result-mem = onto-mem D Rs
+
+      result-there : k < n
+      result-there = omega (arith, told .row, told .count, index-less D (rowsAfter op A B Rs) result-mem)
+
+      result-tree : tree s′ k ≡ D
+      result-tree =
+          sym (diagram-at s′ n k result-there) ∙ ap (λ (y : List Diagram). rowTree y k) rows-then ∙ ap (rowTree (rowsAfter op A B Rs)) (told .row)
+          ∙ getD-index D (rowsAfter op A B Rs) (leaf 0) result-mem
+
+      result-regular : Regular ar D
+      result-regular = record {
+        arities = g .arities;
+        ordered = ordered-apply (operate op) A B (g .first-ordered) (g .second-ordered);
+        reduced = reduced-apply (operate op) A B;
+        fine = fine-apply (operate op) ar A B (g .fine i (g .first)) (g .fine j (g .second)) (told .calm);
+      }
+
+      pub join-writable : Writable ar s′ n k out
+      join-writable = record {
+        written = holds-then .written;
+        words = holds-then .table .words;
+        within = holds-then .table .within;
+        root-there = result-there;
+        regular = subst (Regular ar) (sym result-tree) result-regular;
+        room = g .room;
+      }
+
+      pub join-done : {r : Combined} {out′ : List ℕ} → ResultWritten ar (tree s′ k) p out r out′ → JoinedUp op ar A B Rs out r out′
+      join-done {r} {out′} z =
+          let y : ResultWritten ar D p out r out′ = subst (λ (d : Diagram). ResultWritten ar d p out r out′) result-tree z in
+          record {
+            answer = y .answer ∙ ap (resultAnswer ar D) (told .reached) ∙ answer-result op ar A B Rs (told .few) (told .calm) (told .room);
+            words = y .words;
+          }

@@ -1,0 +1,4 @@
+pub mod ClosingLaws
+pub mod ResultLaws
+pub mod JoinLaws
+pub mod ApartLaws

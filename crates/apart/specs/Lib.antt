@@ -1,0 +1,3 @@
+-- Combination with names apart (document 01, section 'Combination').
+pub mod Operands
+pub mod Results
