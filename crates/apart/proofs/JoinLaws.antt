@@ -32,8 +32,7 @@ use Rattle.plan.specs.Walk.{Leads}
 use Rattle.plan.specs.Plan.{buckets}
 use Rattle.plan.specs.PlanLaws.{plan-empty}
 use Rattle.store.specs.Space.{diagramsOf, Holds}
-use Rattle.store.proofs.SpaceLaws.{length-diagrams, diagram-at}
-use Rattle.write.proofs.ResultLaws.{written-trees}
+use Rattle.store.proofs.SpaceLaws.{length-diagrams, diagram-at, written-trees}
 use Rattle.combine.specs.declared.Joined.{Joined}
 use Rattle.combine.specs.declared.Joined.the-variants.{At, TooManyPairs, TooHighValue, NoRoom}
 use Rattle.combine.specs.RowPairs.{Operand}

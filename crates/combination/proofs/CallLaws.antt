@@ -1,5 +1,5 @@
 -- The ways out of the public call.
-use mathlib.Core.Path.{_≡_, refl, sym, ap, _∙_}
+use mathlib.Core.Path.{_≡_, refl, sym, ap, subst, _∙_}
 use mathlib.Core.Bool.{Bool, true, false, not, _||_}
 use mathlib.Core.List.{List}
 use Prim.Native.Nat.{ℕ, _≤_, _<_}
@@ -72,3 +72,7 @@ module _ (op : Operation) (names : Names) (ar x y out work : List ℕ) where
               let z : r ≡ combineAnswer op names ar x y (length out) (length work) =
               a .answer ∙ sym (answer-diagrams op names ar x y (length out) (length work) (passed e f) (passed d g) h k) in
               (z, a .words ∙ ap (λ (q : Combined). written q (listing (combination op names ar (diagramOf x) (diagramOf y))) out) z)
+
+          -- the arm of the match that names n
+          pub call-named : {n : Names} → names ≡ n → {r : Combined} {out′ : List ℕ} → Answered op n ar x y out r out′ → Promised op names ar x y out work r out′
+          call-named {n} q {r} {out′} a = call-done (subst (λ (m : Names). Answered op m ar x y out r out′) (sym q) a)

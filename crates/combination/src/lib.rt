@@ -123,3 +123,33 @@ fn combine_shared(
         Joined::NoRoom => finish(Joined::NoRoom, work, out),
     }
 }
+// The sum, product or max of two lent listings, written to `out`; `work` is the working space. Refused: 14 by operand, 18, then 8, 10, 11, 9.
+pub fn combine(
+    op: Operation,
+    names: Names,
+    arities: &[u64],
+    x: &[u64],
+    y: &[u64],
+    out: &mut [u64],
+    work: &mut [u64],
+) -> Combined
+    ensures { λ r. ⌜ r ≡ combineAnswer op names (now (arities .entry)) (now (x .entry)) (now (y .entry)) (length (now (out .entry))) (length (now (work .entry))) ⌝ }
+    ensures { λ r. ⌜ now (out .exit) ≡ combineResult op names (now (arities .entry)) (now (x .entry)) (now (y .entry)) (length (now (work .entry))) (now (out .entry)) ⌝ }
+{
+    if !listing::check(arities, x) {
+        return Combined::Refused(Refusal::Listing);
+    }
+    if !listing::check(arities, y) {
+        return Combined::Refused(Refusal::Listing);
+    }
+    if out.len() < diagram::RESULT_WORDS {
+        return Combined::Refused(Refusal::Buffer);
+    }
+    if work.len() < diagram::SPACE_WORDS {
+        return Combined::Refused(Refusal::Buffer);
+    }
+    match names {
+        Names::Apart => apart::combine_apart(op, arities, x, y, out, work),
+        Names::Shared => combine_shared(op, arities, x, y, out, work),
+    }
+}

@@ -3,56 +3,14 @@ use lib.Dec.{lit≤}
 use borrow.Author.Needs.{needs}
 use Rattle.combination.proofs.shared_few.Statement.{statement}
 use Rattle.combination.proofs.shared_few.Tie as tie
-use Rattle.combination.proofs.shared_few.Reads as reads
-use Rattle.combination.proofs.shared_few.Lts as lts
-use Rattle.combine.proofs.join_listings.Reads as join-listings-reads
 
--- src/lib.rt:57:13
-sub-i : tie.Need-sub-i
-sub-i c = search needs
-
--- src/lib.rt:58:13
-sub-j : tie.Need-sub-j
-sub-j c = search needs
-
--- src/lib.rt:59:34
-slice-aggregate-join-listings : tie.Need-slice-aggregate-join-listings
-slice-aggregate-join-listings c = search needs
-
--- src/lib.rt:59:45
-slice-aggregate-join-listings-2 : tie.Need-slice-aggregate-join-listings-2
-slice-aggregate-join-listings-2 c = search needs
-
--- src/lib.rt:59:78
-slice-aggregate-join-listings-3 : tie.Need-slice-aggregate-join-listings-3
-slice-aggregate-join-listings-3 c = search needs
-
--- src/lib.rt:59:90
-slice-aggregate-join-listings-4 : tie.Need-slice-aggregate-join-listings-4
-slice-aggregate-join-listings-4 c = search needs
-
--- src/lib.rt:59:5
 join-listings-requires : tie.Need-join-listings-requires
 join-listings-requires c κs = (shared-pairable _ 1280 4096 256 (c .before .before .before .before .before .before .before .before .before .pre .first) (c .before .before .before .before .before .before .before .before .before .pre .second) (lit≤ tt) (lit≤ tt) (lit≤ tt), shared-holds _ 2048 2048 (c .before .before .before .before .before .before .before .before .before .pre .room) (lit≤ tt) (lit≤ tt))
 
--- src/lib.rt:49:1
-same-length : tie.Need-same-length
-same-length c = search needs
-
--- src/lib.rt:49:1
 returns : tie.Need-returns
 returns c = shared-in _ _ _ _ _ _ (c .before .before .before .before .before .before .before .before .before .before .before .before .before .before .before .before .pre) (c .before .before .before .before .before .before .join-listings .ensures)
 
 pub shared-few-spec : {M : Type 1} → statement M
 shared-few-spec =
     tie.close
-    (tie.spec
-    sub-i
-    sub-j
-    slice-aggregate-join-listings
-    slice-aggregate-join-listings-2
-    slice-aggregate-join-listings-3
-    slice-aggregate-join-listings-4
-    join-listings-requires
-    same-length
-    returns)
+    (tie.spec (λ c. search needs) (λ c. search needs) (λ c. search needs) (λ c. search needs) (λ c. search needs) (λ c. search needs) join-listings-requires (λ c. search needs) returns)
