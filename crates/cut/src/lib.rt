@@ -9,7 +9,7 @@ ghost use Rattle.diagram.specs.Words.{labelAt};
 ghost use Rattle.diagram.specs.Validity.{tree};
 ghost use Rattle.cut.specs.Paths.{paths};
 ghost use Rattle.cut.specs.Routes.{Rows, Counted, At, Stepped, pathAt, Sided, Entered};
-ghost use Rattle.cut.specs.Search.{slotFits, slotAfter, Slots, Replacing, BindPost, alike, plainWay, equalWay, wayAt, wayCount, TryPost, allKnown, Sorted, Finds, Images, Digits, Met, numberOf, Tabled, SolvePost};
+ghost use Rattle.cut.specs.Search.{slotFits, slotAfter, Slots, Replacing, BindPost, alike, plainWay, equalWay, wayAt, wayCount, TryPost, allKnown, Sorted, Finds, Images, Digits, Met, numberOf, Tabled, SolvePost, termAt, Unplaced, Placing};
 
 // The side of a row on which an edge leaves it.
 pub enum Edge {
@@ -399,4 +399,42 @@ fn path_into(words: &[u64], counts: &[u64], n: usize, k: u64, out: &mut [u32]) -
         j += 1;
     }
     j
+}
+
+// Place m of literals one after the other, four to a literal.
+fn term_at(ord: &[u32], m: usize) -> usize
+    requires { ⌜ m < length (now ord) * 4 ⌝ }
+    ensures { λ r. ⌜ (r ≡ termAt (now (ord .entry)) m) × (r < termBase) ⌝ }
+{
+    let l = wide(ord[m / 4]) / 2;
+    let j = m % 4;
+    if j == 0 {
+        return (l / 262144 % 64) as usize;
+    }
+    if j == 1 {
+        return (l / 4096 % 64) as usize;
+    }
+    if j == 2 {
+        return (l / 64 % 64) as usize;
+    }
+    (l % 64) as usize
+}
+
+// Writes the places, counted from 1, where the terms of the first n literals come first.
+fn first_places(ord: &[u32], n: usize, tab: &mut [u32])
+    requires { ⌜ n ≤ length (now ord) ⌝ }
+    requires { ⌜ n < 256 ⌝ }
+    requires { ⌜ Unplaced (now tab) ⌝ }
+    ensures { λ _. ⌜ Placing (now (ord .entry)) (now (tab .entry)) (now (tab .exit)) (n * 4) ⌝ }
+{
+    let mut m = 0;
+    while m < n * 4 {
+        let t = term_at(ord, m);
+        if wide(tab[t]) > (m + 1) as u64 {
+            tab[t] = (m + 1) as u32;
+            m += 1;
+        } else {
+            m += 1;
+        }
+    }
 }
