@@ -3,3 +3,4 @@ pub mod TargetLaws
 pub mod SolveLaws
 pub mod RouteLaws
 pub mod PlaceLaws
+pub mod CoversLaws
