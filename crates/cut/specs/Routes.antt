@@ -1,9 +1,9 @@
 -- Paths by number, as the code walks them: by the counts of paths of each row.
 use mathlib.Core.Path.{_≡_}
 use mathlib.Core.Bool.{Bool, true, false}
-use mathlib.Core.List.{List, [], _∷_, map}
+use mathlib.Core.List.{List, [], _∷_, _++_, map}
 use Prim.Native.Nat.{ℕ, zero, suc, _+_, _-_, _*_, _≤_, _<_, min}
-use lib.ListN.{length, getD}
+use lib.ListN.{length, getD, take, drop}
 use lib.Dec.{ltb, eqb}
 use Rattle.label.specs.Limits.{leafMark}
 use Rattle.diagram.specs.Diagram.{Diagram, leaf, branch}
@@ -45,7 +45,7 @@ pub record Rows (ws : List ℕ) (n : ℕ) : Type 0 where
   pub room : n * 3 ≤ length ws
   pub few : n ≤ 1024
   pub shown : Shown ws n (tree ws)
-  pub labels : (i : ℕ) → i < n → labelAt ws i ≤ leafMark
+  pub labels : (i : ℕ) → i < n → (labelAt ws i ≡ leafMark → ⊥) → labelAt ws i < 536870912
 
 -- how many paths each of the first m rows has, as far as 256
 pub record Counted (ws counts : List ℕ) (m : ℕ) : Type 0 where
@@ -65,8 +65,32 @@ pub record Stepped (ws : List ℕ) (n i k : ℕ) (s : Here) : Type 0 where
   pub side : Bool
   pub is : pathAt (tree ws i) k ≡ stepBefore (record { from = tree ws i; label = labelAt ws i; side = side }) (pathAt (tree ws (s .row)) (s .rest))
   pub code : s .code ≡ labelAt ws i * 2 + bit side
+  pub small : s .code < 1073741824
 
 -- where a path goes through the row r: 1 by its true edge, 2 by its false edge, 0 not at all
 pub record Sided (r : Diagram) (p : Path) (s : ℕ) : Type 0 where
   pub on-true : through r true p ≡ eqb s 1
   pub on-false : through r false p ≡ eqb s 2
+
+-- the way from row i on path m is the rest of path k of row r
+pub record Rest (ws : List ℕ) (n r k i m : ℕ) : Type 0 where
+  pub at : At ws n i m
+  pub end-same : pathAt (tree ws i) m .end ≡ pathAt (tree ws r) k .end
+
+-- .. and says the same of the row x
+pub record RestOver (ws : List ℕ) (n x r k i m : ℕ) : Type 0 where
+  pub at : At ws n i m
+  pub same : (b : Bool) → through (tree ws x) b (pathAt (tree ws i) m) ≡ through (tree ws x) b (pathAt (tree ws r) k)
+
+-- the first j literals stand behind 64 entries, those of row i on path m are still to come
+pub record Coming (ws : List ℕ) (n r k : ℕ) (out₀ out : List ℕ) (i m j : ℕ) : Type 0 where
+  pub at : At ws n i m
+  pub so-far : take j (drop 64 out) ++ codes (pathAt (tree ws i) m) ≡ codes (pathAt (tree ws r) k)
+  pub length-kept : length out ≡ length out₀
+  pub kept : (t : ℕ) → t < 64 → getD out t 0 ≡ getD out₀ t 0
+
+-- the literals of path k of row r stand behind the 64 entries
+pub record Entered (ws : List ℕ) (r k : ℕ) (out₀ out : List ℕ) (j : ℕ) : Type 0 where
+  pub are : take j (drop 64 out) ≡ codes (pathAt (tree ws r) k)
+  pub few : j < 256
+  pub kept : (t : ℕ) → t < 64 → getD out t 0 ≡ getD out₀ t 0

@@ -205,3 +205,22 @@ pub record SolvePost (ord into tab theta : List ℕ) (n k : ℕ) (r : Bool) (the
   pub answer : (ar T : List ℕ) → Setting ar T ord into tab → Inside T (known tab theta (k * 4))
       → r ≡ matches ar (literalsIn (drop termBase into)) T (segment ord k n) (known tab theta (k * 4))
   pub kept : (v : ℕ) → v < termBase → getD tab v 0 ≤ k * 4 → getD theta′ v 0 ≡ getD theta v 0
+
+-- before any place: what is no variable is 0, variables come late
+abbrev pub late : ℕ
+late = 2000
+
+pub record Unplaced (tab : List ℕ) : Type 0 where
+  pub room : termBase ≤ length tab
+  pub fixed : (v : ℕ) → v < firstVariable → getD tab v 0 ≡ 0
+  pub free : (v : ℕ) → firstVariable ≤ v → v < termBase → getD tab v 0 ≡ late
+
+-- the terms of the places before m have their first places
+pub record Placing (ord tab₀ tab : List ℕ) (m : ℕ) : Type 0 where
+  pub length-kept : length tab ≡ length tab₀
+  pub fixed : (v : ℕ) → v < firstVariable → getD tab v 0 ≡ 0
+  pub free : (v : ℕ) → firstVariable ≤ v → v < termBase → 0 < getD tab v 0
+  pub early : (v : ℕ) → v < termBase → (getD tab v 0 ≡ late → ⊥) → getD tab v 0 ≤ m
+  pub seen : (i : ℕ) → i < m → getD tab (termAt ord i) 0 ≤ i + 1
+  pub only : (i v : ℕ) → i < m → v < termBase → getD tab v 0 ≡ i + 1 → v ≡ termAt ord i
+  pub kept : (v : ℕ) → termBase ≤ v → getD tab v 0 ≡ getD tab₀ v 0

@@ -8,8 +8,8 @@ ghost use Rattle.label.specs.Limits.{termBase, leafMark};
 ghost use Rattle.diagram.specs.Words.{labelAt};
 ghost use Rattle.diagram.specs.Validity.{tree};
 ghost use Rattle.cut.specs.Paths.{paths};
-ghost use Rattle.cut.specs.Routes.{Rows, Counted, At, Stepped};
-ghost use Rattle.cut.specs.Search.{slotFits, slotAfter, Slots, Replacing, BindPost, alike, plainWay, equalWay, wayAt, wayCount, TryPost, allKnown, Sorted, Finds, Images, Digits, Met, numberOf, Tabled, SolvePost};
+ghost use Rattle.cut.specs.Routes.{Rows, Counted, At, Stepped, pathAt, Sided, Entered};
+ghost use Rattle.cut.specs.Search.{slotFits, slotAfter, Slots, Replacing, BindPost, alike, plainWay, equalWay, wayAt, wayCount, TryPost, allKnown, Sorted, Finds, Images, Digits, Met, numberOf, Tabled, SolvePost, termAt, Unplaced, Placing};
 
 // The side of a row on which an edge leaves it.
 pub enum Edge {
@@ -330,5 +330,111 @@ fn step_on(words: &[u64], counts: &[u64], n: usize, i: usize, k: u64) -> Here
         row: words[i * 3 + 2] as usize,
         rest: k - c,
         code: l * 2,
+    }
+}
+
+// The leaf of path k.
+fn leaf_of(words: &[u64], counts: &[u64], n: usize, k: u64) -> u64
+    requires { ⌜ Rows (now words) n ⌝ }
+    requires { ⌜ Counted (now words) (now counts) n ⌝ }
+    requires { ⌜ At (now words) n (n - 1) k ⌝ }
+    ensures { λ r. ⌜ r ≡ pathAt (tree (now (words .entry)) (n - 1)) k .end ⌝ }
+{
+    let mut i = n - 1;
+    let mut m = k;
+    while words[i * 3] != Label::LEAF {
+        let s = step_on(words, counts, n, i, m);
+        i = s.row;
+        m = s.rest;
+    }
+    words[i * 3 + 1]
+}
+
+// Where path k goes through row r: 1 by its true edge, 2 by its false edge, 0 not at all.
+fn side_of(words: &[u64], counts: &[u64], n: usize, k: u64, r: usize) -> u64
+    requires { ⌜ Rows (now words) n ⌝ }
+    requires { ⌜ Counted (now words) (now counts) n ⌝ }
+    requires { ⌜ At (now words) n (n - 1) k ⌝ }
+    requires { ⌜ r < n ⌝ }
+    ensures { λ s. ⌜ Sided (tree (now (words .entry)) r) (pathAt (tree (now (words .entry)) (n - 1)) k) s ⌝ }
+{
+    let mut i = n - 1;
+    let mut m = k;
+    while i > r {
+        if words[i * 3] == Label::LEAF {
+            return 0;
+        }
+        let s = step_on(words, counts, n, i, m);
+        i = s.row;
+        m = s.rest;
+    }
+    if i < r {
+        return 0;
+    }
+    if words[i * 3] == Label::LEAF {
+        return 0;
+    }
+    if m < counts[words[i * 3 + 1] as usize] {
+        return 1;
+    }
+    2
+}
+
+// Writes the literals of path k behind the first 64 entries, and answers how many they are.
+fn path_into(words: &[u64], counts: &[u64], n: usize, k: u64, out: &mut [u32]) -> usize
+    requires { ⌜ Rows (now words) n ⌝ }
+    requires { ⌜ Counted (now words) (now counts) n ⌝ }
+    requires { ⌜ At (now words) n (n - 1) k ⌝ }
+    requires { ⌜ 320 ≤ length (now out) ⌝ }
+    ensures { λ j. ⌜ Entered (now (words .entry)) (n - 1) k (now (out .entry)) (now (out .exit)) j ⌝ }
+{
+    let mut i = n - 1;
+    let mut m = k;
+    let mut j = 0;
+    while words[i * 3] != Label::LEAF {
+        let s = step_on(words, counts, n, i, m);
+        out[64 + j] = s.code as u32;
+        i = s.row;
+        m = s.rest;
+        j += 1;
+    }
+    j
+}
+
+// Place m of literals one after the other, four to a literal.
+fn term_at(ord: &[u32], m: usize) -> usize
+    requires { ⌜ m < length (now ord) * 4 ⌝ }
+    ensures { λ r. ⌜ (r ≡ termAt (now (ord .entry)) m) × (r < termBase) ⌝ }
+{
+    let l = wide(ord[m / 4]) / 2;
+    let j = m % 4;
+    if j == 0 {
+        return (l / 262144 % 64) as usize;
+    }
+    if j == 1 {
+        return (l / 4096 % 64) as usize;
+    }
+    if j == 2 {
+        return (l / 64 % 64) as usize;
+    }
+    (l % 64) as usize
+}
+
+// Writes the places, counted from 1, where the terms of the first n literals come first.
+fn first_places(ord: &[u32], n: usize, tab: &mut [u32])
+    requires { ⌜ n ≤ length (now ord) ⌝ }
+    requires { ⌜ n < 256 ⌝ }
+    requires { ⌜ Unplaced (now tab) ⌝ }
+    ensures { λ _. ⌜ Placing (now (ord .entry)) (now (tab .entry)) (now (tab .exit)) (n * 4) ⌝ }
+{
+    let mut m = 0;
+    while m < n * 4 {
+        let t = term_at(ord, m);
+        if wide(tab[t]) > (m + 1) as u64 {
+            tab[t] = (m + 1) as u32;
+            m += 1;
+        } else {
+            m += 1;
+        }
     }
 }
