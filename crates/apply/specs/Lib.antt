@@ -17,4 +17,3 @@ pub mod FormedLaws
 pub mod Canon
 pub mod GoodLaws
 pub mod CombinationLaws
-pub mod Cases

@@ -7,6 +7,5 @@ pub mod MatchLaws
 pub mod CoverLaws
 pub mod TruthLaws
 pub mod ReduceLaws
-pub mod CutExamples
 pub mod Search
 pub mod Routes

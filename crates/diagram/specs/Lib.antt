@@ -19,4 +19,3 @@ pub mod DiagramOfListing
 pub mod ListingValid
 pub mod ListingOfDiagram
 pub mod Listings
-pub mod ListingExamples

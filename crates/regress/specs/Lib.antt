@@ -18,5 +18,4 @@ pub mod FreeingLaws
 pub mod NextLaws
 pub mod RegressCallLaws
 pub mod FreeCallLaws
-pub mod Cases
 pub mod SpaceLaws
