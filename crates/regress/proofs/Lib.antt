@@ -1,1 +1,3 @@
 pub mod FreeLaws
+pub mod RunLaws
+pub mod StepRunLaws

@@ -8,6 +8,7 @@ pub mod RegressCall
 pub mod Result
 pub mod Parameters
 pub mod Freeing
+pub mod Running
 -- laws
 pub mod CallLaws
 pub mod StepLaws
