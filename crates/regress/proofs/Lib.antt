@@ -1,3 +1,4 @@
 pub mod FreeLaws
 pub mod RunLaws
 pub mod StepRunLaws
+pub mod RowsLaws

@@ -9,6 +9,7 @@ pub mod Result
 pub mod Parameters
 pub mod Freeing
 pub mod Running
+pub mod Tasks
 -- laws
 pub mod CallLaws
 pub mod StepLaws

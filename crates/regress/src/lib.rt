@@ -8,6 +8,7 @@ use refusal::Refusal;
 use store::Formed;
 use table::Row;
 ghost use mathlib.Core.Path.{_≡_};
+ghost use mathlib.Core.Bool.{true};
 ghost use Prim.Native.Nat.{_+_, _-_, _<_, _≤_};
 ghost use lib.ListN.{length};
 ghost use Rattle.diagram.specs.Listing.{diagramOf};
@@ -23,6 +24,10 @@ ghost use Rattle.store.specs.Space.{diagramsOf, Holds, Formation};
 ghost use Rattle.regress.specs.Calls.{combine};
 ghost use Rattle.regress.specs.Step.{testDiagram, rowStep, exchanged};
 ghost use Rattle.regress.specs.Running.{Ready, Two, Three, Ran, Exchangeable, Exchanged, Testable};
+ghost use Rattle.diagram.specs.Words.{isListing};
+ghost use Rattle.label.specs.Renamings.{mapOf};
+ghost use Rattle.regress.specs.Regression.{replacement};
+ghost use Rattle.regress.specs.Tasks.{taskAt, Taskable, taskRun, Tasked, replacedBy, Mapping, toldAs};
 ghost use Rattle.regress.specs.Freeing.{anySet, freeOwn, FreeTask, FreedWith};
 
 // What a regression answers: the result's rows, or why it is refused.
@@ -351,4 +356,98 @@ fn test_step(
         return Stepped::Refused(Refusal::Space, diagram::SPACE_ROWS);
     };
     row_step(plan, index, space, heads, links, n, t, high, low)
+}
+
+// What a row of a lent listing asks for: a leaf with its value, or the row step of its label with the rows of its children's results.
+pub enum Task {
+    Leaf(u64),
+    Branch(u64, usize, usize),
+}
+
+// The task of row k of a listing; `numbers` has the rows of the results before it.
+fn task_at(words: &[u64], numbers: &[u16], k: usize) -> Task
+    requires { ⌜ Taskable (now words) (now numbers) k ⌝ }
+    ensures { λ r. ⌜ r ≡ taskAt (now (words .entry)) (now (numbers .entry)) k ⌝ }
+{
+    let l = words[k * 3];
+    let t = words[k * 3 + 1];
+    let f = words[k * 3 + 2] as usize;
+    if l == Label::LEAF {
+        return Task::Leaf(t);
+    }
+    let high = basics::wide(numbers[t as usize]);
+    let low = basics::wide(numbers[f]);
+    Task::Branch(l, high, low)
+}
+
+// The answer of forming, as that of a step.
+fn told(f: Formed) -> Stepped
+    ensures { λ r. ⌜ r ≡ toldAs f ⌝ }
+{
+    match f {
+        Formed::Row(i, n) => Stepped::Row(i, n),
+        Formed::Full => Stepped::Refused(Refusal::Space, diagram::SPACE_ROWS),
+    }
+}
+
+// The result of a row of a replacement.
+fn replaced_row(
+    arities: &[u64],
+    map: &[u64],
+    task: Task,
+    plan: &mut [u64],
+    index: &mut [u16],
+    space: &mut [u64],
+    heads: &mut [u16],
+    links: &mut [u16],
+    count: usize,
+) -> Stepped
+    requires { ⌜ Mapping (now arities) (now map) ⌝ }
+    requires { ⌜ Tasked (now arities) count task ⌝ }
+    requires { ⌜ Ready (now plan) (now index) (now space) (now heads) (now links) count ⌝ }
+    ensures { λ r. ⌜ Ran (taskRun (replacedBy (now (arities .entry)) (now (map .entry))) (now (space .entry)) task) (now (space .entry)) count r (now (space .exit)) (now (heads .exit)) (now (links .exit)) (now (index .exit)) ⌝ }
+{
+    match task {
+        Task::Leaf(v) => told(store::leaf(space, heads, links, count, v)),
+        Task::Branch(l, high, low) => {
+            let test = Label { packed: l }.moved(arities, map);
+            test_step(plan, index, space, heads, links, count, test, high, low)
+        }
+    }
+}
+
+// A diagram with its terms replaced, built row by row.
+fn replace(
+    arities: &[u64],
+    words: &[u64],
+    map: &[u64],
+    plan: &mut [u64],
+    index: &mut [u16],
+    space: &mut [u64],
+    heads: &mut [u16],
+    links: &mut [u16],
+    count: usize,
+) -> Stepped
+    requires { ⌜ isListing (now arities) (now words) ≡ true ⌝ }
+    requires { ⌜ Mapping (now arities) (now map) ⌝ }
+    requires { ⌜ Ready (now plan) (now index) (now space) (now heads) (now links) count ⌝ }
+    ensures { λ r. ⌜ Ran (replacement (now (arities .entry)) (mapOf (now (map .entry))) (diagramOf (now (words .entry)))) (now (space .entry)) count r (now (space .exit)) (now (heads .exit)) (now (links .exit)) (now (index .exit)) ⌝ }
+{
+    let mut numbers = [0u16; diagram::ROWS];
+    let m = words.len() / 3;
+    let mut n = count;
+    let mut root = 0;
+    let mut k = 0;
+    while k < m {
+        let task = task_at(words, &numbers, k);
+        let r = replaced_row(arities, map, task, plan, index, space, heads, links, n);
+        let Stepped::Row(i, c) = r else {
+            return r;
+        };
+        numbers[k] = i as u16;
+        n = c;
+        root = i;
+        k += 1;
+    }
+    Stepped::Row(root, n)
 }
