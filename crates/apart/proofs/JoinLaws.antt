@@ -12,7 +12,7 @@ use Rattle.basics.specs.Members.{mem}
 use Rattle.label.specs.Limits.{leafMark}
 use Rattle.refusal.specs.declared.Refusal.the-variants.{Pairs, Value, Space}
 use Rattle.diagram.specs.Sizes.{spaceRows, mostPairs, highestValue}
-use Rattle.diagram.specs.Diagram.{Diagram, leaf, branch, same}
+use Rattle.diagram.specs.Diagram.{Diagram, Ordered, leaf, branch, same}
 use Rattle.diagram.specs.Words.{labelAt, highAt, lowAt}
 use Rattle.diagram.specs.Listing.{index, Fine}
 use Rattle.diagram.specs.ListingLaws.{index-less, getD-index}
@@ -162,17 +162,17 @@ module _ {ar s heads links : List ℕ} {count i j : ℕ} {out : List ℕ} (g : J
     low = λ r l e. trees .kids r (omega arith) e .1;
   }
 
-  pub join-pairable : (n₁ n₂ : ℕ) → mostPairs * 5 ≤ n₁ → buckets ≤ n₂ → Pairable s s (replicate n₁ 0) (replicate n₂ 0) mostPairs i j
-  join-pairable n₁ n₂ h k = record {
+  pub join-pairable : (limit n₁ n₂ : ℕ) → limit ≤ mostPairs → limit * 5 ≤ n₁ → buckets ≤ n₂ → Pairable s s (replicate n₁ 0) (replicate n₂ 0) limit i j
+  join-pairable limit n₁ n₂ m h k = record {
     first = operand (suc i) (omega (arith, g .first));
     second = operand (suc j) (omega (arith, g .second));
     leading = record { first = leads i (g .first); second = leads j (g .second) };
     empty =
-        plan-empty s s (replicate n₁ 0) (replicate n₂ 0) mostPairs (rw length-replicate h) (omega arith)
+        plan-empty s s (replicate n₁ 0) (replicate n₂ 0) limit (rw length-replicate h) (omega arith)
         (record { slots = rw length-replicate k; zeros = λ b l. getD-replicate n₂ b 0 0 (omega arith) });
   }
 
-  module _ {op : Operation} {x : Joined} {s′ h′ l′ hs : List ℕ} (w : Joint op mostPairs (tree s i) (tree s j) s count x s′ h′ l′ hs) where
+  module _ {op : Operation} {limit : ℕ} {x : Joined} {s′ h′ l′ hs : List ℕ} (m : limit ≤ mostPairs) (w : Joint op limit (tree s i) (tree s j) s count x s′ h′ l′ hs) where
     abbrev A : Diagram
     A = tree s i
 
@@ -185,22 +185,48 @@ module _ {ar s heads links : List ℕ} {count i j : ℕ} {out : List ℕ} (g : J
     abbrev D : Diagram
     D = apply (operate op) A B
 
-    pub join-many : x ≡ TooManyPairs → JoinedUp op ar A B Rs out (Refused Pairs) out
-    join-many e = record { answer = answer-pairs op ar A B Rs (many-told op mostPairs A B Rs (sym e ∙ w .answer)); words = refl }
+    pub join-many : mostPairs ≤ limit → x ≡ TooManyPairs → JoinedUp op ar A B Rs out (Refused Pairs) out
+    join-many h e = let z = many-told op limit A B Rs (sym e ∙ w .answer) in record { answer = answer-pairs op ar A B Rs (omega arith); words = refl }
 
     pub join-high : x ≡ TooHighValue → JoinedUp op ar A B Rs out (Refused Value) out
     join-high e =
-        let t = high-told op mostPairs A B Rs (sym e ∙ w .answer) in
-        record { answer = answer-value op ar A B Rs (t .0) (t .1); words = refl }
+        let t = high-told op limit A B Rs (sym e ∙ w .answer) in
+        record { answer = answer-value op ar A B Rs (omega (arith, t .0)) (t .1); words = refl }
 
     pub join-full : x ≡ NoRoom → JoinedUp op ar A B Rs out (Refused Space) out
     join-full e =
-        let t = wide-told op mostPairs A B Rs (sym e ∙ w .answer) in
-        record { answer = answer-space op ar A B Rs (t .0) (t .1) (t .2); words = refl }
+        let t = wide-told op limit A B Rs (sym e ∙ w .answer) in
+        record { answer = answer-space op ar A B Rs (omega (arith, t .0)) (t .1) (t .2); words = refl }
+
+    -- where the pairs are above the limit, the space holds what it held, and the call may be made again
+    module _ (e : x ≡ TooManyPairs) where
+      rows-kept : diagramsOf s′ count ≡ Rs
+      rows-kept = subst (λ (y : Joined). diagramsOf s′ (countAfter count y) ≡ diagramsAfter op A B Rs y) e (w .diagrams)
+
+      tree-kept : (k : ℕ) → k < count → tree s k ≡ tree s′ k
+      tree-kept k h = sym (diagram-at s count k h) ∙ ap (λ (y : List Diagram). rowTree y k) (sym rows-kept) ∙ diagram-at s′ count k h
+
+      pub join-again : Joinable ar s′ h′ l′ count i j out
+      join-again = record {
+        arities = g .arities;
+        holds = subst (λ (y : Joined). Holds s′ h′ l′ (countAfter count y)) e (w .holds);
+        first = g .first;
+        second = g .second;
+        fine = λ k h. subst (Fine ar) (tree-kept k h) (g .fine k h);
+        first-ordered = subst Ordered (tree-kept i (g .first)) (g .first-ordered);
+        second-ordered = subst Ordered (tree-kept j (g .second)) (g .second-ordered);
+        room = g .room;
+      }
+
+      pub join-joined : {r : Combined} {out′ : List ℕ} → JoinedUp op ar (tree s′ i) (tree s′ j) (diagramsOf s′ count) out r out′ → JoinedUp op ar A B Rs out r out′
+      join-joined {r} {out′} z =
+          subst (λ (rs : List Diagram). JoinedUp op ar A B rs out r out′) rows-kept
+          (subst (λ (b : Diagram). JoinedUp op ar A b (diagramsOf s′ count) out r out′) (sym (tree-kept j (g .second)))
+          (subst (λ (a : Diagram). JoinedUp op ar a (tree s′ j) (diagramsOf s′ count) out r out′) (sym (tree-kept i (g .first))) z))
 
     module _ {k n p : ℕ} (e : x ≡ At k n p) where
-      told : Told op mostPairs A B Rs k n p
-      told = at-told op mostPairs A B Rs (sym e ∙ w .answer)
+      told : Told op limit A B Rs k n p
+      told = at-told op limit A B Rs (sym e ∙ w .answer)
 
       holds-then : Holds s′ h′ l′ n
       holds-then = subst (λ (y : Joined). Holds s′ h′ l′ (countAfter count y)) e (w .holds)
@@ -241,6 +267,6 @@ module _ {ar s heads links : List ℕ} {count i j : ℕ} {out : List ℕ} (g : J
       join-done {r} {out′} z =
           let y : ResultWritten ar D p out r out′ = subst (λ (d : Diagram). ResultWritten ar d p out r out′) result-tree z in
           record {
-            answer = y .answer ∙ ap (resultAnswer ar D) (told .reached) ∙ answer-result op ar A B Rs (told .few) (told .calm) (told .room);
+            answer = y .answer ∙ ap (resultAnswer ar D) (told .reached) ∙ answer-result op ar A B Rs (omega (arith, told .few)) (told .calm) (told .room);
             words = y .words;
           }

@@ -21,8 +21,12 @@ ghost use Rattle.combine.specs.Calls.{Callable, Answered};
 ghost use Rattle.apart.specs.Operands.{Enterable, Separable};
 ghost use Rattle.apart.specs.Results.{Closable, Writable, ResultWritten, Joinable, JoinedUp};
 
+// Pairs that room is first made for, and the words of such a plan.
+pub const FEW: usize = 256;
+
+pub const FEW_WORDS: usize = 1280;
 // Words of a plan of 4,096 pairs.
-const PLAN_WORDS: usize = 20480;
+pub const PLAN_WORDS: usize = 20480;
 
 // A word for each term.
 const TERMS: usize = 64;
@@ -80,8 +84,8 @@ fn write_result(
     Combined::Done(m, pairs)
 }
 
-// Combines rows i and j of the working space and writes the result, closed up.
-fn join(
+// Combines rows i and j of the working space, with room for all pairs that a call may have, and writes the result, closed up.
+fn join_many(
     op: Operation,
     arities: &[u64],
     i: usize,
@@ -112,6 +116,43 @@ fn join(
     match joined {
         Joined::At(root, rows, pairs) => write_result(arities, space, rows, root, pairs, out),
         Joined::TooManyPairs => Combined::Refused(Refusal::Pairs),
+        Joined::TooHighValue => Combined::Refused(Refusal::Value),
+        Joined::NoRoom => Combined::Refused(Refusal::Space),
+    }
+}
+
+// The same, with room for few pairs first, which suffices for most calls: clearing room for all costs more than their walk.
+fn join(
+    op: Operation,
+    arities: &[u64],
+    i: usize,
+    j: usize,
+    space: &mut [u64],
+    heads: &mut [u16],
+    links: &mut [u16],
+    count: usize,
+    out: &mut [u64],
+) -> Combined
+    requires { ⌜ Joinable (now arities) (now space) (now heads) (now links) count i j (now out) ⌝ }
+    ensures { λ r. ⌜ JoinedUp op (now (arities .entry)) (tree (now (space .entry)) i) (tree (now (space .entry)) j) (diagramsOf (now (space .entry)) count) (now (out .entry)) r (now (out .exit)) ⌝ }
+{
+    let mut plan = [0u64; FEW_WORDS];
+    let mut index = [0u16; plan::BUCKETS];
+    let joined = combine::join_rows(
+        &mut plan,
+        &mut index,
+        FEW,
+        i,
+        j,
+        op,
+        space,
+        heads,
+        links,
+        count,
+    );
+    match joined {
+        Joined::At(root, rows, pairs) => write_result(arities, space, rows, root, pairs, out),
+        Joined::TooManyPairs => { join_many(op, arities, i, j, space, heads, links, count, out) }
         Joined::TooHighValue => Combined::Refused(Refusal::Value),
         Joined::NoRoom => Combined::Refused(Refusal::Space),
     }

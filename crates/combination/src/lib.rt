@@ -14,13 +14,6 @@ ghost use Rattle.combination.specs.Finishing.{Finishable, Finished};
 ghost use Rattle.combination.specs.Sharing.{few, Operands, SharedIn};
 ghost use Rattle.diagram.specs.Sizes.{mostPairs};
 
-// Pairs that room is first made for, and the words of such a plan.
-const FEW: usize = 256;
-
-const FEW_WORDS: usize = 1280;
-// Words of a plan of 4,096 pairs.
-const PLAN_WORDS: usize = 20480;
-
 // Writes the result that the first rows of the space are, unless they are too many.
 fn finish_rows(rows: usize, pairs: usize, space: &[u64], out: &mut [u64]) -> Combined
     requires { ⌜ Finishable (At 0 rows pairs) (now space) (now out) ⌝ }
@@ -51,7 +44,7 @@ fn shared_few(op: Operation, arities: &[u64], x: &[u64], y: &[u64], work: &mut [
     requires { ⌜ Operands (now arities) (now x) (now y) (now work) ⌝ }
     ensures { λ r. ⌜ SharedIn op few (now (x .entry)) (now (y .entry)) (now (work .entry)) r (now (work .exit)) ⌝ }
 {
-    let mut plan = [0u64; FEW_WORDS];
+    let mut plan = [0u64; apart::FEW_WORDS];
     let mut index = [0u16; plan::BUCKETS];
     let mut heads = [0u16; table::BUCKETS];
     let mut links = [0u16; diagram::SPACE_ROWS];
@@ -62,7 +55,7 @@ fn shared_few(op: Operation, arities: &[u64], x: &[u64], y: &[u64], work: &mut [
         y,
         &mut plan,
         &mut index,
-        FEW,
+        apart::FEW,
         i,
         j,
         op,
@@ -78,7 +71,7 @@ fn shared_many(op: Operation, arities: &[u64], x: &[u64], y: &[u64], work: &mut 
     requires { ⌜ Operands (now arities) (now x) (now y) (now work) ⌝ }
     ensures { λ r. ⌜ SharedIn op mostPairs (now (x .entry)) (now (y .entry)) (now (work .entry)) r (now (work .exit)) ⌝ }
 {
-    let mut plan = [0u64; PLAN_WORDS];
+    let mut plan = [0u64; apart::PLAN_WORDS];
     let mut index = [0u16; plan::BUCKETS];
     let mut heads = [0u16; table::BUCKETS];
     let mut links = [0u16; diagram::SPACE_ROWS];
