@@ -1,0 +1,15 @@
+use Rattle.c_library.proofs.CallLaws.{combined-done, combined-refused}
+use borrow.Author.Needs.{needs}
+use Rattle.c_library.proofs.combined.Statement.{statement}
+use Rattle.c_library.proofs.combined.Tie as tie
+
+returns : tie.Need-returns
+returns c = combined-done _ _ (c .before .before .before .before .before .before .before .combine .ensures .0) (c .before .before .before .before .before .before .before .combine .ensures .1) (c .before .answer .given .1)
+
+returns-2 : tie.Need-returns-2
+returns-2 c = combined-refused _ _ (c .before .before .before .before .before .before .before .before .combine .ensures .0) (c .before .before .before .before .before .before .before .before .combine .ensures .1) (c .before .before .answer2 .given .1) (c .number .ensures)
+
+pub combined-spec : {M : Type 1} → statement M
+combined-spec =
+    tie.close
+    (tie.spec (λ c κs. search needs) (λ c. search needs) (λ c. search needs) (λ c κs. search needs) (λ c. search needs) (λ c. search needs) returns (λ c. search needs) (λ c. search needs) returns-2)

@@ -1,0 +1,48 @@
+-- An answer as numbers: 0 for an accepted call and the refusal's number for a refused one; counts and values that a refusal leaves as they were (document 01, section 'Refusals by
+-- trade word').
+use mathlib.Core.Bool.{Bool, true, false}
+use Prim.Native.Nat.{ℕ}
+use Rattle.refusal.specs.Numbers.{numberOf}
+use Rattle.refusal.specs.declared.Refusal.the-variants.{Listing}
+use Rattle.apply.specs.declared.Combined.{Combined}
+use Rattle.apply.specs.declared.Combined.the-variants.{Done as CombinedDone, Refused as CombinedRefused}
+use Rattle.regress.specs.declared.Freed.{Freed}
+use Rattle.regress.specs.declared.Freed.the-variants.{Done as FreedDone, Refused as FreedRefused}
+use Rattle.state.specs.declared.Valued.{Valued}
+use Rattle.state.specs.declared.Valued.the-variants.{Value, Refused as ValuedRefused}
+
+-- a combination: its number, its rows and its pairs
+abbrev pub combinedNumber : Combined → ℕ
+combinedNumber (CombinedDone n p) = 0
+combinedNumber (CombinedRefused r) = numberOf r
+
+abbrev pub combinedRows : Combined → ℕ → ℕ
+combinedRows (CombinedDone n p) before = n
+combinedRows (CombinedRefused r) before = before
+
+abbrev pub combinedPairs : Combined → ℕ → ℕ
+combinedPairs (CombinedDone n p) before = p
+combinedPairs (CombinedRefused r) before = before
+
+-- freeing: its number and its rows
+abbrev pub freedNumber : Freed → ℕ
+freedNumber (FreedDone n) = 0
+freedNumber (FreedRefused r) = numberOf r
+
+abbrev pub freedRows : Freed → ℕ → ℕ
+freedRows (FreedDone n) before = n
+freedRows (FreedRefused r) before = before
+
+-- valuing: its number and the value
+abbrev pub valuedNumber : Valued → ℕ
+valuedNumber (Value v) = 0
+valuedNumber (ValuedRefused r) = numberOf r
+
+abbrev pub valuedValue : Valued → ℕ → ℕ
+valuedValue (Value v) before = v
+valuedValue (ValuedRefused r) before = before
+
+-- the check of a listing
+abbrev pub listingNumber : Bool → ℕ
+listingNumber true = 0
+listingNumber false = numberOf Listing

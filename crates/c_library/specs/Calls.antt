@@ -1,0 +1,29 @@
+-- What each exported call owes: equations for its answer, its counts and its result buffer, in the words of the call behind it.
+use mathlib.Core.Path.{_≡_}
+use mathlib.Core.List.{List}
+use Prim.Native.Nat.{ℕ}
+use lib.ListN.{length}
+use Rattle.apply.specs.declared.Operation.{Operation}
+use Rattle.apply.specs.declared.Names.{Names}
+use Rattle.apply.specs.Combination.{combineAnswer, combineResult}
+use Rattle.regress.specs.RegressCall.{freeAnswer, freeResult}
+use Rattle.state.specs.ValueCall.{valueAnswer}
+use Rattle.c_library.specs.Answers.{combinedNumber, combinedRows, combinedPairs, freedNumber, freedRows, valuedNumber, valuedValue}
+
+-- a combination of x and y; r is the answer, and a dash marks what is lent after the call
+pub record Combines (op : Operation) (names : Names) (ar x y out work : List ℕ) (rows pairs r : ℕ) (out′ : List ℕ) (rows′ pairs′ : ℕ) : Type 0 where
+  pub answer : r ≡ combinedNumber (combineAnswer op names ar x y (length out) (length work))
+  pub buffer : out′ ≡ combineResult op names ar x y (length work) out
+  pub row-count : rows′ ≡ combinedRows (combineAnswer op names ar x y (length out) (length work)) rows
+  pub pair-count : pairs′ ≡ combinedPairs (combineAnswer op names ar x y (length out) (length work)) pairs
+
+-- freeing the parameters of an action that has `count` of them
+pub record Frees (ar words : List ℕ) (count : ℕ) (out work : List ℕ) (rows r : ℕ) (out′ : List ℕ) (rows′ : ℕ) : Type 0 where
+  pub answer : r ≡ freedNumber (freeAnswer ar words count (length out) (length work))
+  pub buffer : out′ ≡ freeResult ar words count (length work) out
+  pub row-count : rows′ ≡ freedRows (freeAnswer ar words count (length out) (length work)) rows
+
+-- valuing a listing in a state of n objects
+pub record Values (ar words : List ℕ) (n : ℕ) (constants facts : List ℕ) (value r value′ : ℕ) : Type 0 where
+  pub answer : r ≡ valuedNumber (valueAnswer ar words n constants facts)
+  pub highest : value′ ≡ valuedValue (valueAnswer ar words n constants facts) value

@@ -1,0 +1,249 @@
+// The engine's calls for C, over memory that the caller lends; include/yindolve.h describes them. Each answers 0, or the number of the refusal.
+use apply::Combined;
+use apply::Names;
+use apply::Operation;
+use refusal::Refusal;
+use regress::Freed;
+use state::Valued;
+ghost use mathlib.Core.Path.{_≡_};
+ghost use Rattle.diagram.specs.Words.{isListing};
+ghost use Rattle.apply.specs.declared.Operation.the-variants.{Sum, Product, Max};
+ghost use Rattle.apply.specs.declared.Names.the-variants.{Apart, Shared};
+ghost use Rattle.c_library.specs.Answers.{listingNumber};
+ghost use Rattle.c_library.specs.Calls.{Combines, Frees, Values};
+
+// Whether the words are a listing under the arity list: 0, or 14.
+#[no_mangle]
+pub extern "C" fn yindolve_check(arities: &[u64], words: &[u64]) -> u64
+    ensures { λ r. ⌜ r ≡ listingNumber (isListing (now (arities .entry)) (now (words .entry))) ⌝ }
+{
+    if listing::check(arities, words) {
+        return 0;
+    }
+    Refusal::Listing.number()
+}
+
+// A combination, its answer as numbers.
+fn combined(
+    op: Operation,
+    names: Names,
+    arities: &[u64],
+    first: &[u64],
+    second: &[u64],
+    result: &mut [u64],
+    work: &mut [u64],
+    rows: &mut u64,
+    pairs: &mut u64,
+) -> u64
+    ensures { λ r. ⌜ Combines op names (now (arities .entry)) (now (first .entry)) (now (second .entry)) (now (result .entry)) (now (work .entry)) (now (rows .entry)) (now (pairs .entry)) r (now (result .exit)) (now (rows .exit)) (now (pairs .exit)) ⌝ }
+{
+    let answer = combination::combine(op, names, arities, first, second, result, work);
+    match answer {
+        Combined::Done(n, p) => {
+            *rows = n as u64;
+            *pairs = p as u64;
+            0
+        }
+        Combined::Refused(why) => why.number(),
+    }
+}
+
+// The sum of two listings, names apart.
+#[no_mangle]
+pub extern "C" fn yindolve_sum_apart(
+    arities: &[u64],
+    first: &[u64],
+    second: &[u64],
+    result: &mut [u64],
+    work: &mut [u64],
+    rows: &mut u64,
+    pairs: &mut u64,
+) -> u64
+    ensures { λ r. ⌜ Combines Sum Apart (now (arities .entry)) (now (first .entry)) (now (second .entry)) (now (result .entry)) (now (work .entry)) (now (rows .entry)) (now (pairs .entry)) r (now (result .exit)) (now (rows .exit)) (now (pairs .exit)) ⌝ }
+{
+    combined(
+        Operation::Sum,
+        Names::Apart,
+        arities,
+        first,
+        second,
+        result,
+        work,
+        rows,
+        pairs,
+    )
+}
+
+// The sum of two listings, names shared.
+#[no_mangle]
+pub extern "C" fn yindolve_sum_shared(
+    arities: &[u64],
+    first: &[u64],
+    second: &[u64],
+    result: &mut [u64],
+    work: &mut [u64],
+    rows: &mut u64,
+    pairs: &mut u64,
+) -> u64
+    ensures { λ r. ⌜ Combines Sum Shared (now (arities .entry)) (now (first .entry)) (now (second .entry)) (now (result .entry)) (now (work .entry)) (now (rows .entry)) (now (pairs .entry)) r (now (result .exit)) (now (rows .exit)) (now (pairs .exit)) ⌝ }
+{
+    combined(
+        Operation::Sum,
+        Names::Shared,
+        arities,
+        first,
+        second,
+        result,
+        work,
+        rows,
+        pairs,
+    )
+}
+
+// The product of two listings, names apart.
+#[no_mangle]
+pub extern "C" fn yindolve_product_apart(
+    arities: &[u64],
+    first: &[u64],
+    second: &[u64],
+    result: &mut [u64],
+    work: &mut [u64],
+    rows: &mut u64,
+    pairs: &mut u64,
+) -> u64
+    ensures { λ r. ⌜ Combines Product Apart (now (arities .entry)) (now (first .entry)) (now (second .entry)) (now (result .entry)) (now (work .entry)) (now (rows .entry)) (now (pairs .entry)) r (now (result .exit)) (now (rows .exit)) (now (pairs .exit)) ⌝ }
+{
+    combined(
+        Operation::Product,
+        Names::Apart,
+        arities,
+        first,
+        second,
+        result,
+        work,
+        rows,
+        pairs,
+    )
+}
+
+// The product of two listings, names shared.
+#[no_mangle]
+pub extern "C" fn yindolve_product_shared(
+    arities: &[u64],
+    first: &[u64],
+    second: &[u64],
+    result: &mut [u64],
+    work: &mut [u64],
+    rows: &mut u64,
+    pairs: &mut u64,
+) -> u64
+    ensures { λ r. ⌜ Combines Product Shared (now (arities .entry)) (now (first .entry)) (now (second .entry)) (now (result .entry)) (now (work .entry)) (now (rows .entry)) (now (pairs .entry)) r (now (result .exit)) (now (rows .exit)) (now (pairs .exit)) ⌝ }
+{
+    combined(
+        Operation::Product,
+        Names::Shared,
+        arities,
+        first,
+        second,
+        result,
+        work,
+        rows,
+        pairs,
+    )
+}
+
+// The max of two listings, names apart.
+#[no_mangle]
+pub extern "C" fn yindolve_max_apart(
+    arities: &[u64],
+    first: &[u64],
+    second: &[u64],
+    result: &mut [u64],
+    work: &mut [u64],
+    rows: &mut u64,
+    pairs: &mut u64,
+) -> u64
+    ensures { λ r. ⌜ Combines Max Apart (now (arities .entry)) (now (first .entry)) (now (second .entry)) (now (result .entry)) (now (work .entry)) (now (rows .entry)) (now (pairs .entry)) r (now (result .exit)) (now (rows .exit)) (now (pairs .exit)) ⌝ }
+{
+    combined(
+        Operation::Max,
+        Names::Apart,
+        arities,
+        first,
+        second,
+        result,
+        work,
+        rows,
+        pairs,
+    )
+}
+
+// The max of two listings, names shared.
+#[no_mangle]
+pub extern "C" fn yindolve_max_shared(
+    arities: &[u64],
+    first: &[u64],
+    second: &[u64],
+    result: &mut [u64],
+    work: &mut [u64],
+    rows: &mut u64,
+    pairs: &mut u64,
+) -> u64
+    ensures { λ r. ⌜ Combines Max Shared (now (arities .entry)) (now (first .entry)) (now (second .entry)) (now (result .entry)) (now (work .entry)) (now (rows .entry)) (now (pairs .entry)) r (now (result .exit)) (now (rows .exit)) (now (pairs .exit)) ⌝ }
+{
+    combined(
+        Operation::Max,
+        Names::Shared,
+        arities,
+        first,
+        second,
+        result,
+        work,
+        rows,
+        pairs,
+    )
+}
+
+// Frees the parameters of an action that has `count` of them.
+#[no_mangle]
+pub extern "C" fn yindolve_free(
+    arities: &[u64],
+    words: &[u64],
+    count: u64,
+    result: &mut [u64],
+    work: &[u64],
+    rows: &mut u64,
+) -> u64
+    ensures { λ r. ⌜ Frees (now (arities .entry)) (now (words .entry)) count (now (result .entry)) (now (work .entry)) (now (rows .entry)) r (now (result .exit)) (now (rows .exit)) ⌝ }
+{
+    let answer = regress::free(arities, words, count, result, work);
+    match answer {
+        Freed::Done(n) => {
+            *rows = n as u64;
+            0
+        }
+        Freed::Refused(why) => why.number(),
+    }
+}
+
+// The value of a listing in a state of n objects.
+#[no_mangle]
+pub extern "C" fn yindolve_value(
+    arities: &[u64],
+    words: &[u64],
+    objects: u64,
+    constants: &[u64],
+    facts: &[u64],
+    value: &mut u64,
+) -> u64
+    ensures { λ r. ⌜ Values (now (arities .entry)) (now (words .entry)) objects (now (constants .entry)) (now (facts .entry)) (now (value .entry)) r (now (value .exit)) ⌝ }
+{
+    let answer = state::value(arities, words, objects, constants, facts);
+    match answer {
+        Valued::Value(v) => {
+            *value = v;
+            0
+        }
+        Valued::Refused(why) => why.number(),
+    }
+}
