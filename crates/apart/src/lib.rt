@@ -22,9 +22,9 @@ ghost use Rattle.apart.specs.Operands.{Enterable, Separable};
 ghost use Rattle.apart.specs.Results.{Closable, Writable, ResultWritten, Joinable, JoinedUp};
 
 // Pairs that room is first made for, and the words of such a plan.
-pub const FEW: usize = 256;
+pub const FEW: usize = 320;
 
-pub const FEW_WORDS: usize = 1280;
+pub const FEW_WORDS: usize = 1600;
 // Words of a plan of 4,096 pairs.
 pub const PLAN_WORDS: usize = 20480;
 
@@ -121,7 +121,8 @@ fn join_many(
     }
 }
 
-// The same, with room for few pairs first, which suffices for most calls: clearing room for all costs more than their walk.
+// The same, with room for few pairs first, which suffices for most calls: clearing room for all costs more than their walk. Each row of an operand is met in a
+// pair, so that rows enough for two listings of few rows mean more pairs.
 fn join(
     op: Operation,
     arities: &[u64],
@@ -136,6 +137,9 @@ fn join(
     requires { ⌜ Joinable (now arities) (now space) (now heads) (now links) count i j (now out) ⌝ }
     ensures { λ r. ⌜ JoinedUp op (now (arities .entry)) (tree (now (space .entry)) i) (tree (now (space .entry)) j) (diagramsOf (now (space .entry)) count) (now (out .entry)) r (now (out .exit)) ⌝ }
 {
+    if count > 2 * FEW {
+        return join_many(op, arities, i, j, space, heads, links, count, out);
+    }
     let mut plan = [0u64; FEW_WORDS];
     let mut index = [0u16; plan::BUCKETS];
     let joined = combine::join_rows(

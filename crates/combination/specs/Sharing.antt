@@ -13,7 +13,7 @@ use Rattle.combine.specs.declared.Joined.{Joined}
 
 -- the pairs that room is first made for
 abbrev pub few : ℕ
-few = 256
+few = 320
 
 -- two listings, and a working space
 pub record Operands (ar x y work : List ℕ) : Type 0 where

@@ -93,7 +93,24 @@ fn shared_many(op: Operation, arities: &[u64], x: &[u64], y: &[u64], work: &mut 
     )
 }
 
-// Combines two listings with names shared. Most calls have few pairs: room for these is tried first, since clearing room for all costs more than their walk.
+// Combines two listings with names shared, with room for all pairs.
+fn combine_many(
+    op: Operation,
+    arities: &[u64],
+    x: &[u64],
+    y: &[u64],
+    out: &mut [u64],
+    work: &mut [u64],
+) -> Combined
+    requires { ⌜ Callable (now arities) (now x) (now y) (now out) (now work) ⌝ }
+    ensures { λ r. ⌜ Answered op Shared (now (arities .entry)) (now (x .entry)) (now (y .entry)) (now (out .entry)) r (now (out .exit)) ⌝ }
+{
+    let r = shared_many(op, arities, x, y, work);
+    finish(r, work, out)
+}
+
+// The same, with room for few pairs first, which suffices for most calls: clearing room for all costs more than their walk. Each row of an operand is met in a
+// pair, so that a listing of more rows has more pairs.
 fn combine_shared(
     op: Operation,
     arities: &[u64],
@@ -105,17 +122,21 @@ fn combine_shared(
     requires { ⌜ Callable (now arities) (now x) (now y) (now out) (now work) ⌝ }
     ensures { λ r. ⌜ Answered op Shared (now (arities .entry)) (now (x .entry)) (now (y .entry)) (now (out .entry)) r (now (out .exit)) ⌝ }
 {
+    if x.len() / 3 > apart::FEW {
+        return combine_many(op, arities, x, y, out, work);
+    }
+    if y.len() / 3 > apart::FEW {
+        return combine_many(op, arities, x, y, out, work);
+    }
     let r = shared_few(op, arities, x, y, work);
     match r {
-        Joined::TooManyPairs => {
-            let q = shared_many(op, arities, x, y, work);
-            finish(q, work, out)
-        }
+        Joined::TooManyPairs => combine_many(op, arities, x, y, out, work),
         Joined::At(i, rows, pairs) => finish(Joined::At(i, rows, pairs), work, out),
         Joined::TooHighValue => finish(Joined::TooHighValue, work, out),
         Joined::NoRoom => finish(Joined::NoRoom, work, out),
     }
 }
+
 // The sum, product or max of two lent listings, written to `out`; `work` is the working space. Refused: 14 by operand, 18, then 8, 10, 11, 9.
 pub fn combine(
     op: Operation,

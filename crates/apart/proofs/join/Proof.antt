@@ -6,40 +6,40 @@ use Rattle.apart.proofs.join.Tie as tie
 
 join-rows-requires : tie.Need-join-rows-requires
 join-rows-requires c κs =
-    let g = c .before .before .before .before .before .before .before .before .before .before .pre in
-    (join-pairable g 256 1280 4096 (lit≤ tt) (lit≤ tt) (lit≤ tt), g .holds)
+    let g = c .before .before .before .before .before .before .before .before .before .before .before .pre in
+    (join-pairable g 320 1600 4096 (lit≤ tt) (lit≤ tt) (lit≤ tt), g .holds)
 
 write-result-requires : tie.Need-write-result-requires
 write-result-requires c κs =
     let j = c .before .before .before .before .before .before .before .before .before .before .before .before .before in
-    join-writable (j .before .before .before .before .before .before .before .before .before .before .before .pre) (lit≤ tt) (j .join-rows .ensures) (c .before .before .before .joined .given .1)
+    join-writable (j .before .before .before .before .before .before .before .before .before .before .before .before .pre) (lit≤ tt) (j .join-rows .ensures) (c .before .before .before .joined .given .1)
 
-join-many-requires : tie.Need-join-many-requires
-join-many-requires c κs =
+join-many-requires-2 : tie.Need-join-many-requires-2
+join-many-requires-2 c κs =
     let j = c .before .before .before .before .before .before .before .before .before .before .before .before .before .before in
-    join-again (j .before .before .before .before .before .before .before .before .before .before .before .pre) (lit≤ tt) (j .join-rows .ensures) (c .before .before .before .before .enum-told .given .1)
-
-returns : tie.Need-returns
-returns c =
-    let j = c .before .before .before .before .before .before .before .before .before .before .before .before .before .before .before .before in
-    join-done (j .before .before .before .before .before .before .before .before .before .before .before .pre) (lit≤ tt) (j .join-rows .ensures) (c .before .before .before .before .before .before .joined .given .1) (c .before .before .write-result .ensures)
+    join-again (j .before .before .before .before .before .before .before .before .before .before .before .before .pre) (lit≤ tt) (j .join-rows .ensures) (c .before .before .before .before .enum-told .given .1)
 
 returns-2 : tie.Need-returns-2
 returns-2 c =
-    let j = c .before .before .before .before .before .before .before .before .before .before .before .before .before .before .before .before .before .before .before .before .before .before .before in
-    join-joined (j .before .before .before .before .before .before .before .before .before .before .before .pre) (lit≤ tt) (j .join-rows .ensures) (c .before .before .before .before .before .before .before .before .before .before .before .before .before .enum-told .given .1) (c .before .before .before .before .before .before .before .before .join-many .ensures)
+    let j = c .before .before .before .before .before .before .before .before .before .before .before .before .before .before .before .before in
+    join-done (j .before .before .before .before .before .before .before .before .before .before .before .before .pre) (lit≤ tt) (j .join-rows .ensures) (c .before .before .before .before .before .before .joined .given .1) (c .before .before .write-result .ensures)
 
 returns-3 : tie.Need-returns-3
 returns-3 c =
-    let j = c .before .before .before .before .before .before .before .before .before .before in
-    join-high (j .before .before .before .before .before .before .before .before .before .before .before .pre) (lit≤ tt) (j .join-rows .ensures) (c .enum-told2 .given .1)
+    let j = c .before .before .before .before .before .before .before .before .before .before .before .before .before .before .before .before .before .before .before .before .before .before .before in
+    join-joined (j .before .before .before .before .before .before .before .before .before .before .before .before .pre) (lit≤ tt) (j .join-rows .ensures) (c .before .before .before .before .before .before .before .before .before .before .before .before .before .enum-told .given .1) (c .before .before .before .before .before .before .before .before .join-many2 .ensures)
 
 returns-4 : tie.Need-returns-4
 returns-4 c =
     let j = c .before .before .before .before .before .before .before .before .before .before in
-    join-full (j .before .before .before .before .before .before .before .before .before .before .before .pre) (lit≤ tt) (j .join-rows .ensures) (c .enum-told3 .given .1)
+    join-high (j .before .before .before .before .before .before .before .before .before .before .before .before .pre) (lit≤ tt) (j .join-rows .ensures) (c .enum-told2 .given .1)
+
+returns-5 : tie.Need-returns-5
+returns-5 c =
+    let j = c .before .before .before .before .before .before .before .before .before .before in
+    join-full (j .before .before .before .before .before .before .before .before .before .before .before .before .pre) (lit≤ tt) (j .join-rows .ensures) (c .enum-told3 .given .1)
 
 pub join-spec : {M : Type 1} → statement M
 join-spec =
     tie.close
-    (tie.spec (λ c. search needs) (λ c. search needs) join-rows-requires (λ c. search needs) write-result-requires (λ c. search needs) join-many-requires (λ c. search needs) (λ c. search needs) (λ c. search needs) (λ c. search needs) (λ c. search needs) (λ c. search needs) returns (λ c. search needs) (λ c. search needs) (λ c. search needs) (λ c. search needs) returns-2 (λ c. search needs) (λ c. search needs) (λ c. search needs) returns-3 (λ c. search needs) (λ c. search needs) (λ c. search needs) returns-4)
+    (tie.spec (λ c. search needs) (λ c κs. search needs) (λ c. search needs) (λ c. search needs) (λ c. search needs) (λ c. search needs) (λ c. search needs) (λ c. search needs) (λ c. search needs) join-rows-requires (λ c. search needs) write-result-requires (λ c. search needs) join-many-requires-2 (λ c. search needs) (λ c. search needs) (λ c. search needs) (λ c. search needs) (λ c. search needs) (λ c. search needs) returns-2 (λ c. search needs) (λ c. search needs) (λ c. search needs) (λ c. search needs) returns-3 (λ c. search needs) (λ c. search needs) (λ c. search needs) returns-4 (λ c. search needs) (λ c. search needs) (λ c. search needs) returns-5)
