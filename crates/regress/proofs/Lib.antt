@@ -2,3 +2,4 @@ pub mod FreeLaws
 pub mod RunLaws
 pub mod StepRunLaws
 pub mod RowsLaws
+pub mod TruthLaws

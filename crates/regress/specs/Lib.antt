@@ -10,6 +10,7 @@ pub mod Parameters
 pub mod Freeing
 pub mod Running
 pub mod Tasks
+pub mod Keeping
 pub mod Regressing
 -- laws
 pub mod CallLaws

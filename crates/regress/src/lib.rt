@@ -1,6 +1,7 @@
 // Regression and freeing of diagrams. What they are stands in specs/.
 use apply::Operation;
 use combine::Joined;
+use label::Atom;
 use label::Label;
 use label::Term;
 use label::Test;
@@ -10,12 +11,12 @@ use table::Row;
 ghost use mathlib.Core.Path.{_≡_};
 ghost use mathlib.Core.Bool.{true};
 ghost use Prim.Native.Nat.{_+_, _-_, _<_, _≤_};
-ghost use lib.ListN.{length};
+ghost use lib.ListN.{length, getD, take, drop};
 ghost use Rattle.diagram.specs.Listing.{diagramOf};
 ghost use Rattle.rename.specs.Freeing.{freed, Freeable};
 ghost use Rattle.regress.specs.Calls.{ok};
 ghost use Rattle.regress.specs.RegressCall.{writtenAs, freeAnswer, freeResult};
-ghost use Rattle.label.specs.Limits.{leafMark};
+ghost use Rattle.label.specs.Limits.{leafMark, predicateCount};
 ghost use Rattle.diagram.specs.Diagram.{leaf, branch};
 ghost use Rattle.diagram.specs.Rows.{onto};
 ghost use Rattle.diagram.specs.Validity.{tree};
@@ -26,8 +27,11 @@ ghost use Rattle.regress.specs.Step.{testDiagram, rowStep, exchanged};
 ghost use Rattle.regress.specs.Running.{Ready, Two, Three, Ran, Exchangeable, Exchanged, Testable};
 ghost use Rattle.diagram.specs.Words.{isListing};
 ghost use Rattle.label.specs.Renamings.{mapOf};
-ghost use Rattle.regress.specs.Regression.{replacement};
-ghost use Rattle.regress.specs.Tasks.{taskAt, Taskable, taskRun, Tasked, replacedBy, Mapping, toldAs};
+ghost use Rattle.label.specs.Labels.{termsOf, unpacked};
+ghost use Rattle.regress.specs.Regression.{argument, replacement};
+ghost use Rattle.regress.specs.Tasks.{taskAt, Taskable, taskRun, Tasked, replacedBy, Mapping, toldAs, usedPlaces, Usable, Arguable, Argued};
+ghost use Rattle.regress.specs.RegressCall.{truthsOf, truthWords};
+ghost use Rattle.regress.specs.Keeping.{hasTruth, formedTruth, Asking};
 ghost use Rattle.regress.specs.Freeing.{anySet, freeOwn, FreeTask, FreedWith};
 
 // What a regression answers: the result's rows, or why it is refused.
@@ -450,4 +454,163 @@ fn replace(
         k += 1;
     }
     Stepped::Row(root, n)
+}
+
+// What replaces the term t, where the arguments of a predicate of arity n become the places of an atom.
+fn argument_term(a: Atom, n: u64, t: u64) -> u64
+    ensures { λ r. ⌜ r ≡ argument (usedPlaces n a) t ⌝ }
+{
+    if t < Term::FIRST_VARIABLE {
+        return t;
+    }
+    let k = t - Term::FIRST_VARIABLE;
+    if k >= n {
+        return 0;
+    }
+    if k == 0 {
+        return a.first;
+    }
+    if k == 1 {
+        return a.second;
+    }
+    if k == 2 {
+        return a.third;
+    }
+    if k == 3 {
+        return a.fourth;
+    }
+    0
+}
+
+// Writes the map that turns the arguments of a label's predicate into its terms.
+fn argument_map(arities: &[u64], label: u64, map: &mut [u64])
+    requires { ⌜ Arguable (now arities) label (now map) ⌝ }
+    ensures { λ _. ⌜ Argued (now (arities .entry)) label (now (map .exit)) ⌝ }
+{
+    let a = Label { packed: label }.unpack();
+    let p = a.predicate as usize;
+    let n = arities[p];
+    let mut t = 0u64;
+    while t < Term::BASE {
+        map[t as usize] = argument_term(a, n, t);
+        t += 1;
+    }
+}
+
+// A truth diagram with its arguments replaced by the terms of a label.
+fn replace_arguments(
+    arities: &[u64],
+    words: &[u64],
+    label: u64,
+    plan: &mut [u64],
+    index: &mut [u16],
+    space: &mut [u64],
+    heads: &mut [u16],
+    links: &mut [u16],
+    count: usize,
+) -> Stepped
+    requires { ⌜ Usable (now arities) (now words) label ⌝ }
+    requires { ⌜ Ready (now plan) (now index) (now space) (now heads) (now links) count ⌝ }
+    ensures { λ r. ⌜ Ran (replacement (now (arities .entry)) (argument (termsOf (now (arities .entry)) (unpacked label))) (diagramOf (now (words .entry)))) (now (space .entry)) count r (now (space .exit)) (now (heads .exit)) (now (links .exit)) (now (index .exit)) ⌝ }
+{
+    let mut map = [0u64; 64];
+    argument_map(arities, label, &mut map);
+    replace(
+        arities,
+        words,
+        &map,
+        plan,
+        index,
+        space,
+        heads,
+        links,
+        count,
+    )
+}
+
+// Word i, or 0 where there is none.
+fn word_at(words: &[u64], i: usize) -> u64
+    ensures { λ r. ⌜ r ≡ getD (now (words .entry)) i 0 ⌝ }
+{
+    if i < words.len() {
+        return words[i];
+    }
+    0
+}
+
+// The `count` words from `first` on, those that are there.
+fn part(words: &[u64], first: usize, count: usize) -> &[u64]
+    ensures { λ r. ⌜ now r ≡ take count (drop first (now (words .entry))) ⌝ }
+{
+    let n = words.len();
+    if first >= n {
+        return &words[..0];
+    }
+    if count >= n - first {
+        return &words[first..];
+    }
+    let end = first + count;
+    &words[first..end]
+}
+
+// Whether predicate p has a truth diagram.
+fn has_truth(spans: &[u64], p: usize) -> bool
+    requires { ⌜ p < predicateCount ⌝ }
+    ensures { λ r. ⌜ r ≡ hasTruth (now (spans .entry)) p ⌝ }
+{
+    if p == 0 {
+        return false;
+    }
+    word_at(spans, p * 2 + 1) != 0
+}
+
+// The words of the truth diagram of predicate p.
+fn truth_words<'a>(truths: &'a [u64], spans: &[u64], p: usize) -> &'a [u64]
+    requires { ⌜ p < predicateCount ⌝ }
+    ensures { λ r. ⌜ now r ≡ truthWords (now (truths .entry)) (now (spans .entry)) p ⌝ }
+{
+    let first = word_at(spans, p * 2) as usize;
+    let count = word_at(spans, p * 2 + 1) as usize;
+    part(truths, first, count)
+}
+
+// Forms T for a label: its truth diagram with the arguments replaced; a predicate without one, and equality, stay.
+fn form_truth(
+    arities: &[u64],
+    truths: &[u64],
+    spans: &[u64],
+    label: u64,
+    plan: &mut [u64],
+    index: &mut [u16],
+    space: &mut [u64],
+    heads: &mut [u16],
+    links: &mut [u16],
+    count: usize,
+) -> Stepped
+    requires { ⌜ Asking (now arities) (now truths) (now spans) label ⌝ }
+    requires { ⌜ Ready (now plan) (now index) (now space) (now heads) (now links) count ⌝ }
+    ensures { λ r. ⌜ Ran (formedTruth (now (arities .entry)) (truthsOf (now (truths .entry)) (now (spans .entry))) label) (now (space .entry)) count r (now (space .exit)) (now (heads .exit)) (now (links .exit)) (now (index .exit)) ⌝ }
+{
+    let p = Label { packed: label }.predicate() as usize;
+    if has_truth(spans, p) {
+        let words = truth_words(truths, spans, p);
+        return replace_arguments(
+            arities,
+            words,
+            label,
+            plan,
+            index,
+            space,
+            heads,
+            links,
+            count,
+        );
+    }
+    told(form_test(
+        space,
+        heads,
+        links,
+        count,
+        Test::Is(Label { packed: label }),
+    ))
 }
