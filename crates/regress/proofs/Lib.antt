@@ -3,3 +3,6 @@ pub mod RunLaws
 pub mod StepRunLaws
 pub mod RowsLaws
 pub mod TruthLaws
+pub mod KeptLaws
+pub mod CheckLaws
+pub mod AnswerLaws

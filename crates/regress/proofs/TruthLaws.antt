@@ -48,6 +48,7 @@ use Rattle.regress.specs.Running.{Ready, Ran, Testable}
 use Rattle.regress.specs.Result.{AtMost}
 use Rattle.regress.specs.Tasks.{Mapping, toldAs, usedPlaces, Usable, Arguable, Argued}
 use Rattle.regress.specs.Keeping.{hasTruth, formedTruth, Asking}
+use Rattle.regress.proofs.FreeLaws.{not-true}
 use Rattle.regress.proofs.RunLaws.{there-mem, in-room, formed-ran, full-ran}
 use Rattle.regress.proofs.StepRunLaws.{row-known, full-known, one-most, ran-cast, ran-answer}
 
@@ -202,10 +203,6 @@ formed-told d m {plan} {index} {s₀} {heads₀} {links₀} {count} ready {f} {s
     go : (g : Formed) → f ≡ g → Ran (form d) s₀ count (toldAs f) s heads links index
     go (FormedRow i n) e = rw e (formed-ran s₀ count d m (ready .space .values) (ready .clean) (row-known x e))
     go Full e = rw e (full-ran s₀ count d m (ready .space .values) (ready .clean) (full-known x e))
-
-not-true : (b : Bool) → not b ≡ true → b ≡ false
-not-true true e = sym e
-not-true false e = refl
 
 -- `form_truth`: T stands in the space once its rows are formed
 pub ran-formed : {m : Run Diagram} {s₀ : List ℕ} {count : ℕ} {r : Stepped} {s heads links index : List ℕ} → Ran m s₀ count r s heads links index

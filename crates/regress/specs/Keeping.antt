@@ -53,7 +53,7 @@ pub record Stands (ar : List ℕ) (truths : Truths) (s : List ℕ) (count l i : 
 
 -- every slot that has a label has the row of its T
 pub record Keeps (ar : List ℕ) (truths : Truths) (s : List ℕ) (count : ℕ) (kept : List ℕ) : Type 0 where
-  pub places : slots ≤ length kept
+  pub places : length kept ≡ slots
   pub each : (b : ℕ) → b < slots → isLabel ar (slotLabel kept b) ≡ true → Stands ar truths s count (slotLabel kept b) (slotRow kept b)
 
 -- what running the step m ensures where T is kept
