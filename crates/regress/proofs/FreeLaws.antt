@@ -88,7 +88,7 @@ module _ {ms : List ℕ} {t n k : ℕ} (p : Passed ms t n k) where
   passed-none h = sym (none-at ms t n (λ j l. p .zeros j (omega arith)))
 
 -- marks of the terms that occur
-used-any : (ar : List ℕ) (d : Diagram) (ms : List ℕ) → Used ar d ms → (t n : ℕ) → t + n ≤ termBase → anySet ms t n ≡ anyOccurs ar d t n
+pub used-any : (ar : List ℕ) (d : Diagram) (ms : List ℕ) → Used ar d ms → (t n : ℕ) → t + n ≤ termBase → anySet ms t n ≡ anyOccurs ar d t n
 unfolding anySet
 used-any ar d ms u t zero h = sym (any-none ar d t)
 used-any ar d ms u t (suc n) h =
@@ -208,7 +208,7 @@ module _ {ar words : List ℕ} {count : ℕ} {out : List ℕ} (task : FreeTask a
               ∙ sym (freed-rows ar count (diagramOf words) good (own-freeable h))
 
 -- `free`
-not-true : (b : Bool) → not b ≡ true → b ≡ false
+pub not-true : (b : Bool) → not b ≡ true → b ≡ false
 not-true true e = clash refl (sym e)
 not-true false e = refl
 

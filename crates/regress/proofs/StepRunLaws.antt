@@ -398,14 +398,14 @@ most-more : (a b : ℕ) → a ≤ b → (d : Diagram) → AtMost a d → AtMost 
 most-more a b h (leaf v) x = omega arith
 most-more a b h (branch l t f) x = (most-more a b h t (x .0), most-more a b h f (x .1))
 
-one-most : (d : Diagram) → AtMost 1 d → AtMost highestValue d
+pub one-most : (d : Diagram) → AtMost 1 d → AtMost highestValue d
 one-most d x = most-more 1 highestValue (omega arith) d x
 
-ran-cast : {m m′ : Run Diagram} {s₀ : List ℕ} {count : ℕ} {r : Stepped} {s heads links index : List ℕ} → m ≡ m′ → Ran m s₀ count r s heads links index
+pub ran-cast : {m m′ : Run Diagram} {s₀ : List ℕ} {count : ℕ} {r : Stepped} {s heads links index : List ℕ} → m ≡ m′ → Ran m s₀ count r s heads links index
     → Ran m′ s₀ count r s heads links index
 ran-cast {m} {m′} {s₀} {count} {r} {s} {heads} {links} {index} e x = subst (λ (z : Run Diagram). Ran z s₀ count r s heads links index) e x
 
-ran-answer : {m : Run Diagram} {s₀ : List ℕ} {count : ℕ} {r r′ : Stepped} {s heads links index : List ℕ} → r ≡ r′ → Ran m s₀ count r s heads links index
+pub ran-answer : {m : Run Diagram} {s₀ : List ℕ} {count : ℕ} {r r′ : Stepped} {s heads links index : List ℕ} → r ≡ r′ → Ran m s₀ count r s heads links index
     → Ran m s₀ count r′ s heads links index
 ran-answer {m} {s₀} {count} {r} {r′} {s} {heads} {links} {index} e x = subst (λ (z : Stepped). Ran m s₀ count z s heads links index) e x
 

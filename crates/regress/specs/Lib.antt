@@ -10,6 +10,8 @@ pub mod Parameters
 pub mod Freeing
 pub mod Running
 pub mod Tasks
+pub mod Keeping
+pub mod Regressing
 -- laws
 pub mod CallLaws
 pub mod StepLaws

@@ -2,9 +2,9 @@
 use mathlib.Core.Path.{_≡_}
 use mathlib.Core.Logic.{_≢_}
 use mathlib.Core.Bool.{Bool, true, false}
-use mathlib.Core.List.{List}
+use mathlib.Core.List.{List, [], _∷_}
 use Prim.Native.Nat.{ℕ, _+_, _*_, _≤_, _<_}
-use lib.ListN.{length, getD}
+use lib.ListN.{length, getD, take}
 use lib.Dec.{eqb}
 use Rattle.refusal.specs.declared.Refusal.the-variants.{Space}
 use Rattle.label.specs.Limits.{leafMark, termBase}
@@ -12,6 +12,7 @@ use Rattle.label.specs.Terms.{isTerm}
 use Rattle.label.specs.Labels.{areArities, isLabel, termsOf, unpacked}
 use Rattle.label.specs.Renamings.{mapOf, moved}
 use Rattle.label.specs.Callers.{TermMap}
+use Rattle.label.specs.declared.Atom.{Atom}
 use Rattle.diagram.specs.Sizes.{highestValue, spaceRows}
 use Rattle.diagram.specs.Diagram.{Diagram, leaf}
 use Rattle.diagram.specs.Words.{labelAt, highAt, lowAt, isListing}
@@ -66,10 +67,20 @@ abbrev pub toldAs : Formed → Stepped
 toldAs (FormedRow i n) = Row i n
 toldAs Full = Refused Space spaceRows
 
--- what replacing the arguments of a label requires of it and of the map to be written
-pub record Arguable (ar : List ℕ) (l : ℕ) : Type 0 where
+-- a truth diagram's listing, and the label that it is used at
+pub record Usable (ar ws : List ℕ) (l : ℕ) : Type 0 where
+  pub listing : isListing ar ws ≡ true
+  pub label : isLabel ar l ≡ true
+
+-- the used places of an atom of arity n
+abbrev pub usedPlaces : ℕ → Atom → List ℕ
+usedPlaces n a = take n (a .first ∷ a .second ∷ a .third ∷ a .fourth ∷ [])
+
+-- what writing the map of a label's arguments requires
+pub record Arguable (ar : List ℕ) (l : ℕ) (map : List ℕ) : Type 0 where
   pub arities : areArities ar ≡ true
   pub label : isLabel ar l ≡ true
+  pub room : length map ≡ termBase
 
 -- the map has for each term what replaces it, where the arguments become the terms of l
 pub record Argued (ar : List ℕ) (l : ℕ) (map : List ℕ) : Type 0 where

@@ -1,24 +1,26 @@
 // Regression and freeing of diagrams. What they are stands in specs/.
 use apply::Operation;
 use combine::Joined;
+use label::Atom;
 use label::Label;
 use label::Term;
 use label::Test;
 use refusal::Refusal;
 use store::Formed;
 use table::Row;
+use write::Listed;
 ghost use mathlib.Core.Path.{_≡_};
 ghost use mathlib.Core.Bool.{true};
-ghost use Prim.Native.Nat.{_+_, _-_, _<_, _≤_};
-ghost use lib.ListN.{length};
+ghost use Prim.Native.Nat.{_+_, _*_, _-_, _<_, _≤_};
+ghost use lib.ListN.{length, getD, take, drop};
 ghost use Rattle.diagram.specs.Listing.{diagramOf};
 ghost use Rattle.rename.specs.Freeing.{freed, Freeable};
 ghost use Rattle.regress.specs.Calls.{ok};
 ghost use Rattle.regress.specs.RegressCall.{writtenAs, freeAnswer, freeResult};
-ghost use Rattle.label.specs.Limits.{leafMark};
+ghost use Rattle.label.specs.Limits.{leafMark, predicateCount, mostPlaces};
 ghost use Rattle.diagram.specs.Diagram.{leaf, branch};
 ghost use Rattle.diagram.specs.Rows.{onto};
-ghost use Rattle.diagram.specs.Validity.{tree};
+ghost use Rattle.diagram.specs.Validity.{Valid, tree};
 ghost use Rattle.apply.specs.Combination.{operate};
 ghost use Rattle.store.specs.Space.{diagramsOf, Holds, Formation};
 ghost use Rattle.regress.specs.Calls.{combine};
@@ -26,8 +28,12 @@ ghost use Rattle.regress.specs.Step.{testDiagram, rowStep, exchanged};
 ghost use Rattle.regress.specs.Running.{Ready, Two, Three, Ran, Exchangeable, Exchanged, Testable};
 ghost use Rattle.diagram.specs.Words.{isListing};
 ghost use Rattle.label.specs.Renamings.{mapOf};
-ghost use Rattle.regress.specs.Regression.{replacement};
-ghost use Rattle.regress.specs.Tasks.{taskAt, Taskable, taskRun, Tasked, replacedBy, Mapping, toldAs};
+ghost use Rattle.label.specs.Labels.{termsOf, unpacked};
+ghost use Rattle.regress.specs.Regression.{argument, replacement, truthAt, regression, regressed};
+ghost use Rattle.regress.specs.Tasks.{taskAt, Taskable, taskRun, Tasked, replacedBy, Mapping, toldAs, usedPlaces, Usable, Arguable, Argued};
+ghost use Rattle.regress.specs.RegressCall.{truthsOf, truthWords, areListings, leafAbove, unboundVariable, regressedAs, regressAnswer, regressResult};
+ghost use Rattle.regress.specs.Regressing.{Regressable, Listable, held, Answered, isListedAt, isHighLeaf, verdictOn, verdictOf, Between, Judged};
+ghost use Rattle.regress.specs.Keeping.{hasTruth, formedTruth, Lent, Asking, slots, Keeps, KeptRan};
 ghost use Rattle.regress.specs.Freeing.{anySet, freeOwn, FreeTask, FreedWith};
 
 // What a regression answers: the result's rows, or why it is refused.
@@ -450,4 +456,511 @@ fn replace(
         k += 1;
     }
     Stepped::Row(root, n)
+}
+
+// What replaces the term t, where the arguments of a predicate of arity n become the places of an atom.
+fn argument_term(a: Atom, n: u64, t: u64) -> u64
+    ensures { λ r. ⌜ r ≡ argument (usedPlaces n a) t ⌝ }
+{
+    if t < Term::FIRST_VARIABLE {
+        return t;
+    }
+    let k = t - Term::FIRST_VARIABLE;
+    if k >= n {
+        return 0;
+    }
+    if k == 0 {
+        return a.first;
+    }
+    if k == 1 {
+        return a.second;
+    }
+    if k == 2 {
+        return a.third;
+    }
+    if k == 3 {
+        return a.fourth;
+    }
+    0
+}
+
+// Writes the map that turns the arguments of a label's predicate into its terms.
+fn argument_map(arities: &[u64], label: u64, map: &mut [u64])
+    requires { ⌜ Arguable (now arities) label (now map) ⌝ }
+    ensures { λ _. ⌜ Argued (now (arities .entry)) label (now (map .exit)) ⌝ }
+{
+    let a = Label { packed: label }.unpack();
+    let p = a.predicate as usize;
+    let n = arities[p];
+    let mut t = 0u64;
+    while t < Term::BASE {
+        map[t as usize] = argument_term(a, n, t);
+        t += 1;
+    }
+}
+
+// A truth diagram with its arguments replaced by the terms of a label.
+fn replace_arguments(
+    arities: &[u64],
+    words: &[u64],
+    label: u64,
+    plan: &mut [u64],
+    index: &mut [u16],
+    space: &mut [u64],
+    heads: &mut [u16],
+    links: &mut [u16],
+    count: usize,
+) -> Stepped
+    requires { ⌜ Usable (now arities) (now words) label ⌝ }
+    requires { ⌜ Ready (now plan) (now index) (now space) (now heads) (now links) count ⌝ }
+    ensures { λ r. ⌜ Ran (replacement (now (arities .entry)) (argument (termsOf (now (arities .entry)) (unpacked label))) (diagramOf (now (words .entry)))) (now (space .entry)) count r (now (space .exit)) (now (heads .exit)) (now (links .exit)) (now (index .exit)) ⌝ }
+{
+    let mut map = [0u64; 64];
+    argument_map(arities, label, &mut map);
+    replace(
+        arities,
+        words,
+        &map,
+        plan,
+        index,
+        space,
+        heads,
+        links,
+        count,
+    )
+}
+
+// Word i, or 0 where there is none.
+fn word_at(words: &[u64], i: usize) -> u64
+    ensures { λ r. ⌜ r ≡ getD (now (words .entry)) i 0 ⌝ }
+{
+    if i < words.len() {
+        return words[i];
+    }
+    0
+}
+
+// The `count` words from `first` on, those that are there.
+fn part(words: &[u64], first: usize, count: usize) -> &[u64]
+    ensures { λ r. ⌜ now r ≡ take count (drop first (now (words .entry))) ⌝ }
+{
+    let n = words.len();
+    if first >= n {
+        return &words[..0];
+    }
+    if count >= n - first {
+        return &words[first..];
+    }
+    let end = first + count;
+    &words[first..end]
+}
+
+// Whether predicate p has a truth diagram.
+fn has_truth(spans: &[u64], p: usize) -> bool
+    requires { ⌜ p < predicateCount ⌝ }
+    ensures { λ r. ⌜ r ≡ hasTruth (now (spans .entry)) p ⌝ }
+{
+    if p == 0 {
+        return false;
+    }
+    word_at(spans, p * 2 + 1) != 0
+}
+
+// The words of the truth diagram of predicate p.
+fn truth_words<'a>(truths: &'a [u64], spans: &[u64], p: usize) -> &'a [u64]
+    requires { ⌜ p < predicateCount ⌝ }
+    ensures { λ r. ⌜ now r ≡ truthWords (now (truths .entry)) (now (spans .entry)) p ⌝ }
+{
+    let first = word_at(spans, p * 2) as usize;
+    let count = word_at(spans, p * 2 + 1) as usize;
+    part(truths, first, count)
+}
+
+// Forms T for a label: its truth diagram with the arguments replaced; a predicate without one, and equality, stay.
+fn form_truth(
+    arities: &[u64],
+    truths: &[u64],
+    spans: &[u64],
+    label: u64,
+    plan: &mut [u64],
+    index: &mut [u16],
+    space: &mut [u64],
+    heads: &mut [u16],
+    links: &mut [u16],
+    count: usize,
+) -> Stepped
+    requires { ⌜ Asking (now arities) (now truths) (now spans) label ⌝ }
+    requires { ⌜ Ready (now plan) (now index) (now space) (now heads) (now links) count ⌝ }
+    ensures { λ r. ⌜ Ran (formedTruth (now (arities .entry)) (truthsOf (now (truths .entry)) (now (spans .entry))) label) (now (space .entry)) count r (now (space .exit)) (now (heads .exit)) (now (links .exit)) (now (index .exit)) ⌝ }
+{
+    let p = Label { packed: label }.predicate() as usize;
+    if has_truth(spans, p) {
+        let words = truth_words(truths, spans, p);
+        return replace_arguments(
+            arities,
+            words,
+            label,
+            plan,
+            index,
+            space,
+            heads,
+            links,
+            count,
+        );
+    }
+    told(form_test(
+        space,
+        heads,
+        links,
+        count,
+        Test::Is(Label { packed: label }),
+    ))
+}
+
+// Slots in which T is kept by its label.
+const SLOTS: usize = 1024;
+// A slot has its label times this, and the row of T.
+const SLOT_WEIGHT: u64 = 65536;
+
+// The slot of a label.
+fn slot(label: u64) -> usize
+    requires { ⌜ label < leafMark ⌝ }
+    ensures { λ r. ⌜ r < slots ⌝ }
+{
+    (label * 2654435769 / 4194304 % 1024) as usize
+}
+
+// T for a label, kept for a label that occurs again.
+fn kept_truth(
+    arities: &[u64],
+    truths: &[u64],
+    spans: &[u64],
+    label: u64,
+    kept: &mut [u64],
+    plan: &mut [u64],
+    index: &mut [u16],
+    space: &mut [u64],
+    heads: &mut [u16],
+    links: &mut [u16],
+    count: usize,
+) -> Stepped
+    requires { ⌜ Asking (now arities) (now truths) (now spans) label ⌝ }
+    requires { ⌜ Ready (now plan) (now index) (now space) (now heads) (now links) count ⌝ }
+    requires { ⌜ Keeps (now arities) (truthsOf (now truths) (now spans)) (now space) count (now kept) ⌝ }
+    ensures { λ r. ⌜ KeptRan (now (arities .entry)) (truthsOf (now (truths .entry)) (now (spans .entry))) (formedTruth (now (arities .entry)) (truthsOf (now (truths .entry)) (now (spans .entry))) label) (now (space .entry)) count r (now (space .exit)) (now (heads .exit)) (now (links .exit)) (now (index .exit)) (now (kept .exit)) ⌝ }
+{
+    let h = slot(label);
+    let e = kept[h];
+    if e / SLOT_WEIGHT == label {
+        let i = (e % SLOT_WEIGHT) as usize;
+        return Stepped::Row(i, count);
+    }
+    let r = form_truth(
+        arities,
+        truths,
+        spans,
+        label,
+        plan,
+        index,
+        space,
+        heads,
+        links,
+        count,
+    );
+    let Stepped::Row(i, n) = r else {
+        return r;
+    };
+    kept[h] = label * SLOT_WEIGHT + i as u64;
+    Stepped::Row(i, n)
+}
+
+// The result of a row of the value listing.
+fn regressed_row(
+    arities: &[u64],
+    truths: &[u64],
+    spans: &[u64],
+    task: Task,
+    kept: &mut [u64],
+    plan: &mut [u64],
+    index: &mut [u16],
+    space: &mut [u64],
+    heads: &mut [u16],
+    links: &mut [u16],
+    count: usize,
+) -> Stepped
+    requires { ⌜ Lent (now arities) (now truths) (now spans) ⌝ }
+    requires { ⌜ Tasked (now arities) count task ⌝ }
+    requires { ⌜ Ready (now plan) (now index) (now space) (now heads) (now links) count ⌝ }
+    requires { ⌜ Keeps (now arities) (truthsOf (now truths) (now spans)) (now space) count (now kept) ⌝ }
+    ensures { λ r. ⌜ KeptRan (now (arities .entry)) (truthsOf (now (truths .entry)) (now (spans .entry))) (taskRun (truthAt (now (arities .entry)) (truthsOf (now (truths .entry)) (now (spans .entry)))) (now (space .entry)) task) (now (space .entry)) count r (now (space .exit)) (now (heads .exit)) (now (links .exit)) (now (index .exit)) (now (kept .exit)) ⌝ }
+{
+    match task {
+        Task::Leaf(v) => told(store::leaf(space, heads, links, count, v)),
+        Task::Branch(l, high, low) => {
+            let r = kept_truth(
+                arities,
+                truths,
+                spans,
+                l,
+                kept,
+                plan,
+                index,
+                space,
+                heads,
+                links,
+                count,
+            );
+            let Stepped::Row(test, n) = r else {
+                return r;
+            };
+            row_step(plan, index, space, heads, links, n, test, high, low)
+        }
+    }
+}
+
+// The regression of a value listing in an empty space, row by row.
+fn regress_rows(
+    arities: &[u64],
+    value: &[u64],
+    truths: &[u64],
+    spans: &[u64],
+    plan: &mut [u64],
+    index: &mut [u16],
+    space: &mut [u64],
+    heads: &mut [u16],
+    links: &mut [u16],
+) -> Stepped
+    requires { ⌜ isListing (now arities) (now value) ≡ true ⌝ }
+    requires { ⌜ Lent (now arities) (now truths) (now spans) ⌝ }
+    requires { ⌜ Ready (now plan) (now index) (now space) (now heads) (now links) 0 ⌝ }
+    ensures { λ r. ⌜ Ran (regression (now (arities .entry)) (truthsOf (now (truths .entry)) (now (spans .entry))) (diagramOf (now (value .entry)))) (now (space .entry)) 0 r (now (space .exit)) (now (heads .exit)) (now (links .exit)) (now (index .exit)) ⌝ }
+{
+    let mut kept = [0u64; SLOTS];
+    let mut numbers = [0u16; diagram::ROWS];
+    let m = value.len() / 3;
+    let mut n = 0;
+    let mut root = 0;
+    let mut k = 0;
+    while k < m {
+        let task = task_at(value, &numbers, k);
+        let r = regressed_row(
+            arities,
+            truths,
+            spans,
+            task,
+            &mut kept,
+            plan,
+            index,
+            space,
+            heads,
+            links,
+            n,
+        );
+        let Stepped::Row(i, c) = r else {
+            return r;
+        };
+        numbers[k] = i as u16;
+        n = c;
+        root = i;
+        k += 1;
+    }
+    Stepped::Row(root, n)
+}
+
+// Writes the listing of the row `root`, unless its rows are too many.
+fn list_result(space: &[u64], count: usize, root: usize, out: &mut [u64]) -> Regressed
+    requires { ⌜ Listable (now space) count root (now out) ⌝ }
+    ensures { λ r. ⌜ Answered (held (tree (now (space .entry)) root)) r (now (out .entry)) (now (out .exit)) ⌝ }
+{
+    let mut marks = [0u16; diagram::SPACE_ROWS];
+    let mut order = [0u16; diagram::SPACE_ROWS];
+    let r = write::write(space, count, root, &mut marks, &mut order, out);
+    match r {
+        Listed::Rows(m) => Regressed::Done(m),
+        Listed::TooMany => Regressed::Refused(Refusal::Space),
+    }
+}
+
+// Whether the truth diagram of predicate p is a listing, if there is one.
+fn is_listed(arities: &[u64], truths: &[u64], spans: &[u64], p: usize) -> bool
+    requires { ⌜ p < predicateCount ⌝ }
+    ensures { λ r. ⌜ r ≡ isListedAt (now (arities .entry)) (now (truths .entry)) (now (spans .entry)) p ⌝ }
+{
+    if word_at(spans, p * 2 + 1) == 0 {
+        return true;
+    }
+    listing::check(arities, truth_words(truths, spans, p))
+}
+
+// Whether all lent truth diagrams are listings.
+fn are_listed(arities: &[u64], truths: &[u64], spans: &[u64]) -> bool
+    ensures { λ r. ⌜ r ≡ areListings (now (arities .entry)) (now (truths .entry)) (now (spans .entry)) 1 (predicateCount - 1) ⌝ }
+{
+    let mut p = 1usize;
+    while p < Label::PREDICATES {
+        if !is_listed(arities, truths, spans, p) {
+            return false;
+        }
+        p += 1;
+    }
+    true
+}
+
+// What the checks of truth diagrams say.
+pub enum Verdict {
+    Passed,
+    Refused(Refusal),
+}
+
+// Whether row k is a leaf above 1.
+fn is_high_leaf(words: &[u64], k: usize) -> bool
+    requires { ⌜ k * 3 + 3 ≤ length (now words) ⌝ }
+    ensures { λ r. ⌜ r ≡ isHighLeaf (now (words .entry)) k ⌝ }
+{
+    if words[k * 3] != Label::LEAF {
+        return false;
+    }
+    words[k * 3 + 1] > 1
+}
+
+// Whether a listing has a leaf above 1.
+fn has_high_leaf(arities: &[u64], words: &[u64]) -> bool
+    requires { ⌜ Valid (now arities) (now words) ⌝ }
+    ensures { λ r. ⌜ r ≡ leafAbove 1 (diagramOf (now (words .entry))) ⌝ }
+{
+    let m = words.len() / 3;
+    let mut k = 0;
+    while k < m {
+        if is_high_leaf(words, k) {
+            return true;
+        }
+        k += 1;
+    }
+    false
+}
+
+// Whether a listing has a variable that is no argument of a predicate of arity n.
+fn has_unbound(arities: &[u64], words: &[u64], n: usize) -> bool
+    requires { ⌜ Valid (now arities) (now words) ⌝ }
+    requires { ⌜ n ≤ mostPlaces ⌝ }
+    ensures { λ r. ⌜ r ≡ unboundVariable (now (arities .entry)) n (diagramOf (now (words .entry))) ⌝ }
+{
+    let mut marks = [0u64; 64];
+    listing::used(arities, words, &mut marks);
+    let first = (Term::FIRST_VARIABLE as usize) + n;
+    let left = (Term::VARIABLES as usize) - n;
+    any_set(&marks, first, left)
+}
+
+// Checks the truth diagram of a predicate of arity n: 7, then 6.
+fn judge(arities: &[u64], words: &[u64], n: usize) -> Verdict
+    requires { ⌜ Valid (now arities) (now words) ⌝ }
+    requires { ⌜ n ≤ mostPlaces ⌝ }
+    ensures { λ r. ⌜ r ≡ verdictOn (now (arities .entry)) n (diagramOf (now (words .entry))) ⌝ }
+{
+    if has_high_leaf(arities, words) {
+        return Verdict::Refused(Refusal::Truth);
+    }
+    if has_unbound(arities, words, n) {
+        return Verdict::Refused(Refusal::Unbound);
+    }
+    Verdict::Passed
+}
+
+// Checks the truth diagram of predicate p, if there is one.
+fn judge_at(arities: &[u64], truths: &[u64], spans: &[u64], p: usize) -> Verdict
+    requires { ⌜ Lent (now arities) (now truths) (now spans) ⌝ }
+    requires { ⌜ Between 1 p predicateCount ⌝ }
+    ensures { λ r. ⌜ r ≡ verdictOf (now (arities .entry)) (getD (now (arities .entry)) p 0) (truthsOf (now (truths .entry)) (now (spans .entry)) p) ⌝ }
+{
+    if word_at(spans, p * 2 + 1) == 0 {
+        return Verdict::Passed;
+    }
+    judge(arities, truth_words(truths, spans, p), arities[p] as usize)
+}
+
+// Checks all lent truth diagrams, one after the other.
+fn judge_all(arities: &[u64], truths: &[u64], spans: &[u64]) -> Verdict
+    requires { ⌜ Lent (now arities) (now truths) (now spans) ⌝ }
+    ensures { λ r. ⌜ Judged (now (arities .entry)) (now (truths .entry)) (now (spans .entry)) r ⌝ }
+{
+    let mut p = 1usize;
+    while p < Label::PREDICATES {
+        let v = judge_at(arities, truths, spans, p);
+        let Verdict::Passed = v else {
+            return v;
+        };
+        p += 1;
+    }
+    Verdict::Passed
+}
+
+// Words of a plan of 4,096 pairs.
+const PLAN_WORDS: usize = 20480;
+
+// The regression of a value listing under truth diagrams, all of them known to be listings, written to `out`; `work` is the working space.
+pub fn regress_checked(
+    arities: &[u64],
+    value: &[u64],
+    truths: &[u64],
+    spans: &[u64],
+    out: &mut [u64],
+    work: &mut [u64],
+) -> Regressed
+    requires { ⌜ Regressable (now arities) (now value) (now truths) (now spans) (now out) (now work) ⌝ }
+    ensures { λ r. ⌜ r ≡ regressedAs (regressed (now (arities .entry)) (truthsOf (now (truths .entry)) (now (spans .entry))) (diagramOf (now (value .entry)))) ⌝ }
+    ensures { λ _. ⌜ now (out .exit) ≡ writtenAs (regressed (now (arities .entry)) (truthsOf (now (truths .entry)) (now (spans .entry))) (diagramOf (now (value .entry)))) (now (out .entry)) ⌝ }
+{
+    let mut plan = [0u64; PLAN_WORDS];
+    let mut index = [0u16; plan::BUCKETS];
+    let mut heads = [0u16; table::BUCKETS];
+    let mut links = [0u16; diagram::SPACE_ROWS];
+    let r = regress_rows(
+        arities,
+        value,
+        truths,
+        spans,
+        &mut plan,
+        &mut index,
+        work,
+        &mut heads,
+        &mut links,
+    );
+    match r {
+        Stepped::Row(root, n) => list_result(work, n, root, out),
+        Stepped::Refused(w, _) => Regressed::Refused(w),
+    }
+}
+
+// The regression of a value listing under lent truth diagrams, written to `out`; `work` is the working space. Predicate p has words p * 2 and p * 2 + 1 of
+// `spans`: where its truth diagram begins in `truths`, and how many words it has, 0 for none. Refused: 14 by operand, 18, then 7 and 6 by truth diagram, then
+// 10, 11, 9.
+pub fn regress(
+    arities: &[u64],
+    value: &[u64],
+    truths: &[u64],
+    spans: &[u64],
+    out: &mut [u64],
+    work: &mut [u64],
+) -> Regressed
+    ensures { λ r. ⌜ r ≡ regressAnswer (now (arities .entry)) (now (value .entry)) (now (truths .entry)) (now (spans .entry)) (length (now (out .entry))) (length (now (work .entry))) ⌝ }
+    ensures { λ _. ⌜ now (out .exit) ≡ regressResult (now (arities .entry)) (now (value .entry)) (now (truths .entry)) (now (spans .entry)) (length (now (work .entry))) (now (out .entry)) ⌝ }
+{
+    if !listing::check(arities, value) {
+        return Regressed::Refused(Refusal::Listing);
+    }
+    if !are_listed(arities, truths, spans) {
+        return Regressed::Refused(Refusal::Listing);
+    }
+    if out.len() < diagram::RESULT_WORDS {
+        return Regressed::Refused(Refusal::Buffer);
+    }
+    if work.len() < diagram::SPACE_WORDS {
+        return Regressed::Refused(Refusal::Buffer);
+    }
+    let v = judge_all(arities, truths, spans);
+    match v {
+        Verdict::Passed => regress_checked(arities, value, truths, spans, out, work),
+        Verdict::Refused(w) => Regressed::Refused(w),
+    }
 }

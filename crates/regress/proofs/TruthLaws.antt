@@ -1,0 +1,272 @@
+-- Laws of T at a label: the words of a truth diagram, the map of its arguments, and what the code forms.
+use mathlib.Core.Path.{_≡_, refl, sym, ap, subst, _∙_, fun-ext}
+use mathlib.Core.Bool.{Bool, true, false, not, _&&_}
+use mathlib.Core.List.{List, [], _∷_}
+use mathlib.Core.Option.{Option, some, none}
+use Prim.Native.Nat.{ℕ, zero, suc, _+_, _*_, _-_, _≤_, _<_}
+use native.Mathlib.Omega.{arith}
+use native.Mathlib.Numerals.{add-one}
+use lib.ListN.{length, getD, set, take, drop, length-drop, length-set, drop-of-length-le, List·getD-eq-default}
+use lib.Seq.{take-all, take-nil, getD-take, getD-set-same, getD-set-other}
+use lib.Dec.{eqb}
+use borrow.Author.Tests.{eq-eqb, ne-eqb, eqb-true, eqb-false}
+use Rattle.basics.specs.Members.{clash}
+use Rattle.basics.specs.Tests.{and-left, and-right, Flag, isTrue, isFalse, flag, Cmp, below, equal, above, cmp}
+use Rattle.label.specs.Limits.{firstVariable, predicateCount, termBase}
+use Rattle.label.specs.Labels.{areArities, isLabel, termsOf, unpacked, predicateOf}
+use Rattle.label.specs.LabelLaws.{term-below, label-below, label-fits}
+use Rattle.label.specs.Terms.{isTerm}
+use Rattle.label.proofs.CodeLaws.{under-all}
+use Rattle.label.specs.Renamings.{mapOf}
+use Rattle.label.specs.declared.Atom.{Atom}
+use Rattle.label.specs.declared.Label.{Label}
+use Rattle.label.specs.declared.Test.{Test}
+use Rattle.label.specs.declared.Test.the-variants.{Is}
+use Rattle.diagram.specs.Sizes.{highestValue}
+use Rattle.diagram.specs.Diagram.{Diagram}
+use Rattle.diagram.specs.Rows.{onto}
+use Rattle.diagram.specs.Words.{isListing}
+use Rattle.diagram.specs.Listing.{diagramOf}
+use Rattle.diagram.specs.Validity.{tree}
+use Rattle.diagram.specs.ListingValid.{listing-is-valid}
+use Rattle.state.specs.ValueLaws.{Each-mono}
+use Rattle.store.specs.declared.Formed.{Formed}
+use Rattle.store.specs.declared.Formed.the-variants.{Row as FormedRow, Full}
+use Rattle.store.specs.Space.{diagramsOf, Formation}
+use Rattle.regress.specs.declared.Stepped.{Stepped}
+use Rattle.regress.specs.declared.Stepped.the-variants.{Row}
+use Rattle.regress.specs.Calls.{ok, Run, pure, bind, form}
+use Rattle.regress.specs.CallLaws.{form-old}
+use Rattle.regress.specs.SpaceLaws.{bind-refused}
+use Rattle.regress.specs.Step.{labelTest, testDiagram}
+use Rattle.regress.specs.StepLaws.{most-test}
+use Rattle.regress.specs.Regression.{argument, replacement, Truths, pickTruth, truthOf, truthFrom, truthAt}
+use Rattle.regress.specs.ResultLaws.{label-terms, argument-low, argument-high, argument-in, argument-terms}
+use Rattle.regress.specs.RegressCall.{truthCount, truthWords, truthsOf}
+use Rattle.regress.specs.RegressCallLaws.{truths-none, truths-some, listings-at}
+use Rattle.regress.specs.Running.{Ready, Ran, Testable}
+use Rattle.regress.specs.Result.{AtMost}
+use Rattle.regress.specs.Tasks.{Mapping, toldAs, usedPlaces, Usable, Arguable, Argued}
+use Rattle.regress.specs.Keeping.{hasTruth, formedTruth, Asking}
+use Rattle.regress.proofs.FreeLaws.{not-true}
+use Rattle.regress.proofs.RunLaws.{there-mem, in-room, formed-ran, full-ran}
+use Rattle.regress.proofs.StepRunLaws.{row-known, full-known, one-most, ran-cast, ran-answer}
+
+-- `word_at`
+pub word-none : (ws : List ℕ) (i : ℕ) → length ws ≤ i → 0 ≡ getD ws i 0
+word-none ws i h = sym (List·getD-eq-default ws 0 h)
+
+-- `part`
+pub part-none : (ws : List ℕ) (first count : ℕ) → length ws ≤ first → take 0 (drop 0 ws) ≡ take count (drop first ws)
+part-none ws first count h = sym (rw (drop-of-length-le ws h) (take-nil count))
+
+pub part-rest : (ws : List ℕ) (first count : ℕ) → length ws - first ≤ count → take (length ws - first) (drop first ws) ≡ take count (drop first ws)
+part-rest ws first count h =
+    take-all (length ws - first) (drop first ws) (omega (arith, length-drop first ws)) ∙ sym (take-all count (drop first ws) (omega (arith, length-drop first ws)))
+
+pub part-some : (ws : List ℕ) (first count : ℕ) → take (first + count - first) (drop first ws) ≡ take count (drop first ws)
+part-some ws first count = let e : first + count - first ≡ count = omega arith in rw e refl
+
+-- `has_truth`
+pub has-none : (spans : List ℕ) {p : ℕ} → p ≡ 0 → false ≡ hasTruth spans p
+unfolding hasTruth
+has-none spans {p} e = rw (eq-eqb p 0 e)
+
+pub has-words : (spans : List ℕ) {p w : ℕ} → (p ≡ 0 → ⊥) → w ≡ getD spans (p * 2 + 1) 0 → not (eqb w 0) ≡ hasTruth spans p
+unfolding hasTruth
+has-words spans {p} {w} n e = rw (ne-eqb p 0 n, e)
+
+-- `truth_words`
+pub words-are : (truths spans : List ℕ) (p : ℕ) {first count : ℕ} {ws : List ℕ} → first ≡ getD spans (p * 2) 0 → count ≡ getD spans (p * 2 + 1) 0
+    → ws ≡ take count (drop first truths) → ws ≡ truthWords truths spans p
+words-are truths spans p e d q = q ∙ (λ i. take (d i) (drop (e i) truths))
+
+-- `argument_term`
+pub argument-is-low : (ts : List ℕ) {t : ℕ} → t < 32 → t ≡ argument ts t
+argument-is-low ts {t} h = sym (argument-low ts t h)
+
+pub argument-is-unused : (n : ℕ) (a : Atom) (t : ℕ) → 32 ≤ t → n ≤ t - 32 → 0 ≡ argument (usedPlaces n a) t
+argument-is-unused n a t h k = sym (argument-high (usedPlaces n a) t h ∙ past n (a .first ∷ a .second ∷ a .third ∷ a .fourth ∷ []) (t - 32) k)
+  where
+    past : (m : ℕ) (xs : List ℕ) (i : ℕ) → m ≤ i → getD (take m xs) i 0 ≡ 0
+    past zero xs i q = refl
+    past (suc m) [] i q = refl
+    past (suc m) (x ∷ xs) zero q = absurd (omega arith)
+    past (suc m) (x ∷ xs) (suc i) q = past m xs i (omega arith)
+
+module _ (n : ℕ) (a : Atom) (t : ℕ) (h : 32 ≤ t) (k : t - 32 < n) where
+  used : argument (usedPlaces n a) t ≡ getD (a .first ∷ a .second ∷ a .third ∷ a .fourth ∷ []) (t - 32) 0
+  used = argument-high (usedPlaces n a) t h ∙ getD-take n (a .first ∷ a .second ∷ a .third ∷ a .fourth ∷ []) (t - 32) 0 k
+
+  pub argument-is-first : t - 32 ≡ 0 → a .first ≡ argument (usedPlaces n a) t
+  argument-is-first e = sym (used ∙ ap (λ (i : ℕ). getD (a .first ∷ a .second ∷ a .third ∷ a .fourth ∷ []) i 0) e)
+
+  pub argument-is-second : t - 32 ≡ 1 → a .second ≡ argument (usedPlaces n a) t
+  argument-is-second e = sym (used ∙ ap (λ (i : ℕ). getD (a .first ∷ a .second ∷ a .third ∷ a .fourth ∷ []) i 0) e)
+
+  pub argument-is-third : t - 32 ≡ 2 → a .third ≡ argument (usedPlaces n a) t
+  argument-is-third e = sym (used ∙ ap (λ (i : ℕ). getD (a .first ∷ a .second ∷ a .third ∷ a .fourth ∷ []) i 0) e)
+
+  pub argument-is-fourth : t - 32 ≡ 3 → a .fourth ≡ argument (usedPlaces n a) t
+  argument-is-fourth e = sym (used ∙ ap (λ (i : ℕ). getD (a .first ∷ a .second ∷ a .third ∷ a .fourth ∷ []) i 0) e)
+
+  pub argument-is-past : (t - 32 ≡ 0 → ⊥) → (t - 32 ≡ 1 → ⊥) → (t - 32 ≡ 2 → ⊥) → (t - 32 ≡ 3 → ⊥) → 0 ≡ argument (usedPlaces n a) t
+  argument-is-past x y z w = sym (used ∙ List·getD-eq-default (a .first ∷ a .second ∷ a .third ∷ a .fourth ∷ []) 0 {n = t - 32} (omega arith))
+
+-- `argument_map`: the first t words are written
+pub record Arguing (ar : List ℕ) (l : ℕ) (a : Atom) (n : ℕ) (map : List ℕ) (t : ℕ) : Type 0 where
+  pub atom : a ≡ unpacked l
+  pub arity : n ≡ getD ar (a .predicate) 0
+  pub whole : length map ≡ termBase
+  pub within : t ≤ termBase
+  pub each : (u : ℕ) → u < t → getD map u 0 ≡ argument (usedPlaces n a) u
+
+pub arguing-start : {ar map : List ℕ} {l : ℕ} {a : Atom} → Arguable ar l map → a ≡ unpacked l → Arguing ar l a (getD ar (a .predicate) 0) map 0
+arguing-start h e = record { atom = e; arity = refl; whole = h .room; within = omega arith; each = λ u k. absurd (omega arith) }
+
+pub arguing-room : {ar map : List ℕ} {l : ℕ} {a : Atom} → Arguable ar l map → a ≡ unpacked l → a .predicate < length ar
+arguing-room {ar} {map} {l} {a} h e =
+    let b : unpacked l .predicate < 32 = label-fits ar l (h .label) .predicate-fits in
+    let w : 32 ≤ length ar = under-all ar (sym (h .arities)) refl in
+    rw e (omega arith)
+
+pub arguing-on : {ar map : List ℕ} {l : ℕ} {a : Atom} {n t x : ℕ} → Arguing ar l a n map t → t < 64 → x ≡ argument (usedPlaces n a) t → Arguing ar l a n (set map t x) (t + 1)
+arguing-on {ar} {map} {l} {a} {n} {t} {x} g h e = record {
+  atom = g .atom;
+  arity = g .arity;
+  whole = length-set map t x ∙ g .whole;
+  within = omega arith;
+  each = λ u k. each u k (cmp u t);
+}
+  where
+    each : (u : ℕ) → u < t + 1 → Cmp u t → getD (set map t x) u 0 ≡ argument (usedPlaces n a) u
+    each u k (below q) = getD-set-other map t u x 0 (λ z. omega arith) ∙ g .each u q
+    each u k (equal q) = rw q (getD-set-same map t x 0 (omega (arith, g .whole)) ∙ e)
+    each u k (above q) = absurd (omega arith)
+
+pub arguing-end : {ar map : List ℕ} {l : ℕ} {a : Atom} {n t : ℕ} → Arguing ar l a n map t → 64 ≤ t → Argued ar l map
+unfolding termsOf
+arguing-end {ar} {map} {l} {a} {n} {t} g h = record {
+  whole = g .whole;
+  each = λ u k. g .each u (omega arith) ∙ ap (λ (m : ℕ). argument (usedPlaces m a) u) (g .arity) ∙ ap (λ (b : Atom). argument (usedPlaces (getD ar (b .predicate) 0) b) u) (g .atom);
+}
+
+-- `replace_arguments`
+take-past : (n : ℕ) (xs : List ℕ) (i : ℕ) → length xs ≤ i → getD (take n xs) i 0 ≡ 0
+take-past zero xs i h = refl
+take-past (suc n) [] i h = refl
+take-past (suc n) (x ∷ xs) zero h = absurd (omega arith)
+take-past (suc n) (x ∷ xs) (suc i) h = take-past n xs i (omega arith)
+
+module _ {ar ws : List ℕ} {l : ℕ} (u : Usable ar ws l) where
+  arities : areArities ar ≡ true
+  arities = listing-is-valid ar ws (u .listing) .arities
+
+  pub argument-arguable : {map : List ℕ} → length map ≡ termBase → Arguable ar l map
+  argument-arguable e = record { arities = arities; label = u .label; room = e }
+
+  abbrev Ts : List ℕ
+  Ts = termsOf ar (unpacked l)
+
+  module _ {map : List ℕ} (g : Argued ar l map) where
+    pub argued-mapping : Mapping ar map
+    argued-mapping = record {
+      arities = arities;
+      terms = record {
+        whole = omega (arith, g .whole);
+        below = λ t h. rw (g .each t h) (argument-in (λ (x : ℕ). x < termBase) (omega arith) Ts (Each-mono _ _ term-below Ts (label-terms ar l (u .label))) t (λ k. h));
+      };
+      keeps = λ t h. rw (g .each t (term-below t h)) (argument-terms Ts (label-terms ar l (u .label)) t h);
+    }
+
+    past : (t : ℕ) → termBase ≤ t → mapOf map t ≡ argument Ts t
+    unfolding termsOf
+    past t h =
+        List·getD-eq-default map 0 (omega (arith, g .whole))
+        ∙ sym (argument-high Ts t (omega arith) ∙ take-past (getD ar (unpacked l .predicate) 0) (unpacked l .first ∷ unpacked l .second ∷ unpacked l .third ∷ unpacked l .fourth ∷ []) (t - 32) (omega arith))
+
+    same-map : (t : ℕ) → Cmp t termBase → mapOf map t ≡ argument Ts t
+    same-map t (below h) = g .each t h
+    same-map t (equal h) = past t (omega arith)
+    same-map t (above h) = past t (omega arith)
+
+    pub argued-ran : {s₀ : List ℕ} {count : ℕ} {r : Stepped} {s heads links index : List ℕ} → Ran (replacement ar (mapOf map) (diagramOf ws)) s₀ count r s heads links index
+        → Ran (replacement ar (argument Ts) (diagramOf ws)) s₀ count r s heads links index
+    argued-ran x = ran-cast (ap (λ (σ : ℕ → ℕ). replacement ar σ (diagramOf ws)) (fun-ext (λ t. same-map t (cmp t termBase)))) x
+
+-- the answer of forming d, as that of a step
+pub formed-told : (d : Diagram) → AtMost highestValue d → {plan index s₀ heads₀ links₀ : List ℕ} {count : ℕ} → Ready plan index s₀ heads₀ links₀ count
+    → {f : Formed} {s heads links : List ℕ} → Formation d (onto d (diagramsOf s₀ count)) f s heads links → {r : Stepped} → r ≡ toldAs f
+    → Ran (form d) s₀ count r s heads links index
+formed-told d m {plan} {index} {s₀} {heads₀} {links₀} {count} ready {f} {s} {heads} {links} x {r} t = subst (λ (y : Stepped). Ran (form d) s₀ count y s heads links index) (sym t) (go f refl)
+  where
+    go : (g : Formed) → f ≡ g → Ran (form d) s₀ count (toldAs f) s heads links index
+    go (FormedRow i n) e = rw e (formed-ran s₀ count d m (ready .space .values) (ready .clean) (row-known x e))
+    go Full e = rw e (full-ran s₀ count d m (ready .space .values) (ready .clean) (full-known x e))
+
+-- `form_truth`: T stands in the space once its rows are formed
+pub ran-formed : {m : Run Diagram} {s₀ : List ℕ} {count : ℕ} {r : Stepped} {s heads links index : List ℕ} → Ran m s₀ count r s heads links index
+    → Ran (bind m form) s₀ count r s heads links index
+ran-formed {m} {s₀} {count} {r} {s} {heads} {links} {index} x = record {
+  space = x .space;
+  clean = x .clean;
+  row = λ i n e.
+      let g = x .row i n e in
+      let h = ran-answer e x .space .holds in
+      record {
+        there = g .there;
+        more = g .more;
+        gives = rw (g .gives) (form-old (tree s i) (diagramsOf s n) (there-mem h i (g .there)) (in-room h));
+        stays = g .stays;
+      };
+  refusal = λ w n e. bind-refused m form (diagramsOf s₀ count) w (x .refusal w n e);
+}
+
+module _ {ar truths spans : List ℕ} {l : ℕ} (q : Asking ar truths spans l) where
+  pub label-predicate : {p : ℕ} → p ≡ predicateOf l → p < 32
+  unfolding predicateOf unpacked
+  label-predicate e = omega (arith, label-fits ar l (q .label) .predicate-fits)
+
+  pub label-testable : Testable (Is (record { packed = l }))
+  label-testable = record { label = λ k e. let z : record { packed = l } ≡ k = cc in subst (λ (x : Label). x .packed < 4294967295) z (label-below ar l (q .label)) }
+
+  module _ {p : ℕ} (e : p ≡ predicateOf l) where
+    has-some : hasTruth spans p ≡ true → (truthOf (truthsOf truths spans) p ≡ some (diagramOf (truthWords truths spans p))) × (isListing ar (truthWords truths spans p) ≡ true)
+    unfolding hasTruth truthOf
+    has-some h =
+        let x = not-true (eqb p 0) (and-left (not (eqb p 0)) _ h) in
+        let y = not-true (eqb (truthCount spans p) 0) (and-right (not (eqb p 0)) _ h) in
+        let n : truthCount spans p ≡ 0 → ⊥ = eqb-false _ _ y in (
+          rw x (truths-some truths spans p n),
+          listings-at ar truths spans 1 31 (q .lent .listings) p (let z : p ≡ 0 → ⊥ = eqb-false _ _ x in omega arith) (let z = label-predicate e in omega arith) n,
+        )
+
+    has-no : hasTruth spans p ≡ false → truthOf (truthsOf truths spans) p ≡ none
+    unfolding hasTruth truthOf
+    has-no h = go (flag (eqb p 0)) (flag (eqb (truthCount spans p) 0))
+      where
+        go : Flag (eqb p 0) → Flag (eqb (truthCount spans p) 0) → pickTruth (eqb p 0) none (truthsOf truths spans p) ≡ none
+        go (isTrue x) y = rw x
+        go (isFalse x) (isTrue y) = rw x (truths-none truths spans p (eqb-true _ _ y))
+        go (isFalse x) (isFalse y) = clash (rw (x, y) refl) h
+
+    module _ {b : Bool} (told-b : b ≡ hasTruth spans p) where
+      pub truth-usable : b ≡ true → {ws : List ℕ} → ws ≡ truthWords truths spans p → Usable ar ws l
+      truth-usable h {ws} w = record { listing = rw w (has-some (sym told-b ∙ h) .1); label = q .label }
+
+      pub truth-used : b ≡ true → {ws : List ℕ} → ws ≡ truthWords truths spans p → {s₀ : List ℕ} {count : ℕ} {r : Stepped} {s heads links index : List ℕ}
+          → Ran (replacement ar (argument (termsOf ar (unpacked l))) (diagramOf ws)) s₀ count r s heads links index
+          → Ran (formedTruth ar (truthsOf truths spans) l) s₀ count r s heads links index
+      unfolding truthAt truthFrom
+      truth-used h {ws} w x =
+          let z : truthOf (truthsOf truths spans) (predicateOf l) ≡ some (diagramOf ws) = rw (← e, w) (has-some (sym told-b ∙ h) .0) in
+          ran-formed (ran-cast (sym (ap (λ (o : Option Diagram). truthFrom ar o l) z)) x)
+
+      pub truth-stays : b ≡ false → {plan index s₀ heads₀ links₀ : List ℕ} {count : ℕ} → Ready plan index s₀ heads₀ links₀ count
+          → {f : Formed} {s heads links : List ℕ}
+          → Formation (testDiagram (Is (record { packed = l }))) (onto (testDiagram (Is (record { packed = l }))) (diagramsOf s₀ count)) f s heads links
+          → {r : Stepped} → r ≡ toldAs f → Ran (formedTruth ar (truthsOf truths spans) l) s₀ count r s heads links index
+      unfolding truthAt truthFrom testDiagram
+      truth-stays h {plan} {index} {s₀} {heads₀} {links₀} {count} ready {f} {s} {heads} {links} x {r} t =
+          let z : truthOf (truthsOf truths spans) (predicateOf l) ≡ none = rw (← e) (has-no (sym told-b ∙ h)) in
+          ran-cast (sym (ap (λ (o : Option Diagram). bind (truthFrom ar o l) form) z)) (formed-told (labelTest l) (one-most (labelTest l) (most-test (Is (record { packed = l })))) ready x t)

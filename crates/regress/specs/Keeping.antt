@@ -1,0 +1,62 @@
+-- T at a label as the code forms it, and kept for a label that occurs again (document 01, section 'Regression').
+use mathlib.Core.Path.{_≡_}
+use mathlib.Core.Bool.{Bool, true, false, not, _&&_}
+use mathlib.Core.List.{List}
+use Prim.Native.Nat.{ℕ, _-_, _/_, _%_, _≤_, _<_}
+use lib.ListN.{length, getD}
+use lib.Dec.{eqb}
+use Rattle.label.specs.Limits.{predicateCount, equality}
+use Rattle.label.specs.Labels.{areArities, isLabel}
+use Rattle.diagram.specs.Diagram.{Diagram}
+use Rattle.diagram.specs.Validity.{tree}
+use Rattle.store.specs.Space.{diagramsOf}
+use Rattle.regress.specs.declared.Stepped.{Stepped}
+use Rattle.regress.specs.declared.Stepped.the-variants.{Row}
+use Rattle.regress.specs.Calls.{Run, bind, form}
+use Rattle.regress.specs.Regression.{Truths, truthAt}
+use Rattle.regress.specs.RegressCall.{truthCount, areListings}
+use Rattle.regress.specs.SpaceLaws.{Known}
+use Rattle.regress.specs.Running.{Ran}
+
+-- predicate p has a truth diagram: it is not equality, and words are lent for it
+unfoldable pub hasTruth : List ℕ → ℕ → Bool
+hasTruth spans p = not (eqb p equality) && not (eqb (truthCount spans p) 0)
+
+-- T for the label l, its rows formed
+abbrev pub formedTruth : List ℕ → Truths → ℕ → Run Diagram
+formedTruth ar truths l = bind (truthAt ar truths l) form
+
+-- lent truth diagrams that are listings under an arity list
+pub record Lent (ar truths spans : List ℕ) : Type 0 where
+  pub arities : areArities ar ≡ true
+  pub listings : areListings ar truths spans 1 (predicateCount - 1) ≡ true
+
+-- the same, and a label whose T is asked for
+pub record Asking (ar truths spans : List ℕ) (l : ℕ) : Type 0 where
+  pub lent : Lent ar truths spans
+  pub label : isLabel ar l ≡ true
+
+-- slots for labels; a slot has label · 2^16 + the row of its T
+abbrev pub slots : ℕ
+slots = 1024
+
+abbrev pub slotLabel : List ℕ → ℕ → ℕ
+slotLabel kept b = getD kept b 0 / 65536
+
+abbrev pub slotRow : List ℕ → ℕ → ℕ
+slotRow kept b = getD kept b 0 % 65536
+
+-- T stands in row i of the space, and forming it again would form nothing
+pub record Stands (ar : List ℕ) (truths : Truths) (s : List ℕ) (count l i : ℕ) : Type 0 where
+  pub there : i < count
+  pub known : Known (formedTruth ar truths l) (tree s i) (diagramsOf s count)
+
+-- every slot that has a label has the row of its T
+pub record Keeps (ar : List ℕ) (truths : Truths) (s : List ℕ) (count : ℕ) (kept : List ℕ) : Type 0 where
+  pub places : length kept ≡ slots
+  pub each : (b : ℕ) → b < slots → isLabel ar (slotLabel kept b) ≡ true → Stands ar truths s count (slotLabel kept b) (slotRow kept b)
+
+-- what running the step m ensures where T is kept
+pub record KeptRan (ar : List ℕ) (truths : Truths) (m : Run Diagram) (s₀ : List ℕ) (count : ℕ) (r : Stepped) (s heads links index kept : List ℕ) : Type 0 where
+  pub ran : Ran m s₀ count r s heads links index
+  pub keeps : (i n : ℕ) → r ≡ Row i n → Keeps ar truths s n kept
