@@ -1,0 +1,2 @@
+pub mod LeavingLaws
+pub mod WritingLaws
