@@ -52,7 +52,7 @@ fn enter(
 }
 
 // Closes up the listing that the first m rows of the buffer are. The words behind stay.
-fn close_up(arities: &[u64], out: &mut [u64], m: usize)
+pub fn close_up(arities: &[u64], out: &mut [u64], m: usize)
     requires { ⌜ Closable (now arities) (now out) m ⌝ }
     ensures { λ _. ⌜ now (out .exit) ≡ listing (closed (now (arities .entry)) (listedIn (now (out .entry)) m)) ++ drop (m * 3) (now (out .entry)) ⌝ }
 {

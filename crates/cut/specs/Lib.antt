@@ -9,3 +9,5 @@ pub mod TruthLaws
 pub mod ReduceLaws
 pub mod Search
 pub mod Routes
+pub mod Covering
+pub mod Stored

@@ -1,0 +1,4 @@
+pub mod LeavingLaws
+pub mod WritingLaws
+pub mod ChoosingLaws
+pub mod ChoiceLaws

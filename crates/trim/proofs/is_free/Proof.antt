@@ -1,0 +1,18 @@
+use Rattle.trim.proofs.ChoosingLaws.{free-other, free-zero, free-covered}
+use borrow.Author.Needs.{needs}
+use Rattle.trim.proofs.is_free.Statement.{statement}
+use Rattle.trim.proofs.is_free.Tie as tie
+
+returns : tie.Need-returns
+returns c = free-other (c .before .before .before .before .before .before .before .before .pre .0) (c .before .before .before .before .before .before .before .before .pre .1) _ (c .if1 .taken)
+
+returns-2 : tie.Need-returns-2
+returns-2 c = free-zero (c .before .before .before .before .before .before .before .before .before .before .pre .0) (c .before .before .before .before .before .before .before .before .before .before .pre .1) _ (c .before .before .if1 .left) (c .if2 .taken)
+
+returns-3 : tie.Need-returns-3
+returns-3 c = free-covered (c .before .before .before .before .before .before .before .before .before .before .before .before .before .before .pre .0) (c .before .before .before .before .before .before .before .before .before .before .before .before .before .before .pre .1) _ (c .before .before .before .before .before .before .if1 .left) (c .before .before .before .before .if2 .left) (c .before .before .has-cover .ensures)
+
+pub is-free-spec : {M : Type 1} → statement M
+is-free-spec =
+    tie.close
+    (tie.spec (λ c. search needs) (λ c. search needs) returns (λ c. search needs) (λ c. search needs) returns-2 (λ c κs. search needs) (λ c. search needs) returns-3)

@@ -1,0 +1,7 @@
+-- The public call of a cut.
+pub mod Calls
+pub mod Leaving
+pub mod Choosing
+pub mod LeavingLaws
+pub mod ListingLaws
+pub mod ChoosingLaws

@@ -1,0 +1,393 @@
+// The public call of a cut: the edge that goes is chosen, what is left is formed row by row, written and closed up.
+use label::Label;
+use store::Formed;
+use write::Listed;
+ghost use mathlib.Core.Path.{_≡_};
+ghost use mathlib.Core.Bool.{true};
+ghost use Prim.Native.Nat.{_-_, _/_, _≤_, _<_};
+ghost use lib.ListN.{length};
+ghost use lib.Dec.{eqb};
+ghost use Rattle.diagram.specs.Diagram.{leaf, same};
+ghost use Rattle.diagram.specs.Words.{rowCount, isListing};
+ghost use Rattle.diagram.specs.Listing.{diagramOf};
+ghost use Rattle.diagram.specs.Validity.{tree};
+ghost use Rattle.apply.specs.Formed.{add};
+ghost use Rattle.store.specs.Space.{diagramsOf, Formation};
+ghost use Rattle.cut.specs.Cut.{covers, mayGo, choice};
+ghost use Rattle.cut.specs.Routes.{Rows};
+ghost use Rattle.cut.specs.Covering.{Coverable};
+ghost use Rattle.trim.specs.Choosing.{pathOf, Routed, Leaves, Sides, Known, Asking, Charted, Edged, Tested, EdgeFound, isCoverOn, coverBelow, isFreeOn, chosenAs};
+ghost use Rattle.trim.specs.Calls.{Writable, Trimmed};
+ghost use Rattle.trim.specs.Leaving.{leftOf, Leaving, Leavable, Left};
+
+// Paths of a listing at most, and a place for each pair of them.
+const PATHS: u64 = 256;
+
+const MOST: usize = 256;
+
+const PAIRS: usize = 65536;
+
+// Which edge goes: the row and whether it is the true edge; or that none may.
+enum Chosen {
+    Edge(usize, bool),
+    Nothing,
+}
+
+// Finds the leaves of the m paths.
+fn find_leaves(words: &[u64], counts: &[u64], n: usize, m: u64, leaves: &mut [u64])
+    requires { ⌜ Routed (now words) (now counts) n m ⌝ }
+    requires { ⌜ m ≤ length (now leaves) ⌝ }
+    ensures { λ _. ⌜ Leaves (now (words .entry)) (now (leaves .exit)) n m ⌝ }
+{
+    let mut p = 0;
+    while p < m {
+        leaves[p as usize] = cut::leaf_of(words, counts, n, p);
+        p += 1;
+    }
+}
+
+// Finds where each of the m paths goes through row r.
+fn find_sides(words: &[u64], counts: &[u64], n: usize, m: u64, r: usize, sides: &mut [u64])
+    requires { ⌜ Routed (now words) (now counts) n m ⌝ }
+    requires { ⌜ r < n ⌝ }
+    requires { ⌜ m ≤ length (now sides) ⌝ }
+    ensures { λ _. ⌜ Sides (now (words .entry)) (now (sides .exit)) n m r ⌝ }
+{
+    let mut p = 0;
+    while p < m {
+        sides[p as usize] = cut::side_of(words, counts, n, p, r);
+        p += 1;
+    }
+}
+
+// Whether path q covers path p. It is asked once for each pair of paths: the memo has 1 for yes, 2 for no, and 0 before.
+fn is_covered(
+    arities: &[u64],
+    words: &[u64],
+    counts: &[u64],
+    n: usize,
+    memo: &mut [u16],
+    p: u64,
+    q: u64,
+) -> bool
+    requires { ⌜ Coverable (now arities) (now words) (now counts) n p q ⌝ }
+    requires { ⌜ Known (now arities) (now words) (now memo) n ⌝ }
+    ensures { λ r. ⌜ Tested (now (arities .entry)) (now (words .entry)) n (covers (now (arities .entry)) (pathOf (now (words .entry)) n p) (pathOf (now (words .entry)) n q)) r (now (memo .exit)) ⌝ }
+{
+    let at = (p * PATHS + q) as usize;
+    let known = basics::wide(memo[at]);
+    if known == 1 {
+        return true;
+    }
+    if known != 0 {
+        return false;
+    }
+    if cut::covers(arities, words, counts, n, p, q) {
+        memo[at] = 1;
+        return true;
+    }
+    memo[at] = 2;
+    false
+}
+
+// Whether path q avoids the edge that paths of that side go through, with a leaf at least that of path p, and covers it.
+fn is_cover(
+    arities: &[u64],
+    words: &[u64],
+    counts: &[u64],
+    n: usize,
+    m: u64,
+    leaves: &[u64],
+    sides: &[u64],
+    memo: &mut [u16],
+    side: u64,
+    p: u64,
+    q: u64,
+) -> bool
+    requires { ⌜ Asking (now arities) (now words) (now counts) (now leaves) (now sides) (now memo) n m ⌝ }
+    requires { ⌜ p < m ⌝ }
+    requires { ⌜ q < m ⌝ }
+    ensures { λ r. ⌜ Tested (now (arities .entry)) (now (words .entry)) n (isCoverOn (now (arities .entry)) (now (words .entry)) n (now (sides .entry)) side p q) r (now (memo .exit)) ⌝ }
+{
+    if sides[q as usize] == side {
+        return false;
+    }
+    if leaves[q as usize] < leaves[p as usize] {
+        return false;
+    }
+    is_covered(arities, words, counts, n, memo, p, q)
+}
+
+// Whether one of the m paths is such a cover of path p.
+fn has_cover(
+    arities: &[u64],
+    words: &[u64],
+    counts: &[u64],
+    n: usize,
+    m: u64,
+    leaves: &[u64],
+    sides: &[u64],
+    memo: &mut [u16],
+    side: u64,
+    p: u64,
+) -> bool
+    requires { ⌜ Asking (now arities) (now words) (now counts) (now leaves) (now sides) (now memo) n m ⌝ }
+    requires { ⌜ p < m ⌝ }
+    ensures { λ r. ⌜ Tested (now (arities .entry)) (now (words .entry)) n (coverBelow (now (arities .entry)) (now (words .entry)) n (now (sides .entry)) side p m) r (now (memo .exit)) ⌝ }
+{
+    let mut q = 0;
+    while q < m {
+        if is_cover(
+            arities,
+            words,
+            counts,
+            n,
+            m,
+            leaves,
+            sides,
+            memo,
+            side,
+            p,
+            q,
+        ) {
+            return true;
+        }
+        q += 1;
+    }
+    false
+}
+
+// Whether path p is not in the way of the edge that paths of that side go through.
+fn is_free(
+    arities: &[u64],
+    words: &[u64],
+    counts: &[u64],
+    n: usize,
+    m: u64,
+    leaves: &[u64],
+    sides: &[u64],
+    memo: &mut [u16],
+    side: u64,
+    p: u64,
+) -> bool
+    requires { ⌜ Asking (now arities) (now words) (now counts) (now leaves) (now sides) (now memo) n m ⌝ }
+    requires { ⌜ p < m ⌝ }
+    ensures { λ r. ⌜ Tested (now (arities .entry)) (now (words .entry)) n (isFreeOn (now (arities .entry)) (now (words .entry)) n (now (sides .entry)) side m p) r (now (memo .exit)) ⌝ }
+{
+    if sides[p as usize] != side {
+        return true;
+    }
+    if leaves[p as usize] == 0 {
+        return true;
+    }
+    has_cover(arities, words, counts, n, m, leaves, sides, memo, side, p)
+}
+
+// Whether row i is leaf 0.
+fn is_zero(words: &[u64], n: usize, i: usize) -> bool
+    requires { ⌜ Rows (now words) n ⌝ }
+    requires { ⌜ i < n ⌝ }
+    ensures { λ r. ⌜ r ≡ same (tree (now (words .entry)) i) (leaf 0) ⌝ }
+{
+    if words[i * 3] != Label::LEAF {
+        return false;
+    }
+    if words[i * 3 + 1] != 0 {
+        return false;
+    }
+    true
+}
+
+// Whether the edge of row r may go to leaf 0: the true edge for side 1, the false edge for side 2.
+fn may_go(
+    arities: &[u64],
+    words: &[u64],
+    counts: &[u64],
+    n: usize,
+    m: u64,
+    leaves: &[u64],
+    sides: &[u64],
+    memo: &mut [u16],
+    r: usize,
+    side: u64,
+) -> bool
+    requires { ⌜ Asking (now arities) (now words) (now counts) (now leaves) (now sides) (now memo) n m ⌝ }
+    requires { ⌜ Edged (now words) (now sides) n m r side ⌝ }
+    ensures { λ x. ⌜ Tested (now (arities .entry)) (now (words .entry)) n (mayGo (now (arities .entry)) (tree (now (words .entry)) (n - 1)) (eqb side 1) (tree (now (words .entry)) r)) x (now (memo .exit)) ⌝ }
+{
+    if is_zero(words, n, words[r * 3 + (side as usize)] as usize) {
+        return false;
+    }
+    let mut p = 0;
+    while p < m {
+        if !is_free(arities, words, counts, n, m, leaves, sides, memo, side, p) {
+            return false;
+        }
+        p += 1;
+    }
+    true
+}
+
+// Which edge of row r may go, true edge first: 1, 2, or 0 for none.
+fn edge_of(
+    arities: &[u64],
+    words: &[u64],
+    counts: &[u64],
+    n: usize,
+    m: u64,
+    leaves: &[u64],
+    memo: &mut [u16],
+    r: usize,
+) -> u64
+    requires { ⌜ Charted (now arities) (now words) (now counts) (now leaves) n m ⌝ }
+    requires { ⌜ Known (now arities) (now words) (now memo) n ⌝ }
+    requires { ⌜ r < n ⌝ }
+    ensures { λ e. ⌜ EdgeFound (now (arities .entry)) (now (words .entry)) n r e (now (memo .exit)) ⌝ }
+{
+    if words[r * 3] == Label::LEAF {
+        return 0;
+    }
+    let mut sides = [0u64; MOST];
+    find_sides(words, counts, n, m, r, &mut sides);
+    if may_go(arities, words, counts, n, m, leaves, &sides, memo, r, 1) {
+        return 1;
+    }
+    if may_go(arities, words, counts, n, m, leaves, &sides, memo, r, 2) {
+        return 2;
+    }
+    0
+}
+
+// The highest row, true edge first, whose edge may go.
+fn choose(arities: &[u64], words: &[u64], counts: &[u64], n: usize, m: u64) -> Chosen
+    requires { ⌜ isListing (now arities) (now words) ≡ true ⌝ }
+    requires { ⌜ n ≡ rowCount (now words) ⌝ }
+    requires { ⌜ Routed (now words) (now counts) n m ⌝ }
+    ensures { λ r. ⌜ r ≡ chosenAs (choice (now (arities .entry)) (diagramOf (now (words .entry)))) ⌝ }
+{
+    let mut leaves = [0u64; MOST];
+    find_leaves(words, counts, n, m, &mut leaves);
+    let mut memo = [0u16; PAIRS];
+    let mut i = n;
+    while i > 0 {
+        let e = edge_of(arities, words, counts, n, m, &leaves, &mut memo, i - 1);
+        if e == 1 {
+            return Chosen::Edge(i - 1, true);
+        }
+        if e == 2 {
+            return Chosen::Edge(i - 1, false);
+        }
+        i -= 1;
+    }
+    Chosen::Nothing
+}
+
+// Forms what is left of row i; `numbers` has the places of what is left of the rows before it, and row 0 of the space is leaf 0.
+fn leave_row(
+    words: &[u64],
+    numbers: &[u16],
+    k: usize,
+    side: bool,
+    space: &mut [u64],
+    heads: &mut [u16],
+    links: &mut [u16],
+    count: usize,
+    i: usize,
+) -> Formed
+    requires { ⌜ Leaving (now words) k side (now space) (now heads) (now links) (now numbers) count i ⌝ }
+    requires { ⌜ i < length (now words) / 3 ⌝ }
+    ensures { λ r. ⌜ Formation (leftOf (tree (now (words .entry)) k) side (tree (now (words .entry)) i)) (add (leftOf (tree (now (words .entry)) k) side (tree (now (words .entry)) i)) (diagramsOf (now (space .entry)) count)) r (now (space .exit)) (now (heads .exit)) (now (links .exit)) ⌝ }
+{
+    let l = words[i * 3];
+    let t = words[i * 3 + 1];
+    let f = words[i * 3 + 2];
+    if l == Label::LEAF {
+        return store::leaf(space, heads, links, count, t);
+    }
+    let high = basics::wide(numbers[t as usize]);
+    let low = basics::wide(numbers[f as usize]);
+    if i != k {
+        return store::branch(space, heads, links, count, l, high, low);
+    }
+    if side {
+        return store::branch(space, heads, links, count, l, 0, low);
+    }
+    store::branch(space, heads, links, count, l, high, 0)
+}
+
+// Forms what is left of the rows in number order.
+fn leave_rows(
+    words: &[u64],
+    k: usize,
+    side: bool,
+    space: &mut [u64],
+    heads: &mut [u16],
+    links: &mut [u16],
+    numbers: &mut [u16],
+    first: usize,
+) -> Formed
+    requires { ⌜ Leaving (now words) k side (now space) (now heads) (now links) (now numbers) first 0 ⌝ }
+    requires { ⌜ 1 ≤ length (now words) / 3 ⌝ }
+    ensures { λ r. ⌜ Left (now (words .entry)) k side r (now (space .exit)) ⌝ }
+{
+    let n = words.len() / 3;
+    let mut count = first;
+    let mut i = 0;
+    while i < n {
+        let r = leave_row(words, numbers, k, side, space, heads, links, count, i);
+        let Formed::Row(j, m) = r else {
+            return Formed::Full;
+        };
+        numbers[i] = j as u16;
+        count = m;
+        i += 1;
+    }
+    Formed::Row(basics::wide(numbers[n - 1]), count)
+}
+
+// Forms what is left once the edge of row k goes to leaf 0.
+fn leave(words: &[u64], k: usize, side: bool, work: &mut [u64]) -> Formed
+    requires { ⌜ Leavable (now words) k (now work) ⌝ }
+    ensures { λ r. ⌜ Left (now (words .entry)) k side r (now (work .exit)) ⌝ }
+{
+    let mut heads = [0u16; table::BUCKETS];
+    let mut links = [0u16; diagram::SPACE_ROWS];
+    let mut numbers = [0u16; diagram::ROWS];
+    let Formed::Row(_, first) = store::leaf(work, &mut heads, &mut links, 0, 0) else {
+        return Formed::Full;
+    };
+    leave_rows(
+        words,
+        k,
+        side,
+        work,
+        &mut heads,
+        &mut links,
+        &mut numbers,
+        first,
+    )
+}
+
+// Writes what is left once the edge of row k goes to leaf 0, closed up, and answers its rows.
+fn write_left(
+    arities: &[u64],
+    words: &[u64],
+    k: usize,
+    side: bool,
+    out: &mut [u64],
+    work: &mut [u64],
+) -> usize
+    requires { ⌜ Writable (now arities) (now words) (now out) (now work) k ⌝ }
+    ensures { λ r. ⌜ Trimmed (now (arities .entry)) (now (words .entry)) k side (now (out .entry)) r (now (out .exit)) ⌝ }
+{
+    let Formed::Row(root, count) = leave(words, k, side, work) else {
+        return 0;
+    };
+    let mut marks = [0u16; diagram::SPACE_ROWS];
+    let mut order = [0u16; diagram::SPACE_ROWS];
+    let Listed::Rows(m) = write::write(work, count, root, &mut marks, &mut order, out) else {
+        return 0;
+    };
+    apart::close_up(arities, out, m);
+    m
+}
