@@ -9,3 +9,4 @@ pub mod TruthLaws
 pub mod ReduceLaws
 pub mod Search
 pub mod Routes
+pub mod Covering

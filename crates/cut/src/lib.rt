@@ -296,7 +296,7 @@ fn count_row(words: &[u64], counts: &[u64], n: usize, i: usize) -> u64
 }
 
 // Counts the paths of each of the n rows.
-fn count_paths(words: &[u64], counts: &mut [u64], n: usize)
+pub fn count_paths(words: &[u64], counts: &mut [u64], n: usize)
     requires { ⌜ Rows (now words) n ⌝ }
     requires { ⌜ n ≤ length (now counts) ⌝ }
     ensures { λ _. ⌜ Counted (now (words .entry)) (now (counts .exit)) n ⌝ }
@@ -334,7 +334,7 @@ fn step_on(words: &[u64], counts: &[u64], n: usize, i: usize, k: u64) -> Here
 }
 
 // The leaf of path k.
-fn leaf_of(words: &[u64], counts: &[u64], n: usize, k: u64) -> u64
+pub fn leaf_of(words: &[u64], counts: &[u64], n: usize, k: u64) -> u64
     requires { ⌜ Rows (now words) n ⌝ }
     requires { ⌜ Counted (now words) (now counts) n ⌝ }
     requires { ⌜ At (now words) n (n - 1) k ⌝ }
@@ -351,7 +351,7 @@ fn leaf_of(words: &[u64], counts: &[u64], n: usize, k: u64) -> u64
 }
 
 // Where path k goes through row r: 1 by its true edge, 2 by its false edge, 0 not at all.
-fn side_of(words: &[u64], counts: &[u64], n: usize, k: u64, r: usize) -> u64
+pub fn side_of(words: &[u64], counts: &[u64], n: usize, k: u64, r: usize) -> u64
     requires { ⌜ Rows (now words) n ⌝ }
     requires { ⌜ Counted (now words) (now counts) n ⌝ }
     requires { ⌜ At (now words) n (n - 1) k ⌝ }
