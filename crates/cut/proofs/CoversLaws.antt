@@ -18,16 +18,12 @@ use Rattle.cut.specs.Match.{Partial, pickOption, start, matches}
 use Rattle.cut.specs.Cut.{covers}
 use Rattle.cut.specs.MatchLaws.{AllLabels, Searchable, in-terms, matches-order}
 use Rattle.cut.specs.CoverLaws.{PathLabels, in-small, searchable}
-use Rattle.cut.specs.Search.{literalsIn, segment, known, Replacing, Tabled, Setting, Inside, SolvePost}
+use Rattle.cut.specs.Stored.{Marks, Ready, PartPost}
+use Rattle.cut.specs.Search.{literalsIn, segment, known, Replacing, Tabled, Setting, Inside, SolvePost, Unplaced, Placing}
 use Rattle.cut.proofs.WayLaws.{known-some, known-none, known-past}
 
--- table marks the terms of the literals
-pub record Marks (ar : List ℕ) (table : ℕ → ℕ) (ls : List Literal) : Type 0 where
-  pub has : (t : ℕ) → List·Memᴰ t (termsIn ar ls) → 0 < table t
-  pub of : (t : ℕ) → t < 64 → 0 < table t → List·Memᴰ t (termsIn ar ls)
-
 -- a term of literals is one of a literal
-of-terms : (ar : List ℕ) (ls : List Literal) (t : ℕ) → List·Memᴰ t (termsIn ar ls) → (l : Literal) × List·Memᴰ l ls × List·Memᴰ t (termsOf ar (unpacked (l .label)))
+pub of-terms : (ar : List ℕ) (ls : List Literal) (t : ℕ) → List·Memᴰ t (termsIn ar ls) → (l : Literal) × List·Memᴰ l ls × List·Memᴰ t (termsOf ar (unpacked (l .label)))
 unfolding termsIn
 of-terms ar [] t m = absurd (List·Memᴰ·not-nil m)
 of-terms ar (l ∷ ls) t m = go (List·Memᴰ·append-cases (termsOf ar (unpacked (l .label))) m) (of-terms ar ls t)
@@ -81,48 +77,92 @@ segment-all : (ord : List ℕ) → segment ord 0 (length ord) ≡ literalsIn ord
 unfolding segment
 segment-all ord = ap literalsIn (take-all (length ord - 0) ord (omega arith))
 
--- the first path's literals stand behind their terms' marks, the second's stand in ord in some order, its terms' marks behind tab's first places
-pub solved-covers : (ar : List ℕ) → areArities ar ≡ true → (p q : Path) → PathLabels ar p → PathLabels ar q → {ord into tab theta theta′ : List ℕ} {r : Bool}
-    → Tabled ord tab (length ord) → Replacing tab theta 0 → literalsIn (drop 64 into) ≡ literals p
-    → ((l : Literal) → List·Memᴰ l (literalsIn ord) → List·Memᴰ l (literals q)) → ((l : Literal) → List·Memᴰ l (literals q) → List·Memᴰ l (literalsIn ord))
-    → Marks ar (λ t. getD into t 0) (literals p) → Marks ar (λ t. getD tab (64 + t) 0) (literals q)
-    → SolvePost ord into tab theta (length ord) 0 r theta′ → r ≡ covers ar p q
-unfolding covers
-solved-covers ar good p q np nq {ord} {into} {tab} {theta} {theta′} {r} t rep e f g mp mq s =
-    s .answer ar T setting (none-inside t rep T)
-    ∙ ap₂ (λ (ls : List Literal) (qs : List Literal). matches ar ls T qs (known tab theta 0)) e (segment-all ord)
-    ∙ matches-order ar (literals p) T (searchable ar (literals p) (literals q) good (np .each)) (literalsIn ord) (literals q) (known tab theta 0) f g
-    ∙ ap (matches ar (literals p) T (literals q)) (known-start t rep)
-  where
-    T : List ℕ
-    T = termsIn ar (literals p) ++ termsIn ar (literals q)
+-- ===== match_part =====
+module _ {ord into tab theta : List ℕ} (g : Ready ord into tab theta) {tab₁ tab₂ : List ℕ} (u : Unplaced tab₁) (k : (v : ℕ) → 64 ≤ v → getD tab₁ v 0 ≡ getD tab v 0)
+    (l : length tab₁ ≡ length tab) (p : Placing ord tab₁ tab₂ (length ord * 4)) where
+  pub part-tabled : Tabled ord tab₂ (length ord)
+  part-tabled = record {
+    room = omega arith;
+    few = g .few;
+    tab-room = omega (arith, g .tab-room, p .length-kept);
+    fixed = p .fixed;
+    free = p .free;
+    seen = p .seen;
+    only = p .only;
+  }
 
-    own : (u : ℕ) → List·Memᴰ u (termsIn ar (literalsIn ord)) → List·Memᴰ u T
-    own u m = let o = of-terms ar (literalsIn ord) u m in Memᴰ·append-right (termsIn ar (literals p)) (in-terms ar (literals q) (o .0) u (f (o .0) (o .1)) (o .2))
+  pub part-replacing : Replacing tab₂ theta 0
+  part-replacing = record { room = g .theta-room; stays = g .stays; terms = λ v h z. low v h z (cmp v 32) }
+    where
+      low : (v : ℕ) → v < 64 → getD tab₂ v 0 ≤ 0 → Cmp v 32 → getD theta v 0 < 64
+      low v h z (below c) = omega (arith, g .stays v c)
+      low v h z (equal c) = absurd (omega (arith, p .free v (omega arith) h))
+      low v h z (above c) = absurd (omega (arith, p .free v (omega arith) h))
 
-    has : (u : ℕ) → List·Memᴰ u T → 0 < getD into u 0 + getD tab (64 + u) 0
-    has u m = go (List·Memᴰ·append-cases (termsIn ar (literals p)) m)
-      where
-        go : List·Memᴰ u (termsIn ar (literals p)) ⊎ List·Memᴰ u (termsIn ar (literals q)) → 0 < getD into u 0 + getD tab (64 + u) 0
-        go (inl n) = omega (arith, mp .has u n)
-        go (inr n) = omega (arith, mq .has u n)
+  module _ {theta′ : List ℕ} {r : Bool} (s : SolvePost ord into tab₂ theta (length ord) 0 r theta′) where
+    same : (t : ℕ) → getD tab₂ (64 + t) 0 ≡ getD tab (64 + t) 0
+    same t = p .kept (64 + t) (omega arith) ∙ k (64 + t) (omega arith)
 
-    of : (u : ℕ) → u < 64 → 0 < getD into u 0 + getD tab (64 + u) 0 → List·Memᴰ u T
-    of u h k = go (cmp 0 (getD into u 0))
-      where
-        second : getD into u 0 ≤ 0 → List·Memᴰ u T
-        second z = Memᴰ·append-right (termsIn ar (literals p)) (mq .of u h (omega arith))
-
-        go : Cmp 0 (getD into u 0) → List·Memᴰ u T
-        go (below c) = Memᴰ·append-left (termsIn ar (literals q)) (mp .of u h c)
-        go (equal c) = second (omega arith)
-        go (above c) = absurd (omega arith)
-
-    setting : Setting ar T ord into tab
-    setting = record {
-      search = subst (λ (ls : List Literal). Searchable ar ls T) (sym e) (searchable ar (literals p) (literals q) good (np .each));
-      labels = record { each = λ l m. nq .each .each l (f l m) };
-      own = own;
-      has = has;
-      of = of;
+    placed : (ar T : List ℕ) → Setting ar T ord into tab → Setting ar T ord into tab₂
+    placed ar T e = record {
+      search = e .search;
+      labels = e .labels;
+      own = e .own;
+      has = λ t m. omega (arith, e .has t m, same t);
+      of = λ t h m. e .of t h (omega (arith, same t));
     }
+
+    pub part-post : PartPost ord into tab r tab₂ theta′
+    part-post = record {
+      answer = λ ar T e.
+          s .answer ar T (placed ar T e) (none-inside part-tabled part-replacing T)
+          ∙ ap₂ (λ (qs : List Literal) (τ : Partial). matches ar (literalsIn (drop 64 into)) T qs τ) (segment-all ord) (known-start part-tabled part-replacing);
+      tab-kept = λ v h. p .kept v h ∙ k v h;
+      stays = λ v h. s .kept v (omega arith) (omega (arith, p .fixed v h)) ∙ g .stays v h;
+    }
+
+-- ===== Two stored paths =====
+module _ (ar : List ℕ) (good : areArities ar ≡ true) (p q : Path) (np : PathLabels ar p) (nq : PathLabels ar q) where
+  abbrev pub bothTerms : List ℕ
+  bothTerms = termsIn ar (literals p) ++ termsIn ar (literals q)
+
+  pub covers-searchable : Searchable ar (literals p) bothTerms
+  covers-searchable = searchable ar (literals p) (literals q) good (np .each)
+
+  -- the first path's literals stand behind their terms' marks, some of the second's in ord, the marks of its terms behind tab's first places
+  pub covers-setting : {ord into tab : List ℕ} → literalsIn (drop 64 into) ≡ literals p → ((l : Literal) → List·Memᴰ l (literalsIn ord) → List·Memᴰ l (literals q))
+      → Marks ar (λ t. getD into t 0) (literals p) → Marks ar (λ t. getD tab (64 + t) 0) (literals q) → Setting ar bothTerms ord into tab
+  covers-setting {ord} {into} {tab} e f mp mq = record {
+    search = subst (λ (ls : List Literal). Searchable ar ls bothTerms) (sym e) covers-searchable;
+    labels = record { each = λ l m. nq .each .each l (f l m) };
+    own = own;
+    has = has;
+    of = of;
+  }
+    where
+      own : (u : ℕ) → List·Memᴰ u (termsIn ar (literalsIn ord)) → List·Memᴰ u bothTerms
+      own u m = let o = of-terms ar (literalsIn ord) u m in Memᴰ·append-right (termsIn ar (literals p)) (in-terms ar (literals q) (o .0) u (f (o .0) (o .1)) (o .2))
+
+      has : (u : ℕ) → List·Memᴰ u bothTerms → 0 < getD into u 0 + getD tab (64 + u) 0
+      has u m = go (List·Memᴰ·append-cases (termsIn ar (literals p)) m)
+        where
+          go : List·Memᴰ u (termsIn ar (literals p)) ⊎ List·Memᴰ u (termsIn ar (literals q)) → 0 < getD into u 0 + getD tab (64 + u) 0
+          go (inl n) = omega (arith, mp .has u n)
+          go (inr n) = omega (arith, mq .has u n)
+
+      of : (u : ℕ) → u < 64 → 0 < getD into u 0 + getD tab (64 + u) 0 → List·Memᴰ u bothTerms
+      of u h k = go (cmp 0 (getD into u 0))
+        where
+          second : getD into u 0 ≤ 0 → List·Memᴰ u bothTerms
+          second z = Memᴰ·append-right (termsIn ar (literals p)) (mq .of u h (omega arith))
+
+          go : Cmp 0 (getD into u 0) → List·Memᴰ u bothTerms
+          go (below c) = Memᴰ·append-left (termsIn ar (literals q)) (mp .of u h c)
+          go (equal c) = second (omega arith)
+          go (above c) = absurd (omega arith)
+
+  -- a search over the second path's literals in some order answers whether it covers the first
+  pub covers-order : (qs : List Literal) → ((l : Literal) → List·Memᴰ l qs → List·Memᴰ l (literals q)) → ((l : Literal) → List·Memᴰ l (literals q) → List·Memᴰ l qs)
+      → matches ar (literals p) bothTerms qs start ≡ covers ar p q
+  unfolding covers
+  covers-order qs f g = matches-order ar (literals p) bothTerms covers-searchable qs (literals q) start f g

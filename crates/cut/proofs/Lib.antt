@@ -4,3 +4,6 @@ pub mod SolveLaws
 pub mod RouteLaws
 pub mod PlaceLaws
 pub mod CoversLaws
+pub mod MarkLaws
+pub mod StoreLaws
+pub mod AnswerLaws

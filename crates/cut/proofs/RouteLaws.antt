@@ -293,7 +293,7 @@ module _ {ws : List ℕ} {n : ℕ} (w : Rows ws n) where
         }
 
 -- ===== The literals of a path =====
-path-in : (d : Diagram) (k : ℕ) → k < length (paths d) → List·Memᴰ (pathAt d k) (paths d)
+pub path-in : (d : Diagram) (k : ℕ) → k < length (paths d) → List·Memᴰ (pathAt d k) (paths d)
 unfolding pathAt paths
 path-in (leaf v) k h = List·Memᴰ·head refl
 path-in (branch l t f) k h = go (cmp k (length (paths t))) (path-in t) (path-in f)
@@ -313,7 +313,7 @@ codes-length : (p : Path) → length (codes p) ≡ length (p .steps)
 unfolding codes literals
 codes-length p = length-map (map literalOf (p .steps)) codeOf ∙ length-map (p .steps) literalOf
 
-codes-step : (s : Step) (p : Path) → codes (stepBefore s p) ≡ (s .label * 2 + bit (s .side)) ∷ codes p
+pub codes-step : (s : Step) (p : Path) → codes (stepBefore s p) ≡ (s .label * 2 + bit (s .side)) ∷ codes p
 unfolding codes literals stepBefore codeOf
 codes-step s p = refl
 

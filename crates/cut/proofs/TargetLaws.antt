@@ -102,12 +102,12 @@ bind-four ar l us τ g e n z =
     ∙ ap (λ (ts : List ℕ). bindTerms τ ts (pad us)) (label-pad ar l g e)
 
 -- ===== Literals by number =====
-mem-at : {A : Type 0} (f : ℕ → A) (xs : List ℕ) (i : ℕ) → i < length xs → List·Memᴰ (f (getD xs i 0)) (map f xs)
+pub mem-at : {A : Type 0} (f : ℕ → A) (xs : List ℕ) (i : ℕ) → i < length xs → List·Memᴰ (f (getD xs i 0)) (map f xs)
 mem-at f [] i h = absurd (omega arith)
 mem-at f (x ∷ xs) zero h = List·Memᴰ·head refl
 mem-at f (x ∷ xs) (suc i) h = List·Memᴰ·tail (mem-at f xs i (omega arith))
 
-at-mem : {A : Type 0} (f : ℕ → A) (xs : List ℕ) (a : A) → List·Memᴰ a (map f xs) → (i : ℕ) × (i < length xs) × (a ≡ f (getD xs i 0))
+pub at-mem : {A : Type 0} (f : ℕ → A) (xs : List ℕ) (a : A) → List·Memᴰ a (map f xs) → (i : ℕ) × (i < length xs) × (a ≡ f (getD xs i 0))
 at-mem f (x ∷ xs) a (List·Memᴰ·head e) = (0, omega arith, e)
 at-mem f (x ∷ xs) a (List·Memᴰ·tail m) = let r = at-mem f xs a m in (suc (r .0), omega (arith, r .1), r .2)
 

@@ -10,3 +10,4 @@ pub mod ReduceLaws
 pub mod Search
 pub mod Routes
 pub mod Covering
+pub mod Stored

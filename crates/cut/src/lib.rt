@@ -1,5 +1,6 @@
 // Cuts: an edge whose paths are all covered elsewhere goes to leaf 0.
 use label::Label;
+use label::Term;
 use refusal::Refusal;
 ghost use mathlib.Core.Path.{_≡_};
 ghost use Prim.Native.Nat.{ℕ, _+_, _-_, _*_, _/_, _<_, _≤_, min};
@@ -7,7 +8,12 @@ ghost use lib.ListN.{length, getD};
 ghost use Rattle.label.specs.Limits.{termBase, leafMark};
 ghost use Rattle.diagram.specs.Words.{labelAt};
 ghost use Rattle.diagram.specs.Validity.{tree};
+ghost use Rattle.label.specs.Limits.{firstVariable};
+ghost use Rattle.listing.specs.Used.{marked};
 ghost use Rattle.cut.specs.Paths.{paths};
+ghost use Rattle.cut.specs.Cut.{covers};
+ghost use Rattle.cut.specs.Covering.{Coverable};
+ghost use Rattle.cut.specs.Stored.{termsOfCode, Markable, Unmarked, Marking, Enterable, Stored, Ready, PartPost, Searchable, Answers};
 ghost use Rattle.cut.specs.Routes.{Rows, Counted, At, Stepped, pathAt, Sided, Entered};
 ghost use Rattle.cut.specs.Search.{slotFits, slotAfter, Slots, Replacing, BindPost, alike, plainWay, equalWay, wayAt, wayCount, TryPost, allKnown, Sorted, Finds, Images, Digits, Met, numberOf, Tabled, SolvePost, termAt, Unplaced, Placing};
 
@@ -437,4 +443,132 @@ fn first_places(ord: &[u32], n: usize, tab: &mut [u32])
             m += 1;
         }
     }
+}
+
+// Marks the terms of the literal x.
+fn mark_literal(arities: &[u64], marks: &mut [u32], x: u64)
+    requires { ⌜ Markable (now arities) (now marks) x ⌝ }
+    ensures { λ _. ⌜ now (marks .exit) ≡ marked (termsOfCode (now (arities .entry)) x) (now (marks .entry)) ⌝ }
+{
+    let l = x / 2;
+    let n = arities[(l / Label::PREDICATE_WEIGHT) as usize];
+    if n == 0 {
+        return;
+    }
+    marks[(l / Label::FIRST_WEIGHT % Term::BASE) as usize] = 1;
+    if n == 1 {
+        return;
+    }
+    marks[(l / Label::SECOND_WEIGHT % Term::BASE) as usize] = 1;
+    if n == 2 {
+        return;
+    }
+    marks[(l / Label::THIRD_WEIGHT % Term::BASE) as usize] = 1;
+    if n == 3 {
+        return;
+    }
+    marks[(l % Term::BASE) as usize] = 1;
+}
+
+// Marks the terms of the n literals behind the marks.
+fn mark_path(arities: &[u64], out: &mut [u32], n: usize)
+    requires { ⌜ Unmarked (now arities) (now out) n ⌝ }
+    ensures { λ _. ⌜ Marking (now (arities .entry)) (now (out .entry)) (now (out .exit)) n ⌝ }
+{
+    let mut i = 0;
+    while i < n {
+        let x = wide(out[64 + i]);
+        mark_literal(arities, out, x);
+        i += 1;
+    }
+}
+
+// Writes the literals of path k in order behind the marks of their terms, and answers how many they are.
+fn enter_path(
+    arities: &[u64],
+    words: &[u64],
+    counts: &[u64],
+    n: usize,
+    k: u64,
+    out: &mut [u32],
+) -> usize
+    requires { ⌜ Enterable (now arities) (now words) (now counts) n k (now out) ⌝ }
+    ensures { λ j. ⌜ Stored (now (arities .entry)) (pathAt (tree (now (words .entry)) (n - 1)) k) (now (out .exit)) j ⌝ }
+{
+    let j = path_into(words, counts, n, k, out);
+    mark_path(arities, out, j);
+    j
+}
+
+// Copies the marks of 64 terms behind the table.
+fn copy_marks(marks: &[u32], tab: &mut [u32])
+    requires { ⌜ termBase ≤ length (now marks) ⌝ }
+    requires { ⌜ termBase + termBase ≤ length (now tab) ⌝ }
+    ensures { λ _. ⌜ ((t : ℕ) → t < termBase → getD (now (tab .exit)) (termBase + t) 0 ≡ getD (now (marks .entry)) t 0) ⌝ }
+{
+    let mut t = 0;
+    while t < 64 {
+        tab[64 + t] = marks[t];
+        t += 1;
+    }
+}
+
+// Each term becomes itself.
+fn keep_terms(theta: &mut [u64])
+    requires { ⌜ termBase ≤ length (now theta) ⌝ }
+    ensures { λ _. ⌜ ((v : ℕ) → v < termBase → getD (now (theta .exit)) v 0 ≡ v) ⌝ }
+{
+    let mut v = 0;
+    while v < 64 {
+        theta[v] = v as u64;
+        v += 1;
+    }
+}
+
+// No variable has a place yet.
+fn unplace(tab: &mut [u32])
+    requires { ⌜ termBase + termBase ≤ length (now tab) ⌝ }
+    ensures { λ _. ⌜ Unplaced (now (tab .exit)) ⌝ }
+    ensures { λ _. ⌜ ((v : ℕ) → termBase ≤ v → getD (now (tab .exit)) v 0 ≡ getD (now (tab .entry)) v 0) ⌝ }
+{
+    let mut v = 0;
+    while v < 32 {
+        tab[v] = 0;
+        tab[32 + v] = 2000;
+        v += 1;
+    }
+}
+
+// Whether a replacement takes the literals of ord to those of the first path, or to t = t true.
+fn match_part(ord: &[u32], into: &[u32], tab: &mut [u32], theta: &mut [u64]) -> bool
+    requires { ⌜ Ready (now ord) (now into) (now tab) (now theta) ⌝ }
+    ensures { λ r. ⌜ PartPost (now (ord .entry)) (now (into .entry)) (now (tab .entry)) r (now (tab .exit)) (now (theta .exit)) ⌝ }
+{
+    unplace(tab);
+    first_places(ord, ord.len(), tab);
+    solve(ord, into, tab, theta, ord.len(), 0)
+}
+
+// Whether a replacement takes the b literals behind the marks of `from` to the a literals behind those of `into`, or to t = t true.
+fn search(into: &[u32], a: usize, from: &[u32], b: usize) -> bool
+    requires { ⌜ Searchable (now into) a (now from) b ⌝ }
+    ensures { λ r. ⌜ Answers (now (into .entry)) a (now (from .entry)) b r ⌝ }
+{
+    let mut tab = [0u32; 128];
+    let mut theta = [0u64; 64];
+    copy_marks(from, &mut tab);
+    keep_terms(&mut theta);
+    match_part(&from[64..64 + b], &into[..64 + a], &mut tab, &mut theta)
+}
+
+// Whether a replacement of the variables of path q, by terms of paths p and q, takes each of its literals to one of path p, or to t = t true.
+pub fn covers(arities: &[u64], words: &[u64], counts: &[u64], n: usize, p: u64, q: u64) -> bool
+    requires { ⌜ Coverable (now arities) (now words) (now counts) n p q ⌝ }
+    ensures { λ r. ⌜ r ≡ covers (now (arities .entry)) (pathAt (tree (now (words .entry)) (n - 1)) p) (pathAt (tree (now (words .entry)) (n - 1)) q) ⌝ }
+{
+    let mut into = [0u32; 320];
+    let mut from = [0u32; 320];
+    let a = enter_path(arities, words, counts, n, p, &mut into);
+    let b = enter_path(arities, words, counts, n, q, &mut from);
+    search(&into, a, &from, b)
 }
