@@ -7,3 +7,6 @@ pub mod CoversLaws
 pub mod MarkLaws
 pub mod StoreLaws
 pub mod AnswerLaws
+pub mod OrderLaws
+pub mod JoinLaws
+pub mod PartLaws

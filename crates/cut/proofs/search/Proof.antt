@@ -6,63 +6,67 @@ use Rattle.cut.proofs.search.Reads as reads
 use Rattle.cut.proofs.search.Lts as lts
 use Rattle.cut.proofs.copy_marks.Reads as copy-marks-reads
 use Rattle.cut.proofs.keep_terms.Reads as keep-terms-reads
-use Rattle.cut.proofs.match_part.Reads as match-part-reads
+use Rattle.cut.proofs.match_parts.Reads as match-parts-reads
 
--- src/lib.rt:552:22
+-- src/lib.rt:718:22
 slice-aggregate-copy-marks : tie.Need-slice-aggregate-copy-marks
 slice-aggregate-copy-marks c = search needs
 
--- src/lib.rt:552:5
+-- src/lib.rt:718:5
 copy-marks-requires : tie.Need-copy-marks-requires
 copy-marks-requires c κs = search needs
 
--- src/lib.rt:553:16
+-- src/lib.rt:719:16
 slice-aggregate-keep-terms : tie.Need-slice-aggregate-keep-terms
 slice-aggregate-keep-terms c = search needs
 
--- src/lib.rt:553:5
+-- src/lib.rt:719:5
 keep-terms-requires : tie.Need-keep-terms-requires
 keep-terms-requires c κs = search needs
 
--- src/lib.rt:554:26
-add-match-part : tie.Need-add-match-part
-add-match-part c = search needs
+-- src/lib.rt:720:31
+add-match-parts : tie.Need-add-match-parts
+add-match-parts c = search needs
 
--- src/lib.rt:554:16
-sub-match-part : tie.Need-sub-match-part
-sub-match-part c = search needs
+-- src/lib.rt:720:17
+sub-match-parts : tie.Need-sub-match-parts
+sub-match-parts c = search needs
 
--- src/lib.rt:554:16
-part-match-part-start : tie.Need-part-match-part-start
-part-match-part-start c = search needs
+-- src/lib.rt:720:17
+part-match-parts-start : tie.Need-part-match-parts-start
+part-match-parts-start c = search needs
 
--- src/lib.rt:554:16
-part-match-part-end : tie.Need-part-match-part-end
-part-match-part-end c = search needs
+-- src/lib.rt:720:17
+part-match-parts-end : tie.Need-part-match-parts-end
+part-match-parts-end c = search needs
 
--- src/lib.rt:554:43
-add-match-part-2 : tie.Need-add-match-part-2
-add-match-part-2 c = search needs
+-- src/lib.rt:720:48
+add-match-parts-2 : tie.Need-add-match-parts-2
+add-match-parts-2 c = search needs
 
--- src/lib.rt:554:35
-slice-aggregate-match-part : tie.Need-slice-aggregate-match-part
-slice-aggregate-match-part c = into-long (c .before .before .before .before .before .before .before .before .before .before .pre)
+-- src/lib.rt:720:40
+slice-aggregate-match-parts : tie.Need-slice-aggregate-match-parts
+slice-aggregate-match-parts c = into-long (c .before .before .before .before .before .before .before .before .before .before .before .pre)
 
--- src/lib.rt:554:52
-slice-aggregate-match-part-2 : tie.Need-slice-aggregate-match-part-2
-slice-aggregate-match-part-2 c = search needs
+-- src/lib.rt:720:57
+slice-aggregate-match-parts-2 : tie.Need-slice-aggregate-match-parts-2
+slice-aggregate-match-parts-2 c = search needs
 
--- src/lib.rt:554:62
-slice-aggregate-match-part-3 : tie.Need-slice-aggregate-match-part-3
-slice-aggregate-match-part-3 c = search needs
+-- src/lib.rt:720:67
+slice-aggregate-match-parts-3 : tie.Need-slice-aggregate-match-parts-3
+slice-aggregate-match-parts-3 c = search needs
 
--- src/lib.rt:554:5
-match-part-requires : tie.Need-match-part-requires
-match-part-requires c κs = search-ready (c .before .before .before .before .before .before .before .before .before .before .before .before .pre) (c .before .before .before .before .before .before .before .before .copy-marks .kept .1 .0) (c .before .before .before .before .before .keep-terms .kept .0) (c .before .before .before .before .before .keep-terms .ensures)
+-- src/lib.rt:720:5
+match-parts-requires : tie.Need-match-parts-requires
+match-parts-requires c κs = search-ready (c .before .before .before .before .before .before .before .before .before .before .before .before .before .pre) (c .before .before .before .before .before .before .before .before .copy-marks .kept .1 .0) (c .before .before .before .before .before .keep-terms .kept .0) (c .before .before .before .before .before .keep-terms .ensures)
 
--- src/lib.rt:546:1
+-- src/lib.rt:712:1
+same-length : tie.Need-same-length
+same-length c = search needs
+
+-- src/lib.rt:712:1
 returns : tie.Need-returns
-returns c = search-answers (c .before .before .before .before .before .before .before .before .before .before .before .before .before .before .before .pre) (c .before .before .before .before .before .before .before .before .before .before .before .copy-marks .ensures) (c .before .before .match-part .ensures)
+returns c = search-answers (c .before .before .before .before .before .before .before .before .before .before .before .before .before .before .before .before .before .before .pre) (c .before .before .before .before .before .before .before .before .before .before .before .before .before .copy-marks .ensures) (c .before .before .before .before .match-parts .ensures)
 
 pub search-spec : {M : Type 1} → statement M
 search-spec =
@@ -72,13 +76,14 @@ search-spec =
     copy-marks-requires
     slice-aggregate-keep-terms
     keep-terms-requires
-    add-match-part
-    sub-match-part
-    part-match-part-start
-    part-match-part-end
-    add-match-part-2
-    slice-aggregate-match-part
-    slice-aggregate-match-part-2
-    slice-aggregate-match-part-3
-    match-part-requires
+    add-match-parts
+    sub-match-parts
+    part-match-parts-start
+    part-match-parts-end
+    add-match-parts-2
+    slice-aggregate-match-parts
+    slice-aggregate-match-parts-2
+    slice-aggregate-match-parts-3
+    match-parts-requires
+    same-length
     returns)
