@@ -10,3 +10,4 @@ pub mod AnswerLaws
 pub mod OrderLaws
 pub mod JoinLaws
 pub mod PartLaws
+pub mod SomeWayLaws

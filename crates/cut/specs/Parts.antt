@@ -3,12 +3,12 @@
 use mathlib.Core.Path.{_≡_}
 use mathlib.Core.Bool.{Bool, true, false, _&&_, _||_}
 use mathlib.Core.List.{List}
-use Prim.Native.Nat.{ℕ, _+_, _/_, _≤_, _<_}
+use Prim.Native.Nat.{ℕ, _+_, _/_, _%_, _≤_, _<_}
 use lib.ListN.{length, getD, drop}
 use lib.Dec.{ltb, leb}
 use Rattle.label.specs.Limits.{firstVariable, termBase}
 use Rattle.cut.specs.Match.{start, matches}
-use Rattle.cut.specs.Search.{literalsIn, placeOf, Setting}
+use Rattle.cut.specs.Search.{literalsIn, placeOf, alike, Setting}
 use Rattle.cut.specs.declared.Pick.{Pick}
 
 -- the term t is a variable that was seen
@@ -76,3 +76,15 @@ pub record PartTaken (ord : List ℕ) (k : ℕ) (e : ℕ) (ord′ seen′ : List
 -- what the search of all parts answers
 pub record PartsPost (ord into tab : List ℕ) (r : Bool) : Type 0 where
   pub answer : (ar T : List ℕ) → Setting ar T ord into tab → r ≡ matches ar (literalsIn (drop termBase into)) T (literalsIn ord) start
+
+-- no literal of the first path has the predicate and sign of x, and x is no true equality
+pub record NoWay (into : List ℕ) (x : ℕ) : Type 0 where
+  pub others : (j : ℕ) → termBase ≤ j → j < length into → alike x (getD into j 0) ≡ false
+  pub equality : x < 33554432 → x % 2 ≡ 1 → ⊥
+
+-- what the tests for ways say
+pub record WayPost (into : List ℕ) (x : ℕ) (r : Bool) : Type 0 where
+  pub no : r ≡ false → NoWay into x
+
+pub record WaysPost (ord into : List ℕ) (r : Bool) : Type 0 where
+  pub no : r ≡ false → (i : ℕ) × (i < length ord) × NoWay into (getD ord i 0)

@@ -3,7 +3,8 @@ use label::Label;
 use label::Term;
 use refusal::Refusal;
 ghost use mathlib.Core.Path.{_≡_};
-ghost use Prim.Native.Nat.{ℕ, _+_, _-_, _*_, _/_, _<_, _≤_, min};
+ghost use mathlib.Core.Bool.{false};
+ghost use Prim.Native.Nat.{ℕ, _+_, _-_, _*_, _/_, _%_, _<_, _≤_, min};
 ghost use lib.ListN.{length, getD};
 ghost use Rattle.label.specs.Limits.{termBase, leafMark};
 ghost use Rattle.diagram.specs.Words.{labelAt};
@@ -13,7 +14,7 @@ ghost use Rattle.listing.specs.Used.{marked};
 ghost use Rattle.cut.specs.Paths.{paths};
 ghost use Rattle.cut.specs.Cut.{covers};
 ghost use Rattle.cut.specs.Covering.{Coverable};
-ghost use Rattle.cut.specs.Parts.{isSeen, shares, Ranked, Best, Takable, Taken, Separable, PartTaken, PartsPost};
+ghost use Rattle.cut.specs.Parts.{isSeen, shares, Ranked, Best, Takable, Taken, Separable, PartTaken, PartsPost, WayPost, WaysPost};
 ghost use Rattle.cut.specs.Stored.{termsOfCode, Markable, Unmarked, Marking, Enterable, Stored, Ready, PartPost, Searchable, Answers};
 ghost use Rattle.cut.specs.Routes.{Rows, Counted, At, Stepped, pathAt, Sided, Entered};
 ghost use Rattle.cut.specs.Search.{fourOf, slotFits, slotAfter, Slots, Replacing, BindPost, alike, plainWay, equalWay, wayAt, wayCount, TryPost, allKnown, Sorted, Finds, Images, Digits, Met, numberOf, Tabled, SolvePost, termAt, Unplaced, Placing};
@@ -692,7 +693,7 @@ fn next_part(ord: &mut [u32], seen: &mut [u32], k: usize) -> usize
 }
 
 // Whether a replacement takes the literals of ord to those of the first path, or to t = t true: each part is searched by itself.
-fn match_parts(ord: &mut [u32], into: &[u32], tab: &mut [u32], theta: &mut [u64]) -> bool
+fn search_parts(ord: &mut [u32], into: &[u32], tab: &mut [u32], theta: &mut [u64]) -> bool
     requires { ⌜ Ready (now ord) (now into) (now tab) (now theta) ⌝ }
     ensures { λ r. ⌜ PartsPost (now (ord .entry)) (now (into .entry)) (now (tab .entry)) r ⌝ }
 {
@@ -706,6 +707,60 @@ fn match_parts(ord: &mut [u32], into: &[u32], tab: &mut [u32], theta: &mut [u64]
         k = e;
     }
     true
+}
+
+// Whether the literal x is an equality that is true.
+fn is_equal(x: u64) -> bool
+    ensures { λ r. ⌜ (r ≡ false → x < 33554432 → x % 2 ≡ 1 → ⊥) ⌝ }
+{
+    if x >= 33554432 {
+        return false;
+    }
+    x % 2 == 1
+}
+
+// Whether the literal x has a way: one of the first path has its predicate and sign, or it may become t = t.
+fn has_way(into: &[u32], x: u64) -> bool
+    requires { ⌜ termBase ≤ length (now into) ⌝ }
+    ensures { λ r. ⌜ WayPost (now (into .entry)) x r ⌝ }
+{
+    if is_equal(x) {
+        return true;
+    }
+    let mut j = 64;
+    while j < into.len() {
+        if alike(x, wide(into[j])) {
+            return true;
+        }
+        j += 1;
+    }
+    false
+}
+
+// Whether each literal of ord has a way.
+fn have_ways(ord: &[u32], into: &[u32]) -> bool
+    requires { ⌜ termBase ≤ length (now into) ⌝ }
+    ensures { λ r. ⌜ WaysPost (now (ord .entry)) (now (into .entry)) r ⌝ }
+{
+    let mut i = 0;
+    while i < ord.len() {
+        if !has_way(into, wide(ord[i])) {
+            return false;
+        }
+        i += 1;
+    }
+    true
+}
+
+// The same, after a quick look whether each literal has a way at all.
+fn match_parts(ord: &mut [u32], into: &[u32], tab: &mut [u32], theta: &mut [u64]) -> bool
+    requires { ⌜ Ready (now ord) (now into) (now tab) (now theta) ⌝ }
+    ensures { λ r. ⌜ PartsPost (now (ord .entry)) (now (into .entry)) (now (tab .entry)) r ⌝ }
+{
+    if !have_ways(ord, into) {
+        return false;
+    }
+    search_parts(ord, into, tab, theta)
 }
 
 // Whether a replacement takes the b literals behind the marks of `from` to the a literals behind those of `into`, or to t = t true.
