@@ -5,10 +5,6 @@ use mathlib.Core.Path.{refl, sym, _∙_}
 use Rattle.cut.proofs.PartLaws.{Parted, parted-start, parted-separable, parted-ready, parted-fail, parted-next, parted-end}
 use Rattle.cut.proofs.search_parts.Statement.{statement}
 use Rattle.cut.proofs.search_parts.Tie as tie
-use Rattle.cut.proofs.search_parts.Reads as reads
-use Rattle.cut.proofs.search_parts.Lts as lts
-use Rattle.cut.proofs.match_part.Reads as match-part-reads
-use Rattle.cut.proofs.next_part.Reads as next-part-reads
 
 abbrev Inv-loop : tie.InvT-loop
 Inv-loop ord₀ into tab₀ theta₀ seen₀ k₀ ord tab theta seen k = Parted ord₀ into tab₀ theta₀ ord tab theta seen k
@@ -16,99 +12,61 @@ Inv-loop ord₀ into tab₀ theta₀ seen₀ k₀ ord tab theta seen k = Parted 
 abbrev μ-loop : tie.MeasureT-loop
 μ-loop ord₀ into tab₀ theta₀ seen₀ k₀ ord tab theta seen k = length ord₀ - k
 
--- src/lib.rt:701:5
 loop-holds : tie.Need-loop-holds Inv-loop μ-loop
 loop-holds c = parted-start (c .before .before .before .before .pre) 64 refl
 
--- src/lib.rt:702:32
 slice-aggregate-next-part : tie.Need-slice-aggregate-next-part Inv-loop μ-loop
 slice-aggregate-next-part c = sym (c .before .before .before .loop .inv .seen-count)
 
--- src/lib.rt:702:13
 next-part-requires : tie.Need-next-part-requires Inv-loop μ-loop
 next-part-requires c κs = parted-separable (c .before .before .before .loop .inv) (c .before .before .loop-test .taken)
 
--- src/lib.rt:703:24
 mul-match-part : tie.Need-mul-match-part Inv-loop μ-loop
 mul-match-part c = omega (arith, c .before .before .before .before .before .before .before .loop .inv .most, c .before .before .before .before .before .before .before .loop .inv .ready .few)
 
--- src/lib.rt:703:24
 sub-match-part : tie.Need-sub-match-part Inv-loop μ-loop
 sub-match-part c = omega (arith, c .before .before .before .next-part .ensures .more)
 
--- src/lib.rt:703:24
 part-match-part-start : tie.Need-part-match-part-start Inv-loop μ-loop
 part-match-part-start c = omega (arith, c .before .before .before .before .next-part .ensures .more)
 
--- src/lib.rt:703:24
 part-match-part-end : tie.Need-part-match-part-end Inv-loop μ-loop
 part-match-part-end c = omega (arith, c .before .before .before .before .next-part .ensures .most, c .before .before .before .before .next-part .ensures .reordered .length-same)
 
--- src/lib.rt:703:13
 match-part-requires : tie.Need-match-part-requires Inv-loop μ-loop
 match-part-requires c κs = parted-ready (c .before .before .before .before .before .before .before .before .before .before .before .loop .inv) (c .before .before .before .before .before .before .before .next-part .ensures)
 
--- src/lib.rt:704:13
 same-length : tie.Need-same-length Inv-loop μ-loop
 same-length c = c .before .before .before .before .before .before .before .before .before .before .before .before .before .next-part .kept .0 ∙ c .before .before .before .before .before .before .before .before .before .before .before .before .before .before .before .before .before .loop .inv .reordered .length-same
 
--- src/lib.rt:704:13
 same-length-2 : tie.Need-same-length-2 Inv-loop μ-loop
 same-length-2 c = c .before .before .before .before .before .match-part .kept .1 .1 .0 ∙ c .before .before .before .before .before .before .before .before .before .before .before .before .before .before .before .before .before .loop .inv .tab-count
 
--- src/lib.rt:704:13
 same-length-3 : tie.Need-same-length-3 Inv-loop μ-loop
 same-length-3 c = c .before .before .before .before .before .match-part .kept .1 .1 .1 .0 ∙ c .before .before .before .before .before .before .before .before .before .before .before .before .before .before .before .before .before .loop .inv .theta-count
 
--- src/lib.rt:704:13
 returns : tie.Need-returns Inv-loop μ-loop
 returns c = parted-fail (c .before .before .before .before .before .before .before .before .before .before .before .before .before .before .before .before .before .loop .inv) (c .before .before .before .before .before .before .before .before .before .before .before .before .before .next-part .ensures) (c .before .before .before .before .before .match-part .ensures) (c .if1 .taken)
 
--- src/lib.rt:701:5
 loop-less : tie.Need-loop-less Inv-loop μ-loop
 loop-less c = omega (arith, c .before .before .before .before .before .before .before .before .before .before .before .before .before .next-part .ensures .more, c .before .before .before .before .before .before .before .before .before .before .before .before .before .next-part .ensures .most, c .before .before .before .before .before .before .before .before .before .before .before .before .before .before .before .before .before .loop .inv .reordered .length-same)
 
--- src/lib.rt:701:5
 loop-again : tie.Need-loop-again Inv-loop μ-loop
 loop-again c = parted-next (c .before .before .before .before .before .before .before .before .before .before .before .before .before .before .before .before .before .loop .inv) (c .before .before .before .before .before .before .before .before .before .before .before .before .before .next-part .ensures) (c .before .before .before .before .before .match-part .ensures) (c .if1 .left) (c .before .before .before .before .before .before .before .before .before .before .before .before .before .next-part .kept .1 .0) (c .before .before .before .before .before .match-part .kept .1 .1 .0) (c .before .before .before .before .before .match-part .kept .1 .1 .1 .0)
 
--- src/lib.rt:695:1
 same-length-4 : tie.Need-same-length-4 Inv-loop μ-loop
 same-length-4 c = c .before .loop .inv .reordered .length-same
 
--- src/lib.rt:695:1
 same-length-5 : tie.Need-same-length-5 Inv-loop μ-loop
 same-length-5 c = c .before .loop .inv .tab-count
 
--- src/lib.rt:695:1
 same-length-6 : tie.Need-same-length-6 Inv-loop μ-loop
 same-length-6 c = c .before .loop .inv .theta-count
 
--- src/lib.rt:695:1
 returns-2 : tie.Need-returns-2 Inv-loop μ-loop
 returns-2 c = parted-end (c .before .loop .inv) (c .loop-test .left)
 
 pub search-parts-spec : {M : Type 1} → statement M
 search-parts-spec =
     tie.close
-    (tie.spec
-    Inv-loop
-    μ-loop
-    loop-holds
-    slice-aggregate-next-part
-    next-part-requires
-    mul-match-part
-    sub-match-part
-    part-match-part-start
-    part-match-part-end
-    match-part-requires
-    same-length
-    same-length-2
-    same-length-3
-    returns
-    loop-less
-    loop-again
-    same-length-4
-    same-length-5
-    same-length-6
-    returns-2)
+    (tie.spec Inv-loop μ-loop loop-holds slice-aggregate-next-part next-part-requires mul-match-part sub-match-part part-match-part-start part-match-part-end match-part-requires same-length same-length-2 same-length-3 returns loop-less loop-again same-length-4 same-length-5 same-length-6 returns-2)
