@@ -17,7 +17,8 @@ use Rattle.cut.specs.CoverLaws.{PathLabels, in-small}
 use Rattle.cut.specs.Search.{literalsIn}
 use Rattle.cut.specs.Routes.{pathAt}
 use Rattle.cut.specs.Covering.{Coverable}
-use Rattle.cut.specs.Stored.{Marks, Enterable, Stored, Ready, PartPost, Searchable, Answers}
+use Rattle.cut.specs.Stored.{Marks, Enterable, Stored, Ready, Searchable, Answers}
+use Rattle.cut.specs.Parts.{PartsPost}
 use Rattle.cut.proofs.StoreLaws.{listed-labels}
 use Rattle.cut.proofs.CoversLaws.{bothTerms, covers-setting, covers-order}
 
@@ -62,8 +63,8 @@ module _ {into from : List ℕ} {a b : ℕ} (g : Searchable into a from b) where
   }
 
   module _ {tab : List ℕ} (copied : (t : ℕ) → t < 64 → getD tab (64 + t) 0 ≡ getD from t 0) where
-    pub search-answers : {tab′ theta′ : List ℕ} {r : Bool} → PartPost (take (64 + b - 64) (drop 64 from)) (take (64 + a) into) tab r tab′ theta′ → Answers into a from b r
-    search-answers {tab′} {theta′} {r} s = record { each = each }
+    pub search-answers : {r : Bool} → PartsPost (take (64 + b - 64) (drop 64 from)) (take (64 + a) into) tab r → Answers into a from b r
+    search-answers {r} s = record { each = each }
       where
         each : (ar : List ℕ) → areArities ar ≡ true → (p q : Path) → PathLabels ar p → PathLabels ar q → Stored ar p into a → Stored ar q from b → r ≡ covers ar p q
         each ar good p q np nq sp sq =

@@ -35,7 +35,7 @@ of-terms ar (l ∷ ls) t m = go (List·Memᴰ·append-cases (termsOf ar (unpacke
     go (inr n) rec = let r = rec n in (r .0, List·Memᴰ·tail (r .1), r .2)
 
 -- at the start only what is no variable is known
-variable-not : (t : ℕ) → t < 32 → isVariable t ≡ false
+pub variable-not : (t : ℕ) → t < 32 → isVariable t ≡ false
 unfolding isVariable
 variable-not t h = rw (lt-leb 32 t h)
 

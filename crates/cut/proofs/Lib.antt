@@ -7,3 +7,7 @@ pub mod CoversLaws
 pub mod MarkLaws
 pub mod StoreLaws
 pub mod AnswerLaws
+pub mod OrderLaws
+pub mod JoinLaws
+pub mod PartLaws
+pub mod SomeWayLaws

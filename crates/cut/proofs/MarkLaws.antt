@@ -58,7 +58,7 @@ pub code-terms : (ar : List ℕ) (x : ℕ) → AllTerms (termsOfCode ar x)
 unfolding termsOfCode
 code-terms ar x t w = terms-below ar (x / 2) t w
 
-length-marked : (ts ms : List ℕ) → length (marked ts ms) ≡ length ms
+pub length-marked : (ts ms : List ℕ) → length (marked ts ms) ≡ length ms
 length-marked [] ms = refl
 length-marked (t ∷ ts) ms = length-marked ts (set ms t 1) ∙ length-set ms t 1
 
@@ -67,7 +67,7 @@ drop-marked [] ms h = refl
 drop-marked (t ∷ ts) ms h = drop-marked ts (set ms t 1) (λ u m. h u (List·Memᴰ·tail m)) ∙ drop-set-lt termBase ms t 1 (h t (List·Memᴰ·head refl))
 
 -- a mark that is set stays
-marked-stays : (ts ms : List ℕ) (t : ℕ) → t < length ms → 0 < getD ms t 0 → 0 < getD (marked ts ms) t 0
+pub marked-stays : (ts ms : List ℕ) (t : ℕ) → t < length ms → 0 < getD ms t 0 → 0 < getD (marked ts ms) t 0
 marked-stays [] ms t l h = h
 marked-stays (u ∷ us) ms t l h = marked-stays us (set ms u 1) t (omega (arith, length-set ms u 1)) (go (cmp t u))
   where
@@ -76,7 +76,7 @@ marked-stays (u ∷ us) ms t l h = marked-stays us (set ms u 1) t (omega (arith,
     go (equal q) = omega (arith, ap (λ (i : ℕ). getD (set ms u 1) i 0) q, getD-set-same ms u 1 0 (omega arith))
     go (above q) = omega (arith, getD-set-other ms u t 1 0 (omega arith))
 
-marked-set : (ts ms : List ℕ) (t : ℕ) → t < length ms → List·Memᴰ t ts → 0 < getD (marked ts ms) t 0
+pub marked-set : (ts ms : List ℕ) (t : ℕ) → t < length ms → List·Memᴰ t ts → 0 < getD (marked ts ms) t 0
 marked-set (u ∷ us) ms t l (List·Memᴰ·head e) =
     marked-stays us (set ms u 1) t (omega (arith, length-set ms u 1)) (omega (arith, ap (λ (i : ℕ). getD (set ms u 1) i 0) e, getD-set-same ms u 1 0 (omega arith)))
 marked-set (u ∷ us) ms t l (List·Memᴰ·tail m) = marked-set us (set ms u 1) t (omega (arith, length-set ms u 1)) m

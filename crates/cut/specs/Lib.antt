@@ -11,3 +11,4 @@ pub mod Search
 pub mod Routes
 pub mod Covering
 pub mod Stored
+pub mod Parts

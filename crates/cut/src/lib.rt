@@ -3,7 +3,8 @@ use label::Label;
 use label::Term;
 use refusal::Refusal;
 ghost use mathlib.Core.Path.{_≡_};
-ghost use Prim.Native.Nat.{ℕ, _+_, _-_, _*_, _/_, _<_, _≤_, min};
+ghost use mathlib.Core.Bool.{false};
+ghost use Prim.Native.Nat.{ℕ, _+_, _-_, _*_, _/_, _%_, _<_, _≤_, min};
 ghost use lib.ListN.{length, getD};
 ghost use Rattle.label.specs.Limits.{termBase, leafMark};
 ghost use Rattle.diagram.specs.Words.{labelAt};
@@ -13,9 +14,10 @@ ghost use Rattle.listing.specs.Used.{marked};
 ghost use Rattle.cut.specs.Paths.{paths};
 ghost use Rattle.cut.specs.Cut.{covers};
 ghost use Rattle.cut.specs.Covering.{Coverable};
+ghost use Rattle.cut.specs.Parts.{isSeen, shares, Ranked, Best, Takable, Taken, Separable, PartTaken, PartsPost, WayPost, WaysPost};
 ghost use Rattle.cut.specs.Stored.{termsOfCode, Markable, Unmarked, Marking, Enterable, Stored, Ready, PartPost, Searchable, Answers};
 ghost use Rattle.cut.specs.Routes.{Rows, Counted, At, Stepped, pathAt, Sided, Entered};
-ghost use Rattle.cut.specs.Search.{slotFits, slotAfter, Slots, Replacing, BindPost, alike, plainWay, equalWay, wayAt, wayCount, TryPost, allKnown, Sorted, Finds, Images, Digits, Met, numberOf, Tabled, SolvePost, termAt, Unplaced, Placing};
+ghost use Rattle.cut.specs.Search.{fourOf, slotFits, slotAfter, Slots, Replacing, BindPost, alike, plainWay, equalWay, wayAt, wayCount, TryPost, allKnown, Sorted, Finds, Images, Digits, Met, numberOf, Tabled, SolvePost, termAt, Unplaced, Placing};
 
 // The side of a row on which an edge leaves it.
 pub enum Edge {
@@ -549,8 +551,220 @@ fn match_part(ord: &[u32], into: &[u32], tab: &mut [u32], theta: &mut [u64]) -> 
     solve(ord, into, tab, theta, ord.len(), 0)
 }
 
+// The literal to be taken next, and its rank.
+struct Pick {
+    at: usize,
+    rank: u64,
+}
+
+// Whether the term t is a variable that was seen.
+fn is_seen(seen: &[u32], t: usize) -> bool
+    requires { ⌜ t < length (now seen) ⌝ }
+    ensures { λ r. ⌜ r ≡ isSeen (now (seen .entry)) t ⌝ }
+{
+    if t < 32 {
+        return false;
+    }
+    wide(seen[t]) > 0
+}
+
+// Whether the literal x has a variable that was seen.
+fn shares(seen: &[u32], x: u64) -> bool
+    requires { ⌜ termBase ≤ length (now seen) ⌝ }
+    ensures { λ r. ⌜ r ≡ shares (now (seen .entry)) x ⌝ }
+{
+    let l = x / 2;
+    if is_seen(seen, (l / 262144 % 64) as usize) {
+        return true;
+    }
+    if is_seen(seen, (l / 4096 % 64) as usize) {
+        return true;
+    }
+    if is_seen(seen, (l / 64 % 64) as usize) {
+        return true;
+    }
+    is_seen(seen, (l % 64) as usize)
+}
+
+// 1 if the term t is a variable that was not seen, else 0.
+fn is_new(seen: &[u32], t: usize) -> u64
+    requires { ⌜ t < length (now seen) ⌝ }
+    ensures { λ r. ⌜ r ≤ 1 ⌝ }
+{
+    if t < 32 {
+        return 0;
+    }
+    if wide(seen[t]) > 0 {
+        return 0;
+    }
+    1
+}
+
+// How many places of the literal x have variables that were not seen.
+fn new_places(seen: &[u32], x: u64) -> u64
+    requires { ⌜ termBase ≤ length (now seen) ⌝ }
+    ensures { λ r. ⌜ r ≤ 4 ⌝ }
+{
+    let l = x / 2;
+    let a = is_new(seen, (l / 262144 % 64) as usize);
+    let b = is_new(seen, (l / 4096 % 64) as usize);
+    let c = is_new(seen, (l / 64 % 64) as usize);
+    let d = is_new(seen, (l % 64) as usize);
+    a + b + c + d
+}
+
+// The rank of the literal x: fewer new variables come first, equalities behind others, and behind all the literals that share no variable.
+fn rank(seen: &[u32], x: u64) -> u64
+    requires { ⌜ termBase ≤ length (now seen) ⌝ }
+    ensures { λ r. ⌜ Ranked (now (seen .entry)) x r ⌝ }
+{
+    let n = new_places(seen, x) * 2;
+    if !shares(seen, x) {
+        return 100 + n;
+    }
+    if x < 33554432 {
+        return n + 1;
+    }
+    n
+}
+
+// The literal of lowest rank from k on.
+fn best(ord: &[u32], seen: &[u32], k: usize) -> Pick
+    requires { ⌜ k < length (now ord) ⌝ }
+    requires { ⌜ termBase ≤ length (now seen) ⌝ }
+    ensures { λ r. ⌜ Best (now (ord .entry)) (now (seen .entry)) k r ⌝ }
+{
+    let mut i = k;
+    let mut at = k;
+    let mut low = 200;
+    while i < ord.len() {
+        let r = rank(seen, wide(ord[i]));
+        if r < low {
+            low = r;
+            at = i;
+            i += 1;
+        } else {
+            i += 1;
+        }
+    }
+    Pick { at: at, rank: low }
+}
+
+// The terms of the literal x are seen.
+fn see(seen: &mut [u32], x: u64)
+    requires { ⌜ termBase ≤ length (now seen) ⌝ }
+    ensures { λ _. ⌜ now (seen .exit) ≡ marked (fourOf (x / 2)) (now (seen .entry)) ⌝ }
+{
+    let l = x / 2;
+    seen[(l / 262144 % 64) as usize] = 1;
+    seen[(l / 4096 % 64) as usize] = 1;
+    seen[(l / 64 % 64) as usize] = 1;
+    seen[(l % 64) as usize] = 1;
+}
+
+// Takes the literal `at` as the one at place k; that one goes to its place.
+fn take_literal(ord: &mut [u32], seen: &mut [u32], k: usize, at: usize)
+    requires { ⌜ Takable (now ord) (now seen) k at ⌝ }
+    ensures { λ _. ⌜ Taken (now (ord .entry)) k (now (ord .exit)) (now (seen .exit)) ⌝ }
+{
+    let x = ord[at];
+    ord[at] = ord[k];
+    ord[k] = x;
+    see(seen, wide(x));
+}
+
+// Puts a part at place k: literals, one after the other, that share a variable with one before. Answers where it ends; what is behind it shares none.
+fn next_part(ord: &mut [u32], seen: &mut [u32], k: usize) -> usize
+    requires { ⌜ Separable (now ord) (now seen) k ⌝ }
+    ensures { λ e. ⌜ PartTaken (now (ord .entry)) k e (now (ord .exit)) (now (seen .exit)) ⌝ }
+{
+    let first = best(ord, seen, k);
+    take_literal(ord, seen, k, first.at);
+    let mut e = k + 1;
+    while e < ord.len() {
+        let b = best(ord, seen, e);
+        if b.rank >= 100 {
+            return e;
+        }
+        take_literal(ord, seen, e, b.at);
+        e += 1;
+    }
+    e
+}
+
+// Whether a replacement takes the literals of ord to those of the first path, or to t = t true: each part is searched by itself.
+fn search_parts(ord: &mut [u32], into: &[u32], tab: &mut [u32], theta: &mut [u64]) -> bool
+    requires { ⌜ Ready (now ord) (now into) (now tab) (now theta) ⌝ }
+    ensures { λ r. ⌜ PartsPost (now (ord .entry)) (now (into .entry)) (now (tab .entry)) r ⌝ }
+{
+    let mut seen = [0u32; 64];
+    let mut k = 0;
+    while k < ord.len() {
+        let e = next_part(ord, &mut seen, k);
+        if !match_part(&ord[k..e], into, tab, theta) {
+            return false;
+        }
+        k = e;
+    }
+    true
+}
+
+// Whether the literal x is an equality that is true.
+fn is_equal(x: u64) -> bool
+    ensures { λ r. ⌜ (r ≡ false → x < 33554432 → x % 2 ≡ 1 → ⊥) ⌝ }
+{
+    if x >= 33554432 {
+        return false;
+    }
+    x % 2 == 1
+}
+
+// Whether the literal x has a way: one of the first path has its predicate and sign, or it may become t = t.
+fn has_way(into: &[u32], x: u64) -> bool
+    requires { ⌜ termBase ≤ length (now into) ⌝ }
+    ensures { λ r. ⌜ WayPost (now (into .entry)) x r ⌝ }
+{
+    if is_equal(x) {
+        return true;
+    }
+    let mut j = 64;
+    while j < into.len() {
+        if alike(x, wide(into[j])) {
+            return true;
+        }
+        j += 1;
+    }
+    false
+}
+
+// Whether each literal of ord has a way.
+fn have_ways(ord: &[u32], into: &[u32]) -> bool
+    requires { ⌜ termBase ≤ length (now into) ⌝ }
+    ensures { λ r. ⌜ WaysPost (now (ord .entry)) (now (into .entry)) r ⌝ }
+{
+    let mut i = 0;
+    while i < ord.len() {
+        if !has_way(into, wide(ord[i])) {
+            return false;
+        }
+        i += 1;
+    }
+    true
+}
+
+// The same, after a quick look whether each literal has a way at all.
+fn match_parts(ord: &mut [u32], into: &[u32], tab: &mut [u32], theta: &mut [u64]) -> bool
+    requires { ⌜ Ready (now ord) (now into) (now tab) (now theta) ⌝ }
+    ensures { λ r. ⌜ PartsPost (now (ord .entry)) (now (into .entry)) (now (tab .entry)) r ⌝ }
+{
+    if !have_ways(ord, into) {
+        return false;
+    }
+    search_parts(ord, into, tab, theta)
+}
+
 // Whether a replacement takes the b literals behind the marks of `from` to the a literals behind those of `into`, or to t = t true.
-fn search(into: &[u32], a: usize, from: &[u32], b: usize) -> bool
+fn search(into: &[u32], a: usize, from: &mut [u32], b: usize) -> bool
     requires { ⌜ Searchable (now into) a (now from) b ⌝ }
     ensures { λ r. ⌜ Answers (now (into .entry)) a (now (from .entry)) b r ⌝ }
 {
@@ -558,7 +772,7 @@ fn search(into: &[u32], a: usize, from: &[u32], b: usize) -> bool
     let mut theta = [0u64; 64];
     copy_marks(from, &mut tab);
     keep_terms(&mut theta);
-    match_part(&from[64..64 + b], &into[..64 + a], &mut tab, &mut theta)
+    match_parts(&mut from[64..64 + b], &into[..64 + a], &mut tab, &mut theta)
 }
 
 // Whether a replacement of the variables of path q, by terms of paths p and q, takes each of its literals to one of path p, or to t = t true.
@@ -570,5 +784,5 @@ pub fn covers(arities: &[u64], words: &[u64], counts: &[u64], n: usize, p: u64, 
     let mut from = [0u32; 320];
     let a = enter_path(arities, words, counts, n, p, &mut into);
     let b = enter_path(arities, words, counts, n, q, &mut from);
-    search(&into, a, &from, b)
+    search(&into, a, &mut from, b)
 }

@@ -4,8 +4,6 @@ use Prim.Native.Nat.{_-_, _≤_}
 use Rattle.cut.proofs.MarkLaws.{Keeping, keeping-start, keeping-next, keeping-end}
 use Rattle.cut.proofs.keep_terms.Statement.{statement}
 use Rattle.cut.proofs.keep_terms.Tie as tie
-use Rattle.cut.proofs.keep_terms.Reads as reads
-use Rattle.cut.proofs.keep_terms.Lts as lts
 
 abbrev Inv-loop : tie.InvT-loop
 Inv-loop theta₀ v₀ theta v = Keeping theta₀ theta v
@@ -13,49 +11,30 @@ Inv-loop theta₀ v₀ theta v = Keeping theta₀ theta v
 abbrev μ-loop : tie.MeasureT-loop
 μ-loop theta₀ v₀ theta v = 64 - v
 
--- src/lib.rt:515:5
 loop-holds : tie.Need-loop-holds Inv-loop μ-loop
 loop-holds c = keeping-start _
 
--- src/lib.rt:516:9
 mul-theta : tie.Need-mul-theta Inv-loop μ-loop
 mul-theta c = omega (arith, c .loop-test .taken)
 
--- src/lib.rt:516:9
 slice-write-theta : tie.Need-slice-write-theta Inv-loop μ-loop
 slice-write-theta c = omega (arith, c .loop-test .taken, c .before .loop .inv .length-kept, c .before .before .pre)
 
--- src/lib.rt:517:9
 add-v : tie.Need-add-v Inv-loop μ-loop
 add-v c = omega (arith, c .loop-test .taken)
 
--- src/lib.rt:515:5
 loop-less : tie.Need-loop-less Inv-loop μ-loop
 loop-less c = omega (arith, c .loop-test .taken)
 
--- src/lib.rt:515:5
 loop-again : tie.Need-loop-again Inv-loop μ-loop
 loop-again c = keeping-next (c .before .before .pre) (c .before .loop .inv) (c .loop-test .taken)
 
--- src/lib.rt:510:1
 same-length : tie.Need-same-length Inv-loop μ-loop
 same-length c = c .before .loop .inv .length-kept
 
--- src/lib.rt:510:1
 returns : tie.Need-returns Inv-loop μ-loop
 returns c = keeping-end (c .before .loop .inv) (c .loop-test .left)
 
 pub keep-terms-spec : {M : Type 1} → statement M
 keep-terms-spec =
-    tie.close
-    (tie.spec
-    Inv-loop
-    μ-loop
-    loop-holds
-    mul-theta
-    slice-write-theta
-    add-v
-    loop-less
-    loop-again
-    same-length
-    returns)
+    tie.close (tie.spec Inv-loop μ-loop loop-holds mul-theta slice-write-theta add-v loop-less loop-again same-length returns)

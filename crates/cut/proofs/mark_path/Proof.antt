@@ -5,10 +5,6 @@ use Rattle.cut.proofs.MarkLaws.{marking-start, marking-room, marking-ma
 use Rattle.cut.specs.Stored.{Marking}
 use Rattle.cut.proofs.mark_path.Statement.{statement}
 use Rattle.cut.proofs.mark_path.Tie as tie
-use Rattle.cut.proofs.mark_path.Reads as reads
-use Rattle.cut.proofs.mark_path.Lts as lts
-use Rattle.cut.proofs.mark_literal.Reads as mark-literal-reads
-use Rattle.cut.proofs.wide.Reads as wide-reads
 
 abbrev Inv-loop : tie.InvT-loop
 Inv-loop arities out₀ n i₀ out i = (i ≤ n) × Marking arities out₀ out i
@@ -16,64 +12,37 @@ Inv-loop arities out₀ n i₀ out i = (i ≤ n) × Marking arities out₀ out i
 abbrev μ-loop : tie.MeasureT-loop
 μ-loop arities out₀ n i₀ out i = n - i
 
--- src/lib.rt:479:5
 loop-holds : tie.Need-loop-holds Inv-loop μ-loop
 loop-holds c = (omega arith, marking-start (c .before .before .pre))
 
--- src/lib.rt:480:26
 add-wide : tie.Need-add-wide Inv-loop μ-loop
 add-wide c = omega (arith, c .loop-test .taken, c .before .before .before .before .pre .few)
 
--- src/lib.rt:480:22
 mul-wide : tie.Need-mul-wide Inv-loop μ-loop
 mul-wide c = omega (arith, c .loop-test .taken, c .before .before .before .before .pre .few)
 
--- src/lib.rt:480:22
 slice-read-wide : tie.Need-slice-read-wide Inv-loop μ-loop
 slice-read-wide c = marking-room (c .before .before .before .before .before .pre) (c .before .before .loop .inv .1) (c .before .loop-test .taken)
 
--- src/lib.rt:480:13
-wide-requires : tie.Need-wide-requires Inv-loop μ-loop
-wide-requires c κs = search needs
-
--- src/lib.rt:481:9
 mark-literal-requires : tie.Need-mark-literal-requires Inv-loop μ-loop
 mark-literal-requires c κs = marking-markable (c .before .before .before .before .before .before .before .pre) (c .before .before .before .before .loop .inv .1) (c .before .before .before .loop-test .taken) (c .before .wide .ensures .0)
 
--- src/lib.rt:482:9
 add-i : tie.Need-add-i Inv-loop μ-loop
 add-i c = omega (arith, c .before .before .before .before .before .before .loop-test .taken, c .before .before .before .before .before .before .before .before .before .before .pre .few)
 
--- src/lib.rt:479:5
 loop-less : tie.Need-loop-less Inv-loop μ-loop
 loop-less c = omega (arith, c .before .before .before .before .before .before .loop-test .taken)
 
--- src/lib.rt:479:5
 loop-again : tie.Need-loop-again Inv-loop μ-loop
 loop-again c = (omega (arith, c .before .before .before .before .before .before .loop-test .taken), marking-next (c .before .before .before .before .before .before .before .before .before .before .pre) (c .before .before .before .before .before .before .before .loop .inv .1) (c .before .before .before .before .before .before .loop-test .taken) (c .before .before .before .before .wide .ensures .0) (c .before .before .mark-literal .ensures))
 
--- src/lib.rt:474:1
 same-length : tie.Need-same-length Inv-loop μ-loop
 same-length c = c .before .loop .inv .1 .length-kept
 
--- src/lib.rt:474:1
 returns : tie.Need-returns Inv-loop μ-loop
 returns c = marking-end (c .before .before .before .before .pre) (c .before .loop .inv .1) (c .loop-test .left) (c .before .loop .inv .0)
 
 pub mark-path-spec : {M : Type 1} → statement M
 mark-path-spec =
     tie.close
-    (tie.spec
-    Inv-loop
-    μ-loop
-    loop-holds
-    add-wide
-    mul-wide
-    slice-read-wide
-    wide-requires
-    mark-literal-requires
-    add-i
-    loop-less
-    loop-again
-    same-length
-    returns)
+    (tie.spec Inv-loop μ-loop loop-holds add-wide mul-wide slice-read-wide (λ c κs. search needs) mark-literal-requires add-i loop-less loop-again same-length returns)

@@ -5,8 +5,6 @@ use Prim.Native.Nat.{_-_, _≤_}
 use Rattle.cut.proofs.MarkLaws.{Unplacing, unplacing-start, unplacing-next, unplacing-end}
 use Rattle.cut.proofs.unplace.Statement.{statement}
 use Rattle.cut.proofs.unplace.Tie as tie
-use Rattle.cut.proofs.unplace.Reads as reads
-use Rattle.cut.proofs.unplace.Lts as lts
 
 abbrev Inv-loop : tie.InvT-loop
 Inv-loop tab₀ v₀ tab v = Unplacing tab₀ tab v
@@ -14,64 +12,40 @@ Inv-loop tab₀ v₀ tab v = Unplacing tab₀ tab v
 abbrev μ-loop : tie.MeasureT-loop
 μ-loop tab₀ v₀ tab v = 32 - v
 
--- src/lib.rt:528:5
 loop-holds : tie.Need-loop-holds Inv-loop μ-loop
 loop-holds c = unplacing-start _
 
--- src/lib.rt:529:9
 mul-tab : tie.Need-mul-tab Inv-loop μ-loop
 mul-tab c = omega (arith, c .loop-test .taken)
 
--- src/lib.rt:529:9
 slice-write-tab : tie.Need-slice-write-tab Inv-loop μ-loop
 slice-write-tab c = omega (arith, c .loop-test .taken, c .before .loop .inv .length-kept, c .before .before .pre)
 
--- src/lib.rt:530:13
 add-tab : tie.Need-add-tab Inv-loop μ-loop
 add-tab c = omega (arith, c .loop-test .taken)
 
--- src/lib.rt:530:9
 mul-tab-2 : tie.Need-mul-tab-2 Inv-loop μ-loop
 mul-tab-2 c = omega (arith, c .loop-test .taken)
 
--- src/lib.rt:530:9
 slice-write-tab-2 : tie.Need-slice-write-tab-2 Inv-loop μ-loop
 slice-write-tab-2 c = omega (arith, c .loop-test .taken, length-set (c .before .loop .tab) (c .before .loop .v) 0, c .before .loop .inv .length-kept, c .before .before .pre)
 
--- src/lib.rt:531:9
 add-v : tie.Need-add-v Inv-loop μ-loop
 add-v c = omega (arith, c .loop-test .taken)
 
--- src/lib.rt:528:5
 loop-less : tie.Need-loop-less Inv-loop μ-loop
 loop-less c = omega (arith, c .loop-test .taken)
 
--- src/lib.rt:528:5
 loop-again : tie.Need-loop-again Inv-loop μ-loop
 loop-again c = unplacing-next (c .before .before .pre) (c .before .loop .inv) (c .loop-test .taken)
 
--- src/lib.rt:522:1
 same-length : tie.Need-same-length Inv-loop μ-loop
 same-length c = c .before .loop .inv .length-kept
 
--- src/lib.rt:522:1
 returns : tie.Need-returns Inv-loop μ-loop
 returns c = (unplacing-end (c .before .before .pre) (c .before .loop .inv) (c .loop-test .left), c .before .loop .inv .kept)
 
 pub unplace-spec : {M : Type 1} → statement M
 unplace-spec =
     tie.close
-    (tie.spec
-    Inv-loop
-    μ-loop
-    loop-holds
-    mul-tab
-    slice-write-tab
-    add-tab
-    mul-tab-2
-    slice-write-tab-2
-    add-v
-    loop-less
-    loop-again
-    same-length
-    returns)
+    (tie.spec Inv-loop μ-loop loop-holds mul-tab slice-write-tab add-tab mul-tab-2 slice-write-tab-2 add-v loop-less loop-again same-length returns)

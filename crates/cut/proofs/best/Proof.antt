@@ -1,0 +1,32 @@
+use lib.ListN.{length}
+use Prim.Native.Nat.{_-_}
+use borrow.Author.Needs.{needs}
+use Rattle.cut.proofs.OrderLaws.{Choosing, choosing-start, choosing-lower, choosing-same, choosing-end}
+use Rattle.cut.proofs.best.Statement.{statement}
+use Rattle.cut.proofs.best.Tie as tie
+
+abbrev Inv-loop : tie.InvT-loop
+Inv-loop ord seen k i₀ at₀ low₀ i at low = Choosing ord seen k i at low
+
+abbrev μ-loop : tie.MeasureT-loop
+μ-loop ord seen k i₀ at₀ low₀ i at low = length ord - i
+
+loop-holds : tie.Need-loop-holds Inv-loop μ-loop
+loop-holds c = choosing-start _ (c .before .before .pre .0)
+
+rank-requires : tie.Need-rank-requires Inv-loop μ-loop
+rank-requires c κs = c .before .before .before .before .before .before .pre .1
+
+loop-again : tie.Need-loop-again Inv-loop μ-loop
+loop-again c = choosing-lower (c .before .before .before .before .before .loop .inv) (c .before .before .before .before .loop-test .taken) (c .before .before .wide .ensures .0) (c .before .rank .ensures) (c .if1 .taken)
+
+loop-again-2 : tie.Need-loop-again-2 Inv-loop μ-loop
+loop-again-2 c = choosing-same (c .before .before .before .before .before .loop .inv) (c .before .before .before .before .loop-test .taken) (c .before .before .wide .ensures .0) (c .before .rank .ensures) (c .if1 .left)
+
+returns : tie.Need-returns Inv-loop μ-loop
+returns c = choosing-end (c .before .loop .inv) (c .loop-test .left)
+
+pub best-spec : {M : Type 1} → statement M
+best-spec =
+    tie.close
+    (tie.spec Inv-loop μ-loop loop-holds (λ c. search needs) (λ c. search needs) (λ c κs. search needs) rank-requires (λ c. search needs) (λ c. search needs) loop-again (λ c. search needs) (λ c. search needs) loop-again-2 returns)
