@@ -1,0 +1,3 @@
+pub mod PassCode
+pub mod TermCode
+pub mod WordCode

@@ -1,0 +1,4 @@
+-- The words pass of a line with a diagram (document 01, section 'Text', and the last paragraph under the refusals).
+pub mod Operations
+pub mod Reading
+pub mod Callers
