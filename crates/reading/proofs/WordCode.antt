@@ -112,7 +112,7 @@ events-next line place n q =
 events-none : (line : List ℕ) (place : ℕ) (n : Next) → n ≡ nextAt line place → isEnd (n .event) ≡ true → eventsOf (drop place line) ≡ []
 events-none line place n q = subst (λ (x : Next). isEnd (x .event) ≡ true → eventsOf (drop place line) ≡ []) (sym q) (next-end line place)
 
-moves : (line : List ℕ) (place : ℕ) (n : Next) → n ≡ nextAt line place → place ≤ length line → (n .place ≤ length line) × (isEnd (n .event) ≡ false → place < n .place)
+pub moves : (line : List ℕ) (place : ℕ) (n : Next) → n ≡ nextAt line place → place ≤ length line → (n .place ≤ length line) × (isEnd (n .event) ≡ false → place < n .place)
 moves line place n q h =
     subst (λ (x : Next). (x .place ≤ length line) × (isEnd (x .event) ≡ false → place < x .place)) (sym q) (next-moves line place h)
 

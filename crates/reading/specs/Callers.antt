@@ -4,12 +4,13 @@ use mathlib.Core.Path.{_≡_}
 use mathlib.Core.Bool.{Bool, true, false}
 use lib.Dec.{leb}
 use mathlib.Core.List.{List}
-use lib.ListN.{length}
+use lib.ListN.{length, drop}
 use Rattle.refusal.specs.declared.Refusal.the-variants as F
 use Rattle.label.specs.Limits.{constantCount, parameterCount, predicateCount, termBase, mostPlaces, variableCount}
 use Rattle.label.specs.Labels.{areArities}
 use Rattle.label.specs.Callers.{Packable}
 use Rattle.words.specs.declared.Key.{Key}
+use Rattle.events.specs.Front.{eventsOf}
 use Rattle.names.specs.Keys.{keysAt}
 use Rattle.names.specs.Layout.{constantsAt, declaredAt, parametersAt, nameWords}
 use Rattle.reading.specs.declared.Scope.{Scope}
@@ -20,7 +21,12 @@ use Rattle.reading.specs.declared.Stepped.{Stepped}
 use Rattle.reading.specs.declared.Stepped.the-variants as S
 use Rattle.reading.specs.declared.Read.{Read}
 use Rattle.reading.specs.declared.Read.the-variants as W
+use Rattle.reading.specs.declared.Opened.{Opened}
+use Rattle.reading.specs.declared.Opened.the-variants as P
+use Rattle.reading.specs.declared.Headed.{Headed}
+use Rattle.reading.specs.declared.Headed.the-variants as H
 use Rattle.reading.specs.Operations.{opsIn}
+use Rattle.reading.specs.Head.{Head}
 use Rattle.reading.specs.Reading.{Names, Judged, Pass, State, Written}
 use Rattle.reading.specs.Reading.Judged.{fine, refused}
 
@@ -65,6 +71,26 @@ refusedRead (S.Refused r) = W.Refused r
 abbrev pub judgedWritten : List ℕ → List ℕ → Read → Judged Written
 judgedWritten vs os (W.Done n m) = fine (record { variables = keysAt vs 0 m; operations = opsIn os n })
 judgedWritten vs os (W.Refused r) = refused r
+
+-- the predicate's number of a head
+abbrev pub judgedPredicate : Opened → Judged ℕ
+judgedPredicate (P.Predicate i) = fine i
+judgedPredicate (P.Refused r) = refused r
+
+-- n arguments in vs, and the words of the line behind them
+abbrev pub judgedHead : List ℕ → List ℕ → ℕ → Headed → Judged Head
+judgedHead line vs n (H.Arguments i) = fine (record { variables = keysAt vs 0 n; rest = eventsOf (drop i line) })
+judgedHead line vs n (H.Refused r) = refused r
+
+-- the place behind the head is one of the line
+abbrev pub HeadWithin : List ℕ → Headed → Type 0
+HeadWithin line (H.Arguments i) = i ≤ length line
+HeadWithin line (H.Refused r) = Unit {0}
+
+-- the promise of reading a head's arguments: the answer w
+pub record Heads (line : List ℕ) (n : ℕ) (w : Judged Head) (r : Headed) (vs′ : List ℕ) : Type 0 where
+  pub answer : judgedHead line vs′ n r ≡ w
+  pub within : HeadWithin line r
 
 -- the tables of names, and the arity list
 pub record Tables (ns ar : List ℕ) (s : Scope) : Type 0 where

@@ -1,4 +1,5 @@
 -- The words pass of a line with a diagram (document 01, section 'Text', and the last paragraph under the refusals).
 pub mod Operations
 pub mod Reading
+pub mod Head
 pub mod Callers

@@ -7,18 +7,20 @@ use label::Test;
 use refusal::Refusal;
 use words::Key;
 ghost use mathlib.Core.Path.{_≡_};
+ghost use mathlib.Core.List.{[]};
 ghost use Prim.Native.Nat.{ℕ, _+_, _*_, _≤_, _<_, min};
 ghost use lib.ListN.{length, drop};
 ghost use Rattle.label.specs.Limits.{constantCount, parameterCount, predicateCount, termBase, mostPlaces};
 ghost use Rattle.label.specs.Terms.{variableTerm};
 ghost use Rattle.events.specs.Front.{isEnd, eventsOf};
 ghost use Rattle.names.specs.Keys.{keysAt};
-ghost use Rattle.names.specs.Layout.{constantsAt, parametersAt};
+ghost use Rattle.names.specs.Layout.{constantsAt, declaredAt, parametersAt};
+ghost use Rattle.reading.specs.Head.{openingOf, argumentOf, headNumber, argumentsFrom, headArguments};
 ghost use Rattle.reading.specs.Operations.{opOf};
 ghost use Rattle.reading.specs.Reading.{placed, asked, begun, termWord, numberWord, atomWord, more, constantNumber, parameterNumber, lastVariable, variableNumber, met, metAt, word, reading};
 ghost use Rattle.reading.specs.declared.Binding.the-variants.{Any, Only};
 ghost use Rattle.reading.specs.Reading.Judged.{fine};
-ghost use Rattle.reading.specs.Callers.{namesOf, passOf, judgedNumber, readAnswer, refusedRead, judgedWritten, Tables, Variables, Readable, Room, TermBelow, Resolves, Meets, Goes, Steps};
+ghost use Rattle.reading.specs.Callers.{namesOf, passOf, judgedNumber, readAnswer, refusedRead, judgedWritten, judgedPredicate, Heads, Tables, Variables, Readable, Room, TermBelow, Resolves, Meets, Goes, Steps};
 
 // The first words of operations: a leaf, a label to ask, t = t to ask, a row step.
 pub const LEAF: u64 = 0;
@@ -69,6 +71,30 @@ enum Stepped {
 // How many operations and how many variables a line's words come to, or the refusal.
 pub enum Read {
     Done(usize, usize),
+    Refused(Refusal),
+}
+
+// How the head of a (becomes) opens: an atom's name and its count of terms, or another word.
+enum Opening {
+    Atom(Key, usize),
+    Other,
+}
+
+// A word that should be an argument: a variable, or another word.
+enum Argument {
+    Named(Key),
+    Other,
+}
+
+// The number of a head's predicate, or the refusal.
+pub enum Opened {
+    Predicate(usize),
+    Refused(Refusal),
+}
+
+// The place behind a head whose arguments are read, or the refusal.
+pub enum Headed {
+    Arguments(usize),
     Refused(Refusal),
 }
 
@@ -464,4 +490,97 @@ pub fn read_words(
         place = next.place;
     }
     finish(count, pass.operations)
+}
+
+fn opening_of(event: Event) -> Opening
+    ensures { λ r. ⌜ r ≡ openingOf event ⌝ }
+{
+    match event {
+        Event::Name(_) => Opening::Other,
+        Event::Variable(_) => Opening::Other,
+        Event::Parameter(_) => Opening::Other,
+        Event::Number(_) => Opening::Other,
+        Event::Equal => Opening::Other,
+        Event::Holds(key, count) => Opening::Atom(key, count),
+        Event::Step => Opening::Other,
+        Event::End => Opening::Other,
+    }
+}
+
+fn argument_of(event: Event) -> Argument
+    ensures { λ r. ⌜ r ≡ argumentOf event ⌝ }
+{
+    match event {
+        Event::Name(_) => Argument::Other,
+        Event::Variable(key) => Argument::Named(key),
+        Event::Parameter(_) => Argument::Other,
+        Event::Number(_) => Argument::Other,
+        Event::Equal => Argument::Other,
+        Event::Holds(_, _) => Argument::Other,
+        Event::Step => Argument::Other,
+        Event::End => Argument::Other,
+    }
+}
+
+// The number of the predicate that the head at the place `at` names, n predicates declared.
+pub fn head_predicate(line: &[u8], at: usize, names: &[u64], n: usize) -> Opened
+    requires { ⌜ at ≤ length (now line) ⌝ }
+    requires { ⌜ declaredAt + n * 2 ≤ length (now names) ⌝ }
+    ensures { λ r. ⌜ judgedPredicate r ≡ headNumber (keysAt (now (names .entry)) declaredAt n) (eventsOf (drop at (now (line .entry)))) ⌝ }
+{
+    let next = events::next_event(line, at);
+    let event = next.event;
+    let first = opening_of(event);
+    let Opening::Atom(key, _) = first else {
+        return Opened::Refused(Refusal::Form);
+    };
+    let i = names::find(names, names::DECLARED, n, key);
+    if n <= i {
+        return Opened::Refused(Refusal::Name);
+    }
+    Opened::Predicate(i + 1)
+}
+
+// The arguments from the place `at` on, `arity` of them, into the table of variables.
+fn read_variables(line: &[u8], at: usize, variables: &mut [u64], arity: usize) -> Headed
+    requires { ⌜ at ≤ length (now line) ⌝ }
+    requires { ⌜ arity * 2 ≤ length (now variables) ⌝ }
+    ensures { λ r. ⌜ Heads (now (line .entry)) arity (argumentsFrom arity [] (eventsOf (drop at (now (line .entry))))) r (now (variables .exit)) ⌝ }
+{
+    let mut place = at;
+    let mut n = 0;
+    while n < arity {
+        let next = events::next_event(line, place);
+        let event = next.event;
+        let word = argument_of(event);
+        let Argument::Named(key) = word else {
+            return Headed::Refused(Refusal::Form);
+        };
+        if names::find(variables, 0, n, key) < n {
+            return Headed::Refused(Refusal::Name);
+        }
+        names::put(variables, n * 2, key);
+        n += 1;
+        place = next.place;
+    }
+    Headed::Arguments(place)
+}
+
+// The arguments of the head at the place `at`, whose predicate has the arity.
+pub fn head_arguments(line: &[u8], at: usize, variables: &mut [u64], arity: usize) -> Headed
+    requires { ⌜ at ≤ length (now line) ⌝ }
+    requires { ⌜ arity * 2 ≤ length (now variables) ⌝ }
+    ensures { λ r. ⌜ Heads (now (line .entry)) arity (headArguments arity (eventsOf (drop at (now (line .entry))))) r (now (variables .exit)) ⌝ }
+{
+    let next = events::next_event(line, at);
+    let event = next.event;
+    let first = opening_of(event);
+    let Opening::Atom(_, count) = first else {
+        return Headed::Refused(Refusal::Form);
+    };
+    if count != arity {
+        return Headed::Refused(Refusal::Arity);
+    }
+    let place = next.place;
+    read_variables(line, place, variables, arity)
 }
