@@ -2,4 +2,6 @@
 pub mod Operations
 pub mod Reading
 pub mod Head
+pub mod Tree
+pub mod TreeLaws
 pub mod Callers
