@@ -4,21 +4,20 @@ use mathlib.Core.Path.{_≡_, refl, sym, ap, subst, _∙_}
 use mathlib.Core.Bool.{Bool, true, false}
 use mathlib.Core.List.{List, [], _∷_, _++_}
 use native.Mathlib.Omega.{arith}
-use borrow.Author.Tests.{eq-eqb, ne-eqb, le-leb, lt-leb, leb-true, eqb-true}
+use borrow.Author.Tests.{eq-eqb, ne-eqb, le-leb, lt-leb}
 use lib.Dec.{eqb, leb}
 use lib.ListN.{length, getD, set, length-set}
 use lib.Seq.{getD-set-same, getD-set-other}
 use Rattle.refusal.specs.declared.Refusal.{Refusal}
 use Rattle.refusal.specs.declared.Refusal.the-variants.{Form, Name, Arity, Range}
 use Rattle.label.specs.Limits.{predicateCount, termBase, mostPlaces}
-use Rattle.label.specs.Labels.{areArities, testOf, allAtMost}
+use Rattle.label.specs.Labels.{testOf}
 use Rattle.label.specs.Callers.{Packable, Places}
 use Rattle.label.specs.declared.Atom.{Atom}
 use Rattle.label.specs.declared.Label.{Label}
 use Rattle.label.specs.declared.Test.{Test}
 use Rattle.label.specs.declared.Test.the-variants.{Always, Is}
 use Rattle.diagram.specs.Sizes.{highestValue}
-use Rattle.basics.specs.Tests.{and-left, and-right}
 use Rattle.words.specs.declared.Key.{Key}
 use Rattle.names.specs.Keys.{keysAt, placeOf}
 use Rattle.names.specs.KeyLaws.{among-at, among-none}
@@ -30,6 +29,7 @@ use Rattle.reading.specs.declared.Stepped.{Stepped}
 use Rattle.reading.specs.declared.Stepped.the-variants as S
 use Rattle.reading.specs.declared.Resolved.{Resolved}
 use Rattle.reading.specs.declared.Resolved.the-variants as R
+use Rattle.reading.specs.ArityLaws.{arity-most, arity-words}
 use Rattle.reading.specs.Operations.{Op, opOf, opAt, opsIn}
 use Rattle.reading.specs.Operations.Op.{ask}
 use Rattle.reading.specs.Reading.{Judged, Pass, placed, more, asked, beginning, begun, termWord, numberWord, atomWord}
@@ -194,21 +194,6 @@ pub number-goes : (os : List ℕ) (p : Progress) (v : ℕ) {r : Progress} {os′
     → Steps p (numberWord (passOf os p) v) (S.Done r) os′
 unfolding numberWord
 number-goes os p v h g = record { answer = rw (le-leb v highestValue h) (ap fine (g .pass)); advanced = g .advanced }
-
--- the arity list
-
-at-most : (m : ℕ) (xs : List ℕ) (i : ℕ) → allAtMost m xs ≡ true → getD xs i 0 ≤ m
-at-most m [] i e = omega arith
-at-most m (x ∷ xs) zero e = leb-true x m (and-left (leb x m) _ e)
-at-most m (x ∷ xs) (suc i) e = at-most m xs i (and-right (leb x m) _ e)
-
-pub arity-most : (ar : List ℕ) (p : ℕ) → areArities ar ≡ true → getD ar p 0 ≤ mostPlaces
-unfolding areArities
-arity-most ar p e = at-most mostPlaces ar p (and-right (eqb (getD ar 0 0) 2) _ (and-right (eqb (length ar) predicateCount) _ e))
-
-pub arity-words : (ar : List ℕ) → areArities ar ≡ true → length ar ≡ predicateCount
-unfolding areArities
-arity-words ar e = eqb-true _ _ (and-left (eqb (length ar) predicateCount) _ e)
 
 -- an atom's name
 

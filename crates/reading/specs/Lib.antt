@@ -3,5 +3,7 @@ pub mod Operations
 pub mod Reading
 pub mod Head
 pub mod Tree
+pub mod ArityLaws
 pub mod TreeLaws
+pub mod GoodLaws
 pub mod Callers

@@ -1,13 +1,15 @@
 -- What a diagram of a line stands for: its tree with every name resolved, in the order of the words (document 01, section 'Text').
-use Prim.Native.Nat.{ℕ, suc, _+_, _≤_, max}
+use Prim.Native.Nat.{ℕ, suc, _+_, _≤_, _<_, max}
 use mathlib.Core.Path.{_≡_}
 use mathlib.Core.Bool.{true}
 use mathlib.Core.List.{List, [], _∷_, _++_}
 use lib.Dec.{eqb, leb}
 use lib.ListN.{length, getD}
 use Rattle.refusal.specs.declared.Refusal.the-variants.{Name, Arity, Range, Variables}
-use Rattle.label.specs.Limits.{variableCount, equality}
-use Rattle.label.specs.Labels.{testOf, isLabel}
+use Rattle.label.specs.Limits.{constantCount, firstParameter, parameterCount, firstVariable, variableCount, predicateCount, equality}
+use Rattle.label.specs.Terms.{isTerm}
+use Rattle.label.specs.Labels.{areArities, testOf, isLabel}
+use Rattle.label.specs.Renamings.{EachIn}
 use Rattle.label.specs.declared.Atom.{Atom}
 use Rattle.label.specs.declared.Test.{Test}
 use Rattle.label.specs.declared.Test.the-variants.{Always, Is}
@@ -21,6 +23,8 @@ use Rattle.forms.specs.Tree.Term.{term}
 use Rattle.forms.specs.Tree.Atom.{equal, holds}
 use Rattle.forms.specs.Tree.Diagram.{number as numeral, branch as conditional}
 use Rattle.names.specs.Keys.{placeOf, isAmong}
+use Rattle.reading.specs.declared.Binding.{Binding}
+use Rattle.reading.specs.declared.Binding.the-variants.{Any, None, Only}
 use Rattle.reading.specs.Operations.{Op}
 use Rattle.reading.specs.Operations.Op.{leafOp, ask, step}
 use Rattle.reading.specs.Reading.{Names, Judged, pickJudged, andThen, constantNumber, parameterNumber, met, variableNumber, Written}
@@ -103,11 +107,39 @@ abbrev pub depth : Reading → ℕ
 depth (number v) = 0
 depth (branch t h f) = suc (max (depth h) (depth f))
 
--- every label is one under the arity list, every leaf at most 10^18
-abbrev pub GoodTest : List ℕ → Test → Type 0
-GoodTest ar Always = Unit {0}
-GoodTest ar (Is l) = isLabel ar (l .packed) ≡ true
+-- which terms may be named, c parameters of the action and n variables: constants, parameters 16 onward, variables 32 onward
+pub record Named (c n t : ℕ) : Type 0 where
+  pub is-term : isTerm t ≡ true
+  pub parameters : firstParameter + c ≤ t → firstVariable ≤ t
+  pub variables : t < firstVariable + n
 
-abbrev pub GoodReading : List ℕ → Reading → Type 0
-GoodReading ar (number v) = v ≤ highestValue
-GoodReading ar (branch t h f) = GoodTest ar t × GoodReading ar h × GoodReading ar f
+-- how many variables: in a reward up to 32, in a weight none, in a truth diagram its arguments vs
+abbrev pub reach : Binding → List Key → ℕ
+reach Any vs = variableCount
+reach None vs = 0
+reach Only vs = length vs
+
+-- every label is one under the arity list and has only terms that P names; every leaf is at most 10^18
+abbrev pub GoodTest : List ℕ → (ℕ → Type 0) → Test → Type 0
+GoodTest ar P Always = Unit {0}
+GoodTest ar P (Is l) = (isLabel ar (l .packed) ≡ true) × EachIn ar P (l .packed)
+
+abbrev pub GoodReading : List ℕ → (ℕ → Type 0) → Reading → Type 0
+GoodReading ar P (number v) = v ≤ highestValue
+GoodReading ar P (branch t h f) = GoodTest ar P t × GoodReading ar P h × GoodReading ar P f
+
+-- names within their limits
+pub record NamesFit (σ : Names) : Type 0 where
+  pub constants-few : length (σ .constants) ≤ constantCount
+  pub predicates-few : length (σ .predicates) < predicateCount
+  pub parameters-few : length (σ .parameters) ≤ parameterCount
+  pub arity-list : areArities (σ .arities) ≡ true
+
+-- what the words of a line with the diagram d come to, where they are not refused: the operations of a diagram that is as deep as d at most and
+-- names nothing unbound, and at most 32 variables
+pub record Sound (σ : Names) (vs : List Key) (d : T.Diagram) (w : Written) : Type 0 where
+  pub tree : Reading
+  pub operations : w .operations ≡ opsOf tree
+  pub good : GoodReading (σ .arities) (Named (length (σ .parameters)) (reach (σ .binding) vs)) tree
+  pub shallow : depth tree ≤ T.brackets d
+  pub few : length (w .variables) ≤ variableCount

@@ -86,30 +86,44 @@ terms-words σ (t ∷ ts) es vs p e =
     go (fine g) ih = ih g ∙ inner (g .value) (resolveTerms σ (g .variables) ts)
     go (refused r) ih = refl
 
--- a resolved list has a number for each term
-apart : {A : Type 0} {r : Refusal} {g : A} → _≡_ {A = Judged A} (refused r) (fine g) → ⊥
+pub apart : {A : Type 0} {r : Refusal} {g : A} → _≡_ {A = Judged A} (refused r) (fine g) → ⊥
 apart e = let z : _≡_ {A = ℕ} 0 1 = cc in omega arith
 
--- a property that every resolved term has, each number of a resolved list has
-pub terms-resolved : (σ : Names) (P : ℕ → Type 0) → ((vs : List Key) (t : T.Term) (g : Result ℕ) → resolveTerm σ vs t ≡ fine g → P (g .value))
-    → (ts : List T.Term) (vs : List Key) (g : Result (List ℕ)) → resolveTerms σ vs ts ≡ fine g → (length (g .value) ≡ length ts) × T.All P (g .value)
-terms-resolved σ P w [] vs g e =
-    let z : _≡_ {A = Result (List ℕ)} (record { value = []; variables = vs }) g = cc in
-    subst (λ (x : Result (List ℕ)). (length (x .value) ≡ 0) × T.All P (x .value)) z (refl, tt)
-terms-resolved σ P w (t ∷ ts) vs g e = go (resolveTerm σ vs t) (w vs t) (λ h. terms-resolved σ P w ts (h .variables)) e
-  where
-    inner : (u : ℕ) → P u → (k : Judged (Result (List ℕ))) → ((h : Result (List ℕ)) → k ≡ fine h → (length (h .value) ≡ length ts) × T.All P (h .value))
-        → andThen k (joined u) ≡ fine g → (length (g .value) ≡ suc (length ts)) × T.All P (g .value)
-    inner u p (fine h) ih e =
-        let z : _≡_ {A = Result (List ℕ)} (record { value = u ∷ h .value; variables = h .variables }) g = cc in
-        subst (λ (x : Result (List ℕ)). (length (x .value) ≡ suc (length ts)) × T.All P (x .value)) z (ap suc (ih h refl .0), (p, ih h refl .1))
-    inner u p (refused r) ih e = absurd (apart e)
+-- every resolved term has the property P, as long as the variables have the property Q, which they keep
+pub record Resolving (σ : Names) (P : ℕ → Type 0) (Q : List Key → Type 0) : Type 0 where
+  pub each : (vs : List Key) (t : T.Term) (g : Result ℕ) → Q vs → resolveTerm σ vs t ≡ fine g → P (g .value) × Q (g .variables)
 
-    go : (j : Judged (Result ℕ)) → ((h : Result ℕ) → j ≡ fine h → P (h .value))
-        → ((h : Result ℕ) (k : Result (List ℕ)) → resolveTerms σ (h .variables) ts ≡ fine k → (length (k .value) ≡ length ts) × T.All P (k .value))
-        → andThen j (λ h. andThen (resolveTerms σ (h .variables) ts) (joined (h .value))) ≡ fine g → (length (g .value) ≡ suc (length ts)) × T.All P (g .value)
-    go (fine h) p ih e = inner (h .value) (p h refl) (resolveTerms σ (h .variables) ts) (ih h) e
-    go (refused r) p ih e = absurd (apart e)
+-- a resolved list of n terms
+pub record Terms (n : ℕ) (P : ℕ → Type 0) (Q : List Key → Type 0) (g : Result (List ℕ)) : Type 0 where
+  pub count : length (g .value) ≡ n
+  pub all : T.All P (g .value)
+  pub met-still : Q (g .variables)
+
+module _ (σ : Names) (P : ℕ → Type 0) (Q : List Key → Type 0) (w : Resolving σ P Q) where
+  pub terms-resolved : (ts : List T.Term) (vs : List Key) (g : Result (List ℕ)) → Q vs → resolveTerms σ vs ts ≡ fine g → Terms (length ts) P Q g
+  terms-resolved [] vs g q e =
+      let z : _≡_ {A = Result (List ℕ)} (record { value = []; variables = vs }) g = cc in
+      subst (Terms 0 P Q) z (record { count = refl; all = tt; met-still = q })
+  terms-resolved (t ∷ ts) vs g q e = go (resolveTerm σ vs t) (λ h. w .each vs t h q) (λ h. terms-resolved ts (h .variables)) e
+    where
+      inner : (u : ℕ) → P u → (k : Judged (Result (List ℕ))) → ((h : Result (List ℕ)) → k ≡ fine h → Terms (length ts) P Q h)
+          → andThen k (joined u) ≡ fine g → Terms (suc (length ts)) P Q g
+      inner u p (fine h) ih e =
+          let z : _≡_ {A = Result (List ℕ)} (record { value = u ∷ h .value; variables = h .variables }) g = cc in
+          let i = ih h refl in
+          subst (Terms (suc (length ts)) P Q) z (record { count = ap suc (i .count); all = (p, i .all); met-still = i .met-still })
+      inner u p (refused r) ih e = absurd (apart e)
+
+      go : (j : Judged (Result ℕ)) → ((h : Result ℕ) → j ≡ fine h → P (h .value) × Q (h .variables))
+          → ((h : Result ℕ) (k : Result (List ℕ)) → Q (h .variables) → resolveTerms σ (h .variables) ts ≡ fine k → Terms (length ts) P Q k)
+          → andThen j (λ h. andThen (resolveTerms σ (h .variables) ts) (joined (h .value))) ≡ fine g → Terms (suc (length ts)) P Q g
+      go (fine h) p ih e = inner (h .value) (p h refl .0) (resolveTerms σ (h .variables) ts) (λ k. ih h k (p h refl .1)) e
+      go (refused r) p ih e = absurd (apart e)
+
+-- so a resolved list has a number for each term
+count-resolved : (σ : Names) (ts : List T.Term) (vs : List Key) (g : Result (List ℕ)) → resolveTerms σ vs ts ≡ fine g → length (g .value) ≡ length ts
+count-resolved σ ts vs g e =
+    terms-resolved σ (λ u. Unit {0}) (λ us. Unit {0}) (record { each = λ us t k q z. (tt, tt) }) ts vs g tt e .count
 
 -- the places of an atom, filled one after another
 abbrev filledBy : Atom → ℕ → List ℕ → Atom
@@ -149,7 +163,7 @@ terms-follow : (σ : Names) (q : ℕ) (ts : List T.Term) (es : List Event) (vs :
 unfolding begun
 terms-follow σ q ts es vs p h =
     follows-on σ es question (andThen (resolveTerms σ vs ts) (testing q)) (terms-words σ ts es vs (beginning p q (length ts)) refl) refl
-    (go (resolveTerms σ vs ts) (λ g e. terms-resolved σ (λ u. Unit {0}) (λ us t k z. tt) ts vs g e .0))
+    (go (resolveTerms σ vs ts) (count-resolved σ ts vs))
   where
     go : (j : Judged (Result (List ℕ))) → ((g : Result (List ℕ)) → j ≡ fine g → length (g .value) ≡ length ts)
         → Follows σ (andThen j (λ g. readWords σ es (at (g .variables) (given (beginning p q (length ts)) (g .value))))) es (p .operations) question (andThen j (testing q))
