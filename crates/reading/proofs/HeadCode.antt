@@ -1,6 +1,6 @@
 -- What the code of a (becomes) head needs to know.
-use Prim.Native.Nat.{ℕ, zero, suc, _+_, _-_, _*_, _≤_, _<_}
-use mathlib.Core.Path.{_≡_, refl, sym, ap, subst, _∙_}
+use Prim.Native.Nat.{ℕ, suc, _+_, _-_, _*_, _≤_, _<_}
+use mathlib.Core.Path.{_≡_, refl, sym, ap, _∙_}
 use mathlib.Core.Bool.{Bool, true, false}
 use mathlib.Core.List.{List, [], _∷_, _++_}
 use native.Mathlib.Omega.{arith}
@@ -17,7 +17,7 @@ use Rattle.events.specs.declared.Event.{Event}
 use Rattle.events.specs.declared.Event.the-variants as E
 use Rattle.events.specs.declared.Next.{Next}
 use Rattle.events.specs.Front.{isEnd, nextAt, eventsOf}
-use Rattle.events.specs.FrontLaws.{next-end, next-more, next-moves}
+use Rattle.events.specs.FrontLaws.{next-end, next-more}
 use Rattle.reading.specs.declared.Opening.{Opening}
 use Rattle.reading.specs.declared.Opening.the-variants as O
 use Rattle.reading.specs.declared.Argument.{Argument}
@@ -25,10 +25,10 @@ use Rattle.reading.specs.declared.Argument.the-variants as A
 use Rattle.reading.specs.declared.Opened.the-variants as P
 use Rattle.reading.specs.declared.Headed.{Headed}
 use Rattle.reading.specs.declared.Headed.the-variants as H
-use Rattle.reading.specs.Reading.{Judged, pickJudged}
+use Rattle.reading.specs.Reading.{pickJudged}
 use Rattle.reading.specs.Reading.Judged.{fine, refused}
-use Rattle.reading.specs.Head.{Head, openingOf, argumentOf, openedNumber, headNumber, pickArgument, argumentsFrom, openedArguments, headArguments}
-use Rattle.reading.specs.Callers.{judgedPredicate, judgedHead, Heads}
+use Rattle.reading.specs.Head.{openingOf, argumentOf, openedNumber, headNumber, pickArgument, argumentsFrom, openedArguments, headArguments}
+use Rattle.reading.specs.Callers.{judgedPredicate, Heads}
 use Rattle.reading.proofs.WordCode.{moves}
 
 -- the events from a place on, by what stands there

@@ -1,18 +1,16 @@
 -- What the code of atoms and operations needs to know.
 use Prim.Native.Nat.{ℕ, zero, suc, _+_, _-_, _*_, _≤_, _<_}
 use mathlib.Core.Path.{_≡_, refl, sym, ap, subst, _∙_}
-use mathlib.Core.Bool.{Bool, true, false}
 use mathlib.Core.List.{List, [], _∷_, _++_}
 use native.Mathlib.Omega.{arith}
 use borrow.Author.Tests.{eq-eqb, ne-eqb, le-leb, lt-leb}
-use lib.Dec.{eqb, leb}
 use lib.ListN.{length, getD, set, length-set}
 use lib.Seq.{getD-set-same, getD-set-other}
 use Rattle.refusal.specs.declared.Refusal.{Refusal}
 use Rattle.refusal.specs.declared.Refusal.the-variants.{Form, Name, Arity, Range}
 use Rattle.label.specs.Limits.{predicateCount, termBase, mostPlaces}
 use Rattle.label.specs.Labels.{testOf}
-use Rattle.label.specs.Callers.{Packable, Places}
+use Rattle.label.specs.Callers.{Packable}
 use Rattle.label.specs.declared.Atom.{Atom}
 use Rattle.label.specs.declared.Label.{Label}
 use Rattle.label.specs.declared.Test.{Test}
@@ -32,9 +30,9 @@ use Rattle.reading.specs.declared.Resolved.the-variants as R
 use Rattle.reading.specs.ArityLaws.{arity-most, arity-words}
 use Rattle.reading.specs.Operations.{Op, opOf, opAt, opsIn}
 use Rattle.reading.specs.Operations.Op.{ask}
-use Rattle.reading.specs.Reading.{Judged, Pass, placed, more, asked, beginning, begun, termWord, numberWord, atomWord}
-use Rattle.reading.specs.Reading.Judged.{fine, refused}
-use Rattle.reading.specs.Callers.{namesOf, passOf, judgedNumber, Tables, Going, Room, TermBelow, Advanced, Goes, Steps}
+use Rattle.reading.specs.Reading.{Pass, placed, more, asked, begun, termWord, numberWord, atomWord}
+use Rattle.reading.specs.Reading.Judged.{fine}
+use Rattle.reading.specs.Callers.{namesOf, passOf, judgedNumber, Tables, Room, TermBelow, Goes, Steps}
 
 -- one operation more
 

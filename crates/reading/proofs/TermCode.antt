@@ -1,12 +1,9 @@
 -- What the code of terms and variables needs to know.
 use Prim.Native.Nat.{ℕ, _+_, _*_, _≤_, _<_, min}
-use mathlib.Core.Path.{_≡_, refl, sym, ap, subst, _∙_}
-use mathlib.Core.Bool.{Bool, true, false}
-use mathlib.Core.List.{List, [], _∷_, _++_}
+use mathlib.Core.Path.{_≡_, refl, sym, ap, _∙_}
+use mathlib.Core.List.{List}
 use native.Mathlib.Omega.{arith}
 use borrow.Author.Tests.{le-leb, lt-leb}
-use lib.Dec.{leb}
-use lib.ListN.{length}
 use Rattle.refusal.specs.declared.Refusal.the-variants.{Name, Unbound}
 use Rattle.label.specs.Limits.{constantCount, parameterCount, variableCount}
 use Rattle.label.specs.Terms.{variableTerm}

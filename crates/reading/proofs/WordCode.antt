@@ -1,5 +1,5 @@
 -- What the code of words needs to know: a word by its kind, and the words of a line one after another.
-use Prim.Native.Nat.{ℕ, _+_, _-_, _*_, _≤_, _<_}
+use Prim.Native.Nat.{ℕ, _-_, _≤_, _<_}
 use mathlib.Core.Path.{_≡_, refl, sym, ap, subst, _∙_}
 use mathlib.Core.Bool.{Bool, true, false}
 use mathlib.Core.List.{List, [], _∷_}
@@ -10,7 +10,6 @@ use lib.ListN.{length, drop, length-drop}
 use Rattle.refusal.specs.declared.Refusal.{Refusal}
 use Rattle.refusal.specs.declared.Refusal.the-variants as F
 use Rattle.label.specs.Limits.{variableCount}
-use Rattle.label.specs.Callers.{Packable, Places}
 use Rattle.words.specs.declared.Key.{Key}
 use Rattle.names.specs.Many.{many}
 use Rattle.names.specs.Keys.{keysAt}
@@ -29,9 +28,9 @@ use Rattle.reading.specs.declared.Resolved.{Resolved}
 use Rattle.reading.specs.declared.Read.{Read}
 use Rattle.reading.specs.declared.Read.the-variants as W
 use Rattle.reading.specs.Operations.{Op, opOf, opsIn}
-use Rattle.reading.specs.Reading.{Names, Judged, Pass, State, pickJudged, andThen, more, begun, termWord, numberWord, atomWord, constantNumber, parameterNumber, variableNumber, metAt, word, with-pass, readWord, readWords, finished, begin, reading}
+use Rattle.reading.specs.Reading.{Names, State, pickJudged, andThen, more, begun, termWord, numberWord, atomWord, constantNumber, parameterNumber, variableNumber, metAt, word, with-pass, readWord, readWords, finished, begin, reading}
 use Rattle.reading.specs.Reading.Judged.{fine, refused}
-use Rattle.reading.specs.Callers.{namesOf, passOf, stateOf, judgedNumber, judgedPass, pickRead, readAnswer, refusedRead, judgedWritten, Tables, Variables, Readable, Going, Room, Advanced, AdvancedBy, Resolves, Meets, Goes, Steps}
+use Rattle.reading.specs.Callers.{namesOf, passOf, stateOf, judgedNumber, judgedPass, pickRead, readAnswer, refusedRead, judgedWritten, Variables, Readable, Going, Room, Advanced, AdvancedBy, Resolves, Meets, Goes, Steps}
 
 -- a word by its kind
 

@@ -1,26 +1,26 @@
 -- What the words of a diagram come to is well formed: labels under the arity list, no name unbound, leaves in range.
-use Prim.Native.Nat.{ℕ, zero, suc, _+_, _≤_, _<_, max, min}
+use Prim.Native.Nat.{ℕ, zero, suc, _+_, _≤_, _<_, min}
 use mathlib.Core.Path.{_≡_, refl, sym, ap, subst, _∙_}
-use mathlib.Core.Bool.{Bool, true, false, cond, not, _||_, _&&_}
+use mathlib.Core.Bool.{Bool, true, false, cond}
 use mathlib.Core.List.{List, [], _∷_}
 use native.Mathlib.Omega.{arith}
 use native.Mathlib.Decide.{decLt}
-use borrow.Author.Tests.{eq-eqb, ne-eqb, eqb-true, eqb-false, ltb-true, leb-true, lt-ltb, le-ltb, le-leb, lt-leb}
+use borrow.Author.Tests.{eq-eqb, ne-eqb, eqb-true, ltb-true, leb-true, lt-ltb, le-ltb, le-leb}
 use lib.Dec.{eqb, ltb, leb}
 use lib.ListN.{length, getD, List·getD-eq-default}
 use Rattle.basics.specs.Tests.{Cmp, cmp}
 use Rattle.basics.specs.Tests.Cmp.{below, equal as alike, above}
 use Rattle.refusal.specs.declared.Refusal.{Refusal}
 use Rattle.refusal.specs.declared.Refusal.the-variants.{Name, Arity, Range, Unbound, Variables}
-use Rattle.label.specs.Limits.{constantCount, firstParameter, parameterCount, firstVariable, variableCount, predicateCount, equality, equalityArity, mostPlaces}
-use Rattle.label.specs.Terms.{isConstant, isParameter, isVariable, isTerm, variableTerm}
-use Rattle.label.specs.Labels.{areArities, placeFits, inOrder, isLabel, packed, unpacked, predicateOf, pickTest, labelOf, equates, testOf}
+use Rattle.label.specs.Limits.{constantCount, firstParameter, parameterCount, firstVariable, variableCount, predicateCount, equality}
+use Rattle.label.specs.Terms.{isConstant, isParameter, isVariable, isTerm}
+use Rattle.label.specs.Labels.{areArities, placeFits, inOrder, packed, unpacked, predicateOf, pickTest, labelOf, equates, testOf}
 use Rattle.label.specs.Renamings.{EachTerm, EachIn}
-use Rattle.label.specs.LabelLaws.{term-below, PlacesFit, Fitting, fits-atom, unpacked-packed, label-packed}
+use Rattle.label.specs.LabelLaws.{term-below, fits-atom, unpacked-packed, label-packed}
 use Rattle.label.specs.Callers.{Places}
 use Rattle.label.specs.declared.Atom.{Atom}
 use Rattle.label.specs.declared.Test.{Test}
-use Rattle.label.specs.declared.Test.the-variants.{Always, Is}
+use Rattle.label.specs.declared.Test.the-variants.{Always}
 use Rattle.diagram.specs.Sizes.{highestValue}
 use Rattle.words.specs.Bytes.{valueOf}
 use Rattle.words.specs.Keys.{keyOf}
@@ -36,10 +36,10 @@ use Rattle.reading.specs.declared.Binding.{Binding}
 use Rattle.reading.specs.declared.Binding.the-variants.{Any, None, Only}
 use Rattle.reading.specs.Reading.{Names, Judged, pickJudged, andThen, constantNumber, parameterNumber, met, lastVariable, numberIn, variableNumber, Written, reading}
 use Rattle.reading.specs.Reading.Judged.{fine, refused}
-use Rattle.reading.specs.Tree.{Reading, Result, having, resolveTerm, resolveTerms, atomFrom, testing, resolveAtom, branching, resolveDiagram, opsOf, writing, diagramReading, depth, Named, reach, GoodTest, GoodReading, NamesFit, Sound}
-use Rattle.reading.specs.Tree.Reading.{number, branch}
+use Rattle.reading.specs.Tree.{Reading, Result, having, resolveTerm, resolveTerms, atomFrom, testing, resolveAtom, branching, resolveDiagram, writing, diagramReading, depth, Named, reach, GoodTest, GoodReading, NamesFit, Sound}
+use Rattle.reading.specs.Tree.Reading.{branch}
 use Rattle.reading.specs.ArityLaws.{arity-most, arity-two}
-use Rattle.reading.specs.TreeLaws.{Arities, apart, Resolving, Terms, terms-resolved, reading-diagram}
+use Rattle.reading.specs.TreeLaws.{apart, Resolving, terms-resolved, reading-diagram}
 
 -- terms
 

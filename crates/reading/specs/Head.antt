@@ -3,7 +3,9 @@
 use Prim.Native.Nat.{ℕ, zero, suc, _+_}
 use mathlib.Core.List.{List, [], _∷_, _++_}
 use lib.Dec.{eqb}
+use lib.ListN.{length}
 use Rattle.refusal.specs.declared.Refusal.the-variants.{Form, Name, Arity}
+use Rattle.words.specs.Keys.{keyOf}
 use Rattle.words.specs.declared.Key.{Key}
 use Rattle.names.specs.Keys.{placeOf, isAmong}
 use Rattle.events.specs.declared.Event.{Event}
@@ -70,3 +72,11 @@ openedArguments n O.Other es = refused Form
 unfoldable pub headArguments : ℕ → List Event → Judged Head
 headArguments n [] = refused Form
 headArguments n (e ∷ es) = openedArguments n (openingOf e) es
+
+-- the same on the line's tree: the keys of the arguments vs, behind the keys ks
+abbrev pub argumentKeys : List Key → List (List ℕ) → Judged (List Key)
+argumentKeys ks [] = fine ks
+argumentKeys ks (v ∷ vs) = pickJudged (isAmong (keyOf v) ks) (refused Name) (argumentKeys (ks ++ (keyOf v ∷ [])) vs)
+
+abbrev pub headKeys : ℕ → List (List ℕ) → Judged (List Key)
+headKeys n vs = pickJudged (eqb (length vs) n) (argumentKeys [] vs) (refused Arity)

@@ -6,4 +6,6 @@ pub mod Tree
 pub mod ArityLaws
 pub mod TreeLaws
 pub mod GoodLaws
+pub mod LineLaws
+pub mod OperationLaws
 pub mod Callers

@@ -1,10 +1,9 @@
 -- The words of a diagram, read one after another, come to what its tree stands for.
-use Prim.Native.Nat.{ℕ, zero, suc, _+_, _-_, _≤_, _<_, max}
+use Prim.Native.Nat.{ℕ, suc, _+_, _-_, _≤_}
 use mathlib.Core.Path.{_≡_, refl, sym, ap, subst, _∙_}
 use mathlib.Core.Bool.{Bool, true, false}
 use mathlib.Core.List.{List, [], _∷_, _++_, append-assoc, append-nil, map}
 use native.Mathlib.Omega.{arith}
-use native.Mathlib.Numerals.{add-one}
 use borrow.Author.Tests.{eq-eqb, ne-eqb, eqb-true}
 use lib.Dec.{eqb, leb}
 use lib.ListN.{length, getD}
@@ -26,13 +25,13 @@ use Rattle.forms.specs.Tree.Diagram.{number as numeral, branch as conditional}
 use Rattle.names.specs.Keys.{placeOf, isAmong}
 use Rattle.events.specs.declared.Event.{Event}
 use Rattle.events.specs.declared.Event.the-variants as E
-use Rattle.events.specs.Events.{termEvent, atomEvents, diagramEvents, numberEvent}
+use Rattle.events.specs.Events.{termEvent, atomEvents, diagramEvents}
 use Rattle.reading.specs.Operations.{Op}
 use Rattle.reading.specs.Operations.Op.{leafOp, ask, step}
 use Rattle.reading.specs.Reading.{Names, Judged, pickJudged, andThen, Pass, placed, more, asked, beginning, begun, filling, termWord, numberWord, atomWord, word, State, with-pass, readWord, readWords, finished, begin, reading}
 use Rattle.reading.specs.Reading.Judged.{fine, refused}
 use Rattle.reading.specs.Tree.{Reading, Result, having, resolveTerm, joined, resolveTerms, atomFrom, testing, resolveAtom, branching, resolveDiagram, opsOf, writing, diagramReading}
-use Rattle.reading.specs.Tree.Reading.{number, branch}
+use Rattle.reading.specs.Tree.Reading.{number}
 
 abbrev at : List Key → Pass → State
 at vs p = record { variables = vs; pass = p }

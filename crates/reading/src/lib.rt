@@ -8,7 +8,7 @@ use refusal::Refusal;
 use words::Key;
 ghost use mathlib.Core.Path.{_≡_};
 ghost use mathlib.Core.List.{[]};
-ghost use Prim.Native.Nat.{ℕ, _+_, _*_, _≤_, _<_, min};
+ghost use Prim.Native.Nat.{_+_, _*_, _≤_, _<_, min};
 ghost use lib.ListN.{length, drop};
 ghost use Rattle.label.specs.Limits.{constantCount, parameterCount, predicateCount, termBase, mostPlaces};
 ghost use Rattle.label.specs.Terms.{variableTerm};

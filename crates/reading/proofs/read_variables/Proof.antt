@@ -22,7 +22,13 @@ returns-2 c = search arguments-twice
 
 loop-again : tie.Need-loop-again Inv-loop μ-loop
 loop-again c =
-    arguments-more (c .before .before .before .before .before .before .before .before .before .before .before .before .before .loop .inv) (c .before .before .before .before .before .before .before .before .before .before .before .before .loop-test .taken) (c .before .before .before .before .before .before .before .before .before .before .before .next-event .ensures) (c .before .before .before .before .before .before .before .before .before .before .argument-of .ensures) (c .before .before .before .before .before .before .before .before .word .given .1) (c .before .before .before .before .before .find .ensures) (c .before .before .before .before .if1 .left) (c .before .before .before .before .before .before .before .before .before .before .before .before .before .before .before .before .pre .1) (c .before .before .put .ensures)
+    let stored = c .before .before in
+    let found = stored .before .before .before in
+    let named = found .before .before .before in
+    let next = named .before .before .before in
+    let start = next .before .before .before .before .before in
+    arguments-more (next .before .before .loop .inv) (next .before .loop-test .taken) (next .next-event .ensures) (named .before .before .argument-of .ensures)
+    (named .word .given .1) (found .find .ensures) (stored .before .before .if1 .left) (start .pre .1) (stored .put .ensures)
 
 returns-3 : tie.Need-returns-3 Inv-loop μ-loop
 returns-3 c = search arguments-done

@@ -25,38 +25,62 @@ same-length-2 : tie.Need-same-length-2 Inv-loop μ-loop
 same-length-2 c = c .before .before .before .before .before .loop .inv .operation-words
 
 returns : tie.Need-returns Inv-loop μ-loop
-returns c = loop-end (c .before .before .before .before .before .loop .inv) (c .before .before .before .next-event .ensures) (c .before .before .is-end .ensures) (c .before .if1 .taken) (c .finish .ensures)
+returns c =
+    let ending = c .before .before in
+    let next = ending .before in
+    loop-end (next .before .before .loop .inv) (next .next-event .ensures) (ending .is-end .ensures) (c .before .if1 .taken) (c .finish .ensures)
 
 meet-word-requires : tie.Need-meet-word-requires Inv-loop μ-loop
 meet-word-requires c κs = c .before .before .before .before .before .loop .inv .table
 
 read-word-requires : tie.Need-read-word-requires Inv-loop μ-loop
 read-word-requires c κs =
-    let start = c .before .before .before .before .before .before .before .before .before .before .before .before .before .before .before .before in (
+    let meeting = c .before .before .before .before in
+    let ending = meeting .before .before .before in
+    let next = ending .before in
+    let start = next .before .before .before .before .before .before .before .before in (
       start .pre .tables,
       (
-        c .before .before .before .before .meet-word .ensures .table,
-        loop-room (c .before .before .before .before .before .before .before .before .before .before .loop .inv) (c .before .before .before .before .before .before .before .before .next-event .ensures) (c .before .before .before .before .before .before .before .is-end .ensures) (start .pre) (c .before .before .before .before .before .before .before .before .before .loop-test .taken),
+        meeting .meet-word .ensures .table,
+        loop-room (next .before .before .loop .inv) (next .next-event .ensures) (ending .is-end .ensures) (start .pre) (next .before .loop-test .taken),
       ),
     )
 
 same-length-3 : tie.Need-same-length-3 Inv-loop μ-loop
-same-length-3 c = c .before .before .before .before .before .before .before .before .before .before .meet-word .kept .0 ∙ c .before .before .before .before .before .before .before .before .before .before .before .before .before .before .before .before .loop .inv .variable-words
+same-length-3 c =
+    let meeting = c .before .before .before .before .before .before .before .before .before .before in
+    meeting .meet-word .kept .0 ∙ meeting .before .before .before .before .before .before .loop .inv .variable-words
 
 same-length-4 : tie.Need-same-length-4 Inv-loop μ-loop
-same-length-4 c = c .before .before .before .before .before .read-word .kept .1 .1 .1 .0 ∙ c .before .before .before .before .before .before .before .before .before .before .before .before .before .before .before .before .loop .inv .operation-words
+same-length-4 c =
+    let word = c .before .before .before .before .before in
+    word .read-word .kept .1 .1 .1 .0 ∙ word .before .before .before .before .before .before .before .before .before .before .before .loop .inv .operation-words
 
 returns-2 : tie.Need-returns-2 Inv-loop μ-loop
 returns-2 c =
-    loop-refused (c .before .before .before .before .before .before .before .before .before .before .before .before .before .before .before .before .loop .inv) (c .before .before .before .before .before .before .before .before .before .before .before .before .before .before .next-event .ensures) (c .before .before .before .before .before .before .before .before .before .before .before .before .before .is-end .ensures) (c .before .before .before .before .before .before .before .before .before .before .before .before .if1 .left) (c .before .before .before .before .before .before .before .before .before .before .meet-word .ensures) (c .before .before .before .before .before .read-word .ensures) (c .before .enum-told .given .1) (c .refused .ensures)
+    let word = c .before .before .before .before .before in
+    let meeting = word .before .before .before .before .before in
+    let test = meeting .before .before in
+    let ending = test .before in
+    let next = ending .before in
+    loop-refused (next .before .before .loop .inv) (next .next-event .ensures) (ending .is-end .ensures) (test .if1 .left)
+    (meeting .meet-word .ensures) (word .read-word .ensures) (c .before .enum-told .given .1) (c .refused .ensures)
 
 loop-less : tie.Need-loop-less Inv-loop μ-loop
-loop-less c = loop-shrinks (c .before .before .before .before .before .before .before .before .before .before .before .before .before .before .before .before .loop .inv) (c .before .before .before .before .before .before .before .before .before .before .before .before .before .before .next-event .ensures) (c .before .before .before .before .before .before .before .before .before .before .before .before .before .is-end .ensures) (c .before .before .before .before .before .before .before .before .before .before .before .before .if1 .left)
+loop-less c =
+    let test = c .before .before .before .before .before .before .before .before .before .before .before .before in
+    let next = test .before .before in
+    loop-shrinks (next .before .before .loop .inv) (next .next-event .ensures) (test .before .is-end .ensures) (test .if1 .left)
 
 loop-again : tie.Need-loop-again Inv-loop μ-loop
 loop-again c =
-    loop-more (c .before .before .before .before .before .before .before .before .before .before .before .before .before .before .before .before .loop .inv) (c .before .before .before .before .before .before .before .before .before .before .before .before .before .before .next-event .ensures) (c .before .before .before .before .before .before .before .before .before .before .before .before .before .is-end .ensures) (c .before .before .before .before .before .before .before .before .before .before .before .before .if1 .left) (c .before .before .before .before .before .before .before .before .before .before .meet-word .ensures) (c .before .before .before .before .before .read-word .ensures) (c .before .stepped .given .1)
-    (c .before .before .before .before .before .before .before .before .before .before .meet-word .kept .0) (c .before .before .before .before .before .read-word .kept .1 .1 .1 .0)
+    let word = c .before .before .before .before .before in
+    let meeting = word .before .before .before .before .before in
+    let test = meeting .before .before in
+    let ending = test .before in
+    let next = ending .before in
+    loop-more (next .before .before .loop .inv) (next .next-event .ensures) (ending .is-end .ensures) (test .if1 .left)
+    (meeting .meet-word .ensures) (word .read-word .ensures) (c .before .stepped .given .1) (meeting .meet-word .kept .0) (word .read-word .kept .1 .1 .1 .0)
 
 same-length-5 : tie.Need-same-length-5 Inv-loop μ-loop
 same-length-5 c = c .before .before .loop .inv .variable-words
