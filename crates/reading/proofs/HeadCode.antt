@@ -28,7 +28,7 @@ use Rattle.reading.specs.declared.Headed.the-variants as H
 use Rattle.reading.specs.Reading.{pickJudged}
 use Rattle.reading.specs.Reading.Judged.{fine, refused}
 use Rattle.reading.specs.Head.{openingOf, argumentOf, openedNumber, headNumber, pickArgument, argumentsFrom, openedArguments, headArguments}
-use Rattle.reading.specs.Callers.{judgedPredicate, Heads}
+use Rattle.reading.specs.Callers.{Opens, Heads}
 use Rattle.reading.proofs.WordCode.{moves}
 
 -- the events from a place on, by what stands there
@@ -112,18 +112,18 @@ module _ (line : List ℕ) (place : ℕ) (ns : List ℕ) (n : ℕ) {x : Next} (q
       number-at line place (keysAt ns declaredAt n)
       ∙ ap (openedNumber (keysAt ns declaredAt n)) (sym (ap (λ (y : Next). openingOf (y .event)) q) ∙ sym t ∙ e)
 
-  pub predicate-other : o ≡ O.Other → judgedPredicate (P.Refused Form) ≡ headNumber (keysAt ns declaredAt n) (eventsOf (drop place line))
+  pub predicate-other : o ≡ O.Other → Opens n (headNumber (keysAt ns declaredAt n) (eventsOf (drop place line))) (P.Refused Form)
   unfolding openedNumber
-  predicate-other e = sym (opened O.Other e)
+  predicate-other e = record { answer = sym (opened O.Other e); within = tt }
 
   module _ {k : Key} {m i : ℕ} (e : o ≡ O.Atom k m) (u : i ≡ placeOf k (keysAt ns declaredAt n)) where
-    pub predicate-name : n ≤ i → judgedPredicate (P.Refused Name) ≡ headNumber (keysAt ns declaredAt n) (eventsOf (drop place line))
+    pub predicate-name : n ≤ i → Opens n (headNumber (keysAt ns declaredAt n) (eventsOf (drop place line))) (P.Refused Name)
     unfolding openedNumber
-    predicate-name h = rw (opened (O.Atom k m) e, among-none ns declaredAt n k u h)
+    predicate-name h = record { answer = rw (opened (O.Atom k m) e, among-none ns declaredAt n k u h); within = tt }
 
-    pub predicate-is : i < n → judgedPredicate (P.Predicate (i + 1)) ≡ headNumber (keysAt ns declaredAt n) (eventsOf (drop place line))
+    pub predicate-is : i < n → Opens n (headNumber (keysAt ns declaredAt n) (eventsOf (drop place line))) (P.Predicate (i + 1))
     unfolding openedNumber
-    predicate-is h = rw (opened (O.Atom k m) e, among-at ns declaredAt n k u h, ← u)
+    predicate-is h = record { answer = rw (opened (O.Atom k m) e, among-at ns declaredAt n k u h, ← u); within = (omega arith, omega arith) }
 
 -- the head's arguments, one after another
 

@@ -1,10 +1,10 @@
 -- What the code of words needs to know: a word by its kind, and the words of a line one after another.
-use Prim.Native.Nat.{ℕ, _-_, _≤_, _<_}
+use Prim.Native.Nat.{ℕ, _-_, _*_, _≤_, _<_}
 use mathlib.Core.Path.{_≡_, refl, sym, ap, subst, _∙_}
 use mathlib.Core.Bool.{Bool, true, false}
 use mathlib.Core.List.{List, [], _∷_}
 use native.Mathlib.Omega.{arith}
-use borrow.Author.Tests.{le-leb, lt-leb}
+use borrow.Author.Tests.{le-leb, lt-leb, leb-true}
 use lib.Dec.{leb}
 use lib.ListN.{length, drop, length-drop}
 use Rattle.refusal.specs.declared.Refusal.{Refusal}
@@ -30,7 +30,7 @@ use Rattle.reading.specs.declared.Read.the-variants as W
 use Rattle.reading.specs.Operations.{Op, opOf, opsIn}
 use Rattle.reading.specs.Reading.{Names, State, pickJudged, andThen, more, begun, termWord, numberWord, atomWord, constantNumber, parameterNumber, variableNumber, metAt, word, with-pass, readWord, readWords, finished, begin, reading}
 use Rattle.reading.specs.Reading.Judged.{fine, refused}
-use Rattle.reading.specs.Callers.{namesOf, passOf, stateOf, judgedNumber, judgedPass, pickRead, readAnswer, refusedRead, judgedWritten, Variables, Readable, Going, Room, Advanced, AdvancedBy, Resolves, Meets, Goes, Steps}
+use Rattle.reading.specs.Callers.{namesOf, passOf, stateOf, judgedNumber, judgedPass, pickRead, readAnswer, refusedRead, judgedWritten, ReadWithin, Reads, Variables, Readable, Going, Room, Advanced, AdvancedBy, Resolves, Meets, Goes, Steps}
 
 -- a word by its kind
 
@@ -86,6 +86,13 @@ answer-finished vs n os p = rw (length-keys vs 0 n) (go (leb n variableCount))
     go true = refl
     go false = refl
 
+answer-within : (os : List ℕ) (n m : ℕ) → m * 2 ≤ length os → ReadWithin os (readAnswer n m)
+answer-within os n m h = go (leb n variableCount) refl
+  where
+    go : (b : Bool) → leb n variableCount ≡ b → ReadWithin os (pickRead b (W.Done m n) (W.Refused F.Variables))
+    go true e = (h, leb-true n variableCount e)
+    go false e = tt
+
 -- the words before the place are read, and those from it on give the answer
 pub record Loop (line : List ℕ) (place₀ : ℕ) (ns ar vs₀ os₀ : List ℕ) (s : Scope) (known : ℕ) (vs os : List ℕ) (place count : ℕ) (p : Progress) : Type 0 where
   pub within : place ≤ length line
@@ -125,7 +132,7 @@ words-more σ es fs e s q = rw q
 
 -- r answers for the words of the line
 abbrev Answers : List ℕ → ℕ → List ℕ → List ℕ → List ℕ → Scope → ℕ → List ℕ → List ℕ → Read → Type 0
-Answers line place ns ar vs₀ s known vs os r = judgedWritten vs os r ≡ reading (namesOf ns ar s) (eventsOf (drop place line)) (keysAt vs₀ 0 known)
+Answers line place ns ar vs₀ s known vs os r = Reads (reading (namesOf ns ar s) (eventsOf (drop place line)) (keysAt vs₀ 0 known)) r vs os
 
 module _ {line : List ℕ} {place₀ : ℕ} {ns ar vs₀ os₀ : List ℕ} {s : Scope} {known : ℕ} where
   pub loop-start : Readable line place₀ ns ar vs₀ os₀ s known
@@ -150,20 +157,23 @@ module _ {line : List ℕ} {place₀ : ℕ} {ns ar vs₀ os₀ : List ℕ} {s : 
   }
 
   module _ {vs os : List ℕ} {place count : ℕ} {p : Progress} (l : Loop line place₀ ns ar vs₀ os₀ s known vs os place count p) where
-    finishes : eventsOf (drop place line) ≡ [] → Answers line place₀ ns ar vs₀ s known vs os (readAnswer count (p .operations))
+    finishes : Readable line place₀ ns ar vs₀ os₀ s known → eventsOf (drop place line) ≡ [] → Answers line place₀ ns ar vs₀ s known vs os (readAnswer count (p .operations))
     unfolding reading
-    finishes e =
-        answer-finished vs count os p
-        ∙ ap (λ j. andThen j finished) (sym (l .still ∙ words-none (namesOf ns ar s) (eventsOf (drop place line)) (stateOf vs count os p) e))
+    finishes g e = record {
+      answer =
+          answer-finished vs count os p
+          ∙ ap (λ j. andThen j finished) (sym (l .still ∙ words-none (namesOf ns ar s) (eventsOf (drop place line)) (stateOf vs count os p) e));
+      within = answer-within os count (p .operations) (omega (arith, l .bytes, l .within, l .operation-words, g .words));
+    }
 
     -- the last byte passed
-    pub loop-over : {r : Read} → length line ≤ place → r ≡ readAnswer count (p .operations) → Answers line place₀ ns ar vs₀ s known vs os r
-    loop-over h q = rw q (finishes (events-short (drop place line) (omega (arith, length-drop place line))))
+    pub loop-over : Readable line place₀ ns ar vs₀ os₀ s known → {r : Read} → length line ≤ place → r ≡ readAnswer count (p .operations) → Answers line place₀ ns ar vs₀ s known vs os r
+    loop-over g h q = rw q (finishes g (events-short (drop place line) (omega (arith, length-drop place line))))
 
     module _ {n : Next} (q : n ≡ nextAt line place) {b : Bool} (t : b ≡ isEnd (n .event)) where
       -- the line's end
-      pub loop-end : {r : Read} → b ≡ true → r ≡ readAnswer count (p .operations) → Answers line place₀ ns ar vs₀ s known vs os r
-      loop-end e a = rw a (finishes (events-none line place n q (sym t ∙ e)))
+      pub loop-end : Readable line place₀ ns ar vs₀ os₀ s known → {r : Read} → b ≡ true → r ≡ readAnswer count (p .operations) → Answers line place₀ ns ar vs₀ s known vs os r
+      loop-end g e a = rw a (finishes g (events-none line place n q (sym t ∙ e)))
 
       pub loop-room : Readable line place₀ ns ar vs₀ os₀ s known → place < length line → Room os p
       loop-room g h = record { going = l .going; room = omega (arith, l .bytes, l .operation-words, g .words) }
@@ -186,10 +196,13 @@ module _ {line : List ℕ} {place₀ : ℕ} {ns ar vs₀ os₀ : List ℕ} {s : 
 
           pub loop-refused : {z : Refusal} {r : Read} → x ≡ S.Refused z → r ≡ refusedRead x → Answers line place₀ ns ar vs₀ s known vs′ os′ r
           unfolding reading
-          loop-refused {z} e a =
-              ap (judgedWritten vs′ os′) (a ∙ ap refusedRead e)
-              ∙ ap (λ j. andThen j finished)
-              (sym (stepped ∙ ap (λ y. andThen (with-pass (keysAt vs′ 0 count′) (judgedPass os′ y)) (readWords (namesOf ns ar s) (eventsOf (drop (n .place) line)))) e))
+          loop-refused {z} e a = record {
+            answer =
+                ap (judgedWritten vs′ os′) (a ∙ ap refusedRead e)
+                ∙ ap (λ j. andThen j finished)
+                (sym (stepped ∙ ap (λ y. andThen (with-pass (keysAt vs′ 0 count′) (judgedPass os′ y)) (readWords (namesOf ns ar s) (eventsOf (drop (n .place) line)))) e));
+            within = subst (ReadWithin os′) (sym (a ∙ ap refusedRead e)) tt;
+          }
 
           pub loop-more : {then : Progress} → x ≡ S.Done then → length vs′ ≡ length vs → length os′ ≡ length os
               → Loop line place₀ ns ar vs₀ os₀ s known vs′ os′ (n .place) count′ then

@@ -77,6 +77,16 @@ abbrev pub judgedPredicate : Opened → Judged ℕ
 judgedPredicate (P.Predicate i) = fine i
 judgedPredicate (P.Refused r) = refused r
 
+-- it is a declared one of n
+abbrev pub PredicateWithin : ℕ → Opened → Type 0
+PredicateWithin n (P.Predicate i) = (0 < i) × (i ≤ n)
+PredicateWithin n (P.Refused r) = Unit {0}
+
+-- the promise of reading a head's predicate, n declared: the answer w
+pub record Opens (n : ℕ) (w : Judged ℕ) (r : Opened) : Type 0 where
+  pub answer : judgedPredicate r ≡ w
+  pub within : PredicateWithin n r
+
 -- n arguments in vs, and the words of the line behind them
 abbrev pub judgedHead : List ℕ → List ℕ → ℕ → Headed → Judged Head
 judgedHead line vs n (H.Arguments i) = fine (record { variables = keysAt vs 0 n; rest = eventsOf (drop i line) })
@@ -91,6 +101,16 @@ HeadWithin line (H.Refused r) = Unit {0}
 pub record Heads (line : List ℕ) (n : ℕ) (w : Judged Head) (r : Headed) (vs′ : List ℕ) : Type 0 where
   pub answer : judgedHead line vs′ n r ≡ w
   pub within : HeadWithin line r
+
+-- the operations lie within the words os, and the variables are 32 at most
+abbrev pub ReadWithin : List ℕ → Read → Type 0
+ReadWithin os (W.Done n m) = (n * 2 ≤ length os) × (m ≤ variableCount)
+ReadWithin os (W.Refused r) = Unit {0}
+
+-- the promise of reading a line's words: the answer w
+pub record Reads (w : Judged Written) (r : Read) (vs′ os′ : List ℕ) : Type 0 where
+  pub answer : judgedWritten vs′ os′ r ≡ w
+  pub within : ReadWithin os′ r
 
 -- the tables of names, and the arity list
 pub record Tables (ns ar : List ℕ) (s : Scope) : Type 0 where

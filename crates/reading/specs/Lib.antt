@@ -9,3 +9,4 @@ pub mod GoodLaws
 pub mod LineLaws
 pub mod OperationLaws
 pub mod Callers
+pub mod ReadLaws

@@ -20,7 +20,7 @@ ghost use Rattle.reading.specs.Operations.{opOf};
 ghost use Rattle.reading.specs.Reading.{placed, asked, begun, termWord, numberWord, atomWord, more, constantNumber, parameterNumber, lastVariable, variableNumber, met, metAt, word, reading};
 ghost use Rattle.reading.specs.declared.Binding.the-variants.{Any, Only};
 ghost use Rattle.reading.specs.Reading.Judged.{fine};
-ghost use Rattle.reading.specs.Callers.{namesOf, passOf, judgedNumber, readAnswer, refusedRead, judgedWritten, judgedPredicate, Heads, Tables, Variables, Readable, Room, TermBelow, Resolves, Meets, Goes, Steps};
+ghost use Rattle.reading.specs.Callers.{namesOf, passOf, judgedNumber, readAnswer, refusedRead, Reads, Opens, Heads, Tables, Variables, Readable, Room, TermBelow, Resolves, Meets, Goes, Steps};
 
 // The first words of operations: a leaf, a label to ask, t = t to ask, a row step.
 pub const LEAF: u64 = 0;
@@ -449,7 +449,7 @@ pub fn read_words(
     known: usize,
 ) -> Read
     requires { ⌜ Readable (now line) at (now names) (now arities) (now variables) (now operations) scope known ⌝ }
-    ensures { λ r. ⌜ judgedWritten (now (variables .exit)) (now (operations .exit)) r ≡ reading (namesOf (now (names .entry)) (now (arities .entry)) scope) (eventsOf (drop at (now (line .entry)))) (keysAt (now (variables .entry)) 0 known) ⌝ }
+    ensures { λ r. ⌜ Reads (reading (namesOf (now (names .entry)) (now (arities .entry)) scope) (eventsOf (drop at (now (line .entry)))) (keysAt (now (variables .entry)) 0 known)) r (now (variables .exit)) (now (operations .exit)) ⌝ }
 {
     let mut place = at;
     let mut count = known;
@@ -526,7 +526,7 @@ fn argument_of(event: Event) -> Argument
 pub fn head_predicate(line: &[u8], at: usize, names: &[u64], n: usize) -> Opened
     requires { ⌜ at ≤ length (now line) ⌝ }
     requires { ⌜ declaredAt + n * 2 ≤ length (now names) ⌝ }
-    ensures { λ r. ⌜ judgedPredicate r ≡ headNumber (keysAt (now (names .entry)) declaredAt n) (eventsOf (drop at (now (line .entry)))) ⌝ }
+    ensures { λ r. ⌜ Opens n (headNumber (keysAt (now (names .entry)) declaredAt n) (eventsOf (drop at (now (line .entry))))) r ⌝ }
 {
     let next = events::next_event(line, at);
     let event = next.event;

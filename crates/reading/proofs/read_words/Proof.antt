@@ -28,7 +28,7 @@ returns : tie.Need-returns Inv-loop μ-loop
 returns c =
     let ending = c .before .before in
     let next = ending .before in
-    loop-end (next .before .before .loop .inv) (next .next-event .ensures) (ending .is-end .ensures) (c .before .if1 .taken) (c .finish .ensures)
+    loop-end (next .before .before .loop .inv) (next .next-event .ensures) (ending .is-end .ensures) (next .before .before .before .before .before .before .before .before .pre) (c .before .if1 .taken) (c .finish .ensures)
 
 meet-word-requires : tie.Need-meet-word-requires Inv-loop μ-loop
 meet-word-requires c κs = c .before .before .before .before .before .loop .inv .table
@@ -89,7 +89,7 @@ same-length-6 : tie.Need-same-length-6 Inv-loop μ-loop
 same-length-6 c = c .before .before .loop .inv .operation-words
 
 returns-3 : tie.Need-returns-3 Inv-loop μ-loop
-returns-3 c = loop-over (c .before .before .loop .inv) (c .before .loop-test .left) (c .finish2 .ensures)
+returns-3 c = loop-over (c .before .before .loop .inv) (c .before .before .before .before .before .before .before .before .pre) (c .before .loop-test .left) (c .finish2 .ensures)
 
 pub read-words-spec : {M : Type 1} → statement M
 read-words-spec =
