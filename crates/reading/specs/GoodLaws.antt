@@ -1,7 +1,7 @@
 -- What the words of a diagram come to is well formed: labels under the arity list, no name unbound, leaves in range.
-use Prim.Native.Nat.{ℕ, zero, suc, _+_, _≤_, _<_, min}
+use Prim.Native.Nat.{ℕ, _+_, _≤_, _<_, min}
 use mathlib.Core.Path.{_≡_, refl, sym, ap, subst, _∙_}
-use mathlib.Core.Bool.{Bool, true, false, cond}
+use mathlib.Core.Bool.{true, cond}
 use mathlib.Core.List.{List, [], _∷_}
 use native.Mathlib.Omega.{arith}
 use native.Mathlib.Decide.{decLt}
@@ -10,7 +10,6 @@ use lib.Dec.{eqb, ltb, leb}
 use lib.ListN.{length, getD, List·getD-eq-default}
 use Rattle.basics.specs.Tests.{Cmp, cmp}
 use Rattle.basics.specs.Tests.Cmp.{below, equal as alike, above}
-use Rattle.refusal.specs.declared.Refusal.{Refusal}
 use Rattle.refusal.specs.declared.Refusal.the-variants.{Name, Arity, Range, Unbound, Variables}
 use Rattle.label.specs.Limits.{constantCount, firstParameter, parameterCount, firstVariable, variableCount, predicateCount, equality}
 use Rattle.label.specs.Terms.{isConstant, isParameter, isVariable, isTerm}
@@ -34,26 +33,20 @@ use Rattle.names.specs.Keys.{placeOf, isAmong}
 use Rattle.events.specs.Events.{diagramEvents}
 use Rattle.reading.specs.declared.Binding.{Binding}
 use Rattle.reading.specs.declared.Binding.the-variants.{Any, None, Only}
-use Rattle.reading.specs.Reading.{Names, Judged, pickJudged, andThen, constantNumber, parameterNumber, met, lastVariable, numberIn, variableNumber, Written, reading}
+use Rattle.reading.specs.Reading.{Names, Judged, andThen, constantNumber, parameterNumber, met, lastVariable, numberIn, variableNumber, Written, reading}
 use Rattle.reading.specs.Reading.Judged.{fine, refused}
+use Rattle.reading.specs.AllLaws.{all-at}
+use Rattle.reading.specs.JudgedLaws.{apart, fine-one, chosen, passed, chained}
 use Rattle.reading.specs.Tree.{Reading, Result, having, resolveTerm, resolveTerms, atomFrom, testing, resolveAtom, branching, resolveDiagram, writing, diagramReading, depth, Named, reach, GoodTest, GoodReading, NamesFit, Sound}
 use Rattle.reading.specs.Tree.Reading.{branch}
 use Rattle.reading.specs.ArityLaws.{arity-most, arity-two}
-use Rattle.reading.specs.TreeLaws.{apart, Resolving, terms-resolved, reading-diagram}
+use Rattle.reading.specs.TreeLaws.{Resolving, terms-resolved, reading-diagram}
 
 -- terms
 
 among-below : (k : Key) (ks : List Key) → isAmong k ks ≡ true → placeOf k ks < length ks
 unfolding isAmong
 among-below k ks e = ltb-true (placeOf k ks) (length ks) e
-
--- an answer that is no refusal passed its test
-passed : {A : Type 0} (b : Bool) (x : A) (r : Refusal) (y : A) → pickJudged b (fine x) (refused r) ≡ fine y → (b ≡ true) × (x ≡ y)
-passed true x r y e = let z : x ≡ y = cc in (refl, z)
-passed false x r y e = absurd (apart e)
-
-fine-one : {A : Type 0} {x y : A} → fine x ≡ fine y → x ≡ y
-fine-one e = cc
 
 had : {A : Type 0} (vs : List Key) (j : Judged A) (g : Result A) → having vs j ≡ fine g → (j ≡ fine (g .value)) × (vs ≡ g .variables)
 had {A} vs (fine x) g e =
@@ -157,18 +150,13 @@ in-order : (x y : ℕ) → x < y → inOrder (atomFrom equality (x ∷ y ∷ [])
 unfolding inOrder
 in-order x y h = rw (lt-ltb x y h)
 
-all-at : (P : ℕ → Type 0) (us : List ℕ) (k : ℕ) → T.All P us → k < length us → P (getD us k 0)
-all-at P [] k a h = absurd (omega arith)
-all-at P (u ∷ us) zero a h = a .0
-all-at P (u ∷ us) (suc k) a h = all-at P us k (a .1) (omega arith)
-
 module _ (ar : List ℕ) (P : ℕ → Type 0) (w : (t : ℕ) → P t → isTerm t ≡ true) where
   place-is : (n : ℕ) (us : List ℕ) (k : ℕ) → length us ≡ n → T.All P us → placeFits n k (getD us k 0) ≡ true
   unfolding placeFits
   place-is n us k l a = go (decLt k n)
     where
       go : Dec (k < n) → cond (ltb k n) (isTerm (getD us k 0)) (eqb (getD us k 0) 0) ≡ true
-      go (yes h) = rw (lt-ltb k n h, w (getD us k 0) (all-at P us k a (omega arith)))
+      go (yes h) = rw (lt-ltb k n h, w (getD us k 0) (all-at P us 0 k a (omega arith)))
       go (no h) =
           let z : length us ≤ k = omega arith in
           rw (le-ltb k n (omega arith), eq-eqb (getD us k 0) 0 (List·getD-eq-default us 0 z))
@@ -177,7 +165,7 @@ module _ (ar : List ℕ) (P : ℕ → Type 0) (w : (t : ℕ) → P t → isTerm 
   place-below us k a = go (decLt k (length us))
     where
       go : Dec (k < length us) → getD us k 0 < 64
-      go (yes h) = term-below (getD us k 0) (w (getD us k 0) (all-at P us k a h))
+      go (yes h) = term-below (getD us k 0) (w (getD us k 0) (all-at P us 0 k a h))
       go (no h) =
           let z : length us ≤ k = omega arith in
           let e = List·getD-eq-default us 0 z in
@@ -189,10 +177,10 @@ module _ (ar : List ℕ) (P : ℕ → Type 0) (w : (t : ℕ) → P t → isTerm 
 
     each-term : EachTerm P (getD ar q 0) (atomFrom q us)
     each-term = record {
-      on-first = λ h. all-at P us 0 a (omega arith);
-      on-second = λ h. all-at P us 1 a (omega arith);
-      on-third = λ h. all-at P us 2 a (omega arith);
-      on-fourth = λ h. all-at P us 3 a (omega arith);
+      on-first = λ h. all-at P us 0 0 a (omega arith);
+      on-second = λ h. all-at P us 0 1 a (omega arith);
+      on-third = λ h. all-at P us 0 2 a (omega arith);
+      on-fourth = λ h. all-at P us 0 3 a (omega arith);
     }
 
     each-in : EachIn ar P (packed (atomFrom q us))
@@ -236,21 +224,6 @@ module _ (ar : List ℕ) (P : ℕ → Type 0) (w : (t : ℕ) → P t → isTerm 
           (label-good equality (u ∷ t ∷ []) (sym (arity-two ar e)) (q, (p, tt)) (omega arith) (in-order u t h))
 
 -- atoms
-
--- a tested answer, and a chain of answers, that is no refusal
-
-chosen : {A : Type 0} (b : Bool) (j : Judged A) (r : Refusal) (y : A) → pickJudged b j (refused r) ≡ fine y → (b ≡ true) × (j ≡ fine y)
-chosen true j r y e = (refl, e)
-chosen false j r y e = absurd (apart e)
-
-pub record Chain {A B : Type 0} (j : Judged A) (f : A → Judged B) (y : B) : Type 0 where
-  pub first : A
-  pub answers : j ≡ fine first
-  pub then : f first ≡ fine y
-
-chained : {A B : Type 0} (j : Judged A) (f : A → Judged B) (y : B) → andThen j f ≡ fine y → Chain j f y
-chained (fine x) f y e = record { first = x; answers = refl; then = e }
-chained (refused r) f y e = absurd (apart e)
 
 -- what a resolved part keeps: a property of its value, and one of the variables
 pub record Keeps {A : Type 0} (P : A → Type 0) (Q : List Key → Type 0) (g : Result A) : Type 0 where

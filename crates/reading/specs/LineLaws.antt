@@ -25,7 +25,8 @@ use Rattle.reading.specs.Reading.{Names, Judged, pickJudged, andThen, re
 use Rattle.reading.specs.Reading.Judged.{fine, refused}
 use Rattle.reading.specs.Head.{openedNumber, headNumber, Head, argumentsFrom, headArguments, argumentKeys, headKeys}
 use Rattle.reading.specs.Tree.{diagramReading}
-use Rattle.reading.specs.TreeLaws.{Arities, apart, reading-diagram}
+use Rattle.reading.specs.TreeLaws.{Arities, reading-diagram}
+use Rattle.reading.specs.JudgedLaws.{apart}
 
 -- the event at a place, where the events from there on are known
 pub record Splits (s : List ℕ) (i : ℕ) (e : Event) (es : List Event) : Type 0 where

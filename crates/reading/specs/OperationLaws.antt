@@ -1,9 +1,8 @@
 -- The words of a good diagram's operations: leaves at most 10^18, labels below a leaf's mark.
-use Prim.Native.Nat.{ℕ, zero, suc, _+_, _*_, _≤_, _<_}
+use Prim.Native.Nat.{ℕ, _+_, _*_, _≤_, _<_}
 use mathlib.Core.Path.{_≡_, subst}
 use mathlib.Core.List.{List, [], _∷_, _++_}
-use native.Mathlib.Omega.{arith}
-use lib.ListN.{length, getD}
+use lib.ListN.{getD}
 use Rattle.label.specs.Limits.{leafMark}
 use Rattle.label.specs.LabelLaws.{label-below}
 use Rattle.label.specs.declared.Test.{Test}
@@ -12,6 +11,7 @@ use Rattle.diagram.specs.Sizes.{highestValue}
 use Rattle.forms.specs.Tree.{All}
 use Rattle.names.specs.Many.{many}
 use Rattle.names.specs.ManyLaws.{length-many, getD-many}
+use Rattle.reading.specs.AllLaws.{all-at, all-append}
 use Rattle.reading.specs.Operations.{Op, opOf, opAt, opsIn}
 use Rattle.reading.specs.Operations.Op.{leafOp, ask, step}
 use Rattle.reading.specs.Tree.{Reading, opsOf, GoodTest, GoodReading}
@@ -24,10 +24,6 @@ InRange (ask Always) = Unit {0}
 InRange (ask (Is l)) = l .packed < leafMark
 InRange step = Unit {0}
 
-all-append : (P : Op → Type 0) (x y : List Op) → All P x → All P y → All P (x ++ y)
-all-append P [] y a b = b
-all-append P (o ∷ x) y a b = (a .0, all-append P x y (a .1) b)
-
 test-range : (ar : List ℕ) (P : ℕ → Type 0) (t : Test) → GoodTest ar P t → InRange (ask t)
 test-range ar P Always g = tt
 test-range ar P (Is l) g = label-below ar (l .packed) (g .0)
@@ -39,11 +35,6 @@ operations-range ar P (branch t h f) g = (
   all-append InRange (opsOf h) (opsOf f ++ (step ∷ [])) (operations-range ar P h (g .1))
       (all-append InRange (opsOf f) (step ∷ []) (operations-range ar P f (g .2)) (tt, tt)),
 )
-
-all-at : (P : Op → Type 0) (os : List Op) (d : Op) (k : ℕ) → All P os → k < length os → P (getD os k d)
-all-at P [] d k a h = absurd (omega arith)
-all-at P (o ∷ os) d zero a h = a .0
-all-at P (o ∷ os) d (suc k) a h = all-at P os d k (a .1) (omega arith)
 
 -- in lent words
 module _ (s : List ℕ) (n : ℕ) (a : All InRange (opsIn s n)) (k : ℕ) (h : k < n) where

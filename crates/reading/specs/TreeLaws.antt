@@ -7,7 +7,6 @@ use native.Mathlib.Omega.{arith}
 use borrow.Author.Tests.{eq-eqb, ne-eqb, eqb-true}
 use lib.Dec.{eqb, leb}
 use lib.ListN.{length, getD}
-use Rattle.refusal.specs.declared.Refusal.{Refusal}
 use Rattle.refusal.specs.declared.Refusal.the-variants.{Name, Arity, Range, Variables}
 use Rattle.label.specs.Limits.{mostPlaces, equality, variableCount}
 use Rattle.label.specs.Labels.{testOf}
@@ -30,6 +29,7 @@ use Rattle.reading.specs.Operations.{Op}
 use Rattle.reading.specs.Operations.Op.{leafOp, ask, step}
 use Rattle.reading.specs.Reading.{Names, Judged, pickJudged, andThen, Pass, placed, more, asked, beginning, begun, filling, termWord, numberWord, atomWord, word, State, with-pass, readWord, readWords, finished, begin, reading}
 use Rattle.reading.specs.Reading.Judged.{fine, refused}
+use Rattle.reading.specs.JudgedLaws.{apart}
 use Rattle.reading.specs.Tree.{Reading, Result, having, resolveTerm, joined, resolveTerms, atomFrom, testing, resolveAtom, branching, resolveDiagram, opsOf, writing, diagramReading}
 use Rattle.reading.specs.Tree.Reading.{number}
 
@@ -84,9 +84,6 @@ terms-words σ (t ∷ ts) es vs p e =
         ≡ andThen (andThen j (λ g. andThen (resolveTerms σ (g .variables) ts) (joined (g .value)))) (λ h. readWords σ es (at (h .variables) (given p (h .value))))
     go (fine g) ih = ih g ∙ inner (g .value) (resolveTerms σ (g .variables) ts)
     go (refused r) ih = refl
-
-pub apart : {A : Type 0} {r : Refusal} {g : A} → _≡_ {A = Judged A} (refused r) (fine g) → ⊥
-apart e = let z : _≡_ {A = ℕ} 0 1 = cc in omega arith
 
 -- every resolved term has the property P, as long as the variables have the property Q, which they keep
 pub record Resolving (σ : Names) (P : ℕ → Type 0) (Q : List Key → Type 0) : Type 0 where
