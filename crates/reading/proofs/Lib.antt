@@ -1,0 +1,4 @@
+pub mod PassCode
+pub mod TermCode
+pub mod WordCode
+pub mod HeadCode

@@ -1,0 +1,140 @@
+-- What the code of terms and variables needs to know.
+use Prim.Native.Nat.{ℕ, _+_, _*_, _≤_, _<_, min}
+use mathlib.Core.Path.{_≡_, refl, sym, ap, _∙_}
+use mathlib.Core.List.{List}
+use native.Mathlib.Omega.{arith}
+use borrow.Author.Tests.{le-leb, lt-leb}
+use Rattle.refusal.specs.declared.Refusal.the-variants.{Name, Unbound}
+use Rattle.label.specs.Limits.{constantCount, parameterCount, variableCount}
+use Rattle.label.specs.Terms.{variableTerm}
+use Rattle.words.specs.declared.Key.{Key}
+use Rattle.names.specs.Keys.{keysAt, placeOf, putKey}
+use Rattle.names.specs.KeyLaws.{length-keys, among-at, among-none, keys-more, length-put}
+use Rattle.names.specs.Layout.{constantsAt, parametersAt}
+use Rattle.events.specs.declared.Event.{Event}
+use Rattle.events.specs.declared.Event.the-variants as E
+use Rattle.reading.specs.declared.Binding.{Binding}
+use Rattle.reading.specs.declared.Binding.the-variants.{Any, None, Only}
+use Rattle.reading.specs.declared.Resolved.{Resolved}
+use Rattle.reading.specs.declared.Resolved.the-variants as R
+use Rattle.reading.specs.Reading.{constantNumber, parameterNumber, met, metAt, lastVariable, numberIn, variableNumber}
+use Rattle.reading.specs.Reading.Judged.{fine}
+use Rattle.reading.specs.Callers.{Variables, Resolves, Meets}
+
+module _ (ns : List ℕ) (n : ℕ) (k : Key) {i : ℕ} where
+  pub constant-none : i ≡ placeOf k (keysAt ns constantsAt n) → n ≤ i → Resolves (constantNumber (keysAt ns constantsAt n) k) (R.Refused Name)
+  unfolding constantNumber
+  constant-none q h = record { answer = rw (among-none ns constantsAt n k q h); below = tt }
+
+  pub constant-is : i ≡ placeOf k (keysAt ns constantsAt n) → i < n → n ≤ constantCount → Resolves (constantNumber (keysAt ns constantsAt n) k) (R.Number i)
+  unfolding constantNumber
+  constant-is q h l = record { answer = rw (among-at ns constantsAt n k q h, ← q); below = omega arith }
+
+  pub parameter-none : i ≡ placeOf k (keysAt ns parametersAt n) → n ≤ i → Resolves (parameterNumber (keysAt ns parametersAt n) k) (R.Refused Unbound)
+  unfolding parameterNumber
+  parameter-none q h = record { answer = rw (among-none ns parametersAt n k q h); below = tt }
+
+  pub parameter-is : i ≡ placeOf k (keysAt ns parametersAt n) → i < n → n ≤ parameterCount → Resolves (parameterNumber (keysAt ns parametersAt n) k) (R.Number (16 + i))
+  unfolding parameterNumber
+  parameter-is q h l = record { answer = rw (among-at ns parametersAt n k q h, ← q); below = omega arith }
+
+-- a variable's number
+
+pub at-last : (i : ℕ) → lastVariable ≤ i → 63 ≡ variableTerm (min i lastVariable)
+at-last i h = omega arith
+
+pub at-own : (i : ℕ) → i < lastVariable → 32 + i ≡ variableTerm (min i lastVariable)
+at-own i h = omega arith
+
+module _ (vs : List ℕ) (n : ℕ) (k : Key) {i v : ℕ} (q : i ≡ placeOf k (keysAt vs 0 n)) where
+  number-is : v ≡ variableTerm (min i lastVariable) → v ≡ numberIn (keysAt vs 0 n) k
+  unfolding numberIn
+  number-is e = e ∙ ap (λ j. variableTerm (min j lastVariable)) q
+
+  pub any-is : v ≡ variableTerm (min i lastVariable) → Resolves (variableNumber Any (keysAt vs 0 n) k) (R.Number v)
+  unfolding variableNumber
+  any-is e = record { answer = ap fine (number-is e); below = omega arith }
+
+  pub bound-is : i < n → v ≡ variableTerm (min i lastVariable) → Resolves (variableNumber Only (keysAt vs 0 n) k) (R.Number v)
+  unfolding variableNumber
+  bound-is h e = record { answer = rw (among-at vs 0 n k q h, ← number-is e); below = omega arith }
+
+pub bound-none : (vs : List ℕ) (n : ℕ) (k : Key) {i : ℕ} → i ≡ placeOf k (keysAt vs 0 n) → n ≤ i
+    → Resolves (variableNumber Only (keysAt vs 0 n) k) (R.Refused Unbound)
+unfolding variableNumber
+bound-none vs n k q h = record { answer = rw (among-none vs 0 n k q h); below = tt }
+
+module _ (b : Binding) (vs : List Key) (k : Key) {r : Resolved} where
+  pub number-any : b ≡ Any → Resolves (variableNumber Any vs k) r → Resolves (variableNumber b vs k) r
+  number-any e g = rw e g
+
+  pub number-only : b ≡ Only → Resolves (variableNumber Only vs k) r → Resolves (variableNumber b vs k) r
+  number-only e g = rw e g
+
+pub number-none : (b : Binding) (vs : List Key) (k : Key) → b ≡ None → Resolves (variableNumber b vs k) (R.Refused Unbound)
+unfolding variableNumber
+number-none b vs k e = rw e (record { answer = refl; below = tt })
+
+-- the table of variables
+
+module _ (vs : List ℕ) (n : ℕ) (k : Key) (t : Variables vs n) {i : ℕ} (q : i ≡ placeOf k (keysAt vs 0 n)) where
+  pub join-known : i < n → Meets (met Any (keysAt vs 0 n) k) n vs
+  unfolding met
+  join-known h = record { variables = rw (among-at vs 0 n k q h); table = t }
+
+  module _ (h : n ≤ i) where
+    pub join-full : variableCount < n → Meets (met Any (keysAt vs 0 n) k) n vs
+    unfolding met
+    join-full l = record { variables = rw (among-none vs 0 n k q h, length-keys vs 0 n, lt-leb n variableCount l); table = t }
+
+    pub join-new : n ≤ variableCount → {vs′ : List ℕ} → vs′ ≡ putKey vs (n * 2) k → Meets (met Any (keysAt vs 0 n) k) (n + 1) vs′
+    unfolding met
+    join-new l {vs′} e =
+        let z : vs′ ≡ putKey vs (0 + n * 2) k = e ∙ ap (λ i. putKey vs i k) (omega arith) in
+        rw z (record {
+          variables = rw (among-none vs 0 n k q h, length-keys vs 0 n, le-leb n variableCount l) (keys-more vs 0 n k (omega (arith, t .words)));
+          table = record { words = rw (length-put vs (0 + n * 2) k) (t .words); within = omega arith };
+        })
+
+module _ (b : Binding) (vs : List ℕ) (n : ℕ) (k : Key) where
+  pub meet-any : b ≡ Any → {r : ℕ} {vs′ : List ℕ} → Meets (met Any (keysAt vs 0 n) k) r vs′ → Meets (met b (keysAt vs 0 n) k) r vs′
+  meet-any e g = rw e g
+
+  pub meet-none : b ≡ None → Variables vs n → Meets (met b (keysAt vs 0 n) k) n vs
+  unfolding met
+  meet-none e t = rw e (record { variables = refl; table = t })
+
+  pub meet-only : b ≡ Only → Variables vs n → Meets (met b (keysAt vs 0 n) k) n vs
+  unfolding met
+  meet-only e t = rw e (record { variables = refl; table = t })
+
+-- a word's variables
+
+pub word-variable : (b : Binding) (vs : List ℕ) (n : ℕ) (e : Event) {k : Key} {r : ℕ} {vs′ : List ℕ} → e ≡ E.Variable k
+    → Meets (met b (keysAt vs 0 n) k) r vs′ → Meets (metAt b (keysAt vs 0 n) e) r vs′
+word-variable b vs n e p g = rw p g
+
+module _ (b : Binding) (vs : List ℕ) (n : ℕ) (t : Variables vs n) (e : Event) where
+  stays : (u : Event) → e ≡ u → metAt b (keysAt vs 0 n) u ≡ keysAt vs 0 n → Meets (metAt b (keysAt vs 0 n) e) n vs
+  stays u p q = rw p (record { variables = sym q; table = t })
+
+  pub word-name : {k : Key} → e ≡ E.Name k → Meets (metAt b (keysAt vs 0 n) e) n vs
+  word-name {k} p = stays (E.Name k) p refl
+
+  pub word-parameter : {k : Key} → e ≡ E.Parameter k → Meets (metAt b (keysAt vs 0 n) e) n vs
+  word-parameter {k} p = stays (E.Parameter k) p refl
+
+  pub word-number : {v : ℕ} → e ≡ E.Number v → Meets (metAt b (keysAt vs 0 n) e) n vs
+  word-number {v} p = stays (E.Number v) p refl
+
+  pub word-equal : e ≡ E.Equal → Meets (metAt b (keysAt vs 0 n) e) n vs
+  word-equal p = stays E.Equal p refl
+
+  pub word-holds : {k : Key} {m : ℕ} → e ≡ E.Holds k m → Meets (metAt b (keysAt vs 0 n) e) n vs
+  word-holds {k} {m} p = stays (E.Holds k m) p refl
+
+  pub word-step : e ≡ E.Step → Meets (metAt b (keysAt vs 0 n) e) n vs
+  word-step p = stays E.Step p refl
+
+  pub word-end : e ≡ E.End → Meets (metAt b (keysAt vs 0 n) e) n vs
+  word-end p = stays E.End p refl

@@ -1,0 +1,228 @@
+-- What the code of words needs to know: a word by its kind, and the words of a line one after another.
+use Prim.Native.Nat.{ℕ, _-_, _*_, _≤_, _<_}
+use mathlib.Core.Path.{_≡_, refl, sym, ap, subst, _∙_}
+use mathlib.Core.Bool.{Bool, true, false}
+use mathlib.Core.List.{List, [], _∷_}
+use native.Mathlib.Omega.{arith}
+use borrow.Author.Tests.{le-leb, lt-leb, leb-true}
+use lib.Dec.{leb}
+use lib.ListN.{length, drop, length-drop}
+use Rattle.refusal.specs.declared.Refusal.{Refusal}
+use Rattle.refusal.specs.declared.Refusal.the-variants as F
+use Rattle.label.specs.Limits.{variableCount}
+use Rattle.words.specs.declared.Key.{Key}
+use Rattle.names.specs.Many.{many}
+use Rattle.names.specs.Keys.{keysAt}
+use Rattle.names.specs.KeyLaws.{length-keys}
+use Rattle.names.specs.Layout.{constantsAt, parametersAt}
+use Rattle.events.specs.declared.Event.{Event}
+use Rattle.events.specs.declared.Event.the-variants as E
+use Rattle.events.specs.declared.Next.{Next}
+use Rattle.events.specs.Front.{isEnd, nextAt, eventsOf}
+use Rattle.events.specs.FrontLaws.{next-end, next-more, next-moves, events-short}
+use Rattle.reading.specs.declared.Scope.{Scope}
+use Rattle.reading.specs.declared.Progress.{Progress}
+use Rattle.reading.specs.declared.Stepped.{Stepped}
+use Rattle.reading.specs.declared.Stepped.the-variants as S
+use Rattle.reading.specs.declared.Resolved.{Resolved}
+use Rattle.reading.specs.declared.Read.{Read}
+use Rattle.reading.specs.declared.Read.the-variants as W
+use Rattle.reading.specs.Operations.{Op, opOf, opsIn}
+use Rattle.reading.specs.Reading.{Names, State, pickJudged, andThen, more, begun, termWord, numberWord, atomWord, constantNumber, parameterNumber, variableNumber, metAt, word, with-pass, readWord, readWords, finished, begin, reading}
+use Rattle.reading.specs.Reading.Judged.{fine, refused}
+use Rattle.reading.specs.Callers.{namesOf, passOf, stateOf, judgedNumber, judgedPass, pickRead, readAnswer, refusedRead, judgedWritten, ReadWithin, Reads, Variables, Readable, Going, Room, Advanced, AdvancedBy, Resolves, Meets, Goes, Steps}
+
+-- a word by its kind
+
+module _ (ns ar : List ℕ) (s : Scope) (vs : List Key) (os : List ℕ) (p : Progress) (e : Event) where
+  module _ {t : Resolved} {r : Stepped} {os′ : List ℕ} (g : Steps p (termWord (passOf os p) (judgedNumber t)) r os′) {k : Key} where
+    pub word-name : e ≡ E.Name k → Resolves (constantNumber (keysAt ns constantsAt (s .constants)) k) t → Steps p (word (namesOf ns ar s) vs (passOf os p) e) r os′
+    unfolding word
+    word-name q h = rw (q, ← h .answer) g
+
+    pub word-variable : e ≡ E.Variable k → Resolves (variableNumber (s .binding) vs k) t → Steps p (word (namesOf ns ar s) vs (passOf os p) e) r os′
+    unfolding word
+    word-variable q h = rw (q, ← h .answer) g
+
+    pub word-parameter : e ≡ E.Parameter k → Resolves (parameterNumber (keysAt ns parametersAt (s .parameters)) k) t → Steps p (word (namesOf ns ar s) vs (passOf os p) e) r os′
+    unfolding word
+    word-parameter q h = rw (q, ← h .answer) g
+
+  module _ {os′ : List ℕ} where
+    pub word-number : {v : ℕ} {r : Stepped} → e ≡ E.Number v → Steps p (numberWord (passOf os p) v) r os′ → Steps p (word (namesOf ns ar s) vs (passOf os p) e) r os′
+    unfolding word
+    word-number q g = rw q g
+
+    pub word-equal : {r : Progress} → e ≡ E.Equal → Goes p (begun (passOf os p) 0 2) r os′ → Steps p (word (namesOf ns ar s) vs (passOf os p) e) (S.Done r) os′
+    unfolding word
+    word-equal q g = rw q (record { answer = ap fine (g .pass); advanced = g .advanced })
+
+    pub word-holds : {k : Key} {n : ℕ} {r : Stepped} → e ≡ E.Holds k n → Steps p (atomWord (namesOf ns ar s) (passOf os p) k n) r os′
+        → Steps p (word (namesOf ns ar s) vs (passOf os p) e) r os′
+    unfolding word
+    word-holds q g = rw q g
+
+    pub word-step : {r : Progress} → e ≡ E.Step → Goes p (more (passOf os p) (opOf 3 0)) r os′ → Steps p (word (namesOf ns ar s) vs (passOf os p) e) (S.Done r) os′
+    unfolding word
+    word-step q g = rw q (record { answer = ap fine (g .pass); advanced = g .advanced })
+
+  pub word-end : e ≡ E.End → Room os p → Steps p (word (namesOf ns ar s) vs (passOf os p) e) (S.Done p) os
+  unfolding word
+  word-end q g = rw q (record { answer = refl; advanced = record { going = g .going; one = omega arith } })
+
+-- the answer after all words
+
+pub finish-many : (n m : ℕ) → variableCount < n → W.Refused F.Variables ≡ readAnswer n m
+finish-many n m h = rw (lt-leb n variableCount h)
+
+pub finish-done : (n m : ℕ) → n ≤ variableCount → W.Done m n ≡ readAnswer n m
+finish-done n m h = rw (le-leb n variableCount h)
+
+answer-finished : (vs : List ℕ) (n : ℕ) (os : List ℕ) (p : Progress) → judgedWritten vs os (readAnswer n (p .operations)) ≡ finished (stateOf vs n os p)
+answer-finished vs n os p = rw (length-keys vs 0 n) (go (leb n variableCount))
+  where
+    go : (b : Bool) → judgedWritten vs os (pickRead b (W.Done (p .operations) n) (W.Refused F.Variables))
+        ≡ pickJudged b (fine (record { variables = keysAt vs 0 n; operations = opsIn os (p .operations) })) (refused F.Variables)
+    go true = refl
+    go false = refl
+
+answer-within : (os : List ℕ) (n m : ℕ) → m * 2 ≤ length os → ReadWithin os (readAnswer n m)
+answer-within os n m h = go (leb n variableCount) refl
+  where
+    go : (b : Bool) → leb n variableCount ≡ b → ReadWithin os (pickRead b (W.Done m n) (W.Refused F.Variables))
+    go true e = (h, leb-true n variableCount e)
+    go false e = tt
+
+-- the words before the place are read, and those from it on give the answer
+pub record Loop (line : List ℕ) (place₀ : ℕ) (ns ar vs₀ os₀ : List ℕ) (s : Scope) (known : ℕ) (vs os : List ℕ) (place count : ℕ) (p : Progress) : Type 0 where
+  pub within : place ≤ length line
+  pub table : Variables vs count
+  pub going : Going p
+  pub bytes : p .operations ≤ place
+  pub variable-words : length vs ≡ length vs₀
+  pub operation-words : length os ≡ length os₀
+  pub still : readWords (namesOf ns ar s) (eventsOf (drop place₀ line)) (begin (keysAt vs₀ 0 known))
+      ≡ readWords (namesOf ns ar s) (eventsOf (drop place line)) (stateOf vs count os p)
+
+nothing : (os : List ℕ) → [] ≡ opsIn os 0
+unfolding opsIn many
+nothing os = refl
+
+-- the event at a place, and those behind it
+
+events-next : (line : List ℕ) (place : ℕ) (n : Next) → n ≡ nextAt line place → isEnd (n .event) ≡ false
+    → eventsOf (drop place line) ≡ n .event ∷ eventsOf (drop (n .place) line)
+events-next line place n q =
+    subst (λ (x : Next). isEnd (x .event) ≡ false → eventsOf (drop place line) ≡ x .event ∷ eventsOf (drop (x .place) line)) (sym q) (next-more line place)
+
+events-none : (line : List ℕ) (place : ℕ) (n : Next) → n ≡ nextAt line place → isEnd (n .event) ≡ true → eventsOf (drop place line) ≡ []
+events-none line place n q = subst (λ (x : Next). isEnd (x .event) ≡ true → eventsOf (drop place line) ≡ []) (sym q) (next-end line place)
+
+pub moves : (line : List ℕ) (place : ℕ) (n : Next) → n ≡ nextAt line place → place ≤ length line → (n .place ≤ length line) × (isEnd (n .event) ≡ false → place < n .place)
+moves line place n q h =
+    subst (λ (x : Next). (x .place ≤ length line) × (isEnd (x .event) ≡ false → place < x .place)) (sym q) (next-moves line place h)
+
+words-none : (σ : Names) (es : List Event) (s : State) → es ≡ [] → readWords σ es s ≡ fine s
+unfolding readWords
+words-none σ es s e = rw e
+
+words-more : (σ : Names) (es fs : List Event) (e : Event) (s : State) → es ≡ e ∷ fs → readWords σ es s ≡ andThen (readWord σ s e) (readWords σ fs)
+unfolding readWords
+words-more σ es fs e s q = rw q
+
+-- r answers for the words of the line
+abbrev Answers : List ℕ → ℕ → List ℕ → List ℕ → List ℕ → Scope → ℕ → List ℕ → List ℕ → Read → Type 0
+Answers line place ns ar vs₀ s known vs os r = Reads (reading (namesOf ns ar s) (eventsOf (drop place line)) (keysAt vs₀ 0 known)) r vs os
+
+module _ {line : List ℕ} {place₀ : ℕ} {ns ar vs₀ os₀ : List ℕ} {s : Scope} {known : ℕ} where
+  pub loop-start : Readable line place₀ ns ar vs₀ os₀ s known
+      → Loop line place₀ ns ar vs₀ os₀ s known vs₀ os₀ place₀ known (record { atom = record { predicate = 0; first = 0; second = 0; third = 0; fourth = 0 }; filled = 0; due = 0; operations = 0 })
+  loop-start g = record {
+    within = g .within;
+    table = g .variables;
+    going = record {
+      packable = record {
+        predicate-below = omega arith;
+        places = record { first-below = omega arith; second-below = omega arith; third-below = omega arith; fourth-below = omega arith };
+      };
+      places = omega arith;
+    };
+    bytes = omega arith;
+    variable-words = refl;
+    operation-words = refl;
+    still = ap (λ (ops : List Op).
+        readWords (namesOf ns ar s) (eventsOf (drop place₀ line))
+        (record { variables = keysAt vs₀ 0 known; pass = record { atom = record { predicate = 0; first = 0; second = 0; third = 0; fourth = 0 }; filled = 0; due = 0; operations = ops } }))
+        (nothing os₀);
+  }
+
+  module _ {vs os : List ℕ} {place count : ℕ} {p : Progress} (l : Loop line place₀ ns ar vs₀ os₀ s known vs os place count p) where
+    finishes : Readable line place₀ ns ar vs₀ os₀ s known → eventsOf (drop place line) ≡ [] → Answers line place₀ ns ar vs₀ s known vs os (readAnswer count (p .operations))
+    unfolding reading
+    finishes g e = record {
+      answer =
+          answer-finished vs count os p
+          ∙ ap (λ j. andThen j finished) (sym (l .still ∙ words-none (namesOf ns ar s) (eventsOf (drop place line)) (stateOf vs count os p) e));
+      within = answer-within os count (p .operations) (omega (arith, l .bytes, l .within, l .operation-words, g .words));
+    }
+
+    -- the last byte passed
+    pub loop-over : Readable line place₀ ns ar vs₀ os₀ s known → {r : Read} → length line ≤ place → r ≡ readAnswer count (p .operations) → Answers line place₀ ns ar vs₀ s known vs os r
+    loop-over g h q = rw q (finishes g (events-short (drop place line) (omega (arith, length-drop place line))))
+
+    module _ {n : Next} (q : n ≡ nextAt line place) {b : Bool} (t : b ≡ isEnd (n .event)) where
+      -- the line's end
+      pub loop-end : Readable line place₀ ns ar vs₀ os₀ s known → {r : Read} → b ≡ true → r ≡ readAnswer count (p .operations) → Answers line place₀ ns ar vs₀ s known vs os r
+      loop-end g e a = rw a (finishes g (events-none line place n q (sym t ∙ e)))
+
+      pub loop-room : Readable line place₀ ns ar vs₀ os₀ s known → place < length line → Room os p
+      loop-room g h = record { going = l .going; room = omega (arith, l .bytes, l .operation-words, g .words) }
+
+      module _ (f : b ≡ false) where
+        pub loop-shrinks : length line - n .place < length line - place
+        loop-shrinks = let m = moves line place n q (l .within) in omega (arith, m .0, m .1 (sym t ∙ f))
+
+        module _ {vs′ os′ : List ℕ} {count′ : ℕ} {x : Stepped} (m : Meets (metAt (s .binding) (keysAt vs 0 count) (n .event)) count′ vs′)
+            (g : Steps p (word (namesOf ns ar s) (keysAt vs′ 0 count′) (passOf os p) (n .event)) x os′) where
+          stepped : readWords (namesOf ns ar s) (eventsOf (drop place₀ line)) (begin (keysAt vs₀ 0 known))
+              ≡ andThen (with-pass (keysAt vs′ 0 count′) (judgedPass os′ x)) (readWords (namesOf ns ar s) (eventsOf (drop (n .place) line)))
+          stepped =
+              let σ : Names = namesOf ns ar s in
+              let fs : List Event = eventsOf (drop (n .place) line) in
+              l .still
+              ∙ words-more σ (eventsOf (drop place line)) fs (n .event) (stateOf vs count os p) (events-next line place n q (sym t ∙ f))
+              ∙ ap (λ ks. andThen (with-pass ks (word σ ks (passOf os p) (n .event))) (readWords σ fs)) (sym (m .variables))
+              ∙ ap (λ j. andThen (with-pass (keysAt vs′ 0 count′) j) (readWords σ fs)) (sym (g .answer))
+
+          pub loop-refused : {z : Refusal} {r : Read} → x ≡ S.Refused z → r ≡ refusedRead x → Answers line place₀ ns ar vs₀ s known vs′ os′ r
+          unfolding reading
+          loop-refused {z} e a = record {
+            answer =
+                ap (judgedWritten vs′ os′) (a ∙ ap refusedRead e)
+                ∙ ap (λ j. andThen j finished)
+                (sym (stepped ∙ ap (λ y. andThen (with-pass (keysAt vs′ 0 count′) (judgedPass os′ y)) (readWords (namesOf ns ar s) (eventsOf (drop (n .place) line)))) e));
+            within = subst (ReadWithin os′) (sym (a ∙ ap refusedRead e)) tt;
+          }
+
+          pub loop-more : {then : Progress} → x ≡ S.Done then → length vs′ ≡ length vs → length os′ ≡ length os
+              → Loop line place₀ ns ar vs₀ os₀ s known vs′ os′ (n .place) count′ then
+          loop-more {then} e y w =
+              let k = moves line place n q (l .within) in
+              let d : Advanced p then = subst (AdvancedBy p) e (g .advanced) in
+              record {
+                within = k .0;
+                table = m .table;
+                going = d .going;
+                bytes = omega (arith, k .1 (sym t ∙ f), d .one, l .bytes);
+                variable-words = y ∙ l .variable-words;
+                operation-words = w ∙ l .operation-words;
+                still = stepped ∙ ap (λ u. andThen (with-pass (keysAt vs′ 0 count′) (judgedPass os′ u)) (readWords (namesOf ns ar s) (eventsOf (drop (n .place) line)))) e;
+              }
+
+-- a refusal handed up
+
+pub hand-refused : (x : Stepped) {z : Refusal} → x ≡ S.Refused z → W.Refused z ≡ refusedRead x
+hand-refused x e = rw e
+
+pub hand-done : (x : Stepped) {p : Progress} → x ≡ S.Done p → W.Refused F.Form ≡ refusedRead x
+hand-done x e = rw e

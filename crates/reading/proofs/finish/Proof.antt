@@ -1,0 +1,15 @@
+-- `reading::finish` meets its contract. Assumes nothing.
+use Rattle.reading.proofs.WordCode.{finish-many, finish-done}
+use borrow.Author.Needs.{needs}
+use Rattle.reading.proofs.finish.Statement.{statement}
+use Rattle.reading.proofs.finish.Tie as tie
+
+returns : tie.Need-returns
+returns c = search finish-many
+
+returns-2 : tie.Need-returns-2
+returns-2 c = search finish-done
+
+pub finish-spec : {M : Type 1} → statement M
+finish-spec =
+    tie.close (tie.spec (λ c. search needs) returns returns-2)

@@ -1,0 +1,13 @@
+-- `reading::opening_of` meets its contract. Assumes nothing.
+use Rattle.reading.proofs.HeadCode.{opening-atom}
+use borrow.Author.Needs.{needs}
+use Rattle.reading.proofs.opening_of.Statement.{statement}
+use Rattle.reading.proofs.opening_of.Tie as tie
+
+returns-6 : tie.Need-returns-6
+returns-6 c = search opening-atom
+
+pub opening-of-spec : {M : Type 1} → statement M
+opening-of-spec =
+    tie.close
+    (tie.spec (λ c. search needs) (λ c. search needs) (λ c. search needs) (λ c. search needs) (λ c. search needs) (λ c. search needs) (λ c. search needs) (λ c. search needs) (λ c. search needs) (λ c. search needs) (λ c. search needs) (λ c. search needs) (λ c. search needs) returns-6 (λ c. search needs) (λ c. search needs))

@@ -1,0 +1,175 @@
+-- What the code's structs and answers stand for, and what its functions ask of their callers and promise.
+use Prim.Native.Nat.{ℕ, _+_, _*_, _≤_, _<_}
+use mathlib.Core.Path.{_≡_}
+use mathlib.Core.Bool.{Bool, true, false}
+use lib.Dec.{leb}
+use mathlib.Core.List.{List}
+use lib.ListN.{length, drop}
+use Rattle.refusal.specs.declared.Refusal.the-variants as F
+use Rattle.label.specs.Limits.{constantCount, parameterCount, predicateCount, termBase, mostPlaces, variableCount}
+use Rattle.label.specs.Labels.{areArities}
+use Rattle.label.specs.Callers.{Packable}
+use Rattle.words.specs.declared.Key.{Key}
+use Rattle.events.specs.Front.{eventsOf}
+use Rattle.names.specs.Keys.{keysAt}
+use Rattle.names.specs.Layout.{constantsAt, declaredAt, parametersAt, nameWords}
+use Rattle.reading.specs.declared.Scope.{Scope}
+use Rattle.reading.specs.declared.Progress.{Progress}
+use Rattle.reading.specs.declared.Resolved.{Resolved}
+use Rattle.reading.specs.declared.Resolved.the-variants as R
+use Rattle.reading.specs.declared.Stepped.{Stepped}
+use Rattle.reading.specs.declared.Stepped.the-variants as S
+use Rattle.reading.specs.declared.Read.{Read}
+use Rattle.reading.specs.declared.Read.the-variants as W
+use Rattle.reading.specs.declared.Opened.{Opened}
+use Rattle.reading.specs.declared.Opened.the-variants as P
+use Rattle.reading.specs.declared.Headed.{Headed}
+use Rattle.reading.specs.declared.Headed.the-variants as H
+use Rattle.reading.specs.Operations.{opsIn}
+use Rattle.reading.specs.Head.{Head}
+use Rattle.reading.specs.Reading.{Names, Judged, Pass, State, Written}
+use Rattle.reading.specs.Reading.Judged.{fine, refused}
+
+-- the names of the tables ns, as many as the scope counts
+abbrev pub namesOf : List ℕ → List ℕ → Scope → Names
+namesOf ns ar s = record {
+  constants = keysAt ns constantsAt (s .constants);
+  predicates = keysAt ns declaredAt (s .predicates);
+  arities = ar;
+  parameters = keysAt ns parametersAt (s .parameters);
+  binding = s .binding;
+}
+
+-- the pass whose operations stand in os
+abbrev pub passOf : List ℕ → Progress → Pass
+passOf os p = record { atom = p .atom; filled = p .filled; due = p .due; operations = opsIn os (p .operations) }
+
+abbrev pub judgedNumber : Resolved → Judged ℕ
+judgedNumber (R.Number t) = fine t
+judgedNumber (R.Refused r) = refused r
+
+abbrev pub judgedPass : List ℕ → Stepped → Judged Pass
+judgedPass os (S.Done p) = fine (passOf os p)
+judgedPass os (S.Refused r) = refused r
+
+-- and the state that its words have come to
+abbrev pub stateOf : List ℕ → ℕ → List ℕ → Progress → State
+stateOf vs n os p = record { variables = keysAt vs 0 n; pass = passOf os p }
+
+abbrev pub pickRead : Bool → Read → Read → Read
+pickRead true x y = x
+pickRead false x y = y
+
+-- the answer after all words, with n variables and m operations
+abbrev pub readAnswer : ℕ → ℕ → Read
+readAnswer n m = pickRead (leb n variableCount) (W.Done m n) (W.Refused F.Variables)
+
+abbrev pub refusedRead : Stepped → Read
+refusedRead (S.Done p) = W.Refused F.Form
+refusedRead (S.Refused r) = W.Refused r
+
+abbrev pub judgedWritten : List ℕ → List ℕ → Read → Judged Written
+judgedWritten vs os (W.Done n m) = fine (record { variables = keysAt vs 0 m; operations = opsIn os n })
+judgedWritten vs os (W.Refused r) = refused r
+
+-- the predicate's number of a head
+abbrev pub judgedPredicate : Opened → Judged ℕ
+judgedPredicate (P.Predicate i) = fine i
+judgedPredicate (P.Refused r) = refused r
+
+-- it is a declared one of n
+abbrev pub PredicateWithin : ℕ → Opened → Type 0
+PredicateWithin n (P.Predicate i) = (0 < i) × (i ≤ n)
+PredicateWithin n (P.Refused r) = Unit {0}
+
+-- the promise of reading a head's predicate, n declared: the answer w
+pub record Opens (n : ℕ) (w : Judged ℕ) (r : Opened) : Type 0 where
+  pub answer : judgedPredicate r ≡ w
+  pub within : PredicateWithin n r
+
+-- n arguments in vs, and the words of the line behind them
+abbrev pub judgedHead : List ℕ → List ℕ → ℕ → Headed → Judged Head
+judgedHead line vs n (H.Arguments i) = fine (record { variables = keysAt vs 0 n; rest = eventsOf (drop i line) })
+judgedHead line vs n (H.Refused r) = refused r
+
+-- the place behind the head is one of the line
+abbrev pub HeadWithin : List ℕ → Headed → Type 0
+HeadWithin line (H.Arguments i) = i ≤ length line
+HeadWithin line (H.Refused r) = Unit {0}
+
+-- the promise of reading a head's arguments: the answer w
+pub record Heads (line : List ℕ) (n : ℕ) (w : Judged Head) (r : Headed) (vs′ : List ℕ) : Type 0 where
+  pub answer : judgedHead line vs′ n r ≡ w
+  pub within : HeadWithin line r
+
+-- the operations lie within the words os, and the variables are 32 at most
+abbrev pub ReadWithin : List ℕ → Read → Type 0
+ReadWithin os (W.Done n m) = (n * 2 ≤ length os) × (m ≤ variableCount)
+ReadWithin os (W.Refused r) = Unit {0}
+
+-- the promise of reading a line's words: the answer w
+pub record Reads (w : Judged Written) (r : Read) (vs′ os′ : List ℕ) : Type 0 where
+  pub answer : judgedWritten vs′ os′ r ≡ w
+  pub within : ReadWithin os′ r
+
+-- the tables of names, and the arity list
+pub record Tables (ns ar : List ℕ) (s : Scope) : Type 0 where
+  pub words : nameWords ≤ length ns
+  pub constants-fit : s .constants ≤ constantCount
+  pub predicates-fit : s .predicates < predicateCount
+  pub parameters-fit : s .parameters ≤ parameterCount
+  pub arities-fit : areArities ar ≡ true
+
+-- a table of variables: at most 33 are kept
+pub record Variables (vs : List ℕ) (count : ℕ) : Type 0 where
+  pub words : (variableCount + 1) * 2 ≤ length vs
+  pub within : count ≤ variableCount + 1
+
+-- what reading a line's words takes: a place of the line, tables, and two words of operations for each byte
+pub record Readable (line : List ℕ) (place : ℕ) (ns ar vs os : List ℕ) (s : Scope) (known : ℕ) : Type 0 where
+  pub within : place ≤ length line
+  pub tables : Tables ns ar s
+  pub variables : Variables vs known
+  pub words : length line * 2 ≤ length os
+
+-- an atom that packs, its terms still due counted
+pub record Going (p : Progress) : Type 0 where
+  pub packable : Packable (p .atom)
+  pub places : p .filled + p .due ≤ mostPlaces
+
+-- and words for one operation more
+pub record Room (os : List ℕ) (p : Progress) : Type 0 where
+  pub going : Going p
+  pub room : p .operations * 2 + 2 ≤ length os
+
+abbrev pub TermBelow : Resolved → Type 0
+TermBelow (R.Number t) = t < termBase
+TermBelow (R.Refused r) = Unit {0}
+
+-- what a word adds: at most one operation
+pub record Advanced (p q : Progress) : Type 0 where
+  pub going : Going q
+  pub one : q .operations ≤ p .operations + 1
+
+abbrev pub AdvancedBy : Progress → Stepped → Type 0
+AdvancedBy p (S.Done q) = Advanced p q
+AdvancedBy p (S.Refused r) = Unit {0}
+
+-- the promise of a function that resolves a term: the answer w
+pub record Resolves (w : Judged ℕ) (r : Resolved) : Type 0 where
+  pub answer : judgedNumber r ≡ w
+  pub below : TermBelow r
+
+-- the promise of a function that meets a variable: the variables w
+pub record Meets (w : List Key) (r : ℕ) (vs′ : List ℕ) : Type 0 where
+  pub variables : keysAt vs′ 0 r ≡ w
+  pub table : Variables vs′ r
+
+-- the promise of a function that goes on with the pass: the pass w, or the answer w
+pub record Goes (p : Progress) (w : Pass) (r : Progress) (os′ : List ℕ) : Type 0 where
+  pub pass : passOf os′ r ≡ w
+  pub advanced : Advanced p r
+
+pub record Steps (p : Progress) (w : Judged Pass) (r : Stepped) (os′ : List ℕ) : Type 0 where
+  pub answer : judgedPass os′ r ≡ w
+  pub advanced : AdvancedBy p r

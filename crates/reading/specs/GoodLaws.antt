@@ -1,0 +1,293 @@
+-- What the words of a diagram come to is well formed: labels under the arity list, no name unbound, leaves in range.
+use Prim.Native.Nat.{ℕ, _+_, _≤_, _<_, min}
+use mathlib.Core.Path.{_≡_, refl, sym, ap, subst, _∙_}
+use mathlib.Core.Bool.{true, cond}
+use mathlib.Core.List.{List, [], _∷_}
+use native.Mathlib.Omega.{arith}
+use native.Mathlib.Decide.{decLt}
+use borrow.Author.Tests.{eq-eqb, ne-eqb, eqb-true, ltb-true, leb-true, lt-ltb, le-ltb, le-leb}
+use lib.Dec.{eqb, ltb, leb}
+use lib.ListN.{length, getD, List·getD-eq-default}
+use Rattle.basics.specs.Tests.{Cmp, cmp}
+use Rattle.basics.specs.Tests.Cmp.{below, equal as alike, above}
+use Rattle.refusal.specs.declared.Refusal.the-variants.{Name, Arity, Range, Unbound, Variables}
+use Rattle.label.specs.Limits.{constantCount, firstParameter, parameterCount, firstVariable, variableCount, predicateCount, equality}
+use Rattle.label.specs.Terms.{isConstant, isParameter, isVariable, isTerm}
+use Rattle.label.specs.Labels.{areArities, placeFits, inOrder, packed, unpacked, predicateOf, pickTest, labelOf, equates, testOf}
+use Rattle.label.specs.Renamings.{EachTerm, EachIn}
+use Rattle.label.specs.LabelLaws.{term-below, fits-atom, unpacked-packed, label-packed}
+use Rattle.label.specs.Callers.{Places}
+use Rattle.label.specs.declared.Atom.{Atom}
+use Rattle.label.specs.declared.Test.{Test}
+use Rattle.label.specs.declared.Test.the-variants.{Always}
+use Rattle.diagram.specs.Sizes.{highestValue}
+use Rattle.words.specs.Bytes.{valueOf}
+use Rattle.words.specs.Keys.{keyOf}
+use Rattle.words.specs.declared.Key.{Key}
+use Rattle.forms.specs.Tree as T
+use Rattle.forms.specs.Tree.Mark.{plain, variable, parameter}
+use Rattle.forms.specs.Tree.Term.{term}
+use Rattle.forms.specs.Tree.Atom.{equal, holds}
+use Rattle.forms.specs.Tree.Diagram.{number as numeral, branch as conditional}
+use Rattle.names.specs.Keys.{placeOf, isAmong}
+use Rattle.events.specs.Events.{diagramEvents}
+use Rattle.reading.specs.declared.Binding.{Binding}
+use Rattle.reading.specs.declared.Binding.the-variants.{Any, None, Only}
+use Rattle.reading.specs.Reading.{Names, Judged, andThen, constantNumber, parameterNumber, met, lastVariable, numberIn, variableNumber, Written, reading}
+use Rattle.reading.specs.Reading.Judged.{fine, refused}
+use Rattle.reading.specs.AllLaws.{all-at}
+use Rattle.reading.specs.JudgedLaws.{apart, fine-one, chosen, passed, chained}
+use Rattle.reading.specs.Tree.{Reading, Result, having, resolveTerm, resolveTerms, atomFrom, testing, resolveAtom, branching, resolveDiagram, writing, diagramReading, depth, Named, reach, GoodTest, GoodReading, NamesFit, Sound}
+use Rattle.reading.specs.Tree.Reading.{branch}
+use Rattle.reading.specs.ArityLaws.{arity-most, arity-two}
+use Rattle.reading.specs.TreeLaws.{Resolving, terms-resolved, reading-diagram}
+
+-- terms
+
+among-below : (k : Key) (ks : List Key) → isAmong k ks ≡ true → placeOf k ks < length ks
+unfolding isAmong
+among-below k ks e = ltb-true (placeOf k ks) (length ks) e
+
+had : {A : Type 0} (vs : List Key) (j : Judged A) (g : Result A) → having vs j ≡ fine g → (j ≡ fine (g .value)) × (vs ≡ g .variables)
+had {A} vs (fine x) g e =
+    let z : _≡_ {A = Result A} (record { value = x; variables = vs }) g = cc in
+    (ap (λ (y : Result A). fine (y .value)) z, ap (λ (y : Result A). y .variables) z)
+had vs (refused r) g e = absurd (apart e)
+
+constant-term : (t : ℕ) → t < constantCount → isTerm t ≡ true
+unfolding isTerm isConstant
+constant-term t h = rw (lt-ltb t constantCount h)
+
+parameter-term : (i : ℕ) → i < parameterCount → isTerm (firstParameter + i) ≡ true
+unfolding isTerm isConstant isParameter
+parameter-term i h =
+    rw (
+      le-ltb (firstParameter + i) constantCount (omega arith),
+      le-leb firstParameter (firstParameter + i) (omega arith),
+      lt-ltb (firstParameter + i) (firstParameter + parameterCount) (omega arith),
+    )
+
+variable-term : (i : ℕ) → i < variableCount → isTerm (firstVariable + i) ≡ true
+unfolding isTerm isConstant isParameter isVariable
+variable-term i h =
+    rw (
+      le-ltb (firstVariable + i) constantCount (omega arith),
+      le-leb firstParameter (firstVariable + i) (omega arith),
+      le-ltb (firstVariable + i) (firstParameter + parameterCount) (omega arith),
+      le-leb firstVariable (firstVariable + i) (omega arith),
+      lt-ltb (firstVariable + i) (firstVariable + variableCount) (omega arith),
+    )
+
+module _ (c n : ℕ) where
+  constant-named : (ks : List Key) (k : Key) (t : ℕ) → length ks ≤ constantCount → constantNumber ks k ≡ fine t → Named c n t
+  unfolding constantNumber
+  constant-named ks k t h e =
+      let p = passed (isAmong k ks) (placeOf k ks) Name t e in
+      let l = among-below k ks (p .0) in
+      let z : placeOf k ks ≡ t = p .1 in
+      record { is-term = constant-term t (omega arith); parameters = λ m. absurd (omega arith); variables = omega arith }
+
+  variable-named : (vs : List Key) (k : Key) (t : ℕ) → numberIn vs k ≡ t → min (placeOf k vs) lastVariable < n → Named c n t
+  unfolding numberIn
+  variable-named vs k t e h =
+      record {
+        is-term = subst (λ x. isTerm x ≡ true) e (variable-term (min (placeOf k vs) lastVariable) (omega arith));
+        parameters = λ m. omega arith;
+        variables = omega arith;
+      }
+
+parameter-named : (n : ℕ) (ks : List Key) (k : Key) (t : ℕ) → length ks ≤ parameterCount → parameterNumber ks k ≡ fine t → Named (length ks) n t
+unfolding parameterNumber
+parameter-named n ks k t h e =
+    let p = passed (isAmong k ks) (firstParameter + placeOf k ks) Unbound t e in
+    let l = among-below k ks (p .0) in
+    let z : firstParameter + placeOf k ks ≡ t = p .1 in
+    record {
+      is-term = subst (λ x. isTerm x ≡ true) z (parameter-term (placeOf k ks) (omega arith));
+      parameters = λ m. absurd (omega arith);
+      variables = omega arith;
+    }
+
+-- a variable, by what may be named
+bound-named : (c : ℕ) (b : Binding) (vs : List Key) (k : Key) (t : ℕ) → variableNumber b (met b vs k) k ≡ fine t
+    → Named c (reach b vs) t × (reach b (met b vs k) ≡ reach b vs)
+unfolding variableNumber met
+bound-named c Any vs k t e =
+    let z : numberIn (met Any vs k) k ≡ t = cc in
+    (variable-named c variableCount (met Any vs k) k t z (omega arith), refl)
+bound-named c None vs k t e = absurd (apart e)
+bound-named c Only vs k t e =
+    let p = passed (isAmong k vs) (numberIn vs k) Unbound t e in
+    (variable-named c (length vs) vs k t (p .1) (omega (arith, among-below k vs (p .0))), refl)
+
+-- every term of a line is one that may be named
+names-resolving : (σ : Names) → NamesFit σ → (vs : List Key)
+    → Resolving σ (Named (length (σ .parameters)) (reach (σ .binding) vs)) (λ us. reach (σ .binding) us ≡ reach (σ .binding) vs)
+names-resolving σ f vs = record { each = each }
+  where
+    P : ℕ → Type 0
+    P = Named (length (σ .parameters)) (reach (σ .binding) vs)
+
+    Q : List Key → Type 0
+    Q us = reach (σ .binding) us ≡ reach (σ .binding) vs
+
+    each : (us : List Key) (t : T.Term) (g : Result ℕ) → Q us → resolveTerm σ us t ≡ fine g → P (g .value) × Q (g .variables)
+    each us (term plain n) g q e =
+        let h = had us (constantNumber (σ .constants) (keyOf n)) g e in
+        (constant-named (length (σ .parameters)) (reach (σ .binding) vs) (σ .constants) (keyOf n) (g .value) (f .constants-few) (h .0), subst Q (h .1) q)
+    each us (term variable n) g q e =
+        let k : Key = keyOf n in
+        let h = had (met (σ .binding) us k) (variableNumber (σ .binding) (met (σ .binding) us k) k) g e in
+        let b = bound-named (length (σ .parameters)) (σ .binding) us k (g .value) (h .0) in
+        (subst (λ m. Named (length (σ .parameters)) m (g .value)) q (b .0), subst Q (h .1) (b .1 ∙ q))
+    each us (term parameter n) g q e =
+        let h = had us (parameterNumber (σ .parameters) (keyOf n)) g e in
+        (parameter-named (reach (σ .binding) vs) (σ .parameters) (keyOf n) (g .value) (f .parameters-few) (h .0), subst Q (h .1) q)
+
+-- labels
+
+in-order : (x y : ℕ) → x < y → inOrder (atomFrom equality (x ∷ y ∷ [])) ≡ true
+unfolding inOrder
+in-order x y h = rw (lt-ltb x y h)
+
+module _ (ar : List ℕ) (P : ℕ → Type 0) (w : (t : ℕ) → P t → isTerm t ≡ true) where
+  place-is : (n : ℕ) (us : List ℕ) (k : ℕ) → length us ≡ n → T.All P us → placeFits n k (getD us k 0) ≡ true
+  unfolding placeFits
+  place-is n us k l a = go (decLt k n)
+    where
+      go : Dec (k < n) → cond (ltb k n) (isTerm (getD us k 0)) (eqb (getD us k 0) 0) ≡ true
+      go (yes h) = rw (lt-ltb k n h, w (getD us k 0) (all-at P us 0 k a (omega arith)))
+      go (no h) =
+          let z : length us ≤ k = omega arith in
+          rw (le-ltb k n (omega arith), eq-eqb (getD us k 0) 0 (List·getD-eq-default us 0 z))
+
+  place-below : (us : List ℕ) (k : ℕ) → T.All P us → getD us k 0 < 64
+  place-below us k a = go (decLt k (length us))
+    where
+      go : Dec (k < length us) → getD us k 0 < 64
+      go (yes h) = term-below (getD us k 0) (w (getD us k 0) (all-at P us 0 k a h))
+      go (no h) =
+          let z : length us ≤ k = omega arith in
+          let e = List·getD-eq-default us 0 z in
+          omega arith
+
+  module _ (q : ℕ) (us : List ℕ) (l : length us ≡ getD ar q 0) (a : T.All P us) where
+    places : Places (atomFrom q us)
+    places = record { first-below = place-below us 0 a; second-below = place-below us 1 a; third-below = place-below us 2 a; fourth-below = place-below us 3 a }
+
+    each-term : EachTerm P (getD ar q 0) (atomFrom q us)
+    each-term = record {
+      on-first = λ h. all-at P us 0 0 a (omega arith);
+      on-second = λ h. all-at P us 0 1 a (omega arith);
+      on-third = λ h. all-at P us 0 2 a (omega arith);
+      on-fourth = λ h. all-at P us 0 3 a (omega arith);
+    }
+
+    each-in : EachIn ar P (packed (atomFrom q us))
+    unfolding predicateOf unpacked
+    each-in = subst (λ (x : Atom). EachTerm P (getD ar (x .predicate) 0) x) (sym (unpacked-packed (atomFrom q us) places)) each-term
+
+    label-good : q < predicateCount → inOrder (atomFrom q us) ≡ true → GoodTest ar P (labelOf (atomFrom q us))
+    label-good h o = (
+      label-packed ar (atomFrom q us) places
+          ∙ fits-atom ar (atomFrom q us)
+          (record {
+            predicate-fits = h;
+            places-fit = record {
+              first-fits = place-is (getD ar q 0) us 0 l a;
+              second-fits = place-is (getD ar q 0) us 1 l a;
+              third-fits = place-is (getD ar q 0) us 2 l a;
+              fourth-fits = place-is (getD ar q 0) us 3 l a;
+            };
+            ordered = o;
+          }),
+      each-in,
+    )
+
+    -- a declared predicate
+    test-good : 0 < q → q < predicateCount → GoodTest ar P (testOf (atomFrom q us))
+    unfolding testOf inOrder
+    test-good p h = rw (ne-eqb q equality (λ e. omega arith)) (label-good h (rw (ne-eqb q equality (λ e. omega arith))))
+
+  -- equality: the smaller term first
+  equal-good : areArities ar ≡ true → (t u : ℕ) → P t → P u → GoodTest ar P (testOf (atomFrom equality (t ∷ u ∷ [])))
+  unfolding testOf equates
+  equal-good e t u p q = go (cmp t u)
+    where
+      go : Cmp t u → GoodTest ar P (pickTest (eqb t u) Always (pickTest (ltb t u) (labelOf (atomFrom equality (t ∷ u ∷ []))) (labelOf (atomFrom equality (u ∷ t ∷ [])))))
+      go (below h) =
+          rw (ne-eqb t u (λ z. omega arith), lt-ltb t u h)
+          (label-good equality (t ∷ u ∷ []) (sym (arity-two ar e)) (p, (q, tt)) (omega arith) (in-order t u h))
+      go (alike z) = rw (eq-eqb t u z) tt
+      go (above h) =
+          rw (ne-eqb t u (λ z. omega arith), le-ltb t u (omega arith))
+          (label-good equality (u ∷ t ∷ []) (sym (arity-two ar e)) (q, (p, tt)) (omega arith) (in-order u t h))
+
+-- atoms
+
+-- what a resolved part keeps: a property of its value, and one of the variables
+pub record Keeps {A : Type 0} (P : A → Type 0) (Q : List Key → Type 0) (g : Result A) : Type 0 where
+  pub value-good : P (g .value)
+  pub met-still : Q (g .variables)
+
+module _ (σ : Names) (P : ℕ → Type 0) (Q : List Key → Type 0) (fits : NamesFit σ) (w : (t : ℕ) → P t → isTerm t ≡ true) (s : Resolving σ P Q) where
+  tested : (q : ℕ) (ts : List T.Term) (vs : List Key) (g : Result Test) → Q vs → ((us : List ℕ) → length us ≡ length ts → T.All P us → GoodTest (σ .arities) P (testOf (atomFrom q us)))
+      → andThen (resolveTerms σ vs ts) (testing q) ≡ fine g → Keeps (GoodTest (σ .arities) P) Q g
+  tested q ts vs g k f e =
+      let c = chained (resolveTerms σ vs ts) (testing q) g e in
+      let r = terms-resolved σ P Q s ts vs (c .first) k (c .answers) in
+      let z : _≡_ {A = Result Test} (record { value = testOf (atomFrom q (c .first .value)); variables = c .first .variables }) g = fine-one (c .then) in
+      subst (Keeps (GoodTest (σ .arities) P) Q) z (record { value-good = f (c .first .value) (r .count) (r .all); met-still = r .met-still })
+
+  atom-good : (a : T.Atom) (vs : List Key) (g : Result Test) → Q vs → resolveAtom σ vs a ≡ fine g → Keeps (GoodTest (σ .arities) P) Q g
+  atom-good (equal a b) vs g k e = tested equality (a ∷ b ∷ []) vs g k (λ us. equal-terms us) e
+    where
+      equal-terms : (us : List ℕ) → length us ≡ 2 → T.All P us → GoodTest (σ .arities) P (testOf (atomFrom equality us))
+      equal-terms [] l m = absurd (omega arith)
+      equal-terms (t ∷ []) l m = absurd (omega arith)
+      equal-terms (t ∷ u ∷ []) l m = equal-good (σ .arities) P w (fits .arity-list) t u (m .0) (m .1 .0)
+      equal-terms (t ∷ u ∷ v ∷ us) l m = absurd (omega arith)
+  atom-good (holds p ts) vs g k e =
+      let q : ℕ = placeOf (keyOf p) (σ .predicates) + 1 in
+      let c = chosen (isAmong (keyOf p) (σ .predicates)) _ Name g e in
+      let d = chosen (eqb (length ts) (getD (σ .arities) q 0)) _ Arity g (c .1) in
+      let l = among-below (keyOf p) (σ .predicates) (c .0) in
+      let n : length ts ≡ getD (σ .arities) q 0 = eqb-true (length ts) (getD (σ .arities) q 0) (d .0) in
+      tested q ts vs g k (λ us m a. test-good (σ .arities) P w q us (m ∙ n) a (omega arith) (omega (arith, fits .predicates-few))) (d .1)
+
+  -- diagrams
+  diagram-good : (d : T.Diagram) (vs : List Key) (g : Result Reading) → Q vs → resolveDiagram σ vs d ≡ fine g
+      → Keeps (λ r. GoodReading (σ .arities) P r × (depth r ≤ T.brackets d)) Q g
+  diagram-good (numeral n) vs g k e =
+      let c = passed (leb (valueOf n) highestValue) _ Range g e in
+      subst (Keeps (λ r. GoodReading (σ .arities) P r × (depth r ≤ 0)) Q) (c .1)
+      (record { value-good = (leb-true (valueOf n) highestValue (c .0), omega arith); met-still = k })
+  diagram-good (conditional a d e) vs g k z =
+      let c = chained (resolveAtom σ vs a) _ g z in
+      let x = atom-good a vs (c .first) k (c .answers) in
+      let c₁ = chained (resolveDiagram σ (c .first .variables) d) _ g (c .then) in
+      let y = diagram-good d (c .first .variables) (c₁ .first) (x .met-still) (c₁ .answers) in
+      let c₂ = chained (resolveDiagram σ (c₁ .first .variables) e) (branching (c .first .value) (c₁ .first .value)) g (c₁ .then) in
+      let v = diagram-good e (c₁ .first .variables) (c₂ .first) (y .met-still) (c₂ .answers) in
+      let u : _≡_ {A = Result Reading} (record { value = branch (c .first .value) (c₁ .first .value) (c₂ .first .value); variables = c₂ .first .variables }) g = fine-one (c₂ .then) in
+      subst (Keeps (λ r. GoodReading (σ .arities) P r × (depth r ≤ T.brackets (conditional a d e))) Q) u
+      (record {
+        value-good = ((x .value-good, y .value-good .0, v .value-good .0), omega (arith, y .value-good .1, v .value-good .1));
+        met-still = v .met-still;
+      })
+
+-- the words of a line with a diagram, not refused, come to the operations of a good diagram
+pub reading-sound : (σ : Names) → NamesFit σ → (d : T.Diagram) (vs : List Key) (w : Written) → reading σ (diagramEvents d) vs ≡ fine w → Sound σ vs d w
+unfolding diagramReading
+reading-sound σ f d vs w e =
+    let c = chained (resolveDiagram σ vs d) writing w (sym (reading-diagram σ (λ i. arity-most (σ .arities) i (f .arity-list)) d vs) ∙ e) in
+    let g = diagram-good σ (Named (length (σ .parameters)) (reach (σ .binding) vs)) (λ us. reach (σ .binding) us ≡ reach (σ .binding) vs) f (λ t n. n .is-term) (names-resolving σ f vs)
+    d vs (c .first) refl (c .answers) in
+    let p = passed (leb (length (c .first .variables)) variableCount) _ Variables w (c .then) in
+    record {
+      tree = c .first .value;
+      operations = ap (λ (x : Written). x .operations) (sym (p .1));
+      good = g .value-good .0;
+      shallow = g .value-good .1;
+      few = subst (λ (x : Written). length (x .variables) ≤ variableCount) (p .1) (leb-true (length (c .first .variables)) variableCount (p .0));
+    }

@@ -1,0 +1,265 @@
+-- The words of a diagram, read one after another, come to what its tree stands for.
+use Prim.Native.Nat.{ℕ, suc, _+_, _-_, _≤_}
+use mathlib.Core.Path.{_≡_, refl, sym, ap, subst, _∙_}
+use mathlib.Core.Bool.{Bool, true, false}
+use mathlib.Core.List.{List, [], _∷_, _++_, append-assoc, append-nil, map}
+use native.Mathlib.Omega.{arith}
+use borrow.Author.Tests.{eq-eqb, ne-eqb, eqb-true}
+use lib.Dec.{eqb, leb}
+use lib.ListN.{length, getD}
+use Rattle.refusal.specs.declared.Refusal.the-variants.{Name, Arity, Range, Variables}
+use Rattle.label.specs.Limits.{mostPlaces, equality, variableCount}
+use Rattle.label.specs.Labels.{testOf}
+use Rattle.label.specs.declared.Atom.{Atom}
+use Rattle.label.specs.declared.Test.{Test}
+use Rattle.diagram.specs.Sizes.{highestValue}
+use Rattle.words.specs.Bytes.{valueOf}
+use Rattle.words.specs.Keys.{keyOf}
+use Rattle.words.specs.declared.Key.{Key}
+use Rattle.forms.specs.Tree as T
+use Rattle.forms.specs.Tree.Mark.{plain, variable, parameter}
+use Rattle.forms.specs.Tree.Term.{term}
+use Rattle.forms.specs.Tree.Atom.{equal, holds}
+use Rattle.forms.specs.Tree.Diagram.{number as numeral, branch as conditional}
+use Rattle.names.specs.Keys.{placeOf, isAmong}
+use Rattle.events.specs.declared.Event.{Event}
+use Rattle.events.specs.declared.Event.the-variants as E
+use Rattle.events.specs.Events.{termEvent, atomEvents, diagramEvents}
+use Rattle.reading.specs.Operations.{Op}
+use Rattle.reading.specs.Operations.Op.{leafOp, ask, step}
+use Rattle.reading.specs.Reading.{Names, Judged, pickJudged, andThen, Pass, placed, more, asked, beginning, begun, filling, termWord, numberWord, atomWord, word, State, with-pass, readWord, readWords, finished, begin, reading}
+use Rattle.reading.specs.Reading.Judged.{fine, refused}
+use Rattle.reading.specs.JudgedLaws.{apart}
+use Rattle.reading.specs.Tree.{Reading, Result, having, resolveTerm, joined, resolveTerms, atomFrom, testing, resolveAtom, branching, resolveDiagram, opsOf, writing, diagramReading}
+use Rattle.reading.specs.Tree.Reading.{number}
+
+abbrev at : List Key → Pass → State
+at vs p = record { variables = vs; pass = p }
+
+-- terms
+
+-- a term's word, where a term is due
+due-word : (vs : List Key) (p : Pass) (j : Judged ℕ) → (p .due ≡ 0 → ⊥)
+    → with-pass vs (termWord p j) ≡ andThen (having vs j) (λ g. fine (at (g .variables) (asked (filling p (g .value)))))
+unfolding termWord
+due-word vs p (fine t) f = rw (ne-eqb (p .due) 0 f)
+due-word vs p (refused r) f = refl
+
+term-word : (σ : Names) (vs : List Key) (p : Pass) (t : T.Term) → (p .due ≡ 0 → ⊥)
+    → readWord σ (at vs p) (termEvent t) ≡ andThen (resolveTerm σ vs t) (λ g. fine (at (g .variables) (asked (filling p (g .value)))))
+unfolding word
+term-word σ vs p (term plain n) f = due-word vs p _ f
+term-word σ vs p (term variable n) f = due-word _ p _ f
+term-word σ vs p (term parameter n) f = due-word vs p _ f
+
+-- the pass after the terms that are due
+abbrev given : Pass → List ℕ → Pass
+given p [] = asked p
+given p (t ∷ ts) = given (filling p t) ts
+
+asked-due : (p : Pass) → (p .due ≡ 0 → ⊥) → asked p ≡ p
+unfolding asked
+asked-due p f = rw (ne-eqb (p .due) 0 f)
+
+terms-words : (σ : Names) (ts : List T.Term) (es : List Event) (vs : List Key) (p : Pass) → p .due ≡ length ts
+    → readWords σ (map termEvent ts ++ es) (at vs (asked p)) ≡ andThen (resolveTerms σ vs ts) (λ g. readWords σ es (at (g .variables) (given p (g .value))))
+unfolding readWords
+terms-words σ [] es vs p e = refl
+terms-words σ (t ∷ ts) es vs p e =
+    let f : p .due ≡ 0 → ⊥ = λ z. omega arith in
+    ap (λ q. andThen (readWord σ (at vs q) (termEvent t)) (readWords σ (map termEvent ts ++ es))) (asked-due p f)
+    ∙ ap (λ j. andThen j (readWords σ (map termEvent ts ++ es))) (term-word σ vs p t f)
+    ∙ go (resolveTerm σ vs t) (λ g. terms-words σ ts es (g .variables) (filling p (g .value)) (omega arith))
+  where
+    inner : (u : ℕ) (k : Judged (Result (List ℕ)))
+        → andThen k (λ h. readWords σ es (at (h .variables) (given (filling p u) (h .value))))
+        ≡ andThen (andThen k (joined u)) (λ h. readWords σ es (at (h .variables) (given p (h .value))))
+    inner u (fine h) = refl
+    inner u (refused r) = refl
+
+    go : (j : Judged (Result ℕ))
+        → ((g : Result ℕ) → readWords σ (map termEvent ts ++ es) (at (g .variables) (asked (filling p (g .value))))
+        ≡ andThen (resolveTerms σ (g .variables) ts) (λ h. readWords σ es (at (h .variables) (given (filling p (g .value)) (h .value)))))
+        → andThen (andThen j (λ g. fine (at (g .variables) (asked (filling p (g .value)))))) (readWords σ (map termEvent ts ++ es))
+        ≡ andThen (andThen j (λ g. andThen (resolveTerms σ (g .variables) ts) (joined (g .value)))) (λ h. readWords σ es (at (h .variables) (given p (h .value))))
+    go (fine g) ih = ih g ∙ inner (g .value) (resolveTerms σ (g .variables) ts)
+    go (refused r) ih = refl
+
+-- every resolved term has the property P, as long as the variables have the property Q, which they keep
+pub record Resolving (σ : Names) (P : ℕ → Type 0) (Q : List Key → Type 0) : Type 0 where
+  pub each : (vs : List Key) (t : T.Term) (g : Result ℕ) → Q vs → resolveTerm σ vs t ≡ fine g → P (g .value) × Q (g .variables)
+
+-- a resolved list of n terms
+pub record Terms (n : ℕ) (P : ℕ → Type 0) (Q : List Key → Type 0) (g : Result (List ℕ)) : Type 0 where
+  pub count : length (g .value) ≡ n
+  pub all : T.All P (g .value)
+  pub met-still : Q (g .variables)
+
+module _ (σ : Names) (P : ℕ → Type 0) (Q : List Key → Type 0) (w : Resolving σ P Q) where
+  pub terms-resolved : (ts : List T.Term) (vs : List Key) (g : Result (List ℕ)) → Q vs → resolveTerms σ vs ts ≡ fine g → Terms (length ts) P Q g
+  terms-resolved [] vs g q e =
+      let z : _≡_ {A = Result (List ℕ)} (record { value = []; variables = vs }) g = cc in
+      subst (Terms 0 P Q) z (record { count = refl; all = tt; met-still = q })
+  terms-resolved (t ∷ ts) vs g q e = go (resolveTerm σ vs t) (λ h. w .each vs t h q) (λ h. terms-resolved ts (h .variables)) e
+    where
+      inner : (u : ℕ) → P u → (k : Judged (Result (List ℕ))) → ((h : Result (List ℕ)) → k ≡ fine h → Terms (length ts) P Q h)
+          → andThen k (joined u) ≡ fine g → Terms (suc (length ts)) P Q g
+      inner u p (fine h) ih e =
+          let z : _≡_ {A = Result (List ℕ)} (record { value = u ∷ h .value; variables = h .variables }) g = cc in
+          let i = ih h refl in
+          subst (Terms (suc (length ts)) P Q) z (record { count = ap suc (i .count); all = (p, i .all); met-still = i .met-still })
+      inner u p (refused r) ih e = absurd (apart e)
+
+      go : (j : Judged (Result ℕ)) → ((h : Result ℕ) → j ≡ fine h → P (h .value) × Q (h .variables))
+          → ((h : Result ℕ) (k : Result (List ℕ)) → Q (h .variables) → resolveTerms σ (h .variables) ts ≡ fine k → Terms (length ts) P Q k)
+          → andThen j (λ h. andThen (resolveTerms σ (h .variables) ts) (joined (h .value))) ≡ fine g → Terms (suc (length ts)) P Q g
+      go (fine h) p ih e = inner (h .value) (p h refl .0) (resolveTerms σ (h .variables) ts) (λ k. ih h k (p h refl .1)) e
+      go (refused r) p ih e = absurd (apart e)
+
+-- so a resolved list has a number for each term
+count-resolved : (σ : Names) (ts : List T.Term) (vs : List Key) (g : Result (List ℕ)) → resolveTerms σ vs ts ≡ fine g → length (g .value) ≡ length ts
+count-resolved σ ts vs g e =
+    terms-resolved σ (λ u. Unit {0}) (λ us. Unit {0}) (record { each = λ us t k q z. (tt, tt) }) ts vs g tt e .count
+
+-- the places of an atom, filled one after another
+abbrev filledBy : Atom → ℕ → List ℕ → Atom
+filledBy a k [] = a
+filledBy a k (t ∷ ts) = filledBy (placed a k t) (k + 1) ts
+
+filled-from : (q : ℕ) (us : List ℕ) → length us ≤ mostPlaces → filledBy (record { predicate = q; first = 0; second = 0; third = 0; fourth = 0 }) 0 us ≡ atomFrom q us
+filled-from q [] h = refl
+filled-from q (a ∷ []) h = refl
+filled-from q (a ∷ b ∷ []) h = refl
+filled-from q (a ∷ b ∷ c ∷ []) h = refl
+filled-from q (a ∷ b ∷ c ∷ d ∷ []) h = refl
+filled-from q (a ∷ b ∷ c ∷ d ∷ e ∷ us) h = absurd (omega arith)
+
+given-operations : (us : List ℕ) (p : Pass) → p .due ≡ length us → given p us .operations ≡ p .operations ++ (ask (testOf (filledBy (p .atom) (p .filled) us)) ∷ [])
+unfolding asked
+given-operations [] p e = rw (eq-eqb (p .due) 0 e)
+given-operations (t ∷ us) p e = given-operations us (filling p t) (omega arith)
+
+-- what follows a part of a line
+
+-- the words X go on with es: by the answer j for the part, whose operations o join those before
+abbrev Follows : {A : Type 0} → Names → Judged State → List Event → List Op → (A → List Op) → Judged (Result A) → Type 0
+Follows σ X es before o (fine g) = (p : Pass) × (p .operations ≡ before ++ o (g .value)) × (X ≡ readWords σ es (at (g .variables) p))
+Follows σ X es before o (refused r) = X ≡ refused r
+
+follows-on : {A : Type 0} (σ : Names) {X Y : Judged State} (es : List Event) {b c : List Op} (o : A → List Op) (j : Judged (Result A)) → X ≡ Y → b ≡ c
+    → Follows σ Y es b o j → Follows σ X es c o j
+follows-on σ es o (fine g) e q f = (f .0, f .1 ∙ ap (λ l. l ++ o (g .value)) q, e ∙ f .2)
+follows-on σ es o (refused r) e q f = e ∙ f
+
+abbrev question : Test → List Op
+question t = ask t ∷ []
+
+terms-follow : (σ : Names) (q : ℕ) (ts : List T.Term) (es : List Event) (vs : List Key) (p : Pass) → length ts ≤ mostPlaces
+    → Follows σ (readWords σ (map termEvent ts ++ es) (at vs (begun p q (length ts)))) es (p .operations) question (andThen (resolveTerms σ vs ts) (testing q))
+unfolding begun
+terms-follow σ q ts es vs p h =
+    follows-on σ es question (andThen (resolveTerms σ vs ts) (testing q)) (terms-words σ ts es vs (beginning p q (length ts)) refl) refl
+    (go (resolveTerms σ vs ts) (count-resolved σ ts vs))
+  where
+    go : (j : Judged (Result (List ℕ))) → ((g : Result (List ℕ)) → j ≡ fine g → length (g .value) ≡ length ts)
+        → Follows σ (andThen j (λ g. readWords σ es (at (g .variables) (given (beginning p q (length ts)) (g .value))))) es (p .operations) question (andThen j (testing q))
+    go (fine g) l =
+        let n : length (g .value) ≡ length ts = l g refl in (
+          given (beginning p q (length ts)) (g .value),
+          given-operations (g .value) (beginning p q (length ts)) (sym n)
+              ∙ ap (λ a. p .operations ++ (ask (testOf a) ∷ [])) (filled-from q (g .value) (omega arith)),
+          refl,
+        )
+    go (refused r) l = refl
+
+-- an atom by its name's checks
+atom-checked : (σ : Names) (q : ℕ) (ts : List T.Term) (es : List Event) (vs : List Key) (p : Pass) (b c : Bool) → (c ≡ true → length ts ≤ mostPlaces)
+    → Follows σ (andThen (with-pass vs (pickJudged b (pickJudged c (fine (begun p q (length ts))) (refused Arity)) (refused Name))) (readWords σ (map termEvent ts ++ es)))
+    es (p .operations) question (pickJudged b (pickJudged c (andThen (resolveTerms σ vs ts) (testing q)) (refused Arity)) (refused Name))
+atom-checked σ q ts es vs p true true w = terms-follow σ q ts es vs p (w refl)
+atom-checked σ q ts es vs p true false w = refl
+atom-checked σ q ts es vs p false c w = refl
+
+-- an arity list: no arity above 4
+abbrev pub Arities : Names → Type 0
+Arities σ = (i : ℕ) → getD (σ .arities) i 0 ≤ mostPlaces
+
+atom-follows : (σ : Names) → Arities σ → (a : T.Atom) (es : List Event) (vs : List Key) (p : Pass)
+    → Follows σ (readWords σ (atomEvents a ++ es) (at vs p)) es (p .operations) question (resolveAtom σ vs a)
+unfolding readWords word atomWord
+atom-follows σ w (equal a b) es vs p = terms-follow σ equality (a ∷ b ∷ []) es vs p (omega arith)
+atom-follows σ w (holds q ts) es vs p =
+    let n : ℕ = placeOf (keyOf q) (σ .predicates) + 1 in
+    atom-checked σ n ts es vs p (isAmong (keyOf q) (σ .predicates)) (eqb (length ts) (getD (σ .arities) n 0))
+    (λ e. omega (arith, w n, eqb-true (length ts) (getD (σ .arities) n 0) e))
+
+-- diagrams
+
+number-follows : (σ : Names) (v : ℕ) (es : List Event) (vs : List Key) (p : Pass) (b : Bool)
+    → Follows σ (andThen (with-pass vs (pickJudged b (fine (more p (leafOp v))) (refused Range))) (readWords σ es)) es (p .operations) opsOf
+    (pickJudged b (fine (record { value = number v; variables = vs })) (refused Range))
+number-follows σ v es vs p true = (more p (leafOp v), refl, refl)
+number-follows σ v es vs p false = refl
+
+step-joins : (before h f : List Op) (t : Test) → (((before ++ (ask t ∷ [])) ++ h) ++ f) ++ (step ∷ []) ≡ before ++ (ask t ∷ (h ++ (f ++ (step ∷ []))))
+step-joins before h f t = simp append-assoc
+
+events-join : (a d e es : List Event) → (a ++ (d ++ (e ++ E.Step ∷ []))) ++ es ≡ a ++ (d ++ (e ++ E.Step ∷ es))
+events-join a d e es = simp append-assoc
+
+module _ (σ : Names) (es : List Event) (t : Test) (before : List Op) where
+  -- the false part is read: the step
+  false-follows : (X : Judged State) (h : Reading) (k : Judged (Result Reading)) → Follows σ X (E.Step ∷ es) ((before ++ (ask t ∷ [])) ++ opsOf h) opsOf k
+      → Follows σ X es before opsOf (andThen k (branching t h))
+  unfolding readWords word
+  false-follows X h (fine g) f =
+      (more (f .0) step, ap (λ l. l ++ (step ∷ [])) (f .1) ∙ step-joins before (opsOf h) (opsOf (g .value)) t, f .2)
+  false-follows X h (refused r) f = f
+
+  -- the true part is read: the false part
+  true-follows : (X : Judged State) (fs : List Event) (e : List Key → Judged (Result Reading)) (j : Judged (Result Reading))
+      → Follows σ X (fs ++ E.Step ∷ es) (before ++ (ask t ∷ [])) opsOf j
+      → ((h : Result Reading) (q : Pass) → Follows σ (readWords σ (fs ++ E.Step ∷ es) (at (h .variables) q)) (E.Step ∷ es) (q .operations) opsOf (e (h .variables)))
+      → Follows σ X es before opsOf (andThen j (λ h. andThen (e (h .variables)) (branching t (h .value))))
+  true-follows X fs e (fine h) f ih =
+      false-follows X (h .value) (e (h .variables)) (follows-on σ (E.Step ∷ es) opsOf (e (h .variables)) (f .2) (f .1) (ih h (f .0)))
+  true-follows X fs e (refused r) f ih = f
+
+-- the atom is read: the true part
+test-follows : (σ : Names) (es fs gs : List Event) (before : List Op) (X : Judged State) (d e : List Key → Judged (Result Reading)) (j : Judged (Result Test))
+    → Follows σ X (fs ++ (gs ++ E.Step ∷ es)) before question j
+    → ((g : Result Test) (q : Pass) → Follows σ (readWords σ (fs ++ (gs ++ E.Step ∷ es)) (at (g .variables) q)) (gs ++ E.Step ∷ es) (q .operations) opsOf (d (g .variables)))
+    → ((h : Result Reading) (q : Pass) → Follows σ (readWords σ (gs ++ E.Step ∷ es) (at (h .variables) q)) (E.Step ∷ es) (q .operations) opsOf (e (h .variables)))
+    → Follows σ X es before opsOf (andThen j (λ g. andThen (d (g .variables)) (λ h. andThen (e (h .variables)) (branching (g .value) (h .value)))))
+test-follows σ es fs gs before X d e (fine g) f ihd ihe =
+    true-follows σ es (g .value) before X gs e (d (g .variables)) (follows-on σ (gs ++ E.Step ∷ es) opsOf (d (g .variables)) (f .2) (f .1) (ihd g (f .0))) ihe
+test-follows σ es fs gs before X d e (refused r) f ihd ihe = f
+
+diagram-follows : (σ : Names) → Arities σ → (d : T.Diagram) (es : List Event) (vs : List Key) (p : Pass)
+    → Follows σ (readWords σ (diagramEvents d ++ es) (at vs p)) es (p .operations) opsOf (resolveDiagram σ vs d)
+unfolding readWords word numberWord
+diagram-follows σ w (numeral n) es vs p = number-follows σ (valueOf n) es vs p (leb (valueOf n) highestValue)
+diagram-follows σ w (conditional a d e) es vs p =
+    let fs : List Event = diagramEvents d in
+    let gs : List Event = diagramEvents e in
+    follows-on σ es opsOf (resolveDiagram σ vs (conditional a d e)) (ap (λ l. readWords σ l (at vs p)) (events-join (atomEvents a) fs gs es)) refl
+    (test-follows σ es fs gs (p .operations) (readWords σ (atomEvents a ++ (fs ++ (gs ++ E.Step ∷ es))) (at vs p)) (λ us. resolveDiagram σ us d) (λ us. resolveDiagram σ us e)
+    (resolveAtom σ vs a) (atom-follows σ w a (fs ++ (gs ++ E.Step ∷ es)) vs p)
+    (λ g q. diagram-follows σ w d (gs ++ E.Step ∷ es) (g .variables) q)
+    (λ h q. diagram-follows σ w e (E.Step ∷ es) (h .variables) q))
+
+-- the words of a diagram come to what its tree stands for
+pub reading-diagram : (σ : Names) → Arities σ → (d : T.Diagram) (vs : List Key) → reading σ (diagramEvents d) vs ≡ diagramReading σ d vs
+unfolding reading diagramReading readWords
+reading-diagram σ w d vs =
+    ap (λ l. andThen (readWords σ l (begin vs)) finished) (sym (append-nil (diagramEvents d)))
+    ∙ go (resolveDiagram σ vs d) (diagram-follows σ w d [] vs (begin vs .pass))
+  where
+    X : Judged State
+    X = readWords σ (diagramEvents d ++ []) (begin vs)
+
+    go : (j : Judged (Result Reading)) → Follows σ X [] [] opsOf j → andThen X finished ≡ andThen j writing
+    go (fine g) f =
+        ap (λ y. andThen y finished) (f .2)
+        ∙ ap (λ os. pickJudged (leb (length (g .variables)) variableCount) (fine (record { variables = g .variables; operations = os })) (refused Variables)) (f .1)
+    go (refused r) f = ap (λ y. andThen y finished) f

@@ -1,0 +1,586 @@
+// The words of a line with a diagram: names resolved, faults found word by word, and the operations that the diagram is built by.
+use events::Event;
+use label::Atom;
+use label::Label;
+use label::Term;
+use label::Test;
+use refusal::Refusal;
+use words::Key;
+ghost use mathlib.Core.Path.{_≡_};
+ghost use mathlib.Core.List.{[]};
+ghost use Prim.Native.Nat.{_+_, _*_, _≤_, _<_, min};
+ghost use lib.ListN.{length, drop};
+ghost use Rattle.label.specs.Limits.{constantCount, parameterCount, predicateCount, termBase, mostPlaces};
+ghost use Rattle.label.specs.Terms.{variableTerm};
+ghost use Rattle.events.specs.Front.{isEnd, eventsOf};
+ghost use Rattle.names.specs.Keys.{keysAt};
+ghost use Rattle.names.specs.Layout.{constantsAt, declaredAt, parametersAt};
+ghost use Rattle.reading.specs.Head.{openingOf, argumentOf, headNumber, argumentsFrom, headArguments};
+ghost use Rattle.reading.specs.Operations.{opOf};
+ghost use Rattle.reading.specs.Reading.{placed, asked, begun, termWord, numberWord, atomWord, more, constantNumber, parameterNumber, lastVariable, variableNumber, met, metAt, word, reading};
+ghost use Rattle.reading.specs.declared.Binding.the-variants.{Any, Only};
+ghost use Rattle.reading.specs.Reading.Judged.{fine};
+ghost use Rattle.reading.specs.Callers.{namesOf, passOf, judgedNumber, readAnswer, refusedRead, Reads, Opens, Heads, Tables, Variables, Readable, Room, TermBelow, Resolves, Meets, Goes, Steps};
+
+// The first words of operations: a leaf, a label to ask, t = t to ask, a row step.
+pub const LEAF: u64 = 0;
+
+pub const ASK: u64 = 1;
+
+pub const TRUTH: u64 = 2;
+
+pub const STEP: u64 = 3;
+
+// The place of the last variable that has a number.
+const LAST_VARIABLE: usize = 31;
+
+// Which variables may be named: any, numbered as they come; none; those in the table.
+pub enum Binding {
+    Any,
+    None,
+    Only,
+}
+
+// How many names of each table count, and which variables may be named.
+pub struct Scope {
+    pub constants: usize,
+    pub predicates: usize,
+    pub parameters: usize,
+    pub binding: Binding,
+}
+
+// The atom under way, how many of its places are filled, how many terms are due; how many operations are written.
+struct Progress {
+    atom: Atom,
+    filled: usize,
+    due: usize,
+    operations: usize,
+}
+
+// A term's number, or the refusal.
+enum Resolved {
+    Number(u64),
+    Refused(Refusal),
+}
+
+enum Stepped {
+    Done(Progress),
+    Refused(Refusal),
+}
+
+// How many operations and how many variables a line's words come to, or the refusal.
+pub enum Read {
+    Done(usize, usize),
+    Refused(Refusal),
+}
+
+// How the head of a (becomes) opens: an atom's name and its count of terms, or another word.
+enum Opening {
+    Atom(Key, usize),
+    Other,
+}
+
+// A word that should be an argument: a variable, or another word.
+enum Argument {
+    Named(Key),
+    Other,
+}
+
+// The number of a head's predicate, or the refusal.
+pub enum Opened {
+    Predicate(usize),
+    Refused(Refusal),
+}
+
+// The place behind a head whose arguments are read, or the refusal.
+pub enum Headed {
+    Arguments(usize),
+    Refused(Refusal),
+}
+
+// One operation more.
+fn add(operations: &mut [u64], pass: Progress, kind: u64, value: u64) -> Progress
+    requires { ⌜ Room (now operations) pass ⌝ }
+    ensures { λ r. ⌜ Goes pass (more (passOf (now (operations .entry)) pass) (opOf kind value)) r (now (operations .exit)) ⌝ }
+{
+    let n = pass.operations;
+    operations[n * 2] = kind;
+    operations[n * 2 + 1] = value;
+    let mut next = pass;
+    next.operations = n + 1;
+    next
+}
+
+// Asks the atom once none of its terms is due.
+fn ask(operations: &mut [u64], pass: Progress) -> Progress
+    requires { ⌜ Room (now operations) pass ⌝ }
+    ensures { λ r. ⌜ Goes pass (asked (passOf (now (operations .entry)) pass)) r (now (operations .exit)) ⌝ }
+{
+    if pass.due != 0 {
+        return pass;
+    }
+    let atom = pass.atom;
+    let test = atom.test();
+    match test {
+        Test::Always => add(operations, pass, TRUTH, 0),
+        Test::Is(label) => add(operations, pass, ASK, label.packed),
+    }
+}
+
+// An atom of the predicate begins.
+fn begin(operations: &mut [u64], pass: Progress, predicate: u64, due: usize) -> Progress
+    requires { ⌜ Room (now operations) pass ⌝ }
+    requires { ⌜ predicate < predicateCount ⌝ }
+    requires { ⌜ due ≤ mostPlaces ⌝ }
+    ensures { λ r. ⌜ Goes pass (begun (passOf (now (operations .entry)) pass) predicate due) r (now (operations .exit)) ⌝ }
+{
+    let next = Progress {
+        atom: Atom {
+            predicate: predicate,
+            first: 0,
+            second: 0,
+            third: 0,
+            fourth: 0,
+        },
+        filled: 0,
+        due: due,
+        operations: pass.operations,
+    };
+    ask(operations, next)
+}
+
+// The atom with the term t at place k.
+fn place(a: Atom, k: usize, t: u64) -> Atom
+    ensures { λ r. ⌜ r ≡ placed a k t ⌝ }
+{
+    let mut b = a;
+    if k == 0 {
+        b.first = t;
+        return b;
+    }
+    if k == 1 {
+        b.second = t;
+        return b;
+    }
+    if k == 2 {
+        b.third = t;
+        return b;
+    }
+    b.fourth = t;
+    b
+}
+
+// The term t fills the next place of the atom.
+fn give(operations: &mut [u64], pass: Progress, t: u64) -> Stepped
+    requires { ⌜ Room (now operations) pass ⌝ }
+    requires { ⌜ t < termBase ⌝ }
+    ensures { λ r. ⌜ Steps pass (termWord (passOf (now (operations .entry)) pass) (fine t)) r (now (operations .exit)) ⌝ }
+{
+    if pass.due == 0 {
+        return Stepped::Refused(Refusal::Form);
+    }
+    let k = pass.filled;
+    let next = Progress {
+        atom: place(pass.atom, k, t),
+        filled: k + 1,
+        due: pass.due - 1,
+        operations: pass.operations,
+    };
+    Stepped::Done(ask(operations, next))
+}
+
+// The word of a term, resolved.
+fn read_term(operations: &mut [u64], pass: Progress, term: Resolved) -> Stepped
+    requires { ⌜ Room (now operations) pass ⌝ }
+    requires { ⌜ TermBelow term ⌝ }
+    ensures { λ r. ⌜ Steps pass (termWord (passOf (now (operations .entry)) pass) (judgedNumber term)) r (now (operations .exit)) ⌝ }
+{
+    match term {
+        Resolved::Number(t) => give(operations, pass, t),
+        Resolved::Refused(refusal) => Stepped::Refused(refusal),
+    }
+}
+
+// A leaf's number.
+fn read_number(operations: &mut [u64], pass: Progress, value: u64) -> Stepped
+    requires { ⌜ Room (now operations) pass ⌝ }
+    ensures { λ r. ⌜ Steps pass (numberWord (passOf (now (operations .entry)) pass) value) r (now (operations .exit)) ⌝ }
+{
+    if value > diagram::VALUE {
+        return Stepped::Refused(Refusal::Range);
+    }
+    Stepped::Done(add(operations, pass, LEAF, value))
+}
+
+// The name of an atom with its count of terms.
+fn read_atom(
+    names: &[u64],
+    arities: &[u64],
+    operations: &mut [u64],
+    scope: Scope,
+    pass: Progress,
+    key: Key,
+    count: usize,
+) -> Stepped
+    requires { ⌜ Tables (now names) (now arities) scope ⌝ }
+    requires { ⌜ Room (now operations) pass ⌝ }
+    ensures { λ r. ⌜ Steps pass (atomWord (namesOf (now (names .entry)) (now (arities .entry)) scope) (passOf (now (operations .entry)) pass) key count) r (now (operations .exit)) ⌝ }
+{
+    let n = scope.predicates;
+    let i = names::find(names, names::DECLARED, n, key);
+    if n <= i {
+        return Stepped::Refused(Refusal::Name);
+    }
+    let p = i + 1;
+    let arity = arities[p] as usize;
+    if count != arity {
+        return Stepped::Refused(Refusal::Arity);
+    }
+    Stepped::Done(begin(operations, pass, p as u64, count))
+}
+
+// A constant's number.
+fn constant_number(names: &[u64], n: usize, key: Key) -> Resolved
+    requires { ⌜ n * 2 ≤ length (now names) ⌝ }
+    requires { ⌜ n ≤ constantCount ⌝ }
+    ensures { λ r. ⌜ Resolves (constantNumber (keysAt (now (names .entry)) constantsAt n) key) r ⌝ }
+{
+    let i = names::find(names, names::CONSTANTS, n, key);
+    if n <= i {
+        return Resolved::Refused(Refusal::Name);
+    }
+    Resolved::Number(i as u64)
+}
+
+// A parameter's number.
+fn parameter_number(names: &[u64], n: usize, key: Key) -> Resolved
+    requires { ⌜ parametersAt + n * 2 ≤ length (now names) ⌝ }
+    requires { ⌜ n ≤ parameterCount ⌝ }
+    ensures { λ r. ⌜ Resolves (parameterNumber (keysAt (now (names .entry)) parametersAt n) key) r ⌝ }
+{
+    let i = names::find(names, names::PARAMETERS, n, key);
+    if n <= i {
+        return Resolved::Refused(Refusal::Unbound);
+    }
+    Resolved::Number(Term::FIRST_PARAMETER + i as u64)
+}
+
+// The number of variable i; past the last one's place that of the last.
+fn variable_at(i: usize) -> u64
+    ensures { λ r. ⌜ r ≡ variableTerm (min i lastVariable) ⌝ }
+{
+    if LAST_VARIABLE <= i {
+        return Term::FIRST_VARIABLE + LAST_VARIABLE as u64;
+    }
+    Term::FIRST_VARIABLE + i as u64
+}
+
+// The number of a variable that is in the table.
+fn bound_number(variables: &[u64], count: usize, key: Key) -> Resolved
+    requires { ⌜ Variables (now variables) count ⌝ }
+    ensures { λ r. ⌜ Resolves (variableNumber Only (keysAt (now (variables .entry)) 0 count) key) r ⌝ }
+{
+    let i = names::find(variables, 0, count, key);
+    if count <= i {
+        return Resolved::Refused(Refusal::Unbound);
+    }
+    Resolved::Number(variable_at(i))
+}
+
+// The number of any variable.
+fn any_number(variables: &[u64], count: usize, key: Key) -> Resolved
+    requires { ⌜ Variables (now variables) count ⌝ }
+    ensures { λ r. ⌜ Resolves (variableNumber Any (keysAt (now (variables .entry)) 0 count) key) r ⌝ }
+{
+    let i = names::find(variables, 0, count, key);
+    Resolved::Number(variable_at(i))
+}
+
+// A variable's number, the variables met so far in the table.
+fn variable_number(variables: &[u64], count: usize, binding: Binding, key: Key) -> Resolved
+    requires { ⌜ Variables (now variables) count ⌝ }
+    ensures { λ r. ⌜ Resolves (variableNumber binding (keysAt (now (variables .entry)) 0 count) key) r ⌝ }
+{
+    match binding {
+        Binding::Any => any_number(variables, count, key),
+        Binding::None => Resolved::Refused(Refusal::Unbound),
+        Binding::Only => bound_number(variables, count, key),
+    }
+}
+
+// A variable joins the table if it is new and there is room: how many there are then.
+fn join(variables: &mut [u64], count: usize, key: Key) -> usize
+    requires { ⌜ Variables (now variables) count ⌝ }
+    ensures { λ r. ⌜ Meets (met Any (keysAt (now (variables .entry)) 0 count) key) r (now (variables .exit)) ⌝ }
+{
+    if names::find(variables, 0, count, key) < count {
+        return count;
+    }
+    if LAST_VARIABLE + 1 < count {
+        return count;
+    }
+    names::put(variables, count * 2, key);
+    count + 1
+}
+
+// How many variables there are after ?name.
+fn meet(variables: &mut [u64], count: usize, binding: Binding, key: Key) -> usize
+    requires { ⌜ Variables (now variables) count ⌝ }
+    ensures { λ r. ⌜ Meets (met binding (keysAt (now (variables .entry)) 0 count) key) r (now (variables .exit)) ⌝ }
+{
+    match binding {
+        Binding::Any => join(variables, count, key),
+        Binding::None => count,
+        Binding::Only => count,
+    }
+}
+
+// How many variables there are after a word.
+fn meet_word(variables: &mut [u64], count: usize, binding: Binding, event: Event) -> usize
+    requires { ⌜ Variables (now variables) count ⌝ }
+    ensures { λ r. ⌜ Meets (metAt binding (keysAt (now (variables .entry)) 0 count) event) r (now (variables .exit)) ⌝ }
+{
+    match event {
+        Event::Name(_) => count,
+        Event::Variable(key) => meet(variables, count, binding, key),
+        Event::Parameter(_) => count,
+        Event::Number(_) => count,
+        Event::Equal => count,
+        Event::Holds(_, _) => count,
+        Event::Step => count,
+        Event::End => count,
+    }
+}
+
+// A word, judged with the variables of the table.
+fn read_word(
+    names: &[u64],
+    arities: &[u64],
+    variables: &[u64],
+    operations: &mut [u64],
+    scope: Scope,
+    count: usize,
+    pass: Progress,
+    event: Event,
+) -> Stepped
+    requires { ⌜ Tables (now names) (now arities) scope ⌝ }
+    requires { ⌜ Variables (now variables) count ⌝ }
+    requires { ⌜ Room (now operations) pass ⌝ }
+    ensures { λ r. ⌜ Steps pass (word (namesOf (now (names .entry)) (now (arities .entry)) scope) (keysAt (now (variables .entry)) 0 count) (passOf (now (operations .entry)) pass) event) r (now (operations .exit)) ⌝ }
+{
+    match event {
+        Event::Name(key) => read_term(
+            operations,
+            pass,
+            constant_number(names, scope.constants, key),
+        ),
+        Event::Variable(key) => {
+            let binding = scope.binding;
+            read_term(
+                operations,
+                pass,
+                variable_number(variables, count, binding, key),
+            )
+        }
+        Event::Parameter(key) => read_term(
+            operations,
+            pass,
+            parameter_number(names, scope.parameters, key),
+        ),
+        Event::Number(value) => read_number(operations, pass, value),
+        Event::Equal => Stepped::Done(begin(
+            operations,
+            pass,
+            Label::EQUALITY,
+            Label::EQUALITY_ARITY as usize,
+        )),
+        Event::Holds(key, terms) => read_atom(names, arities, operations, scope, pass, key, terms),
+        Event::Step => Stepped::Done(add(operations, pass, STEP, 0)),
+        Event::End => Stepped::Done(pass),
+    }
+}
+
+// Whether the line ends here.
+fn is_end(event: Event) -> bool
+    ensures { λ r. ⌜ r ≡ isEnd event ⌝ }
+{
+    match event {
+        Event::Name(_) => false,
+        Event::Variable(_) => false,
+        Event::Parameter(_) => false,
+        Event::Number(_) => false,
+        Event::Equal => false,
+        Event::Holds(_, _) => false,
+        Event::Step => false,
+        Event::End => true,
+    }
+}
+
+// The answer after all words.
+fn finish(count: usize, operations: usize) -> Read
+    ensures { λ r. ⌜ r ≡ readAnswer count operations ⌝ }
+{
+    if LAST_VARIABLE + 1 < count {
+        return Read::Refused(Refusal::Variables);
+    }
+    Read::Done(operations, count)
+}
+
+// A refusal handed up.
+fn refused(stepped: Stepped) -> Read
+    ensures { λ r. ⌜ r ≡ refusedRead stepped ⌝ }
+{
+    match stepped {
+        Stepped::Done(_) => Read::Refused(Refusal::Form),
+        Stepped::Refused(refusal) => Read::Refused(refusal),
+    }
+}
+
+// The words of a line from the place `at` on, `known` variables in the table before them: the operations of its diagram and the
+// variables, or the first fault.
+pub fn read_words(
+    line: &[u8],
+    at: usize,
+    names: &[u64],
+    arities: &[u64],
+    variables: &mut [u64],
+    operations: &mut [u64],
+    scope: Scope,
+    known: usize,
+) -> Read
+    requires { ⌜ Readable (now line) at (now names) (now arities) (now variables) (now operations) scope known ⌝ }
+    ensures { λ r. ⌜ Reads (reading (namesOf (now (names .entry)) (now (arities .entry)) scope) (eventsOf (drop at (now (line .entry)))) (keysAt (now (variables .entry)) 0 known)) r (now (variables .exit)) (now (operations .exit)) ⌝ }
+{
+    let mut place = at;
+    let mut count = known;
+    let mut pass = Progress {
+        atom: Atom {
+            predicate: 0,
+            first: 0,
+            second: 0,
+            third: 0,
+            fourth: 0,
+        },
+        filled: 0,
+        due: 0,
+        operations: 0,
+    };
+    while place < line.len() {
+        let next = events::next_event(line, place);
+        let event = next.event;
+        if is_end(event) {
+            return finish(count, pass.operations);
+        }
+        let binding = scope.binding;
+        count = meet_word(variables, count, binding, event);
+        let stepped = read_word(
+            names,
+            arities,
+            variables,
+            operations,
+            scope,
+            count,
+            pass,
+            event,
+        );
+        let Stepped::Done(then) = stepped else {
+            return refused(stepped);
+        };
+        pass = then;
+        place = next.place;
+    }
+    finish(count, pass.operations)
+}
+
+fn opening_of(event: Event) -> Opening
+    ensures { λ r. ⌜ r ≡ openingOf event ⌝ }
+{
+    match event {
+        Event::Name(_) => Opening::Other,
+        Event::Variable(_) => Opening::Other,
+        Event::Parameter(_) => Opening::Other,
+        Event::Number(_) => Opening::Other,
+        Event::Equal => Opening::Other,
+        Event::Holds(key, count) => Opening::Atom(key, count),
+        Event::Step => Opening::Other,
+        Event::End => Opening::Other,
+    }
+}
+
+fn argument_of(event: Event) -> Argument
+    ensures { λ r. ⌜ r ≡ argumentOf event ⌝ }
+{
+    match event {
+        Event::Name(_) => Argument::Other,
+        Event::Variable(key) => Argument::Named(key),
+        Event::Parameter(_) => Argument::Other,
+        Event::Number(_) => Argument::Other,
+        Event::Equal => Argument::Other,
+        Event::Holds(_, _) => Argument::Other,
+        Event::Step => Argument::Other,
+        Event::End => Argument::Other,
+    }
+}
+
+// The number of the predicate that the head at the place `at` names, n predicates declared.
+pub fn head_predicate(line: &[u8], at: usize, names: &[u64], n: usize) -> Opened
+    requires { ⌜ at ≤ length (now line) ⌝ }
+    requires { ⌜ declaredAt + n * 2 ≤ length (now names) ⌝ }
+    ensures { λ r. ⌜ Opens n (headNumber (keysAt (now (names .entry)) declaredAt n) (eventsOf (drop at (now (line .entry))))) r ⌝ }
+{
+    let next = events::next_event(line, at);
+    let event = next.event;
+    let first = opening_of(event);
+    let Opening::Atom(key, _) = first else {
+        return Opened::Refused(Refusal::Form);
+    };
+    let i = names::find(names, names::DECLARED, n, key);
+    if n <= i {
+        return Opened::Refused(Refusal::Name);
+    }
+    Opened::Predicate(i + 1)
+}
+
+// The arguments from the place `at` on, `arity` of them, into the table of variables.
+fn read_variables(line: &[u8], at: usize, variables: &mut [u64], arity: usize) -> Headed
+    requires { ⌜ at ≤ length (now line) ⌝ }
+    requires { ⌜ arity * 2 ≤ length (now variables) ⌝ }
+    ensures { λ r. ⌜ Heads (now (line .entry)) arity (argumentsFrom arity [] (eventsOf (drop at (now (line .entry))))) r (now (variables .exit)) ⌝ }
+{
+    let mut place = at;
+    let mut n = 0;
+    while n < arity {
+        let next = events::next_event(line, place);
+        let event = next.event;
+        let word = argument_of(event);
+        let Argument::Named(key) = word else {
+            return Headed::Refused(Refusal::Form);
+        };
+        if names::find(variables, 0, n, key) < n {
+            return Headed::Refused(Refusal::Name);
+        }
+        names::put(variables, n * 2, key);
+        n += 1;
+        place = next.place;
+    }
+    Headed::Arguments(place)
+}
+
+// The arguments of the head at the place `at`, whose predicate has the arity.
+pub fn head_arguments(line: &[u8], at: usize, variables: &mut [u64], arity: usize) -> Headed
+    requires { ⌜ at ≤ length (now line) ⌝ }
+    requires { ⌜ arity * 2 ≤ length (now variables) ⌝ }
+    ensures { λ r. ⌜ Heads (now (line .entry)) arity (headArguments arity (eventsOf (drop at (now (line .entry))))) r (now (variables .exit)) ⌝ }
+{
+    let next = events::next_event(line, at);
+    let event = next.event;
+    let first = opening_of(event);
+    let Opening::Atom(_, count) = first else {
+        return Headed::Refused(Refusal::Form);
+    };
+    if count != arity {
+        return Headed::Refused(Refusal::Arity);
+    }
+    let place = next.place;
+    read_variables(line, place, variables, arity)
+}
