@@ -29,8 +29,9 @@ module _ (s : List ℕ) (place : ℕ) where
       let n : length (take place s ++ w) ≡ i = omega (arith, length-append (take place s) w, length-take-le place s (omega (arith, p .behind)), p .behind) in
       let e : s₁ ≡ (take place s ++ w) ++ getD s i 0 ∷ drop (suc i) s = p .bytes ∙ ap (λ (x : List ℕ). (take place s ++ w) ++ x) (drop-cons s i 0 h) in
       record {
-      behind = omega (arith, length-append w (b ∷ []), p .behind);
-      bytes = rw (e, add-one i) (set-at (take place s ++ w) (getD s i 0) (drop (suc i) s) b i n ∙ shape (take place s) w b (drop (suc i) s)) }
+        behind = omega (arith, length-append w (b ∷ []), p .behind);
+        bytes = rw (e, add-one i) (set-at (take place s ++ w) (getD s i 0) (drop (suc i) s) b i n ∙ shape (take place s) w b (drop (suc i) s));
+      }
     where
       shape : (x y : List ℕ) (c : ℕ) (z : List ℕ) → (x ++ y) ++ c ∷ z ≡ (x ++ (y ++ (c ∷ []))) ++ z
       shape x y c z = simp append-assoc
@@ -44,10 +45,11 @@ wrote-then {s} {v} {s₁} {w} {s₂} {place} {q} {r} h x y =
     let m : length P + length w ≡ r = omega (arith, y .behind) in
     let k : q + length w ≡ length P + length w = omega arith in
     let g : drop r s₁ ≡ drop r s =
-        rw (x .bytes, ← m) (drop-append-add P (drop q s) (length w) ∙ drop-drop (length w) q s ∙ ap (λ (k : ℕ). drop k s) k) in
+    rw (x .bytes, ← m) (drop-append-add P (drop q s) (length w) ∙ drop-drop (length w) q s ∙ ap (λ (k : ℕ). drop k s) k) in
     record {
-    behind = omega (arith, x .behind, y .behind, length-append v w);
-    bytes = y .bytes ∙ (λ i. f i ++ w ++ g i) ∙ shape (take place s) v w (drop r s) }
+      behind = omega (arith, x .behind, y .behind, length-append v w);
+      bytes = y .bytes ∙ (λ i. f i ++ w ++ g i) ∙ shape (take place s) v w (drop r s);
+    }
   where
     shape : (a b c d : List ℕ) → ((a ++ b) ++ c) ++ d ≡ (a ++ (b ++ c)) ++ d
     shape a b c d = simp append-assoc
@@ -118,14 +120,15 @@ edge-false q p = rw q (record { wrote = p; within = omega arith })
 wrote-more : {s v s₁ w s₂ : List ℕ} {m n q r : ℕ} → m + n ≤ length s → WroteWithin s 0 v m q s₁ → WroteWithin s₁ q w n r s₂ → WroteWithin s 0 (v ++ w) (m + n) r s₂
 wrote-more {s} {v} {s₁} {w} h x y =
     record {
-    wrote = wrote-then (omega (arith, x .wrote .behind, x .within)) (x .wrote) (y .wrote);
-    within = omega (arith, length-append v w, x .within, y .within) }
+      wrote = wrote-then (omega (arith, x .wrote .behind, x .within)) (x .wrote) (y .wrote);
+      within = omega (arith, length-append v w, x .within, y .within);
+    }
 
 -- a line's beginning, and its end
-of-word : {s w s′ : List ℕ} {place r : ℕ} (n : ℕ) → length w ≤ n → Wrote s place w r s′ → WroteWithin s place w n r s′
+pub of-word : {s w s′ : List ℕ} {place r : ℕ} (n : ℕ) → length w ≤ n → Wrote s place w r s′ → WroteWithin s place w n r s′
 of-word n h p = record { wrote = p; within = h }
 
-wider : {s w s′ : List ℕ} {place r m : ℕ} (n : ℕ) → m ≤ n → WroteWithin s place w m r s′ → WroteWithin s place w n r s′
+pub wider : {s w s′ : List ℕ} {place r m : ℕ} (n : ℕ) → m ≤ n → WroteWithin s place w m r s′ → WroteWithin s place w n r s′
 wider n h p = record { wrote = p .wrote; within = omega (arith, p .within) }
 
 module _ {s head s₁ : List ℕ} {i : ℕ} (room : lineBytes ≤ length s) (short : length head ≤ 8) (h : Wrote s 0 head i s₁) where
@@ -142,3 +145,10 @@ module _ {s head s₁ : List ℕ} {i : ℕ} (room : lineBytes ≤ length s) (sho
 
       pub three-fields : {s′ : List ℕ} {r : ℕ} → Wrote s₄ l lineEnd r s′ → WroteWithin s 0 (head ++ a ++ b ++ c ++ lineEnd) lineBytes r s′
       three-fields e = wider lineBytes (omega arith) (wrote-more (omega arith) three-words (of-word 2 (omega arith) e))
+
+      module _ {s₅ d : List ℕ} {m : ℕ} (u : WroteWithin s₄ l d 21 m s₅) (four : length head ≤ 4) where
+        pub four-fields : {s′ : List ℕ} {r : ℕ} → Wrote s₅ m lineEnd r s′ → WroteWithin s 0 (head ++ a ++ b ++ c ++ d ++ lineEnd) lineBytes r s′
+        four-fields e =
+            wider lineBytes (omega arith)
+            (wrote-more (omega arith) (wrote-more (omega arith) (wrote-more (omega arith) (wrote-more (omega arith) (wrote-more (omega arith) (of-word 4 four h) x) y) z) u)
+            (of-word 2 (omega arith) e))

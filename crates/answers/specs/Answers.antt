@@ -64,11 +64,16 @@ rowLine k l h w =
     (rowHead ++ field k ++ leafField ++ field h ++ lineEnd)
     (rowHead ++ field k ++ field l ++ field h ++ field w ++ lineEnd)
 
--- the first n rows of a listing
-unfoldable pub rowLines : List ℕ → ℕ → List ℕ
+-- row k of a listing
+unfoldable pub rowLineAt : List ℕ → ℕ → List ℕ
 unfolding rowLine
+rowLineAt ws k = rowLine k (labelAt ws k) (highAt ws k) (lowAt ws k)
+
+-- the first n rows
+unfoldable pub rowLines : List ℕ → ℕ → List ℕ
+unfolding rowLineAt
 rowLines ws zero = []
-rowLines ws (suc n) = rowLines ws n ++ rowLine n (labelAt ws n) (highAt ws n) (lowAt ws n)
+rowLines ws (suc n) = rowLines ws n ++ rowLineAt ws n
 
 -- an answer's bytes, where the value's listing begins the words ws
 unfoldable pub answerBytes : List ℕ → Answer → List ℕ

@@ -66,6 +66,7 @@ digits-read v =
   where
     digit : (v : ℕ) → v ≤ 9 → decimal ((v + 48) ∷ []) ≡ v
     digit v h = omega arith
+
     lowest : (v x : ℕ) → x ≡ v / 10 → x * 10 + ((v % 10 + 48) - 48) ≡ v
     lowest v x e = omega arith
 

@@ -4,3 +4,4 @@ pub mod Answers
 pub mod Writing
 -- laws
 pub mod DigitLaws
+pub mod AnswerLaws

@@ -24,6 +24,10 @@ pub record WroteWithin (s : List ℕ) (place : ℕ) (w : List ℕ) (most r : ℕ
 abbrev pub lineBytes : ℕ
 lineBytes = 90
 
+-- the bytes of any answer at most: a line for each of 1,024 rows
+abbrev pub mostBytes : ℕ
+mostBytes = 92160
+
 abbrev pub pickPut : Bool → Put → Put → Put
 pickPut true x y = x
 pickPut false x y = y
@@ -35,6 +39,10 @@ putAnswer room place w = pickPut (leb (place + length w) room) (At (place + leng
 -- the buffer then: all other bytes stay, and all stay where there is no room
 unfoldable pub putResult : List ℕ → ℕ → List ℕ → List ℕ
 putResult s place w = cond (leb (place + length w) (length s)) (take place s ++ w ++ drop (place + length w) s) s
+
+pub record Placed (s : List ℕ) (place : ℕ) (w : List ℕ) (r : Put) (s′ : List ℕ) : Type 0 where
+  pub answer : r ≡ putAnswer (length s) place w
+  pub result : s′ ≡ putResult s place w
 
 -- the rows that are to be shown are there
 abbrev pub Showable : List ℕ → Answer → Type 0

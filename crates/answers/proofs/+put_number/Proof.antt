@@ -21,7 +21,6 @@ abbrev put-number-below : ℕ → In 1 put-number-kinds.ps
 put-number-below t =
     and 1 put-number-kinds.ps (falls 1 put-number-kinds.ps _<_ μ-put-number t) put-number.Pre
 
-
 put-number-slice-write-out-2 : (t : ℕ) → put-number-lts.Need-slice-write-out-2 (put-number-below t, put-number.Post) (put-number-at t) put-number.Post
 put-number-slice-write-out-2 t c = search number-next
 
@@ -36,7 +35,9 @@ put-number-returns-2 t c = search number-more
 
 pub +put-number-spec : {M : Type 1} → statement M
 +put-number-spec =
-    close μ-put-number λ t. put-number-lts.spec (put-number-below t, put-number.Post) (put-number-at t) put-number.Post
-    (λ c. search needs) (λ c. search needs) (λ c. search number-first) (λ c. let a = c .before .before .args in omega (arith, number-first (a .out .now) (a .at) (a .v) (c .before .before .pre .1), c .before .before .good)) (λ c. search needs) (put-number-returns t)
-    (put-number-put-number-requires t) (λ c. search needs) (λ c. search needs) (put-number-slice-write-out-2 t) (λ c. omega (arith, put-number-slice-write-out-2 t c, c .before .before .before .before .before .before .good, c .before .before .put-number .kept .0))
+    close μ-put-number λ t. put-number-lts.spec (put-number-below t, put-number.Post) (put-number-at t) put-number.Post (λ c. search needs)
+    (λ c. search needs) (λ c. search number-first) (λ c. let a = c .before .before .args in omega
+    (arith, number-first (a .out .now) (a .at) (a .v) (c .before .before .pre .1), c .before .before .good)) (λ c. search needs)
+    (put-number-returns t) (put-number-put-number-requires t) (λ c. search needs) (λ c. search needs) (put-number-slice-write-out-2 t)
+    (λ c. omega (arith, put-number-slice-write-out-2 t c, c .before .before .before .before .before .before .good, c .before .before .put-number .kept .0))
     (λ c. search needs) (put-number-returns-2 t)

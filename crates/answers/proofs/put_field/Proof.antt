@@ -10,4 +10,5 @@ returns : tie.Need-returns
 returns c = search wrote-field
 
 pub put-field-spec : {M : Type 1} → statement M
-put-field-spec = tie.close (tie.spec (λ c. search needs) (λ c κs. search needs) put-number-requires (λ c. search needs) returns)
+put-field-spec =
+    tie.close (tie.spec (λ c. search needs) (λ c κs. search needs) put-number-requires (λ c. search needs) returns)
