@@ -1,0 +1,7 @@
+-- The diagram of a line of a text, built from operations (document 01, section 'Text').
+-- definitions
+pub mod Build
+pub mod Machine
+pub mod Stacks
+-- laws
+pub mod MachineLaws
