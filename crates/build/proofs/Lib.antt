@@ -1,2 +1,3 @@
 pub mod StackLaws
 pub mod RunningLaws
+pub mod BuiltLaws

@@ -3,5 +3,6 @@
 pub mod Build
 pub mod Machine
 pub mod Stacks
+pub mod Writing
 -- laws
 pub mod MachineLaws

@@ -9,9 +9,10 @@ use Rattle.label.specs.declared.Label.{Label}
 use Rattle.label.specs.declared.Test.{Test}
 use Rattle.label.specs.declared.Test.the-variants.{Always, Is}
 use Rattle.diagram.specs.Diagram.{Diagram, leaf}
+use Rattle.diagram.specs.Variables.{closed}
 use Rattle.regress.specs.Calls.{Outcome, ok, refused, andThen, pickOutcome, Run, form}
 use Rattle.regress.specs.Step.{testDiagram, rowStep}
-use Rattle.build.specs.Build.{Reading, number, branch}
+use Rattle.build.specs.Build.{Reading, number, branch, held}
 
 pub data Op : Type 0 where
   leafOp : ℕ → Op
@@ -75,6 +76,16 @@ ending m = lone (m .tests) (m .results) (m .formed)
 unfoldable pub build : List Op → Run Diagram
 unfolding operations
 build os rs = andThen (operations os (record { tests = []; results = []; formed = rs })) ending
+
+-- the diagram of a line from its operations: one call, its working space empty at first, and a result held to 1,024 rows (9)
+unfoldable pub built : List Op → Outcome Diagram
+unfolding build
+built os = andThen (build os []) (λ p. held (p .0))
+
+-- a reward's, closed up
+unfoldable pub builtClosed : List ℕ → List Op → Outcome Diagram
+unfolding build closed
+builtClosed ar os = andThen (build os []) (λ p. held (closed ar (p .0)))
 
 -- operations in lent words, two words each: 0 and a leaf's value, 1 and the label asked, 2 and 0 for t = t, 3 and 0 for a step
 abbrev pub pickTest : Bool → Test → Test → Test

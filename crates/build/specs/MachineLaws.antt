@@ -7,10 +7,11 @@ use lib.ListN.{length}
 use borrow.Author.Tests.{lt-ltb}
 use Rattle.label.specs.declared.Test.{Test}
 use Rattle.diagram.specs.Diagram.{Diagram, leaf}
+use Rattle.diagram.specs.Variables.{closed}
 use Rattle.regress.specs.Calls.{Outcome, ok, refused, andThen, form}
 use Rattle.regress.specs.Step.{testDiagram, rowStep}
-use Rattle.build.specs.Build.{Reading, number, branch, depth, readDiagram}
-use Rattle.build.specs.Machine.{Op, leafOp, ask, step, opsOf, mostTests, mostResults, Machine, given, closing, operation, operations, ending, build}
+use Rattle.build.specs.Build.{Reading, number, branch, depth, readDiagram, held, textDiagram, rewardDiagram}
+use Rattle.build.specs.Machine.{Op, leafOp, ask, step, opsOf, mostTests, mostResults, Machine, given, closing, operation, operations, ending, build, built, builtClosed}
 
 abbrev at : List Test → List Diagram → List Diagram → Machine
 at ts ds rs = record { tests = ts; results = ds; formed = rs }
@@ -78,3 +79,12 @@ build-reading r rs h =
     go : (o : Outcome (Diagram × List Diagram)) → andThen (after [] [] [] o) ending ≡ o
     go (ok p) = refl
     go (refused w) = refl
+
+-- and a text's diagram, and a reward's
+pub built-text : (r : Reading) → depth r ≤ mostTests → built (opsOf r) ≡ textDiagram r
+unfolding built textDiagram
+built-text r h = ap (λ (o : Outcome (Diagram × List Diagram)). andThen o (λ p. held (p .0))) (build-reading r [] h)
+
+pub built-reward : (ar : List ℕ) (r : Reading) → depth r ≤ mostTests → builtClosed ar (opsOf r) ≡ rewardDiagram ar r
+unfolding builtClosed rewardDiagram
+built-reward ar r h = ap (λ (o : Outcome (Diagram × List Diagram)). andThen o (λ p. held (closed ar (p .0)))) (build-reading r [] h)

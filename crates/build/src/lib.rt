@@ -4,12 +4,19 @@ use label::Test;
 use refusal::Refusal;
 use regress::Stepped;
 use store::Formed;
+use write::Listed;
 ghost use mathlib.Core.Path.{_≡_};
 ghost use Prim.Native.Nat.{_+_, _*_, _≤_};
 ghost use lib.ListN.{length};
 ghost use Rattle.regress.specs.Running.{Ready, Ran};
-ghost use Rattle.build.specs.Machine.{testAt, opAt, opsIn, step, build};
+ghost use Rattle.diagram.specs.Validity.{tree};
+ghost use Rattle.build.specs.Build.{held};
+ghost use Rattle.build.specs.Writing.{RowWritable, Answered, Buildable};
+ghost use Rattle.build.specs.Machine.{testAt, opAt, opsIn, step, build, built};
 ghost use Rattle.build.specs.Stacks.{Ops, Stacked, machineOf, Moves};
+
+// Words of a plan of 4,096 pairs.
+const PLAN_WORDS: usize = 20480;
 
 // Tests that are asked and not stepped yet, at most: a bracket is open for each.
 const TESTS: usize = 64;
@@ -19,6 +26,12 @@ const RESULTS: usize = 65;
 
 // Words of the stack of tests, and of the stack of results behind it.
 const STACK_WORDS: usize = 129;
+
+// What building a line's diagram answers: its rows, or why it is refused.
+pub enum Built {
+    Done(usize),
+    Refused(Refusal),
+}
 
 // What running an operation answers: the tests and results on the stacks and the rows in the space then; or why it is refused, and the rows then.
 pub enum Moved {
@@ -180,4 +193,32 @@ fn build_rows(
         return Stepped::Refused(Refusal::Form, count);
     }
     Stepped::Row(stack[TESTS] as usize, count)
+}
+
+// Writes the listing of the row `root`, unless it has too many rows.
+fn write_row(space: &[u64], count: usize, root: usize, out: &mut [u64]) -> Built
+    requires { ⌜ RowWritable (now space) count root (now out) ⌝ }
+    ensures { λ r. ⌜ Answered (held (tree (now (space .entry)) root)) (now (out .entry)) r (now (out .exit)) ⌝ }
+{
+    let mut marks = [0u16; diagram::SPACE_ROWS];
+    let mut order = [0u16; diagram::SPACE_ROWS];
+    let Listed::Rows(m) = write::write(space, count, root, &mut marks, &mut order, out) else {
+        return Built::Refused(Refusal::Space);
+    };
+    Built::Done(m)
+}
+
+// Builds the diagram of a line from its operations and writes its listing; `work` is the working space.
+pub fn build(ops: &[u64], out: &mut [u64], work: &mut [u64]) -> Built
+    requires { ⌜ Buildable (now ops) (now out) (now work) ⌝ }
+    ensures { λ r. ⌜ Answered (built (opsIn (now (ops .entry)))) (now (out .entry)) r (now (out .exit)) ⌝ }
+{
+    let mut plan = [0u64; PLAN_WORDS];
+    let mut index = [0u16; plan::BUCKETS];
+    let mut heads = [0u16; table::BUCKETS];
+    let mut links = [0u16; diagram::SPACE_ROWS];
+    match build_rows(ops, &mut plan, &mut index, work, &mut heads, &mut links) {
+        Stepped::Row(root, rows) => write_row(work, rows, root, out),
+        Stepped::Refused(why, _) => Built::Refused(why),
+    }
 }
