@@ -18,6 +18,7 @@ use Rattle.diagram.specs.Rows.{rows}
 use Rattle.diagram.specs.Listing.{listing}
 use Rattle.diagram.specs.ListingLaws.{length-listing}
 use Rattle.diagram.specs.Validity.{tree}
+use Rattle.diagram.specs.Variables.{closed}
 use Rattle.plan.specs.Plan.{Clean}
 use Rattle.store.specs.Space.{diagramsOf, Holds}
 use Rattle.store.proofs.SpaceLaws.{holds-none}
@@ -25,6 +26,10 @@ use Rattle.write.specs.declared.Listed.{Listed}
 use Rattle.write.specs.declared.Listed.the-variants.{Rows, TooMany}
 use Rattle.write.specs.Writing.{writeAnswer, writeWords, WritePost}
 use Rattle.write.specs.Writing as write
+use Rattle.apply.specs.declared.Combined.{Combined}
+use Rattle.apply.specs.declared.Combined.the-variants.{Done as CombinedDone, Refused as CombinedRefused}
+use Rattle.apply.specs.Combination.{pickCombined, written}
+use Rattle.apart.specs.Results.{Writable, resultAnswer, ResultWritten}
 use Rattle.apart.proofs.ResultLaws.{unmarked-made}
 use Rattle.regress.specs.declared.Stepped.{Stepped}
 use Rattle.regress.specs.declared.Stepped.the-variants.{Row, Refused as StepRefused}
@@ -34,8 +39,9 @@ use Rattle.regress.specs.Running.{Valued, Space, Ready, Gave, Ran, countThen}
 use Rattle.build.specs.declared.Built.{Built}
 use Rattle.build.specs.declared.Built.the-variants.{Done, Refused}
 use Rattle.build.specs.Build.{held}
-use Rattle.build.specs.Machine.{Op, build, built, opsIn}
-use Rattle.build.specs.Writing.{Buildable, builtAs, Answered, RowWritable}
+use Rattle.build.specs.Machine.{Op, build, built, builtClosed, opsIn}
+use Rattle.build.specs.RegularLaws.{built-regular}
+use Rattle.build.specs.Writing.{Buildable, Labelled, builtAs, Answered, RowWritable}
 
 -- a result held to 1,024 rows
 held-many : (d : Diagram) → mostRows < length (rows d) → held d ≡ refused NoSpace
@@ -150,3 +156,62 @@ module _ {ops out work : List ℕ} (g : Buildable ops out work) {r : Stepped} {s
     built-row a =
         let q : build (opsIn ops) [] ≡ ok (tree s root, diagramsOf s count) = sym start ∙ gave .gives in
         record { answer = rw q (a .answer); words = rw q (a .words) }
+
+-- `write_closed`
+module _ {ar : List ℕ} {d : Diagram} {p : ℕ} {out : List ℕ} {q : Combined} {out′ : List ℕ} (x : ResultWritten ar d p out q out′) where
+  pub closed-done : {m n : ℕ} → q ≡ CombinedDone m n → Answered (held (closed ar d)) out (Done m) out′
+  unfolding resultAnswer
+  closed-done {m} {n} e = go (ltb mostRows (length (rows (closed ar d)))) refl
+    where
+      go : (b : Bool) → ltb mostRows (length (rows (closed ar d))) ≡ b → Answered (held (closed ar d)) out (Done m) out′
+      go true f =
+          let y : CombinedDone m n ≡ CombinedRefused NoSpace = sym e ∙ x .answer ∙ ap (λ (b : Bool). pickCombined b (CombinedRefused NoSpace) (CombinedDone (length (rows (closed ar d))) p)) f in
+          absurd (let z : _≡_ {A = ℕ} 0 1 = cc in omega arith)
+      go false f =
+          let y : CombinedDone m n ≡ CombinedDone (length (rows (closed ar d))) p = sym e ∙ x .answer ∙ ap (λ (b : Bool). pickCombined b (CombinedRefused NoSpace) (CombinedDone (length (rows (closed ar d))) p)) f in
+          let k : m ≡ length (rows (closed ar d)) = cc in
+          record { answer = rw f (ap Done k); words = rw f (x .words ∙ ap (λ (c : Combined). written c (listing (closed ar d)) out) e) }
+
+  pub closed-refused : {w : Refusal} → q ≡ CombinedRefused w → Answered (held (closed ar d)) out (Refused w) out′
+  unfolding resultAnswer
+  closed-refused {w} e = go (ltb mostRows (length (rows (closed ar d)))) refl
+    where
+      go : (b : Bool) → ltb mostRows (length (rows (closed ar d))) ≡ b → Answered (held (closed ar d)) out (Refused w) out′
+      go true f =
+          let y : CombinedRefused w ≡ CombinedRefused NoSpace = sym e ∙ x .answer ∙ ap (λ (b : Bool). pickCombined b (CombinedRefused NoSpace) (CombinedDone (length (rows (closed ar d))) p)) f in
+          let k : w ≡ NoSpace = cc in
+          record { answer = rw f (ap Refused k); words = rw f (x .words ∙ ap (λ (c : Combined). written c (listing (closed ar d)) out) e) }
+      go false f =
+          let y : CombinedRefused w ≡ CombinedDone (length (rows (closed ar d))) p = sym e ∙ x .answer ∙ ap (λ (b : Bool). pickCombined b (CombinedRefused NoSpace) (CombinedDone (length (rows (closed ar d))) p)) f in
+          absurd (let z : _≡_ {A = ℕ} 0 1 = cc in omega arith)
+
+-- `build_closed`
+closed-of : (ar : List ℕ) (os : List Op) {o : Outcome (Diagram × List Diagram)} → build os [] ≡ o → builtClosed ar os ≡ andThen o (λ p. held (closed ar (p .0)))
+unfolding builtClosed
+closed-of ar os e = ap (λ (o : Outcome (Diagram × List Diagram)). andThen o (λ p. held (closed ar (p .0)))) e
+
+module _ {ar ops out work : List ℕ} (l : Labelled ar ops) (g : Buildable ops out work) {r : Stepped} {s heads links index : List ℕ} (same-length : length s ≡ length work)
+    (x : Ran (build (opsIn ops)) work 0 r s heads links index) where
+  pub reward-refused : {w : Refusal} {c : ℕ} → r ≡ StepRefused w c → Answered (builtClosed ar (opsIn ops)) out (Refused w) out
+  reward-refused {w} {c} e =
+      let q : build (opsIn ops) [] ≡ refused w = sym (start g same-length x) ∙ x .refusal w c e in
+      subst (λ (o : Outcome Diagram). Answered o out (Refused w) out) (sym (closed-of ar (opsIn ops) q)) (record { answer = refl; words = refl })
+
+  module _ {root count : ℕ} (e : r ≡ Row root count) where
+    came : build (opsIn ops) [] ≡ ok (tree s root, diagramsOf s count)
+    came = sym (start g same-length x) ∙ gave g same-length x e .gives
+
+    pub reward-writable : Writable ar s count root out
+    reward-writable =
+        let w = built-writable g same-length x e in
+        record {
+          written = w .written;
+          words = w .space-words;
+          within = w .within;
+          root-there = w .there;
+          regular = built-regular ar ops (tree s root) (diagramsOf s count) (g .good) l came;
+          room = g .out-room;
+        }
+
+    pub reward-row : {b : Built} {out′ : List ℕ} → Answered (held (closed ar (tree s root))) out b out′ → Answered (builtClosed ar (opsIn ops)) out b out′
+    reward-row {b} {out′} a = subst (λ (o : Outcome Diagram). Answered o out b out′) (sym (closed-of ar (opsIn ops) came)) a

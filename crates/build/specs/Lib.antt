@@ -6,3 +6,4 @@ pub mod Stacks
 pub mod Writing
 -- laws
 pub mod MachineLaws
+pub mod RegularLaws

@@ -1,4 +1,5 @@
 // The diagram of a line of a text, built in one working space from the operations that its words are turned into. What it is stands in specs/.
+use apply::Combined;
 use label::Label;
 use label::Test;
 use refusal::Refusal;
@@ -10,9 +11,11 @@ ghost use Prim.Native.Nat.{_+_, _*_, _≤_};
 ghost use lib.ListN.{length};
 ghost use Rattle.regress.specs.Running.{Ready, Ran};
 ghost use Rattle.diagram.specs.Validity.{tree};
+ghost use Rattle.diagram.specs.Variables.{closed};
+ghost use Rattle.apart.specs.Results.{Writable};
 ghost use Rattle.build.specs.Build.{held};
-ghost use Rattle.build.specs.Writing.{RowWritable, Answered, Buildable};
-ghost use Rattle.build.specs.Machine.{testAt, opAt, opsIn, step, build, built};
+ghost use Rattle.build.specs.Writing.{RowWritable, Answered, Buildable, Labelled};
+ghost use Rattle.build.specs.Machine.{testAt, opAt, opsIn, step, build, built, builtClosed};
 ghost use Rattle.build.specs.Stacks.{Ops, Stacked, machineOf, Moves};
 
 // Words of a plan of 4,096 pairs.
@@ -219,6 +222,33 @@ pub fn build(ops: &[u64], out: &mut [u64], work: &mut [u64]) -> Built
     let mut links = [0u16; diagram::SPACE_ROWS];
     match build_rows(ops, &mut plan, &mut index, work, &mut heads, &mut links) {
         Stepped::Row(root, rows) => write_row(work, rows, root, out),
+        Stepped::Refused(why, _) => Built::Refused(why),
+    }
+}
+
+// Writes the listing of the row `root`, closed up, unless it has too many rows.
+fn write_closed(arities: &[u64], space: &[u64], count: usize, root: usize, out: &mut [u64]) -> Built
+    requires { ⌜ Writable (now arities) (now space) count root (now out) ⌝ }
+    ensures { λ r. ⌜ Answered (held (closed (now (arities .entry)) (tree (now (space .entry)) root))) (now (out .entry)) r (now (out .exit)) ⌝ }
+{
+    match apart::write_result(arities, space, count, root, 0, out) {
+        Combined::Done(m, _) => Built::Done(m),
+        Combined::Refused(why) => Built::Refused(why),
+    }
+}
+
+// Builds a reward's diagram from its operations and writes its listing, closed up; `work` is the working space.
+pub fn build_closed(arities: &[u64], ops: &[u64], out: &mut [u64], work: &mut [u64]) -> Built
+    requires { ⌜ Labelled (now arities) (now ops) ⌝ }
+    requires { ⌜ Buildable (now ops) (now out) (now work) ⌝ }
+    ensures { λ r. ⌜ Answered (builtClosed (now (arities .entry)) (opsIn (now (ops .entry)))) (now (out .entry)) r (now (out .exit)) ⌝ }
+{
+    let mut plan = [0u64; PLAN_WORDS];
+    let mut index = [0u16; plan::BUCKETS];
+    let mut heads = [0u16; table::BUCKETS];
+    let mut links = [0u16; diagram::SPACE_ROWS];
+    match build_rows(ops, &mut plan, &mut index, work, &mut heads, &mut links) {
+        Stepped::Row(root, rows) => write_closed(arities, work, rows, root, out),
         Stepped::Refused(why, _) => Built::Refused(why),
     }
 }
