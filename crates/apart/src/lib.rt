@@ -64,7 +64,7 @@ pub fn close_up(arities: &[u64], out: &mut [u64], m: usize)
 }
 
 // Writes the listing of the row `root`, closed up, and answers its rows and the pairs, unless it has too many rows.
-fn write_result(
+pub fn write_result(
     arities: &[u64],
     space: &[u64],
     count: usize,

@@ -342,7 +342,7 @@ fn form_test(
 }
 
 // The row step, T being the test of what is asked.
-fn test_step(
+pub fn test_step(
     plan: &mut [u64],
     index: &mut [u16],
     space: &mut [u64],

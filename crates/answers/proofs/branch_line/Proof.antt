@@ -1,0 +1,12 @@
+use Rattle.answers.proofs.LineLaws.{branch-parts}
+use borrow.Author.Needs.{needs}
+use Rattle.answers.proofs.branch_line.Statement.{statement}
+use Rattle.answers.proofs.branch_line.Tie as tie
+
+returns : tie.Need-returns
+returns c = branch-parts (c .before .before .before .before .before .before .before .before .before .before .before .before .before .before .before .before .before .before .before .before .before .before .before .before .before .before .before .pre) (c .before .before .before .before .before .before .before .before .before .before .before .before .before .before .before .before .before .before .before .before .before .before .before .put-bytes .ensures) (c .before .before .before .before .before .before .before .before .before .before .before .before .before .before .before .before .before .before .before .put-field .ensures) (c .before .before .before .before .before .before .before .before .before .before .before .before .before .before .before .put-field2 .ensures) (c .before .before .before .before .before .before .before .before .before .before .before .put-field3 .ensures) (c .before .before .before .before .before .before .before .put-field4 .ensures) (c .before .before .put-bytes2 .ensures)
+
+pub branch-line-spec : {M : Type 1} → statement M
+branch-line-spec =
+    tie.close
+    (tie.spec (λ c. search needs) (λ c κs. search needs) (λ c κs. search needs) (λ c κs. search needs) (λ c κs. search needs) (λ c κs. search needs) (λ c. search needs) (λ c κs. search needs) (λ c. search needs) returns)

@@ -1,0 +1,12 @@
+use Rattle.answers.proofs.LineLaws.{cut-parts}
+use borrow.Author.Needs.{needs}
+use Rattle.answers.proofs.cut_line.Statement.{statement}
+use Rattle.answers.proofs.cut_line.Tie as tie
+
+returns : tie.Need-returns
+returns c = cut-parts (c .before .before .before .before .before .before .before .before .before .before .before .before .before .before .before .before .before .before .before .before .before .before .before .pre) (c .before .before .before .before .before .before .before .before .before .before .before .before .before .before .before .before .before .before .before .put-bytes .ensures) (c .before .before .before .before .before .before .before .before .before .before .before .before .before .before .before .put-field .ensures) (c .before .before .before .before .before .before .before .before .before .before .before .put-edge .ensures) (c .before .before .before .before .before .before .before .put-field2 .ensures) (c .before .before .put-bytes2 .ensures)
+
+pub cut-line-spec : {M : Type 1} → statement M
+cut-line-spec =
+    tie.close
+    (tie.spec (λ c. search needs) (λ c κs. search needs) (λ c κs. search needs) (λ c κs. search needs) (λ c κs. search needs) (λ c. search needs) (λ c κs. search needs) (λ c. search needs) returns)

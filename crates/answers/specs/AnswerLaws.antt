@@ -1,0 +1,130 @@
+-- How many bytes an answer has at most, so that a buffer has room for it.
+use Prim.Native.Nat.{ℕ, zero, suc, _+_, _*_, _≤_, _<_}
+use mathlib.Core.Path.{_≡_}
+use mathlib.Core.Bool.{Bool, true, false, cond}
+use mathlib.Core.List.{List, [], _∷_, _++_}
+use native.Mathlib.Omega.{arith}
+use borrow.Author.Tests.{le-leb}
+use lib.Dec.{eqb}
+use lib.ListN.{length, getD, length-append}
+use Rattle.refusal.specs.declared.Refusal.{Refusal}
+use Rattle.refusal.specs.declared.Refusal.the-variants.{Form, Name, Arity, Range, Place, Unbound, Truth, Variables, Space, Pairs, Value as AboveValue, Scale, Weights, Listing, Valuations, Nothing as NothingToCut, Paths, Buffer}
+use Rattle.refusal.specs.Numbers.{numberOf}
+use Rattle.label.specs.Limits.{leafMark}
+use Rattle.diagram.specs.Sizes.{mostRows}
+use Rattle.diagram.specs.Words.{labelAt, highAt, lowAt}
+use Rattle.cut.specs.declared.Edge.{Edge}
+use Rattle.cut.specs.declared.Edge.the-variants.{True, False}
+use Rattle.answers.specs.declared.Answer.{Answer}
+use Rattle.answers.specs.declared.Answer.the-variants.{Value, Backup, Cut, Refused, Show, Nothing}
+use Rattle.answers.specs.declared.Put.the-variants.{At}
+use Rattle.answers.specs.Digits.{digits}
+use Rattle.answers.specs.DigitLaws.{digits-short}
+use Rattle.answers.specs.Answers.{field, edgeField, leafField, lineEnd, valueHead, backupHead, cutHead, refusedHead, rowHead, answerLine, rowLine, rowLineAt, rowLines, answerBytes}
+use Rattle.answers.specs.Writing.{lineBytes, mostBytes, putAnswer}
+
+-- a machine word
+abbrev pub IsWord : ℕ → Type 0
+IsWord v = v < 18446744073709551616
+
+-- an answer of machine words, with at most 1,024 rows to show
+abbrev pub OfWords : Answer → Type 0
+OfWords (Value v k s) = IsWord v × IsWord k × IsWord s
+OfWords (Backup k n) = IsWord k × IsWord n
+OfWords (Cut i e n) = IsWord i × IsWord n
+OfWords (Refused r line) = IsWord line
+OfWords (Show n) = n ≤ mostRows
+OfWords Nothing = Unit {0}
+
+field-short : (v : ℕ) → IsWord v → length (field v) ≤ 21
+unfolding field
+field-short v h = omega (arith, digits-short v h)
+
+edge-short : (e : Edge) → length (edgeField e) ≤ 6
+edge-short True = omega arith
+edge-short False = omega arith
+
+number-word : (r : Refusal) → IsWord (numberOf r)
+number-word Form = omega arith
+number-word Name = omega arith
+number-word Arity = omega arith
+number-word Range = omega arith
+number-word Place = omega arith
+number-word Unbound = omega arith
+number-word Truth = omega arith
+number-word Variables = omega arith
+number-word Space = omega arith
+number-word Pairs = omega arith
+number-word AboveValue = omega arith
+number-word Scale = omega arith
+number-word Weights = omega arith
+number-word Listing = omega arith
+number-word Valuations = omega arith
+number-word NothingToCut = omega arith
+number-word Paths = omega arith
+number-word Buffer = omega arith
+
+-- a line of parts, each with its length at most
+four-short : (a b c d : List ℕ) → length (a ++ b ++ c ++ d) ≡ length a + length b + length c + length d
+four-short a b c d = omega (arith, length-append (a ++ b ++ c) d, length-append (a ++ b) c, length-append a b)
+
+five-short : (a b c d e : List ℕ) → length (a ++ b ++ c ++ d ++ e) ≡ length a + length b + length c + length d + length e
+five-short a b c d e = omega (arith, four-short a b c d, length-append (a ++ b ++ c ++ d) e)
+
+-- a line has at most 90 bytes
+pub line-short : (a : Answer) → OfWords a → length (answerLine a) ≤ lineBytes
+unfolding answerLine
+line-short (Value v k s) h =
+    omega (arith, five-short valueHead (field v) (field k) (field s) lineEnd, field-short v (h .0), field-short k (h .1), field-short s (h .2))
+line-short (Backup k n) h = omega (arith, four-short backupHead (field k) (field n) lineEnd, field-short k (h .0), field-short n (h .1))
+line-short (Cut i e n) h =
+    omega (arith, five-short cutHead (field i) (edgeField e) (field n) lineEnd, field-short i (h .0), edge-short e, field-short n (h .1))
+line-short (Refused r line) h =
+    omega (arith, four-short refusedHead (field (numberOf r)) (field line) lineEnd, field-short (numberOf r) (number-word r), field-short line h)
+line-short (Show n) h = omega arith
+line-short Nothing h = omega arith
+
+-- and so has a row's line
+row-short : (k l h w : ℕ) → IsWord k → IsWord l → IsWord h → IsWord w → length (rowLine k l h w) ≤ lineBytes
+unfolding rowLine
+row-short k l h w a b c d = go (eqb l leafMark)
+  where
+    go : (t : Bool) → length (cond t (rowHead ++ field k ++ leafField ++ field h ++ lineEnd) (rowHead ++ field k ++ field l ++ field h ++ field w ++ lineEnd)) ≤ lineBytes
+    go true = omega (arith, five-short rowHead (field k) leafField (field h) lineEnd, field-short k a, field-short h c)
+    go false =
+        omega (
+          arith,
+          length-append (rowHead ++ field k ++ field l ++ field h ++ field w) lineEnd,
+          five-short rowHead (field k) (field l) (field h) (field w),
+          field-short k a,
+          field-short l b,
+          field-short h c,
+          field-short w d,
+        )
+
+rows-short : (ws : List ℕ) (n : ℕ) → ((i : ℕ) → IsWord (getD ws i 0)) → IsWord n → length (rowLines ws n) ≤ n * lineBytes
+unfolding rowLines rowLineAt labelAt highAt lowAt
+rows-short ws zero g h = omega arith
+rows-short ws (suc n) g h =
+    omega (
+      arith,
+      length-append (rowLines ws n) (rowLineAt ws n),
+      rows-short ws n g (omega arith),
+      row-short n (labelAt ws n) (highAt ws n) (lowAt ws n) (omega arith) (g (n * 3)) (g (n * 3 + 1)) (g (n * 3 + 2)),
+    )
+
+-- no answer has more bytes than 1,024 rows may have
+pub answer-short : (ws : List ℕ) (a : Answer) → ((i : ℕ) → IsWord (getD ws i 0)) → OfWords a → length (answerBytes ws a) ≤ mostBytes
+unfolding answerBytes
+answer-short ws (Value v k s) g h = omega (arith, line-short (Value v k s) h)
+answer-short ws (Backup k n) g h = omega (arith, line-short (Backup k n) h)
+answer-short ws (Cut i e n) g h = omega (arith, line-short (Cut i e n) h)
+answer-short ws (Refused r line) g h = omega (arith, line-short (Refused r line) h)
+answer-short ws (Show n) g h = omega (arith, rows-short ws n g (omega arith))
+answer-short ws Nothing g h = omega arith
+
+-- so a buffer with as many bytes left takes it
+pub answer-fits : (ws : List ℕ) (a : Answer) (room place : ℕ) → ((i : ℕ) → IsWord (getD ws i 0)) → OfWords a → place + mostBytes ≤ room
+    → putAnswer room place (answerBytes ws a) ≡ At (place + length (answerBytes ws a))
+unfolding putAnswer
+answer-fits ws a room place g h l = rw (le-leb (place + length (answerBytes ws a)) room (omega (arith, answer-short ws a g h)))

@@ -1,0 +1,86 @@
+-- The answers of a text (document 01, section 'A run, whole'): one line each, and for (show) a line for each row.
+use Prim.Native.Nat.{ℕ, zero, suc}
+use mathlib.Core.Bool.{cond}
+use mathlib.Core.List.{List, [], _∷_, _++_}
+use lib.Dec.{eqb}
+use Rattle.refusal.specs.Numbers.{numberOf}
+use Rattle.label.specs.Limits.{leafMark}
+use Rattle.diagram.specs.Words.{labelAt, highAt, lowAt}
+use Rattle.cut.specs.declared.Edge.{Edge}
+use Rattle.cut.specs.declared.Edge.the-variants.{True, False}
+use Rattle.answers.specs.declared.Answer.{Answer}
+use Rattle.answers.specs.declared.Answer.the-variants.{Value, Backup, Cut, Refused, Show, Nothing}
+use Rattle.answers.specs.Digits.{digits}
+
+-- a number, a space before it
+unfoldable pub field : ℕ → List ℕ
+unfolding digits
+field v = 32 ∷ digits v
+
+-- ` true` or ` false`
+abbrev pub edgeField : Edge → List ℕ
+edgeField True = 32 ∷ 116 ∷ 114 ∷ 117 ∷ 101 ∷ []
+edgeField False = 32 ∷ 102 ∷ 97 ∷ 108 ∷ 115 ∷ 101 ∷ []
+
+-- ` leaf`
+abbrev pub leafField : List ℕ
+leafField = 32 ∷ 108 ∷ 101 ∷ 97 ∷ 102 ∷ []
+
+-- `(value`, `(backup`, `(cut`, `(refused`, `(row`
+abbrev pub valueHead : List ℕ
+valueHead = 40 ∷ 118 ∷ 97 ∷ 108 ∷ 117 ∷ 101 ∷ []
+
+abbrev pub backupHead : List ℕ
+backupHead = 40 ∷ 98 ∷ 97 ∷ 99 ∷ 107 ∷ 117 ∷ 112 ∷ []
+
+abbrev pub cutHead : List ℕ
+cutHead = 40 ∷ 99 ∷ 117 ∷ 116 ∷ []
+
+abbrev pub refusedHead : List ℕ
+refusedHead = 40 ∷ 114 ∷ 101 ∷ 102 ∷ 117 ∷ 115 ∷ 101 ∷ 100 ∷ []
+
+abbrev pub rowHead : List ℕ
+rowHead = 40 ∷ 114 ∷ 111 ∷ 119 ∷ []
+
+-- `)` and a line feed
+abbrev pub lineEnd : List ℕ
+lineEnd = 41 ∷ 10 ∷ []
+
+-- the line of an answer. Fields: value, k, S^k; k, rows; cut row, edge, rows left; number, line. Other lines print nothing.
+unfoldable pub answerLine : Answer → List ℕ
+unfolding field
+answerLine (Value v k s) = valueHead ++ field v ++ field k ++ field s ++ lineEnd
+answerLine (Backup k n) = backupHead ++ field k ++ field n ++ lineEnd
+answerLine (Cut i e n) = cutHead ++ field i ++ edgeField e ++ field n ++ lineEnd
+answerLine (Refused r line) = refusedHead ++ field (numberOf r) ++ field line ++ lineEnd
+answerLine (Show n) = []
+answerLine Nothing = []
+
+-- the line of row k, whose words are l, h and w. Fields: row number, label, true, false; a leaf's value behind `leaf`.
+unfoldable pub rowLine : ℕ → ℕ → ℕ → ℕ → List ℕ
+unfolding field
+rowLine k l h w =
+    cond (eqb l leafMark)
+    (rowHead ++ field k ++ leafField ++ field h ++ lineEnd)
+    (rowHead ++ field k ++ field l ++ field h ++ field w ++ lineEnd)
+
+-- row k of a listing
+unfoldable pub rowLineAt : List ℕ → ℕ → List ℕ
+unfolding rowLine
+rowLineAt ws k = rowLine k (labelAt ws k) (highAt ws k) (lowAt ws k)
+
+-- the first n rows
+unfoldable pub rowLines : List ℕ → ℕ → List ℕ
+unfolding rowLineAt
+rowLines ws zero = []
+rowLines ws (suc n) = rowLines ws n ++ rowLineAt ws n
+
+-- an answer's bytes, where the value's listing begins the words ws
+unfoldable pub answerBytes : List ℕ → Answer → List ℕ
+unfolding answerLine rowLines
+answerBytes ws (Value v k s) = answerLine (Value v k s)
+answerBytes ws (Backup k n) = answerLine (Backup k n)
+answerBytes ws (Cut i e n) = answerLine (Cut i e n)
+answerBytes ws (Refused r line) = answerLine (Refused r line)
+answerBytes ws (Show n) = rowLines ws n
+answerBytes ws Nothing = []

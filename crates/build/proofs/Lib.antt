@@ -1,0 +1,3 @@
+pub mod StackLaws
+pub mod RunningLaws
+pub mod BuiltLaws

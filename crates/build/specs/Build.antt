@@ -1,0 +1,44 @@
+-- A diagram of a text (document 01, section 'Text'): 'A diagram is a number, or (if ATOM DIAGRAM DIAGRAM), read as the row step above when it closes, T
+-- being the test of ATOM'.
+use mathlib.Core.Bool.{Bool}
+use mathlib.Core.List.{List, []}
+use Prim.Native.Nat.{ℕ, suc, max}
+use lib.ListN.{length}
+use lib.Dec.{ltb}
+use Rattle.refusal.specs.declared.Refusal.the-variants.{Space}
+use Rattle.label.specs.declared.Test.{Test}
+use Rattle.diagram.specs.Sizes.{mostRows}
+use Rattle.diagram.specs.Diagram.{Diagram, leaf}
+use Rattle.diagram.specs.Rows.{rows}
+use Rattle.diagram.specs.Variables.{closed}
+use Rattle.regress.specs.Calls.{Outcome, ok, refused, andThen, pickOutcome, Run, bind, form}
+use Rattle.regress.specs.Step.{testDiagram, rowStep}
+
+-- a diagram as it is written, each atom as what it asks: a label, or t = t
+pub data Reading : Type 0 where
+  number : ℕ → Reading
+  branch : Test → Reading → Reading → Reading
+
+-- how many (if ..) are open together
+abbrev pub depth : Reading → ℕ
+depth (number v) = 0
+depth (branch t h f) = suc (max (depth h) (depth f))
+
+-- a number forms its leaf when it is read; (if ..) is the row step when it closes
+unfoldable pub readDiagram : Reading → Run Diagram
+unfolding form rowStep testDiagram
+readDiagram (number v) = form (leaf v)
+readDiagram (branch t h f) = bind (readDiagram h) (λ x. bind (readDiagram f) (λ y. rowStep (testDiagram t) x y))
+
+-- the whole diagram of a line is one call, its working space empty at first; the line's result is held to 1,024 rows (9)
+abbrev pub held : Diagram → Outcome Diagram
+held d = pickOutcome (ltb mostRows (length (rows d))) (refused Space) (ok d)
+
+unfoldable pub textDiagram : Reading → Outcome Diagram
+unfolding readDiagram
+textDiagram r = andThen (readDiagram r []) (λ p. held (p .0))
+
+-- a reward is closed up when read
+unfoldable pub rewardDiagram : List ℕ → Reading → Outcome Diagram
+unfolding readDiagram closed
+rewardDiagram ar r = andThen (readDiagram r []) (λ p. held (closed ar (p .0)))

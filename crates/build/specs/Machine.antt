@@ -1,0 +1,114 @@
+-- The operations that a diagram's words are turned into, in the order of the words, and a machine with two stacks that runs them.
+use mathlib.Core.Bool.{Bool, true, false}
+use mathlib.Core.List.{List, [], _∷_, _++_}
+use Prim.Native.Nat.{ℕ, zero, suc, _+_, _*_, _/_}
+use lib.ListN.{length, getD}
+use lib.Dec.{eqb, ltb}
+use Rattle.refusal.specs.declared.Refusal.the-variants.{Form}
+use Rattle.label.specs.declared.Label.{Label}
+use Rattle.label.specs.declared.Test.{Test}
+use Rattle.label.specs.declared.Test.the-variants.{Always, Is}
+use Rattle.diagram.specs.Diagram.{Diagram, leaf}
+use Rattle.diagram.specs.Variables.{closed}
+use Rattle.regress.specs.Calls.{Outcome, ok, refused, andThen, pickOutcome, Run, form}
+use Rattle.regress.specs.Step.{testDiagram, rowStep}
+use Rattle.build.specs.Build.{Reading, number, branch, held}
+
+pub data Op : Type 0 where
+  leafOp : ℕ → Op
+  ask : Test → Op
+  step : Op
+
+-- an (if ..) asks its test, has its true part and its false part, and steps when it closes
+unfoldable pub opsOf : Reading → List Op
+opsOf (number v) = leafOp v ∷ []
+opsOf (branch t h f) = ask t ∷ (opsOf h ++ (opsOf f ++ (step ∷ [])))
+
+-- 64 brackets open together at most
+abbrev pub mostTests : ℕ
+mostTests = 64
+
+abbrev pub mostResults : ℕ
+mostResults = 65
+
+-- the tests asked and the results given that no step has taken yet, the latest first, and the rows formed
+pub record Machine : Type 0 where
+  pub tests : List Test
+  pub results : List Diagram
+  pub formed : List Diagram
+
+-- a result that a step of the call gives
+abbrev pub given : List Test → List Diagram → Outcome (Diagram × List Diagram) → Outcome Machine
+given ts ds (ok p) = ok (record { tests = ts; results = p .0 ∷ ds; formed = p .1 })
+given ts ds (refused w) = refused w
+
+-- the row step of the latest test and the two latest results
+unfoldable pub closing : List Test → List Diagram → List Diagram → Outcome Machine
+unfolding rowStep testDiagram
+closing [] ds rs = refused Form
+closing (t ∷ ts) [] rs = refused Form
+closing (t ∷ ts) (y ∷ []) rs = refused Form
+closing (t ∷ ts) (y ∷ x ∷ ds) rs = given ts ds (rowStep (testDiagram t) x y rs)
+
+-- one operation; 1 for operations that write no diagram, or one with too many brackets open
+unfoldable pub operation : Op → Machine → Outcome Machine
+unfolding form closing
+operation (leafOp v) m = pickOutcome (ltb (length (m .results)) mostResults) (given (m .tests) (m .results) (form (leaf v) (m .formed))) (refused Form)
+operation (ask t) m =
+    pickOutcome (ltb (length (m .tests)) mostTests) (ok (record { tests = t ∷ m .tests; results = m .results; formed = m .formed })) (refused Form)
+operation step m = closing (m .tests) (m .results) (m .formed)
+
+unfoldable pub operations : List Op → Machine → Outcome Machine
+unfolding operation
+operations [] m = ok m
+operations (o ∷ os) m = andThen (operation o m) (operations os)
+
+-- at the end one result is left, and no test
+abbrev pub lone : List Test → List Diagram → List Diagram → Outcome (Diagram × List Diagram)
+lone [] [] rs = refused Form
+lone [] (d ∷ []) rs = ok (d, rs)
+lone [] (d ∷ e ∷ ds) rs = refused Form
+lone (t ∷ ts) ds rs = refused Form
+
+abbrev pub ending : Machine → Outcome (Diagram × List Diagram)
+ending m = lone (m .tests) (m .results) (m .formed)
+
+unfoldable pub build : List Op → Run Diagram
+unfolding operations
+build os rs = andThen (operations os (record { tests = []; results = []; formed = rs })) ending
+
+-- the diagram of a line from its operations: one call, its working space empty at first, and a result held to 1,024 rows (9)
+unfoldable pub built : List Op → Outcome Diagram
+unfolding build
+built os = andThen (build os []) (λ p. held (p .0))
+
+-- a reward's, closed up
+unfoldable pub builtClosed : List ℕ → List Op → Outcome Diagram
+unfolding build closed
+builtClosed ar os = andThen (build os []) (λ p. held (closed ar (p .0)))
+
+-- operations in lent words, two words each: 0 and a leaf's value, 1 and the label asked, 2 and 0 for t = t, 3 and 0 for a step
+abbrev pub pickTest : Bool → Test → Test → Test
+pickTest true x y = x
+pickTest false x y = y
+
+abbrev pub pickOp : Bool → Op → Op → Op
+pickOp true x y = x
+pickOp false x y = y
+
+unfoldable pub testAt : List ℕ → ℕ → Test
+testAt ws k = pickTest (eqb (getD ws (k * 2) 0) 1) (Is (record { packed = getD ws (k * 2 + 1) 0 })) Always
+
+unfoldable pub opAt : List ℕ → ℕ → Op
+unfolding testAt
+opAt ws k = pickOp (eqb (getD ws (k * 2) 0) 0) (leafOp (getD ws (k * 2 + 1) 0)) (pickOp (eqb (getD ws (k * 2) 0) 3) step (ask (testAt ws k)))
+
+-- the n operations from k on
+unfoldable pub opsFrom : List ℕ → ℕ → ℕ → List Op
+unfolding opAt
+opsFrom ws k zero = []
+opsFrom ws k (suc n) = opAt ws k ∷ opsFrom ws (suc k) n
+
+unfoldable pub opsIn : List ℕ → List Op
+unfolding opsFrom
+opsIn ws = opsFrom ws 0 (length ws / 2)

@@ -1,0 +1,62 @@
+-- The machine in lent words: the places of the tests asked and the rows of the results given, and the working space.
+use mathlib.Core.Path.{_≡_}
+use mathlib.Core.List.{List, [], _∷_}
+use Prim.Native.Nat.{ℕ, zero, suc, _+_, _*_, _/_, _≤_, _<_}
+use lib.ListN.{length, getD}
+use Rattle.refusal.specs.declared.Refusal.{Refusal}
+use Rattle.label.specs.Limits.{leafMark}
+use Rattle.label.specs.declared.Test.{Test}
+use Rattle.diagram.specs.Sizes.{highestValue, resultWords, spaceWords}
+use Rattle.diagram.specs.Diagram.{Diagram}
+use Rattle.diagram.specs.Validity.{tree}
+use Rattle.plan.specs.Plan.{Clean}
+use Rattle.store.specs.Space.{diagramsOf}
+use Rattle.regress.specs.Calls.{ok, refused}
+use Rattle.regress.specs.Running.{Space}
+use Rattle.build.specs.declared.Moved.{Moved}
+use Rattle.build.specs.declared.Moved.the-variants.{To, Refused}
+use Rattle.build.specs.Machine.{Op, Machine, mostTests, mostResults, testAt, operation}
+
+-- the words of both stacks: the tests' places from 0 on, the results' rows behind them
+abbrev pub stackWords : ℕ
+stackWords = 129
+
+-- the operations' words hold labels below a leaf's mark and values up to 10^18
+pub record Ops (ops : List ℕ) : Type 0 where
+  pub values : (k : ℕ) → k * 2 + 2 ≤ length ops → getD ops (k * 2) 0 ≡ 0 → getD ops (k * 2 + 1) 0 ≤ highestValue
+  pub labels : (k : ℕ) → k * 2 + 2 ≤ length ops → getD ops (k * 2) 0 ≡ 1 → getD ops (k * 2 + 1) 0 < leafMark
+
+-- the latest t tests, each by the place of the operation that asked it
+unfoldable pub testsOf : List ℕ → List ℕ → ℕ → List Test
+unfolding testAt
+testsOf ops stack zero = []
+testsOf ops stack (suc t) = testAt ops (getD stack t 0) ∷ testsOf ops stack t
+
+-- the latest d results, each by its row
+unfoldable pub resultsOf : List ℕ → List ℕ → ℕ → List Diagram
+resultsOf s stack zero = []
+resultsOf s stack (suc d) = tree s (getD stack (mostTests + d) 0) ∷ resultsOf s stack d
+
+abbrev pub machineOf : List ℕ → List ℕ → List ℕ → ℕ → ℕ → ℕ → Machine
+machineOf ops stack s t d count = record { tests = testsOf ops stack t; results = resultsOf s stack d; formed = diagramsOf s count }
+
+-- the stacks hold t tests and d results
+pub record Stacked (ops stack : List ℕ) (t d count : ℕ) : Type 0 where
+  pub words : stackWords ≤ length stack
+  pub few-tests : t ≤ mostTests
+  pub few-results : d ≤ mostResults
+  pub places : (j : ℕ) → j < t → getD stack j 0 * 2 + 2 ≤ length ops
+  pub there : (j : ℕ) → j < d → getD stack (mostTests + j) 0 < count
+
+-- the rows in the space after an answer
+abbrev pub rowsThen : Moved → ℕ
+rowsThen (To t d c) = c
+rowsThen (Refused w c) = c
+
+-- what running one operation ensures
+pub record Moves (o : Op) (m : Machine) (ops : List ℕ) (r : Moved) (stack s heads links index : List ℕ) : Type 0 where
+  pub space : Space s heads links (rowsThen r)
+  pub clean : Clean index
+  pub to : (t d c : ℕ) → r ≡ To t d c → operation o m ≡ ok (machineOf ops stack s t d c)
+  pub stacked : (t d c : ℕ) → r ≡ To t d c → Stacked ops stack t d c
+  pub refusal : (w : Refusal) (c : ℕ) → r ≡ Refused w c → operation o m ≡ refused w
