@@ -71,17 +71,19 @@ struct Matcher<'a> {
 }
 
 impl Matcher<'_> {
-    /// Tries each literal in turn, and goes back when one has no match.
+    /// Tries each literal in turn, one with the fewest matches first, and goes back when one has no match.
     fn matches(&self, literals: &[(Label, bool)], replacement: &Replacement) -> bool {
-        let Some(((label, side), rest)) = literals.split_first() else {
+        let ways = literals.iter().map(|(label, side)| self.ways(*label, *side, replacement)).enumerate();
+        let Some((at, ways)) = ways.min_by_key(|(_, ways)| ways.len()) else {
             return true;
         };
-        self.ways(*label, *side, replacement).iter().any(|longer| self.matches(rest, longer))
+        let rest = [&literals[..at], &literals[at + 1..]].concat();
+        ways.iter().any(|longer| self.matches(&rest, longer))
     }
 
     /// Every longer replacement under which the literal is one of the first path or is t = t true.
-    fn ways(&self, label: Label, side: bool, replacement: &Replacement) -> Vec<Replacement> {
-        let mut ways = Vec::new();
+    fn ways(&self, label: Label, side: bool, replacement: &Replacement) -> BTreeSet<Replacement> {
+        let mut ways = BTreeSet::new();
         let places = label.places();
         for (target, sign) in &self.first.literals {
             if *sign != side || target.predicate() != label.predicate() {
