@@ -48,7 +48,7 @@ fn read_row(words: &[u64], number: usize, above: &[Row], arities: &Arities) -> O
 /// The diagram that the words list, or 14.
 pub fn read_listing(words: &[u64], arities: &Arities) -> Result<Diagram, Refusal> {
     let count = words.len() / ROW_WORDS;
-    require(words.len() % ROW_WORDS == 0 && (1..=ROWS).contains(&count), Refusal::Listing)?;
+    require(words.len().is_multiple_of(ROW_WORDS) && (1..=ROWS).contains(&count), Refusal::Listing)?;
     let mut rows: Vec<Row> = Vec::new();
     for (number, words) in words.chunks(ROW_WORDS).enumerate() {
         let row = read_row(words, number, &rows, arities).ok_or(Refusal::Listing)?;

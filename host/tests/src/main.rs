@@ -10,6 +10,7 @@
 //! NAME.out, by the reference or by the program at PATH. `text` prints the random text of a seed. Default: a minute, from seed 0.
 
 mod bellman;
+mod limits;
 mod listings;
 mod meaning;
 mod models;

@@ -1,15 +1,16 @@
 //! Random texts: whole models with a run, damaged lines, and models that soon meet a limit.
 
+use crate::limits;
 use crate::models::{model, state, write_model, write_state, Size};
 use crate::random::Random;
 
-/// The text of a seed: a whole one, or a small one damaged.
+/// The text of a seed: a whole one, a small one damaged, or one about a limit.
 pub fn text(seed: u64) -> Vec<u8> {
     let random = &mut Random::new(seed);
-    let kind = random.below(6);
+    let kind = random.below(7);
     let size = *[Size::LARGE, Size::WIDE].get(kind as usize).unwrap_or(&Size::SMALL);
-    let damaged = kind > 2;
-    let mut lines = whole(random, size);
+    let damaged = (3..6).contains(&kind);
+    let mut lines = if kind == 6 { limits::lines(random) } else { whole(random, size) }.into_iter().map(String::into_bytes).collect();
     if damaged {
         for _ in 0..random.between(1, 6) {
             damage(random, &mut lines);
@@ -22,7 +23,7 @@ pub fn text(seed: u64) -> Vec<u8> {
     text
 }
 
-fn whole(random: &mut Random, size: Size) -> Vec<Vec<u8>> {
+fn whole(random: &mut Random, size: Size) -> Vec<String> {
     let (signature, plain) = model(random, size);
     let mut lines = write_model(&signature, &plain);
     for _ in 0..random.between(1, 3) {
@@ -37,7 +38,7 @@ fn whole(random: &mut Random, size: Size) -> Vec<Vec<u8>> {
         lines.extend(write_state(&state));
         lines.push("(value)".to_string());
     }
-    lines.into_iter().map(String::into_bytes).collect()
+    lines
 }
 
 const NUMBERS: [&str; 14] = [
