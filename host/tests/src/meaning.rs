@@ -12,7 +12,7 @@ use reference::regress::{regress, Truths};
 use reference::slips::Slips;
 use reference::state::{leaf_in, value, State, Valuation};
 use reference::terms::{Label, Term, FIRST_PARAMETER, FIRST_VARIABLE};
-use std::collections::{BTreeMap, BTreeSet};
+use std::collections::BTreeSet;
 
 const OPERATORS: [Operator; 3] = [Operator::Sum, Operator::Product, Operator::Max];
 
@@ -26,21 +26,13 @@ pub fn diagram(random: &mut Random, signature: &Signature, terms: &[Term], depth
     }
 }
 
-/// The diagram below a row.
+/// The diagram below a row. All rows are distinct and reduced, so they keep their numbers in a space.
 fn below(diagram: &Diagram, root: usize) -> Diagram {
     let mut space = Space::new();
-    let places: Vec<usize> = diagram.rows()[..=root]
-        .iter()
-        .scan(Vec::new(), |places: &mut Vec<usize>, row| {
-            let row = match *row {
-                Row::Branch { label, yes, no } => Row::Branch { label, yes: places[yes], no: places[no] },
-                leaf => leaf,
-            };
-            places.push(space.form(row).expect("few rows"));
-            places.last().copied()
-        })
-        .collect();
-    space.diagram(places[root])
+    for row in diagram.rows() {
+        space.form(*row).expect("few rows");
+    }
+    space.diagram(root)
 }
 
 /// The pair set worked out on diagrams instead of row numbers.
@@ -175,10 +167,8 @@ fn every_state(signature: &Signature, objects: u64) -> Vec<State> {
     }
     let mut states = Vec::new();
     for choice in 0..1_u64 << facts.len() {
-        let chosen: BTreeMap<usize, _> = facts.iter().enumerate().filter(|(i, _)| choice >> i & 1 == 1).collect();
-        for constants in &places {
-            states.push(State { objects, constants: constants.clone(), facts: chosen.values().map(|f| (*f).clone()).collect() });
-        }
+        let chosen: BTreeSet<_> = (0..facts.len()).filter(|i| choice >> i & 1 == 1).map(|i| facts[i].clone()).collect();
+        states.extend(places.iter().map(|constants| State { objects, constants: constants.clone(), facts: chosen.clone() }));
     }
     states
 }
