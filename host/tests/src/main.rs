@@ -105,7 +105,12 @@ fn slips_are_caught() -> Result<(), String> {
 fn compare(program: &Path, bound: &Bound) -> Result<(), String> {
     let mut done = 0;
     for seed in bound.seeds() {
-        program::check(program, &texts::text(seed)).map_err(|message| format!("seed {seed}: {message}"))?;
+        let text = texts::text(seed);
+        if let Err(message) = program::check(program, &text) {
+            let short = program::shortened(program, &text);
+            let again = program::check(program, &short).err().unwrap_or_default();
+            return Err(format!("seed {seed}: {message}\n{again} for\n{}", String::from_utf8_lossy(&short)));
+        }
         done += 1;
     }
     println!("{done} texts from seed {} have equal answers", bound.first);
