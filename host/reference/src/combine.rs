@@ -1,0 +1,145 @@
+//! Sum, product and max, names apart or shared (document 01, "Combination").
+
+use crate::diagram::{Diagram, Row, Space, LARGEST};
+use crate::refusal::{require, Refusal};
+use crate::terms::{Label, FIRST_VARIABLE, VARIABLES};
+use std::collections::{BTreeMap, BTreeSet};
+
+pub const PAIRS: usize = 4_096;
+
+#[derive(Clone, Copy, Debug, PartialEq, Eq)]
+pub enum Operator {
+    Sum,
+    Product,
+    Max,
+}
+
+impl Operator {
+    pub fn apply(self, a: u64, b: u64) -> u128 {
+        let (a, b) = (u128::from(a), u128::from(b));
+        match self {
+            Operator::Sum => a + b,
+            Operator::Product => a * b,
+            Operator::Max => a.max(b),
+        }
+    }
+}
+
+#[derive(Clone, Copy, Debug, PartialEq, Eq)]
+pub enum Names {
+    Apart,
+    Shared,
+}
+
+#[derive(Clone, Debug, PartialEq, Eq)]
+pub struct Combined {
+    pub diagram: Diagram,
+    /// How many pairs the walk reached.
+    pub pairs: usize,
+}
+
+type Pair = (usize, usize);
+
+enum Step {
+    Leaves(u64, u64),
+    Descend { label: Label, yes: Pair, no: Pair },
+}
+
+/// A pair of leaves, or the lower label and the pairs below: descend in every operand that has this label.
+fn step(a: &Diagram, b: &Diagram, (i, j): Pair) -> Step {
+    let label_of = |row: Row| match row {
+        Row::Leaf(_) => None,
+        Row::Branch { label, .. } => Some(label),
+    };
+    let label = match (a.rows()[i], b.rows()[j]) {
+        (Row::Leaf(v), Row::Leaf(w)) => return Step::Leaves(v, w),
+        (row, other) => label_of(row).into_iter().chain(label_of(other)).min().expect("one is a branch"),
+    };
+    let below = |diagram: &Diagram, at: usize| match diagram.rows()[at] {
+        Row::Branch { label: own, yes, no } if own == label => (yes, no),
+        _ => (at, at),
+    };
+    let ((yes_a, no_a), (yes_b, no_b)) = (below(a, i), below(b, j));
+    Step::Descend { label, yes: (yes_a, yes_b), no: (no_a, no_b) }
+}
+
+/// The least set that holds the pair of roots and, with each pair not both leaves, its two successors; or 10.
+fn reached(a: &Diagram, b: &Diagram) -> Result<BTreeSet<Pair>, Refusal> {
+    let mut pairs = BTreeSet::new();
+    let mut open = vec![(a.root(), b.root())];
+    while let Some(pair) = open.pop() {
+        if !pairs.insert(pair) {
+            continue;
+        }
+        require(pairs.len() <= PAIRS, Refusal::Pairs)?;
+        if let Step::Descend { yes, no, .. } = step(a, b, pair) {
+            open.push(no);
+            open.push(yes);
+        }
+    }
+    Ok(pairs)
+}
+
+struct Walk<'a> {
+    operator: Operator,
+    a: &'a Diagram,
+    b: &'a Diagram,
+    formed: BTreeMap<Pair, usize>,
+}
+
+impl Walk<'_> {
+    /// Forms the reduced diagram of a pair, those below it first.
+    fn form(&mut self, space: &mut Space, pair: Pair) -> Result<usize, Refusal> {
+        if let Some(at) = self.formed.get(&pair) {
+            return Ok(*at);
+        }
+        let row = match step(self.a, self.b, pair) {
+            Step::Leaves(v, w) => Row::Leaf(self.operator.apply(v, w) as u64),
+            Step::Descend { label, yes, no } => {
+                let yes = self.form(space, yes)?;
+                let no = self.form(space, no)?;
+                Row::Branch { label, yes, no }
+            }
+        };
+        let at = space.form(row)?;
+        self.formed.insert(pair, at);
+        Ok(at)
+    }
+}
+
+/// A combination with shared names inside a call: 10, then 11, then 9.
+pub fn combine_in(space: &mut Space, operator: Operator, a: &Diagram, b: &Diagram) -> Result<Combined, Refusal> {
+    let pairs = reached(a, b)?;
+    for pair in &pairs {
+        if let Step::Leaves(v, w) = step(a, b, *pair) {
+            require(operator.apply(v, w) <= u128::from(LARGEST), Refusal::Value)?;
+        }
+    }
+    let mut walk = Walk { operator, a, b, formed: BTreeMap::new() };
+    let root = walk.form(space, (a.root(), b.root()))?;
+    Ok(Combined { diagram: space.diagram(root), pairs: pairs.len() })
+}
+
+/// A combination as one call: 8, then 10, 11, 9.
+pub fn combine(operator: Operator, names: Names, a: &Diagram, b: &Diagram) -> Result<Combined, Refusal> {
+    let mut space = Space::new();
+    let (a, b) = match names {
+        Names::Shared => (a.clone(), b.clone()),
+        Names::Apart => {
+            let used = a.variables().len() as u64;
+            require(used + b.variables().len() as u64 <= VARIABLES, Refusal::Variables)?;
+            let a = a.closed_up();
+            let b = b.numbered_from(FIRST_VARIABLE + used);
+            // Two listings of 1,024 rows fit, so this never refuses ahead of 10 and 11.
+            space.form_diagram(&a)?;
+            space.form_diagram(&b)?;
+            (a, b)
+        }
+    };
+    let combined = combine_in(&mut space, operator, &a, &b)?;
+    let diagram = combined.diagram.as_result()?;
+    Ok(match names {
+        Names::Shared => Combined { diagram, ..combined },
+        Names::Apart => Combined { diagram: diagram.closed_up(), ..combined },
+    })
+}

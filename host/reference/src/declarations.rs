@@ -1,0 +1,147 @@
+//! The names that a model has declared so far, and the words of a diagram looked up in them: 2, 3, 6, 4 word by word
+//! (document 01, "Text" and "Refusals by trade word").
+
+use crate::diagram::{Diagram, LARGEST};
+use crate::refusal::{require, Refusal};
+use crate::regress::Truths;
+use crate::terms::{Arities, Term, EQUALITY, FIRST_PARAMETER, FIRST_VARIABLE, PREDICATES};
+use crate::text::{WrittenAtom, WrittenDiagram, WrittenTerm};
+use crate::tree::Tree;
+
+#[derive(Clone, Debug)]
+pub struct DeclaredVariant {
+    pub name: String,
+    pub weight: Diagram,
+    pub truths: Truths,
+}
+
+#[derive(Clone, Debug)]
+pub struct DeclaredAction {
+    pub name: String,
+    pub parameters: Vec<String>,
+    pub variants: Vec<DeclaredVariant>,
+}
+
+#[derive(Clone, Debug, Default)]
+pub struct Declarations {
+    pub constants: Vec<String>,
+    /// Name and arity; the first is predicate 1.
+    pub predicates: Vec<(String, u64)>,
+    pub total: Option<u64>,
+    pub discount: Option<(u64, u64)>,
+    pub reward: Option<Diagram>,
+    pub actions: Vec<DeclaredAction>,
+}
+
+/// The variables that a diagram may name.
+pub enum Variables {
+    Any,
+    None,
+    Only(Vec<String>),
+}
+
+impl Declarations {
+    pub fn constant(&self, name: &str) -> Option<Term> {
+        self.constants.iter().position(|n| n == name).map(|i| i as Term)
+    }
+
+    /// A predicate's number and arity.
+    pub fn predicate(&self, name: &str) -> Option<(u64, u64)> {
+        let at = self.predicates.iter().position(|(n, _)| n == name)?;
+        Some((at as u64 + 1, self.predicates[at].1))
+    }
+
+    /// Constants and predicates share one set of names.
+    pub fn is_new(&self, name: &str) -> bool {
+        self.constant(name).is_none() && self.predicate(name).is_none()
+    }
+
+    pub fn arities(&self) -> Arities {
+        let mut arities = [0; PREDICATES];
+        arities[EQUALITY as usize] = 2;
+        for (i, (_, arity)) in self.predicates.iter().enumerate() {
+            arities[i + 1] = *arity;
+        }
+        arities
+    }
+
+    /// The rows of all model listings together.
+    pub fn rows(&self) -> usize {
+        let variants = self.actions.iter().flat_map(|action| &action.variants);
+        let listings = variants.flat_map(|variant| std::iter::once(&variant.weight).chain(variant.truths.values()));
+        self.reward.iter().chain(listings).map(|diagram| diagram.rows().len()).sum()
+    }
+}
+
+/// Looks up the words of one line's diagram. Variables are numbered from 32 by first occurrence on the line.
+pub struct Lookup<'a> {
+    declarations: &'a Declarations,
+    parameters: &'a [String],
+    variables: Variables,
+    occurred: Vec<String>,
+}
+
+impl<'a> Lookup<'a> {
+    pub fn new(declarations: &'a Declarations, parameters: &'a [String], variables: Variables) -> Lookup<'a> {
+        let occurred = match &variables {
+            Variables::Only(names) => names.clone(),
+            _ => Vec::new(),
+        };
+        Lookup { declarations, parameters, variables, occurred }
+    }
+
+    /// How many variables the line names.
+    pub fn variables_named(&self) -> usize {
+        self.occurred.len()
+    }
+
+    pub fn diagram(&mut self, written: &WrittenDiagram) -> Result<Tree, Refusal> {
+        match written {
+            WrittenDiagram::Number(value) => {
+                require(*value <= LARGEST, Refusal::Range)?;
+                Ok(Tree::Number(*value))
+            }
+            WrittenDiagram::If(atom, yes, no) => {
+                let (predicate, terms) = self.atom(atom)?;
+                let yes = Box::new(self.diagram(yes)?);
+                let no = Box::new(self.diagram(no)?);
+                Ok(Tree::If { predicate, terms, yes, no })
+            }
+        }
+    }
+
+    fn atom(&mut self, atom: &WrittenAtom) -> Result<(u64, Vec<Term>), Refusal> {
+        match atom {
+            WrittenAtom::Equality(a, b) => Ok((EQUALITY, vec![self.term(a)?, self.term(b)?])),
+            WrittenAtom::Predicate(name, terms) => {
+                let (predicate, arity) = self.declarations.predicate(name).ok_or(Refusal::Name)?;
+                require(terms.len() as u64 == arity, Refusal::Arity)?;
+                let terms = terms.iter().map(|t| self.term(t)).collect::<Result<Vec<Term>, Refusal>>()?;
+                Ok((predicate, terms))
+            }
+        }
+    }
+
+    fn term(&mut self, term: &WrittenTerm) -> Result<Term, Refusal> {
+        match term {
+            WrittenTerm::Constant(name) => self.declarations.constant(name).ok_or(Refusal::Name),
+            WrittenTerm::Parameter(name) => {
+                let place = self.parameters.iter().position(|p| p == name).ok_or(Refusal::Unbound)?;
+                Ok(FIRST_PARAMETER + place as Term)
+            }
+            WrittenTerm::Variable(name) => {
+                let allowed = match &self.variables {
+                    Variables::Any => true,
+                    Variables::None => false,
+                    Variables::Only(names) => names.contains(name),
+                };
+                require(allowed, Refusal::Unbound)?;
+                let place = self.occurred.iter().position(|n| n == name).unwrap_or_else(|| {
+                    self.occurred.push(name.clone());
+                    self.occurred.len() - 1
+                });
+                Ok(FIRST_VARIABLE + place as Term)
+            }
+        }
+    }
+}

@@ -1,0 +1,18 @@
+//! An independent implementation of document 01 for tests: plain and slow, one module for each of its sections.
+
+pub mod bellman;
+pub mod calls;
+pub mod combine;
+pub mod cut;
+pub mod declarations;
+pub mod diagram;
+pub mod listing;
+pub mod mdp;
+pub mod refusal;
+pub mod regress;
+pub mod session;
+pub mod slips;
+pub mod state;
+pub mod terms;
+pub mod text;
+pub mod tree;

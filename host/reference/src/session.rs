@@ -1,0 +1,325 @@
+//! A text from its first line to its last: the checks of each line in document 01's order, and the answers as bytes.
+
+use crate::combine::{combine, Names, Operator};
+use crate::cut::cut;
+use crate::declarations::{Declarations, DeclaredAction, DeclaredVariant, Lookup, Variables};
+use crate::diagram::{Diagram, Row};
+use crate::mdp::{backup, power, Action, Model, Variant};
+use crate::refusal::{require, Refusal};
+use crate::slips::Slips;
+use crate::state::{value, State};
+use crate::terms::{Arities, CONSTANTS, LARGEST_ARITY, PARAMETERS, PREDICATES, VARIABLES};
+use crate::text::{lines, read_line, Line, WrittenDiagram};
+use std::collections::BTreeSet;
+
+pub const TOTAL: u64 = 1_000_000;
+pub const DIVISOR: u64 = 1_000_000;
+pub const ACTIONS: usize = 8;
+pub const VARIANTS: usize = 8;
+pub const MODEL_ROWS: usize = 2_048;
+pub const OBJECTS: u64 = 64;
+pub const FACTS: usize = 1_024;
+
+#[derive(Clone, Debug, PartialEq, Eq)]
+pub enum Answer {
+    Value { value: u64, k: u64, scale: u64 },
+    Backup { k: u64, rows: usize },
+    Row { number: usize, row: Row },
+    Cut { row: usize, edge: bool, rows: usize },
+    Refused { refusal: Refusal, line: usize },
+}
+
+impl Answer {
+    /// The answer's line, its line feed included.
+    pub fn print(&self) -> String {
+        match self {
+            Answer::Value { value, k, scale } => format!("(value {value} {k} {scale})\n"),
+            Answer::Backup { k, rows } => format!("(backup {k} {rows})\n"),
+            Answer::Row { number, row: Row::Leaf(value) } => format!("(row {number} leaf {value})\n"),
+            Answer::Row { number, row: Row::Branch { label, yes, no } } => format!("(row {number} {} {yes} {no})\n", label.0),
+            Answer::Cut { row, edge, rows } => format!("(cut {row} {edge} {rows})\n"),
+            Answer::Refused { refusal, line } => format!("(refused {} {line})\n", refusal.number()),
+        }
+    }
+}
+
+/// The state in hand.
+#[derive(Clone, Debug)]
+struct Placed {
+    objects: u64,
+    constants: Vec<Option<u64>>,
+    facts: BTreeSet<(u64, Vec<u64>)>,
+}
+
+impl Placed {
+    /// The state, once every declared constant is placed.
+    fn state(&self) -> Option<State> {
+        let constants = self.constants.iter().copied().collect::<Option<Vec<u64>>>()?;
+        Some(State { objects: self.objects, constants, facts: self.facts.clone() })
+    }
+}
+
+/// What stands after an accepted (start).
+#[derive(Clone, Debug)]
+pub struct Run {
+    pub model: Model,
+    pub arities: Arities,
+    pub value: Diagram,
+    pub k: u64,
+    placed: Option<Placed>,
+}
+
+#[derive(Clone, Debug, Default)]
+pub struct Session {
+    declarations: Declarations,
+    run: Option<Run>,
+    slips: Slips,
+}
+
+/// A line taken; what it prints.
+type Taken = Result<Vec<Answer>, Refusal>;
+const NOTHING_PRINTED: Vec<Answer> = Vec::new();
+
+impl Session {
+    pub fn new(slips: Slips) -> Session {
+        Session { slips, ..Session::default() }
+    }
+
+    pub fn declarations(&self) -> &Declarations {
+        &self.declarations
+    }
+
+    pub fn started(&self) -> Option<&Run> {
+        self.run.as_ref()
+    }
+
+    /// Takes one line without its line feed. A refused line changes nothing.
+    pub fn take(&mut self, line: &[u8]) -> Taken {
+        let line = read_line(line)?;
+        match line {
+            Line::Objects(_) | Line::Is(..) | Line::True(..) | Line::Value | Line::Backup | Line::Cut | Line::Show => {
+                let run = self.run.as_mut().ok_or(Refusal::Place)?;
+                run.take(&line, &self.declarations, self.slips)
+            }
+            _ => {
+                require(self.run.is_none(), Refusal::Place)?;
+                self.declare(&line)
+            }
+        }
+    }
+
+    fn declare(&mut self, line: &Line) -> Taken {
+        match line {
+            Line::Constant(name) => self.constant(name),
+            Line::Predicate(name, arity) => self.predicate(name, *arity),
+            Line::Total(total) => self.total(*total),
+            Line::Discount(gain, divisor) => self.discount(*gain, *divisor),
+            Line::Reward(diagram) => self.reward(diagram),
+            Line::Action(name, parameters) => self.action(name, parameters),
+            Line::Variant(name, weight) => self.variant(name, weight),
+            Line::Becomes(name, arguments, diagram) => self.becomes(name, arguments, diagram),
+            _ => self.start(),
+        }
+    }
+
+    fn constant(&mut self, name: &str) -> Taken {
+        require(self.declarations.is_new(name), Refusal::Name)?;
+        require((self.declarations.constants.len() as u64) < CONSTANTS, Refusal::Space)?;
+        self.declarations.constants.push(name.to_string());
+        Ok(NOTHING_PRINTED)
+    }
+
+    fn predicate(&mut self, name: &str, arity: u64) -> Taken {
+        require(self.declarations.is_new(name), Refusal::Name)?;
+        require(arity <= LARGEST_ARITY, Refusal::Range)?;
+        require(self.declarations.predicates.len() < PREDICATES - 1, Refusal::Space)?;
+        self.declarations.predicates.push((name.to_string(), arity));
+        Ok(NOTHING_PRINTED)
+    }
+
+    fn total(&mut self, total: u64) -> Taken {
+        require(self.declarations.total.is_none(), Refusal::Place)?;
+        require((1..=TOTAL).contains(&total), Refusal::Range)?;
+        self.declarations.total = Some(total);
+        Ok(NOTHING_PRINTED)
+    }
+
+    fn discount(&mut self, gain: u64, divisor: u64) -> Taken {
+        require(self.declarations.discount.is_none(), Refusal::Place)?;
+        require((1..=DIVISOR).contains(&divisor) && gain <= divisor, Refusal::Range)?;
+        self.declarations.discount = Some((gain, divisor));
+        Ok(NOTHING_PRINTED)
+    }
+
+    fn reward(&mut self, written: &WrittenDiagram) -> Taken {
+        require(self.declarations.reward.is_none(), Refusal::Place)?;
+        let mut lookup = Lookup::new(&self.declarations, &[], Variables::Any);
+        let tree = lookup.diagram(written)?;
+        require(lookup.variables_named() as u64 <= VARIABLES, Refusal::Variables)?;
+        let reward = tree.read()?.closed_up();
+        self.has_room_for(&reward)?;
+        self.declarations.reward = Some(reward);
+        Ok(NOTHING_PRINTED)
+    }
+
+    fn action(&mut self, name: &str, parameters: &[String]) -> Taken {
+        require(self.declarations.actions.iter().all(|action| action.name != name), Refusal::Name)?;
+        require(distinct(parameters), Refusal::Name)?;
+        require(parameters.len() as u64 <= PARAMETERS, Refusal::Space)?;
+        require(self.declarations.actions.len() < ACTIONS, Refusal::Space)?;
+        let (name, parameters) = (name.to_string(), parameters.to_vec());
+        self.declarations.actions.push(DeclaredAction { name, parameters, variants: Vec::new() });
+        Ok(NOTHING_PRINTED)
+    }
+
+    fn variant(&mut self, name: &str, written: &WrittenDiagram) -> Taken {
+        let action = self.declarations.actions.last().ok_or(Refusal::Place)?;
+        require(action.variants.iter().all(|variant| variant.name != name), Refusal::Name)?;
+        let weight = Lookup::new(&self.declarations, &action.parameters, Variables::None).diagram(written)?.read()?;
+        require(action.variants.len() < VARIANTS, Refusal::Space)?;
+        self.has_room_for(&weight)?;
+        let variant = DeclaredVariant { name: name.to_string(), weight, truths: Default::default() };
+        self.declarations.actions.last_mut().expect("seen above").variants.push(variant);
+        Ok(NOTHING_PRINTED)
+    }
+
+    fn becomes(&mut self, name: &str, arguments: &[String], written: &WrittenDiagram) -> Taken {
+        let action = self.declarations.actions.last().ok_or(Refusal::Place)?;
+        let variant = action.variants.last().ok_or(Refusal::Place)?;
+        let (predicate, arity) = self.declarations.predicate(name).ok_or(Refusal::Name)?;
+        require(!variant.truths.contains_key(&predicate), Refusal::Name)?;
+        require(arguments.len() as u64 == arity, Refusal::Arity)?;
+        require(distinct(arguments), Refusal::Name)?;
+        let variables = Variables::Only(arguments.to_vec());
+        let truth = Lookup::new(&self.declarations, &action.parameters, variables).diagram(written)?.read()?;
+        require(truth.leaves().all(|leaf| leaf <= 1), Refusal::Truth)?;
+        self.has_room_for(&truth)?;
+        let variant = self.declarations.actions.last_mut().and_then(|action| action.variants.last_mut());
+        variant.expect("seen above").truths.insert(predicate, truth);
+        Ok(NOTHING_PRINTED)
+    }
+
+    fn has_room_for(&self, diagram: &Diagram) -> Result<(), Refusal> {
+        require(self.declarations.rows() + diagram.rows().len() <= MODEL_ROWS, Refusal::Space)
+    }
+
+    fn start(&mut self) -> Taken {
+        let declared = &self.declarations;
+        let reward = declared.reward.clone().ok_or(Refusal::Place)?;
+        require(!declared.actions.is_empty(), Refusal::Place)?;
+        require(declared.actions.iter().all(|action| !action.variants.is_empty()), Refusal::Place)?;
+        let total = declared.total.unwrap_or(100);
+        for action in &declared.actions {
+            let mut sum = Diagram::leaf(0);
+            for variant in &action.variants {
+                sum = combine(Operator::Sum, Names::Shared, &sum, &variant.weight)?.diagram;
+            }
+            require(sum == Diagram::leaf(total), Refusal::Weights)?;
+        }
+        let model = Model {
+            total,
+            discount: declared.discount.unwrap_or((1, 1)),
+            reward: reward.clone(),
+            actions: declared.actions.iter().map(action_of).collect(),
+        };
+        self.run = Some(Run { model, arities: declared.arities(), value: reward, k: 0, placed: None });
+        Ok(NOTHING_PRINTED)
+    }
+}
+
+fn action_of(action: &DeclaredAction) -> Action {
+    let variant = |v: &DeclaredVariant| Variant { weight: v.weight.clone(), truths: v.truths.clone() };
+    Action { parameters: action.parameters.len() as u64, variants: action.variants.iter().map(variant).collect() }
+}
+
+fn distinct(names: &[String]) -> bool {
+    names.iter().collect::<BTreeSet<_>>().len() == names.len()
+}
+
+impl Run {
+    fn take(&mut self, line: &Line, declarations: &Declarations, slips: Slips) -> Taken {
+        match line {
+            Line::Objects(objects) => self.objects(*objects, declarations),
+            Line::Is(name, object) => self.is(name, *object, declarations),
+            Line::True(name, objects) => self.fact(name, objects, declarations),
+            Line::Value => self.value(),
+            Line::Backup => self.backup(slips),
+            Line::Cut => self.cut(slips),
+            _ => Ok(self.show()),
+        }
+    }
+
+    fn objects(&mut self, objects: u64, declarations: &Declarations) -> Taken {
+        require((1..=OBJECTS).contains(&objects), Refusal::Range)?;
+        let constants = vec![None; declarations.constants.len()];
+        self.placed = Some(Placed { objects, constants, facts: BTreeSet::new() });
+        Ok(NOTHING_PRINTED)
+    }
+
+    fn is(&mut self, name: &str, object: u64, declarations: &Declarations) -> Taken {
+        let placed = self.placed.as_mut().ok_or(Refusal::Place)?;
+        let constant = declarations.constant(name).ok_or(Refusal::Name)? as usize;
+        require(placed.constants[constant].is_none(), Refusal::Name)?;
+        require(object < placed.objects, Refusal::Range)?;
+        placed.constants[constant] = Some(object);
+        Ok(NOTHING_PRINTED)
+    }
+
+    fn fact(&mut self, name: &str, objects: &[u64], declarations: &Declarations) -> Taken {
+        let placed = self.placed.as_mut().ok_or(Refusal::Place)?;
+        let (predicate, arity) = declarations.predicate(name).ok_or(Refusal::Name)?;
+        require(objects.len() as u64 == arity, Refusal::Arity)?;
+        require(objects.iter().all(|object| *object < placed.objects), Refusal::Range)?;
+        let fact = (predicate, objects.to_vec());
+        require(placed.facts.len() < FACTS || placed.facts.contains(&fact), Refusal::Space)?;
+        placed.facts.insert(fact);
+        Ok(NOTHING_PRINTED)
+    }
+
+    fn value(&self) -> Taken {
+        let placed = self.placed.as_ref().ok_or(Refusal::Place)?;
+        let state = placed.state().ok_or(Refusal::Place)?;
+        let value = value(&self.value, &self.arities, &state)?;
+        let scale = power(self.model.scale(), self.k).expect("a backup has checked it");
+        Ok(vec![Answer::Value { value, k: self.k, scale }])
+    }
+
+    fn backup(&mut self, slips: Slips) -> Taken {
+        self.value = backup(&self.model, &self.value, self.k, slips)?;
+        self.k += 1;
+        Ok(vec![Answer::Backup { k: self.k, rows: self.value.rows().len() }])
+    }
+
+    fn cut(&mut self, slips: Slips) -> Taken {
+        let cut = cut(&self.value, &self.arities, slips)?;
+        self.value = cut.diagram;
+        let (row, edge) = cut.edge;
+        Ok(vec![Answer::Cut { row, edge, rows: self.value.rows().len() }])
+    }
+
+    fn show(&self) -> Vec<Answer> {
+        self.value.rows().iter().enumerate().map(|(number, row)| Answer::Row { number, row: *row }).collect()
+    }
+}
+
+/// All answers of a text. A last line without its line feed is not the grammar.
+pub fn answers(text: &[u8], slips: Slips) -> Vec<Answer> {
+    let mut session = Session::new(slips);
+    let mut answers = Vec::new();
+    for (number, (line, ended)) in lines(text).into_iter().enumerate() {
+        let taken = if ended { session.take(line) } else { Err(Refusal::Form) };
+        match taken {
+            Ok(printed) => answers.extend(printed),
+            Err(refusal) => answers.push(Answer::Refused { refusal, line: number + 1 }),
+        }
+    }
+    if session.started().is_none() {
+        answers.push(Answer::Refused { refusal: Refusal::Place, line: 0 });
+    }
+    answers
+}
+
+/// The program: a text in, its answers out.
+pub fn run(text: &[u8]) -> Vec<u8> {
+    answers(text, Slips::NONE).iter().flat_map(|answer| answer.print().into_bytes()).collect()
+}

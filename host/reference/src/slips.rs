@@ -1,0 +1,15 @@
+//! Document 01, "Slips to keep out": deliberately wrong versions, all off unless a test turns one on.
+
+#[derive(Clone, Copy, Debug, Default, PartialEq, Eq)]
+pub struct Slips {
+    /// Sums over variants and with the reward under shared names.
+    pub sums_shared: bool,
+    /// Arguments of a truth diagram replaced one after another.
+    pub arguments_in_turn: bool,
+    /// A cut whose better path may use the cut edge.
+    pub cover_through_edge: bool,
+}
+
+impl Slips {
+    pub const NONE: Slips = Slips { sums_shared: false, arguments_in_turn: false, cover_through_edge: false };
+}

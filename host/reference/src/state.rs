@@ -1,0 +1,73 @@
+//! Document 01, "States and value".
+
+use crate::diagram::Diagram;
+use crate::refusal::{require, Refusal};
+use crate::terms::{is_constant, Arities, Label, Term, EQUALITY};
+use std::collections::{BTreeMap, BTreeSet};
+
+pub const VALUATIONS: u64 = 1_000_000;
+
+#[derive(Clone, Debug, PartialEq, Eq, PartialOrd, Ord)]
+pub struct State {
+    /// At least 1.
+    pub objects: u64,
+    /// The object of each constant; one that is not there has object 0.
+    pub constants: Vec<u64>,
+    /// Predicate and objects, as many as its arity.
+    pub facts: BTreeSet<(u64, Vec<u64>)>,
+}
+
+/// Objects for variables and parameters.
+pub type Valuation = BTreeMap<Term, u64>;
+
+impl State {
+    pub fn object(&self, term: Term, valuation: &Valuation) -> u64 {
+        if is_constant(term) {
+            self.constants.get(term as usize).copied().unwrap_or(0)
+        } else {
+            valuation[&term]
+        }
+    }
+
+    pub fn holds(&self, predicate: u64, terms: &[Term], valuation: &Valuation) -> bool {
+        let objects: Vec<u64> = terms.iter().map(|t| self.object(*t, valuation)).collect();
+        if predicate == EQUALITY {
+            objects[0] == objects[1]
+        } else {
+            self.facts.contains(&(predicate, objects))
+        }
+    }
+}
+
+/// The highest result over all choices of an object for each of the variables.
+pub fn highest<T: Ord>(objects: u64, variables: &[Term], valuation: &mut Valuation, result: &mut impl FnMut(&Valuation) -> T) -> T {
+    let Some((first, rest)) = variables.split_first() else {
+        return result(valuation);
+    };
+    let mut best = None;
+    for object in 0..objects {
+        valuation.insert(*first, object);
+        best = best.max(Some(highest(objects, rest, valuation, result)));
+    }
+    valuation.remove(first);
+    best.expect("a state has an object")
+}
+
+/// The leaf that one valuation leads to.
+pub fn leaf_in(diagram: &Diagram, arities: &Arities, state: &State, valuation: &Valuation) -> u64 {
+    diagram.leaf_under(&|label: Label| {
+        let arity = arities[label.predicate() as usize] as usize;
+        state.holds(label.predicate(), &label.places()[..arity], valuation)
+    })
+}
+
+/// The highest leaf over all valuations, or 15.
+pub fn value(diagram: &Diagram, arities: &Arities, state: &State) -> Result<u64, Refusal> {
+    let variables: Vec<Term> = diagram.variables().into_iter().collect();
+    let mut count: u64 = 1;
+    for _ in &variables {
+        count = count.saturating_mul(state.objects);
+        require(count <= VALUATIONS, Refusal::Valuations)?;
+    }
+    Ok(highest(state.objects, &variables, &mut Valuation::new(), &mut |valuation| leaf_in(diagram, arities, state, valuation)))
+}

@@ -1,0 +1,181 @@
+//! Library calls: each refusal and the order of the checks.
+
+use reference::calls::{combine, cut, free, regress, value, Lent, RESULT_WORDS, SPACE_WORDS};
+use reference::combine::{Names, Operator};
+use reference::diagram::{Diagram, LARGEST};
+use reference::listing::{write_listing, LEAF_MARK};
+use reference::refusal::Refusal;
+use reference::terms::{Label, Test, EQUALITY};
+
+/// Predicate 1 has arity 2, predicate 2 arity 1, all others 0.
+fn arities() -> Vec<u64> {
+    let mut arities = vec![0; 32];
+    arities[..3].copy_from_slice(&[2, 2, 1]);
+    arities
+}
+
+fn test_of(predicate: u64, terms: &[u64]) -> Vec<u64> {
+    write_listing(&Diagram::test(Test::Is(Label::pack(predicate, terms))))
+}
+
+fn leaf(value: u64) -> Vec<u64> {
+    write_listing(&Diagram::leaf(value))
+}
+
+fn sum(a: &[u64], b: &[u64]) -> Result<(Vec<u64>, usize), Refusal> {
+    combine(Operator::Sum, Names::Shared, a, b, &arities(), Lent::ENOUGH)
+}
+
+fn is_listing(words: &[u64]) -> bool {
+    sum(words, &leaf(0)).is_ok()
+}
+
+#[test]
+fn listings() {
+    let row = |label: u64, yes: u64, no: u64| [label, yes, no];
+    let leaf = |value: u64| [LEAF_MARK, value, 0];
+    let p = |a: u64, b: u64| Label::pack(1, &[a, b]).0;
+    let q = |a: u64| Label::pack(2, &[a]).0;
+    let same = |a: u64, b: u64| Label::pack(EQUALITY, &[a, b]).0;
+    let case = |rows: &[[u64; 3]]| is_listing(&rows.concat());
+    assert!(case(&[leaf(LARGEST)]));
+    assert!(!case(&[leaf(LARGEST + 1)]));
+    assert!(!case(&[[LEAF_MARK, 0, 1]]));
+    assert!(!case(&[]));
+    assert!(!is_listing(&[LEAF_MARK, 0]));
+    assert!(case(&[leaf(1), leaf(0), row(p(32, 63), 0, 1)]));
+    assert!(!case(&[leaf(1), leaf(0), row(p(32, 31), 0, 1)]), "31 is no term");
+    assert!(!case(&[leaf(1), leaf(0), row(p(20, 32), 0, 1)]), "20 is no term");
+    assert!(case(&[leaf(1), leaf(0), row(p(19, 15), 0, 1)]));
+    assert!(!case(&[leaf(1), leaf(0), row(q(1) + 1, 0, 1)]), "an unused place");
+    assert!(!case(&[leaf(1), leaf(0), row(32 << 24, 0, 1)]), "no such predicate");
+    assert!(case(&[leaf(1), leaf(0), row(31 << 24, 0, 1)]));
+    assert!(case(&[leaf(1), leaf(0), row(same(0, 1), 0, 1)]));
+    assert!(!case(&[leaf(1), leaf(0), row(same(1, 0), 0, 1)]), "equality's larger term first");
+    assert!(!case(&[leaf(1), leaf(0), row(same(1, 1), 0, 1)]), "t = t");
+    assert!(!case(&[leaf(1), row(q(1), 0, 0)]), "equal children");
+    assert!(!case(&[leaf(0), leaf(1), row(q(1), 1, 0)]), "false branch numbered first");
+    assert!(!case(&[leaf(1), leaf(1), row(q(1), 0, 1)]), "equal rows");
+    assert!(!case(&[leaf(1), leaf(0), leaf(2), row(q(1), 0, 1)]), "an unreachable row");
+    assert!(!case(&[leaf(1), leaf(0), row(q(1), 0, 2)]), "a row below itself");
+    assert!(!case(&[leaf(1), leaf(0), row(q(2), 0, 1), row(q(2), 2, 1)]), "a child's label not greater");
+    assert!(case(&[leaf(1), leaf(0), row(q(2), 0, 1), row(q(1), 2, 1)]));
+}
+
+#[test]
+fn rows_of_a_listing() {
+    // A chain of distinct leaves under ascending labels of arity 2: row count 2 · length + 1.
+    let chain = |length: u64| {
+        let mut words: Vec<u64> = (0..length).flat_map(|i| [LEAF_MARK, i + 1, 0]).collect();
+        words.extend([LEAF_MARK, 0, 0]);
+        for i in 0..length {
+            let number = length - 1 - i;
+            let below = if i == 0 { length } else { length + i };
+            words.extend([Label::pack(1, &[32 + number / 32, 32 + number % 32]).0, number, below]);
+        }
+        words
+    };
+    // 511 branches and 512 leaves are 1,023 rows; a root above them makes 1,024.
+    assert!(is_listing(&chain(511)));
+    let root = [Label::pack(EQUALITY, &[0, 1]).0, 1_022, 511];
+    assert!(is_listing(&[&chain(511)[..], &root].concat()));
+    assert!(!is_listing(&chain(512)), "1,025 rows");
+}
+
+#[test]
+fn arity_lists() {
+    let with = |arities: &[u64]| combine(Operator::Sum, Names::Shared, &leaf(0), &leaf(0), arities, Lent::ENOUGH);
+    let mut wrong = arities();
+    wrong[0] = 1;
+    assert_eq!(with(&wrong), Err(Refusal::Listing));
+    wrong = arities();
+    wrong[31] = 5;
+    assert_eq!(with(&wrong), Err(Refusal::Listing));
+    assert_eq!(with(&arities()[..31]), Err(Refusal::Listing));
+    assert_eq!(with(&[&arities()[..], &[0]].concat()), Err(Refusal::Listing));
+}
+
+#[test]
+fn listings_come_before_buffers() {
+    let small = Lent { result: RESULT_WORDS - 1, space: SPACE_WORDS };
+    let call = |b: &[u64], lent| combine(Operator::Sum, Names::Apart, &leaf(LARGEST), b, &arities(), lent).map(|_| ());
+    assert_eq!(call(&[], small), Err(Refusal::Listing));
+    assert_eq!(call(&leaf(1), small), Err(Refusal::Buffer));
+    assert_eq!(call(&leaf(1), Lent { space: SPACE_WORDS - 1, ..Lent::ENOUGH }), Err(Refusal::Buffer));
+    assert_eq!(call(&leaf(1), Lent::ENOUGH), Err(Refusal::Value));
+    assert_eq!(call(&leaf(0), Lent::ENOUGH), Ok(()));
+}
+
+#[test]
+fn pair_count() {
+    assert_eq!(sum(&leaf(1), &leaf(2)).map(|r| r.1), Ok(1));
+    assert_eq!(sum(&test_of(2, &[0]), &test_of(2, &[0])).map(|r| r.1), Ok(3));
+    assert_eq!(sum(&test_of(2, &[0]), &test_of(2, &[1])).map(|r| r.1), Ok(7));
+}
+
+#[test]
+fn truth_diagrams() {
+    let call = |truth: &[u64], lent| {
+        let mut truths: [Option<&[u64]>; 32] = [None; 32];
+        truths[2] = Some(truth);
+        regress(&test_of(2, &[40]), &truths, &arities(), lent)
+    };
+    assert_eq!(call(&test_of(2, &[32]), Lent::ENOUGH), Ok(test_of(2, &[40])));
+    assert_eq!(call(&test_of(1, &[32, 19]), Lent::ENOUGH), Ok(test_of(1, &[40, 19])));
+    assert_eq!(call(&test_of(1, &[32, 33]), Lent::ENOUGH), Err(Refusal::Unbound));
+    assert_eq!(call(&leaf(2), Lent::ENOUGH), Err(Refusal::Truth));
+    assert_eq!(call(&leaf(2), Lent { result: 0, space: 0 }), Err(Refusal::Buffer));
+    assert_eq!(call(&[], Lent { result: 0, space: 0 }), Err(Refusal::Listing));
+    let both = [LEAF_MARK, 2, 0, LEAF_MARK, 0, 0, Label::pack(2, &[33]).0, 0, 1];
+    assert_eq!(call(&both, Lent::ENOUGH), Err(Refusal::Truth), "7 comes before 6");
+}
+
+#[test]
+fn equality_of_arguments_becomes_truth() {
+    let mut truths: [Option<&[u64]>; 32] = [None; 32];
+    let truth = test_of(EQUALITY, &[32, 33]);
+    truths[1] = Some(&truth);
+    assert_eq!(regress(&test_of(1, &[40, 40]), &truths, &arities(), Lent::ENOUGH), Ok(leaf(1)));
+    assert_eq!(regress(&test_of(1, &[41, 40]), &truths, &arities(), Lent::ENOUGH), Ok(test_of(EQUALITY, &[40, 41])));
+}
+
+#[test]
+fn freeing() {
+    let call = |words: &[u64], count| free(words, count, &arities(), Lent::ENOUGH);
+    assert_eq!(call(&test_of(1, &[16, 32]), 1), Ok(test_of(1, &[32, 33])));
+    assert_eq!(call(&test_of(1, &[16, 32]), 4), Ok(test_of(1, &[32, 36])));
+    assert_eq!(call(&test_of(1, &[17, 63]), 5), Err(Refusal::Range));
+    assert_eq!(call(&test_of(1, &[17, 63]), 1), Err(Refusal::Unbound));
+    assert_eq!(call(&test_of(1, &[17, 63]), 2), Err(Refusal::Variables));
+    assert_eq!(call(&test_of(1, &[17, 61]), 2), Ok(test_of(1, &[33, 63])));
+}
+
+#[test]
+fn valuing() {
+    let call = |words: &[u64], n, constants: &[u64], facts: &[u64]| value(words, &arities(), n, constants, facts);
+    assert_eq!(call(&leaf(7), 1, &[], &[]), Ok(7));
+    assert_eq!(call(&leaf(7), 0, &[], &[]), Err(Refusal::Range));
+    assert_eq!(call(&leaf(7), 2, &[2], &[]), Err(Refusal::Range));
+    assert_eq!(call(&leaf(7), 2, &[1], &[1, 0, 2, 0, 0]), Err(Refusal::Range));
+    assert_eq!(call(&leaf(7), 2, &[1], &[2, 1, 9, 9, 9]), Ok(7), "unused places are ignored");
+    assert_eq!(call(&test_of(2, &[16]), 0, &[], &[]), Err(Refusal::Range), "4 comes before 6");
+    assert_eq!(call(&test_of(2, &[16]), 1, &[], &[]), Err(Refusal::Unbound));
+    assert_eq!(call(&test_of(2, &[0]), 2, &[1], &[2, 1, 0, 0, 0]), Ok(1));
+    assert_eq!(call(&test_of(2, &[0]), 2, &[0], &[2, 1, 0, 0, 0]), Ok(0));
+    assert_eq!(call(&test_of(1, &[32, 33]), 1_000, &[], &[1, 5, 999, 0, 0]), Ok(1));
+    assert_eq!(call(&test_of(1, &[32, 33]), 1_001, &[], &[]), Err(Refusal::Valuations));
+    assert_eq!(call(&test_of(1, &[16, 33]), 1_001, &[], &[]), Err(Refusal::Unbound), "6 comes before 15");
+}
+
+#[test]
+fn cutting() {
+    let call = |words: &[u64]| cut(words, &arities(), Lent::ENOUGH);
+    assert_eq!(call(&leaf(1)), Err(Refusal::Nothing));
+    assert_eq!(call(&test_of(2, &[32])), Err(Refusal::Nothing));
+    // q(?a) or else q(?b): the false edge of q(?a) may go, since the path by q(?a) covers the one by q(?b).
+    let label = |v: u64| Label::pack(2, &[v]).0;
+    let either = [LEAF_MARK, 1, 0, LEAF_MARK, 0, 0, label(33), 0, 1, label(32), 0, 2];
+    let (left, edge) = call(&either).unwrap();
+    assert_eq!(edge, (3, false));
+    assert_eq!(left, test_of(2, &[32]));
+}

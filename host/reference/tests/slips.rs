@@ -1,0 +1,35 @@
+//! Each slip of document 01 changes the stored answers of one text.
+
+use reference::session::{answers, run};
+use reference::slips::Slips;
+
+fn stored(name: &str) -> (Vec<u8>, String) {
+    let read = |extension| std::fs::read(format!("{}/../corpus/{name}.{extension}", env!("CARGO_MANIFEST_DIR"))).expect(name);
+    (read("txt"), String::from_utf8(read("out")).expect("plain text"))
+}
+
+fn caught(name: &str, slips: Slips) -> bool {
+    let (text, right) = stored(name);
+    assert_eq!(String::from_utf8(run(&text)).expect("plain text"), right);
+    let wrong: String = answers(&text, slips).iter().map(|answer| answer.print()).collect();
+    wrong != right
+}
+
+#[test]
+fn sums_under_shared_names() {
+    let slips = Slips { sums_shared: true, ..Slips::NONE };
+    assert!(caught("meaning-two-vans", slips));
+    assert!(caught("meaning-reward-apart", slips));
+}
+
+#[test]
+fn arguments_in_turn() {
+    let slips = Slips { arguments_in_turn: true, ..Slips::NONE };
+    assert!(caught("meaning-arguments-together", slips));
+    assert!(caught("meaning-arguments-exchanged", slips));
+}
+
+#[test]
+fn a_better_path_through_the_cut_edge() {
+    assert!(caught("meaning-cut-edge-not-used", Slips { cover_through_edge: true, ..Slips::NONE }));
+}

@@ -1,0 +1,145 @@
+//! Random texts about one limit each: at it, just below and just past it.
+
+use crate::random::Random;
+
+/// The lines of a text about one limit.
+pub fn lines(random: &mut Random) -> Vec<String> {
+    match random.below(10) {
+        0 => declarations(random),
+        1 => variables(random),
+        2 => brackets(random),
+        3 => line_length(random),
+        4 => facts(random),
+        5 => scale(random),
+        6 => largest_value(random),
+        7 => valuations(random),
+        8 => pairs(random),
+        _ => variants_apart(random),
+    }
+}
+
+/// A number from one below the limit to one past it.
+fn about(random: &mut Random, limit: u64) -> u64 {
+    random.between(limit - 1, limit + 1)
+}
+
+fn numbered(count: u64, line: impl Fn(u64) -> String) -> impl Iterator<Item = String> {
+    (0..count).map(line)
+}
+
+/// A conjunction of `count` tests of p, each of a variable of its own.
+fn conjunction(count: u64) -> String {
+    (0..count).rev().fold("1".to_string(), |inner, v| format!("(if (p ?x{v}) {inner} 0)"))
+}
+
+fn model(before: Vec<String>, reward: String) -> Vec<String> {
+    let after = ["(action go)", "(variant only 100)", "(start)"].map(str::to_string);
+    before.into_iter().chain([format!("(reward {reward})")]).chain(after).collect()
+}
+
+fn declarations(random: &mut Random) -> Vec<String> {
+    let mut lines: Vec<String> = numbered(about(random, 16), |i| format!("(constant c{i})")).collect();
+    lines.extend(numbered(about(random, 31), |i| format!("(predicate p{i} {})", i % 6)));
+    lines.push("(reward (if (= c15 c16) 1 (if (p30) 2 0)))".to_string());
+    lines.push("(reward (if (= c15 c0) 1 (if (p24) 2 0)))".to_string());
+    lines.extend(numbered(about(random, 8), |i| format!("(action a{i})")));
+    let parameters: String = numbered(about(random, 4), |i| format!(" !x{i}")).collect();
+    lines.push(format!("(action wide{parameters})"));
+    lines.extend(numbered(about(random, 8), |i| format!("(variant v{i} {})", 20 - i)));
+    lines.push("(start)".to_string());
+    lines
+}
+
+fn variables(random: &mut Random) -> Vec<String> {
+    let reward = conjunction(about(random, 32));
+    let mut lines = model(vec!["(predicate p 1)".to_string()], reward);
+    lines.extend(["(show)", "(cut)", "(objects 1)", "(value)"].map(str::to_string));
+    lines
+}
+
+fn brackets(random: &mut Random) -> Vec<String> {
+    let depth = about(random, 62);
+    let reward = (0..depth).fold("0".to_string(), |inner, i| format!("(if (p{}) {inner} {})", i % 2, i % 3));
+    let mut lines = model(numbered(2, |i| format!("(predicate p{i} 0)")).collect(), reward);
+    lines.push("(show)".to_string());
+    lines
+}
+
+fn line_length(random: &mut Random) -> Vec<String> {
+    let head = "(reward (if (= c c) 7 ";
+    let digits = about(random, 4_095) as usize - head.len() - 2;
+    vec!["(constant c)".to_string(), format!("{head}{}))", "1".repeat(digits)), "(reward 1)".to_string()]
+}
+
+fn facts(random: &mut Random) -> Vec<String> {
+    let mut lines = model(vec!["(predicate p 2)".to_string()], "(if (p ?x ?x) 3 1)".to_string());
+    lines.push("(objects 40)".to_string());
+    lines.extend(numbered(about(random, 1_024), |i| format!("(true p {} {})", i / 40, i % 40)));
+    lines.extend(["(true p 0 0)", "(true p 39 39)", "(true p 40 0)", "(value)"].map(str::to_string));
+    lines
+}
+
+fn scale(random: &mut Random) -> Vec<String> {
+    let total = *random.pick(&[1, 2, 4, 10, 100, 1_000, 1_000_000]);
+    let divisor = *random.pick(&[1, 2, 10, 1_000, 1_000_000]);
+    let mut lines = vec![format!("(total {total})"), format!("(discount {} {divisor})", random.between(0, divisor))];
+    lines.extend([
+        format!("(reward {})", random.below(2)),
+        "(action go)".to_string(),
+        format!("(variant only {total})"),
+        "(start)".to_string(),
+    ]);
+    lines.extend(vec!["(backup)".to_string(); 20]);
+    lines.extend(["(objects 1)", "(value)"].map(str::to_string));
+    lines
+}
+
+fn largest_value(random: &mut Random) -> Vec<String> {
+    let largest: u64 = 1_000_000_000_000_000_000;
+    let leaf = |random: &mut Random| *random.pick(&[0, 1, largest / 2, largest / 2 + 1, largest - 1, largest]);
+    let reward = format!("(if (p) {} {})", leaf(random), leaf(random));
+    let mut lines = vec!["(predicate p 0)".to_string(), "(total 1)".to_string(), format!("(reward {reward})"), "(action go)".to_string()];
+    lines.extend(["(variant only 1)".to_string(), format!("(becomes (p) (if (p) {} 1))", random.below(2)), "(start)".to_string()]);
+    lines.extend(["(backup)", "(show)", "(backup)", "(show)"].map(str::to_string));
+    lines
+}
+
+fn valuations(random: &mut Random) -> Vec<String> {
+    let (variables, objects) =
+        *random.pick(&[(3, 64), (4, 31), (5, 15), (5, 16), (8, 6), (12, 3), (12, 4), (19, 2), (20, 2), (6, 11), (7, 8)]);
+    let mut lines = model(vec!["(predicate p 1)".to_string()], conjunction(variables));
+    lines.extend([format!("(objects {objects})"), format!("(true p {})", objects - 1), "(value)".to_string()]);
+    lines
+}
+
+/// A backup whose variables, set apart, are about 32.
+fn variants_apart(random: &mut Random) -> Vec<String> {
+    let (variables, variants) = *random.pick(&[(8, 3), (11, 2), (10, 2), (16, 1), (17, 1), (4, 7), (5, 6), (4, 8)]);
+    let parameters: String = numbered(random.below(5), |i| format!(" !a{i}")).collect();
+    let mut lines = vec!["(predicate p 1)".to_string(), format!("(total {variants})"), format!("(reward {})", conjunction(variables))];
+    lines.push(format!("(action go{parameters})"));
+    lines.extend(numbered(variants, |i| format!("(variant v{i} 1)")));
+    lines.extend(["(start)", "(backup)", "(cut)", "(backup)"].map(str::to_string));
+    lines
+}
+
+/// A tree of tests of p{first}, p{first + 1}, .. over these leaves.
+fn tree(first: u64, leaves: &[u64]) -> String {
+    if let [leaf] = leaves {
+        return leaf.to_string();
+    }
+    let (yes, no) = leaves.split_at(leaves.len() / 2);
+    format!("(if (p{first}) {} {})", tree(first + 1, yes), tree(first + 1, no))
+}
+
+/// Two weights, one above the other, of about 4,096 pairs: 8 leaves over 511 rows are 4,095.
+fn pairs(random: &mut Random) -> Vec<String> {
+    let above: Vec<u64> = (0..about(random, 8)).map(|i| 256 * i).collect();
+    let below: Vec<u64> = (0..random.between(252, 256)).collect();
+    let mut lines: Vec<String> = numbered(13, |i| format!("(predicate p{i} 0)")).collect();
+    lines.extend(["(reward 0)", "(action go)"].map(str::to_string));
+    lines.push(format!("(variant above {})", tree(0, &above)));
+    lines.push(format!("(variant below {})", tree(5, &below)));
+    lines.push("(start)".to_string());
+    lines
+}

@@ -1,0 +1,76 @@
+//! Lent listings, whole and damaged, and the refusals of library calls.
+
+use crate::meaning::diagram;
+use crate::models::{terms, Signature, Size};
+use crate::random::Random;
+use crate::tally::Tally;
+use reference::calls::{combine, cut, free, regress, value, Lent, RESULT_WORDS, SPACE_WORDS};
+use reference::combine::{Names, Operator};
+use reference::listing::{read_listing, write_listing, LEAF_MARK};
+use reference::refusal::Refusal;
+use reference::terms::{FIRST_VARIABLE, LAST_VARIABLE, PREDICATES};
+
+/// One small damage to the words of a listing.
+fn damage(random: &mut Random, words: &mut Vec<u64>) {
+    let at = random.below(words.len() as u64) as usize;
+    match random.below(6) {
+        0 => words[at] = words[at].wrapping_add(1),
+        1 => words[at] = words[at].wrapping_sub(1),
+        2 => words[at] = *random.pick(&[0, 1, 63, 64, LEAF_MARK, LEAF_MARK + 1, 1 << 24, 32 << 24, 1_000_000_000_000_000_001, u64::MAX]),
+        3 => {
+            words.pop();
+        }
+        4 => {
+            let row = at / 3 * 3;
+            let copy = words[row..(row + 3).min(words.len())].to_vec();
+            words.extend(copy);
+        }
+        _ => {
+            let other = random.below(words.len() as u64) as usize;
+            words.swap(at, other);
+        }
+    }
+}
+
+/// A listing that is taken is the very listing of its diagram, so no two damaged ones stand for one diagram; every call agrees on 14.
+pub fn check(seed: u64, tally: &mut Tally) -> Result<(), String> {
+    let random = &mut Random::new(seed);
+    let signature = Signature::random(random, Size::SMALL);
+    let lent = diagram(random, &signature, &terms(&signature, 4, 4), 4);
+    let highest_first = LAST_VARIABLE + 1 - lent.variables().len() as u64;
+    let mut words = write_listing(&lent.numbered_from(random.between(FIRST_VARIABLE, highest_first)));
+    for _ in 0..random.below(3) {
+        if !words.is_empty() {
+            damage(random, &mut words);
+        }
+    }
+    let arities = &signature.arities;
+    let read = read_listing(&words, arities);
+    if let Ok(diagram) = &read {
+        if write_listing(diagram) != words {
+            return Err(format!("{words:?} is taken for another listing"));
+        }
+    }
+    let lent = Lent { result: RESULT_WORDS - usize::from(random.once_in(10)), space: SPACE_WORDS };
+    let leaf = [LEAF_MARK, 1, 0];
+    let names = *random.pick(&[Names::Apart, Names::Shared]);
+    let mut truths: [Option<&[u64]>; PREDICATES] = [None; PREDICATES];
+    truths[1] = Some(&words);
+    let count = random.between(0, 5);
+    let objects = random.between(0, 3);
+    let answers = [
+        combine(Operator::Sum, names, &words, &leaf, arities, lent).map(|_| ()),
+        combine(Operator::Product, names, &leaf, &words, arities, lent).map(|_| ()),
+        regress(&leaf, &truths, arities, lent).map(|_| ()),
+        free(&words, count, arities, lent).map(|_| ()),
+        cut(&words, arities, lent).map(|_| ()),
+        value(&words, arities, objects, &[random.below(3)], &[]).map(|_| ()),
+    ];
+    for answer in answers {
+        if (answer == Err(Refusal::Listing)) != read.is_err() {
+            return Err(format!("{answer:?} for {words:?}"));
+        }
+        let _ = tally.watch(answer);
+    }
+    Ok(())
+}

@@ -1,0 +1,160 @@
+//! Random tests of the reference and of a program beside it.
+//!
+//!     tests self [seconds N | count N] [seed N]
+//!     tests program PATH [seconds N | count N] [seed N]
+//!     tests stored FOLDER [PATH]
+//!     tests text SEED
+//!
+//! `self` holds the reference against brute force, counts the refusals met, and sees that each of document 01's slips is caught.
+//! `program` feeds random texts to a program and to the reference. `stored` runs each NAME.txt of a folder and compares with
+//! NAME.out, by the reference or by the program at PATH. `text` prints the random text of a seed. Default: a minute, from seed 0.
+
+mod bellman;
+mod limits;
+mod listings;
+mod meaning;
+mod models;
+mod program;
+mod random;
+mod tally;
+mod texts;
+
+use reference::session::{answers, Answer};
+use reference::slips::Slips;
+use std::io::Write;
+use std::path::{Path, PathBuf};
+use std::time::{Duration, Instant};
+use tally::Tally;
+
+/// How long a run of seeds goes on.
+struct Bound {
+    end: Option<Instant>,
+    count: u64,
+    first: u64,
+}
+
+impl Bound {
+    fn read(arguments: &[String]) -> Result<Bound, String> {
+        let mut bound = Bound { end: Some(Instant::now() + Duration::from_secs(60)), count: u64::MAX, first: 0 };
+        for pair in arguments.chunks(2) {
+            let [word, number] = pair else {
+                return Err(format!("{} needs a number", pair[0]));
+            };
+            let number: u64 = number.parse().map_err(|_| format!("{number} is no number"))?;
+            match word.as_str() {
+                "seconds" => bound.end = Some(Instant::now() + Duration::from_secs(number)),
+                "count" => (bound.end, bound.count) = (None, number),
+                "seed" => bound.first = number,
+                _ => return Err(format!("{word} is not known")),
+            }
+        }
+        Ok(bound)
+    }
+
+    fn seeds(&self) -> impl Iterator<Item = u64> + '_ {
+        (self.first..).take(self.count as usize).take_while(|_| self.end.is_none_or(|end| Instant::now() < end))
+    }
+}
+
+/// The tests of one seed that a slip could fail.
+fn values_and_meanings(seed: u64, slips: Slips, tally: &mut Tally) -> Result<(), String> {
+    let failed = |what: &'static str| move |message: String| format!("seed {seed}, {what}: {message}");
+    meaning::check_regression(seed, slips, tally).map_err(failed("regression"))?;
+    meaning::check_cut(seed, slips, tally).map_err(failed("cut"))?;
+    bellman::check(seed, slips, tally).map_err(failed("value"))
+}
+
+fn self_tests(bound: &Bound) -> Result<(), String> {
+    let mut tally = Tally::default();
+    let mut done = 0;
+    for seed in bound.seeds() {
+        values_and_meanings(seed, Slips::NONE, &mut tally)?;
+        meaning::check_combination(seed, &mut tally).map_err(|message| format!("seed {seed}, combination: {message}"))?;
+        listings::check(seed, &mut tally).map_err(|message| format!("seed {seed}, listing: {message}"))?;
+        for answer in answers(&texts::text(seed), Slips::NONE) {
+            if let Answer::Refused { refusal, .. } = answer {
+                tally.meet(refusal);
+            }
+        }
+        done += 1;
+    }
+    println!("{done} seeds from {} pass", bound.first);
+    slips_are_caught()?;
+    tally.print();
+    match tally.missing() {
+        missing if missing.is_empty() => Ok(()),
+        missing => Err(format!("refusals never met: {missing:?}")),
+    }
+}
+
+/// Each wrong version must fail the tests that the right one passes.
+fn slips_are_caught() -> Result<(), String> {
+    let slips = [
+        ("sums under shared names", Slips { sums_shared: true, ..Slips::NONE }),
+        ("arguments replaced in turn", Slips { arguments_in_turn: true, ..Slips::NONE }),
+        ("a better path through the cut edge", Slips { cover_through_edge: true, ..Slips::NONE }),
+    ];
+    for (name, slips) in slips {
+        let caught = |seed: u64| values_and_meanings(seed, slips, &mut Tally::default()).err();
+        let message = (0..1_000).find_map(caught).ok_or(format!("not caught: {name}"))?;
+        println!("{name}, caught: {message}");
+    }
+    Ok(())
+}
+
+fn compare(program: &Path, bound: &Bound) -> Result<(), String> {
+    let mut done = 0;
+    for seed in bound.seeds() {
+        let text = texts::text(seed);
+        if let Err(message) = program::check(program, &text) {
+            let short = program::shortened(program, &text);
+            let again = program::check(program, &short).err().unwrap_or_default();
+            return Err(format!("seed {seed}: {message}\n{again} for\n{}", String::from_utf8_lossy(&short)));
+        }
+        done += 1;
+    }
+    println!("{done} texts from seed {} have equal answers", bound.first);
+    Ok(())
+}
+
+fn stored(folder: &Path, program: Option<&Path>) -> Result<(), String> {
+    let entries = std::fs::read_dir(folder).map_err(|error| format!("{}: {error}", folder.display()))?;
+    let mut texts: Vec<PathBuf> = entries.filter_map(|entry| entry.ok().map(|e| e.path())).collect();
+    texts.retain(|path| path.extension().is_some_and(|extension| extension == "txt"));
+    texts.sort();
+    let read = |path: &Path| std::fs::read(path).map_err(|error| format!("{}: {error}", path.display()));
+    for path in &texts {
+        let text = read(path)?;
+        let other = match program {
+            Some(program) => program::printed(program, &text)?,
+            None => reference::session::run(&text),
+        };
+        if let Some(difference) = program::difference(&read(&path.with_extension("out"))?, &other) {
+            return Err(format!("{}: {difference}", path.display()));
+        }
+    }
+    println!("{} texts of {} have their stored answers", texts.len(), folder.display());
+    Ok(())
+}
+
+fn run(arguments: &[String]) -> Result<(), String> {
+    match arguments {
+        [mode, rest @ ..] if mode == "self" => self_tests(&Bound::read(rest)?),
+        [mode, path, rest @ ..] if mode == "program" => compare(Path::new(path), &Bound::read(rest)?),
+        [mode, folder] if mode == "stored" => stored(Path::new(folder), None),
+        [mode, folder, path] if mode == "stored" => stored(Path::new(folder), Some(Path::new(path))),
+        [mode, seed] if mode == "text" => {
+            let seed = seed.parse().map_err(|_| format!("{seed} is no number"))?;
+            std::io::stdout().write_all(&texts::text(seed)).map_err(|error| error.to_string())
+        }
+        _ => Err("use: tests self | program PATH | stored FOLDER [PATH] | text SEED".to_string()),
+    }
+}
+
+fn main() {
+    let arguments: Vec<String> = std::env::args().skip(1).collect();
+    if let Err(message) = run(&arguments) {
+        eprintln!("{message}");
+        std::process::exit(1);
+    }
+}

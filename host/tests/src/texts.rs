@@ -1,0 +1,138 @@
+//! Random texts: whole models with a run, damaged lines, and models that soon meet a limit.
+
+use crate::limits;
+use crate::models::{model, state, write_model, write_state, Size};
+use crate::random::Random;
+
+/// The text of a seed: a whole one, a small one damaged, or one about a limit.
+pub fn text(seed: u64) -> Vec<u8> {
+    let random = &mut Random::new(seed);
+    let kind = random.below(7);
+    let size = *[Size::LARGE, Size::WIDE].get(kind as usize).unwrap_or(&Size::SMALL);
+    let damaged = (3..6).contains(&kind);
+    let mut lines = if kind == 6 { limits::lines(random) } else { whole(random, size) }.into_iter().map(String::into_bytes).collect();
+    if damaged {
+        for _ in 0..random.between(1, 6) {
+            damage(random, &mut lines);
+        }
+    }
+    let mut text: Vec<u8> = lines.into_iter().flat_map(|line| [&line[..], b"\n"].concat()).collect();
+    if damaged && random.once_in(20) {
+        text.pop();
+    }
+    text
+}
+
+fn whole(random: &mut Random, size: Size) -> Vec<String> {
+    let (signature, plain) = model(random, size);
+    let mut lines = write_model(&signature, &plain);
+    for _ in 0..random.between(1, 3) {
+        for _ in 0..random.below(4) {
+            lines.push(random.pick(&["(backup)", "(cut)", "(cut)", "(show)"]).to_string());
+        }
+        let objects = random.between(1, size.objects);
+        let mut state = state(random, &signature, objects);
+        while state.facts.len() > 40 {
+            state.facts.pop_first();
+        }
+        lines.extend(write_state(&state));
+        lines.push("(value)".to_string());
+    }
+    lines
+}
+
+const NUMBERS: [&str; 14] = [
+    "0",
+    "1",
+    "2",
+    "4",
+    "5",
+    "01",
+    "64",
+    "65",
+    "1000000",
+    "1000001",
+    "1000000000000000000",
+    "1000000000000000001",
+    "18446744073709551616",
+    "x",
+];
+
+const LINES: [&str; 24] = [
+    "",
+    "()",
+    "(start)",
+    "(value)",
+    "(backup)",
+    "(cut)",
+    "(show)",
+    "(objects 2)",
+    "(objects 0)",
+    "(is c0 1)",
+    "(true p1)",
+    "(true p1 0)",
+    "(true p1 0 1)",
+    "(constant c0)",
+    "(constant p1)",
+    "(predicate c1 2)",
+    "(total 1)",
+    "(discount 1 1)",
+    "(reward 1)",
+    "(action act0)",
+    "(variant way0 1)",
+    "(becomes (p1 ?x0) 1)",
+    "(becomes (p1) 2)",
+    "(reward (if (= ?x0 ?x0) 3 (if (p1 ?x1 !a0) 1 2)))",
+];
+
+/// One small damage to a text.
+fn damage(random: &mut Random, lines: &mut Vec<Vec<u8>>) {
+    let at = random.below(lines.len() as u64) as usize;
+    match random.below(8) {
+        0 if lines.len() > 1 => {
+            lines.remove(at);
+        }
+        1 => lines.insert(at, random.pick(&LINES).as_bytes().to_vec()),
+        2 => {
+            let copy = lines[random.below(lines.len() as u64) as usize].clone();
+            lines.insert(at, copy);
+        }
+        3 => {
+            let other = random.below(lines.len() as u64) as usize;
+            lines.swap(at, other);
+        }
+        4 | 5 => change_word(random, &mut lines[at]),
+        _ => change_byte(random, &mut lines[at]),
+    }
+}
+
+fn change_byte(random: &mut Random, line: &mut Vec<u8>) {
+    let byte = *random.pick(b"()  ?!=az09A\t\r\x00\xff");
+    let at = random.below(line.len() as u64 + 1) as usize;
+    match random.below(3) {
+        0 => line.insert(at, byte),
+        1 if at < line.len() => line[at] = byte,
+        _ if at < line.len() => {
+            line.remove(at);
+        }
+        _ => line.push(byte),
+    }
+}
+
+/// Another word in the place of one, or one word more or less.
+fn change_word(random: &mut Random, line: &mut Vec<u8>) {
+    let mut words: Vec<Vec<u8>> = line.split(|byte| *byte == b' ').map(<[u8]>::to_vec).collect();
+    let at = random.below(words.len() as u64) as usize;
+    let brackets = words[at].iter().rev().take_while(|byte| **byte == b')').count();
+    let mut word = match random.below(6) {
+        0 => random.pick(&NUMBERS).as_bytes().to_vec(),
+        1 => format!("c{}", random.below(3)).into_bytes(),
+        2 => format!("?x{}", random.below(4)).into_bytes(),
+        3 => format!("!a{}", random.below(4)).into_bytes(),
+        4 => format!("p{}", random.between(1, 4)).into_bytes(),
+        _ => [&words[at][..words[at].len() - brackets], *random.pick(&[&b" c0"[..], b" ?x0", b" 0"])].concat(),
+    };
+    word.extend(vec![b')'; brackets]);
+    words[at] = word;
+    *line = words.join(&b' ');
+}
