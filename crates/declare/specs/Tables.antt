@@ -1,0 +1,77 @@
+-- A session's names in lent words, and what a declaration does to them.
+use mathlib.Core.Path.{_≡_}
+use mathlib.Core.Bool.{true}
+use mathlib.Core.List.{List}
+use Prim.Native.Nat.{ℕ, suc, _<_, _≤_}
+use lib.ListN.{length}
+use Rattle.refusal.specs.declared.Refusal.{Refusal}
+use Rattle.label.specs.Limits.{constantCount, predicateCount, parameterCount}
+use Rattle.label.specs.Labels.{areArities}
+use Rattle.names.specs.Keys.{keysAt}
+use Rattle.regress.specs.Calls.{Outcome, ok, refused}
+use Rattle.mdp.specs.Model.{mostActions, mostVariants}
+use Rattle.session.specs.Session.{Names}
+use Rattle.session.specs.Declaring.{Vocabulary}
+use Rattle.declare.specs.declared.Counts.{Counts}
+use Rattle.declare.specs.declared.Declared.{Declared}
+use Rattle.declare.specs.declared.Declared.the-variants.{Done, Refused}
+
+-- where the keys of each sort begin, two words to a key; a predicate's by its number, that of equality unused
+abbrev pub constantsBase : ℕ
+constantsBase = 0
+
+abbrev pub predicatesBase : ℕ
+predicatesBase = 34
+
+abbrev pub actionsBase : ℕ
+actionsBase = 96
+
+abbrev pub parametersBase : ℕ
+parametersBase = 112
+
+abbrev pub variantsBase : ℕ
+variantsBase = 120
+
+abbrev pub nameWords : ℕ
+nameWords = 136
+
+unfoldable pub namesOf : List ℕ → Counts → Names
+namesOf s n = record {
+  constants = keysAt s constantsBase (n .constants);
+  predicates = keysAt s predicatesBase (n .predicates);
+  actions = keysAt s actionsBase (n .actions);
+  parameters = keysAt s parametersBase (n .parameters);
+  variants = keysAt s variantsBase (n .variants);
+}
+
+pub record GoodNames (s : List ℕ) (n : Counts) : Type 0 where
+  pub room : nameWords ≤ length s
+  pub constants : n .constants ≤ constantCount
+  pub predicates : n .predicates < predicateCount
+  pub actions : n .actions ≤ mostActions
+  pub parameters : n .parameters ≤ parameterCount
+  pub variants : n .variants ≤ mostVariants
+
+-- the names behind an accepted line; a refused one leaves the words as they were
+abbrev pub Named : Outcome Names → List ℕ → Declared → List ℕ → Type 0
+Named o s (Done n) t = (o ≡ ok (namesOf t n)) × GoodNames t n
+Named o s (Refused r) t = (o ≡ refused r) × (t ≡ s)
+
+pub record Naming (o : Outcome Names) (s : List ℕ) (r : Declared) (t : List ℕ) : Type 0 where
+  pub named : Named o s r t
+
+unfoldable pub vocabularyOf : List ℕ → List ℕ → Counts → Vocabulary
+unfolding namesOf
+vocabularyOf s ar n = record { names = namesOf s n; arities = ar }
+
+-- the names, and an arity list
+pub record GoodVocabulary (s ar : List ℕ) (n : Counts) : Type 0 where
+  pub names : GoodNames s n
+  pub arities : areArities ar ≡ true
+
+abbrev pub Worded : Outcome Vocabulary → List ℕ → List ℕ → Declared → List ℕ → List ℕ → Type 0
+Worded o s ar (Done n) t br = (o ≡ ok (vocabularyOf t br n)) × GoodVocabulary t br n
+Worded o s ar (Refused r) t br = (o ≡ refused r) × (t ≡ s) × (br ≡ ar)
+
+pub record Wording (o : Outcome Vocabulary) (s ar : List ℕ) (r : Declared) (t br : List ℕ) : Type 0 where
+  pub worded : Worded o s ar r t br
