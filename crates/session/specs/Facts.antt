@@ -9,7 +9,7 @@ use Rattle.label.specs.Limits.{constantCount}
 use Rattle.words.specs.declared.Key.{Key}
 use Rattle.names.specs.Keys.{placeOf, isAmong}
 use Rattle.regress.specs.Calls.{Outcome, ok, pickOutcome}
-use Rattle.state.specs.Lent.{factCount, saidBy, allBelow}
+use Rattle.state.specs.Lent.{factWords, factCount, someBelow, allBelow}
 use Rattle.session.specs.Session.{Names, Live, refuseIf}
 
 -- state texts have at most 64 objects and 1,024 facts
@@ -43,8 +43,18 @@ isLine n l k o =
 abbrev pub factRow : ℕ → List ℕ → List ℕ
 factRow p os = p ∷ getD os 0 0 ∷ getD os 1 0 ∷ getD os 2 0 ∷ getD os 3 0 ∷ []
 
-unfoldable pub withFact : Live → ℕ → List ℕ → Live
-withFact l p os = record { objects = l .objects; placed = l .placed; constants = l .constants; facts = l .facts ++ factRow p os }
+unfoldable pub withFact : Live → List ℕ → Live
+withFact l row = record { objects = l .objects; placed = l .placed; constants = l .constants; facts = l .facts ++ row }
+
+-- word j of row i of the facts is that of the row
+abbrev pub sameWord : List ℕ → List ℕ → ℕ → ℕ → Bool
+sameWord facts row i j = eqb (getD facts (i * factWords + j) 0) (getD row j 0)
+
+-- the row is one of the facts
+unfoldable pub isFact : List ℕ → List ℕ → Bool
+isFact facts row =
+    someBelow (factCount facts) (λ i.
+    sameWord facts row i 0 && (sameWord facts row i 1 && (sameWord facts row i 2 && (sameWord facts row i 3 && sameWord facts row i 4))))
 
 -- the number of the predicate with the key k
 abbrev pub predicateOf : Names → Key → ℕ
@@ -52,11 +62,11 @@ predicateOf n k = suc (placeOf k (n .predicates))
 
 -- (true p o ..): at p 2, then 3; 4 at an object; a fact that is there may be repeated without effect; last 9
 unfoldable pub trueLine : List ℕ → Names → Live → Key → List ℕ → Outcome Live
-unfolding isAmong placeOf withFact saidBy
+unfolding isAmong placeOf withFact isFact
 trueLine ar n l k os =
     refuseIf (not (isAmong k (n .predicates))) Name
     (refuseIf (not (eqb (length os) (getD ar (predicateOf n k) 0))) Arity
     (refuseIf (not (allBelow (l .objects) os)) Range
-    (pickOutcome (saidBy ar (l .facts) (predicateOf n k) os) (ok l)
+    (pickOutcome (isFact (l .facts) (factRow (predicateOf n k) os)) (ok l)
     (refuseIf (leb mostFacts (factCount (l .facts))) Space
-    (ok (withFact l (predicateOf n k) os))))))
+    (ok (withFact l (factRow (predicateOf n k) os)))))))

@@ -1,0 +1,51 @@
+-- A state in lent words: the constants' objects, marks of those placed, then the facts as rows of five words.
+use mathlib.Core.Path.{_≡_}
+use mathlib.Core.List.{List}
+use Prim.Native.Nat.{ℕ, _+_, _*_, _<_, _≤_}
+use lib.ListN.{length, getD, take, drop}
+use Rattle.label.specs.Limits.{constantCount}
+use Rattle.regress.specs.Calls.{Outcome, ok, refused}
+use Rattle.state.specs.Lent.{factWords}
+use Rattle.session.specs.Session.{Live as SessionLive}
+use Rattle.session.specs.Facts.{mostObjects, mostFacts}
+use Rattle.facts.specs.declared.Live.{Live}
+use Rattle.facts.specs.declared.Told.{Told}
+use Rattle.facts.specs.declared.Told.the-variants.{Done, Refused}
+
+abbrev pub placedBase : ℕ
+placedBase = 16
+
+abbrev pub factsBase : ℕ
+factsBase = 32
+
+abbrev pub stateWords : ℕ
+stateWords = 5152
+
+abbrev pub part : List ℕ → ℕ → ℕ → List ℕ
+part s i n = take n (drop i s)
+
+unfoldable pub liveOf : List ℕ → Live → SessionLive
+liveOf s l = record {
+  objects = l .objects;
+  placed = part s placedBase constantCount;
+  constants = part s 0 constantCount;
+  facts = part s factsBase (l .facts * factWords);
+}
+
+pub record GoodLive (s : List ℕ) (l : Live) : Type 0 where
+  pub room : stateWords ≤ length s
+  pub objects : l .objects ≤ mostObjects
+  pub facts : l .facts ≤ mostFacts
+
+abbrev pub Lives : Outcome SessionLive → List ℕ → Told → List ℕ → Type 0
+Lives o s (Done l) t = (o ≡ ok (liveOf t l)) × GoodLive t l
+Lives o s (Refused r) t = (o ≡ refused r) × (t ≡ s)
+
+-- the state behind an accepted line; a refused one leaves the words as they were
+pub record Living (o : Outcome SessionLive) (s : List ℕ) (r : Told) (t : List ℕ) : Type 0 where
+  pub lives : Lives o s r t
+
+-- the first n words are 0, the others as they were
+pub record Cleared (s t : List ℕ) (n : ℕ) : Type 0 where
+  pub size : length t ≡ length s
+  pub zeros : (i : ℕ) → i < n → getD t i 0 ≡ 0
