@@ -1,2 +1,3 @@
 -- Laws that the functions' proofs use.
 pub mod StateLaws
+pub mod FactLaws

@@ -1,13 +1,16 @@
 -- A state in lent words: the constants' objects, marks of those placed, then the facts as rows of five words.
 use mathlib.Core.Path.{_≡_}
-use mathlib.Core.List.{List}
+use mathlib.Core.Bool.{Bool, _&&_}
+use mathlib.Core.List.{List, [], _∷_}
 use Prim.Native.Nat.{ℕ, _+_, _*_, _<_, _≤_}
 use lib.ListN.{length, getD, take, drop}
 use Rattle.label.specs.Limits.{constantCount}
 use Rattle.regress.specs.Calls.{Outcome, ok, refused}
-use Rattle.state.specs.Lent.{factWords}
+use Rattle.state.specs.Lent.{factWords, allBelow}
 use Rattle.session.specs.Session.{Live as SessionLive}
-use Rattle.session.specs.Facts.{mostObjects, mostFacts}
+use Rattle.session.specs.Facts.{mostObjects, mostFacts, sameWord, withFact}
+use Rattle.facts.specs.declared.Fact.{Fact}
+use Rattle.facts.specs.declared.Tuple.{Tuple}
 use Rattle.facts.specs.declared.Live.{Live}
 use Rattle.facts.specs.declared.Told.{Told}
 use Rattle.facts.specs.declared.Told.the-variants.{Done, Refused}
@@ -49,3 +52,26 @@ pub record Living (o : Outcome SessionLive) (s : List ℕ) (r : Told) (t : List 
 pub record Cleared (s t : List ℕ) (n : ℕ) : Type 0 where
   pub size : length t ≡ length s
   pub zeros : (i : ℕ) → i < n → getD t i 0 ≡ 0
+
+-- a fact as a row of five words
+abbrev pub rowOf : Fact → List ℕ
+rowOf f = f .predicate ∷ f .first ∷ f .second ∷ f .third ∷ f .fourth ∷ []
+
+-- row i of the facts is the row
+abbrev pub rowIs : List ℕ → List ℕ → ℕ → Bool
+rowIs facts row i =
+    sameWord facts row i 0 && (sameWord facts row i 1 && (sameWord facts row i 2 && (sameWord facts row i 3 && sameWord facts row i 4)))
+
+-- one fact more
+pub record Putting (s : List ℕ) (l : Live) (f : Fact) (t : List ℕ) : Type 0 where
+  pub live : liveOf t (record { objects = l .objects; facts = l .facts + 1 }) ≡ withFact (liveOf s l) (rowOf f)
+  pub good : GoodLive t (record { objects = l .objects; facts = l .facts + 1 })
+
+-- what is kept of the objects os of a line, in a state of n objects
+pub record TupleOf (n : ℕ) (os : List ℕ) (o : Tuple) : Type 0 where
+  pub count : o .count ≡ length os
+  pub within : o .within ≡ allBelow n os
+  pub first : o .first ≡ getD os 0 0
+  pub second : o .second ≡ getD os 1 0
+  pub third : o .third ≡ getD os 2 0
+  pub fourth : o .fourth ≡ getD os 3 0

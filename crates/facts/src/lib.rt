@@ -6,9 +6,12 @@ use words::Key;
 ghost use mathlib.Core.Path.{_≡_};
 ghost use Prim.Native.Nat.{ℕ, _+_, _*_, _<_, _≤_};
 ghost use lib.ListN.{length};
-ghost use Rattle.session.specs.Facts.{objectsLine, isLine};
+ghost use Rattle.session.specs.Facts.{objectsLine, isLine, isFact, trueLine};
 ghost use Rattle.declare.specs.Tables.{namesOf, GoodNames};
-ghost use Rattle.facts.specs.Words.{liveOf, GoodLive, Living, Cleared};
+ghost use Rattle.facts.specs.Words.{liveOf, GoodLive, Living, Cleared, rowOf, rowIs, Putting, TupleOf};
+ghost use Rattle.label.specs.Labels.{areArities};
+ghost use mathlib.Core.Bool.{true};
+ghost use mathlib.Core.List.{List};
 
 // How many objects there are, 0 before an accepted (objects n), and how many facts.
 pub struct Live {
@@ -86,4 +89,72 @@ pub fn place(table: &[u64], n: Counts, state: &mut [u64], live: Live, key: Key, 
     state[PLACED + c] = 1;
     state[c] = o;
     Told::Done(live)
+}
+
+// A fact: a predicate and its objects, 0 in unused places.
+pub struct Fact {
+    pub predicate: u64,
+    pub first: u64,
+    pub second: u64,
+    pub third: u64,
+    pub fourth: u64,
+}
+
+// The objects of a (true p o ..): how many, whether each is one of the state, and the first four, 0 where there are fewer.
+pub struct Tuple {
+    pub count: u64,
+    pub within: bool,
+    pub first: u64,
+    pub second: u64,
+    pub third: u64,
+    pub fourth: u64,
+}
+
+// Whether row i of the facts is the fact.
+fn row_is(facts: &[u64], i: usize, f: Fact) -> bool
+    requires { ⌜ i * 5 + 5 ≤ length (now facts) ⌝ }
+    ensures { λ r. ⌜ r ≡ rowIs (now (facts .entry)) (rowOf f) i ⌝ }
+{
+    if facts[i * 5] != f.predicate {
+        return false;
+    }
+    if facts[i * 5 + 1] != f.first {
+        return false;
+    }
+    if facts[i * 5 + 2] != f.second {
+        return false;
+    }
+    if facts[i * 5 + 3] != f.third {
+        return false;
+    }
+    facts[i * 5 + 4] == f.fourth
+}
+
+// Whether the fact is one of the facts.
+fn is_fact(facts: &[u64], f: Fact) -> bool
+    ensures { λ r. ⌜ r ≡ isFact (now (facts .entry)) (rowOf f) ⌝ }
+{
+    let rows = facts.len() / FACT_WORDS;
+    let mut i = 0;
+    while i < rows {
+        if row_is(facts, i, f) {
+            return true;
+        }
+        i += 1;
+    }
+    false
+}
+
+// Writes the fact behind the others.
+fn put(state: &mut [u64], live: Live, f: Fact)
+    requires { ⌜ GoodLive (now state) live ⌝ }
+    requires { ⌜ live .facts < 1024 ⌝ }
+    ensures { λ _. ⌜ Putting (now (state .entry)) live f (now (state .exit)) ⌝ }
+{
+    let i = FACTS_BASE + live.facts * 5;
+    state[i] = f.predicate;
+    state[i + 1] = f.first;
+    state[i + 2] = f.second;
+    state[i + 3] = f.third;
+    state[i + 4] = f.fourth;
 }
