@@ -25,7 +25,7 @@ pub enum Declared {
 }
 
 // Where the key of predicate 1 stands.
-const FIRST_PREDICATE: usize = 34;
+pub const FIRST_PREDICATE: usize = 34;
 
 // Whether a constant or a predicate has the name.
 pub fn is_declared(table: &[u64], n: Counts, key: Key) -> bool

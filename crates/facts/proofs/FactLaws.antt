@@ -1,20 +1,31 @@
 -- Laws of the facts in lent words: the search for one, and one more.
 use mathlib.Core.Path.{_≡_, refl, sym, ap, ap₂, _∙_}
-use mathlib.Core.Bool.{Bool, true, false, _||_, _&&_, or-true}
+use mathlib.Core.Bool.{Bool, true, false, not, _||_, _&&_, or-true}
 use mathlib.Core.List.{List, [], _∷_, _++_}
-use Prim.Native.Nat.{ℕ, zero, suc, _+_, _*_, _/_, _<_, _≤_}
+use Prim.Native.Nat.{ℕ, zero, suc, _+_, _*_, _-_, _/_, _<_, _≤_}
 use native.Mathlib.Omega.{arith}
-use borrow.Author.Tests.{eq-eqb, ne-eqb, eqb-true, eqb-false}
+use borrow.Author.Tests.{le-leb, lt-leb, eq-eqb, ne-eqb, eqb-true, eqb-false}
 use lib.ListN.{length, getD, set, take, drop, length-set, length-drop}
 use lib.Seq.{take-add, drop-drop, ext-getD, getD-take, getD-drop, getD-set-same, getD-set-other, length-take-le}
 use lib.Dec.{eqb}
-use Rattle.basics.specs.Tests.{Flag, isTrue, isFalse, flag}
-use Rattle.state.specs.Lent.{factCount, someBelow}
-use Rattle.session.specs.Session.{Live as SessionLive}
-use Rattle.session.specs.Facts.{sameWord, isFact, withFact}
+use Rattle.basics.specs.Tests.{Flag, isTrue, isFalse, flag, and-left}
+use Rattle.state.specs.Lent.{factCount, someBelow, allBelow}
+use Rattle.session.specs.Session.{Live as SessionLive, refuseIf}
+use Rattle.session.specs.Facts.{sameWord, isFact, withFact, factLine, factRow, trueLine}
 use Rattle.facts.specs.declared.Fact.{Fact}
 use Rattle.facts.specs.declared.Live.{Live}
-use Rattle.facts.specs.Words.{part, rowOf, rowIs, liveOf, GoodLive, Putting}
+use Rattle.facts.specs.declared.Told.{Told}
+use Rattle.facts.specs.declared.Told.the-variants.{Done, Refused}
+use Rattle.facts.specs.declared.Tuple.{Tuple}
+use Rattle.words.specs.declared.Key.{Key}
+use Rattle.names.specs.Keys.{keysAt, placeOf, isAmong}
+use Rattle.names.specs.KeyLaws.{among-at, among-none}
+use Rattle.declare.specs.declared.Counts.{Counts}
+use Rattle.declare.specs.Tables.{predicatesBase, namesOf, GoodVocabulary}
+use Rattle.label.specs.Labels.{areArities}
+use Rattle.refusal.specs.declared.Refusal.the-variants.{Name, Arity, Range, Space}
+use Rattle.regress.specs.Calls.{ok}
+use Rattle.facts.specs.Words.{part, rowOf, rowIs, liveOf, GoodLive, Living, Putting, TupleOf, Telling}
 
 -- ===== One row =====
 
@@ -193,3 +204,90 @@ put-done s l f g h =
   where
     more : (n : ℕ) → (n + 1) * 5 ≡ n * 5 + 5
     more n = omega arith
+
+-- ===== A fact told =====
+
+fact-count : (s : List ℕ) (l : Live) → GoodLive s l → factCount (part s 32 (l .facts * 5)) ≡ l .facts
+fact-count s l g =
+    let r = g .room in
+    let h = g .facts in
+    let e = length-take-le (l .facts * 5) (drop 32 s) (rw length-drop (omega arith)) in
+    ap (λ (n : ℕ). n / 5) e ∙ (omega arith)
+
+module _ (s : List ℕ) (l : Live) (f : Fact) {b : Bool} (q : b ≡ isFact (take (32 + l .facts * 5 - 32) (drop 32 s)) (rowOf f)) where
+  lent-facts : b ≡ isFact (part s 32 (l .facts * 5)) (rowOf f)
+  lent-facts = let e : 32 + l .facts * 5 - 32 ≡ l .facts * 5 = omega arith in q ∙ ap (λ (n : ℕ). isFact (take n (drop 32 s)) (rowOf f)) e
+
+  pub note-again : GoodLive s l → b ≡ true → Living (factLine (liveOf s l) (rowOf f)) s (Done l) s
+  unfolding factLine liveOf
+  note-again g e = record { lives = (rw (← lent-facts, e), g) }
+
+  module _ (g : GoodLive s l) (e : b ≡ false) where
+    pub note-space : 1024 ≤ l .facts → Living (factLine (liveOf s l) (rowOf f)) s (Refused Space) s
+    unfolding factLine liveOf
+    note-space h = record { lives = (rw (← lent-facts, e, fact-count s l g, le-leb 1024 (l .facts) h), refl) }
+
+    pub note-done : {t : List ℕ} → l .facts < 1024 → Putting s l f t → Living (factLine (liveOf s l) (rowOf f)) s (Done (record { objects = l .objects; facts = l .facts + 1 })) t
+    unfolding factLine liveOf
+    note-done h u = record { lives = (rw (← lent-facts, e, fact-count s l g, lt-leb 1024 (l .facts) h) (ap ok (sym (u .live))), u .good) }
+
+pub note-room : (s : List ℕ) (l : Live) → GoodLive s l → 32 + l .facts * 5 ≤ length s
+note-room s l g = let r = g .room in let h = g .facts in omega arith
+
+module _ (ar table s : List ℕ) (n : Counts) (l : Live) (k : Key) (o : Tuple) {i : ℕ} (p : i ≡ placeOf k (keysAt table predicatesBase (n .predicates))) where
+  pub tell-name : n .predicates ≤ i → Telling ar table n s l k o (Refused Name) s
+  unfolding trueLine namesOf
+  tell-name h = record { told = λ os w. record { lives = (rw (among-none table predicatesBase (n .predicates) k p h), refl) } }
+
+  module _ (h : i < n .predicates) where
+    predicate-at : getD ar (i + 1) 0 ≡ getD ar (suc (placeOf k (keysAt table predicatesBase (n .predicates)))) 0
+    predicate-at = let e : i + 1 ≡ suc (placeOf k (keysAt table predicatesBase (n .predicates))) = omega arith in ap (λ (j : ℕ). getD ar j 0) e
+
+    pub tell-arity : (o .count ≡ getD ar (i + 1) 0 → ⊥) → Telling ar table n s l k o (Refused Arity) s
+    unfolding trueLine namesOf
+    tell-arity e = record {
+      told = λ os w. record {
+        lives = (
+          rw (among-at table predicatesBase (n .predicates) k p h, ← w .count, ← predicate-at, ne-eqb (o .count) (getD ar (i + 1) 0) e),
+          refl,
+        );
+      };
+    }
+
+    module _ (e : o .count ≡ getD ar (i + 1) 0) where
+      pub tell-range : o .within ≡ false → Telling ar table n s l k o (Refused Range) s
+      unfolding trueLine namesOf liveOf
+      tell-range b = record {
+        told = λ os w. record {
+          lives = (
+            rw (among-at table predicatesBase (n .predicates) k p h, ← w .count, ← predicate-at, eq-eqb (o .count) (getD ar (i + 1) 0) e, ← w .within, b),
+            refl,
+          );
+        };
+      }
+
+      pub tell-done : {r : Told} {t : List ℕ} → o .within ≡ true
+          → Living (factLine (liveOf s l) (rowOf (record { predicate = i + 1; first = o .first; second = o .second; third = o .third; fourth = o .fourth }))) s r t
+          → Telling ar table n s l k o r t
+      unfolding trueLine namesOf liveOf
+      tell-done {r} {t} b v = record {
+        told = λ os w.
+            rw (among-at table predicatesBase (n .predicates) k p h, ← w .count, ← predicate-at, eq-eqb (o .count) (getD ar (i + 1) 0) e)
+            (within os w);
+      }
+        where
+          number : i + 1 ≡ suc (placeOf k (keysAt table predicatesBase (n .predicates)))
+          number = omega arith
+
+          within : (os : List ℕ) → TupleOf (l .objects) os o → Living (refuseIf (not (allBelow (liveOf s l .objects) os)) Range (factLine (liveOf s l) (factRow (suc (placeOf k (keysAt table predicatesBase (n .predicates)))) os))) s r t
+          within os w = rw (← w .first, ← w .second, ← w .third, ← w .fourth, ← number) (open-up os w)
+            where
+              open-up : (os : List ℕ) → TupleOf (l .objects) os o → Living (refuseIf (not (allBelow (liveOf s l .objects) os)) Range (factLine (liveOf s l) (rowOf (record { predicate = i + 1; first = o .first; second = o .second; third = o .third; fourth = o .fourth })))) s r t
+              open-up os w = rw (← w .within, b) v
+
+pub tell-room : (ar table : List ℕ) (n : Counts) (i : ℕ) → GoodVocabulary table ar n → i < n .predicates → i + 1 < length ar
+unfolding areArities
+tell-room ar table n i g h =
+    let e = eqb-true (length ar) 32 (and-left (eqb (length ar) 32) _ (g .arities)) in
+    let b = g .names .predicates in
+    omega arith

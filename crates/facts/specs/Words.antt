@@ -8,7 +8,10 @@ use Rattle.label.specs.Limits.{constantCount}
 use Rattle.regress.specs.Calls.{Outcome, ok, refused}
 use Rattle.state.specs.Lent.{factWords, allBelow}
 use Rattle.session.specs.Session.{Live as SessionLive}
-use Rattle.session.specs.Facts.{mostObjects, mostFacts, sameWord, withFact}
+use Rattle.session.specs.Facts.{mostObjects, mostFacts, sameWord, withFact, trueLine}
+use Rattle.words.specs.declared.Key.{Key}
+use Rattle.declare.specs.declared.Counts.{Counts}
+use Rattle.declare.specs.Tables.{namesOf}
 use Rattle.facts.specs.declared.Fact.{Fact}
 use Rattle.facts.specs.declared.Tuple.{Tuple}
 use Rattle.facts.specs.declared.Live.{Live}
@@ -75,3 +78,7 @@ pub record TupleOf (n : ℕ) (os : List ℕ) (o : Tuple) : Type 0 where
   pub second : o .second ≡ getD os 1 0
   pub third : o .third ≡ getD os 2 0
   pub fourth : o .fourth ≡ getD os 3 0
+
+-- a line (true p o ..) whose predicate has the key k and whose objects os are kept as o
+pub record Telling (ar table : List ℕ) (n : Counts) (s : List ℕ) (l : Live) (k : Key) (o : Tuple) (r : Told) (t : List ℕ) : Type 0 where
+  pub told : (os : List ℕ) → TupleOf (l .objects) os o → Living (trueLine ar (namesOf table n) (liveOf s l) k os) s r t

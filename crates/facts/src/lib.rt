@@ -6,12 +6,9 @@ use words::Key;
 ghost use mathlib.Core.Path.{_≡_};
 ghost use Prim.Native.Nat.{ℕ, _+_, _*_, _<_, _≤_};
 ghost use lib.ListN.{length};
-ghost use Rattle.session.specs.Facts.{objectsLine, isLine, isFact, trueLine};
-ghost use Rattle.declare.specs.Tables.{namesOf, GoodNames};
-ghost use Rattle.facts.specs.Words.{liveOf, GoodLive, Living, Cleared, rowOf, rowIs, Putting, TupleOf};
-ghost use Rattle.label.specs.Labels.{areArities};
-ghost use mathlib.Core.Bool.{true};
-ghost use mathlib.Core.List.{List};
+ghost use Rattle.session.specs.Facts.{objectsLine, isLine, isFact, factLine};
+ghost use Rattle.declare.specs.Tables.{namesOf, GoodNames, GoodVocabulary};
+ghost use Rattle.facts.specs.Words.{liveOf, GoodLive, Living, Cleared, rowOf, rowIs, Putting, Telling};
 
 // How many objects there are, 0 before an accepted (objects n), and how many facts.
 pub struct Live {
@@ -157,4 +154,61 @@ fn put(state: &mut [u64], live: Live, f: Fact)
     state[i + 2] = f.second;
     state[i + 3] = f.third;
     state[i + 4] = f.fourth;
+}
+
+// Adds the fact unless it is there.
+fn note(state: &mut [u64], live: Live, f: Fact) -> Told
+    requires { ⌜ GoodLive (now state) live ⌝ }
+    ensures { λ r. ⌜ Living (factLine (liveOf (now (state .entry)) live) (rowOf f)) (now (state .entry)) r (now (state .exit)) ⌝ }
+{
+    let end = FACTS_BASE + live.facts * 5;
+    if is_fact(&state[FACTS_BASE..end], f) {
+        return Told::Done(live);
+    }
+    if live.facts >= FACTS {
+        return Told::Refused(Refusal::Space);
+    }
+    put(state, live, f);
+    Told::Done(Live {
+        objects: live.objects,
+        facts: live.facts + 1,
+    })
+}
+
+// (true p o ..)
+pub fn tell(
+    arities: &[u64],
+    table: &[u64],
+    n: Counts,
+    state: &mut [u64],
+    live: Live,
+    key: Key,
+    o: Tuple,
+) -> Told
+    requires { ⌜ GoodVocabulary (now table) (now arities) n ⌝ }
+    requires { ⌜ GoodLive (now state) live ⌝ }
+    ensures { λ r. ⌜ Telling (now (arities .entry)) (now (table .entry)) n (now (state .entry)) live key o r (now (state .exit)) ⌝ }
+{
+    let i = names::find(table, declare::FIRST_PREDICATE, n.predicates, key);
+    if i >= n.predicates {
+        return Told::Refused(Refusal::Name);
+    }
+    let p = i + 1;
+    if o.count != arities[p] {
+        return Told::Refused(Refusal::Arity);
+    }
+    if o.within {
+        return note(
+            state,
+            live,
+            Fact {
+                predicate: p as u64,
+                first: o.first,
+                second: o.second,
+                third: o.third,
+                fourth: o.fourth,
+            },
+        );
+    }
+    Told::Refused(Refusal::Range)
 }

@@ -56,17 +56,23 @@ isFact facts row =
     someBelow (factCount facts) (λ i.
     sameWord facts row i 0 && (sameWord facts row i 1 && (sameWord facts row i 2 && (sameWord facts row i 3 && sameWord facts row i 4))))
 
+-- a fact that is there may be repeated without effect; last 9
+unfoldable pub factLine : Live → List ℕ → Outcome Live
+unfolding withFact isFact
+factLine l row =
+    pickOutcome (isFact (l .facts) row) (ok l)
+    (refuseIf (leb mostFacts (factCount (l .facts))) Space
+    (ok (withFact l row)))
+
 -- the number of the predicate with the key k
 abbrev pub predicateOf : Names → Key → ℕ
 predicateOf n k = suc (placeOf k (n .predicates))
 
--- (true p o ..): at p 2, then 3; 4 at an object; a fact that is there may be repeated without effect; last 9
+-- (true p o ..): at p 2, then 3; 4 at an object
 unfoldable pub trueLine : List ℕ → Names → Live → Key → List ℕ → Outcome Live
-unfolding isAmong placeOf withFact isFact
+unfolding isAmong placeOf factLine
 trueLine ar n l k os =
     refuseIf (not (isAmong k (n .predicates))) Name
     (refuseIf (not (eqb (length os) (getD ar (predicateOf n k) 0))) Arity
     (refuseIf (not (allBelow (l .objects) os)) Range
-    (pickOutcome (isFact (l .facts) (factRow (predicateOf n k) os)) (ok l)
-    (refuseIf (leb mostFacts (factCount (l .facts))) Space
-    (ok (withFact l (factRow (predicateOf n k) os)))))))
+    (factLine l (factRow (predicateOf n k) os))))
