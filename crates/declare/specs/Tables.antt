@@ -8,6 +8,7 @@ use Rattle.refusal.specs.declared.Refusal.{Refusal}
 use Rattle.label.specs.Limits.{constantCount, predicateCount, parameterCount}
 use Rattle.label.specs.Labels.{areArities}
 use Rattle.names.specs.Keys.{keysAt}
+use Rattle.names.specs.Layout.{constantsAt, declaredAt, actionsAt, parametersAt, variantsAt, nameWords}
 use Rattle.regress.specs.Calls.{Outcome, ok, refused}
 use Rattle.mdp.specs.Model.{mostActions, mostVariants}
 use Rattle.session.specs.Session.{Names}
@@ -16,32 +17,13 @@ use Rattle.declare.specs.declared.Counts.{Counts}
 use Rattle.declare.specs.declared.Declared.{Declared}
 use Rattle.declare.specs.declared.Declared.the-variants.{Done, Refused}
 
--- where the keys of each sort begin, two words to a key; a predicate's by its number, that of equality unused
-abbrev pub constantsBase : ℕ
-constantsBase = 0
-
-abbrev pub predicatesBase : ℕ
-predicatesBase = 34
-
-abbrev pub actionsBase : ℕ
-actionsBase = 96
-
-abbrev pub parametersBase : ℕ
-parametersBase = 112
-
-abbrev pub variantsBase : ℕ
-variantsBase = 120
-
-abbrev pub nameWords : ℕ
-nameWords = 136
-
 unfoldable pub namesOf : List ℕ → Counts → Names
 namesOf s n = record {
-  constants = keysAt s constantsBase (n .constants);
-  predicates = keysAt s predicatesBase (n .predicates);
-  actions = keysAt s actionsBase (n .actions);
-  parameters = keysAt s parametersBase (n .parameters);
-  variants = keysAt s variantsBase (n .variants);
+  constants = keysAt s constantsAt (n .constants);
+  predicates = keysAt s declaredAt (n .predicates);
+  actions = keysAt s actionsAt (n .actions);
+  parameters = keysAt s parametersAt (n .parameters);
+  variants = keysAt s variantsAt (n .variants);
 }
 
 pub record GoodNames (s : List ℕ) (n : Counts) : Type 0 where

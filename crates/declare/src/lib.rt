@@ -24,9 +24,6 @@ pub enum Declared {
     Refused(Refusal),
 }
 
-// Where the key of predicate 1 stands.
-pub const FIRST_PREDICATE: usize = 34;
-
 // Whether a constant or a predicate has the name.
 pub fn is_declared(table: &[u64], n: Counts, key: Key) -> bool
     requires { ⌜ GoodNames (now table) n ⌝ }
@@ -36,7 +33,7 @@ pub fn is_declared(table: &[u64], n: Counts, key: Key) -> bool
     if i < n.constants {
         return true;
     }
-    let j = names::find(table, FIRST_PREDICATE, n.predicates, key);
+    let j = names::find(table, names::DECLARED, n.predicates, key);
     if j < n.predicates {
         return true;
     }
@@ -84,7 +81,7 @@ pub fn predicate(
     if n.predicates + 1 >= Label::PREDICATES {
         return Declared::Refused(Refusal::Space);
     }
-    names::put(table, FIRST_PREDICATE + n.predicates * 2, key);
+    names::put(table, names::DECLARED + n.predicates * 2, key);
     arities[n.predicates + 1] = arity;
     Declared::Done(Counts {
         constants: n.constants,

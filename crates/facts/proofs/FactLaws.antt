@@ -19,9 +19,10 @@ use Rattle.facts.specs.declared.Told.the-variants.{Done, Refused}
 use Rattle.facts.specs.declared.Tuple.{Tuple}
 use Rattle.words.specs.declared.Key.{Key}
 use Rattle.names.specs.Keys.{keysAt, placeOf, isAmong}
+use Rattle.names.specs.Layout.{declaredAt}
 use Rattle.names.specs.KeyLaws.{among-at, among-none}
 use Rattle.declare.specs.declared.Counts.{Counts}
-use Rattle.declare.specs.Tables.{predicatesBase, namesOf, GoodVocabulary}
+use Rattle.declare.specs.Tables.{namesOf, GoodVocabulary}
 use Rattle.label.specs.Labels.{areArities}
 use Rattle.refusal.specs.declared.Refusal.the-variants.{Name, Arity, Range, Space}
 use Rattle.regress.specs.Calls.{ok}
@@ -234,21 +235,21 @@ module _ (s : List ℕ) (l : Live) (f : Fact) {b : Bool} (q : b ≡ isFact (take
 pub note-room : (s : List ℕ) (l : Live) → GoodLive s l → 32 + l .facts * 5 ≤ length s
 note-room s l g = let r = g .room in let h = g .facts in omega arith
 
-module _ (ar table s : List ℕ) (n : Counts) (l : Live) (k : Key) (o : Tuple) {i : ℕ} (p : i ≡ placeOf k (keysAt table predicatesBase (n .predicates))) where
+module _ (ar table s : List ℕ) (n : Counts) (l : Live) (k : Key) (o : Tuple) {i : ℕ} (p : i ≡ placeOf k (keysAt table declaredAt (n .predicates))) where
   pub tell-name : n .predicates ≤ i → Telling ar table n s l k o (Refused Name) s
   unfolding trueLine namesOf
-  tell-name h = record { told = λ os w. record { lives = (rw (among-none table predicatesBase (n .predicates) k p h), refl) } }
+  tell-name h = record { told = λ os w. record { lives = (rw (among-none table declaredAt (n .predicates) k p h), refl) } }
 
   module _ (h : i < n .predicates) where
-    predicate-at : getD ar (i + 1) 0 ≡ getD ar (suc (placeOf k (keysAt table predicatesBase (n .predicates)))) 0
-    predicate-at = let e : i + 1 ≡ suc (placeOf k (keysAt table predicatesBase (n .predicates))) = omega arith in ap (λ (j : ℕ). getD ar j 0) e
+    predicate-at : getD ar (i + 1) 0 ≡ getD ar (suc (placeOf k (keysAt table declaredAt (n .predicates)))) 0
+    predicate-at = let e : i + 1 ≡ suc (placeOf k (keysAt table declaredAt (n .predicates))) = omega arith in ap (λ (j : ℕ). getD ar j 0) e
 
     pub tell-arity : (o .count ≡ getD ar (i + 1) 0 → ⊥) → Telling ar table n s l k o (Refused Arity) s
     unfolding trueLine namesOf
     tell-arity e = record {
       told = λ os w. record {
         lives = (
-          rw (among-at table predicatesBase (n .predicates) k p h, ← w .count, ← predicate-at, ne-eqb (o .count) (getD ar (i + 1) 0) e),
+          rw (among-at table declaredAt (n .predicates) k p h, ← w .count, ← predicate-at, ne-eqb (o .count) (getD ar (i + 1) 0) e),
           refl,
         );
       };
@@ -260,7 +261,7 @@ module _ (ar table s : List ℕ) (n : Counts) (l : Live) (k : Key) (o : Tuple) {
       tell-range b = record {
         told = λ os w. record {
           lives = (
-            rw (among-at table predicatesBase (n .predicates) k p h, ← w .count, ← predicate-at, eq-eqb (o .count) (getD ar (i + 1) 0) e, ← w .within, b),
+            rw (among-at table declaredAt (n .predicates) k p h, ← w .count, ← predicate-at, eq-eqb (o .count) (getD ar (i + 1) 0) e, ← w .within, b),
             refl,
           );
         };
@@ -272,14 +273,14 @@ module _ (ar table s : List ℕ) (n : Counts) (l : Live) (k : Key) (o : Tuple) {
       unfolding trueLine namesOf liveOf
       tell-done {r} {t} b v = record {
         told = λ os w.
-            rw (among-at table predicatesBase (n .predicates) k p h, ← w .count, ← predicate-at, eq-eqb (o .count) (getD ar (i + 1) 0) e)
+            rw (among-at table declaredAt (n .predicates) k p h, ← w .count, ← predicate-at, eq-eqb (o .count) (getD ar (i + 1) 0) e)
             (within os w);
       }
         where
-          number : i + 1 ≡ suc (placeOf k (keysAt table predicatesBase (n .predicates)))
+          number : i + 1 ≡ suc (placeOf k (keysAt table declaredAt (n .predicates)))
           number = omega arith
 
-          within : (os : List ℕ) → TupleOf (l .objects) os o → Living (refuseIf (not (allBelow (liveOf s l .objects) os)) Range (factLine (liveOf s l) (factRow (suc (placeOf k (keysAt table predicatesBase (n .predicates)))) os))) s r t
+          within : (os : List ℕ) → TupleOf (l .objects) os o → Living (refuseIf (not (allBelow (liveOf s l .objects) os)) Range (factLine (liveOf s l) (factRow (suc (placeOf k (keysAt table declaredAt (n .predicates)))) os))) s r t
           within os w = rw (← w .first, ← w .second, ← w .third, ← w .fourth, ← number) (open-up os w)
             where
               open-up : (os : List ℕ) → TupleOf (l .objects) os o → Living (refuseIf (not (allBelow (liveOf s l .objects) os)) Range (factLine (liveOf s l) (rowOf (record { predicate = i + 1; first = o .first; second = o .second; third = o .third; fourth = o .fourth })))) s r t

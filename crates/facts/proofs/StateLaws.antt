@@ -11,12 +11,13 @@ use lib.Dec.{leb, eqb}
 use Rattle.refusal.specs.declared.Refusal.the-variants.{Name, Range}
 use Rattle.words.specs.declared.Key.{Key}
 use Rattle.names.specs.Keys.{keysAt, placeOf, isAmong}
+use Rattle.names.specs.Layout.{constantsAt}
 use Rattle.names.specs.KeyLaws.{among-at, among-none}
 use Rattle.regress.specs.Calls.{Outcome, ok, refused}
 use Rattle.session.specs.Session.{Names, Live as SessionLive}
 use Rattle.session.specs.Facts.{objectsLine, isLine, cleared, placed}
 use Rattle.declare.specs.declared.Counts.{Counts}
-use Rattle.declare.specs.Tables.{constantsBase, namesOf, GoodNames}
+use Rattle.declare.specs.Tables.{namesOf, GoodNames}
 use Rattle.facts.specs.declared.Live.{Live}
 use Rattle.facts.specs.declared.Told.the-variants.{Done, Refused}
 use Rattle.facts.specs.Words.{part, liveOf, GoodLive, Living, Cleared}
@@ -76,10 +77,10 @@ module _ (s : List ℕ) (n : ℕ) where
 
 -- ===== (is c o) =====
 
-module _ (table s : List ℕ) (n : Counts) (l : Live) (k : Key) (o : ℕ) {c : ℕ} (p : c ≡ placeOf k (keysAt table constantsBase (n .constants))) where
+module _ (table s : List ℕ) (n : Counts) (l : Live) (k : Key) (o : ℕ) {c : ℕ} (p : c ≡ placeOf k (keysAt table constantsAt (n .constants))) where
   pub place-unknown : n .constants ≤ c → Living (isLine (namesOf table n) (liveOf s l) k o) s (Refused Name) s
   unfolding isLine namesOf
-  place-unknown h = record { lives = (rw (among-none table constantsBase (n .constants) k p h), refl) }
+  place-unknown h = record { lives = (rw (among-none table constantsAt (n .constants) k p h), refl) }
 
   placed-at : c < 16 → getD (part s 16 16) c 0 ≡ getD s (16 + c) 0
   placed-at h = getD-take 16 (drop 16 s) c 0 h ∙ getD-drop 16 s c 0
@@ -89,14 +90,14 @@ module _ (table s : List ℕ) (n : Counts) (l : Live) (k : Key) (o : ℕ) {c : �
     unfolding isLine namesOf liveOf
     place-again e =
         let f = g .constants in
-        record { lives = (rw (among-at table constantsBase (n .constants) k p h, ← p, placed-at (omega arith), e), refl) }
+        record { lives = (rw (among-at table constantsAt (n .constants) k p h, ← p, placed-at (omega arith), e), refl) }
 
     module _ (e : getD s (16 + c) 0 ≡ 1 → ⊥) where
       pub place-beyond : l .objects ≤ o → Living (isLine (namesOf table n) (liveOf s l) k o) s (Refused Range) s
       unfolding isLine namesOf liveOf
       place-beyond b =
           let f = g .constants in
-          record { lives = (rw (among-at table constantsBase (n .constants) k p h, ← p, placed-at (omega arith), ne-eqb (getD s (16 + c) 0) 1 e, le-leb (l .objects) o b), refl) }
+          record { lives = (rw (among-at table constantsAt (n .constants) k p h, ← p, placed-at (omega arith), ne-eqb (getD s (16 + c) 0) 1 e, le-leb (l .objects) o b), refl) }
 
       pub place-done : GoodLive s l → o < l .objects → Living (isLine (namesOf table n) (liveOf s l) k o) s (Done l) (set (set s (16 + c) 1) c o)
       unfolding isLine namesOf liveOf placed
@@ -106,7 +107,7 @@ module _ (table s : List ℕ) (n : Counts) (l : Live) (k : Key) (o : ℕ) {c : �
           let u : List ℕ = set s (16 + c) 1 in
           record {
             lives = (
-              rw (among-at table constantsBase (n .constants) k p h, ← p, placed-at m, ne-eqb (getD s (16 + c) 0) 1 e, lt-leb (l .objects) o b)
+              rw (among-at table constantsAt (n .constants) k p h, ← p, placed-at m, ne-eqb (getD s (16 + c) 0) 1 e, lt-leb (l .objects) o b)
                   (ap ok (live-ext _ _ refl
                   (sym (ap (take 16) (drop-set-lt 16 u c o m ∙ drop-set-add 16 s c 1) ∙ take-set-lt 16 (drop 16 s) c 1 m))
                   (sym (take-set-lt 16 u c o m ∙ ap (λ (x : List ℕ). set x c o) (take-set-le 16 s (16 + c) 1 (omega arith))))

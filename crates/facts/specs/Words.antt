@@ -1,6 +1,7 @@
 -- A state in lent words: the constants' objects, marks of those placed, then the facts as rows of five words.
 use mathlib.Core.Path.{_≡_}
-use mathlib.Core.Bool.{Bool, _&&_}
+use mathlib.Core.Bool.{Bool, _&&_, cond}
+use lib.Dec.{eqb, ltb}
 use mathlib.Core.List.{List, [], _∷_}
 use Prim.Native.Nat.{ℕ, _+_, _*_, _<_, _≤_}
 use lib.ListN.{length, getD, take, drop}
@@ -82,3 +83,17 @@ pub record TupleOf (n : ℕ) (os : List ℕ) (o : Tuple) : Type 0 where
 -- a line (true p o ..) whose predicate has the key k and whose objects os are kept as o
 pub record Telling (ar table : List ℕ) (n : Counts) (s : List ℕ) (l : Live) (k : Key) (o : Tuple) (r : Told) (t : List ℕ) : Type 0 where
   pub told : (os : List ℕ) → TupleOf (l .objects) os o → Living (trueLine ar (namesOf table n) (liveOf s l) k os) s r t
+
+-- one object v more
+abbrev pub slotOf : ℕ → ℕ → ℕ → ℕ → ℕ
+slotOf count k old v = cond (eqb count k) v old
+
+unfoldable pub tupleMore : Tuple → ℕ → ℕ → Tuple
+tupleMore t v n = record {
+  count = t .count + 1;
+  within = t .within && ltb v n;
+  first = slotOf (t .count) 0 (t .first) v;
+  second = slotOf (t .count) 1 (t .second) v;
+  third = slotOf (t .count) 2 (t .third) v;
+  fourth = slotOf (t .count) 3 (t .fourth) v;
+}

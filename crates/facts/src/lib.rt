@@ -1,14 +1,19 @@
 // Lines of the state: its objects, the constants' objects and the facts, in lent words.
 use declare::Counts;
+use events::Event;
 use label::Term;
 use refusal::Refusal;
 use words::Key;
 ghost use mathlib.Core.Path.{_≡_};
 ghost use Prim.Native.Nat.{ℕ, _+_, _*_, _<_, _≤_};
-ghost use lib.ListN.{length};
+ghost use lib.ListN.{length, drop};
 ghost use Rattle.session.specs.Facts.{objectsLine, isLine, isFact, factLine};
 ghost use Rattle.declare.specs.Tables.{namesOf, GoodNames, GoodVocabulary};
-ghost use Rattle.facts.specs.Words.{liveOf, GoodLive, Living, Cleared, rowOf, rowIs, Putting, Telling};
+ghost use Rattle.facts.specs.Words.{liveOf, GoodLive, Living, Cleared, rowOf, rowIs, Putting, TupleOf, Telling, slotOf, tupleMore};
+ghost use mathlib.Core.Bool.{_&&_};
+ghost use lib.Dec.{ltb};
+ghost use Rattle.events.specs.Front.{isEnd, eventsOf};
+ghost use Rattle.session.specs.Words.{numberIn, numbersIn};
 
 // How many objects there are, 0 before an accepted (objects n), and how many facts.
 pub struct Live {
@@ -189,7 +194,7 @@ pub fn tell(
     requires { ⌜ GoodLive (now state) live ⌝ }
     ensures { λ r. ⌜ Telling (now (arities .entry)) (now (table .entry)) n (now (state .entry)) live key o r (now (state .exit)) ⌝ }
 {
-    let i = names::find(table, declare::FIRST_PREDICATE, n.predicates, key);
+    let i = names::find(table, names::DECLARED, n.predicates, key);
     if i >= n.predicates {
         return Told::Refused(Refusal::Name);
     }
@@ -211,4 +216,98 @@ pub fn tell(
         );
     }
     Told::Refused(Refusal::Range)
+}
+
+// A number that a word is; 0 for other words.
+fn number_in(event: Event) -> u64
+    ensures { λ r. ⌜ r ≡ numberIn event ⌝ }
+{
+    match event {
+        Event::Name(_) => 0,
+        Event::Variable(_) => 0,
+        Event::Parameter(_) => 0,
+        Event::Number(v) => v,
+        Event::Equal => 0,
+        Event::Holds(_, _) => 0,
+        Event::Step => 0,
+        Event::End => 0,
+    }
+}
+
+// Whether the line ends here.
+fn is_end(event: Event) -> bool
+    ensures { λ r. ⌜ r ≡ isEnd event ⌝ }
+{
+    match event {
+        Event::Name(_) => false,
+        Event::Variable(_) => false,
+        Event::Parameter(_) => false,
+        Event::Number(_) => false,
+        Event::Equal => false,
+        Event::Holds(_, _) => false,
+        Event::Step => false,
+        Event::End => true,
+    }
+}
+
+// What stands at place k: v if it is the next, else what stood there.
+fn slot(count: u64, k: u64, old: u64, v: u64) -> u64
+    ensures { λ r. ⌜ r ≡ slotOf count k old v ⌝ }
+{
+    if count == k {
+        return v;
+    }
+    old
+}
+
+// Whether all objects are below n, the next one too.
+fn still(within: bool, v: u64, n: u64) -> bool
+    ensures { λ r. ⌜ r ≡ (within && ltb v n) ⌝ }
+{
+    if within {
+        return v < n;
+    }
+    false
+}
+
+// One object more.
+fn add(t: Tuple, v: u64, n: u64) -> Tuple
+    requires { ⌜ t .count < 4096 ⌝ }
+    ensures { λ r. ⌜ r ≡ tupleMore t v n ⌝ }
+{
+    Tuple {
+        count: t.count + 1,
+        within: still(t.within, v, n),
+        first: slot(t.count, 0, t.first, v),
+        second: slot(t.count, 1, t.second, v),
+        third: slot(t.count, 2, t.third, v),
+        fourth: slot(t.count, 3, t.fourth, v),
+    }
+}
+
+// The numbers from the place `at` on, as objects of a state of n.
+pub fn read_tuple(line: &[u8], at: usize, n: u64) -> Tuple
+    requires { ⌜ at ≤ length (now line) ⌝ }
+    requires { ⌜ length (now line) < 4096 ⌝ }
+    ensures { λ r. ⌜ TupleOf n (numbersIn (eventsOf (drop at (now (line .entry))))) r ⌝ }
+{
+    let mut t = Tuple {
+        count: 0,
+        within: true,
+        first: 0,
+        second: 0,
+        third: 0,
+        fourth: 0,
+    };
+    let mut place = at;
+    while place < line.len() {
+        let next = events::next_event(line, place);
+        let event = next.event;
+        if is_end(event) {
+            return t;
+        }
+        t = add(t, number_in(event), n);
+        place = next.place;
+    }
+    t
 }

@@ -5,11 +5,14 @@ ghost use Prim.Native.Nat.{ℕ, _+_, _*_, _≤_};
 ghost use lib.ListN.{length};
 ghost use Rattle.names.specs.Keys.{sameKey, keyAt, keysAt, placeOf, putKey};
 
-// Where the tables of a session's names begin: the constants' keys, the predicates' keys by number (that of equality is unused),
-// the actions' keys, the keys of the last action's parameters and of its variants; and how many words they take together.
+// Where the tables of a session's names begin: the constants' keys; the predicates' keys by number, that of equality unused, and so
+// the first declared predicate's; the actions' keys; the keys of the last action's parameters and of its variants. WORDS is what they
+// take together.
 pub const CONSTANTS: usize = 0;
 
 pub const PREDICATES: usize = 32;
+
+pub const DECLARED: usize = 34;
 
 pub const ACTIONS: usize = 96;
 

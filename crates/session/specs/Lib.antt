@@ -1,5 +1,6 @@
 -- Sessions: what a text's lines declare and ask for.
 pub mod Place
+pub mod Words
 pub mod Session
 pub mod Declaring
 pub mod Facts

@@ -1,0 +1,28 @@
+-- Where the tables of a session's names begin, and how many words they take together: each number stands here once.
+use Prim.Native.Nat.{ℕ}
+
+-- the constants' keys, 16 at most
+abbrev pub constantsAt : ℕ
+constantsAt = 0
+
+-- the predicates' keys by number, 32 at most; equality is number 0 and has none
+abbrev pub predicatesAt : ℕ
+predicatesAt = 32
+
+-- the first declared predicate has number 1
+abbrev pub declaredAt : ℕ
+declaredAt = 34
+
+-- the actions' keys, 8 at most
+abbrev pub actionsAt : ℕ
+actionsAt = 96
+
+-- the keys of the last action's parameters, 4 at most, and of its variants, 8 at most
+abbrev pub parametersAt : ℕ
+parametersAt = 112
+
+abbrev pub variantsAt : ℕ
+variantsAt = 120
+
+abbrev pub nameWords : ℕ
+nameWords = 136
