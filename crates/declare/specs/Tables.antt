@@ -1,19 +1,23 @@
 -- A session's names in lent words, and what a declaration does to them.
 use mathlib.Core.Path.{_≡_}
-use mathlib.Core.Bool.{true}
-use mathlib.Core.List.{List}
-use Prim.Native.Nat.{ℕ, suc, _<_, _≤_}
+use mathlib.Core.Bool.{true, false}
+use mathlib.Core.List.{List, []}
+use Prim.Native.Nat.{ℕ, suc, _*_, _<_, _≤_}
 use lib.ListN.{length}
 use Rattle.refusal.specs.declared.Refusal.{Refusal}
 use Rattle.label.specs.Limits.{constantCount, predicateCount, parameterCount}
 use Rattle.label.specs.Labels.{areArities}
+use Rattle.words.specs.declared.Key.{Key}
 use Rattle.names.specs.Keys.{keysAt}
+use Rattle.names.specs.KeyLaws.{Same}
 use Rattle.names.specs.Layout.{constantsAt, declaredAt, actionsAt, parametersAt, variantsAt, nameWords}
 use Rattle.regress.specs.Calls.{Outcome, ok, refused}
 use Rattle.mdp.specs.Model.{mostActions, mostVariants}
 use Rattle.session.specs.Session.{Names}
-use Rattle.session.specs.Declaring.{Vocabulary}
+use Rattle.session.specs.Declaring.{Vocabulary, repeated}
 use Rattle.declare.specs.declared.Counts.{Counts}
+use Rattle.declare.specs.declared.Parameters.{Parameters}
+use Rattle.declare.specs.declared.Parameters.the-variants.{Distinct, Twice}
 use Rattle.declare.specs.declared.Declared.{Declared}
 use Rattle.declare.specs.declared.Declared.the-variants.{Done, Refused}
 
@@ -57,3 +61,17 @@ Worded o s ar (Refused r) t br = (o ≡ refused r) × (t ≡ s) × (br ≡ ar)
 
 pub record Wording (o : Outcome Vocabulary) (s ar : List ℕ) (r : Declared) (t br : List ℕ) : Type 0 where
   pub worded : Worded o s ar r t br
+
+-- the parameters ps of an action, as keys in words
+abbrev pub Distinguished : List Key → Parameters → List ℕ → Type 0
+Distinguished ps (Distinct n) s = (repeated [] ps ≡ false) × (keysAt s 0 n ≡ ps) × (n * 2 ≤ length s)
+Distinguished ps Twice s = repeated [] ps ≡ true
+
+pub record ParametersOf (ps : List Key) (r : Parameters) (s : List ℕ) : Type 0 where
+  pub told : Distinguished ps r s
+
+-- the first n keys of ks stand as parameters in t, all else is as in s
+pub record Copied (ks s t : List ℕ) (n : ℕ) : Type 0 where
+  pub size : length t ≡ length s
+  pub keys : keysAt t parametersAt n ≡ keysAt ks 0 n
+  pub before : Same s t 0 parametersAt

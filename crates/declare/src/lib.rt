@@ -5,9 +5,11 @@ use refusal::Refusal;
 use words::Key;
 ghost use mathlib.Core.Path.{_≡_};
 ghost use Prim.Native.Nat.{ℕ, _+_, _*_, _<_, _≤_};
-ghost use lib.ListN.{length};
+ghost use lib.ListN.{length, drop};
+ghost use Rattle.events.specs.Front.{eventsOf};
+ghost use Rattle.events.specs.Contents.{keysIn};
 ghost use Rattle.session.specs.Declaring.{isDeclared, constantLine, predicateLine};
-ghost use Rattle.declare.specs.Tables.{namesOf, GoodNames, Naming, vocabularyOf, GoodVocabulary, Wording};
+ghost use Rattle.declare.specs.Tables.{namesOf, GoodNames, Naming, vocabularyOf, GoodVocabulary, Wording, ParametersOf, Copied};
 
 // How many names there are of each sort; parameters and variants are those of the last action.
 pub struct Counts {
@@ -90,4 +92,50 @@ pub fn predicate(
         parameters: n.parameters,
         variants: n.variants,
     })
+}
+
+// The parameters of an action: how many, all different, or one given twice.
+pub enum Parameters {
+    Distinct(usize),
+    Twice,
+}
+
+// The names from the place `at` on, as keys.
+fn read_parameters(line: &[u8], at: usize, keys: &mut [u64]) -> Parameters
+    requires { ⌜ at ≤ length (now line) ⌝ }
+    requires { ⌜ length (now line) * 2 ≤ length (now keys) ⌝ }
+    ensures { λ r. ⌜ ParametersOf (keysIn (eventsOf (drop at (now (line .entry))))) r (now (keys .exit)) ⌝ }
+{
+    let mut place = at;
+    let mut n = 0;
+    while place < line.len() {
+        let next = events::next_event(line, place);
+        let event = next.event;
+        if events::is_end(event) {
+            return Parameters::Distinct(n);
+        }
+        let key = events::key_in(event);
+        if names::find(keys, 0, n, key) < n {
+            return Parameters::Twice;
+        }
+        names::put(keys, n * 2, key);
+        n += 1;
+        place = next.place;
+    }
+    Parameters::Distinct(n)
+}
+
+// Writes the first n keys as the last action's parameters.
+fn copy_parameters(keys: &[u64], n: usize, table: &mut [u64])
+    requires { ⌜ n ≤ 4 ⌝ }
+    requires { ⌜ n * 2 ≤ length (now keys) ⌝ }
+    requires { ⌜ 136 ≤ length (now table) ⌝ }
+    ensures { λ _. ⌜ Copied (now (keys .entry)) (now (table .entry)) (now (table .exit)) n ⌝ }
+{
+    let mut i = 0;
+    while i < n {
+        let key = names::key_at(keys, 0, i);
+        names::put(table, names::PARAMETERS + i * 2, key);
+        i += 1;
+    }
 }

@@ -13,7 +13,7 @@ use Rattle.events.specs.declared.Event.{Event}
 use Rattle.events.specs.declared.Next.{Next}
 use Rattle.events.specs.Front.{isEnd, nextAt, eventsOf}
 use Rattle.events.specs.FrontLaws.{next-end, next-more, next-moves, events-short}
-use Rattle.session.specs.Words.{numberIn, numbersIn}
+use Rattle.events.specs.Contents.{numberIn, numbersIn}
 use Rattle.facts.specs.declared.Tuple.{Tuple}
 use Rattle.facts.specs.Words.{TupleOf, slotOf, tupleMore}
 

@@ -1,6 +1,5 @@
 // Lines of the state: its objects, the constants' objects and the facts, in lent words.
 use declare::Counts;
-use events::Event;
 use label::Term;
 use refusal::Refusal;
 use words::Key;
@@ -12,8 +11,8 @@ ghost use Rattle.declare.specs.Tables.{namesOf, GoodNames, GoodVocabulary};
 ghost use Rattle.facts.specs.Words.{liveOf, GoodLive, Living, Cleared, rowOf, rowIs, Putting, TupleOf, Telling, slotOf, tupleMore};
 ghost use mathlib.Core.Bool.{_&&_};
 ghost use lib.Dec.{ltb};
-ghost use Rattle.events.specs.Front.{isEnd, eventsOf};
-ghost use Rattle.session.specs.Words.{numberIn, numbersIn};
+ghost use Rattle.events.specs.Front.{eventsOf};
+ghost use Rattle.events.specs.Contents.{numbersIn};
 
 // How many objects there are, 0 before an accepted (objects n), and how many facts.
 pub struct Live {
@@ -218,38 +217,6 @@ pub fn tell(
     Told::Refused(Refusal::Range)
 }
 
-// A number that a word is; 0 for other words.
-fn number_in(event: Event) -> u64
-    ensures { λ r. ⌜ r ≡ numberIn event ⌝ }
-{
-    match event {
-        Event::Name(_) => 0,
-        Event::Variable(_) => 0,
-        Event::Parameter(_) => 0,
-        Event::Number(v) => v,
-        Event::Equal => 0,
-        Event::Holds(_, _) => 0,
-        Event::Step => 0,
-        Event::End => 0,
-    }
-}
-
-// Whether the line ends here.
-fn is_end(event: Event) -> bool
-    ensures { λ r. ⌜ r ≡ isEnd event ⌝ }
-{
-    match event {
-        Event::Name(_) => false,
-        Event::Variable(_) => false,
-        Event::Parameter(_) => false,
-        Event::Number(_) => false,
-        Event::Equal => false,
-        Event::Holds(_, _) => false,
-        Event::Step => false,
-        Event::End => true,
-    }
-}
-
 // What stands at place k: v if it is the next, else what stood there.
 fn slot(count: u64, k: u64, old: u64, v: u64) -> u64
     ensures { λ r. ⌜ r ≡ slotOf count k old v ⌝ }
@@ -303,10 +270,10 @@ pub fn read_tuple(line: &[u8], at: usize, n: u64) -> Tuple
     while place < line.len() {
         let next = events::next_event(line, place);
         let event = next.event;
-        if is_end(event) {
+        if events::is_end(event) {
             return t;
         }
-        t = add(t, number_in(event), n);
+        t = add(t, events::number_in(event), n);
         place = next.place;
     }
     t

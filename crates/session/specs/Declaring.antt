@@ -68,17 +68,17 @@ totalLine w = refuseIf (not (leb 1 w && leb w mostTotal)) Range (ok w)
 unfoldable pub discountLine : ℕ → ℕ → Outcome (ℕ × ℕ)
 discountLine g d = refuseIf (not (leb 1 d && (leb d mostDenominator && leb g d))) Range (ok (g, d))
 
--- a name twice among names
-unfoldable pub repeats : List Key → Bool
+-- one of the names ks is among those before it, the names vs first
+unfoldable pub repeated : List Key → List Key → Bool
 unfolding isAmong
-repeats [] = false
-repeats (k ∷ ks) = isAmong k ks || repeats ks
+repeated vs [] = false
+repeated vs (k ∷ ks) = isAmong k vs || repeated (vs ++ (k ∷ [])) ks
 
 -- (action n !p ..): 2 at its name and at a repeated parameter; last 9 for 4 parameters and 8 actions. It has no variant yet.
 unfoldable pub actionLine : Names → Key → List Key → Outcome Names
-unfolding isAmong repeats
+unfolding isAmong repeated
 actionLine n k ps =
-    refuseIf (isAmong k (n .actions) || repeats ps) Name
+    refuseIf (isAmong k (n .actions) || repeated [] ps) Name
     (refuseIf (ltb parameterCount (length ps) || leb mostActions (length (n .actions))) Space
     (ok (record {
       constants = n .constants;

@@ -1,10 +1,10 @@
--- What the words of a flat line say, one event for each (document 01, section 'Text').
+-- What the words of a line without a diagram say (document 01, section 'Text').
 use Prim.Native.Nat.{ℕ}
 use mathlib.Core.List.{List, map}
 use lib.ListN.{getD}
 use Rattle.words.specs.declared.Key.{Key}
 use Rattle.events.specs.declared.Event.{Event}
 use Rattle.events.specs.declared.Event.the-variants.{Name, Variable, Parameter, Number, Equal, Holds, Step, End}
 
 abbrev pub noKey : Key
 noKey = record { a = 0; b = 0 }
