@@ -4,11 +4,12 @@ use mathlib.Core.Bool.{Bool, true, false, _||_}
 use mathlib.Core.List.{List, [], _∷_, _++_, append-nil, append-assoc}
 use Prim.Native.Nat.{ℕ, zero, suc, _+_, _*_, _-_, _<_, _≤_}
 use native.Mathlib.Omega.{arith}
+use borrow.Author.Tests.{lt-ltb, le-ltb, le-leb, lt-leb}
 use lib.ListN.{length, getD, drop, length-drop}
 use Rattle.words.specs.declared.Key.{Key}
 use Rattle.names.specs.Keys.{keyAt, keysAt, placeOf, isAmong, putKey}
-use Rattle.names.specs.Layout.{parametersAt}
-use Rattle.names.specs.KeyLaws.{Same, among-at, among-none, length-keys, length-put, put-before, keys-more}
+use Rattle.names.specs.Layout.{constantsAt, declaredAt, actionsAt, parametersAt, variantsAt}
+use Rattle.names.specs.KeyLaws.{Same, among-at, among-none, length-keys, keys-same, length-put, put-before, keys-more}
 use Rattle.names.specs.Many.{many}
 use Rattle.names.specs.ManyLaws.{many-more}
 use Rattle.events.specs.declared.Event.{Event}
@@ -16,9 +17,15 @@ use Rattle.events.specs.declared.Next.{Next}
 use Rattle.events.specs.Front.{isEnd, nextAt, eventsOf}
 use Rattle.events.specs.FrontLaws.{next-end, next-more, next-moves, events-short}
 use Rattle.events.specs.Contents.{keyIn, keysIn}
-use Rattle.session.specs.Declaring.{repeated}
+use Rattle.refusal.specs.declared.Refusal.the-variants.{Name, Space}
+use Rattle.regress.specs.Calls.{ok}
+use Rattle.session.specs.Declaring.{repeated, actionLine}
+use Rattle.declare.specs.declared.Counts.{Counts}
+use Rattle.declare.specs.declared.Declared.the-variants.{Done, Refused}
+use Rattle.declare.specs.declared.Parameters.{Parameters}
 use Rattle.declare.specs.declared.Parameters.the-variants.{Distinct, Twice}
-use Rattle.declare.specs.Tables.{ParametersOf, Copied}
+use Rattle.declare.specs.Tables.{namesOf, GoodNames, Naming, Distinguished, ParametersOf, Copied}
+use Rattle.declare.proofs.TableLaws.{names-ext}
 
 -- ===== Reading them =====
 
@@ -156,3 +163,75 @@ copy-room ks s t i n c r h f = let w = c .size in omega arith
 
 pub copy-end : (ks s t : List ℕ) (i n : ℕ) → Copied ks s t i → i ≤ n → n ≤ i → Copied ks s t n
 copy-end ks s t i n c h k = let e : i ≡ n = omega arith in subst (Copied ks s t) e c
+
+-- ===== (action n !p ..) =====
+
+no-variants : (s : List ℕ) (base : ℕ) → keysAt s base 0 ≡ []
+unfolding keysAt many
+no-variants s base = refl
+
+module _ (s : List ℕ) (n : Counts) (k : Key) (ps : List Key) where
+  pub action-name : {i : ℕ} → i ≡ placeOf k (keysAt s actionsAt (n .actions)) → i < n .actions → Naming (actionLine (namesOf s n) k ps) s (Refused Name) s
+  unfolding actionLine namesOf
+  action-name p h = record { named = (rw (among-at s actionsAt (n .actions) k p h), refl) }
+
+  module _ {i : ℕ} (p : i ≡ placeOf k (keysAt s actionsAt (n .actions))) (h : n .actions ≤ i) where
+    pub action-twice : {t : List ℕ} {q : Parameters} → q ≡ Twice → ParametersOf ps q t → Naming (actionLine (namesOf s n) k ps) s (Refused Name) s
+    unfolding actionLine namesOf
+    action-twice {t} {q} e d = go (subst (λ (x : Parameters). Distinguished ps x t) e (d .told))
+      where
+        go : repeated [] ps ≡ true → Naming (actionLine (namesOf s n) k ps) s (Refused Name) s
+        go z = record { named = (rw (among-none s actionsAt (n .actions) k p h, z), refl) }
+
+    module _ {c : ℕ} {ks : List ℕ} {q : Parameters} (e : q ≡ Distinct c) (d : ParametersOf ps q ks) where
+      distinct : Distinguished ps (Distinct c) ks
+      distinct = subst (λ (x : Parameters). Distinguished ps x ks) e (d .told)
+
+      size : length ps ≡ c
+      size = ap length (sym (distinct .1)) ∙ length-keys ks 0 c
+
+      pub action-parameters : 4 < c → Naming (actionLine (namesOf s n) k ps) s (Refused Space) s
+      unfolding actionLine namesOf
+      action-parameters l = record { named = (rw (among-none s actionsAt (n .actions) k p h, distinct .0, size, lt-ltb 4 c l), refl) }
+
+      pub action-many : c ≤ 4 → 8 ≤ n .actions → Naming (actionLine (namesOf s n) k ps) s (Refused Space) s
+      unfolding actionLine namesOf
+      action-many l m = record { named = (rw (among-none s actionsAt (n .actions) k p h, distinct .0, size, le-ltb 4 c l, length-keys s actionsAt (n .actions), le-leb 8 (n .actions) m), refl) }
+
+      pub action-room : c * 2 ≤ length ks
+      action-room = distinct .2
+
+      pub action-done : {t u : List ℕ} → GoodNames s n → c ≤ 4 → n .actions < 8 → t ≡ putKey s (actionsAt + n .actions * 2) k → Copied ks t u c
+          → Naming (actionLine (namesOf s n) k ps) s
+          (Done (record { constants = n .constants; predicates = n .predicates; actions = n .actions + 1; parameters = c; variants = 0 })) u
+      unfolding actionLine namesOf
+      action-done {t} {u} g l m z y =
+          record {
+            named = (
+              rw (among-none s actionsAt (n .actions) k p h, distinct .0, size, le-ltb 4 c l, length-keys s actionsAt (n .actions), lt-leb 8 (n .actions) m)
+                  (ap ok (names-ext _ _
+                  (sym (early constantsAt (n .constants) (let a = g .constants in omega arith) ∙ kept constantsAt (n .constants) (let a = g .constants in omega arith)))
+                  (sym (early declaredAt (n .predicates) (let a = g .predicates in omega arith) ∙ kept declaredAt (n .predicates) (let a = g .predicates in omega arith)))
+                  (sym (early actionsAt (n .actions + 1) (omega arith) ∙ ap (λ (x : List ℕ). keysAt x actionsAt (n .actions + 1)) z ∙ keys-more s actionsAt (n .actions) k (let r = g .room in omega arith)))
+                  (sym (y .keys ∙ distinct .1))
+                  (sym (no-variants u variantsAt)))),
+              record {
+                room = rw (y .size, z, length-put) (g .room);
+                constants = g .constants;
+                predicates = g .predicates;
+                actions = omega arith;
+                parameters = l;
+                variants = omega arith;
+              },
+            );
+          }
+        where
+          early : (base w : ℕ) → base + w * 2 ≤ parametersAt → keysAt u base w ≡ keysAt t base w
+          early base w r = keys-same t u base w (record { word = λ j a b. y .before .word j (omega arith) (omega arith) })
+
+          kept : (base w : ℕ) → base + w * 2 ≤ actionsAt → keysAt t base w ≡ keysAt s base w
+          kept base w r = ap (λ (x : List ℕ). keysAt x base w) z
+              ∙ keys-same s (putKey s (actionsAt + n .actions * 2) k) base w (put-before s (actionsAt + n .actions * 2) k base (w * 2) (omega arith))
+
+pub put-room : (s t : List ℕ) (n : Counts) (i : ℕ) (k : Key) → GoodNames s n → t ≡ putKey s i k → 136 ≤ length t
+put-room s t n i k g z = let r = g .room in rw (z, length-put) r

@@ -8,7 +8,7 @@ ghost use Prim.Native.Nat.{ℕ, _+_, _*_, _<_, _≤_};
 ghost use lib.ListN.{length, drop};
 ghost use Rattle.events.specs.Front.{eventsOf};
 ghost use Rattle.events.specs.Contents.{keysIn};
-ghost use Rattle.session.specs.Declaring.{isDeclared, constantLine, predicateLine};
+ghost use Rattle.session.specs.Declaring.{isDeclared, constantLine, predicateLine, actionLine};
 ghost use Rattle.declare.specs.Tables.{namesOf, GoodNames, Naming, vocabularyOf, GoodVocabulary, Wording, ParametersOf, Copied};
 
 // How many names there are of each sort; parameters and variants are those of the last action.
@@ -138,4 +138,44 @@ fn copy_parameters(keys: &[u64], n: usize, table: &mut [u64])
         names::put(table, names::PARAMETERS + i * 2, key);
         i += 1;
     }
+}
+
+// Actions at most.
+const ACTIONS: usize = 8;
+
+// (action n !p ..): the key of its name, and the place of its parameters. The keys are working space.
+pub fn action(
+    table: &mut [u64],
+    n: Counts,
+    key: Key,
+    line: &[u8],
+    at: usize,
+    keys: &mut [u64],
+) -> Declared
+    requires { ⌜ GoodNames (now table) n ⌝ }
+    requires { ⌜ at ≤ length (now line) ⌝ }
+    requires { ⌜ length (now line) * 2 ≤ length (now keys) ⌝ }
+    ensures { λ r. ⌜ Naming (actionLine (namesOf (now (table .entry)) n) key (keysIn (eventsOf (drop at (now (line .entry)))))) (now (table .entry)) r (now (table .exit)) ⌝ }
+{
+    if names::find(table, names::ACTIONS, n.actions, key) < n.actions {
+        return Declared::Refused(Refusal::Name);
+    }
+    let Parameters::Distinct(count) = read_parameters(line, at, keys) else {
+        return Declared::Refused(Refusal::Name);
+    };
+    if count > (Term::PARAMETERS as usize) {
+        return Declared::Refused(Refusal::Space);
+    }
+    if n.actions >= ACTIONS {
+        return Declared::Refused(Refusal::Space);
+    }
+    names::put(table, names::ACTIONS + n.actions * 2, key);
+    copy_parameters(keys, count, table);
+    Declared::Done(Counts {
+        constants: n.constants,
+        predicates: n.predicates,
+        actions: n.actions + 1,
+        parameters: count,
+        variants: 0,
+    })
 }
