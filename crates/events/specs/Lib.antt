@@ -4,3 +4,4 @@ pub mod Front
 pub mod FrontLaws
 pub mod EventLaws
 pub mod LineEvents
+pub mod Contents

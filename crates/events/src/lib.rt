@@ -5,7 +5,8 @@ ghost use mathlib.Core.Path.{_≡_};
 ghost use Prim.Native.Nat.{ℕ, _+_, _≤_, _<_};
 ghost use lib.ListN.{length, drop};
 ghost use Rattle.events.specs.Events.{firstWord};
-ghost use Rattle.events.specs.Front.{space, behind, spaceBit, spaces, wordAt, isIf, atomFront, numberFront, frontOf, nextAt};
+ghost use Rattle.events.specs.Contents.{keyIn, numberIn};
+ghost use Rattle.events.specs.Front.{isEnd, space, behind, spaceBit, spaces, wordAt, isIf, atomFront, numberFront, frontOf, nextAt};
 
 // What stands next: a name, ?name, !name or number; an atom's begin, = or a name with its count of terms; the closing
 // bracket of an if form; the line's end.
@@ -251,5 +252,53 @@ pub fn next_event(s: &[u8], i: usize) -> Next
     Next {
         event: event,
         place: place,
+    }
+}
+
+// Whether the line ends here.
+pub fn is_end(event: Event) -> bool
+    ensures { λ r. ⌜ r ≡ isEnd event ⌝ }
+{
+    match event {
+        Event::Name(_) => false,
+        Event::Variable(_) => false,
+        Event::Parameter(_) => false,
+        Event::Number(_) => false,
+        Event::Equal => false,
+        Event::Holds(_, _) => false,
+        Event::Step => false,
+        Event::End => true,
+    }
+}
+
+// The key of a name, ?name or !name.
+pub fn key_in(event: Event) -> Key
+    ensures { λ r. ⌜ r ≡ keyIn event ⌝ }
+{
+    match event {
+        Event::Name(key) => key,
+        Event::Variable(key) => key,
+        Event::Parameter(key) => key,
+        Event::Number(_) => Key { a: 0, b: 0 },
+        Event::Equal => Key { a: 0, b: 0 },
+        Event::Holds(key, _) => key,
+        Event::Step => Key { a: 0, b: 0 },
+        Event::End => Key { a: 0, b: 0 },
+    }
+}
+
+// A number that a word is; 0 for other words.
+pub fn number_in(event: Event) -> u64
+    ensures { λ r. ⌜ r ≡ numberIn event ⌝ }
+{
+    match event {
+        Event::Name(_) => 0,
+        Event::Variable(_) => 0,
+        Event::Parameter(_) => 0,
+        Event::Number(v) => v,
+        Event::Equal => 0,
+        Event::Holds(_, _) => 0,
+        Event::Step => 0,
+        Event::End => 0,
     }
 }

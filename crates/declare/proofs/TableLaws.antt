@@ -1,0 +1,178 @@
+-- Laws of the tables of names, one for each way out of a declaration.
+use mathlib.Core.Path.{_≡_, refl, sym, ap, _∙_}
+use mathlib.Core.Bool.{Bool, true, false, _||_, _&&_}
+use mathlib.Core.List.{List, [], _∷_, _++_}
+use Prim.Native.Nat.{ℕ, zero, suc, _+_, _*_, _<_, _≤_}
+use native.Mathlib.Omega.{arith}
+use borrow.Author.Tests.{le-leb, lt-leb, le-ltb, lt-ltb, eqb-true}
+use lib.ListN.{length, getD, set, length-set}
+use lib.Seq.{getD-set-other}
+use lib.Dec.{ltb, leb, eqb}
+use Rattle.basics.specs.Tests.{and-left, and-right}
+use Rattle.label.specs.Limits.{predicateCount, mostPlaces, equality, equalityArity}
+use Rattle.label.specs.Labels.{allAtMost, areArities}
+use Rattle.refusal.specs.declared.Refusal.the-variants.{Name, Range, Space}
+use Rattle.words.specs.declared.Key.{Key}
+use Rattle.names.specs.Keys.{keysAt, placeOf, isAmong, putKey}
+use Rattle.names.specs.Layout.{constantsAt, declaredAt, actionsAt, parametersAt, variantsAt}
+use Rattle.names.specs.KeyLaws.{among-at, among-none, length-keys, keys-same, length-put, put-before, put-behind, keys-more}
+use Rattle.regress.specs.Calls.{Outcome, ok, refused}
+use Rattle.session.specs.Session.{Names}
+use Rattle.session.specs.Declaring.{isDeclared, constantLine, Vocabulary, predicateLine}
+use Rattle.declare.specs.declared.Counts.{Counts}
+use Rattle.declare.specs.declared.Declared.the-variants.{Done, Refused}
+use Rattle.declare.specs.Tables.{namesOf, GoodNames, Named, Naming, vocabularyOf, GoodVocabulary, Wording}
+
+pub names-ext : (x y : Names) → x .constants ≡ y .constants → x .predicates ≡ y .predicates → x .actions ≡ y .actions → x .parameters ≡ y .parameters
+    → x .variants ≡ y .variants → x ≡ y
+names-ext x y a b c d e = λ i. record { constants = a i; predicates = b i; actions = c i; parameters = d i; variants = e i }
+
+module _ (s : List ℕ) (n : Counts) (k : Key) {i : ℕ} (p : i ≡ placeOf k (keysAt s constantsAt (n .constants))) where
+  pub declared-constant : i < n .constants → true ≡ isDeclared (namesOf s n) k
+  unfolding isDeclared namesOf
+  declared-constant h = rw (among-at s constantsAt (n .constants) k p h)
+
+  module _ {j : ℕ} (q : j ≡ placeOf k (keysAt s declaredAt (n .predicates))) (h : n .constants ≤ i) where
+    pub declared-predicate : j < n .predicates → true ≡ isDeclared (namesOf s n) k
+    unfolding isDeclared namesOf
+    declared-predicate l = rw (among-none s constantsAt (n .constants) k p h, among-at s declaredAt (n .predicates) k q l)
+
+    pub declared-none : n .predicates ≤ j → false ≡ isDeclared (namesOf s n) k
+    unfolding isDeclared namesOf
+    declared-none l = rw (among-none s constantsAt (n .constants) k p h, among-none s declaredAt (n .predicates) k q l)
+
+-- ===== (constant n) =====
+
+constant-put : (s : List ℕ) (n : Counts) (k : Key) → GoodNames s n → n .constants < 16
+    → namesOf (putKey s (constantsAt + n .constants * 2) k) (record { constants = n .constants + 1; predicates = n .predicates; actions = n .actions; parameters = n .parameters; variants = n .variants })
+    ≡ record {
+      constants = keysAt s constantsAt (n .constants) ++ (k ∷ []);
+      predicates = namesOf s n .predicates;
+      actions = namesOf s n .actions;
+      parameters = namesOf s n .parameters;
+      variants = namesOf s n .variants;
+    }
+unfolding namesOf
+constant-put s n k g h =
+    let r = g .room in
+    let i : ℕ = constantsAt + n .constants * 2 in
+    names-ext _ _
+    (keys-more s constantsAt (n .constants) k (omega arith))
+    (kept declaredAt (n .predicates) (omega arith))
+    (kept actionsAt (n .actions) (omega arith))
+    (kept parametersAt (n .parameters) (omega arith))
+    (kept variantsAt (n .variants) (omega arith))
+  where
+    kept : (base m : ℕ) → constantsAt + n .constants * 2 + 2 ≤ base → keysAt (putKey s (constantsAt + n .constants * 2) k) base m ≡ keysAt s base m
+    kept base m l = keys-same s (putKey s (constantsAt + n .constants * 2) k) base m (put-behind s (constantsAt + n .constants * 2) k base (m * 2) l)
+
+module _ (s : List ℕ) (n : Counts) (k : Key) where
+  pub constant-name : {b : Bool} → b ≡ isDeclared (namesOf s n) k → b ≡ true → Naming (constantLine (namesOf s n) k) s (Refused Name) s
+  unfolding constantLine
+  constant-name p e = record { named = (rw (← p, e), refl) }
+
+  module _ {b : Bool} (p : b ≡ isDeclared (namesOf s n) k) (e : b ≡ false) where
+    pub constant-space : 16 ≤ n .constants → Naming (constantLine (namesOf s n) k) s (Refused Space) s
+    unfolding constantLine namesOf
+    constant-space h = record { named = (rw (← p, e, length-keys, le-leb 16 (n .constants) h), refl) }
+
+    pub constant-done : {t : List ℕ} → GoodNames s n → n .constants < 16 → t ≡ putKey s (constantsAt + n .constants * 2) k
+        → Naming (constantLine (namesOf s n) k) s
+        (Done (record { constants = n .constants + 1; predicates = n .predicates; actions = n .actions; parameters = n .parameters; variants = n .variants })) t
+    unfolding constantLine namesOf
+    constant-done g h q = rw q (record { named = (rw (← p, e, length-keys, lt-leb 16 (n .constants) h) (ap ok (sym (constant-put s n k g h))), good) })
+      where
+        good : GoodNames (putKey s (constantsAt + n .constants * 2) k) (record { constants = n .constants + 1; predicates = n .predicates; actions = n .actions; parameters = n .parameters; variants = n .variants })
+        good = record { room = rw (length-put) (g .room); constants = omega arith; predicates = g .predicates; actions = g .actions; parameters = g .parameters; variants = g .variants }
+
+-- ===== (predicate n arity) =====
+
+and-both : (a b : Bool) → a ≡ true → b ≡ true → (a && b) ≡ true
+and-both a b p q = rw (p, q)
+
+at-most-set : (ar : List ℕ) (i a : ℕ) → allAtMost mostPlaces ar ≡ true → a ≤ mostPlaces → allAtMost mostPlaces (set ar i a) ≡ true
+at-most-set [] i a h f = h
+at-most-set (x ∷ xs) zero a h f = and-both _ _ (le-leb a mostPlaces f) (and-right (leb x mostPlaces) _ h)
+at-most-set (x ∷ xs) (suc i) a h f = and-both _ _ (and-left (leb x mostPlaces) _ h) (at-most-set xs i a (and-right (leb x mostPlaces) _ h) f)
+
+-- an arity list with another arity for a predicate but equality
+arities-set : (ar : List ℕ) (i a : ℕ) → areArities ar ≡ true → 0 < i → a ≤ mostPlaces → areArities (set ar i a) ≡ true
+unfolding areArities
+arities-set ar i a h p f =
+    let u = and-left (eqb (length ar) predicateCount) _ h in
+    let v = and-right (eqb (length ar) predicateCount) _ h in
+    let w = and-left (eqb (getD ar equality 0) equalityArity) _ v in
+    let x = and-right (eqb (getD ar equality 0) equalityArity) _ v in
+    and-both (eqb (length (set ar i a)) predicateCount) _ (rw length-set u)
+    (and-both (eqb (getD (set ar i a) equality 0) equalityArity) _ (rw (getD-set-other ar i equality a 0 (λ e. omega arith)) w) (at-most-set ar i a x f))
+
+predicate-put : (s : List ℕ) (n : Counts) (k : Key) → GoodNames s n → n .predicates + 1 < 32
+    → namesOf (putKey s (declaredAt + n .predicates * 2) k) (record { constants = n .constants; predicates = n .predicates + 1; actions = n .actions; parameters = n .parameters; variants = n .variants })
+    ≡ record {
+      constants = namesOf s n .constants;
+      predicates = keysAt s declaredAt (n .predicates) ++ (k ∷ []);
+      actions = namesOf s n .actions;
+      parameters = namesOf s n .parameters;
+      variants = namesOf s n .variants;
+    }
+unfolding namesOf
+predicate-put s n k g h =
+    let r = g .room in
+    let c = g .constants in
+    names-ext _ _
+    (keys-same s (putKey s (declaredAt + n .predicates * 2) k) constantsAt (n .constants)
+    (put-before s (declaredAt + n .predicates * 2) k constantsAt (n .constants * 2) (omega arith)))
+    (keys-more s declaredAt (n .predicates) k (omega arith))
+    (kept actionsAt (n .actions) (omega arith))
+    (kept parametersAt (n .parameters) (omega arith))
+    (kept variantsAt (n .variants) (omega arith))
+  where
+    kept : (base m : ℕ) → declaredAt + n .predicates * 2 + 2 ≤ base → keysAt (putKey s (declaredAt + n .predicates * 2) k) base m ≡ keysAt s base m
+    kept base m l = keys-same s (putKey s (declaredAt + n .predicates * 2) k) base m (put-behind s (declaredAt + n .predicates * 2) k base (m * 2) l)
+
+vocabulary-ext : (x y : Vocabulary) → x .names ≡ y .names → x .arities ≡ y .arities → x ≡ y
+vocabulary-ext x y a b = λ i. record { names = a i; arities = b i }
+
+module _ (s ar : List ℕ) (n : Counts) (k : Key) (a : ℕ) where
+  pub predicate-name : {b : Bool} → b ≡ isDeclared (namesOf s n) k → b ≡ true → Wording (predicateLine (vocabularyOf s ar n) k a) s ar (Refused Name) s ar
+  unfolding predicateLine vocabularyOf
+  predicate-name p e = record { worded = (rw (← p, e), refl, refl) }
+
+  module _ {b : Bool} (p : b ≡ isDeclared (namesOf s n) k) (e : b ≡ false) where
+    pub predicate-range : 4 < a → Wording (predicateLine (vocabularyOf s ar n) k a) s ar (Refused Range) s ar
+    unfolding predicateLine vocabularyOf
+    predicate-range h = record { worded = (rw (← p, e, lt-ltb 4 a h), refl, refl) }
+
+    pub predicate-space : a ≤ 4 → 32 ≤ n .predicates + 1 → Wording (predicateLine (vocabularyOf s ar n) k a) s ar (Refused Space) s ar
+    unfolding predicateLine vocabularyOf namesOf
+    predicate-space f h = record { worded = (rw (← p, e, le-ltb 4 a f, length-keys, le-leb 32 (suc (n .predicates)) (omega arith)), refl, refl) }
+
+    pub predicate-done : {t br : List ℕ} → GoodVocabulary s ar n → a ≤ 4 → n .predicates + 1 < 32 → t ≡ putKey s (declaredAt + n .predicates * 2) k
+        → br ≡ set ar (n .predicates + 1) a
+        → Wording (predicateLine (vocabularyOf s ar n) k a) s ar
+        (Done (record { constants = n .constants; predicates = n .predicates + 1; actions = n .actions; parameters = n .parameters; variants = n .variants })) t br
+    unfolding predicateLine vocabularyOf namesOf
+    predicate-done g f h q u = rw (q, u) (record { worded = (rw (← p, e, le-ltb 4 a f, length-keys, lt-leb 32 (suc (n .predicates)) (omega arith)) (ap ok (sym same)), good) })
+      where
+        same : vocabularyOf (putKey s (declaredAt + n .predicates * 2) k) (set ar (n .predicates + 1) a) (record { constants = n .constants; predicates = n .predicates + 1; actions = n .actions; parameters = n .parameters; variants = n .variants })
+            ≡ record {
+              names = record {
+                constants = namesOf s n .constants;
+                predicates = keysAt s declaredAt (n .predicates) ++ (k ∷ []);
+                actions = namesOf s n .actions;
+                parameters = namesOf s n .parameters;
+                variants = namesOf s n .variants;
+              };
+              arities = set ar (suc (n .predicates)) a;
+            }
+        same = vocabulary-ext _ _ (predicate-put s n k (g .names) h) (ap (λ (i : ℕ). set ar i a) (omega arith))
+
+        good : GoodVocabulary (putKey s (declaredAt + n .predicates * 2) k) (set ar (n .predicates + 1) a) (record { constants = n .constants; predicates = n .predicates + 1; actions = n .actions; parameters = n .parameters; variants = n .variants })
+        good = record {
+          names = record { room = rw (length-put) (g .names .room); constants = g .names .constants; predicates = h; actions = g .names .actions; parameters = g .names .parameters; variants = g .names .variants };
+          arities = arities-set ar (n .predicates + 1) a (g .arities) (omega arith) f;
+        }
+
+pub arity-room : (s ar : List ℕ) (n : Counts) → GoodVocabulary s ar n → n .predicates + 1 < 32 → n .predicates + 1 < length ar
+unfolding areArities
+arity-room s ar n g h = let e = eqb-true (length ar) 32 (and-left (eqb (length ar) 32) _ (g .arities)) in omega arith

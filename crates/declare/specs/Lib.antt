@@ -1,0 +1,2 @@
+-- A session's names in lent words.
+pub mod Tables

@@ -1,0 +1,2 @@
+-- A state in lent words.
+pub mod Words

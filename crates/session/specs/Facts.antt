@@ -1,0 +1,78 @@
+-- Lines of the state: their checks in order, and what an accepted one does (document 01, sections 'Text' and 'States and value').
+use mathlib.Core.Bool.{Bool, true, false, not, _||_, _&&_}
+use mathlib.Core.List.{List, [], _∷_, _++_}
+use Prim.Native.Nat.{ℕ, suc, _+_, _*_}
+use lib.ListN.{length, set, getD, replicate, take}
+use lib.Dec.{ltb, leb, eqb}
+use Rattle.refusal.specs.declared.Refusal.the-variants.{Name, Arity, Range, Space}
+use Rattle.label.specs.Limits.{constantCount}
+use Rattle.words.specs.declared.Key.{Key}
+use Rattle.names.specs.Keys.{placeOf, isAmong}
+use Rattle.regress.specs.Calls.{Outcome, ok, pickOutcome}
+use Rattle.state.specs.Lent.{factWords, factCount, someBelow, allBelow}
+use Rattle.session.specs.Session.{Names, Live, refuseIf}
+
+-- state texts have at most 64 objects and 1,024 facts
+abbrev pub mostObjects : ℕ
+mostObjects = 64
+
+abbrev pub mostFacts : ℕ
+mostFacts = 1024
+
+-- (objects n) clears the state: no constant is placed, no fact is true
+unfoldable pub cleared : ℕ → Live
+cleared n = record { objects = n; placed = replicate constantCount 0; constants = replicate constantCount 0; facts = [] }
+
+unfoldable pub objectsLine : ℕ → Outcome Live
+unfolding cleared
+objectsLine n = refuseIf (not (leb 1 n && leb n mostObjects)) Range (ok (cleared n))
+
+-- constant c has the object o
+unfoldable pub placed : Live → ℕ → ℕ → Live
+placed l c o = record { objects = l .objects; placed = set (l .placed) c 1; constants = set (l .constants) c o; facts = l .facts }
+
+-- (is c o): at c 2 if it is no constant or is placed already; at o 4 if it is no object
+unfoldable pub isLine : Names → Live → Key → ℕ → Outcome Live
+unfolding isAmong placeOf placed
+isLine n l k o =
+    refuseIf (not (isAmong k (n .constants)) || eqb (getD (l .placed) (placeOf k (n .constants)) 0) 1) Name
+    (refuseIf (leb (l .objects) o) Range
+    (ok (placed l (placeOf k (n .constants)) o)))
+
+-- a row of five words: the predicate and four objects, 0 in unused places
+abbrev pub factRow : ℕ → List ℕ → List ℕ
+factRow p os = p ∷ getD os 0 0 ∷ getD os 1 0 ∷ getD os 2 0 ∷ getD os 3 0 ∷ []
+
+unfoldable pub withFact : Live → List ℕ → Live
+withFact l row = record { objects = l .objects; placed = l .placed; constants = l .constants; facts = l .facts ++ row }
+
+-- word j of row i of the facts is that of the row
+abbrev pub sameWord : List ℕ → List ℕ → ℕ → ℕ → Bool
+sameWord facts row i j = eqb (getD facts (i * factWords + j) 0) (getD row j 0)
+
+-- the row is one of the facts
+unfoldable pub isFact : List ℕ → List ℕ → Bool
+isFact facts row =
+    someBelow (factCount facts) (λ i.
+    sameWord facts row i 0 && (sameWord facts row i 1 && (sameWord facts row i 2 && (sameWord facts row i 3 && sameWord facts row i 4))))
+
+-- a fact that is there may be repeated without effect; last 9
+unfoldable pub factLine : Live → List ℕ → Outcome Live
+unfolding withFact isFact
+factLine l row =
+    pickOutcome (isFact (l .facts) row) (ok l)
+    (refuseIf (leb mostFacts (factCount (l .facts))) Space
+    (ok (withFact l row)))
+
+-- the number of the predicate with the key k
+abbrev pub predicateOf : Names → Key → ℕ
+predicateOf n k = suc (placeOf k (n .predicates))
+
+-- (true p o ..): at p 2, then 3; 4 at an object
+unfoldable pub trueLine : List ℕ → Names → Live → Key → List ℕ → Outcome Live
+unfolding isAmong placeOf factLine
+trueLine ar n l k os =
+    refuseIf (not (isAmong k (n .predicates))) Name
+    (refuseIf (not (eqb (length os) (getD ar (predicateOf n k) 0))) Arity
+    (refuseIf (not (allBelow (l .objects) os)) Range
+    (factLine l (factRow (predicateOf n k) os))))

@@ -1,0 +1,5 @@
+-- Sessions: what a text's lines declare and ask for.
+pub mod Place
+pub mod Session
+pub mod Declaring
+pub mod Facts

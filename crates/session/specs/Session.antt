@@ -1,0 +1,63 @@
+-- A session: what the lines of a text declared, the model, the state and the value diagram (document 01, section 'Text').
+use mathlib.Core.Bool.{Bool, true, false, not, _||_, _&&_}
+use mathlib.Core.List.{List, [], _∷_, _++_}
+use Prim.Native.Nat.{ℕ, suc, _+_}
+use lib.ListN.{length, replicate}
+use lib.Dec.{ltb, eqb}
+use Rattle.refusal.specs.declared.Refusal.{Refusal}
+use Rattle.words.specs.declared.Key.{Key}
+use Rattle.label.specs.Limits.{constantCount, predicateCount}
+use Rattle.diagram.specs.Diagram.{Diagram, leaf}
+use Rattle.regress.specs.Calls.{Outcome, refused, pickOutcome}
+use Rattle.mdp.specs.Model.{Model}
+use Rattle.mdp.specs.Runs.{Held}
+use Rattle.session.specs.declared.Part.{Part}
+use Rattle.session.specs.declared.Part.the-variants.{Model as ModelPart}
+
+-- names in the order of their lines: constants from 0, predicates from 1; the parameters and variants are those of the last action
+pub record Names : Type 0 where
+  pub constants : List Key
+  pub predicates : List Key
+  pub actions : List Key
+  pub parameters : List Key
+  pub variants : List Key
+
+-- which single forms were accepted
+pub record Singles : Type 0 where
+  pub total : Bool
+  pub discount : Bool
+  pub reward : Bool
+
+-- a state as it is lent to the value operation: how many objects, 0 before an accepted (objects n); for each of 16 constants 1 where it is placed, and its
+-- object; the facts as rows of five words
+pub record Live : Type 0 where
+  pub objects : ℕ
+  pub placed : List ℕ
+  pub constants : List ℕ
+  pub facts : List ℕ
+
+-- `rows` counts the rows of all model listings
+pub record Session : Type 0 where
+  pub part : Part
+  pub names : Names
+  pub singles : Singles
+  pub model : Model
+  pub rows : ℕ
+  pub live : Live
+  pub held : Held
+
+-- before the first line: W is 100 and G D are 1 1 unless they are given; 32 arities, the first of them 2
+unfoldable pub opening : Session
+opening = record {
+  part = ModelPart;
+  names = record { constants = []; predicates = []; actions = []; parameters = []; variants = [] };
+  singles = record { total = false; discount = false; reward = false };
+  model = record { arities = 2 ∷ replicate 31 0; total = 100; numerator = 1; denominator = 1; reward = leaf 0; actions = [] };
+  rows = 0;
+  live = record { objects = 0; placed = replicate 16 0; constants = replicate 16 0; facts = [] };
+  held = record { diagram = leaf 0; steps = 0 };
+}
+
+-- refused with r if b, else what follows
+abbrev pub refuseIf : {A : Type 0} → Bool → Refusal → Outcome A → Outcome A
+refuseIf b r after = pickOutcome b (refused r) after
