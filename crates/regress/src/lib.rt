@@ -627,7 +627,7 @@ fn slot(label: u64) -> usize
     requires { ⌜ label < leafMark ⌝ }
     ensures { λ r. ⌜ r < slots ⌝ }
 {
-    (label * 2654435769 / 4194304 % 1024) as usize
+    ((label * 2654435769 / 4194304) as usize) % SLOTS
 }
 
 // T for a label, kept for a label that occurs again.

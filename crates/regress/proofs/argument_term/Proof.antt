@@ -1,34 +1,25 @@
 use Rattle.regress.proofs.TruthLaws.{argument-is-low, argument-is-unused, argument-is-first, argument-is-second, argument-is-third, argument-is-fourth, argument-is-past}
 use Rattle.regress.proofs.argument_term.Statement.{statement}
 use Rattle.regress.proofs.argument_term.Tie as tie
-use Rattle.regress.proofs.argument_term.Reads as reads
-use Rattle.regress.proofs.argument_term.Lts as lts
 
--- src/lib.rt:464:9
 returns : tie.Need-returns
 returns c = search argument-is-low
 
--- src/lib.rt:468:9
 returns-2 : tie.Need-returns-2
 returns-2 c = search argument-is-unused
 
--- src/lib.rt:471:9
 returns-3 : tie.Need-returns-3
 returns-3 c = search argument-is-first
 
--- src/lib.rt:474:9
 returns-4 : tie.Need-returns-4
 returns-4 c = search argument-is-second
 
--- src/lib.rt:477:9
 returns-5 : tie.Need-returns-5
 returns-5 c = search argument-is-third
 
--- src/lib.rt:480:9
 returns-6 : tie.Need-returns-6
 returns-6 c = search argument-is-fourth
 
--- src/lib.rt:460:1
 returns-7 : tie.Need-returns-7
 returns-7 c = search argument-is-past
 

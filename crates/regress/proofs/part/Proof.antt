@@ -2,80 +2,17 @@ use Rattle.regress.proofs.TruthLaws.{part-none, part-rest, part-some}
 use borrow.Author.Needs.{needs}
 use Rattle.regress.proofs.part.Statement.{statement}
 use Rattle.regress.proofs.part.Tie as tie
-use Rattle.regress.proofs.part.Reads as reads
-use Rattle.regress.proofs.part.Lts as lts
 
--- src/lib.rt:534:9
-slice-aggregate-result : tie.Need-slice-aggregate-result
-slice-aggregate-result c = search needs
-
--- src/lib.rt:534:9
 returns : tie.Need-returns
 returns c = search part-none
 
--- src/lib.rt:536:17
-sub-if2 : tie.Need-sub-if2
-sub-if2 c = search needs
-
--- src/lib.rt:537:16
-mul-result : tie.Need-mul-result
-mul-result c = search needs
-
--- src/lib.rt:537:16
-sub-result : tie.Need-sub-result
-sub-result c = search needs
-
--- src/lib.rt:537:16
-part-result-start : tie.Need-part-result-start
-part-result-start c = search needs
-
--- src/lib.rt:537:16
-part-result-end : tie.Need-part-result-end
-part-result-end c = search needs
-
--- src/lib.rt:537:9
 returns-2 : tie.Need-returns-2
 returns-2 c = search part-rest
 
--- src/lib.rt:539:15
-add-end : tie.Need-add-end
-add-end c = search needs
-
--- src/lib.rt:540:5
-mul-result-2 : tie.Need-mul-result-2
-mul-result-2 c = search needs
-
--- src/lib.rt:540:5
-sub-result-2 : tie.Need-sub-result-2
-sub-result-2 c = search needs
-
--- src/lib.rt:540:5
-part-result-start-2 : tie.Need-part-result-start-2
-part-result-start-2 c = search needs
-
--- src/lib.rt:540:5
-part-result-end-2 : tie.Need-part-result-end-2
-part-result-end-2 c = search needs
-
--- src/lib.rt:529:1
 returns-3 : tie.Need-returns-3
 returns-3 c = search part-some
 
 pub part-spec : {M : Type 1} → statement M
 part-spec =
     tie.close
-    (tie.spec
-    slice-aggregate-result
-    returns
-    sub-if2
-    mul-result
-    sub-result
-    part-result-start
-    part-result-end
-    returns-2
-    add-end
-    mul-result-2
-    sub-result-2
-    part-result-start-2
-    part-result-end-2
-    returns-3)
+    (tie.spec (λ c. search needs) returns (λ c. search needs) (λ c. search needs) (λ c. search needs) (λ c. search needs) (λ c. search needs) returns-2 (λ c. search needs) (λ c. search needs) (λ c. search needs) (λ c. search needs) (λ c. search needs) returns-3)

@@ -11,10 +11,6 @@ use Rattle.regress.proofs.KeptLaws.{keeps-start}
 use Rattle.regress.proofs.RowsLaws.{Going, going-start, going-taskable, going-few, going-tasked, going-stop, going-small, going-on, going-end, ready-on}
 use Rattle.regress.proofs.regress_rows.Statement.{statement}
 use Rattle.regress.proofs.regress_rows.Tie as tie
-use Rattle.regress.proofs.regress_rows.Reads as reads
-use Rattle.regress.proofs.regress_rows.Lts as lts
-use Rattle.regress.proofs.regressed_row.Reads as regressed-row-reads
-use Rattle.regress.proofs.task_at.Reads as task-at-reads
 
 abbrev Inv-loop : tie.InvT-loop
 Inv-loop arities value truths spans plan₀ index₀ space₀ heads₀ links₀ kept₀ numbers₀ m n₀ root₀ k₀ plan index space heads links kept numbers n root k =
@@ -25,104 +21,116 @@ Inv-loop arities value truths spans plan₀ index₀ space₀ heads₀ links₀ 
 abbrev μ-loop : tie.MeasureT-loop
 μ-loop arities value truths spans plan₀ index₀ space₀ heads₀ links₀ kept₀ numbers₀ m n₀ root₀ k₀ plan index space heads links kept numbers n root k = m - k
 
--- src/lib.rt:725:5
 loop-holds : tie.Need-loop-holds Inv-loop μ-loop
-loop-holds c = (refl, refl, refl, refl, refl, c .before .before .before .before .before .before .before .before .before .pre .1 .1, going-start _ _ _ 1024 (c .before .before .before .before .before .before .before .before .before .pre .0) refl, keeps-start _ _ _ _ 1024 refl)
+loop-holds c =
+    let c1 = c .before .before .before .before .before .before .before .before .before in
+    (refl, refl, refl, refl, refl, c1 .pre .1 .1, going-start _ _ _ 1024 (c1 .pre .0) refl, keeps-start _ _ _ _ 1024 refl)
 
--- src/lib.rt:726:35
 slice-aggregate-task-at : tie.Need-slice-aggregate-task-at Inv-loop μ-loop
 slice-aggregate-task-at c = sym (c .before .before .loop .inv .6 .places)
 
--- src/lib.rt:726:13
 task-at-requires : tie.Need-task-at-requires Inv-loop μ-loop
 task-at-requires c κs = going-taskable (c .before .before .loop .inv .6) (c .before .loop-test .taken)
 
--- src/lib.rt:728:43
 slice-aggregate-regressed-row : tie.Need-slice-aggregate-regressed-row Inv-loop μ-loop
 slice-aggregate-regressed-row c = sym (c .before .before .before .before .loop .inv .7 .places)
 
--- src/lib.rt:727:13
 regressed-row-requires : tie.Need-regressed-row-requires Inv-loop μ-loop
-regressed-row-requires c κs = (c .before .before .before .before .before .before .before .before .before .before .before .before .before .before .before .before .before .before .before .pre .1 .0, (going-tasked (c .before .before .before .before .before .before .before .before .before .loop .inv .6) (c .before .before .before .before .before .before .before .before .loop-test .taken) (c .before .before .before .before .before .before .task-at .ensures), (c .before .before .before .before .before .before .before .before .before .loop .inv .5, c .before .before .before .before .before .before .before .before .before .loop .inv .7)))
+regressed-row-requires c κs =
+    let c1 = c .before .before .before .before .before .before in
+    let c2 = c1 .before .before in
+    let c3 = c2 .before in
+    let c4 = c3 .before .before .before .before .before .before .before .before .before .before in
+    (c4 .pre .1 .0, (going-tasked (c3 .loop .inv .6) (c2 .loop-test .taken) (c1 .task-at .ensures), (c3 .loop .inv .5, c3 .loop .inv .7)))
 
--- src/lib.rt:730:26
-enum-known-r : tie.Need-enum-known-r Inv-loop μ-loop
-enum-known-r c = search needs
-
--- src/lib.rt:731:13
-enum-told : tie.Need-enum-told Inv-loop μ-loop
-enum-told c = search needs
-
--- src/lib.rt:731:13
 same-length : tie.Need-same-length Inv-loop μ-loop
-same-length c = c .before .before .before .before .before .before .before .before .before .before .before .before .before .regressed-row .kept .1 .1 .1 .1 .1 .0 ∙ c .before .before .before .before .before .before .before .before .before .before .before .before .before .before .before .before .before .before .before .before .before .before .before .loop .inv .0
+same-length c =
+    let c1 = c .before .before .before .before .before .before .before .before .before .before .before .before .before in
+    let c2 = c1 .before .before .before .before .before .before .before .before .before .before in
+    c1 .regressed-row .kept .1 .1 .1 .1 .1 .0 ∙ c2 .loop .inv .0
 
--- src/lib.rt:731:13
 same-length-2 : tie.Need-same-length-2 Inv-loop μ-loop
-same-length-2 c = c .before .before .before .before .before .before .before .before .before .before .before .before .before .regressed-row .kept .1 .1 .1 .1 .1 .1 .0 ∙ c .before .before .before .before .before .before .before .before .before .before .before .before .before .before .before .before .before .before .before .before .before .before .before .loop .inv .1
+same-length-2 c =
+    let c1 = c .before .before .before .before .before .before .before .before .before .before .before .before .before in
+    let c2 = c1 .before .before .before .before .before .before .before .before .before .before in
+    c1 .regressed-row .kept .1 .1 .1 .1 .1 .1 .0 ∙ c2 .loop .inv .1
 
--- src/lib.rt:731:13
 same-length-3 : tie.Need-same-length-3 Inv-loop μ-loop
-same-length-3 c = c .before .before .before .before .before .before .before .before .before .before .before .before .before .regressed-row .kept .1 .1 .1 .1 .1 .1 .1 .0 ∙ c .before .before .before .before .before .before .before .before .before .before .before .before .before .before .before .before .before .before .before .before .before .before .before .loop .inv .2
+same-length-3 c =
+    let c1 = c .before .before .before .before .before .before .before .before .before .before .before .before .before in
+    let c2 = c1 .before .before .before .before .before .before .before .before .before .before in
+    c1 .regressed-row .kept .1 .1 .1 .1 .1 .1 .1 .0 ∙ c2 .loop .inv .2
 
--- src/lib.rt:731:13
 same-length-4 : tie.Need-same-length-4 Inv-loop μ-loop
-same-length-4 c = c .before .before .before .before .before .before .before .before .before .before .before .before .before .regressed-row .kept .1 .1 .1 .1 .1 .1 .1 .1 .0 ∙ c .before .before .before .before .before .before .before .before .before .before .before .before .before .before .before .before .before .before .before .before .before .before .before .loop .inv .3
+same-length-4 c =
+    let c1 = c .before .before .before .before .before .before .before .before .before .before .before .before .before in
+    let c2 = c1 .before .before .before .before .before .before .before .before .before .before in
+    c1 .regressed-row .kept .1 .1 .1 .1 .1 .1 .1 .1 .0 ∙ c2 .loop .inv .3
 
--- src/lib.rt:731:13
 same-length-5 : tie.Need-same-length-5 Inv-loop μ-loop
-same-length-5 c = c .before .before .before .before .before .before .before .before .before .before .before .before .before .regressed-row .kept .1 .1 .1 .1 .1 .1 .1 .1 .1 .0 ∙ c .before .before .before .before .before .before .before .before .before .before .before .before .before .before .before .before .before .before .before .before .before .before .before .loop .inv .4
+same-length-5 c =
+    let c1 = c .before .before .before .before .before .before .before .before .before .before .before .before .before in
+    let c2 = c1 .before .before .before .before .before .before .before .before .before .before in
+    c1 .regressed-row .kept .1 .1 .1 .1 .1 .1 .1 .1 .1 .0 ∙ c2 .loop .inv .4
 
--- src/lib.rt:731:13
 returns : tie.Need-returns Inv-loop μ-loop
 unfolding regression
-returns c = going-stop (c .before .before .before .before .before .before .before .before .before .before .before .before .before .before .before .before .before .before .before .before .before .before .before .loop .inv .6) (c .before .before .before .before .before .before .before .before .before .before .before .before .before .before .before .before .before .before .before .before .before .before .loop-test .taken) (c .before .before .before .before .before .before .before .before .before .before .before .before .before .before .before .before .before .before .before .before .task-at .ensures) (c .before .before .before .before .before .before .before .before .before .before .before .before .before .regressed-row .ensures .ran) (c .enum-told .given .1)
+returns c =
+    let c1 = c .before .before .before .before .before .before .before .before .before .before .before .before .before in
+    let c2 = c1 .before .before .before .before .before .before .before in
+    let c3 = c2 .before .before in
+    let c4 = c3 .before in
+    going-stop (c4 .loop .inv .6) (c3 .loop-test .taken) (c2 .task-at .ensures) (c1 .regressed-row .ensures .ran) (c .enum-told .given .1)
 
--- src/lib.rt:733:22
 cast-numbers : tie.Need-cast-numbers Inv-loop μ-loop
-cast-numbers c = let p = going-small (c .before .before .before .before .before .before .before .before .before .before .before .before .before .before .before .before .before .before .before .before .before .before .before .before .loop .inv .6) (c .before .before .before .before .before .before .before .before .before .before .before .before .before .before .before .before .before .before .before .before .before .before .before .loop-test .taken) (c .before .before .before .before .before .before .before .before .before .before .before .before .before .before .before .before .before .before .before .before .before .task-at .ensures) (c .before .before .before .before .before .before .before .before .before .before .before .before .before .before .regressed-row .ensures .ran) (c .before .r .given .1) in search needs
+cast-numbers c =
+    let c1 = c .before .before .before .before .before .before .before .before .before .before .before .before .before .before in
+    let c2 = c1 .before .before .before .before .before .before .before in
+    let c3 = c2 .before .before in
+    let c4 = c3 .before in
+    let p = going-small (c4 .loop .inv .6) (c3 .loop-test .taken) (c2 .task-at .ensures) (c1 .regressed-row .ensures .ran) (c .before .r .given .1) in search needs
 
--- src/lib.rt:733:9
 mul-numbers : tie.Need-mul-numbers Inv-loop μ-loop
-mul-numbers c = let p = going-few (c .before .before .before .before .before .before .before .before .before .before .before .before .before .before .before .before .before .before .before .before .before .before .before .before .loop .inv .6) (c .before .before .before .before .before .before .before .before .before .before .before .before .before .before .before .before .before .before .before .before .before .before .before .loop-test .taken) in search needs
+mul-numbers c =
+    let c1 = c .before .before .before .before .before .before .before .before .before .before .before .before .before .before .before .before .before .before .before .before .before .before .before in
+    let c2 = c1 .before in
+    let p = going-few (c2 .loop .inv .6) (c1 .loop-test .taken) in search needs
 
--- src/lib.rt:733:9
 array-write-numbers : tie.Need-array-write-numbers Inv-loop μ-loop
-array-write-numbers c = going-few (c .before .before .before .before .before .before .before .before .before .before .before .before .before .before .before .before .before .before .before .before .before .before .before .before .loop .inv .6) (c .before .before .before .before .before .before .before .before .before .before .before .before .before .before .before .before .before .before .before .before .before .before .before .loop-test .taken)
+array-write-numbers c =
+    let c1 = c .before .before .before .before .before .before .before .before .before .before .before .before .before .before .before .before .before .before .before .before .before .before .before in
+    let c2 = c1 .before in
+    going-few (c2 .loop .inv .6) (c1 .loop-test .taken)
 
--- src/lib.rt:736:9
 add-k : tie.Need-add-k Inv-loop μ-loop
-add-k c = let p = going-few (c .before .before .before .before .before .before .before .before .before .before .before .before .before .before .before .before .before .before .before .before .before .before .before .before .loop .inv .6) (c .before .before .before .before .before .before .before .before .before .before .before .before .before .before .before .before .before .before .before .before .before .before .before .loop-test .taken) in search needs
+add-k c =
+    let c1 = c .before .before .before .before .before .before .before .before .before .before .before .before .before .before .before .before .before .before .before .before .before .before .before in
+    let c2 = c1 .before in
+    let p = going-few (c2 .loop .inv .6) (c1 .loop-test .taken) in search needs
 
--- src/lib.rt:725:5
-loop-less : tie.Need-loop-less Inv-loop μ-loop
-loop-less c = search needs
-
--- src/lib.rt:725:5
 loop-again : tie.Need-loop-again Inv-loop μ-loop
-loop-again c = (c .before .before .before .before .before .before .before .before .before .before .before .before .before .before .regressed-row .kept .1 .1 .1 .1 .1 .0 ∙ c .before .before .before .before .before .before .before .before .before .before .before .before .before .before .before .before .before .before .before .before .before .before .before .before .loop .inv .0, c .before .before .before .before .before .before .before .before .before .before .before .before .before .before .regressed-row .kept .1 .1 .1 .1 .1 .1 .0 ∙ c .before .before .before .before .before .before .before .before .before .before .before .before .before .before .before .before .before .before .before .before .before .before .before .before .loop .inv .1, c .before .before .before .before .before .before .before .before .before .before .before .before .before .before .regressed-row .kept .1 .1 .1 .1 .1 .1 .1 .0 ∙ c .before .before .before .before .before .before .before .before .before .before .before .before .before .before .before .before .before .before .before .before .before .before .before .before .loop .inv .2, c .before .before .before .before .before .before .before .before .before .before .before .before .before .before .regressed-row .kept .1 .1 .1 .1 .1 .1 .1 .1 .0 ∙ c .before .before .before .before .before .before .before .before .before .before .before .before .before .before .before .before .before .before .before .before .before .before .before .before .loop .inv .3, c .before .before .before .before .before .before .before .before .before .before .before .before .before .before .regressed-row .kept .1 .1 .1 .1 .1 .1 .1 .1 .1 .0 ∙ c .before .before .before .before .before .before .before .before .before .before .before .before .before .before .before .before .before .before .before .before .before .before .before .before .loop .inv .4, ready-on (c .before .before .before .before .before .before .before .before .before .before .before .before .before .before .before .before .before .before .before .before .before .before .before .before .loop .inv .5) (c .before .before .before .before .before .before .before .before .before .before .before .before .before .before .regressed-row .ensures .ran) (c .before .before .before .before .before .before .before .before .before .before .before .before .before .before .regressed-row .kept .1 .1 .1 .1 .1 .0) (c .before .r .given .1), going-on (c .before .before .before .before .before .before .before .before .before .before .before .before .before .before .before .before .before .before .before .before .before .before .before .before .loop .inv .6) (c .before .before .before .before .before .before .before .before .before .before .before .before .before .before .before .before .before .before .before .before .before .before .before .loop-test .taken) (c .before .before .before .before .before .before .before .before .before .before .before .before .before .before .before .before .before .before .before .before .before .task-at .ensures) (c .before .before .before .before .before .before .before .before .before .before .before .before .before .before .regressed-row .ensures .ran) (c .before .r .given .1), c .before .before .before .before .before .before .before .before .before .before .before .before .before .before .regressed-row .ensures .keeps _ _ (c .before .r .given .1))
+loop-again c =
+    let c1 = c .before .before .before .before .before .before .before .before .before .before .before .before .before .before in
+    let c2 = c1 .before .before .before .before .before .before .before in
+    let c3 = c2 .before .before in
+    let c4 = c3 .before in
+    (c1 .regressed-row .kept .1 .1 .1 .1 .1 .0 ∙ c4 .loop .inv .0, c1 .regressed-row .kept .1 .1 .1 .1 .1 .1 .0 ∙ c4 .loop .inv .1, c1 .regressed-row .kept .1 .1 .1 .1 .1 .1 .1 .0 ∙ c4 .loop .inv .2, c1 .regressed-row .kept .1 .1 .1 .1 .1 .1 .1 .1 .0 ∙ c4 .loop .inv .3, c1 .regressed-row .kept .1 .1 .1 .1 .1 .1 .1 .1 .1 .0 ∙ c4 .loop .inv .4, ready-on (c4 .loop .inv .5) (c1 .regressed-row .ensures .ran) (c1 .regressed-row .kept .1 .1 .1 .1 .1 .0) (c .before .r .given .1), going-on (c4 .loop .inv .6) (c3 .loop-test .taken) (c2 .task-at .ensures) (c1 .regressed-row .ensures .ran) (c .before .r .given .1), c1 .regressed-row .ensures .keeps _ _ (c .before .r .given .1))
 
--- src/lib.rt:703:1
 same-length-6 : tie.Need-same-length-6 Inv-loop μ-loop
 same-length-6 c = c .before .loop .inv .0
 
--- src/lib.rt:703:1
 same-length-7 : tie.Need-same-length-7 Inv-loop μ-loop
 same-length-7 c = c .before .loop .inv .1
 
--- src/lib.rt:703:1
 same-length-8 : tie.Need-same-length-8 Inv-loop μ-loop
 same-length-8 c = c .before .loop .inv .2
 
--- src/lib.rt:703:1
 same-length-9 : tie.Need-same-length-9 Inv-loop μ-loop
 same-length-9 c = c .before .loop .inv .3
 
--- src/lib.rt:703:1
 same-length-10 : tie.Need-same-length-10 Inv-loop μ-loop
 same-length-10 c = c .before .loop .inv .4
 
--- src/lib.rt:703:1
 returns-2 : tie.Need-returns-2 Inv-loop μ-loop
 unfolding regression
 returns-2 c = going-end (c .before .loop .inv .6) (c .loop-test .left) (c .before .loop .inv .5 .space) (c .before .loop .inv .5 .clean)
@@ -130,31 +138,4 @@ returns-2 c = going-end (c .before .loop .inv .6) (c .loop-test .left) (c .befor
 pub regress-rows-spec : {M : Type 1} → statement M
 regress-rows-spec =
     tie.close
-    (tie.spec
-    Inv-loop
-    μ-loop
-    loop-holds
-    slice-aggregate-task-at
-    task-at-requires
-    slice-aggregate-regressed-row
-    regressed-row-requires
-    enum-known-r
-    enum-told
-    same-length
-    same-length-2
-    same-length-3
-    same-length-4
-    same-length-5
-    returns
-    cast-numbers
-    mul-numbers
-    array-write-numbers
-    add-k
-    loop-less
-    loop-again
-    same-length-6
-    same-length-7
-    same-length-8
-    same-length-9
-    same-length-10
-    returns-2)
+    (tie.spec Inv-loop μ-loop loop-holds slice-aggregate-task-at task-at-requires slice-aggregate-regressed-row regressed-row-requires (λ c. search needs) (λ c. search needs) same-length same-length-2 same-length-3 same-length-4 same-length-5 returns cast-numbers mul-numbers array-write-numbers add-k (λ c. search needs) loop-again same-length-6 same-length-7 same-length-8 same-length-9 same-length-10 returns-2)
