@@ -2,3 +2,4 @@ pub mod LeavingLaws
 pub mod WritingLaws
 pub mod ChoosingLaws
 pub mod ChoiceLaws
+pub mod CallLaws

@@ -1,5 +1,8 @@
 // The public call of a cut: the edge that goes is chosen, what is left is formed row by row, written and closed up.
+use cut::Cut;
+use cut::Edge;
 use label::Label;
+use refusal::Refusal;
 use store::Formed;
 use write::Listed;
 ghost use mathlib.Core.Path.{_≡_};
@@ -13,19 +16,17 @@ ghost use Rattle.diagram.specs.Listing.{diagramOf};
 ghost use Rattle.diagram.specs.Validity.{tree};
 ghost use Rattle.apply.specs.Formed.{add};
 ghost use Rattle.store.specs.Space.{diagramsOf, Formation};
-ghost use Rattle.cut.specs.Cut.{covers, mayGo, choice};
+ghost use Rattle.cut.specs.Cut.{covers, mayGo, choice, diagramAnswer, answerBuffer, cutAnswer, cutBuffer};
 ghost use Rattle.cut.specs.Routes.{Rows};
 ghost use Rattle.cut.specs.Covering.{Coverable};
 ghost use Rattle.trim.specs.Choosing.{pathOf, Routed, Leaves, Sides, Known, Asking, Charted, Edged, Tested, EdgeFound, isCoverOn, coverBelow, isFreeOn, chosenAs};
-ghost use Rattle.trim.specs.Calls.{Writable, Trimmed};
+ghost use Rattle.trim.specs.Calls.{Cuttable, Writable, Trimmed};
 ghost use Rattle.trim.specs.Leaving.{leftOf, Leaving, Leavable, Left};
 
 // Paths of a listing at most, and a place for each pair of them.
-const PATHS: u64 = 256;
+const PATHS: usize = 256;
 
-const MOST: usize = 256;
-
-const PAIRS: usize = 65536;
+const MEMO: usize = 65536;
 
 // Which edge goes: the row and whether it is the true edge; or that none may.
 enum Chosen {
@@ -34,20 +35,20 @@ enum Chosen {
 }
 
 // Finds the leaves of the m paths.
-fn find_leaves(words: &[u64], counts: &[u64], n: usize, m: u64, leaves: &mut [u64])
+fn find_leaves(words: &[u64], counts: &[u64], n: usize, m: usize, leaves: &mut [u64])
     requires { ⌜ Routed (now words) (now counts) n m ⌝ }
     requires { ⌜ m ≤ length (now leaves) ⌝ }
     ensures { λ _. ⌜ Leaves (now (words .entry)) (now (leaves .exit)) n m ⌝ }
 {
     let mut p = 0;
     while p < m {
-        leaves[p as usize] = cut::leaf_of(words, counts, n, p);
+        leaves[p] = cut::leaf_of(words, counts, n, p as u64);
         p += 1;
     }
 }
 
 // Finds where each of the m paths goes through row r.
-fn find_sides(words: &[u64], counts: &[u64], n: usize, m: u64, r: usize, sides: &mut [u64])
+fn find_sides(words: &[u64], counts: &[u64], n: usize, m: usize, r: usize, sides: &mut [u64])
     requires { ⌜ Routed (now words) (now counts) n m ⌝ }
     requires { ⌜ r < n ⌝ }
     requires { ⌜ m ≤ length (now sides) ⌝ }
@@ -55,7 +56,7 @@ fn find_sides(words: &[u64], counts: &[u64], n: usize, m: u64, r: usize, sides: 
 {
     let mut p = 0;
     while p < m {
-        sides[p as usize] = cut::side_of(words, counts, n, p, r);
+        sides[p] = cut::side_of(words, counts, n, p as u64, r);
         p += 1;
     }
 }
@@ -67,14 +68,14 @@ fn is_covered(
     counts: &[u64],
     n: usize,
     memo: &mut [u16],
-    p: u64,
-    q: u64,
+    p: usize,
+    q: usize,
 ) -> bool
     requires { ⌜ Coverable (now arities) (now words) (now counts) n p q ⌝ }
     requires { ⌜ Known (now arities) (now words) (now memo) n ⌝ }
     ensures { λ r. ⌜ Tested (now (arities .entry)) (now (words .entry)) n (covers (now (arities .entry)) (pathOf (now (words .entry)) n p) (pathOf (now (words .entry)) n q)) r (now (memo .exit)) ⌝ }
 {
-    let at = (p * PATHS + q) as usize;
+    let at = p * PATHS + q;
     let known = basics::wide(memo[at]);
     if known == 1 {
         return true;
@@ -82,7 +83,7 @@ fn is_covered(
     if known != 0 {
         return false;
     }
-    if cut::covers(arities, words, counts, n, p, q) {
+    if cut::covers(arities, words, counts, n, p as u64, q as u64) {
         memo[at] = 1;
         return true;
     }
@@ -96,23 +97,23 @@ fn is_cover(
     words: &[u64],
     counts: &[u64],
     n: usize,
-    m: u64,
+    m: usize,
     leaves: &[u64],
     sides: &[u64],
     memo: &mut [u16],
     side: u64,
-    p: u64,
-    q: u64,
+    p: usize,
+    q: usize,
 ) -> bool
     requires { ⌜ Asking (now arities) (now words) (now counts) (now leaves) (now sides) (now memo) n m ⌝ }
     requires { ⌜ p < m ⌝ }
     requires { ⌜ q < m ⌝ }
     ensures { λ r. ⌜ Tested (now (arities .entry)) (now (words .entry)) n (isCoverOn (now (arities .entry)) (now (words .entry)) n (now (sides .entry)) side p q) r (now (memo .exit)) ⌝ }
 {
-    if sides[q as usize] == side {
+    if sides[q] == side {
         return false;
     }
-    if leaves[q as usize] < leaves[p as usize] {
+    if leaves[q] < leaves[p] {
         return false;
     }
     is_covered(arities, words, counts, n, memo, p, q)
@@ -124,12 +125,12 @@ fn has_cover(
     words: &[u64],
     counts: &[u64],
     n: usize,
-    m: u64,
+    m: usize,
     leaves: &[u64],
     sides: &[u64],
     memo: &mut [u16],
     side: u64,
-    p: u64,
+    p: usize,
 ) -> bool
     requires { ⌜ Asking (now arities) (now words) (now counts) (now leaves) (now sides) (now memo) n m ⌝ }
     requires { ⌜ p < m ⌝ }
@@ -163,21 +164,21 @@ fn is_free(
     words: &[u64],
     counts: &[u64],
     n: usize,
-    m: u64,
+    m: usize,
     leaves: &[u64],
     sides: &[u64],
     memo: &mut [u16],
     side: u64,
-    p: u64,
+    p: usize,
 ) -> bool
     requires { ⌜ Asking (now arities) (now words) (now counts) (now leaves) (now sides) (now memo) n m ⌝ }
     requires { ⌜ p < m ⌝ }
     ensures { λ r. ⌜ Tested (now (arities .entry)) (now (words .entry)) n (isFreeOn (now (arities .entry)) (now (words .entry)) n (now (sides .entry)) side m p) r (now (memo .exit)) ⌝ }
 {
-    if sides[p as usize] != side {
+    if sides[p] != side {
         return true;
     }
-    if leaves[p as usize] == 0 {
+    if leaves[p] == 0 {
         return true;
     }
     has_cover(arities, words, counts, n, m, leaves, sides, memo, side, p)
@@ -204,7 +205,7 @@ fn may_go(
     words: &[u64],
     counts: &[u64],
     n: usize,
-    m: u64,
+    m: usize,
     leaves: &[u64],
     sides: &[u64],
     memo: &mut [u16],
@@ -234,7 +235,7 @@ fn edge_of(
     words: &[u64],
     counts: &[u64],
     n: usize,
-    m: u64,
+    m: usize,
     leaves: &[u64],
     memo: &mut [u16],
     r: usize,
@@ -247,7 +248,7 @@ fn edge_of(
     if words[r * 3] == Label::LEAF {
         return 0;
     }
-    let mut sides = [0u64; MOST];
+    let mut sides = [0u64; PATHS];
     find_sides(words, counts, n, m, r, &mut sides);
     if may_go(arities, words, counts, n, m, leaves, &sides, memo, r, 1) {
         return 1;
@@ -259,15 +260,15 @@ fn edge_of(
 }
 
 // The highest row, true edge first, whose edge may go.
-fn choose(arities: &[u64], words: &[u64], counts: &[u64], n: usize, m: u64) -> Chosen
+fn choose(arities: &[u64], words: &[u64], counts: &[u64], n: usize, m: usize) -> Chosen
     requires { ⌜ isListing (now arities) (now words) ≡ true ⌝ }
     requires { ⌜ n ≡ rowCount (now words) ⌝ }
     requires { ⌜ Routed (now words) (now counts) n m ⌝ }
     ensures { λ r. ⌜ r ≡ chosenAs (choice (now (arities .entry)) (diagramOf (now (words .entry)))) ⌝ }
 {
-    let mut leaves = [0u64; MOST];
+    let mut leaves = [0u64; PATHS];
     find_leaves(words, counts, n, m, &mut leaves);
-    let mut memo = [0u16; PAIRS];
+    let mut memo = [0u16; MEMO];
     let mut i = n;
     while i > 0 {
         let e = edge_of(arities, words, counts, n, m, &leaves, &mut memo, i - 1);
@@ -390,4 +391,44 @@ fn write_left(
     };
     apart::close_up(arities, out, m);
     m
+}
+
+// Cuts a listing that is one: 17 over 256 paths, 16 if no edge may go, else the edge and the rows left.
+pub fn cut_checked(arities: &[u64], words: &[u64], out: &mut [u64], work: &mut [u64]) -> Cut
+    requires { ⌜ Cuttable (now arities) (now words) (now out) (now work) ⌝ }
+    ensures { λ r. ⌜ r ≡ diagramAnswer (now (arities .entry)) (diagramOf (now (words .entry))) ⌝ }
+    ensures { λ r. ⌜ now (out .exit) ≡ answerBuffer (now (arities .entry)) (now (words .entry)) (now (out .entry)) r ⌝ }
+{
+    let n = words.len() / 3;
+    let mut counts = [0u64; diagram::ROWS];
+    cut::count_paths(words, &mut counts, n);
+    let m = counts[n - 1] as usize;
+    if m > PATHS {
+        return Cut::Refused(Refusal::Paths);
+    }
+    let Chosen::Edge(k, side) = choose(arities, words, &counts, n, m) else {
+        return Cut::Refused(Refusal::Nothing);
+    };
+    let left = write_left(arities, words, k, side, out, work);
+    if side {
+        return Cut::Done(k, Edge::True, left);
+    }
+    Cut::Done(k, Edge::False, left)
+}
+
+// Cuts a lent listing: the result is written to `out`, `work` is the working space. Refused: 14, 18, then 17, 16.
+pub fn cut(arities: &[u64], words: &[u64], out: &mut [u64], work: &mut [u64]) -> Cut
+    ensures { λ r. ⌜ r ≡ cutAnswer (now (arities .entry)) (now (words .entry)) (length (now (out .entry))) (length (now (work .entry))) ⌝ }
+    ensures { λ _. ⌜ now (out .exit) ≡ cutBuffer (now (arities .entry)) (now (words .entry)) (now (out .entry)) (length (now (work .entry))) ⌝ }
+{
+    if !listing::check(arities, words) {
+        return Cut::Refused(Refusal::Listing);
+    }
+    if out.len() < diagram::RESULT_WORDS {
+        return Cut::Refused(Refusal::Buffer);
+    }
+    if work.len() < diagram::SPACE_WORDS {
+        return Cut::Refused(Refusal::Buffer);
+    }
+    cut_checked(arities, words, out, work)
 }
