@@ -84,7 +84,7 @@ struct Bench<'a> {
     taken_off: [Vec<f64>; 2],
 }
 
-const ROUNDS: usize = 400;
+const ROUNDS: usize = 250;
 const SAMPLE: f64 = 100_000.0;
 
 /// How many calls make a sample, and in how many rounds one sample is taken (long calls are sampled less often).
