@@ -1,0 +1,11 @@
+#!/usr/bin/env bash
+# The benchmark: builds the static library, calls it once from C, links it with the same tables in Rust and prints how the two compare.
+set -euo pipefail
+cd "$(dirname "$0")/.."
+
+mkdir -p target/bench
+rt staticlib c_library >target/bench/staticlib.log 2>&1 || { tail -n 20 target/bench/staticlib.log; exit 1; }
+cc -Wall -Wextra -Iinclude -o target/bench/calls bench/calls.c target/staticlib/libc_library.a
+target/bench/calls
+rustc --edition 2021 -C opt-level=3 -o target/bench/main bench/main.rs -L target/staticlib -l static=c_library
+target/bench/main

@@ -1,0 +1,95 @@
+/* Yindolve, a value engine on first-order decision diagrams: the functions of the static library, for C.
+ *
+ * Memory. The library owns none: the caller lends every word, 64 bits each, as a pointer and a count of words. A pointer is to as many words as its count says and
+ * is not null, also where the count is 0; what a call writes to (result, work, rows, pairs, value) overlaps nothing else that the call is lent. Nothing else
+ * is asked of the words: any are taken, and those that are not what they should be are refused.
+ *
+ * Listings. A row is three words: a leaf is YINDOLVE_LEAF, its value, 0; a branch is its label, true row, false row. A label is predicate * 2^24 + t1 * 2^18 +
+ * t2 * 2^12 + t3 * 2^6 + t4, unused places 0. Terms: constants 0 to 15, parameters 16 to 19, variables 32 to 63. Predicate 0 is equality, its smaller term
+ * first. Rows are numbered as a walk from the root, true branch first, finishes them, so that the root is the last row. With each call goes a list of
+ * YINDOLVE_ARITIES arities, the first of them 2, each at most 4.
+ *
+ * Answers. Each function answers 0, or the number of the refusal. After a refusal the result buffer, the counts and the value are as they were. Words of the
+ * result buffer behind a result stay. The working space may hold anything before a call and holds nothing of use after it.
+ *
+ * Each function is proved to answer and to write what document 01 says, on all words.
+ */
+#ifndef YINDOLVE_H
+#define YINDOLVE_H
+
+#include <stddef.h>
+#include <stdint.h>
+
+#ifdef __cplusplus
+extern "C" {
+#endif
+
+/* The first word of a leaf's row, and the highest value of a leaf. */
+#define YINDOLVE_LEAF UINT64_C(4294967295)
+#define YINDOLVE_VALUE UINT64_C(1000000000000000000)
+
+/* Sizes of lent memory, in words. */
+#define YINDOLVE_ARITIES 32        /* an arity list */
+#define YINDOLVE_ROW_WORDS 3       /* a row of a listing */
+#define YINDOLVE_ROWS 1024         /* rows of a listing, at most */
+#define YINDOLVE_RESULT_WORDS 3072 /* a result buffer, at least */
+#define YINDOLVE_WORK_WORDS 6144   /* a working space, at least */
+#define YINDOLVE_CONSTANTS 16      /* the objects of a state's constants */
+#define YINDOLVE_FACT_WORDS 5      /* a fact: its predicate and four objects, unused places ignored */
+
+/* The refusals that library calls answer. */
+enum {
+    YINDOLVE_RANGE = 4,       /* a state without objects or with an object beyond them; more than 4 parameters */
+    YINDOLVE_UNBOUND = 6,     /* a parameter where none is allowed, or past the action's */
+    YINDOLVE_TRUTH = 7,       /* a truth diagram's leaf above 1 */
+    YINDOLVE_VARIABLES = 8,   /* more than 32 variables, or a variable past 63 */
+    YINDOLVE_SPACE = 9,       /* more than 2,048 rows formed, or a result of more than 1,024 */
+    YINDOLVE_PAIRS = 10,      /* more than 4,096 pairs */
+    YINDOLVE_TOO_HIGH = 11,   /* a leaf above YINDOLVE_VALUE */
+    YINDOLVE_LISTING = 14,    /* words that are no listing, or a wrong arity list */
+    YINDOLVE_VALUATIONS = 15, /* more than 1,000,000 valuations */
+    YINDOLVE_NOTHING = 16,    /* no edge to cut */
+    YINDOLVE_PATHS = 17,      /* more than 256 paths */
+    YINDOLVE_BUFFER = 18      /* a result buffer or a working space that is too small */
+};
+
+/* Whether the words are a listing: 0 or YINDOLVE_LISTING. */
+uint64_t yindolve_check(const uint64_t *arities, size_t arities_count, const uint64_t *words, size_t words_count);
+
+/* Sum, product and max of two listings, the result to `result`, its rows to *rows and the pairs that the walk reached to *pairs.
+ * Apart: the first operand is closed up (its variables renamed to 32, 33, .. in their order), the second's variables follow after, and the result is closed up.
+ * Shared: names stay.
+ * Refused, in this order: LISTING for the first operand, then for the second; BUFFER; VARIABLES (apart only: those of both together); PAIRS; TOO_HIGH; SPACE.
+ */
+uint64_t yindolve_sum_apart(const uint64_t *arities, size_t arities_count, const uint64_t *first, size_t first_count, const uint64_t *second,
+    size_t second_count, uint64_t *result, size_t result_count, uint64_t *work, size_t work_count, uint64_t *rows, uint64_t *pairs);
+uint64_t yindolve_sum_shared(const uint64_t *arities, size_t arities_count, const uint64_t *first, size_t first_count, const uint64_t *second,
+    size_t second_count, uint64_t *result, size_t result_count, uint64_t *work, size_t work_count, uint64_t *rows, uint64_t *pairs);
+uint64_t yindolve_product_apart(const uint64_t *arities, size_t arities_count, const uint64_t *first, size_t first_count, const uint64_t *second,
+    size_t second_count, uint64_t *result, size_t result_count, uint64_t *work, size_t work_count, uint64_t *rows, uint64_t *pairs);
+uint64_t yindolve_product_shared(const uint64_t *arities, size_t arities_count, const uint64_t *first, size_t first_count, const uint64_t *second,
+    size_t second_count, uint64_t *result, size_t result_count, uint64_t *work, size_t work_count, uint64_t *rows, uint64_t *pairs);
+uint64_t yindolve_max_apart(const uint64_t *arities, size_t arities_count, const uint64_t *first, size_t first_count, const uint64_t *second,
+    size_t second_count, uint64_t *result, size_t result_count, uint64_t *work, size_t work_count, uint64_t *rows, uint64_t *pairs);
+uint64_t yindolve_max_shared(const uint64_t *arities, size_t arities_count, const uint64_t *first, size_t first_count, const uint64_t *second,
+    size_t second_count, uint64_t *result, size_t result_count, uint64_t *work, size_t work_count, uint64_t *rows, uint64_t *pairs);
+
+/* Frees the parameters of an action that has `parameters` of them: parameter 16 + i turns into variable 32 + i, and the other variables move up by that count.
+ * Refused, in this order: LISTING; BUFFER; RANGE (more than 4 parameters); UNBOUND (a parameter past the count); VARIABLES (a variable would pass 63).
+ */
+uint64_t yindolve_free(const uint64_t *arities, size_t arities_count, const uint64_t *words, size_t words_count, uint64_t parameters, uint64_t *result,
+    size_t result_count, const uint64_t *work, size_t work_count, uint64_t *rows);
+
+/* The value of a listing in a state, to *value: the highest leaf over all valuations of its variables. The state has objects 0 to objects - 1; constants[c] is the
+ * object of constant c (0 for a constant that has no word, words past YINDOLVE_CONSTANTS are not read); facts are rows of YINDOLVE_FACT_WORDS words, words behind
+ * the last whole row are not read.
+ * Refused, in this order: LISTING; RANGE (no object, or one named that is not there); UNBOUND (any parameter); VALUATIONS.
+ */
+uint64_t yindolve_value(const uint64_t *arities, size_t arities_count, const uint64_t *words, size_t words_count, uint64_t objects, const uint64_t *constants,
+    size_t constants_count, const uint64_t *facts, size_t facts_count, uint64_t *value);
+
+#ifdef __cplusplus
+}
+#endif
+
+#endif
