@@ -39,8 +39,9 @@ use Rattle.regress.specs.Running.{Valued, Space, Ready, Gave, Ran, countThen}
 use Rattle.build.specs.declared.Built.{Built}
 use Rattle.build.specs.declared.Built.the-variants.{Done, Refused}
 use Rattle.build.specs.Build.{held}
-use Rattle.build.specs.Machine.{Op, build, built, builtClosed, opsIn}
+use Rattle.build.specs.Machine.{Op, build, built, builtClosed}
 use Rattle.build.specs.RegularLaws.{built-regular}
+use Rattle.build.specs.Stacks.{wholeOps}
 use Rattle.build.specs.Writing.{Buildable, Labelled, builtAs, Answered, RowWritable}
 
 -- a result held to 1,024 rows
@@ -124,19 +125,19 @@ tables-ready {ops} {out} {work} g n₁ n₂ n₃ n₄ h k l m = record {
 
 -- `build`
 module _ {ops out work : List ℕ} (g : Buildable ops out work) {r : Stepped} {s heads links index : List ℕ} (same-length : length s ≡ length work)
-    (x : Ran (build (opsIn ops)) work 0 r s heads links index) where
-  start : build (opsIn ops) (diagramsOf work 0) ≡ build (opsIn ops) []
+    (x : Ran (build (wholeOps ops)) work 0 r s heads links index) where
+  start : build (wholeOps ops) (diagramsOf work 0) ≡ build (wholeOps ops) []
   unfolding diagramsOf
   start = refl
 
-  pub built-refused : {w : Refusal} {c : ℕ} → r ≡ StepRefused w c → Answered (built (opsIn ops)) out (Refused w) out
+  pub built-refused : {w : Refusal} {c : ℕ} → r ≡ StepRefused w c → Answered (built (wholeOps ops)) out (Refused w) out
   unfolding built
   built-refused {w} {c} e =
-      let q : build (opsIn ops) [] ≡ refused w = sym start ∙ x .refusal w c e in
+      let q : build (wholeOps ops) [] ≡ refused w = sym start ∙ x .refusal w c e in
       record { answer = rw q; words = rw q }
 
   module _ {root count : ℕ} (e : r ≡ Row root count) where
-    gave : Gave (build (opsIn ops)) work 0 root count s
+    gave : Gave (build (wholeOps ops)) work 0 root count s
     gave = x .row root count e
 
     holds : Holds s heads links count
@@ -151,10 +152,10 @@ module _ {ops out work : List ℕ} (g : Buildable ops out work) {r : Stepped} {s
       room = g .out-room;
     }
 
-    pub built-row : {b : Built} {out′ : List ℕ} → Answered (held (tree s root)) out b out′ → Answered (built (opsIn ops)) out b out′
+    pub built-row : {b : Built} {out′ : List ℕ} → Answered (held (tree s root)) out b out′ → Answered (built (wholeOps ops)) out b out′
     unfolding built
     built-row a =
-        let q : build (opsIn ops) [] ≡ ok (tree s root, diagramsOf s count) = sym start ∙ gave .gives in
+        let q : build (wholeOps ops) [] ≡ ok (tree s root, diagramsOf s count) = sym start ∙ gave .gives in
         record { answer = rw q (a .answer); words = rw q (a .words) }
 
 -- `write_closed`
@@ -191,14 +192,14 @@ unfolding builtClosed
 closed-of ar os e = ap (λ (o : Outcome (Diagram × List Diagram)). andThen o (λ p. held (closed ar (p .0)))) e
 
 module _ {ar ops out work : List ℕ} (l : Labelled ar ops) (g : Buildable ops out work) {r : Stepped} {s heads links index : List ℕ} (same-length : length s ≡ length work)
-    (x : Ran (build (opsIn ops)) work 0 r s heads links index) where
-  pub reward-refused : {w : Refusal} {c : ℕ} → r ≡ StepRefused w c → Answered (builtClosed ar (opsIn ops)) out (Refused w) out
+    (x : Ran (build (wholeOps ops)) work 0 r s heads links index) where
+  pub reward-refused : {w : Refusal} {c : ℕ} → r ≡ StepRefused w c → Answered (builtClosed ar (wholeOps ops)) out (Refused w) out
   reward-refused {w} {c} e =
-      let q : build (opsIn ops) [] ≡ refused w = sym (start g same-length x) ∙ x .refusal w c e in
-      subst (λ (o : Outcome Diagram). Answered o out (Refused w) out) (sym (closed-of ar (opsIn ops) q)) (record { answer = refl; words = refl })
+      let q : build (wholeOps ops) [] ≡ refused w = sym (start g same-length x) ∙ x .refusal w c e in
+      subst (λ (o : Outcome Diagram). Answered o out (Refused w) out) (sym (closed-of ar (wholeOps ops) q)) (record { answer = refl; words = refl })
 
   module _ {root count : ℕ} (e : r ≡ Row root count) where
-    came : build (opsIn ops) [] ≡ ok (tree s root, diagramsOf s count)
+    came : build (wholeOps ops) [] ≡ ok (tree s root, diagramsOf s count)
     came = sym (start g same-length x) ∙ gave g same-length x e .gives
 
     pub reward-writable : Writable ar s count root out
@@ -213,5 +214,5 @@ module _ {ar ops out work : List ℕ} (l : Labelled ar ops) (g : Buildable ops o
           room = g .out-room;
         }
 
-    pub reward-row : {b : Built} {out′ : List ℕ} → Answered (held (closed ar (tree s root))) out b out′ → Answered (builtClosed ar (opsIn ops)) out b out′
-    reward-row {b} {out′} a = subst (λ (o : Outcome Diagram). Answered o out b out′) (sym (closed-of ar (opsIn ops) came)) a
+    pub reward-row : {b : Built} {out′ : List ℕ} → Answered (held (closed ar (tree s root))) out b out′ → Answered (builtClosed ar (wholeOps ops)) out b out′
+    reward-row {b} {out′} a = subst (λ (o : Outcome Diagram). Answered o out b out′) (sym (closed-of ar (wholeOps ops) came)) a

@@ -87,28 +87,18 @@ unfoldable pub builtClosed : List ℕ → List Op → Outcome Diagram
 unfolding build closed
 builtClosed ar os = andThen (build os []) (λ p. held (closed ar (p .0)))
 
--- operations in lent words, two words each: 0 and a leaf's value, 1 and the label asked, 2 and 0 for t = t, 3 and 0 for a step
-abbrev pub pickTest : Bool → Test → Test → Test
-pickTest true x y = x
-pickTest false x y = y
+-- an operation as two words: 0 and a leaf's value, 1 and the label asked, 2 and 0 for t = t, 3 and 0 for a step
+abbrev pub opOf : ℕ → ℕ → Op
+opOf zero v = leafOp v
+opOf (suc zero) v = ask (Is (record { packed = v }))
+opOf (suc (suc zero)) v = ask Always
+opOf (suc (suc (suc k))) v = step
 
-abbrev pub pickOp : Bool → Op → Op → Op
-pickOp true x y = x
-pickOp false x y = y
-
-unfoldable pub testAt : List ℕ → ℕ → Test
-testAt ws k = pickTest (eqb (getD ws (k * 2) 0) 1) (Is (record { packed = getD ws (k * 2 + 1) 0 })) Always
-
+-- operation k in lent words, and the first n
 unfoldable pub opAt : List ℕ → ℕ → Op
-unfolding testAt
-opAt ws k = pickOp (eqb (getD ws (k * 2) 0) 0) (leafOp (getD ws (k * 2 + 1) 0)) (pickOp (eqb (getD ws (k * 2) 0) 3) step (ask (testAt ws k)))
+opAt ws k = opOf (getD ws (k * 2) 0) (getD ws (k * 2 + 1) 0)
 
--- the n operations from k on
-unfoldable pub opsFrom : List ℕ → ℕ → ℕ → List Op
+unfoldable pub opsIn : List ℕ → ℕ → List Op
 unfolding opAt
-opsFrom ws k zero = []
-opsFrom ws k (suc n) = opAt ws k ∷ opsFrom ws (suc k) n
-
-unfoldable pub opsIn : List ℕ → List Op
-unfolding opsFrom
-opsIn ws = opsFrom ws 0 (length ws / 2)
+opsIn ws zero = []
+opsIn ws (suc n) = opsIn ws n ++ (opAt ws n ∷ [])

@@ -15,8 +15,8 @@ ghost use Rattle.diagram.specs.Variables.{closed};
 ghost use Rattle.apart.specs.Results.{Writable};
 ghost use Rattle.build.specs.Build.{held};
 ghost use Rattle.build.specs.Writing.{RowWritable, Answered, Buildable, Labelled};
-ghost use Rattle.build.specs.Machine.{testAt, opAt, opsIn, step, build, built, builtClosed};
-ghost use Rattle.build.specs.Stacks.{Ops, Stacked, machineOf, Moves};
+ghost use Rattle.build.specs.Machine.{opAt, step, build, built, builtClosed};
+ghost use Rattle.build.specs.Stacks.{Ops, testAt, wholeOps, Stacked, machineOf, Moves};
 
 // Words of a plan of 4,096 pairs.
 const PLAN_WORDS: usize = 20480;
@@ -124,7 +124,7 @@ fn run_op(
         stack[TESTS + results] = i as u64;
         return Moved::To(tests, results + 1, n);
     }
-    if kind == 3 {
+    if kind >= 3 {
         return close(
             ops,
             stack,
@@ -156,7 +156,7 @@ fn build_rows(
 ) -> Stepped
     requires { ⌜ Ops (now ops) ⌝ }
     requires { ⌜ Ready (now plan) (now index) (now space) (now heads) (now links) 0 ⌝ }
-    ensures { λ r. ⌜ Ran (build (opsIn (now (ops .entry)))) (now (space .entry)) 0 r (now (space .exit)) (now (heads .exit)) (now (links .exit)) (now (index .exit)) ⌝ }
+    ensures { λ r. ⌜ Ran (build (wholeOps (now (ops .entry)))) (now (space .entry)) 0 r (now (space .exit)) (now (heads .exit)) (now (links .exit)) (now (index .exit)) ⌝ }
 {
     let mut stack = [0u64; STACK_WORDS];
     let mut tests = 0;
@@ -214,7 +214,7 @@ fn write_row(space: &[u64], count: usize, root: usize, out: &mut [u64]) -> Built
 // Builds the diagram of a line from its operations and writes its listing; `work` is the working space.
 pub fn build(ops: &[u64], out: &mut [u64], work: &mut [u64]) -> Built
     requires { ⌜ Buildable (now ops) (now out) (now work) ⌝ }
-    ensures { λ r. ⌜ Answered (built (opsIn (now (ops .entry)))) (now (out .entry)) r (now (out .exit)) ⌝ }
+    ensures { λ r. ⌜ Answered (built (wholeOps (now (ops .entry)))) (now (out .entry)) r (now (out .exit)) ⌝ }
 {
     let mut plan = [0u64; PLAN_WORDS];
     let mut index = [0u16; plan::BUCKETS];
@@ -241,7 +241,7 @@ fn write_closed(arities: &[u64], space: &[u64], count: usize, root: usize, out: 
 pub fn build_closed(arities: &[u64], ops: &[u64], out: &mut [u64], work: &mut [u64]) -> Built
     requires { ⌜ Labelled (now arities) (now ops) ⌝ }
     requires { ⌜ Buildable (now ops) (now out) (now work) ⌝ }
-    ensures { λ r. ⌜ Answered (builtClosed (now (arities .entry)) (opsIn (now (ops .entry)))) (now (out .entry)) r (now (out .exit)) ⌝ }
+    ensures { λ r. ⌜ Answered (builtClosed (now (arities .entry)) (wholeOps (now (ops .entry)))) (now (out .entry)) r (now (out .exit)) ⌝ }
 {
     let mut plan = [0u64; PLAN_WORDS];
     let mut index = [0u16; plan::BUCKETS];
