@@ -42,7 +42,7 @@ use Rattle.build.specs.Build.{held}
 use Rattle.build.specs.Machine.{Op, build, built, builtClosed}
 use Rattle.build.specs.RegularLaws.{built-regular}
 use Rattle.build.specs.Stacks.{wholeOps}
-use Rattle.build.specs.Writing.{Buildable, Labelled, builtAs, Answered, RowWritable}
+use Rattle.build.specs.Writing.{Callable, Under, builtAs, Answered, RowWritable}
 
 -- a result held to 1,024 rows
 held-many : (d : Diagram) → mostRows < length (rows d) → held d ≡ refused NoSpace
@@ -115,7 +115,7 @@ none-valued : (s : List ℕ) → Valued (diagramsOf s 0)
 unfolding diagramsOf
 none-valued s = record { most = λ v h. let z : _≡_ {A = Bool} false true = h in absurd (false≢true z) }
 
-pub tables-ready : {ops out work : List ℕ} → Buildable ops out work → (n₁ n₂ n₃ n₄ : ℕ) → mostPairs * 5 ≤ n₁ → 4096 ≤ n₂ → 2048 ≤ n₃ → 2048 ≤ n₄
+pub tables-ready : {ops out work : List ℕ} → Callable ops out work → (n₁ n₂ n₃ n₄ : ℕ) → mostPairs * 5 ≤ n₁ → 4096 ≤ n₂ → 2048 ≤ n₃ → 2048 ≤ n₄
     → Ready (replicate n₁ 0) (replicate n₂ 0) work (replicate n₃ 0) (replicate n₄ 0) 0
 tables-ready {ops} {out} {work} g n₁ n₂ n₃ n₄ h k l m = record {
   space = record { holds = holds-none work (replicate n₃ 0) (replicate n₄ 0) (g .work-room) (rw length-replicate m) (clean-made n₃ l); values = none-valued work };
@@ -124,7 +124,7 @@ tables-ready {ops} {out} {work} g n₁ n₂ n₃ n₄ h k l m = record {
 }
 
 -- `build`
-module _ {ops out work : List ℕ} (g : Buildable ops out work) {r : Stepped} {s heads links index : List ℕ} (same-length : length s ≡ length work)
+module _ {ops out work : List ℕ} (g : Callable ops out work) {r : Stepped} {s heads links index : List ℕ} (same-length : length s ≡ length work)
     (x : Ran (build (wholeOps ops)) work 0 r s heads links index) where
   start : build (wholeOps ops) (diagramsOf work 0) ≡ build (wholeOps ops) []
   unfolding diagramsOf
@@ -191,7 +191,7 @@ closed-of : (ar : List ℕ) (os : List Op) {o : Outcome (Diagram × List Diagram
 unfolding builtClosed
 closed-of ar os e = ap (λ (o : Outcome (Diagram × List Diagram)). andThen o (λ p. held (closed ar (p .0)))) e
 
-module _ {ar ops out work : List ℕ} (l : Labelled ar ops) (g : Buildable ops out work) {r : Stepped} {s heads links index : List ℕ} (same-length : length s ≡ length work)
+module _ {ar ops out work : List ℕ} (l : Under ar ops) (g : Callable ops out work) {r : Stepped} {s heads links index : List ℕ} (same-length : length s ≡ length work)
     (x : Ran (build (wholeOps ops)) work 0 r s heads links index) where
   pub reward-refused : {w : Refusal} {c : ℕ} → r ≡ StepRefused w c → Answered (builtClosed ar (wholeOps ops)) out (Refused w) out
   reward-refused {w} {c} e =

@@ -25,7 +25,7 @@ use Rattle.regress.specs.StepLaws.{eval-most, most-eval, eval-test, ordered-tes
 use Rattle.regress.specs.Result.{AtMost, asked, stepped}
 use Rattle.build.specs.Machine.{Op, leafOp, ask, step, Machine, given, closing, operation, operations, lone, ending, build, opOf, opAt, mostTests, mostResults}
 use Rattle.build.specs.Stacks.{Ops, opsFrom, wholeOps}
-use Rattle.build.specs.Writing.{Labelled}
+use Rattle.build.specs.Writing.{Under}
 
 abbrev All : {A : Type 0} → (A → Type 0) → List A → Type 0
 All P [] = Unit {0}
@@ -126,17 +126,17 @@ of-under ar (suc zero) v h l = l refl
 of-under ar (suc (suc zero)) v h l = tt
 of-under ar (suc (suc (suc k))) v h l = tt
 
-op-under : (ar ws : List ℕ) (k : ℕ) → Ops ws → Labelled ar ws → k * 2 + 2 ≤ length ws → OpUnder ar (opAt ws k)
+op-under : (ar ws : List ℕ) (k : ℕ) → Ops ws → Under ar ws → k * 2 + 2 ≤ length ws → OpUnder ar (opAt ws k)
 unfolding opAt
 op-under ar ws k o l h = of-under ar (getD ws (k * 2) 0) (getD ws (k * 2 + 1) 0) (o .values k h) (l .labels k h)
 
-ops-under : (ar ws : List ℕ) (k n : ℕ) → Ops ws → Labelled ar ws → (k + n) * 2 ≤ length ws → All (OpUnder ar) (opsFrom ws k n)
+ops-under : (ar ws : List ℕ) (k n : ℕ) → Ops ws → Under ar ws → (k + n) * 2 ≤ length ws → All (OpUnder ar) (opsFrom ws k n)
 unfolding opsFrom
 ops-under ar ws k zero o l h = tt
 ops-under ar ws k (suc n) o l h = (op-under ar ws k o l (omega arith), ops-under ar ws (suc k) n o l (omega arith))
 
 -- so what is built is regular
-pub built-regular : (ar ws : List ℕ) (d : Diagram) (qs : List Diagram) → Ops ws → Labelled ar ws → build (wholeOps ws) [] ≡ ok (d, qs) → Regular ar d
+pub built-regular : (ar ws : List ℕ) (d : Diagram) (qs : List Diagram) → Ops ws → Under ar ws → build (wholeOps ws) [] ≡ ok (d, qs) → Regular ar d
 unfolding build wholeOps
 built-regular ar ws d qs o l e =
     let a : Accepted (λ (r : Diagram × List Diagram). Plain ar (r .0)) (build (wholeOps ws) []) =
