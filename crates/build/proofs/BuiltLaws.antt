@@ -4,22 +4,20 @@ use mathlib.Core.Bool.{Bool, true, false, false≢true}
 use mathlib.Core.List.{List, [], _++_}
 use Prim.Native.Nat.{ℕ, _+_, _*_, _≤_, _<_}
 use native.Mathlib.Omega.{arith}
-use lib.ListN.{length, getD, replicate, drop, length-replicate, getD-replicate}
-use lib.Dec.{leb, ltb}
+use lib.ListN.{length, replicate, drop, length-replicate, getD-replicate}
+use lib.Dec.{ltb}
 use borrow.Author.Tests.{lt-leb, le-leb, lt-ltb, le-ltb}
 use Rattle.basics.specs.Tests.{Cmp, cmp, below, equal, above}
-use Rattle.basics.specs.Members.{mem}
 use Rattle.refusal.specs.declared.Refusal.{Refusal}
 use Rattle.refusal.specs.declared.Refusal.the-variants.{Space as NoSpace}
 use Rattle.table.proofs.TableLaws.{clean-made}
-use Rattle.diagram.specs.Sizes.{mostRows, spaceRows, spaceWords, mostPairs, resultWords}
-use Rattle.diagram.specs.Diagram.{Diagram, leaf, same}
+use Rattle.diagram.specs.Sizes.{mostRows, spaceRows, mostPairs}
+use Rattle.diagram.specs.Diagram.{Diagram}
 use Rattle.diagram.specs.Rows.{rows}
 use Rattle.diagram.specs.Listing.{listing}
 use Rattle.diagram.specs.ListingLaws.{length-listing}
 use Rattle.diagram.specs.Validity.{tree}
 use Rattle.diagram.specs.Variables.{closed}
-use Rattle.plan.specs.Plan.{Clean}
 use Rattle.store.specs.Space.{diagramsOf, Holds}
 use Rattle.store.proofs.SpaceLaws.{holds-none}
 use Rattle.write.specs.declared.Listed.{Listed}
@@ -33,16 +31,15 @@ use Rattle.apart.specs.Results.{Writable, resultAnswer, ResultWritten}
 use Rattle.apart.proofs.ResultLaws.{unmarked-made}
 use Rattle.regress.specs.declared.Stepped.{Stepped}
 use Rattle.regress.specs.declared.Stepped.the-variants.{Row, Refused as StepRefused}
-use Rattle.regress.specs.Calls.{Outcome, ok, refused, andThen, Run}
-use Rattle.regress.specs.RegressCall.{writtenAs}
-use Rattle.regress.specs.Running.{Valued, Space, Ready, Gave, Ran, countThen}
+use Rattle.regress.specs.Calls.{Outcome, ok, refused, andThen}
+use Rattle.regress.specs.Running.{Valued, Ready, Gave, Ran, countThen}
 use Rattle.build.specs.declared.Built.{Built}
 use Rattle.build.specs.declared.Built.the-variants.{Done, Refused}
 use Rattle.build.specs.Build.{held}
 use Rattle.build.specs.Machine.{Op, build, built, builtClosed}
 use Rattle.build.specs.RegularLaws.{built-regular}
 use Rattle.build.specs.Stacks.{wholeOps}
-use Rattle.build.specs.Writing.{Callable, Under, builtAs, Answered, RowWritable}
+use Rattle.build.specs.Writing.{Callable, Under, Answered, RowWritable}
 
 -- a result held to 1,024 rows
 held-many : (d : Diagram) → mostRows < length (rows d) → held d ≡ refused NoSpace

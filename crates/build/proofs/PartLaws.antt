@@ -5,11 +5,9 @@ use Prim.Native.Nat.{ℕ, zero, suc, _+_, _*_, _/_, _≤_, _<_}
 use native.Mathlib.Omega.{arith}
 use lib.ListN.{length, getD, take}
 use lib.Seq.{length-take-le, getD-take}
-use Rattle.diagram.specs.Diagram.{Diagram}
-use Rattle.regress.specs.Calls.{Outcome}
 use Rattle.build.specs.declared.Built.{Built}
-use Rattle.build.specs.Machine.{Op, opOf, opAt, opsIn, built, builtClosed}
-use Rattle.build.specs.Stacks.{Ops, opsFrom, wholeOps}
+use Rattle.build.specs.Machine.{Op, opAt, opsIn, built, builtClosed}
+use Rattle.build.specs.Stacks.{opsFrom, wholeOps}
 use Rattle.build.specs.Writing.{Buildable, Labelled, Callable, Under, Answered}
 
 from-last : (ws : List ℕ) (k n : ℕ) → opsFrom ws k (suc n) ≡ opsFrom ws k n ++ (opAt ws (k + n) ∷ [])

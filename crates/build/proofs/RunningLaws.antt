@@ -1,26 +1,22 @@
 -- Laws of the loop over the operations.
-use mathlib.Core.Path.{_≡_, refl, sym, ap, subst, _∙_}
-use mathlib.Core.Logic.{_≢_}
-use mathlib.Core.List.{List, [], _∷_}
+use mathlib.Core.Path.{_≡_, refl, ap, subst, _∙_}
+use mathlib.Core.List.{List, []}
 use Prim.Native.Nat.{ℕ, zero, suc, _+_, _*_, _/_, _-_, _≤_, _<_}
 use native.Mathlib.Omega.{arith}
 use native.Mathlib.Numerals.{add-one}
 use lib.ListN.{length, getD, replicate, length-replicate}
 use Rattle.refusal.specs.declared.Refusal.{Refusal}
 use Rattle.refusal.specs.declared.Refusal.the-variants.{Form}
-use Rattle.label.specs.declared.Test.{Test}
-use Rattle.diagram.specs.Sizes.{mostPairs}
 use Rattle.diagram.specs.Diagram.{Diagram}
 use Rattle.diagram.specs.Validity.{tree}
 use Rattle.plan.specs.Plan.{Clean}
 use Rattle.store.specs.Space.{diagramsOf}
-use Rattle.regress.specs.declared.Stepped.{Stepped}
 use Rattle.regress.specs.declared.Stepped.the-variants.{Row, Refused as StepRefused}
 use Rattle.regress.specs.Calls.{Outcome, ok, refused, andThen, Run}
 use Rattle.regress.specs.Running.{Space, Ready, Gave, Ran}
 use Rattle.build.specs.declared.Moved.{Moved}
 use Rattle.build.specs.declared.Moved.the-variants.{To, Refused}
-use Rattle.build.specs.Machine.{Op, Machine, mostTests, operation, operations, lone, ending, build, opAt}
+use Rattle.build.specs.Machine.{Machine, mostTests, operation, operations, ending, build, opAt}
 use Rattle.build.specs.Stacks.{opsFrom, wholeOps, testsOf, resultsOf, machineOf, stackWords, Stacked, rowsThen, Moves}
 
 abbrev empty : Machine

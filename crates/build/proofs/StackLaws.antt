@@ -1,12 +1,12 @@
 -- Laws of the machine in lent words: one operation after another.
 use mathlib.Core.Path.{_≡_, refl, sym, ap, subst, _∙_}
-use mathlib.Core.List.{List, [], _∷_}
+use mathlib.Core.List.{List, _∷_}
 use Prim.Native.Nat.{ℕ, zero, suc, _+_, _*_, _-_, _≤_, _<_}
 use native.Mathlib.Omega.{arith}
 use native.Mathlib.Numerals.{add-one}
 use lib.ListN.{length, getD, set, length-set}
 use lib.Seq.{getD-set-same, getD-set-other}
-use lib.Dec.{ltb, eqb}
+use lib.Dec.{eqb}
 use borrow.Author.Tests.{lt-ltb, le-ltb, eq-eqb, ne-eqb}
 use Rattle.basics.specs.Tests.{Cmp, cmp, below, equal, above}
 use Rattle.refusal.specs.declared.Refusal.{Refusal}
@@ -15,7 +15,7 @@ use Rattle.label.specs.Limits.{leafMark}
 use Rattle.label.specs.declared.Label.{Label}
 use Rattle.label.specs.declared.Test.{Test}
 use Rattle.label.specs.declared.Test.the-variants.{Always, Is}
-use Rattle.diagram.specs.Sizes.{highestValue, spaceRows}
+use Rattle.diagram.specs.Sizes.{spaceRows}
 use Rattle.diagram.specs.Diagram.{Diagram, leaf}
 use Rattle.diagram.specs.Validity.{tree}
 use Rattle.plan.specs.Plan.{Clean}
@@ -27,13 +27,13 @@ use Rattle.regress.proofs.RunLaws.{formed-ran, full-ran}
 use Rattle.regress.proofs.StepRunLaws.{leaf-onto, row-known, full-known}
 use Rattle.regress.specs.declared.Stepped.{Stepped}
 use Rattle.regress.specs.declared.Stepped.the-variants.{Row, Refused as StepRefused}
-use Rattle.regress.specs.Calls.{Outcome, ok, refused, Run, form}
+use Rattle.regress.specs.Calls.{ok, refused, Run, form}
 use Rattle.regress.specs.Step.{testDiagram, rowStep}
 use Rattle.regress.specs.Running.{Space, Ready, Two, Testable, Gave, Ran, countThen}
 use Rattle.build.specs.declared.Moved.{Moved}
 use Rattle.build.specs.declared.Moved.the-variants.{To, Refused}
 use Rattle.build.specs.Machine.{Op, leafOp, ask, step, Machine, mostTests, mostResults, given, closing, operation, opOf, opAt}
-use Rattle.build.specs.Stacks.{Ops, pickTest, testAt, testsOf, resultsOf, machineOf, stackWords, Stacked, rowsThen, Moves}
+use Rattle.build.specs.Stacks.{Ops, pickTest, testAt, testsOf, resultsOf, machineOf, Stacked, Moves}
 
 -- `test_at`
 pub test-is : (ops : List ℕ) (k : ℕ) → getD ops (k * 2) 0 ≡ 1 → Is (record { packed = getD ops (k * 2 + 1) 0 }) ≡ testAt ops k

@@ -1,6 +1,5 @@
 -- A diagram of a text (document 01, section 'Text'): 'A diagram is a number, or (if ATOM DIAGRAM DIAGRAM), read as the row step above when it closes, T
 -- being the test of ATOM'.
-use mathlib.Core.Bool.{Bool}
 use mathlib.Core.List.{List, []}
 use Prim.Native.Nat.{ℕ, suc, max}
 use lib.ListN.{length}

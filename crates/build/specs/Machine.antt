@@ -1,11 +1,10 @@
 -- The operations that a diagram's words are turned into, in the order of the words, and a machine with two stacks that runs them.
-use mathlib.Core.Bool.{Bool, true, false}
+use mathlib.Core.Bool.{true, false}
 use mathlib.Core.List.{List, [], _∷_, _++_}
-use Prim.Native.Nat.{ℕ, zero, suc, _+_, _*_, _/_}
+use Prim.Native.Nat.{ℕ, zero, suc, _+_, _*_}
 use lib.ListN.{length, getD}
-use lib.Dec.{eqb, ltb}
+use lib.Dec.{ltb}
 use Rattle.refusal.specs.declared.Refusal.the-variants.{Form}
-use Rattle.label.specs.declared.Label.{Label}
 use Rattle.label.specs.declared.Test.{Test}
 use Rattle.label.specs.declared.Test.the-variants.{Always, Is}
 use Rattle.diagram.specs.Diagram.{Diagram, leaf}

@@ -1,16 +1,13 @@
 -- What the machine builds is ordered and reduced, its labels and values in their ranges, where those of its operations are.
-use mathlib.Core.Path.{_≡_, refl, sym, ap, subst, _∙_}
+use mathlib.Core.Path.{_≡_, refl, sym, subst}
 use mathlib.Core.Bool.{Bool, true, false, cond}
 use mathlib.Core.List.{List, [], _∷_}
-use Prim.Native.Nat.{ℕ, zero, suc, _+_, _*_, _/_, _≤_, _<_}
+use Prim.Native.Nat.{ℕ, zero, suc, _+_, _*_, _/_, _≤_}
 use native.Mathlib.Omega.{arith}
 use lib.ListN.{length, getD}
-use lib.Dec.{eqb, ltb}
-use borrow.Author.Tests.{eqb-true}
-use Rattle.basics.specs.Tests.{Flag, isTrue, isFalse, flag}
+use lib.Dec.{ltb}
 use Rattle.refusal.specs.declared.Refusal.{Refusal}
-use Rattle.label.specs.Labels.{areArities, isLabel}
-use Rattle.label.specs.declared.Label.{Label}
+use Rattle.label.specs.Labels.{isLabel}
 use Rattle.label.specs.declared.Test.{Test}
 use Rattle.label.specs.declared.Test.the-variants.{Always, Is}
 use Rattle.diagram.specs.Sizes.{highestValue}
@@ -18,12 +15,12 @@ use Rattle.diagram.specs.Diagram.{Diagram, leaf, branch, eval, Ordered, Reduced
 use Rattle.diagram.specs.Listing.{Fine}
 use Rattle.apply.specs.GoodLaws.{EveryLabel}
 use Rattle.apart.specs.Results.{Regular}
-use Rattle.regress.specs.Calls.{Outcome, ok, refused, andThen, pickOutcome, form}
+use Rattle.regress.specs.Calls.{Outcome, ok, refused, pickOutcome, form}
 use Rattle.regress.specs.CallLaws.{Accepted, accepted-ok, accepted-refused, accepted-then, form-gives}
 use Rattle.regress.specs.Step.{testDiagram, rowStep}
 use Rattle.regress.specs.StepLaws.{eval-most, most-eval, eval-test, ordered-test, step-gives, eval-stepped, from-stepped, reduced-stepped, every-stepped}
 use Rattle.regress.specs.Result.{AtMost, asked, stepped}
-use Rattle.build.specs.Machine.{Op, leafOp, ask, step, Machine, given, closing, operation, operations, lone, ending, build, opOf, opAt, mostTests, mostResults}
+use Rattle.build.specs.Machine.{Op, leafOp, ask, step, Machine, given, closing, operation, operations, lone, build, opOf, opAt, mostTests, mostResults}
 use Rattle.build.specs.Stacks.{Ops, opsFrom, wholeOps}
 use Rattle.build.specs.Writing.{Under}
 

@@ -9,7 +9,6 @@ use Rattle.label.specs.Labels.{areArities, isLabel}
 use Rattle.diagram.specs.Sizes.{highestValue, resultWords, spaceWords, spaceRows}
 use Rattle.diagram.specs.Diagram.{Diagram}
 use Rattle.diagram.specs.Rows.{rows}
-use Rattle.diagram.specs.Validity.{tree}
 use Rattle.diagram.specs.RowLists.{Written}
 use Rattle.store.specs.Space.{diagramsOf}
 use Rattle.regress.specs.Calls.{Outcome, ok, refused}
