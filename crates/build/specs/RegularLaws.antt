@@ -35,7 +35,7 @@ record Plain (ar : List ℕ) (d : Diagram) : Type 0 where
   labels : EveryLabel (λ l. isLabel ar l ≡ true) d
   most : AtMost highestValue d
 
-fine-made : (ar : List ℕ) (d : Diagram) → EveryLabel (λ l. isLabel ar l ≡ true) d → AtMost highestValue d → Fine ar d
+pub fine-made : (ar : List ℕ) (d : Diagram) → EveryLabel (λ l. isLabel ar l ≡ true) d → AtMost highestValue d → Fine ar d
 fine-made ar (leaf v) h m = m
 fine-made ar (branch l t f) h m = (h .0, fine-made ar t (h .1) (m .0), fine-made ar f (h .2) (m .1))
 
