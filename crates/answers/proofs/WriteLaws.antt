@@ -1,10 +1,10 @@
 -- Laws of bytes written one after another.
-use Prim.Native.Nat.{ℕ, zero, suc, _+_, _*_, _/_, _%_, _-_, _≤_, _<_}
-use mathlib.Core.Path.{_≡_, refl, sym, ap, subst, _∙_}
+use Prim.Native.Nat.{ℕ, suc, _+_, _/_, _%_, _≤_, _<_}
+use mathlib.Core.Path.{_≡_, sym, ap, subst, _∙_}
 use mathlib.Core.List.{List, [], _∷_, _++_, append-assoc, append-nil}
 use native.Mathlib.Omega.{arith}
 use native.Mathlib.Numerals.{add-one}
-use lib.ListN.{length, getD, set, take, drop, length-append, length-set, take-append-drop}
+use lib.ListN.{length, getD, set, take, drop, length-append, take-append-drop}
 use lib.Seq.{set-split, set-at, drop-cons, length-take-le, append-snoc, take-suc, take-all, take-at, drop-append-add, drop-drop}
 use Rattle.answers.specs.Digits.{digits}
 use Rattle.answers.specs.DigitLaws.{digits-one, digits-more, digits-some, digits-short}

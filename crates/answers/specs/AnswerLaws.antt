@@ -2,7 +2,7 @@
 use Prim.Native.Nat.{ℕ, zero, suc, _+_, _*_, _≤_, _<_}
 use mathlib.Core.Path.{_≡_}
 use mathlib.Core.Bool.{Bool, true, false, cond}
-use mathlib.Core.List.{List, [], _∷_, _++_}
+use mathlib.Core.List.{List, _++_}
 use native.Mathlib.Omega.{arith}
 use borrow.Author.Tests.{le-leb}
 use lib.Dec.{eqb}
@@ -18,7 +18,6 @@ use Rattle.cut.specs.declared.Edge.the-variants.{True, False}
 use Rattle.answers.specs.declared.Answer.{Answer}
 use Rattle.answers.specs.declared.Answer.the-variants.{Value, Backup, Cut, Refused, Show, Nothing}
 use Rattle.answers.specs.declared.Put.the-variants.{At}
-use Rattle.answers.specs.Digits.{digits}
 use Rattle.answers.specs.DigitLaws.{digits-short}
 use Rattle.answers.specs.Answers.{field, edgeField, leafField, lineEnd, valueHead, backupHead, cutHead, refusedHead, rowHead, answerLine, rowLine, rowLineAt, rowLines, answerBytes}
 use Rattle.answers.specs.Writing.{lineBytes, mostBytes, putAnswer}

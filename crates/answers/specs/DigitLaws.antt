@@ -5,10 +5,9 @@ use mathlib.Core.Bool.{Bool, true, false, cond, _||_, not}
 use mathlib.Core.List.{List, [], _∷_, _++_}
 use native.Mathlib.Omega.{arith}
 use native.Mathlib.Decide.{decLt}
-use borrow.Author.Tests.{le-leb, lt-leb, leb-false, ne-eqb, eq-eqb}
+use borrow.Author.Tests.{le-leb, lt-leb, leb-false, ne-eqb}
 use lib.Dec.{leb, eqb}
 use lib.ListN.{length, getD, length-append, List·getD-append}
-use Rattle.basics.specs.Tests.{or-one}
 use Rattle.words.specs.Bytes.{run, isDigit, decimalFrom, decimal, over, valueOf}
 use Rattle.words.specs.Words.{IsNumber}
 use Rattle.words.specs.WordLaws.{value-exact}

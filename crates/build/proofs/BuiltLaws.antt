@@ -4,22 +4,20 @@ use mathlib.Core.Bool.{Bool, true, false, false≢true}
 use mathlib.Core.List.{List, [], _++_}
 use Prim.Native.Nat.{ℕ, _+_, _*_, _≤_, _<_}
 use native.Mathlib.Omega.{arith}
-use lib.ListN.{length, getD, replicate, drop, length-replicate, getD-replicate}
-use lib.Dec.{leb, ltb}
+use lib.ListN.{length, replicate, drop, length-replicate, getD-replicate}
+use lib.Dec.{ltb}
 use borrow.Author.Tests.{lt-leb, le-leb, lt-ltb, le-ltb}
 use Rattle.basics.specs.Tests.{Cmp, cmp, below, equal, above}
-use Rattle.basics.specs.Members.{mem}
 use Rattle.refusal.specs.declared.Refusal.{Refusal}
 use Rattle.refusal.specs.declared.Refusal.the-variants.{Space as NoSpace}
 use Rattle.table.proofs.TableLaws.{clean-made}
-use Rattle.diagram.specs.Sizes.{mostRows, spaceRows, spaceWords, mostPairs, resultWords}
-use Rattle.diagram.specs.Diagram.{Diagram, leaf, same}
+use Rattle.diagram.specs.Sizes.{mostRows, spaceRows, mostPairs}
+use Rattle.diagram.specs.Diagram.{Diagram}
 use Rattle.diagram.specs.Rows.{rows}
 use Rattle.diagram.specs.Listing.{listing}
 use Rattle.diagram.specs.ListingLaws.{length-listing}
 use Rattle.diagram.specs.Validity.{tree}
 use Rattle.diagram.specs.Variables.{closed}
-use Rattle.plan.specs.Plan.{Clean}
 use Rattle.store.specs.Space.{diagramsOf, Holds}
 use Rattle.store.proofs.SpaceLaws.{holds-none}
 use Rattle.write.specs.declared.Listed.{Listed}
@@ -33,15 +31,15 @@ use Rattle.apart.specs.Results.{Writable, resultAnswer, ResultWritten}
 use Rattle.apart.proofs.ResultLaws.{unmarked-made}
 use Rattle.regress.specs.declared.Stepped.{Stepped}
 use Rattle.regress.specs.declared.Stepped.the-variants.{Row, Refused as StepRefused}
-use Rattle.regress.specs.Calls.{Outcome, ok, refused, andThen, Run}
-use Rattle.regress.specs.RegressCall.{writtenAs}
-use Rattle.regress.specs.Running.{Valued, Space, Ready, Gave, Ran, countThen}
+use Rattle.regress.specs.Calls.{Outcome, ok, refused, andThen}
+use Rattle.regress.specs.Running.{Valued, Ready, Gave, Ran, countThen}
 use Rattle.build.specs.declared.Built.{Built}
 use Rattle.build.specs.declared.Built.the-variants.{Done, Refused}
 use Rattle.build.specs.Build.{held}
-use Rattle.build.specs.Machine.{Op, build, built, builtClosed, opsIn}
+use Rattle.build.specs.Machine.{Op, build, built, builtClosed}
 use Rattle.build.specs.RegularLaws.{built-regular}
-use Rattle.build.specs.Writing.{Buildable, Labelled, builtAs, Answered, RowWritable}
+use Rattle.build.specs.Stacks.{wholeOps}
+use Rattle.build.specs.Writing.{Callable, Under, Answered, RowWritable}
 
 -- a result held to 1,024 rows
 held-many : (d : Diagram) → mostRows < length (rows d) → held d ≡ refused NoSpace
@@ -114,7 +112,7 @@ none-valued : (s : List ℕ) → Valued (diagramsOf s 0)
 unfolding diagramsOf
 none-valued s = record { most = λ v h. let z : _≡_ {A = Bool} false true = h in absurd (false≢true z) }
 
-pub tables-ready : {ops out work : List ℕ} → Buildable ops out work → (n₁ n₂ n₃ n₄ : ℕ) → mostPairs * 5 ≤ n₁ → 4096 ≤ n₂ → 2048 ≤ n₃ → 2048 ≤ n₄
+pub tables-ready : {ops out work : List ℕ} → Callable ops out work → (n₁ n₂ n₃ n₄ : ℕ) → mostPairs * 5 ≤ n₁ → 4096 ≤ n₂ → 2048 ≤ n₃ → 2048 ≤ n₄
     → Ready (replicate n₁ 0) (replicate n₂ 0) work (replicate n₃ 0) (replicate n₄ 0) 0
 tables-ready {ops} {out} {work} g n₁ n₂ n₃ n₄ h k l m = record {
   space = record { holds = holds-none work (replicate n₃ 0) (replicate n₄ 0) (g .work-room) (rw length-replicate m) (clean-made n₃ l); values = none-valued work };
@@ -123,20 +121,20 @@ tables-ready {ops} {out} {work} g n₁ n₂ n₃ n₄ h k l m = record {
 }
 
 -- `build`
-module _ {ops out work : List ℕ} (g : Buildable ops out work) {r : Stepped} {s heads links index : List ℕ} (same-length : length s ≡ length work)
-    (x : Ran (build (opsIn ops)) work 0 r s heads links index) where
-  start : build (opsIn ops) (diagramsOf work 0) ≡ build (opsIn ops) []
+module _ {ops out work : List ℕ} (g : Callable ops out work) {r : Stepped} {s heads links index : List ℕ} (same-length : length s ≡ length work)
+    (x : Ran (build (wholeOps ops)) work 0 r s heads links index) where
+  start : build (wholeOps ops) (diagramsOf work 0) ≡ build (wholeOps ops) []
   unfolding diagramsOf
   start = refl
 
-  pub built-refused : {w : Refusal} {c : ℕ} → r ≡ StepRefused w c → Answered (built (opsIn ops)) out (Refused w) out
+  pub built-refused : {w : Refusal} {c : ℕ} → r ≡ StepRefused w c → Answered (built (wholeOps ops)) out (Refused w) out
   unfolding built
   built-refused {w} {c} e =
-      let q : build (opsIn ops) [] ≡ refused w = sym start ∙ x .refusal w c e in
+      let q : build (wholeOps ops) [] ≡ refused w = sym start ∙ x .refusal w c e in
       record { answer = rw q; words = rw q }
 
   module _ {root count : ℕ} (e : r ≡ Row root count) where
-    gave : Gave (build (opsIn ops)) work 0 root count s
+    gave : Gave (build (wholeOps ops)) work 0 root count s
     gave = x .row root count e
 
     holds : Holds s heads links count
@@ -151,10 +149,10 @@ module _ {ops out work : List ℕ} (g : Buildable ops out work) {r : Stepped} {s
       room = g .out-room;
     }
 
-    pub built-row : {b : Built} {out′ : List ℕ} → Answered (held (tree s root)) out b out′ → Answered (built (opsIn ops)) out b out′
+    pub built-row : {b : Built} {out′ : List ℕ} → Answered (held (tree s root)) out b out′ → Answered (built (wholeOps ops)) out b out′
     unfolding built
     built-row a =
-        let q : build (opsIn ops) [] ≡ ok (tree s root, diagramsOf s count) = sym start ∙ gave .gives in
+        let q : build (wholeOps ops) [] ≡ ok (tree s root, diagramsOf s count) = sym start ∙ gave .gives in
         record { answer = rw q (a .answer); words = rw q (a .words) }
 
 -- `write_closed`
@@ -190,15 +188,15 @@ closed-of : (ar : List ℕ) (os : List Op) {o : Outcome (Diagram × List Diagram
 unfolding builtClosed
 closed-of ar os e = ap (λ (o : Outcome (Diagram × List Diagram)). andThen o (λ p. held (closed ar (p .0)))) e
 
-module _ {ar ops out work : List ℕ} (l : Labelled ar ops) (g : Buildable ops out work) {r : Stepped} {s heads links index : List ℕ} (same-length : length s ≡ length work)
-    (x : Ran (build (opsIn ops)) work 0 r s heads links index) where
-  pub reward-refused : {w : Refusal} {c : ℕ} → r ≡ StepRefused w c → Answered (builtClosed ar (opsIn ops)) out (Refused w) out
+module _ {ar ops out work : List ℕ} (l : Under ar ops) (g : Callable ops out work) {r : Stepped} {s heads links index : List ℕ} (same-length : length s ≡ length work)
+    (x : Ran (build (wholeOps ops)) work 0 r s heads links index) where
+  pub reward-refused : {w : Refusal} {c : ℕ} → r ≡ StepRefused w c → Answered (builtClosed ar (wholeOps ops)) out (Refused w) out
   reward-refused {w} {c} e =
-      let q : build (opsIn ops) [] ≡ refused w = sym (start g same-length x) ∙ x .refusal w c e in
-      subst (λ (o : Outcome Diagram). Answered o out (Refused w) out) (sym (closed-of ar (opsIn ops) q)) (record { answer = refl; words = refl })
+      let q : build (wholeOps ops) [] ≡ refused w = sym (start g same-length x) ∙ x .refusal w c e in
+      subst (λ (o : Outcome Diagram). Answered o out (Refused w) out) (sym (closed-of ar (wholeOps ops) q)) (record { answer = refl; words = refl })
 
   module _ {root count : ℕ} (e : r ≡ Row root count) where
-    came : build (opsIn ops) [] ≡ ok (tree s root, diagramsOf s count)
+    came : build (wholeOps ops) [] ≡ ok (tree s root, diagramsOf s count)
     came = sym (start g same-length x) ∙ gave g same-length x e .gives
 
     pub reward-writable : Writable ar s count root out
@@ -213,5 +211,5 @@ module _ {ar ops out work : List ℕ} (l : Labelled ar ops) (g : Buildable ops o
           room = g .out-room;
         }
 
-    pub reward-row : {b : Built} {out′ : List ℕ} → Answered (held (closed ar (tree s root))) out b out′ → Answered (builtClosed ar (opsIn ops)) out b out′
-    reward-row {b} {out′} a = subst (λ (o : Outcome Diagram). Answered o out b out′) (sym (closed-of ar (opsIn ops) came)) a
+    pub reward-row : {b : Built} {out′ : List ℕ} → Answered (held (closed ar (tree s root))) out b out′ → Answered (builtClosed ar (wholeOps ops)) out b out′
+    reward-row {b} {out′} a = subst (λ (o : Outcome Diagram). Answered o out b out′) (sym (closed-of ar (wholeOps ops) came)) a

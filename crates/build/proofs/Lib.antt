@@ -1,3 +1,4 @@
 pub mod StackLaws
 pub mod RunningLaws
 pub mod BuiltLaws
+pub mod PartLaws

@@ -1,27 +1,23 @@
 -- Laws of the loop over the operations.
-use mathlib.Core.Path.{_≡_, refl, sym, ap, subst, _∙_}
-use mathlib.Core.Logic.{_≢_}
-use mathlib.Core.List.{List, [], _∷_}
+use mathlib.Core.Path.{_≡_, refl, ap, subst, _∙_}
+use mathlib.Core.List.{List, []}
 use Prim.Native.Nat.{ℕ, zero, suc, _+_, _*_, _/_, _-_, _≤_, _<_}
 use native.Mathlib.Omega.{arith}
 use native.Mathlib.Numerals.{add-one}
 use lib.ListN.{length, getD, replicate, length-replicate}
 use Rattle.refusal.specs.declared.Refusal.{Refusal}
 use Rattle.refusal.specs.declared.Refusal.the-variants.{Form}
-use Rattle.label.specs.declared.Test.{Test}
-use Rattle.diagram.specs.Sizes.{mostPairs}
 use Rattle.diagram.specs.Diagram.{Diagram}
 use Rattle.diagram.specs.Validity.{tree}
 use Rattle.plan.specs.Plan.{Clean}
 use Rattle.store.specs.Space.{diagramsOf}
-use Rattle.regress.specs.declared.Stepped.{Stepped}
 use Rattle.regress.specs.declared.Stepped.the-variants.{Row, Refused as StepRefused}
 use Rattle.regress.specs.Calls.{Outcome, ok, refused, andThen, Run}
 use Rattle.regress.specs.Running.{Space, Ready, Gave, Ran}
 use Rattle.build.specs.declared.Moved.{Moved}
 use Rattle.build.specs.declared.Moved.the-variants.{To, Refused}
-use Rattle.build.specs.Machine.{Op, Machine, mostTests, operation, operations, lone, ending, build, opAt, opsFrom, opsIn}
-use Rattle.build.specs.Stacks.{testsOf, resultsOf, machineOf, stackWords, Stacked, rowsThen, Moves}
+use Rattle.build.specs.Machine.{Machine, mostTests, operation, operations, ending, build, opAt}
+use Rattle.build.specs.Stacks.{opsFrom, wholeOps, testsOf, resultsOf, machineOf, stackWords, Stacked, rowsThen, Moves}
 
 abbrev empty : Machine
 empty = record { tests = []; results = []; formed = [] }
@@ -29,11 +25,11 @@ empty = record { tests = []; results = []; formed = [] }
 -- k operations are done
 pub record Running (ops stack s : List ℕ) (t d count k : ℕ) : Type 0 where
   pub within : k ≤ length ops / 2
-  pub rest : operations (opsIn ops) empty ≡ operations (opsFrom ops k (length ops / 2 - k)) (machineOf ops stack s t d count)
+  pub rest : operations (wholeOps ops) empty ≡ operations (opsFrom ops k (length ops / 2 - k)) (machineOf ops stack s t d count)
   pub stacked : Stacked ops stack t d count
 
 pub running-start : (ops s : List ℕ) (n : ℕ) → stackWords ≤ n → Running ops (replicate n 0) s 0 0 0 0
-unfolding opsIn testsOf resultsOf diagramsOf
+unfolding wholeOps testsOf resultsOf diagramsOf
 running-start ops s n h =
     let e : length ops / 2 - 0 ≡ length ops / 2 = omega arith in
     record {
@@ -58,7 +54,7 @@ unfolding opsFrom operations
 ops-none ops k n m e = rw e
 
 -- the whole, from what the machine comes to
-build-is : (ops s₀ : List ℕ) {o : Outcome Machine} → operations (opsIn ops) empty ≡ o → build (opsIn ops) (diagramsOf s₀ 0) ≡ andThen o ending
+build-is : (ops s₀ : List ℕ) {o : Outcome Machine} → operations (wholeOps ops) empty ≡ o → build (wholeOps ops) (diagramsOf s₀ 0) ≡ andThen o ending
 unfolding build diagramsOf
 build-is ops s₀ e = ap (λ (o : Outcome Machine). andThen o ending) e
 
@@ -92,7 +88,7 @@ module _ {ops stack s : List ℕ} {t d count k : ℕ} (g : Running ops stack s t
 
   module _ (h : k < length ops / 2) {r : Moved} {stack′ s′ heads′ links′ index′ : List ℕ}
       (x : Moves (opAt ops k) (machineOf ops stack s t d count) ops r stack′ s′ heads′ links′ index′) where
-    next : operations (opsIn ops) empty ≡ andThen (operation (opAt ops k) (machineOf ops stack s t d count)) (operations (opsFrom ops (suc k) (length ops / 2 - (k + 1))))
+    next : operations (wholeOps ops) empty ≡ andThen (operation (opAt ops k) (machineOf ops stack s t d count)) (operations (opsFrom ops (suc k) (length ops / 2 - (k + 1))))
     next = g .rest ∙ ops-next ops k (length ops / 2 - k) (length ops / 2 - (k + 1)) (machineOf ops stack s t d count) (omega arith)
 
     pub running-on : {t′ d′ c′ : ℕ} → r ≡ To t′ d′ c′ → Running ops stack′ s′ t′ d′ c′ (k + 1)
@@ -105,7 +101,7 @@ module _ {ops stack s : List ℕ} {t d count k : ℕ} (g : Running ops stack s t
         left : operations (opsFrom ops (suc k) (length ops / 2 - (k + 1))) (machineOf ops stack′ s′ t′ d′ c′) ≡ operations (opsFrom ops (suc k) (length ops / 2 - suc k)) (machineOf ops stack′ s′ t′ d′ c′)
         left = ap (λ (j : ℕ). operations (opsFrom ops (suc k) (length ops / 2 - j)) (machineOf ops stack′ s′ t′ d′ c′)) (add-one k)
 
-    pub running-stop : (s₀ : List ℕ) {w : Refusal} {c : ℕ} → r ≡ Refused w c → Ran (build (opsIn ops)) s₀ 0 (StepRefused w c) s′ heads′ links′ index′
+    pub running-stop : (s₀ : List ℕ) {w : Refusal} {c : ℕ} → r ≡ Refused w c → Ran (build (wholeOps ops)) s₀ 0 (StepRefused w c) s′ heads′ links′ index′
     running-stop s₀ {w} {c} e =
         let z : Space s′ heads′ links′ c = subst (λ (y : Moved). Space s′ heads′ links′ (rowsThen y)) e (x .space) in
         ran-refused z (x .clean)
@@ -121,25 +117,25 @@ module _ {ops stack s : List ℕ} {t d count k : ℕ} (g : Running ops stack s t
 
   -- all operations are done
   module _ (h : length ops / 2 ≤ k) {plan index heads links : List ℕ} (ready : Ready plan index s heads links count) (s₀ : List ℕ) where
-    done : operations (opsIn ops) empty ≡ ok (machineOf ops stack s t d count)
+    done : operations (wholeOps ops) empty ≡ ok (machineOf ops stack s t d count)
     done = g .rest ∙ ops-none ops k (length ops / 2 - k) (machineOf ops stack s t d count) (omega arith)
 
-    pub running-open : (t ≡ 0 → ⊥) → Ran (build (opsIn ops)) s₀ 0 (StepRefused Form count) s heads links index
+    pub running-open : (t ≡ 0 → ⊥) → Ran (build (wholeOps ops)) s₀ 0 (StepRefused Form count) s heads links index
     running-open n = ran-refused (ready .space) (ready .clean) (build-is ops s₀ done ∙ lone-open ops stack s (t - 1) t d count (omega arith))
 
     module _ (e : t ≡ 0) where
-      pub running-many : (d ≡ 1 → ⊥) → Ran (build (opsIn ops)) s₀ 0 (StepRefused Form count) s heads links index
+      pub running-many : (d ≡ 1 → ⊥) → Ran (build (wholeOps ops)) s₀ 0 (StepRefused Form count) s heads links index
       running-many n = ran-refused (ready .space) (ready .clean) (build-is ops s₀ done ∙ ap (λ (u : ℕ). ending (machineOf ops stack s u d count)) e ∙ lone-not ops stack s d count n)
 
-      pub running-end : d ≡ 1 → Ran (build (opsIn ops)) s₀ 0 (Row (getD stack mostTests 0) count) s heads links index
+      pub running-end : d ≡ 1 → Ran (build (wholeOps ops)) s₀ 0 (Row (getD stack mostTests 0) count) s heads links index
       running-end f = record {
         space = ready .space;
         clean = ready .clean;
-        row = λ i n q. let a : getD stack mostTests 0 ≡ i = cc in let b : count ≡ n = cc in subst (λ (y : ℕ). Gave (build (opsIn ops)) s₀ 0 i y s) b (subst (λ (y : ℕ). Gave (build (opsIn ops)) s₀ 0 y count s) a all);
+        row = λ i n q. let a : getD stack mostTests 0 ≡ i = cc in let b : count ≡ n = cc in subst (λ (y : ℕ). Gave (build (wholeOps ops)) s₀ 0 i y s) b (subst (λ (y : ℕ). Gave (build (wholeOps ops)) s₀ 0 y count s) a all);
         refusal = λ w n q. let y : _≡_ {A = ℕ} 0 1 = cc in absurd (omega arith);
       }
         where
-          all : Gave (build (opsIn ops)) s₀ 0 (getD stack mostTests 0) count s
+          all : Gave (build (wholeOps ops)) s₀ 0 (getD stack mostTests 0) count s
           all = record {
             there = g .stacked .there 0 (omega arith);
             more = omega arith;

@@ -1,12 +1,12 @@
 -- Laws of the machine in lent words: one operation after another.
 use mathlib.Core.Path.{_≡_, refl, sym, ap, subst, _∙_}
-use mathlib.Core.List.{List, [], _∷_}
+use mathlib.Core.List.{List, _∷_}
 use Prim.Native.Nat.{ℕ, zero, suc, _+_, _*_, _-_, _≤_, _<_}
 use native.Mathlib.Omega.{arith}
 use native.Mathlib.Numerals.{add-one}
 use lib.ListN.{length, getD, set, length-set}
 use lib.Seq.{getD-set-same, getD-set-other}
-use lib.Dec.{ltb, eqb}
+use lib.Dec.{eqb}
 use borrow.Author.Tests.{lt-ltb, le-ltb, eq-eqb, ne-eqb}
 use Rattle.basics.specs.Tests.{Cmp, cmp, below, equal, above}
 use Rattle.refusal.specs.declared.Refusal.{Refusal}
@@ -15,7 +15,7 @@ use Rattle.label.specs.Limits.{leafMark}
 use Rattle.label.specs.declared.Label.{Label}
 use Rattle.label.specs.declared.Test.{Test}
 use Rattle.label.specs.declared.Test.the-variants.{Always, Is}
-use Rattle.diagram.specs.Sizes.{highestValue, spaceRows}
+use Rattle.diagram.specs.Sizes.{spaceRows}
 use Rattle.diagram.specs.Diagram.{Diagram, leaf}
 use Rattle.diagram.specs.Validity.{tree}
 use Rattle.plan.specs.Plan.{Clean}
@@ -27,13 +27,13 @@ use Rattle.regress.proofs.RunLaws.{formed-ran, full-ran}
 use Rattle.regress.proofs.StepRunLaws.{leaf-onto, row-known, full-known}
 use Rattle.regress.specs.declared.Stepped.{Stepped}
 use Rattle.regress.specs.declared.Stepped.the-variants.{Row, Refused as StepRefused}
-use Rattle.regress.specs.Calls.{Outcome, ok, refused, Run, form}
+use Rattle.regress.specs.Calls.{ok, refused, Run, form}
 use Rattle.regress.specs.Step.{testDiagram, rowStep}
 use Rattle.regress.specs.Running.{Space, Ready, Two, Testable, Gave, Ran, countThen}
 use Rattle.build.specs.declared.Moved.{Moved}
 use Rattle.build.specs.declared.Moved.the-variants.{To, Refused}
-use Rattle.build.specs.Machine.{Op, leafOp, ask, step, Machine, mostTests, mostResults, given, closing, operation, testAt, opAt}
-use Rattle.build.specs.Stacks.{Ops, testsOf, resultsOf, machineOf, stackWords, Stacked, rowsThen, Moves}
+use Rattle.build.specs.Machine.{Op, leafOp, ask, step, Machine, mostTests, mostResults, given, closing, operation, opOf, opAt}
+use Rattle.build.specs.Stacks.{Ops, pickTest, testAt, testsOf, resultsOf, machineOf, Stacked, Moves}
 
 -- `test_at`
 pub test-is : (ops : List ℕ) (k : ℕ) → getD ops (k * 2) 0 ≡ 1 → Is (record { packed = getD ops (k * 2 + 1) 0 }) ≡ testAt ops k
@@ -224,15 +224,27 @@ module _ {ops stack plan index s heads links : List ℕ} {tests results count : 
 -- `run_op`: which operation it is
 op-leaf : (ops : List ℕ) (k : ℕ) → getD ops (k * 2) 0 ≡ 0 → opAt ops k ≡ leafOp (getD ops (k * 2 + 1) 0)
 unfolding opAt
-op-leaf ops k e = rw (eq-eqb (getD ops (k * 2) 0) 0 e)
+op-leaf ops k e = rw e
 
-op-step : (ops : List ℕ) (k : ℕ) → (getD ops (k * 2) 0 ≡ 0 → ⊥) → getD ops (k * 2) 0 ≡ 3 → opAt ops k ≡ step
-unfolding opAt
-op-step ops k n e = rw (ne-eqb (getD ops (k * 2) 0) 0 n, eq-eqb (getD ops (k * 2) 0) 3 e)
+step-of : (kind v : ℕ) → 3 ≤ kind → opOf kind v ≡ step
+step-of zero v h = absurd (omega arith)
+step-of (suc zero) v h = absurd (omega arith)
+step-of (suc (suc zero)) v h = absurd (omega arith)
+step-of (suc (suc (suc k))) v h = refl
 
-op-ask : (ops : List ℕ) (k : ℕ) → (getD ops (k * 2) 0 ≡ 0 → ⊥) → (getD ops (k * 2) 0 ≡ 3 → ⊥) → opAt ops k ≡ ask (testAt ops k)
+op-step : (ops : List ℕ) (k : ℕ) → 3 ≤ getD ops (k * 2) 0 → opAt ops k ≡ step
 unfolding opAt
-op-ask ops k n m = rw (ne-eqb (getD ops (k * 2) 0) 0 n, ne-eqb (getD ops (k * 2) 0) 3 m)
+op-step ops k h = step-of (getD ops (k * 2) 0) (getD ops (k * 2 + 1) 0) h
+
+ask-of : (kind v : ℕ) → (kind ≡ 0 → ⊥) → kind < 3 → opOf kind v ≡ ask (pickTest (eqb kind 1) (Is (record { packed = v })) Always)
+ask-of zero v n h = absurd (n refl)
+ask-of (suc zero) v n h = refl
+ask-of (suc (suc zero)) v n h = refl
+ask-of (suc (suc (suc k))) v n h = absurd (omega arith)
+
+op-ask : (ops : List ℕ) (k : ℕ) → (getD ops (k * 2) 0 ≡ 0 → ⊥) → getD ops (k * 2) 0 < 3 → opAt ops k ≡ ask (testAt ops k)
+unfolding opAt testAt
+op-ask ops k n h = ask-of (getD ops (k * 2) 0) (getD ops (k * 2 + 1) 0) n h
 
 leaf-is : (ops stack s : List ℕ) (v t d count : ℕ) → d < mostResults
     → operation (leafOp v) (machineOf ops stack s t d count) ≡ given (testsOf ops stack t) (resultsOf s stack d) (form (leaf v) (diagramsOf s count))
@@ -308,12 +320,12 @@ module _ {ops stack plan index s heads links : List ℕ} {tests results count : 
           (leaf-is ops stack s v tests results count h ∙ ap (given (testsOf ops stack tests) (resultsOf s stack results)) (z .refusal NoSpace 2048 refl)))
 
   module _ (n : getD ops (k * 2) 0 ≡ 0 → ⊥) where
-    pub step-moves : getD ops (k * 2) 0 ≡ 3 → {r : Moved} {stack′ s′ heads′ links′ index′ : List ℕ}
+    pub step-moves : 3 ≤ getD ops (k * 2) 0 → {r : Moved} {stack′ s′ heads′ links′ index′ : List ℕ}
         → Moves step (machineOf ops stack s tests results count) ops r stack′ s′ heads′ links′ index′
         → Moves (opAt ops k) (machineOf ops stack s tests results count) ops r stack′ s′ heads′ links′ index′
-    step-moves e y = moves-as (op-step ops k n e) y
+    step-moves e y = moves-as (op-step ops k e) y
 
-    module _ (m : getD ops (k * 2) 0 ≡ 3 → ⊥) where
+    module _ (m : getD ops (k * 2) 0 < 3) where
       pub ask-many : mostTests ≤ tests → Moves (opAt ops k) (machineOf ops stack s tests results count) ops (Refused Form count) stack s heads links index
       ask-many h = moves-as (op-ask ops k n m) (stays-refused (ready .space) (ready .clean) (many-tests ops stack s (testAt ops k) tests results count h))
 

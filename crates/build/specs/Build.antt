@@ -1,6 +1,6 @@
 -- A diagram of a text (document 01, section 'Text'): 'A diagram is a number, or (if ATOM DIAGRAM DIAGRAM), read as the row step above when it closes, T
 -- being the test of ATOM'.
-use mathlib.Core.Bool.{Bool}
+use mathlib.Core.Bool.{Bool, cond}
 use mathlib.Core.List.{List, []}
 use Prim.Native.Nat.{ℕ, suc, max}
 use lib.ListN.{length}
@@ -12,6 +12,7 @@ use Rattle.diagram.specs.Diagram.{Diagram, leaf}
 use Rattle.diagram.specs.Rows.{rows}
 use Rattle.diagram.specs.Variables.{closed}
 use Rattle.regress.specs.Calls.{Outcome, ok, refused, andThen, pickOutcome, Run, bind, form}
+use Rattle.regress.specs.Result.{asked}
 use Rattle.regress.specs.Step.{testDiagram, rowStep}
 
 -- a diagram as it is written, each atom as what it asks: a label, or t = t
@@ -23,6 +24,11 @@ pub data Reading : Type 0 where
 abbrev pub depth : Reading → ℕ
 depth (number v) = 0
 depth (branch t h f) = suc (max (depth h) (depth f))
+
+-- what is written means, for a choice of true or false for all labels, the leaf that the choice leads to
+abbrev pub meaning : (ℕ → Bool) → Reading → ℕ
+meaning c (number v) = v
+meaning c (branch t h f) = cond (asked c t) (meaning c h) (meaning c f)
 
 -- a number forms its leaf when it is read; (if ..) is the row step when it closes
 unfoldable pub readDiagram : Reading → Run Diagram

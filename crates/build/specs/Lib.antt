@@ -7,3 +7,4 @@ pub mod Writing
 -- laws
 pub mod MachineLaws
 pub mod RegularLaws
+pub mod ReadingLaws

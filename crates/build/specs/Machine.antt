@@ -1,11 +1,10 @@
 -- The operations that a diagram's words are turned into, in the order of the words, and a machine with two stacks that runs them.
-use mathlib.Core.Bool.{Bool, true, false}
+use mathlib.Core.Bool.{true, false}
 use mathlib.Core.List.{List, [], _∷_, _++_}
-use Prim.Native.Nat.{ℕ, zero, suc, _+_, _*_, _/_}
+use Prim.Native.Nat.{ℕ, zero, suc, _+_, _*_}
 use lib.ListN.{length, getD}
-use lib.Dec.{eqb, ltb}
+use lib.Dec.{ltb}
 use Rattle.refusal.specs.declared.Refusal.the-variants.{Form}
-use Rattle.label.specs.declared.Label.{Label}
 use Rattle.label.specs.declared.Test.{Test}
 use Rattle.label.specs.declared.Test.the-variants.{Always, Is}
 use Rattle.diagram.specs.Diagram.{Diagram, leaf}
@@ -87,28 +86,18 @@ unfoldable pub builtClosed : List ℕ → List Op → Outcome Diagram
 unfolding build closed
 builtClosed ar os = andThen (build os []) (λ p. held (closed ar (p .0)))
 
--- operations in lent words, two words each: 0 and a leaf's value, 1 and the label asked, 2 and 0 for t = t, 3 and 0 for a step
-abbrev pub pickTest : Bool → Test → Test → Test
-pickTest true x y = x
-pickTest false x y = y
+-- an operation as two words: 0 and a leaf's value, 1 and the label asked, 2 and 0 for t = t, 3 and 0 for a step
+abbrev pub opOf : ℕ → ℕ → Op
+opOf zero v = leafOp v
+opOf (suc zero) v = ask (Is (record { packed = v }))
+opOf (suc (suc zero)) v = ask Always
+opOf (suc (suc (suc k))) v = step
 
-abbrev pub pickOp : Bool → Op → Op → Op
-pickOp true x y = x
-pickOp false x y = y
-
-unfoldable pub testAt : List ℕ → ℕ → Test
-testAt ws k = pickTest (eqb (getD ws (k * 2) 0) 1) (Is (record { packed = getD ws (k * 2 + 1) 0 })) Always
-
+-- operation k in lent words, and the first n
 unfoldable pub opAt : List ℕ → ℕ → Op
-unfolding testAt
-opAt ws k = pickOp (eqb (getD ws (k * 2) 0) 0) (leafOp (getD ws (k * 2 + 1) 0)) (pickOp (eqb (getD ws (k * 2) 0) 3) step (ask (testAt ws k)))
+opAt ws k = opOf (getD ws (k * 2) 0) (getD ws (k * 2 + 1) 0)
 
--- the n operations from k on
-unfoldable pub opsFrom : List ℕ → ℕ → ℕ → List Op
+unfoldable pub opsIn : List ℕ → ℕ → List Op
 unfolding opAt
-opsFrom ws k zero = []
-opsFrom ws k (suc n) = opAt ws k ∷ opsFrom ws (suc k) n
-
-unfoldable pub opsIn : List ℕ → List Op
-unfolding opsFrom
-opsIn ws = opsFrom ws 0 (length ws / 2)
+opsIn ws zero = []
+opsIn ws (suc n) = opsIn ws n ++ (opAt ws n ∷ [])

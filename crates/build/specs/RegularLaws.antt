@@ -1,16 +1,13 @@
 -- What the machine builds is ordered and reduced, its labels and values in their ranges, where those of its operations are.
-use mathlib.Core.Path.{_≡_, refl, sym, ap, subst, _∙_}
+use mathlib.Core.Path.{_≡_, refl, sym, subst}
 use mathlib.Core.Bool.{Bool, true, false, cond}
 use mathlib.Core.List.{List, [], _∷_}
-use Prim.Native.Nat.{ℕ, zero, suc, _+_, _*_, _/_, _≤_, _<_}
+use Prim.Native.Nat.{ℕ, zero, suc, _+_, _*_, _/_, _≤_}
 use native.Mathlib.Omega.{arith}
 use lib.ListN.{length, getD}
-use lib.Dec.{eqb, ltb}
-use borrow.Author.Tests.{eqb-true}
-use Rattle.basics.specs.Tests.{Flag, isTrue, isFalse, flag}
+use lib.Dec.{ltb}
 use Rattle.refusal.specs.declared.Refusal.{Refusal}
-use Rattle.label.specs.Labels.{areArities, isLabel}
-use Rattle.label.specs.declared.Label.{Label}
+use Rattle.label.specs.Labels.{isLabel}
 use Rattle.label.specs.declared.Test.{Test}
 use Rattle.label.specs.declared.Test.the-variants.{Always, Is}
 use Rattle.diagram.specs.Sizes.{highestValue}
@@ -18,14 +15,14 @@ use Rattle.diagram.specs.Diagram.{Diagram, leaf, branch, eval, Ordered, Reduced
 use Rattle.diagram.specs.Listing.{Fine}
 use Rattle.apply.specs.GoodLaws.{EveryLabel}
 use Rattle.apart.specs.Results.{Regular}
-use Rattle.regress.specs.Calls.{Outcome, ok, refused, andThen, pickOutcome, form}
+use Rattle.regress.specs.Calls.{Outcome, ok, refused, pickOutcome, form}
 use Rattle.regress.specs.CallLaws.{Accepted, accepted-ok, accepted-refused, accepted-then, form-gives}
 use Rattle.regress.specs.Step.{testDiagram, rowStep}
 use Rattle.regress.specs.StepLaws.{eval-most, most-eval, eval-test, ordered-test, step-gives, eval-stepped, from-stepped, reduced-stepped, every-stepped}
 use Rattle.regress.specs.Result.{AtMost, asked, stepped}
-use Rattle.build.specs.Machine.{Op, leafOp, ask, step, Machine, given, closing, operation, operations, lone, ending, build, pickTest, pickOp, testAt, opAt, opsFrom, opsIn, mostTests, mostResults}
-use Rattle.build.specs.Stacks.{Ops}
-use Rattle.build.specs.Writing.{Labelled}
+use Rattle.build.specs.Machine.{Op, leafOp, ask, step, Machine, given, closing, operation, operations, lone, build, opOf, opAt, mostTests, mostResults}
+use Rattle.build.specs.Stacks.{Ops, opsFrom, wholeOps}
+use Rattle.build.specs.Writing.{Under}
 
 abbrev All : {A : Type 0} → (A → Type 0) → List A → Type 0
 All P [] = Unit {0}
@@ -38,7 +35,7 @@ record Plain (ar : List ℕ) (d : Diagram) : Type 0 where
   labels : EveryLabel (λ l. isLabel ar l ≡ true) d
   most : AtMost highestValue d
 
-fine-made : (ar : List ℕ) (d : Diagram) → EveryLabel (λ l. isLabel ar l ≡ true) d → AtMost highestValue d → Fine ar d
+pub fine-made : (ar : List ℕ) (d : Diagram) → EveryLabel (λ l. isLabel ar l ≡ true) d → AtMost highestValue d → Fine ar d
 fine-made ar (leaf v) h m = m
 fine-made ar (branch l t f) h m = (h .0, fine-made ar t (h .1) (m .0), fine-made ar f (h .2) (m .1))
 
@@ -120,30 +117,26 @@ lone-plain ar [] (d ∷ e ∷ ds) rs g = accepted-refused
 lone-plain ar (t ∷ ts) ds rs g = accepted-refused
 
 -- the operations in lent words
-op-under : (ar ws : List ℕ) (k : ℕ) → Ops ws → Labelled ar ws → k * 2 + 2 ≤ length ws → OpUnder ar (opAt ws k)
-unfolding opAt testAt
-op-under ar ws k o l h = first (eqb (getD ws (k * 2) 0) 0) refl (eqb (getD ws (k * 2) 0) 3) (eqb (getD ws (k * 2) 0) 1) refl
-  where
-    test : (b : Bool) → eqb (getD ws (k * 2) 0) 1 ≡ b → TestUnder ar (pickTest b (Is (record { packed = getD ws (k * 2 + 1) 0 })) Always)
-    test true e = l .labels k h (eqb-true (getD ws (k * 2) 0) 1 e)
-    test false e = tt
+of-under : (ar : List ℕ) (kind v : ℕ) → (kind ≡ 0 → v ≤ highestValue) → (kind ≡ 1 → isLabel ar v ≡ true) → OpUnder ar (opOf kind v)
+of-under ar zero v h l = h refl
+of-under ar (suc zero) v h l = l refl
+of-under ar (suc (suc zero)) v h l = tt
+of-under ar (suc (suc (suc k))) v h l = tt
 
-    first : (a : Bool) → eqb (getD ws (k * 2) 0) 0 ≡ a → (c b : Bool) → eqb (getD ws (k * 2) 0) 1 ≡ b
-        → OpUnder ar (pickOp a (leafOp (getD ws (k * 2 + 1) 0)) (pickOp c step (ask (pickTest b (Is (record { packed = getD ws (k * 2 + 1) 0 })) Always))))
-    first true e c b f = o .values k h (eqb-true (getD ws (k * 2) 0) 0 e)
-    first false e true b f = tt
-    first false e false b f = test b f
+op-under : (ar ws : List ℕ) (k : ℕ) → Ops ws → Under ar ws → k * 2 + 2 ≤ length ws → OpUnder ar (opAt ws k)
+unfolding opAt
+op-under ar ws k o l h = of-under ar (getD ws (k * 2) 0) (getD ws (k * 2 + 1) 0) (o .values k h) (l .labels k h)
 
-ops-under : (ar ws : List ℕ) (k n : ℕ) → Ops ws → Labelled ar ws → (k + n) * 2 ≤ length ws → All (OpUnder ar) (opsFrom ws k n)
+ops-under : (ar ws : List ℕ) (k n : ℕ) → Ops ws → Under ar ws → (k + n) * 2 ≤ length ws → All (OpUnder ar) (opsFrom ws k n)
 unfolding opsFrom
 ops-under ar ws k zero o l h = tt
 ops-under ar ws k (suc n) o l h = (op-under ar ws k o l (omega arith), ops-under ar ws (suc k) n o l (omega arith))
 
 -- so what is built is regular
-pub built-regular : (ar ws : List ℕ) (d : Diagram) (qs : List Diagram) → Ops ws → Labelled ar ws → build (opsIn ws) [] ≡ ok (d, qs) → Regular ar d
-unfolding build opsIn
+pub built-regular : (ar ws : List ℕ) (d : Diagram) (qs : List Diagram) → Ops ws → Under ar ws → build (wholeOps ws) [] ≡ ok (d, qs) → Regular ar d
+unfolding build wholeOps
 built-regular ar ws d qs o l e =
-    let a : Accepted (λ (r : Diagram × List Diagram). Plain ar (r .0)) (build (opsIn ws) []) =
+    let a : Accepted (λ (r : Diagram × List Diagram). Plain ar (r .0)) (build (wholeOps ws) []) =
     accepted-then (operations (opsFrom ws 0 (length ws / 2)) (record { tests = []; results = []; formed = [] }))
     (operations-sound ar (opsFrom ws 0 (length ws / 2)) _ (ops-under ar ws 0 (length ws / 2) o l (omega arith)) (record { tests-under = tt; results-plain = tt }))
     (λ m s. lone-plain ar (m .tests) (m .results) (m .formed) (s .results-plain)) in

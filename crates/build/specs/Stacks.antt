@@ -1,12 +1,15 @@
 -- The machine in lent words: the places of the tests asked and the rows of the results given, and the working space.
 use mathlib.Core.Path.{_≡_}
+use mathlib.Core.Bool.{Bool, true, false}
 use mathlib.Core.List.{List, [], _∷_}
 use Prim.Native.Nat.{ℕ, zero, suc, _+_, _*_, _/_, _≤_, _<_}
 use lib.ListN.{length, getD}
+use lib.Dec.{eqb}
 use Rattle.refusal.specs.declared.Refusal.{Refusal}
 use Rattle.label.specs.Limits.{leafMark}
 use Rattle.label.specs.declared.Test.{Test}
-use Rattle.diagram.specs.Sizes.{highestValue, resultWords, spaceWords}
+use Rattle.label.specs.declared.Test.the-variants.{Always, Is}
+use Rattle.diagram.specs.Sizes.{highestValue}
 use Rattle.diagram.specs.Diagram.{Diagram}
 use Rattle.diagram.specs.Validity.{tree}
 use Rattle.plan.specs.Plan.{Clean}
@@ -15,7 +18,25 @@ use Rattle.regress.specs.Calls.{ok, refused}
 use Rattle.regress.specs.Running.{Space}
 use Rattle.build.specs.declared.Moved.{Moved}
 use Rattle.build.specs.declared.Moved.the-variants.{To, Refused}
-use Rattle.build.specs.Machine.{Op, Machine, mostTests, mostResults, testAt, operation}
+use Rattle.build.specs.Machine.{Op, Machine, mostTests, mostResults, opAt, operation}
+
+abbrev pub pickTest : Bool → Test → Test → Test
+pickTest true x y = x
+pickTest false x y = y
+
+-- what the operation k asks, where it asks
+unfoldable pub testAt : List ℕ → ℕ → Test
+testAt ws k = pickTest (eqb (getD ws (k * 2) 0) 1) (Is (record { packed = getD ws (k * 2 + 1) 0 })) Always
+
+-- the n operations from k on, and all that the words hold
+unfoldable pub opsFrom : List ℕ → ℕ → ℕ → List Op
+unfolding opAt
+opsFrom ws k zero = []
+opsFrom ws k (suc n) = opAt ws k ∷ opsFrom ws (suc k) n
+
+unfoldable pub wholeOps : List ℕ → List Op
+unfolding opsFrom
+wholeOps ws = opsFrom ws 0 (length ws / 2)
 
 -- the words of both stacks: the tests' places from 0 on, the results' rows behind them
 abbrev pub stackWords : ℕ

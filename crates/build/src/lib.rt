@@ -14,9 +14,9 @@ ghost use Rattle.diagram.specs.Validity.{tree};
 ghost use Rattle.diagram.specs.Variables.{closed};
 ghost use Rattle.apart.specs.Results.{Writable};
 ghost use Rattle.build.specs.Build.{held};
-ghost use Rattle.build.specs.Writing.{RowWritable, Answered, Buildable, Labelled};
-ghost use Rattle.build.specs.Machine.{testAt, opAt, opsIn, step, build, built, builtClosed};
-ghost use Rattle.build.specs.Stacks.{Ops, Stacked, machineOf, Moves};
+ghost use Rattle.build.specs.Writing.{RowWritable, Answered, Callable, Under, Buildable, Labelled};
+ghost use Rattle.build.specs.Machine.{opAt, opsIn, step, build, built, builtClosed};
+ghost use Rattle.build.specs.Stacks.{Ops, testAt, wholeOps, Stacked, machineOf, Moves};
 
 // Words of a plan of 4,096 pairs.
 const PLAN_WORDS: usize = 20480;
@@ -124,7 +124,7 @@ fn run_op(
         stack[TESTS + results] = i as u64;
         return Moved::To(tests, results + 1, n);
     }
-    if kind == 3 {
+    if kind >= 3 {
         return close(
             ops,
             stack,
@@ -156,7 +156,7 @@ fn build_rows(
 ) -> Stepped
     requires { ⌜ Ops (now ops) ⌝ }
     requires { ⌜ Ready (now plan) (now index) (now space) (now heads) (now links) 0 ⌝ }
-    ensures { λ r. ⌜ Ran (build (opsIn (now (ops .entry)))) (now (space .entry)) 0 r (now (space .exit)) (now (heads .exit)) (now (links .exit)) (now (index .exit)) ⌝ }
+    ensures { λ r. ⌜ Ran (build (wholeOps (now (ops .entry)))) (now (space .entry)) 0 r (now (space .exit)) (now (heads .exit)) (now (links .exit)) (now (index .exit)) ⌝ }
 {
     let mut stack = [0u64; STACK_WORDS];
     let mut tests = 0;
@@ -211,10 +211,10 @@ fn write_row(space: &[u64], count: usize, root: usize, out: &mut [u64]) -> Built
     Built::Done(m)
 }
 
-// Builds the diagram of a line from its operations and writes its listing; `work` is the working space.
-pub fn build(ops: &[u64], out: &mut [u64], work: &mut [u64]) -> Built
-    requires { ⌜ Buildable (now ops) (now out) (now work) ⌝ }
-    ensures { λ r. ⌜ Answered (built (opsIn (now (ops .entry)))) (now (out .entry)) r (now (out .exit)) ⌝ }
+// Builds the diagram of the operations that the words hold and writes its listing.
+fn build_words(ops: &[u64], out: &mut [u64], work: &mut [u64]) -> Built
+    requires { ⌜ Callable (now ops) (now out) (now work) ⌝ }
+    ensures { λ r. ⌜ Answered (built (wholeOps (now (ops .entry)))) (now (out .entry)) r (now (out .exit)) ⌝ }
 {
     let mut plan = [0u64; PLAN_WORDS];
     let mut index = [0u16; plan::BUCKETS];
@@ -237,11 +237,11 @@ fn write_closed(arities: &[u64], space: &[u64], count: usize, root: usize, out: 
     }
 }
 
-// Builds a reward's diagram from its operations and writes its listing, closed up; `work` is the working space.
-pub fn build_closed(arities: &[u64], ops: &[u64], out: &mut [u64], work: &mut [u64]) -> Built
-    requires { ⌜ Labelled (now arities) (now ops) ⌝ }
-    requires { ⌜ Buildable (now ops) (now out) (now work) ⌝ }
-    ensures { λ r. ⌜ Answered (builtClosed (now (arities .entry)) (opsIn (now (ops .entry)))) (now (out .entry)) r (now (out .exit)) ⌝ }
+// The same, closed up.
+fn build_closed_words(arities: &[u64], ops: &[u64], out: &mut [u64], work: &mut [u64]) -> Built
+    requires { ⌜ Under (now arities) (now ops) ⌝ }
+    requires { ⌜ Callable (now ops) (now out) (now work) ⌝ }
+    ensures { λ r. ⌜ Answered (builtClosed (now (arities .entry)) (wholeOps (now (ops .entry)))) (now (out .entry)) r (now (out .exit)) ⌝ }
 {
     let mut plan = [0u64; PLAN_WORDS];
     let mut index = [0u16; plan::BUCKETS];
@@ -251,4 +251,27 @@ pub fn build_closed(arities: &[u64], ops: &[u64], out: &mut [u64], work: &mut [u
         Stepped::Row(root, rows) => write_closed(arities, work, rows, root, out),
         Stepped::Refused(why, _) => Built::Refused(why),
     }
+}
+
+// Builds the diagram of a line from its first n operations and writes its listing; `work` is the working space.
+pub fn build(ops: &[u64], n: usize, out: &mut [u64], work: &mut [u64]) -> Built
+    requires { ⌜ Buildable (now ops) n (now out) (now work) ⌝ }
+    ensures { λ r. ⌜ Answered (built (opsIn (now (ops .entry)) n)) (now (out .entry)) r (now (out .exit)) ⌝ }
+{
+    build_words(&ops[..n * 2], out, work)
+}
+
+// Builds a reward's diagram from its first n operations and writes its listing, closed up; `work` is the working space.
+pub fn build_closed(
+    arities: &[u64],
+    ops: &[u64],
+    n: usize,
+    out: &mut [u64],
+    work: &mut [u64],
+) -> Built
+    requires { ⌜ Labelled (now arities) (now ops) n ⌝ }
+    requires { ⌜ Buildable (now ops) n (now out) (now work) ⌝ }
+    ensures { λ r. ⌜ Answered (builtClosed (now (arities .entry)) (opsIn (now (ops .entry)) n)) (now (out .entry)) r (now (out .exit)) ⌝ }
+{
+    build_closed_words(arities, &ops[..n * 2], out, work)
 }

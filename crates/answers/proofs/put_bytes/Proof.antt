@@ -2,7 +2,6 @@ use mathlib.Core.Path.{_≡_}
 use Prim.Native.Nat.{_+_, _-_, _≤_}
 use lib.ListN.{length, take}
 use borrow.Author.Needs.{needs}
-use native.Mathlib.Omega.{arith}
 use Rattle.answers.specs.Writing.{Wrote}
 use Rattle.answers.proofs.WriteLaws.{bytes-start, bytes-more, bytes-end}
 use Rattle.answers.proofs.put_bytes.Statement.{statement}

@@ -1,22 +1,18 @@
-use lib.Dec.{lit≤}
-use Rattle.build.proofs.BuiltLaws.{tables-ready, reward-refused, reward-writable, reward-row}
+use Rattle.build.proofs.PartLaws.{part-length, part-callable, part-under, part-closed}
 use borrow.Author.Needs.{needs}
 use Rattle.build.proofs.build_closed.Statement.{statement}
 use Rattle.build.proofs.build_closed.Tie as tie
 
-build-rows-requires : tie.Need-build-rows-requires
-build-rows-requires c κs = (c .before .before .before .before .before .before .before .before .before .pre .1 .good, tables-ready (c .before .before .before .before .before .before .before .before .before .pre .1) 20480 4096 2048 2048 (lit≤ tt) (lit≤ tt) (lit≤ tt) (lit≤ tt))
+slice-aggregate-build-closed-words : tie.Need-slice-aggregate-build-closed-words
+slice-aggregate-build-closed-words c = search part-length
 
-write-closed-requires : tie.Need-write-closed-requires
-write-closed-requires c κs = reward-writable (c .before .before .before .before .before .before .before .before .before .before .before .before .before .before .before .before .before .before .before .before .before .pre .0) (c .before .before .before .before .before .before .before .before .before .before .before .before .before .before .before .before .before .before .before .before .before .pre .1) (c .before .before .before .before .before .before .before .before .before .before .before .build-rows .kept .1 .1 .1 .0) (c .before .before .before .before .before .before .before .before .before .before .before .build-rows .ensures) (c .before .before .before .root .given .1)
+build-closed-words-requires : tie.Need-build-closed-words-requires
+build-closed-words-requires c κs = (search part-under, search part-callable)
 
 returns : tie.Need-returns
-returns c = reward-row (c .before .before .before .before .before .before .before .before .before .before .before .before .before .before .before .before .before .before .before .before .before .before .before .before .pre .0) (c .before .before .before .before .before .before .before .before .before .before .before .before .before .before .before .before .before .before .before .before .before .before .before .before .pre .1) (c .before .before .before .before .before .before .before .before .before .before .before .before .before .before .build-rows .kept .1 .1 .1 .0) (c .before .before .before .before .before .before .before .before .before .before .before .before .before .before .build-rows .ensures) (c .before .before .before .before .before .before .root .given .1) (c .before .before .write-closed .ensures)
-
-returns-2 : tie.Need-returns-2
-returns-2 c = reward-refused (c .before .before .before .before .before .before .before .before .before .before .before .before .before .before .before .before .before .before .before .pre .0) (c .before .before .before .before .before .before .before .before .before .before .before .before .before .before .before .before .before .before .before .pre .1) (c .before .before .before .before .before .before .before .before .before .build-rows .kept .1 .1 .1 .0) (c .before .before .before .before .before .before .before .before .before .build-rows .ensures) (c .before .why .given .1)
+returns c = search part-closed
 
 pub build-closed-spec : {M : Type 1} → statement M
 build-closed-spec =
     tie.close
-    (tie.spec (λ c. search needs) (λ c. search needs) (λ c. search needs) (λ c. search needs) build-rows-requires (λ c. search needs) write-closed-requires (λ c. search needs) (λ c. search needs) (λ c. search needs) returns (λ c. search needs) returns-2)
+    (tie.spec (λ c. search needs) slice-aggregate-build-closed-words build-closed-words-requires (λ c. search needs) (λ c. search needs) returns)
