@@ -17,13 +17,13 @@ use Rattle.cut.specs.CoverLaws.{PathLabels, in-small}
 use Rattle.cut.specs.Search.{literalsIn}
 use Rattle.cut.specs.Routes.{pathAt}
 use Rattle.cut.specs.Covering.{Coverable}
-use Rattle.cut.specs.Stored.{Marks, Enterable, Stored, Ready, Searchable, Answers}
+use Rattle.cut.specs.Stored.{Marks, Enterable, Stored, Ready, BothStored, Answers}
 use Rattle.cut.specs.Parts.{PartsPost}
 use Rattle.cut.proofs.StoreLaws.{listed-labels}
 use Rattle.cut.proofs.CoversLaws.{bothTerms, covers-setting, covers-order}
 
 -- ===== search =====
-module _ {into from : List ℕ} {a b : ℕ} (g : Searchable into a from b) where
+module _ {into from : List ℕ} {a b : ℕ} (g : BothStored into a from b) where
   pub into-long : 64 + a ≡ length (take (64 + a) into)
   into-long = sym (length-take-le (64 + a) into (g .into-room))
 

@@ -76,7 +76,7 @@ pub record PartPost (ord into tab : List ℕ) (r : Bool) (tab′ theta′ : List
   pub stays : (v : ℕ) → v < firstVariable → getD theta′ v 0 ≡ v
 
 -- a literals of the first path stand in order behind marks, b of the second path behind others
-pub record Searchable (into : List ℕ) (a : ℕ) (from : List ℕ) (b : ℕ) : Type 0 where
+pub record BothStored (into : List ℕ) (a : ℕ) (from : List ℕ) (b : ℕ) : Type 0 where
   pub into-room : termBase + a ≤ length into
   pub sorted : Sorted (take (termBase + a) into)
   pub from-room : termBase + b ≤ length from

@@ -15,9 +15,31 @@ ghost use Rattle.cut.specs.Paths.{paths};
 ghost use Rattle.cut.specs.Cut.{covers};
 ghost use Rattle.cut.specs.Covering.{Coverable};
 ghost use Rattle.cut.specs.Parts.{isSeen, shares, Ranked, Best, Takable, Taken, Separable, PartTaken, PartsPost, WayPost, WaysPost};
-ghost use Rattle.cut.specs.Stored.{termsOfCode, Markable, Unmarked, Marking, Enterable, Stored, Ready, PartPost, Searchable, Answers};
+ghost use Rattle.cut.specs.Stored.{termsOfCode, Markable, Unmarked, Marking, Enterable, Stored, Ready, PartPost, BothStored, Answers};
 ghost use Rattle.cut.specs.Routes.{Rows, Counted, At, Stepped, pathAt, Sided, Entered};
 ghost use Rattle.cut.specs.Search.{fourOf, slotFits, slotAfter, Slots, Replacing, BindPost, alike, plainWay, equalWay, wayAt, wayCount, TryPost, allKnown, Sorted, Finds, Images, Digits, Met, numberOf, Tabled, SolvePost, termAt, Unplaced, Placing};
+
+// A word for each term.
+const TERMS: usize = 64;
+
+const FIRST_VARIABLE: usize = 32;
+
+// What the predicate of a literal's number is multiplied by; below it are the equalities.
+const LITERAL_WEIGHT: u64 = 33554432;
+
+// The words of a path: a mark for each term, and behind them at most 255 literals.
+const PATH_WORDS: usize = 320;
+
+// The words of the table: for each term its first place, and behind them a mark for each term.
+const TABLE_WORDS: usize = 128;
+
+// The first place of a variable that has none yet: behind all places.
+const LATE: u32 = 2000;
+
+// The ranks of literals that share no seen variable begin here, and all ranks are below the second.
+const STRANGE: u64 = 100;
+
+const WORST: u64 = 200;
 
 // The side of a row on which an edge leaves it.
 pub enum Edge {
@@ -67,23 +89,41 @@ fn bind(tab: &[u32], theta: &mut [u64], m: u64, l: u64, a: u64, b: u64, c: u64, 
     requires { ⌜ m + 4 < 4096 ⌝ }
     ensures { λ r. ⌜ BindPost (now (tab .entry)) (now (theta .entry)) m l a b c d r (now (theta .exit)) ⌝ }
 {
-    if !place(tab, theta, m, (l / 262144 % 64) as usize, a) {
+    if !place(
+        tab,
+        theta,
+        m,
+        (l / Label::FIRST_WEIGHT % Term::BASE) as usize,
+        a,
+    ) {
         return false;
     }
-    if !place(tab, theta, m + 1, (l / 4096 % 64) as usize, b) {
+    if !place(
+        tab,
+        theta,
+        m + 1,
+        (l / Label::SECOND_WEIGHT % Term::BASE) as usize,
+        b,
+    ) {
         return false;
     }
-    if !place(tab, theta, m + 2, (l / 64 % 64) as usize, c) {
+    if !place(
+        tab,
+        theta,
+        m + 2,
+        (l / Label::THIRD_WEIGHT % Term::BASE) as usize,
+        c,
+    ) {
         return false;
     }
-    place(tab, theta, m + 3, (l % 64) as usize, d)
+    place(tab, theta, m + 3, (l % Term::BASE) as usize, d)
 }
 
 // Whether two literals have one predicate and one sign.
 fn alike(x: u64, y: u64) -> bool
     ensures { λ r. ⌜ r ≡ alike x y ⌝ }
 {
-    if x / 33554432 != y / 33554432 {
+    if x / LITERAL_WEIGHT != y / LITERAL_WEIGHT {
         return false;
     }
     x % 2 == y % 2
@@ -94,12 +134,17 @@ fn plain_way(into: &[u32], x: u64, j: usize) -> Way
     requires { ⌜ termBase + j < length (now into) ⌝ }
     ensures { λ r. ⌜ r ≡ plainWay (now (into .entry)) x j ⌝ }
 {
-    let y = wide(into[64 + j]);
+    let y = wide(into[TERMS + j]);
     if !alike(x, y) {
         return Way::Nothing;
     }
     let c = y / 2;
-    Way::Terms(c / 262144 % 64, c / 4096 % 64, c / 64 % 64, c % 64)
+    Way::Terms(
+        c / Label::FIRST_WEIGHT % Term::BASE,
+        c / Label::SECOND_WEIGHT % Term::BASE,
+        c / Label::THIRD_WEIGHT % Term::BASE,
+        c % Term::BASE,
+    )
 }
 
 // Way j of an equality: literal j / 2, turned round for odd j; behind these t = t for each term.
@@ -109,17 +154,27 @@ fn equal_way(into: &[u32], tab: &[u32], x: u64, j: usize) -> Way
     requires { ⌜ j < (length (now into) - termBase) * 2 + termBase ⌝ }
     ensures { λ r. ⌜ r ≡ equalWay (now (into .entry)) (now (tab .entry)) x j ⌝ }
 {
-    let n = into.len() - 64;
+    let n = into.len() - TERMS;
     if j < n * 2 {
-        let y = wide(into[64 + j / 2]);
+        let y = wide(into[TERMS + j / 2]);
         if !alike(x, y) {
             return Way::Nothing;
         }
         let c = y / 2;
         if j % 2 == 0 {
-            return Way::Terms(c / 262144 % 64, c / 4096 % 64, c / 64 % 64, c % 64);
+            return Way::Terms(
+                c / Label::FIRST_WEIGHT % Term::BASE,
+                c / Label::SECOND_WEIGHT % Term::BASE,
+                c / Label::THIRD_WEIGHT % Term::BASE,
+                c % Term::BASE,
+            );
         }
-        return Way::Terms(c / 4096 % 64, c / 262144 % 64, c / 64 % 64, c % 64);
+        return Way::Terms(
+            c / Label::SECOND_WEIGHT % Term::BASE,
+            c / Label::FIRST_WEIGHT % Term::BASE,
+            c / Label::THIRD_WEIGHT % Term::BASE,
+            c % Term::BASE,
+        );
     }
     let t = j - n * 2;
     if x % 2 != 1 {
@@ -128,7 +183,7 @@ fn equal_way(into: &[u32], tab: &[u32], x: u64, j: usize) -> Way
     if wide(into[t]) != 0 {
         return Way::Terms(t as u64, t as u64, 0, 0);
     }
-    if wide(tab[64 + t]) != 0 {
+    if wide(tab[TERMS + t]) != 0 {
         return Way::Terms(t as u64, t as u64, 0, 0);
     }
     Way::Nothing
@@ -141,7 +196,7 @@ fn way_at(into: &[u32], tab: &[u32], x: u64, j: usize) -> Way
     requires { ⌜ j < wayCount (now into) x ⌝ }
     ensures { λ r. ⌜ r ≡ wayAt (now (into .entry)) (now (tab .entry)) x j ⌝ }
 {
-    if x < 33554432 {
+    if x < LITERAL_WEIGHT {
         return equal_way(into, tab, x, j);
     }
     plain_way(into, x, j)
@@ -152,10 +207,10 @@ fn way_count(into: &[u32], x: u64) -> usize
     requires { ⌜ termBase ≤ length (now into) ⌝ }
     ensures { λ r. ⌜ r ≡ wayCount (now (into .entry)) x ⌝ }
 {
-    if x < 33554432 {
-        return (into.len() - 64) * 2 + 64;
+    if x < LITERAL_WEIGHT {
+        return (into.len() - TERMS) * 2 + TERMS;
     }
-    into.len() - 64
+    into.len() - TERMS
 }
 
 // Tries way j for the literal x, whose places stand from m on.
@@ -179,16 +234,16 @@ fn all_known(tab: &[u32], m: u64, l: u64) -> bool
     requires { ⌜ termBase ≤ length (now tab) ⌝ }
     ensures { λ r. ⌜ r ≡ allKnown (now (tab .entry)) m l ⌝ }
 {
-    if wide(tab[(l / 262144 % 64) as usize]) > m {
+    if wide(tab[(l / Label::FIRST_WEIGHT % Term::BASE) as usize]) > m {
         return false;
     }
-    if wide(tab[(l / 4096 % 64) as usize]) > m {
+    if wide(tab[(l / Label::SECOND_WEIGHT % Term::BASE) as usize]) > m {
         return false;
     }
-    if wide(tab[(l / 64 % 64) as usize]) > m {
+    if wide(tab[(l / Label::THIRD_WEIGHT % Term::BASE) as usize]) > m {
         return false;
     }
-    wide(tab[(l % 64) as usize]) <= m
+    wide(tab[(l % Term::BASE) as usize]) <= m
 }
 
 // Whether y is one of the literals in order behind the first 64 entries.
@@ -196,7 +251,7 @@ fn find(into: &[u32], y: u64) -> bool
     requires { ⌜ Sorted (now into) ⌝ }
     ensures { λ r. ⌜ Finds (now (into .entry)) y r ⌝ }
 {
-    let mut low = 64usize;
+    let mut low = TERMS;
     let mut high = into.len();
     while low < high {
         let mid = low + (high - low) / 2;
@@ -220,12 +275,12 @@ fn is_met(into: &[u32], theta: &[u64], x: u64) -> bool
     ensures { λ r. ⌜ Met (now (into .entry)) (now (theta .entry)) x r ⌝ }
 {
     let l = x / 2;
-    let a = theta[(l / 262144 % 64) as usize];
-    let b = theta[(l / 4096 % 64) as usize];
-    if x >= 33554432 {
-        let c = theta[(l / 64 % 64) as usize];
-        let d = theta[(l % 64) as usize];
-        return find(into, number(x / 33554432, a, b, c, d, x % 2));
+    let a = theta[(l / Label::FIRST_WEIGHT % Term::BASE) as usize];
+    let b = theta[(l / Label::SECOND_WEIGHT % Term::BASE) as usize];
+    if x >= LITERAL_WEIGHT {
+        let c = theta[(l / Label::THIRD_WEIGHT % Term::BASE) as usize];
+        let d = theta[(l % Term::BASE) as usize];
+        return find(into, number(x / LITERAL_WEIGHT, a, b, c, d, x % 2));
     }
     if a == b {
         return x % 2 == 1;
@@ -241,7 +296,13 @@ fn number(p: u64, a: u64, b: u64, c: u64, d: u64, s: u64) -> u64
     requires { ⌜ Digits p a b c d s ⌝ }
     ensures { λ r. ⌜ r ≡ numberOf p a b c d s ⌝ }
 {
-    (p * 16777216 + a * 262144 + b * 4096 + c * 64 + d) * 2 + s
+    (p * Label::PREDICATE_WEIGHT
+        + a * Label::FIRST_WEIGHT
+        + b * Label::SECOND_WEIGHT
+        + c * Label::THIRD_WEIGHT
+        + d)
+        * 2
+        + s
 }
 
 // Whether a replacement beyond theta takes the literals from k to n to those of the first path, or to t = t true. Tries each literal in turn, and
@@ -401,7 +462,7 @@ fn path_into(words: &[u64], counts: &[u64], n: usize, k: u64, out: &mut [u32]) -
     let mut j = 0;
     while words[i * 3] != Label::LEAF {
         let s = step_on(words, counts, n, i, m);
-        out[64 + j] = s.code as u32;
+        out[TERMS + j] = s.code as u32;
         i = s.row;
         m = s.rest;
         j += 1;
@@ -417,15 +478,15 @@ fn term_at(ord: &[u32], m: usize) -> usize
     let l = wide(ord[m / 4]) / 2;
     let j = m % 4;
     if j == 0 {
-        return (l / 262144 % 64) as usize;
+        return (l / Label::FIRST_WEIGHT % Term::BASE) as usize;
     }
     if j == 1 {
-        return (l / 4096 % 64) as usize;
+        return (l / Label::SECOND_WEIGHT % Term::BASE) as usize;
     }
     if j == 2 {
-        return (l / 64 % 64) as usize;
+        return (l / Label::THIRD_WEIGHT % Term::BASE) as usize;
     }
-    (l % 64) as usize
+    (l % Term::BASE) as usize
 }
 
 // Writes the places, counted from 1, where the terms of the first n literals come first.
@@ -479,7 +540,7 @@ fn mark_path(arities: &[u64], out: &mut [u32], n: usize)
 {
     let mut i = 0;
     while i < n {
-        let x = wide(out[64 + i]);
+        let x = wide(out[TERMS + i]);
         mark_literal(arities, out, x);
         i += 1;
     }
@@ -509,8 +570,8 @@ fn copy_marks(marks: &[u32], tab: &mut [u32])
     ensures { λ _. ⌜ ((t : ℕ) → t < termBase → getD (now (tab .exit)) (termBase + t) 0 ≡ getD (now (marks .entry)) t 0) ⌝ }
 {
     let mut t = 0;
-    while t < 64 {
-        tab[64 + t] = marks[t];
+    while t < TERMS {
+        tab[TERMS + t] = marks[t];
         t += 1;
     }
 }
@@ -521,7 +582,7 @@ fn keep_terms(theta: &mut [u64])
     ensures { λ _. ⌜ ((v : ℕ) → v < termBase → getD (now (theta .exit)) v 0 ≡ v) ⌝ }
 {
     let mut v = 0;
-    while v < 64 {
+    while v < TERMS {
         theta[v] = v as u64;
         v += 1;
     }
@@ -534,9 +595,9 @@ fn unplace(tab: &mut [u32])
     ensures { λ _. ⌜ ((v : ℕ) → termBase ≤ v → getD (now (tab .exit)) v 0 ≡ getD (now (tab .entry)) v 0) ⌝ }
 {
     let mut v = 0;
-    while v < 32 {
+    while v < FIRST_VARIABLE {
         tab[v] = 0;
-        tab[32 + v] = 2000;
+        tab[FIRST_VARIABLE + v] = LATE;
         v += 1;
     }
 }
@@ -562,7 +623,7 @@ fn is_seen(seen: &[u32], t: usize) -> bool
     requires { ⌜ t < length (now seen) ⌝ }
     ensures { λ r. ⌜ r ≡ isSeen (now (seen .entry)) t ⌝ }
 {
-    if t < 32 {
+    if t < FIRST_VARIABLE {
         return false;
     }
     wide(seen[t]) > 0
@@ -574,16 +635,16 @@ fn shares(seen: &[u32], x: u64) -> bool
     ensures { λ r. ⌜ r ≡ shares (now (seen .entry)) x ⌝ }
 {
     let l = x / 2;
-    if is_seen(seen, (l / 262144 % 64) as usize) {
+    if is_seen(seen, (l / Label::FIRST_WEIGHT % Term::BASE) as usize) {
         return true;
     }
-    if is_seen(seen, (l / 4096 % 64) as usize) {
+    if is_seen(seen, (l / Label::SECOND_WEIGHT % Term::BASE) as usize) {
         return true;
     }
-    if is_seen(seen, (l / 64 % 64) as usize) {
+    if is_seen(seen, (l / Label::THIRD_WEIGHT % Term::BASE) as usize) {
         return true;
     }
-    is_seen(seen, (l % 64) as usize)
+    is_seen(seen, (l % Term::BASE) as usize)
 }
 
 // 1 if the term t is a variable that was not seen, else 0.
@@ -591,7 +652,7 @@ fn is_new(seen: &[u32], t: usize) -> u64
     requires { ⌜ t < length (now seen) ⌝ }
     ensures { λ r. ⌜ r ≤ 1 ⌝ }
 {
-    if t < 32 {
+    if t < FIRST_VARIABLE {
         return 0;
     }
     if wide(seen[t]) > 0 {
@@ -606,10 +667,10 @@ fn new_places(seen: &[u32], x: u64) -> u64
     ensures { λ r. ⌜ r ≤ 4 ⌝ }
 {
     let l = x / 2;
-    let a = is_new(seen, (l / 262144 % 64) as usize);
-    let b = is_new(seen, (l / 4096 % 64) as usize);
-    let c = is_new(seen, (l / 64 % 64) as usize);
-    let d = is_new(seen, (l % 64) as usize);
+    let a = is_new(seen, (l / Label::FIRST_WEIGHT % Term::BASE) as usize);
+    let b = is_new(seen, (l / Label::SECOND_WEIGHT % Term::BASE) as usize);
+    let c = is_new(seen, (l / Label::THIRD_WEIGHT % Term::BASE) as usize);
+    let d = is_new(seen, (l % Term::BASE) as usize);
     a + b + c + d
 }
 
@@ -620,9 +681,9 @@ fn rank(seen: &[u32], x: u64) -> u64
 {
     let n = new_places(seen, x) * 2;
     if !shares(seen, x) {
-        return 100 + n;
+        return STRANGE + n;
     }
-    if x < 33554432 {
+    if x < LITERAL_WEIGHT {
         return n + 1;
     }
     n
@@ -636,7 +697,7 @@ fn best(ord: &[u32], seen: &[u32], k: usize) -> Pick
 {
     let mut i = k;
     let mut at = k;
-    let mut low = 200;
+    let mut low = WORST;
     while i < ord.len() {
         let r = rank(seen, wide(ord[i]));
         if r < low {
@@ -656,10 +717,10 @@ fn see(seen: &mut [u32], x: u64)
     ensures { λ _. ⌜ now (seen .exit) ≡ marked (fourOf (x / 2)) (now (seen .entry)) ⌝ }
 {
     let l = x / 2;
-    seen[(l / 262144 % 64) as usize] = 1;
-    seen[(l / 4096 % 64) as usize] = 1;
-    seen[(l / 64 % 64) as usize] = 1;
-    seen[(l % 64) as usize] = 1;
+    seen[(l / Label::FIRST_WEIGHT % Term::BASE) as usize] = 1;
+    seen[(l / Label::SECOND_WEIGHT % Term::BASE) as usize] = 1;
+    seen[(l / Label::THIRD_WEIGHT % Term::BASE) as usize] = 1;
+    seen[(l % Term::BASE) as usize] = 1;
 }
 
 // Takes the literal `at` as the one at place k; that one goes to its place.
@@ -683,7 +744,7 @@ fn next_part(ord: &mut [u32], seen: &mut [u32], k: usize) -> usize
     let mut e = k + 1;
     while e < ord.len() {
         let b = best(ord, seen, e);
-        if b.rank >= 100 {
+        if b.rank >= STRANGE {
             return e;
         }
         take_literal(ord, seen, e, b.at);
@@ -697,7 +758,7 @@ fn search_parts(ord: &mut [u32], into: &[u32], tab: &mut [u32], theta: &mut [u64
     requires { ⌜ Ready (now ord) (now into) (now tab) (now theta) ⌝ }
     ensures { λ r. ⌜ PartsPost (now (ord .entry)) (now (into .entry)) (now (tab .entry)) r ⌝ }
 {
-    let mut seen = [0u32; 64];
+    let mut seen = [0u32; TERMS];
     let mut k = 0;
     while k < ord.len() {
         let e = next_part(ord, &mut seen, k);
@@ -713,7 +774,7 @@ fn search_parts(ord: &mut [u32], into: &[u32], tab: &mut [u32], theta: &mut [u64
 fn is_equal(x: u64) -> bool
     ensures { λ r. ⌜ (r ≡ false → x < 33554432 → x % 2 ≡ 1 → ⊥) ⌝ }
 {
-    if x >= 33554432 {
+    if x >= LITERAL_WEIGHT {
         return false;
     }
     x % 2 == 1
@@ -727,7 +788,7 @@ fn has_way(into: &[u32], x: u64) -> bool
     if is_equal(x) {
         return true;
     }
-    let mut j = 64;
+    let mut j = TERMS;
     while j < into.len() {
         if alike(x, wide(into[j])) {
             return true;
@@ -765,14 +826,19 @@ fn match_parts(ord: &mut [u32], into: &[u32], tab: &mut [u32], theta: &mut [u64]
 
 // Whether a replacement takes the b literals behind the marks of `from` to the a literals behind those of `into`, or to t = t true.
 fn search(into: &[u32], a: usize, from: &mut [u32], b: usize) -> bool
-    requires { ⌜ Searchable (now into) a (now from) b ⌝ }
+    requires { ⌜ BothStored (now into) a (now from) b ⌝ }
     ensures { λ r. ⌜ Answers (now (into .entry)) a (now (from .entry)) b r ⌝ }
 {
-    let mut tab = [0u32; 128];
-    let mut theta = [0u64; 64];
+    let mut tab = [0u32; TABLE_WORDS];
+    let mut theta = [0u64; TERMS];
     copy_marks(from, &mut tab);
     keep_terms(&mut theta);
-    match_parts(&mut from[64..64 + b], &into[..64 + a], &mut tab, &mut theta)
+    match_parts(
+        &mut from[TERMS..TERMS + b],
+        &into[..TERMS + a],
+        &mut tab,
+        &mut theta,
+    )
 }
 
 // Whether a replacement of the variables of path q, by terms of paths p and q, takes each of its literals to one of path p, or to t = t true.
@@ -780,8 +846,8 @@ pub fn covers(arities: &[u64], words: &[u64], counts: &[u64], n: usize, p: u64, 
     requires { ⌜ Coverable (now arities) (now words) (now counts) n p q ⌝ }
     ensures { λ r. ⌜ r ≡ covers (now (arities .entry)) (pathAt (tree (now (words .entry)) (n - 1)) p) (pathAt (tree (now (words .entry)) (n - 1)) q) ⌝ }
 {
-    let mut into = [0u32; 320];
-    let mut from = [0u32; 320];
+    let mut into = [0u32; PATH_WORDS];
+    let mut from = [0u32; PATH_WORDS];
     let a = enter_path(arities, words, counts, n, p, &mut into);
     let b = enter_path(arities, words, counts, n, q, &mut from);
     search(&into, a, &mut from, b)
