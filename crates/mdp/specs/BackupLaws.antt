@@ -36,10 +36,10 @@ use Rattle.mdp.specs.CallLaws.{within-more, leaf-listed, leaf-within, le
 
 -- ===== Variants =====
 
-truths-good : (ar : List ℕ) (c : ℕ) (v : Variant) → GoodVariant ar c v → GoodTruths ar (v .truths)
+pub truths-good : (ar : List ℕ) (c : ℕ) (v : Variant) → GoodVariant ar c v → GoodTruths ar (v .truths)
 truths-good ar c v g = record { each = λ p d h k e. record { labels = fine-every ar d (g .truths p d h k e .listed .fine); bits = g .truths p d h k e .bits } }
 
-truths-within : (ar : List ℕ) (c : ℕ) (v : Variant) → GoodVariant ar c v → WithinTruths c ar (v .truths)
+pub truths-within : (ar : List ℕ) (c : ℕ) (v : Variant) → GoodVariant ar c v → WithinTruths c ar (v .truths)
 truths-within ar c v g = record { each = λ p d h k e. g .truths p d h k e .parameters }
 
 -- a weight is the same at every valuation
@@ -49,7 +49,7 @@ unfolding weightIn start
 weight-same ar c v few g s os θ f = value-same (λ t. t < firstParameter + c) s (meaning ar (v .weight)) θ (start s os) (g .weight)
     (λ t h. f .low t (omega arith) ∙ sym (low-lt firstVariable t (fixed s os t) 0 (omega arith)))
 
-weight-within : (ar : List ℕ) (c : ℕ) (v : Variant) → GoodVariant ar c v → Within c (meaning ar (v .weight))
+pub weight-within : (ar : List ℕ) (c : ℕ) (v : Variant) → GoodVariant ar c v → Within c (meaning ar (v .weight))
 weight-within ar c v g = record { terms = Terms-mono (λ t. t < firstParameter + c) (Allowed c) (λ t l k. absurd (omega arith)) (meaning ar (v .weight)) (g .weight) }
 
 stateAfter-good : (ar : List ℕ) (s : State) (os : List ℕ) (v : Variant) → Good s → Good (stateAfter ar s os v)

@@ -124,7 +124,7 @@ closed-highest ar d good s os x m = max-by m
     free = closed-free ar firstVariable d (omega arith) (closed-room ar d) good
 
 -- it changes no count of rows
-closed-count : (ar : List ℕ) (d : Diagram) → areArities ar ≡ true → Fine ar d → length (rows (closed ar d)) ≡ length (rows d)
+pub closed-count : (ar : List ℕ) (d : Diagram) → areArities ar ≡ true → Fine ar d → length (rows (closed ar d)) ≡ length (rows d)
 unfolding closed closedFrom
 closed-count ar d good fine =
     renaming-rows ar good (Numbered (variables ar d)) (numbering (variables ar d) firstVariable)

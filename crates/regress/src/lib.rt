@@ -75,7 +75,7 @@ fn write_freed(arities: &[u64], words: &[u64], count: u64, out: &mut [u64])
 }
 
 // Frees a listing: no parameter past the count (6), no variable that would pass 63 (8).
-fn free_checked(arities: &[u64], words: &[u64], count: u64, out: &mut [u64]) -> Freed
+pub fn free_checked(arities: &[u64], words: &[u64], count: u64, out: &mut [u64]) -> Freed
     requires { ⌜ FreeTask (now arities) (now words) count (now out) ⌝ }
     ensures { λ r. ⌜ FreedWith (freeOwn (now (arities .entry)) (now (words .entry)) count) r (now (out .entry)) (now (out .exit)) ⌝ }
 {

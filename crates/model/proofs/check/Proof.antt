@@ -1,0 +1,26 @@
+use Rattle.model.proofs.CheckLaws.{says-no, said, laid-says, reward-arities}
+use borrow.Author.Needs.{needs}
+use Rattle.model.proofs.check.Statement.{statement}
+use Rattle.model.proofs.check.Tie as tie
+
+returns : tie.Need-returns
+returns c = says-no
+
+returns-2 : tie.Need-returns-2
+returns-2 c = says-no
+
+returns-3 : tie.Need-returns-3
+returns-3 c = says-no
+
+returns-4 : tie.Need-returns-4
+returns-4 c = says-no
+
+actions-fit-requires : tie.Need-actions-fit-requires
+actions-fit-requires c κs = (c .before .before .before .before .before .if1 .left, (c .before .before .before .before .if2 .left, reward-arities (said (c .before .reward-fits .ensures) (c .if4 .left))))
+
+returns-5 : tie.Need-returns-5
+returns-5 c = laid-says (c .before .before .before .before .before .before .if1 .left) (c .before .before .before .before .before .if2 .left) (said (c .before .before .before .before .numbers-fit .ensures) (c .before .before .before .if3 .left)) (said (c .before .before .reward-fits .ensures) (c .before .if4 .left)) (c .actions-fit .ensures)
+
+pub check-spec : {M : Type 1} → statement M
+check-spec =
+    tie.close (tie.spec returns returns-2 (λ c κs. search needs) returns-3 (λ c κs. search needs) returns-4 actions-fit-requires returns-5)

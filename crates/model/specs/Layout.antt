@@ -1,0 +1,100 @@
+-- A model in lent words (document 01, sections 'Text' and 'Backup'): its numbers, its listings one after another, and a table of where they stand.
+use mathlib.Core.Path.{_≡_}
+use mathlib.Core.Bool.{true}
+use mathlib.Core.List.{List, [], _∷_, _++_}
+use Prim.Native.Nat.{ℕ, zero, suc, _+_, _*_, _-_, _≤_, _<_}
+use lib.ListN.{length, getD, take, drop}
+use Rattle.label.specs.Limits.{predicateCount}
+use Rattle.diagram.specs.Words.{isListing}
+use Rattle.diagram.specs.Listing.{diagramOf}
+use Rattle.regress.specs.RegressCall.{truthsOf, areListings}
+use Rattle.mdp.specs.Model.{Variant, Action, Model, GoodModel, mostActions, mostVariants}
+use Rattle.model.specs.declared.Head.{Head}
+
+-- f 0, f 1, .. f (n - 1)
+unfoldable pub many : {A : Type 0} → (ℕ → A) → ℕ → List A
+many f zero = []
+many f (suc n) = many f n ++ (f n ∷ [])
+
+-- all model listings together have 2,048 rows
+abbrev pub listingWords : ℕ
+listingWords = 6144
+
+-- in the table: for each predicate two words, where its truth diagram begins and how many words it has
+abbrev pub spanWords : ℕ
+spanWords = 64
+
+-- a variant: two words for its weight, then those of its truth diagrams
+abbrev pub variantWords : ℕ
+variantWords = 66
+
+-- an action: its parameters, its variants, then room for eight variants
+abbrev pub actionWords : ℕ
+actionWords = 530
+
+abbrev pub tableWords : ℕ
+tableWords = 4240
+
+-- n words from the place i on
+abbrev pub part : List ℕ → ℕ → ℕ → List ℕ
+part s i n = take n (drop i s)
+
+-- where the variant v of the action a stands in the table
+abbrev pub variantPlace : ℕ → ℕ → ℕ
+variantPlace a v = a * actionWords + 2 + v * variantWords
+
+-- the words of the weight of the variant that stands at the place i
+abbrev pub weightWords : List ℕ → List ℕ → ℕ → List ℕ
+weightWords listings table i = part listings (getD table i 0) (getD table (i + 1) 0)
+
+abbrev pub spansAt : List ℕ → ℕ → List ℕ
+spansAt table i = part table (i + 2) spanWords
+
+unfoldable pub variantAt : List ℕ → List ℕ → ℕ → Variant
+unfolding diagramOf truthsOf
+variantAt listings table i = record { weight = diagramOf (weightWords listings table i); truths = truthsOf listings (spansAt table i) }
+
+-- the action a: how many variants it has
+abbrev pub variantsOf : List ℕ → ℕ → ℕ
+variantsOf table a = getD table (a * actionWords + 1) 0
+
+unfoldable pub actionAt : List ℕ → List ℕ → ℕ → Action
+unfolding many variantAt
+actionAt listings table a =
+    record { count = getD table (a * actionWords) 0; variants = many (λ v. variantAt listings table (variantPlace a v)) (variantsOf table a) }
+
+abbrev pub rewardWords : List ℕ → Head → List ℕ
+rewardWords listings h = part listings (h .«reward_start») (h .«reward_words»)
+
+-- the model that the words are
+unfoldable pub modelOf : List ℕ → List ℕ → List ℕ → Head → Model
+unfolding many actionAt diagramOf
+modelOf ar listings table h = record {
+  arities = ar;
+  total = h .total;
+  numerator = h .numerator;
+  denominator = h .denominator;
+  reward = diagramOf (rewardWords listings h);
+  actions = many (actionAt listings table) (h .actions);
+}
+
+-- ===== What code on such words needs of them =====
+
+-- the variant at the place i: its weight and truth diagrams are listings, within the words
+pub record LaidVariant (ar listings table : List ℕ) (i : ℕ) : Type 0 where
+  pub inside : getD table i 0 + getD table (i + 1) 0 ≤ length listings
+  pub weight : isListing ar (weightWords listings table i) ≡ true
+  pub truths : areListings ar listings (spansAt table i) 1 (predicateCount - 1) ≡ true
+
+pub record LaidAction (ar listings table : List ℕ) (a : ℕ) : Type 0 where
+  pub few : variantsOf table a ≤ mostVariants
+  pub variants : (v : ℕ) → v < variantsOf table a → LaidVariant ar listings table (variantPlace a v)
+
+-- a model laid out in words, as reading leaves it
+pub record Laid (ar listings table : List ℕ) (h : Head) : Type 0 where
+  pub room : tableWords ≤ length table
+  pub few : h .actions ≤ mostActions
+  pub inside : h .«reward_start» + h .«reward_words» ≤ length listings
+  pub reward : isListing ar (rewardWords listings h) ≡ true
+  pub actions : (a : ℕ) → a < h .actions → LaidAction ar listings table a
+  pub good : GoodModel (modelOf ar listings table h)

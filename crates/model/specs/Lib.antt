@@ -1,0 +1,3 @@
+-- Models in lent words.
+pub mod Checks
+pub mod Layout

@@ -1,0 +1,302 @@
+-- Laws of the calls of a run.
+use mathlib.Core.Path.{_≡_, refl, sym, ap, subst, _∙_}
+use mathlib.Core.Bool.{Bool, true, false}
+use mathlib.Core.List.{List, [], _∷_, _++_}
+use Prim.Native.Nat.{ℕ, suc, _+_, _*_, _/_, _^_, _≤_, _<_}
+use native.Mathlib.Omega.{arith}
+use native.Mathlib.Nat.{pow-zero}
+use native.Mathlib.Numerals.{add-one}
+use lib.ListN.{length, getD, take, drop, replicate, length-replicate, length-drop, length-append}
+use lib.Seq.{take-at, take-all, take-suc, length-take-le}
+use lib.Dec.{ltb}
+use borrow.Author.Tests.{ne-eqb, ltb-false}
+use Rattle.refusal.specs.declared.Refusal.{Refusal}
+use Rattle.refusal.specs.declared.Refusal.the-variants.{Paths}
+use Rattle.diagram.specs.Sizes.{resultWords}
+use Rattle.diagram.specs.Diagram.{Diagram}
+use Rattle.diagram.specs.Rows.{rows}
+use Rattle.diagram.specs.RowLists.{rowTree}
+use Rattle.diagram.specs.Words.{isListing}
+use Rattle.diagram.specs.Listing.{listing, diagramOf, Good}
+use Rattle.diagram.specs.ListingValid.{listing-is-valid}
+use Rattle.diagram.specs.Listings.{is-listing-good}
+use Rattle.rename.specs.ClosingLaws.{closed-good}
+use Rattle.state.specs.State.{meaning}
+use Rattle.regress.specs.Calls.{Outcome, ok, refused}
+use Rattle.regress.specs.CallLaws.{Accepted, accepted-ok, accepted-refused}
+use Rattle.regress.specs.RegressCall.{writtenAs}
+use Rattle.regress.specs.Parameters.{Within}
+use Rattle.cut.specs.declared.Edge.{Edge}
+use Rattle.cut.specs.declared.Cut.{Cut}
+use Rattle.cut.specs.declared.Cut.the-variants.{Done as CutDone, Refused as NotCut}
+use Rattle.cut.specs.Paths.{paths, mostPaths}
+use Rattle.cut.specs.Cut.{Choice, goes, stays, reduced, cutAt, cutDiagram, pickCut, edgeOf, isTrueEdge, choice, chosenAnswer, diagramAnswer, written, answerBuffer}
+use Rattle.cut.specs.ReduceLaws.{cut-good}
+use Rattle.trim.specs.Calls.{Cuttable}
+use Rattle.mdp.specs.Model.{Model, scale}
+use Rattle.mdp.specs.Backup.{backup}
+use Rattle.mdp.specs.Runs.{Call, aBackup, aCut, Held as Value, leaves, cutOutcome, taken, call, runFrom, begin, run}
+use Rattle.mdp.specs.StepLaws.{cut-done, cut-refused, call-backup, call-cut, run-none, run-next, run-range}
+use Rattle.mdp.specs.RunLaws.{run-right}
+use Rattle.model.specs.declared.Head.{Head}
+use Rattle.model.specs.Layout.{rewardWords, modelOf, Laid}
+use Rattle.planner.specs.declared.Step.the-variants.{Rows}
+use Rattle.planner.specs.declared.Backed.{Backed}
+use Rattle.planner.specs.declared.Backed.the-variants.{Done, Refused as NotBacked}
+use Rattle.planner.specs.declared.Held.{Held}
+use Rattle.planner.specs.Steps.{stepAs, Result, Wrote}
+use Rattle.planner.specs.Backed.{Powered, backedAs, BackedUp}
+use Rattle.planner.specs.Tasks.{Standing}
+use Rattle.planner.specs.Run.{callOf, callsOf, heldIn, Holds, Room, Callable, CutTask, CutTo, Takeable, Taken}
+use Rattle.planner.proofs.StepLaws.{listing-result, wrote-given, result-few, fold-there, fold-given}
+
+-- two held values are equal by their parts
+same-held : {d e : Diagram} {j k : ℕ} → d ≡ e → j ≡ k → _≡_ {A = Value} (record { diagram = d; steps = j }) (record { diagram = e; steps = k })
+same-held p q = λ i. record { diagram = p i; steps = q i }
+
+-- ===== A backup =====
+
+module _ {ar : List ℕ} {m : Model} {h : Held} {value : List ℕ} (c : Callable ar m h value) where
+  pub callable-standing : {work : List ℕ} → Room value work → Standing ar value (h .rows) work
+  callable-standing r = record { listing = c .listing; within = c .within; inside = c .room; value-room = r .value-room; work-room = r .work-room }
+
+pub callable-powered : {ar listings table : List ℕ} {n : Head} → Laid ar listings table n → {h : Held} {value : List ℕ} → Callable ar (modelOf ar listings table n) h value → Powered n (h .steps) (h .power)
+unfolding modelOf scale
+callable-powered t c = record { steps = c .steps; is = c .power }
+
+module _ {ar : List ℕ} {m : Model} {h : Held} {value : List ℕ} (c : Callable ar m h value) {r : Backed} {value′ : List ℕ}
+    (b : BackedUp ar m (h .steps) (diagramOf (take (h .rows * 3) value)) r value value′) where
+  abbrev D : Diagram
+  D = diagramOf (take (h .rows * 3) value)
+
+  backed : (o : Outcome Diagram) (n p : ℕ) → backedAs (scale m ^ suc (h .steps)) o ≡ Done n p → {A : Type 0}
+      → ((d : Diagram) → o ≡ ok d → length (rows d) ≡ n → scale m ^ suc (h .steps) ≡ p → A) → A
+  backed (ok d) n p e f = f d refl (cc) (cc)
+  backed (refused x) n p e f = let z : _≡_ {A = ℕ} 0 1 = cc in absurd (omega arith)
+
+  stopped : (o : Outcome Diagram) (x : Refusal) → backedAs (scale m ^ suc (h .steps)) o ≡ NotBacked x → o ≡ refused x
+  stopped (ok d) x e = let z : _≡_ {A = ℕ} 0 1 = cc in absurd (omega arith)
+  stopped (refused y) x e = ap refused (cc)
+
+  pub backup-holds : {n p : ℕ} → r ≡ Done n p → Holds ar m (call m aBackup (heldIn h value)) (record { rows = n; steps = h .steps + 1; power = p }) value′
+  backup-holds {n} {p} e = backed (backup m (h .steps) D) n p (sym (b .answer) ∙ e) (λ d q l s.
+      let u : value′ ≡ listing d ++ drop (length (listing d)) value = b .words ∙ ap (λ (o : Outcome Diagram). writtenAs o value) q in
+      let x : Result ar (ok d) n value′ = subst (Result ar (ok d) n) (sym u) (listing-result ar d (drop (length (listing d)) value) n (b .good .given d q) l) in
+      let y : d ≡ diagramOf (take (n * 3) value′) = let z = x .is in cc in
+      record {
+        listing = x .listing;
+        room = x .room;
+        is = same-held (sym y) (add-one (h .steps)) ∙ sym (call-backup m (heldIn h value) ∙ ap (λ (o : Outcome Diagram). taken (heldIn h value) o (suc (h .steps))) q);
+        power = sym s ∙ ap (λ (k : ℕ). scale m ^ k) (sym (add-one (h .steps)));
+      })
+
+  pub backup-stays : {x : Refusal} → r ≡ NotBacked x → Holds ar m (call m aBackup (heldIn h value)) h value′
+  backup-stays {x} e =
+      let q : backup m (h .steps) D ≡ refused x = stopped (backup m (h .steps) D) x (sym (b .answer) ∙ e) in
+      let u : value′ ≡ value = b .words ∙ ap (λ (o : Outcome Diagram). writtenAs o value) q in
+      subst (Holds ar m (call m aBackup (heldIn h value)) h) (sym u) (record {
+        listing = c .listing;
+        room = c .room;
+        is = sym (call-backup m (heldIn h value) ∙ ap (λ (o : Outcome Diagram). taken (heldIn h value) o (suc (h .steps))) q);
+        power = c .power;
+      })
+
+-- ===== A cut =====
+
+cut-fits : (ar : List ℕ) (d : Diagram) → Good ar d → Accepted (Good ar) (cutOutcome ar d)
+unfolding cutOutcome diagramAnswer chosenAnswer cutDiagram
+cut-fits ar d g = go (ltb mostPaths (length (paths d))) refl (choice ar d)
+  where
+    go : (b : Bool) → ltb mostPaths (length (paths d)) ≡ b → (c : Choice) → Accepted (Good ar) (leaves ar d (pickCut b (NotCut Paths) (chosenAnswer ar d c)))
+    go true e c = accepted-refused
+    go false e stays = accepted-refused
+    go false e (goes k b) = accepted-ok (closed-good ar (reduced (cutAt (rowTree (rows d) k) (isTrueEdge (edgeOf b)) d))
+        (cut-good ar d (rowTree (rows d) k) (isTrueEdge (edgeOf b)) g (ltb-false mostPaths (length (paths d)) e)))
+
+edge-side : (b : Bool) → isTrueEdge (edgeOf b) ≡ b
+edge-side true = refl
+edge-side false = refl
+
+cut-rows : (ar : List ℕ) (d : Diagram) (k : ℕ) (e : Edge) (n : ℕ) → diagramAnswer ar d ≡ CutDone k e n → length (rows (cutDiagram ar d k (isTrueEdge e))) ≡ n
+unfolding diagramAnswer chosenAnswer
+cut-rows ar d k e n h = go (ltb mostPaths (length (paths d))) (choice ar d) h
+  where
+    go : (b : Bool) (c : Choice) → pickCut b (NotCut Paths) (chosenAnswer ar d c) ≡ CutDone k e n → length (rows (cutDiagram ar d k (isTrueEdge e))) ≡ n
+    go true c q = let z : _≡_ {A = ℕ} 0 1 = cc in absurd (omega arith)
+    go false stays q = let z : _≡_ {A = ℕ} 0 1 = cc in absurd (omega arith)
+    go false (goes j b) q =
+        let p : j ≡ k = cc in
+        let s : edgeOf b ≡ e = cc in
+        let l : length (rows (cutDiagram ar d j b)) ≡ n = cc in
+        let t : isTrueEdge e ≡ b = sym (ap isTrueEdge s) ∙ edge-side b in
+        ap (λ (x : ℕ). length (rows (cutDiagram ar d x (isTrueEdge e)))) (sym p) ∙ ap (λ (x : Bool). length (rows (cutDiagram ar d j x))) t ∙ l
+
+module _ {ar : List ℕ} {h : Held} {value work : List ℕ} (t : CutTask ar h value work) where
+  pub cut-long : h .rows * 3 ≡ length (take (h .rows * 3) value)
+  cut-long = sym (length-take-le (h .rows * 3) value (t .room))
+
+  pub cut-small : h .rows * 3 ≤ resultWords
+  cut-small = let v = listing-is-valid ar (take (h .rows * 3) value) (t .listing) in omega (arith, v .whole, v .few, cut-long)
+
+  pub cut-able : (n : ℕ) → resultWords ≤ n → Cuttable ar (take (h .rows * 3) value) (replicate n 0) work
+  cut-able n k = record { listing = t .listing; out-room = omega (arith, length-replicate {A = ℕ} n 0); work-room = t .work-room }
+
+  abbrev W : Diagram
+  W = diagramOf (take (h .rows * 3) value)
+
+  module _ {q : Cut} (a : q ≡ diagramAnswer ar (diagramOf (take (h .rows * 3) value))) where
+    pub cut-stays : {x : Refusal} → q ≡ NotCut x → CutTo ar h value h value
+    cut-stays {x} e = record {
+      listing = t .listing;
+      room = t .room;
+      is = sym (ap (λ (o : Outcome Diagram). taken (heldIn h value) o (h .steps)) (cut-refused ar W x (sym a ∙ e)));
+      steps = refl;
+      power = refl;
+    }
+
+    module _ (out : List ℕ) {out′ : List ℕ} (w : out′ ≡ answerBuffer ar (take (h .rows * 3) value) out q) {k : ℕ} {e : Edge} {n : ℕ} (d : q ≡ CutDone k e n) where
+      wrote : Wrote ar (cutOutcome ar W) (Rows n) out out′
+      unfolding answerBuffer written
+      wrote =
+          let z = cut-done ar W k e n (sym a ∙ d) in
+          record {
+            answer = ap Rows (sym (cut-rows ar W k e n (sym a ∙ d))) ∙ ap stepAs (sym z);
+            words = w ∙ ap (answerBuffer ar (take (h .rows * 3) value) out) d ∙ ap (λ (o : Outcome Diagram). writtenAs o out) (sym z);
+            good = cut-fits ar W (is-listing-good ar (take (h .rows * 3) value) (t .listing));
+          }
+
+      pub cut-there : n * 3 ≤ length out′
+      cut-there = fold-there wrote refl
+
+      pub cut-room : n * 3 ≤ length value
+      cut-room = omega (arith, result-few (wrote-given wrote .result n refl), t .value-room)
+
+      pub cut-holds : {value′ : List ℕ} → value′ ≡ take (n * 3) out′ ++ drop (n * 3) value → CutTo ar h value (record { rows = n; steps = h .steps; power = h .power }) value′
+      cut-holds {value′} u =
+          let x : Result ar (cutOutcome ar W) n value′ = fold-given wrote refl value u .result n refl in
+          record {
+            listing = x .listing;
+            room = x .room;
+            is = sym (ap (λ (o : Outcome Diagram). taken (heldIn h value) o (h .steps)) (x .is));
+            steps = refl;
+            power = refl;
+          }
+
+-- ===== A call =====
+
+pub called-backup : {ar : List ℕ} {m : Model} (v : Value) {h : Held} {value : List ℕ} (x : ℕ) → x ≡ 0 → Holds ar m (call m aBackup v) h value → Holds ar m (call m (callOf x) v) h value
+called-backup {ar} {m} v {h} {value} x e c = subst (λ (y : ℕ). Holds ar m (call m (callOf y) v) h value) (sym e) c
+
+call-is : (x : ℕ) → (x ≡ 0 → ⊥) → callOf x ≡ aCut
+call-is x e = rw (ne-eqb x 0 e)
+
+pub called-cut : {ar listings table : List ℕ} {n : Head} → Laid ar listings table n → {h : Held} {value : List ℕ} → Callable ar (modelOf ar listings table n) h value → (x : ℕ) → (x ≡ 0 → ⊥) → {h′ : Held} {value′ : List ℕ}
+    → CutTo ar h value h′ value′ → Holds ar (modelOf ar listings table n) (call (modelOf ar listings table n) (callOf x) (heldIn h value)) h′ value′
+unfolding modelOf
+called-cut {ar} {listings} {table} {n} l {h} {value} c x e {h′} {value′} t =
+    let m = modelOf ar listings table n in
+    subst (λ (y : Call). Holds ar m (call m y (heldIn h value)) h′ value′) (sym (call-is x e)) (record {
+      listing = t .listing;
+      room = t .room;
+      is = t .is ∙ sym (call-cut m (heldIn h value));
+      power = t .power ∙ c .power ∙ ap (λ (k : ℕ). scale m ^ k) (sym (t .steps));
+    })
+
+-- ===== The reward =====
+
+part-long : (s : List ℕ) (i n : ℕ) → i + n ≤ length s → length (take n (drop i s)) ≡ n
+part-long s i n h = length-take-le n (drop i s) (omega (arith, length-drop i s))
+
+module _ {listings : List ℕ} {h : Head} {value : List ℕ} (t : Takeable listings h value) {ws : List ℕ} (e : ws ≡ rewardWords listings h) where
+  pub taking-there : h .«reward_words» / 3 * 3 ≤ length ws
+  taking-there = omega (arith, t .whole, ap length e, part-long listings (h .«reward_start») (h .«reward_words») (t .inside))
+
+  pub taking-room : h .«reward_words» / 3 * 3 ≤ length value
+  taking-room = omega (arith, t .whole, t .room)
+
+  pub taking-taken : {value′ : List ℕ} → value′ ≡ take (h .«reward_words» / 3 * 3) ws ++ drop (h .«reward_words» / 3 * 3) value → Taken listings h (h .«reward_words» / 3) value′
+  taking-taken {value′} u =
+      let k = h .«reward_words» / 3 * 3 in
+      let l : length ws ≡ k = ap length e ∙ part-long listings (h .«reward_start») (h .«reward_words») (t .inside) ∙ sym (t .whole) in
+      let z : take k ws ≡ ws = take-all k ws (omega arith) in
+      let v : value′ ≡ ws ++ drop k value = u ∙ ap (λ (s : List ℕ). s ++ drop k value) z in
+      record { words = ap (take k) v ∙ take-at ws (drop k value) k l ∙ e; room = omega (arith, ap length v, length-append ws (drop k value), l) }
+
+pub laid-takeable : {ar listings table : List ℕ} {h : Head} → Laid ar listings table h → {value work : List ℕ} → Room value work → Takeable listings h value
+laid-takeable {ar} {listings} {table} {h} t r =
+    let v = listing-is-valid ar (rewardWords listings h) (t .reward) in
+    let l = part-long listings (h .«reward_start») (h .«reward_words») (t .inside) in
+    record { inside = t .inside; whole = subst (λ (n : ℕ). n / 3 * 3 ≡ n) l (sym (v .whole)); room = omega (arith, v .whole, v .few, l, r .value-room) }
+
+-- ===== A run =====
+
+-- i calls of the list are made
+pub record Running (ar : List ℕ) (m : Model) (calls : List ℕ) (h : Held) (value : List ℕ) (i : ℕ) : Type 0 where
+  pub within : i ≤ length calls
+  pub holds : Holds ar m (run m (callsOf (take i calls))) h value
+
+from-last : (m : Model) (l : List Call) (c : Call) (v : Value) → runFrom m (l ++ (c ∷ [])) v ≡ call m c (runFrom m l v)
+from-last m [] c v = run-next m c [] v ∙ run-none m (call m c v) ∙ ap (call m c) (sym (run-none m v))
+from-last m (d ∷ l) c v = run-next m d (l ++ (c ∷ [])) v ∙ from-last m l c (call m d v) ∙ ap (call m c) (sym (run-next m d l v))
+
+run-last : (m : Model) (l : List Call) (c : Call) → run m (l ++ (c ∷ [])) ≡ call m c (run m l)
+unfolding run
+run-last m l c = from-last m l c (begin m)
+
+calls-last : (xs : List ℕ) (x : ℕ) → callsOf (xs ++ (x ∷ [])) ≡ callsOf xs ++ (callOf x ∷ [])
+unfolding callsOf
+calls-last [] x = refl
+calls-last (y ∷ xs) x = ap (λ (l : List Call). callOf y ∷ l) (calls-last xs x)
+
+pub running-start : {ar listings table : List ℕ} {n : Head} → Laid ar listings table n → {k : ℕ} {value : List ℕ} → Taken listings n k value → (calls : List ℕ)
+    → Running ar (modelOf ar listings table n) calls (record { rows = k; steps = 0; power = 1 }) value 0
+unfolding modelOf run runFrom begin callsOf
+running-start {ar} {listings} {table} {n} t {k} {value} w calls = record {
+  within = omega arith;
+  holds = record {
+    listing = ap (isListing ar) (w .words) ∙ t .reward;
+    room = w .room;
+    is = same-held (ap diagramOf (w .words)) refl;
+    power = sym (pow-zero (scale (modelOf ar listings table n)));
+  };
+}
+
+module _ {ar listings table : List ℕ} {n : Head} (t : Laid ar listings table n) {calls : List ℕ} {h : Held} {value : List ℕ} {i : ℕ}
+    (x : Running ar (modelOf ar listings table n) calls h value i) where
+  abbrev M : Model
+  M = modelOf ar listings table n
+
+  abbrev L : List Call
+  L = callsOf (take i calls)
+
+  right-within : Within 0 (meaning ar (run M L .diagram))
+  unfolding modelOf
+  right-within = run-right M (t .good) L .within
+
+  pub running-callable : Callable ar M h value
+  running-callable =
+      let y = x .holds in
+      let s : h .steps ≡ run M L .steps = ap (λ (v : Value). v .steps) (y .is) in
+      let d : diagramOf (take (h .rows * 3) value) ≡ run M L .diagram = ap (λ (v : Value). v .diagram) (y .is) in
+      record {
+        listing = y .listing;
+        room = y .room;
+        within = subst (λ (z : Diagram). Within 0 (meaning ar z)) (sym d) right-within;
+        steps = omega (arith, s, run-range M L .steps);
+        power = y .power;
+      }
+
+  pub running-on : i < length calls → {h′ : Held} {value′ : List ℕ} → Holds ar M (call M (callOf (getD calls i 0)) (heldIn h value)) h′ value′ → Running ar M calls h′ value′ (i + 1)
+  running-on l {h′} {value′} y = record {
+    within = omega (arith, l);
+    holds = subst (λ (v : Value). Holds ar M v h′ value′) (
+        ap (call M (callOf (getD calls i 0))) (x .holds .is)
+        ∙ sym (run-last M L (callOf (getD calls i 0)))
+        ∙ ap (run M) (sym (ap (λ (j : ℕ). callsOf (take j calls)) (add-one i) ∙ ap callsOf (take-suc calls i 0 l) ∙ calls-last (take i calls) (getD calls i 0)))) y;
+  }
+
+  pub running-end : length calls ≤ i → Holds ar M (run M (callsOf calls)) h value
+  running-end l = subst (λ (xs : List ℕ). Holds ar M (run M (callsOf xs)) h value) (take-all i calls l) (x .holds)
+
+pub room-next : {value work value′ work′ : List ℕ} → Room value work → length value′ ≡ length value → length work′ ≡ length work → Room value′ work′
+room-next r p q = record { value-room = omega (arith, p, r .value-room); work-room = omega (arith, q, r .work-room) }

@@ -1,0 +1,8 @@
+-- Laws of the code.
+pub mod FreeLaws
+pub mod HeldLaws
+pub mod PowerLaws
+pub mod StepLaws
+pub mod SumLaws
+pub mod ValueLaws
+pub mod VariantLaws

@@ -1,0 +1,24 @@
+use Rattle.planner.proofs.PowerLaws.{laid-numbers, next-few, backed-ends, backed-done, backed-refused}
+use borrow.Author.Needs.{needs}
+use Rattle.planner.proofs.backup.Statement.{statement}
+use Rattle.planner.proofs.backup.Tie as tie
+
+next-power-requires : tie.Need-next-power-requires
+next-power-requires c κs = (laid-numbers (c .before .before .before .before .before .pre .0), c .before .before .before .before .before .pre .1 .1)
+
+returns : tie.Need-returns
+returns c = backed-ends (c .before .before .before .before .before .before .before .before .pre .0) _ (c .before .before .next-power .ensures) (c .enum-told .given .1) _
+
+replace-value-requires : tie.Need-replace-value-requires
+replace-value-requires c κs = (c .before .before .before .before .before .before .before .before .before .before .before .pre .0, (c .before .before .before .before .before .before .before .before .before .before .before .pre .1 .0, next-few (c .before .before .before .before .before .before .before .before .before .before .before .pre .0) _ (c .before .before .before .before .before .next-power .ensures) (c .before .before .before .p .given .1)))
+
+returns-2 : tie.Need-returns-2
+returns-2 c = backed-done (c .before .before .before .before .before .before .before .before .before .before .before .before .before .before .before .before .before .before .before .pre .0) _ (c .before .before .before .before .before .before .before .before .before .before .before .before .before .next-power .ensures) (c .before .before .before .before .before .before .before .before .before .before .before .p .given .1) _ (c .before .before .before .before .before .before .before .replace-value .ensures) (c .before .r .given .1)
+
+returns-3 : tie.Need-returns-3
+returns-3 c = backed-refused (c .before .before .before .before .before .before .before .before .before .before .before .before .before .before .before .before .before .before .before .pre .0) _ (c .before .before .before .before .before .before .before .before .before .before .before .before .before .next-power .ensures) (c .before .before .before .before .before .before .before .before .before .before .before .p .given .1) _ (c .before .before .before .before .before .before .before .replace-value .ensures) (c .before .r2 .given .1)
+
+pub backup-spec : {M : Type 1} → statement M
+backup-spec =
+    tie.close
+    (tie.spec next-power-requires (λ c. search needs) (λ c. search needs) returns replace-value-requires (λ c. search needs) (λ c. search needs) (λ c. search needs) (λ c. search needs) returns-2 (λ c. search needs) (λ c. search needs) returns-3)

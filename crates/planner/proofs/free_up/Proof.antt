@@ -1,0 +1,21 @@
+use Rattle.planner.proofs.FreeLaws.{free-task, freed-closable, freed-given, freed-stops}
+use borrow.Author.Needs.{needs}
+use Rattle.planner.proofs.free_up.Statement.{statement}
+use Rattle.planner.proofs.free_up.Tie as tie
+
+free-checked-requires : tie.Need-free-checked-requires
+free-checked-requires c κs = free-task (c .before .before .before .before .pre)
+
+close-up-requires : tie.Need-close-up-requires
+close-up-requires c κs = freed-closable (c .before .before .before .before .before .before .before .before .before .before .before .pre) (c .before .before .before .before .before .before .free-checked .ensures) (c .before .before .r .given .1)
+
+returns : tie.Need-returns
+returns c = freed-given (c .before .before .before .before .before .before .before .before .before .before .before .before .before .before .pre) (c .before .before .before .before .before .before .before .before .before .free-checked .ensures) (c .before .before .before .before .before .r .given .1) (c .before .before .close-up .ensures)
+
+returns-2 : tie.Need-returns-2
+returns-2 c = freed-stops (c .before .before .before .before .before .before .before .before .before .before .pre) (c .before .before .before .before .before .free-checked .ensures) (c .before .r2 .given .1)
+
+pub free-up-spec : {M : Type 1} → statement M
+free-up-spec =
+    tie.close
+    (tie.spec free-checked-requires (λ c. search needs) close-up-requires (λ c. search needs) (λ c. search needs) returns (λ c. search needs) returns-2)

@@ -1,0 +1,15 @@
+use Rattle.planner.proofs.VariantLaws.{part-words, reward-scalable, reward-given}
+use borrow.Author.Needs.{needs}
+use Rattle.planner.proofs.scale_reward.Statement.{statement}
+use Rattle.planner.proofs.scale_reward.Tie as tie
+
+times-leaf-requires : tie.Need-times-leaf-requires
+times-leaf-requires c κs = let a = c .before .before .before .before .before .before .before .before .args in reward-scalable (c .before .before .before .before .before .before .before .before .pre) (part-words (a .listings .now) (a .head .«reward_start») (a .head .«reward_words»))
+
+returns : tie.Need-returns
+returns c = let a = c .before .before .before .before .before .before .before .before .before .before .before .before .before .args in reward-given (c .before .before .before .before .before .before .before .before .before .before .before .before .before .pre) (part-words (a .listings .now) (a .head .«reward_start») (a .head .«reward_words»)) (c .before .before .before .before .times-leaf .ensures)
+
+pub scale-reward-spec : {M : Type 1} → statement M
+scale-reward-spec =
+    tie.close
+    (tie.spec (λ c. search needs) (λ c. search needs) (λ c. search needs) (λ c. search needs) (λ c. search needs) times-leaf-requires (λ c. search needs) (λ c. search needs) returns)

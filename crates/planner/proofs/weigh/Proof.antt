@@ -1,0 +1,17 @@
+use Rattle.planner.proofs.VariantLaws.{part-words, weigh-scalable, weigh-given}
+use Prim.Native.Nat.{_+_}
+use lib.ListN.{getD}
+use borrow.Author.Needs.{needs}
+use Rattle.planner.proofs.weigh.Statement.{statement}
+use Rattle.planner.proofs.weigh.Tie as tie
+
+times-leaf-requires : tie.Need-times-leaf-requires
+times-leaf-requires c κs = let a = c .before .before .before .before .before .before .before .before .before .before .args in weigh-scalable (c .before .before .before .before .before .before .before .before .before .before .pre) (part-words (a .listings .now) (getD (a .table .now) (a .place) 0) (getD (a .table .now) (a .place + 1) 0))
+
+returns : tie.Need-returns
+returns c = let a = c .before .before .before .before .before .before .before .before .before .before .before .before .before .before .before .args in weigh-given (c .before .before .before .before .before .before .before .before .before .before .before .before .before .before .before .pre) (part-words (a .listings .now) (getD (a .table .now) (a .place) 0) (getD (a .table .now) (a .place + 1) 0)) (c .before .before .before .before .times-leaf .ensures)
+
+pub weigh-spec : {M : Type 1} → statement M
+weigh-spec =
+    tie.close
+    (tie.spec (λ c. search needs) (λ c. search needs) (λ c. search needs) (λ c. search needs) (λ c. search needs) (λ c. search needs) (λ c. search needs) (λ c. search needs) (λ c. search needs) (λ c. search needs) times-leaf-requires (λ c. search needs) (λ c. search needs) returns)

@@ -1,0 +1,110 @@
+-- The parts, put together, are the sum over the variants and the best over the actions; and what they give is in range.
+use mathlib.Core.Path.{_≡_, refl, sym, ap, _∙_}
+use mathlib.Core.Bool.{true}
+use mathlib.Core.List.{List, [], _∷_, _++_}
+use Prim.Native.Nat.{ℕ, _≤_}
+use native.Mathlib.Omega.{arith}
+use Rattle.label.specs.Labels.{areArities}
+use Rattle.diagram.specs.Sizes.{highestValue}
+use Rattle.diagram.specs.Diagram.{Diagram, leaf}
+use Rattle.diagram.specs.Listing.{Good}
+use Rattle.diagram.specs.Variables.{closed}
+use Rattle.apply.specs.declared.Operation.the-variants.{Sum, Product, Max}
+use Rattle.apply.specs.declared.Names.the-variants.{Apart, Shared}
+use Rattle.state.specs.State.{meaning}
+use Rattle.regress.specs.Calls.{Outcome, ok, refused, andThen}
+use Rattle.regress.specs.CallLaws.{Accepted, accepted-ok, accepted-then}
+use Rattle.regress.specs.Regression.{regressed}
+use Rattle.regress.specs.Parameters.{Within}
+use Rattle.regress.specs.NextLaws.{regressed-tells}
+use Rattle.mdp.specs.Model.{Variant, Action, Every, GoodVariant, GoodAction}
+use Rattle.mdp.specs.Backup.{combined, freedOutcome, variantsSum, actionsBest}
+use Rattle.mdp.specs.StepLaws.{sum-none, sum-next, best-none, best-next}
+use Rattle.mdp.specs.BackupLaws.{truths-good, truths-within, weight-within}
+use Rattle.mdp.specs.CallLaws.{within-more, leaf-listed, leaf-within, shared-made, apart-added}
+use Rattle.planner.specs.Parts.{variantProduct, variantAdded, freedUp, actionValue, actionTried}
+
+-- ===== Steps one after another =====
+
+pub then-then : {A B C : Type 0} (o : Outcome A) (f : A → Outcome B) (g : B → Outcome C) → andThen (andThen o f) g ≡ andThen o (λ a. andThen (f a) g)
+then-then (ok a) f g = refl
+then-then (refused r) f g = refl
+
+pub then-same : {A B : Type 0} (o : Outcome A) (f g : A → Outcome B) → ((a : A) → f a ≡ g a) → andThen o f ≡ andThen o g
+then-same (ok a) f g h = h a
+then-same (refused r) f g h = refl
+
+module _ (ar : List ℕ) (g : ℕ) (d : Diagram) where
+  sum-added : (sum : Diagram) (v : Variant) (vs : List Variant) → variantsSum ar g d sum (v ∷ vs) ≡ andThen (variantAdded ar g d sum v) (λ s. variantsSum ar g d s vs)
+  unfolding variantAdded variantProduct
+  sum-added sum v vs = sum-next ar g d sum v vs ∙ sym (
+      then-then (andThen (regressed ar (v .truths) d) (λ r. andThen (combined Product Shared ar (v .weight) (leaf g)) (λ w. combined Product Shared ar r w)))
+      (λ p. combined Sum Apart ar sum p) (λ s. variantsSum ar g d s vs)
+      ∙ then-then (regressed ar (v .truths) d) (λ r. andThen (combined Product Shared ar (v .weight) (leaf g)) (λ w. combined Product Shared ar r w))
+      (λ p. andThen (combined Sum Apart ar sum p) (λ s. variantsSum ar g d s vs))
+      ∙ then-same (regressed ar (v .truths) d) _ _ (λ r.
+      then-then (combined Product Shared ar (v .weight) (leaf g)) (λ w. combined Product Shared ar r w)
+      (λ p. andThen (combined Sum Apart ar sum p) (λ s. variantsSum ar g d s vs))))
+
+  -- one variant more, at the end
+  pub sum-more : (sum : Diagram) (vs : List Variant) (v : Variant) → variantsSum ar g d sum (vs ++ (v ∷ [])) ≡ andThen (variantsSum ar g d sum vs) (λ s. variantAdded ar g d s v)
+  sum-more sum [] v = sum-added sum v [] ∙ last (variantAdded ar g d sum v) ∙ ap (λ (o : Outcome Diagram). andThen o (λ s. variantAdded ar g d s v)) (sym (sum-none ar g d sum))
+    where
+      last : (o : Outcome Diagram) → andThen o (λ s. variantsSum ar g d s []) ≡ o
+      last (ok s) = sum-none ar g d s
+      last (refused r) = refl
+  sum-more sum (u ∷ vs) v =
+      sum-added sum u (vs ++ (v ∷ []))
+      ∙ then-same (variantAdded ar g d sum u) _ _ (λ s. sum-more s vs v)
+      ∙ sym (then-then (variantAdded ar g d sum u) (λ s. variantsSum ar g d s vs) (λ s. variantAdded ar g d s v))
+      ∙ ap (λ (o : Outcome Diagram). andThen o (λ s. variantAdded ar g d s v)) (sym (sum-added sum u vs))
+
+  best-tried : (best : Diagram) (a : Action) (l : List Action) → actionsBest ar g d best (a ∷ l) ≡ andThen (actionTried ar g d best a) (λ b. actionsBest ar g d b l)
+  unfolding actionTried actionValue freedUp
+  best-tried best a l = best-next ar g d best a l ∙ sym (
+      then-then (andThen (variantsSum ar g d (leaf 0) (a .variants)) (λ q. andThen (freedOutcome ar (a .count) q) (λ f. ok (closed ar f))))
+      (λ q. combined Max Shared ar best q) (λ b. actionsBest ar g d b l)
+      ∙ then-then (variantsSum ar g d (leaf 0) (a .variants)) (λ q. andThen (freedOutcome ar (a .count) q) (λ f. ok (closed ar f)))
+      (λ q. andThen (combined Max Shared ar best q) (λ b. actionsBest ar g d b l))
+      ∙ then-same (variantsSum ar g d (leaf 0) (a .variants)) _ _ (λ q.
+      then-then (freedOutcome ar (a .count) q) (λ f. ok (closed ar f)) (λ q. andThen (combined Max Shared ar best q) (λ b. actionsBest ar g d b l))))
+
+  -- one action more, at the end
+  pub best-more : (best : Diagram) (l : List Action) (a : Action) → actionsBest ar g d best (l ++ (a ∷ [])) ≡ andThen (actionsBest ar g d best l) (λ b. actionTried ar g d b a)
+  best-more best [] a = best-tried best a [] ∙ last (actionTried ar g d best a) ∙ ap (λ (o : Outcome Diagram). andThen o (λ b. actionTried ar g d b a)) (sym (best-none ar g d best))
+    where
+      last : (o : Outcome Diagram) → andThen o (λ b. actionsBest ar g d b []) ≡ o
+      last (ok b) = best-none ar g d b
+      last (refused r) = refl
+  best-more best (e ∷ l) a =
+      best-tried best e (l ++ (a ∷ []))
+      ∙ then-same (actionTried ar g d best e) _ _ (λ b. best-more b l a)
+      ∙ sym (then-then (actionTried ar g d best e) (λ b. actionsBest ar g d b l) (λ b. actionTried ar g d b a))
+      ∙ ap (λ (o : Outcome Diagram). andThen o (λ b. actionTried ar g d b a)) (sym (best-tried best e l))
+
+-- ===== Parameters =====
+
+-- a diagram that has a listing, and no parameter from the c-th on
+pub record Fit (ar : List ℕ) (c : ℕ) (d : Diagram) : Type 0 where
+  pub listed : Good ar d
+  pub within : Within c (meaning ar d)
+
+-- the sum over an action's variants has the action's parameters only
+module _ (ar : List ℕ) (good : areArities ar ≡ true) (g : ℕ) (few : g ≤ highestValue) (d : Diagram) (value : Fit ar 0 d) where
+  sums-fit : (c : ℕ) (vs : List Variant) → Every (GoodVariant ar c) vs → (sum : Diagram) → Fit ar c sum → Accepted (Fit ar c) (variantsSum ar g d sum vs)
+  unfolding variantsSum
+  sums-fit c [] gs sum h = accepted-ok h
+  sums-fit c (v ∷ vs) gs sum h =
+      accepted-then (regressed ar (v .truths) d) (regressed-tells ar (v .truths) d (truths-good ar c v (gs .0)) (value .listed)) (λ r hr.
+      accepted-then (combined Product Shared ar (v .weight) (leaf g)) (shared-made Product ar (v .weight) (leaf g) (gs .0 .listed) (leaf-listed ar g good few)) (λ w hw.
+      accepted-then (combined Product Shared ar r w) (shared-made Product ar r w (hr .good) (hw .listed)) (λ p hp.
+      accepted-then (combined Sum Apart ar sum p) (apart-added ar sum p (h .listed) (hp .listed)) (λ sum′ ha.
+      sums-fit c vs (gs .1) sum′ (record {
+        listed = ha .listed;
+        within = ha .within c (h .within) (hp .within c
+            (hr .within c (truths-within ar c v (gs .0)) (within-more c ar d (value .within)))
+            (hw .within c (weight-within ar c v (gs .0)) (leaf-within c ar g)));
+      })))))
+
+  pub sum-fits : (a : Action) → GoodAction ar a → Accepted (Fit ar (a .count)) (variantsSum ar g d (leaf 0) (a .variants))
+  sum-fits a ga = sums-fit (a .count) (a .variants) (ga .variants) (leaf 0) (record { listed = leaf-listed ar 0 good (omega arith); within = leaf-within (a .count) ar 0 })

@@ -1,0 +1,609 @@
+// Backups, and runs of backups and cuts, on models in lent words. What they are stands in crate mdp and in specs/.
+use apply::Combined;
+use apply::Operation;
+use cut::Cut;
+use label::Label;
+use model::Head;
+use refusal::Refusal;
+use regress::Freed;
+use regress::Regressed;
+ghost use mathlib.Core.Path.{_≡_};
+ghost use Prim.Native.Nat.{_*_, _≤_};
+ghost use lib.ListN.{length, take};
+ghost use Rattle.diagram.specs.Sizes.{highestValue, resultWords};
+ghost use Rattle.diagram.specs.Diagram.{leaf};
+ghost use Rattle.diagram.specs.Listing.{diagramOf};
+ghost use Rattle.apply.specs.declared.Operation.the-variants.{Sum, Product, Max};
+ghost use Rattle.apply.specs.declared.Names.the-variants.{Apart, Shared};
+ghost use Rattle.regress.specs.Regression.{regressed};
+ghost use Rattle.mdp.specs.Backup.{combined, variantsSum, actionsBest};
+ghost use Rattle.model.specs.Layout.{variantAt, actionAt, rewardWords, modelOf, Laid};
+ghost use Rattle.mdp.specs.Runs.{aBackup, call, run};
+ghost use Rattle.planner.specs.Run.{callOf, callsOf, heldIn, Holds, Room, Callable, CutTask, CutTo, Takeable, Taken};
+ghost use Rattle.planner.specs.Parts.{variantProduct, variantAdded, freedUp, actionValue, actionTried, rowOfCalls};
+ghost use Rattle.planner.specs.Backed.{scaleOf, powerAs, Numbers, Powered, BackedUp};
+ghost use Rattle.planner.specs.Steps.{toldAs, Begun, Begins, Given, Wrote, Operands, Scalable};
+ghost use Rattle.planner.specs.Tasks.{Folding, VariantTask, WeightTask, ActionTask, ValueTask, FreeUp, RewardTask, Standing};
+
+// S^(k+1), or that it or k would pass its limit.
+pub enum Power {
+    Next(u64),
+    Ends,
+}
+
+// What a row of calls answers: the result's rows, or the first refusal met.
+pub enum Step {
+    Rows(usize),
+    Refused(Refusal),
+}
+
+// The answer of a combination, as that of a step.
+fn told(r: Combined) -> Step
+    ensures { λ q. ⌜ q ≡ toldAs r ⌝ }
+{
+    match r {
+        Combined::Done(n, _) => Step::Rows(n),
+        Combined::Refused(e) => Step::Refused(e),
+    }
+}
+
+// Combines two listings, names shared.
+fn shared(
+    op: Operation,
+    arities: &[u64],
+    x: &[u64],
+    y: &[u64],
+    out: &mut [u64],
+    work: &mut [u64],
+) -> Step
+    requires { ⌜ Operands (now arities) (now x) (now y) (now out) (now work) ⌝ }
+    ensures { λ r. ⌜ Wrote (now (arities .entry)) (combined op Shared (now (arities .entry)) (diagramOf (now (x .entry))) (diagramOf (now (y .entry)))) r (now (out .entry)) (now (out .exit)) ⌝ }
+{
+    told(combination::combine_shared(op, arities, x, y, out, work))
+}
+
+// Adds two listings, names apart.
+fn sum_apart(arities: &[u64], x: &[u64], y: &[u64], out: &mut [u64], work: &mut [u64]) -> Step
+    requires { ⌜ Operands (now arities) (now x) (now y) (now out) (now work) ⌝ }
+    ensures { λ r. ⌜ Wrote (now (arities .entry)) (combined Sum Apart (now (arities .entry)) (diagramOf (now (x .entry))) (diagramOf (now (y .entry)))) r (now (out .entry)) (now (out .exit)) ⌝ }
+{
+    told(apart::combine_apart(Operation::Sum, arities, x, y, out, work))
+}
+
+// A listing times the leaf v, names shared.
+fn times_leaf(arities: &[u64], x: &[u64], v: u64, out: &mut [u64], work: &mut [u64]) -> Step
+    requires { ⌜ Scalable (now arities) (now x) v (now out) (now work) ⌝ }
+    ensures { λ r. ⌜ Wrote (now (arities .entry)) (combined Product Shared (now (arities .entry)) (diagramOf (now (x .entry))) (leaf v)) r (now (out .entry)) (now (out .exit)) ⌝ }
+{
+    let one = [Label::LEAF, v, 0];
+    shared(Operation::Product, arities, x, &one, out, work)
+}
+
+// Adds y to the listing that the first n rows of the buffer are, names apart.
+fn add_apart(arities: &[u64], buffer: &mut [u64], n: usize, y: &[u64], work: &mut [u64]) -> Step
+    requires { ⌜ Folding (now arities) (now buffer) n (now y) (now work) ⌝ }
+    ensures { λ r. ⌜ Given (now (arities .entry)) (combined Sum Apart (now (arities .entry)) (diagramOf (take (n * 3) (now (buffer .entry)))) (diagramOf (now (y .entry)))) r (now (buffer .exit)) ⌝ }
+{
+    let mut sum = [0u64; diagram::RESULT_WORDS];
+    let r = sum_apart(arities, &buffer[..n * 3], y, &mut sum, work);
+    let Step::Rows(m) = r else {
+        return r;
+    };
+    write::copy(&sum, m, buffer);
+    r
+}
+
+// Takes the max of the listing that the first n rows of the buffer are and y, names shared.
+fn max_shared(arities: &[u64], buffer: &mut [u64], n: usize, y: &[u64], work: &mut [u64]) -> Step
+    requires { ⌜ Folding (now arities) (now buffer) n (now y) (now work) ⌝ }
+    ensures { λ r. ⌜ Given (now (arities .entry)) (combined Max Shared (now (arities .entry)) (diagramOf (take (n * 3) (now (buffer .entry)))) (diagramOf (now (y .entry)))) r (now (buffer .exit)) ⌝ }
+{
+    let mut best = [0u64; diagram::RESULT_WORDS];
+    let r = shared(
+        Operation::Max,
+        arities,
+        &buffer[..n * 3],
+        y,
+        &mut best,
+        work,
+    );
+    let Step::Rows(m) = r else {
+        return r;
+    };
+    write::copy(&best, m, buffer);
+    r
+}
+
+// Writes leaf 0: one row.
+fn begin(out: &mut [u64]) -> usize
+    requires { ⌜ resultWords ≤ length (now out) ⌝ }
+    ensures { λ r. ⌜ Begun r (now (out .exit)) ⌝ }
+{
+    out[0] = Label::LEAF;
+    out[1] = 0;
+    out[2] = 0;
+    1
+}
+
+// The value regressed by the variant at a place of the table.
+fn regress_variant(
+    arities: &[u64],
+    listings: &[u64],
+    table: &[u64],
+    place: usize,
+    value: &[u64],
+    out: &mut [u64],
+    work: &mut [u64],
+) -> Step
+    requires { ⌜ VariantTask (now arities) (now listings) (now table) place (now value) (now out) (now work) ⌝ }
+    ensures { λ r. ⌜ Given (now (arities .entry)) (regressed (now (arities .entry)) (variantAt (now (listings .entry)) (now (table .entry)) place .truths) (diagramOf (now (value .entry)))) r (now (out .exit)) ⌝ }
+{
+    let r = regress::regress_checked(
+        arities,
+        value,
+        listings,
+        &table[place + 2..place + model::VARIANT_WORDS],
+        out,
+        work,
+    );
+    match r {
+        Regressed::Done(n) => Step::Rows(n),
+        Regressed::Refused(e) => Step::Refused(e),
+    }
+}
+
+// The weight of the variant at a place of the table times leaf G, names shared.
+fn weigh(
+    arities: &[u64],
+    listings: &[u64],
+    table: &[u64],
+    place: usize,
+    g: u64,
+    out: &mut [u64],
+    work: &mut [u64],
+) -> Step
+    requires { ⌜ WeightTask (now arities) (now listings) (now table) place g (now out) (now work) ⌝ }
+    ensures { λ r. ⌜ Given (now (arities .entry)) (combined Product Shared (now (arities .entry)) (variantAt (now (listings .entry)) (now (table .entry)) place .weight) (leaf g)) r (now (out .exit)) ⌝ }
+{
+    let start = table[place] as usize;
+    let end = start + table[place + 1] as usize;
+    times_leaf(arities, &listings[start..end], g, out, work)
+}
+
+// The product of these two, names shared.
+fn variant_product(
+    arities: &[u64],
+    listings: &[u64],
+    table: &[u64],
+    place: usize,
+    g: u64,
+    value: &[u64],
+    out: &mut [u64],
+    work: &mut [u64],
+) -> Step
+    requires { ⌜ VariantTask (now arities) (now listings) (now table) place (now value) (now out) (now work) ⌝ }
+    requires { ⌜ g ≤ highestValue ⌝ }
+    ensures { λ r. ⌜ Given (now (arities .entry)) (variantProduct (now (arities .entry)) g (diagramOf (now (value .entry))) (variantAt (now (listings .entry)) (now (table .entry)) place)) r (now (out .exit)) ⌝ }
+{
+    let mut regressed = [0u64; diagram::RESULT_WORDS];
+    let mut weighted = [0u64; diagram::RESULT_WORDS];
+    let a = regress_variant(arities, listings, table, place, value, &mut regressed, work);
+    let Step::Rows(n) = a else {
+        return a;
+    };
+    let b = weigh(arities, listings, table, place, g, &mut weighted, work);
+    let Step::Rows(m) = b else {
+        return b;
+    };
+    shared(
+        Operation::Product,
+        arities,
+        &regressed[..n * 3],
+        &weighted[..m * 3],
+        out,
+        work,
+    )
+}
+
+// Adds a variant's product to the sum that the first n rows of the buffer are, apart.
+fn add_variant(
+    arities: &[u64],
+    listings: &[u64],
+    table: &[u64],
+    place: usize,
+    g: u64,
+    value: &[u64],
+    sum: &mut [u64],
+    n: usize,
+    work: &mut [u64],
+) -> Step
+    requires { ⌜ VariantTask (now arities) (now listings) (now table) place (now value) (now sum) (now work) ⌝ }
+    requires { ⌜ g ≤ highestValue ⌝ }
+    requires { ⌜ Begins (now arities) n (now sum) ⌝ }
+    ensures { λ r. ⌜ Given (now (arities .entry)) (variantAdded (now (arities .entry)) g (diagramOf (now (value .entry))) (diagramOf (take (n * 3) (now (sum .entry)))) (variantAt (now (listings .entry)) (now (table .entry)) place)) r (now (sum .exit)) ⌝ }
+{
+    let mut product = [0u64; diagram::RESULT_WORDS];
+    let a = variant_product(
+        arities,
+        listings,
+        table,
+        place,
+        g,
+        value,
+        &mut product,
+        work,
+    );
+    let Step::Rows(m) = a else {
+        return a;
+    };
+    add_apart(arities, sum, n, &product[..m * 3], work)
+}
+
+// The sum over the variants of an action, begun at leaf 0.
+fn variants_sum(
+    arities: &[u64],
+    listings: &[u64],
+    table: &[u64],
+    action: usize,
+    g: u64,
+    value: &[u64],
+    out: &mut [u64],
+    work: &mut [u64],
+) -> Step
+    requires { ⌜ ActionTask (now arities) (now listings) (now table) action ⌝ }
+    requires { ⌜ ValueTask (now arities) (now value) g (now out) (now work) ⌝ }
+    ensures { λ r. ⌜ Given (now (arities .entry)) (variantsSum (now (arities .entry)) g (diagramOf (now (value .entry))) (leaf 0) (actionAt (now (listings .entry)) (now (table .entry)) action .variants)) r (now (out .exit)) ⌝ }
+{
+    let variants = table[action * model::ACTION_WORDS + 1] as usize;
+    let mut n = begin(out);
+    let mut v = 0;
+    while v < variants {
+        let place = action * model::ACTION_WORDS + 2 + v * model::VARIANT_WORDS;
+        let r = add_variant(arities, listings, table, place, g, value, out, n, work);
+        let Step::Rows(m) = r else {
+            return r;
+        };
+        n = m;
+        v += 1;
+    }
+    Step::Rows(n)
+}
+
+// Frees the parameters of an action that has `count` of them, and closes up.
+fn free_up(arities: &[u64], words: &[u64], count: u64, out: &mut [u64]) -> Step
+    requires { ⌜ FreeUp (now arities) (now words) count (now out) ⌝ }
+    ensures { λ r. ⌜ Given (now (arities .entry)) (freedUp (now (arities .entry)) count (diagramOf (now (words .entry)))) r (now (out .exit)) ⌝ }
+{
+    let r = regress::free_checked(arities, words, count, out);
+    match r {
+        Freed::Done(n) => {
+            apart::close_up(arities, out, n);
+            Step::Rows(n)
+        }
+        Freed::Refused(e) => Step::Refused(e),
+    }
+}
+
+// The sum over the variants of an action, freed and closed up.
+fn action_value(
+    arities: &[u64],
+    listings: &[u64],
+    table: &[u64],
+    action: usize,
+    g: u64,
+    value: &[u64],
+    out: &mut [u64],
+    work: &mut [u64],
+) -> Step
+    requires { ⌜ ActionTask (now arities) (now listings) (now table) action ⌝ }
+    requires { ⌜ ValueTask (now arities) (now value) g (now out) (now work) ⌝ }
+    ensures { λ r. ⌜ Given (now (arities .entry)) (actionValue (now (arities .entry)) g (diagramOf (now (value .entry))) (actionAt (now (listings .entry)) (now (table .entry)) action)) r (now (out .exit)) ⌝ }
+{
+    let mut sum = [0u64; diagram::RESULT_WORDS];
+    let a = variants_sum(arities, listings, table, action, g, value, &mut sum, work);
+    let Step::Rows(n) = a else {
+        return a;
+    };
+    let count = table[action * model::ACTION_WORDS];
+    free_up(arities, &sum[..n * 3], count, out)
+}
+
+// Takes the max of the best so far, which the first n rows of the buffer are, and an action's value, names shared.
+fn try_action(
+    arities: &[u64],
+    listings: &[u64],
+    table: &[u64],
+    action: usize,
+    g: u64,
+    value: &[u64],
+    best: &mut [u64],
+    n: usize,
+    work: &mut [u64],
+) -> Step
+    requires { ⌜ ActionTask (now arities) (now listings) (now table) action ⌝ }
+    requires { ⌜ ValueTask (now arities) (now value) g (now best) (now work) ⌝ }
+    requires { ⌜ Begins (now arities) n (now best) ⌝ }
+    ensures { λ r. ⌜ Given (now (arities .entry)) (actionTried (now (arities .entry)) g (diagramOf (now (value .entry))) (diagramOf (take (n * 3) (now (best .entry)))) (actionAt (now (listings .entry)) (now (table .entry)) action)) r (now (best .exit)) ⌝ }
+{
+    let mut gain = [0u64; diagram::RESULT_WORDS];
+    let a = action_value(arities, listings, table, action, g, value, &mut gain, work);
+    let Step::Rows(m) = a else {
+        return a;
+    };
+    max_shared(arities, best, n, &gain[..m * 3], work)
+}
+
+// The best over the actions, begun at leaf 0.
+fn actions_best(
+    arities: &[u64],
+    listings: &[u64],
+    table: &[u64],
+    head: Head,
+    value: &[u64],
+    out: &mut [u64],
+    work: &mut [u64],
+) -> Step
+    requires { ⌜ Laid (now arities) (now listings) (now table) head ⌝ }
+    requires { ⌜ ValueTask (now arities) (now value) (head .numerator) (now out) (now work) ⌝ }
+    ensures { λ r. ⌜ Given (now (arities .entry)) (actionsBest (now (arities .entry)) (head .numerator) (diagramOf (now (value .entry))) (leaf 0) (modelOf (now (arities .entry)) (now (listings .entry)) (now (table .entry)) head .actions)) r (now (out .exit)) ⌝ }
+{
+    let actions = head.actions;
+    let g = head.numerator;
+    let mut n = begin(out);
+    let mut a = 0;
+    while a < actions {
+        let r = try_action(arities, listings, table, a, g, value, out, n, work);
+        let Step::Rows(m) = r else {
+            return r;
+        };
+        n = m;
+        a += 1;
+    }
+    Step::Rows(n)
+}
+
+// The reward times leaf S^(k+1), names shared.
+fn scale_reward(
+    arities: &[u64],
+    listings: &[u64],
+    head: Head,
+    scale: u64,
+    out: &mut [u64],
+    work: &mut [u64],
+) -> Step
+    requires { ⌜ RewardTask (now arities) (now listings) head scale (now out) (now work) ⌝ }
+    ensures { λ r. ⌜ Given (now (arities .entry)) (combined Product Shared (now (arities .entry)) (diagramOf (rewardWords (now (listings .entry)) head)) (leaf scale)) r (now (out .exit)) ⌝ }
+{
+    let start = head.reward_start;
+    let end = start + head.reward_words;
+    times_leaf(arities, &listings[start..end], scale, out, work)
+}
+
+// The calls of a backup, once 12 is judged: the best over the actions, then the reward times leaf S^(k+1), then the best plus that, apart.
+fn replace_value(
+    arities: &[u64],
+    listings: &[u64],
+    table: &[u64],
+    head: Head,
+    scale: u64,
+    value: &mut [u64],
+    rows: usize,
+    work: &mut [u64],
+) -> Step
+    requires { ⌜ Laid (now arities) (now listings) (now table) head ⌝ }
+    requires { ⌜ Standing (now arities) (now value) rows (now work) ⌝ }
+    requires { ⌜ scale ≤ highestValue ⌝ }
+    ensures { λ r. ⌜ Wrote (now (arities .entry)) (rowOfCalls (modelOf (now (arities .entry)) (now (listings .entry)) (now (table .entry)) head) scale (diagramOf (take (rows * 3) (now (value .entry))))) r (now (value .entry)) (now (value .exit)) ⌝ }
+{
+    let mut best = [0u64; diagram::RESULT_WORDS];
+    let mut reward = [0u64; diagram::RESULT_WORDS];
+    let a = actions_best(
+        arities,
+        listings,
+        table,
+        head,
+        &value[..rows * 3],
+        &mut best,
+        work,
+    );
+    let Step::Rows(n) = a else {
+        return a;
+    };
+    let b = scale_reward(arities, listings, head, scale, &mut reward, work);
+    let Step::Rows(m) = b else {
+        return b;
+    };
+    sum_apart(arities, &best[..n * 3], &reward[..m * 3], value, work)
+}
+
+// What a backup answers: the rows of the new value and S^(k+1), or the first refusal met.
+pub enum Backed {
+    Done(usize, u64),
+    Refused(Refusal),
+}
+
+// k, at most.
+const STEPS: u64 = 1000000000000000000;
+
+// S^(k+1), at most.
+const SCALE: u64 = 1000000000000000000;
+
+// S^(k+1) from S^k, or 12: it is above 10^18, or k is 10^18.
+fn next_power(head: Head, k: u64, power: u64) -> Power
+    requires { ⌜ Numbers head ⌝ }
+    requires { ⌜ Powered head k power ⌝ }
+    ensures { λ r. ⌜ r ≡ powerAs (scaleOf head) k ⌝ }
+{
+    let scale = head.total * head.denominator;
+    if k == STEPS {
+        return Power::Ends;
+    }
+    if power > SCALE / scale {
+        return Power::Ends;
+    }
+    Power::Next(power * scale)
+}
+
+// A backup of the value, whose listing is the first rows of the buffer; `power` is S^k. A refusal changes nothing.
+pub fn backup(
+    arities: &[u64],
+    listings: &[u64],
+    table: &[u64],
+    head: Head,
+    k: u64,
+    power: u64,
+    value: &mut [u64],
+    rows: usize,
+    work: &mut [u64],
+) -> Backed
+    requires { ⌜ Laid (now arities) (now listings) (now table) head ⌝ }
+    requires { ⌜ Standing (now arities) (now value) rows (now work) ⌝ }
+    requires { ⌜ Powered head k power ⌝ }
+    ensures { λ r. ⌜ BackedUp (now (arities .entry)) (modelOf (now (arities .entry)) (now (listings .entry)) (now (table .entry)) head) k (diagramOf (take (rows * 3) (now (value .entry)))) r (now (value .entry)) (now (value .exit)) ⌝ }
+{
+    let p = next_power(head, k, power);
+    let Power::Next(scale) = p else {
+        return Backed::Refused(Refusal::Scale);
+    };
+    let r = replace_value(arities, listings, table, head, scale, value, rows, work);
+    match r {
+        Step::Rows(n) => Backed::Done(n, scale),
+        Step::Refused(e) => Backed::Refused(e),
+    }
+}
+
+// What a run holds beside the value's listing: its rows, k and S^k.
+pub struct Held {
+    pub rows: usize,
+    pub steps: u64,
+    pub power: u64,
+}
+
+// A backup of what is held: an accepted one replaces the value and adds 1 to k, a refused one leaves both.
+fn call_backup(
+    arities: &[u64],
+    listings: &[u64],
+    table: &[u64],
+    head: Head,
+    held: Held,
+    value: &mut [u64],
+    work: &mut [u64],
+) -> Held
+    requires { ⌜ Laid (now arities) (now listings) (now table) head ⌝ }
+    requires { ⌜ Callable (now arities) (modelOf (now arities) (now listings) (now table) head) held (now value) ⌝ }
+    requires { ⌜ Room (now value) (now work) ⌝ }
+    ensures { λ h. ⌜ Holds (now (arities .entry)) (modelOf (now (arities .entry)) (now (listings .entry)) (now (table .entry)) head) (call (modelOf (now (arities .entry)) (now (listings .entry)) (now (table .entry)) head) aBackup (heldIn held (now (value .entry)))) h (now (value .exit)) ⌝ }
+{
+    let k = held.steps;
+    let power = held.power;
+    let rows = held.rows;
+    let r = backup(arities, listings, table, head, k, power, value, rows, work);
+    match r {
+        Backed::Done(n, next) => Held {
+            rows: n,
+            steps: k + 1,
+            power: next,
+        },
+        Backed::Refused(_) => held,
+    }
+}
+
+// A cut of what is held: an accepted one replaces the value, a refused one leaves it.
+fn call_cut(arities: &[u64], held: Held, value: &mut [u64], work: &mut [u64]) -> Held
+    requires { ⌜ CutTask (now arities) held (now value) (now work) ⌝ }
+    ensures { λ h. ⌜ CutTo (now (arities .entry)) held (now (value .entry)) h (now (value .exit)) ⌝ }
+{
+    let mut left = [0u64; diagram::RESULT_WORDS];
+    let rows = held.rows;
+    let steps = held.steps;
+    let power = held.power;
+    let r = trim::cut_checked(arities, &value[..rows * 3], &mut left, work);
+    let Cut::Done(_, _, n) = r else {
+        return held;
+    };
+    write::copy(&left, n, value);
+    Held {
+        rows: n,
+        steps: steps,
+        power: power,
+    }
+}
+
+// A call: 0 is a backup, any other number a cut.
+fn call(
+    arities: &[u64],
+    listings: &[u64],
+    table: &[u64],
+    head: Head,
+    what: u8,
+    held: Held,
+    value: &mut [u64],
+    work: &mut [u64],
+) -> Held
+    requires { ⌜ Laid (now arities) (now listings) (now table) head ⌝ }
+    requires { ⌜ Callable (now arities) (modelOf (now arities) (now listings) (now table) head) held (now value) ⌝ }
+    requires { ⌜ Room (now value) (now work) ⌝ }
+    ensures { λ h. ⌜ Holds (now (arities .entry)) (modelOf (now (arities .entry)) (now (listings .entry)) (now (table .entry)) head) (call (modelOf (now (arities .entry)) (now (listings .entry)) (now (table .entry)) head) (callOf what) (heldIn held (now (value .entry)))) h (now (value .exit)) ⌝ }
+{
+    if what == 0 {
+        return call_backup(arities, listings, table, head, held, value, work);
+    }
+    call_cut(arities, held, value, work)
+}
+
+// Writes the reward's listing to the value's buffer; its rows.
+fn take_reward(listings: &[u64], head: Head, value: &mut [u64]) -> usize
+    requires { ⌜ Takeable (now listings) head (now value) ⌝ }
+    ensures { λ r. ⌜ Taken (now (listings .entry)) head r (now (value .exit)) ⌝ }
+{
+    let start = head.reward_start;
+    let words = head.reward_words;
+    let rows = words / 3;
+    write::copy(&listings[start..start + words], rows, value);
+    rows
+}
+
+// A run of backups and cuts, begun with the model's reward and k = 0: 0 is a backup, any other number a cut. The value's listing is then in its buffer.
+pub fn run(
+    arities: &[u64],
+    listings: &[u64],
+    table: &[u64],
+    head: Head,
+    calls: &[u8],
+    value: &mut [u64],
+    work: &mut [u64],
+) -> Held
+    requires { ⌜ Laid (now arities) (now listings) (now table) head ⌝ }
+    requires { ⌜ Room (now value) (now work) ⌝ }
+    ensures { λ h. ⌜ Holds (now (arities .entry)) (modelOf (now (arities .entry)) (now (listings .entry)) (now (table .entry)) head) (run (modelOf (now (arities .entry)) (now (listings .entry)) (now (table .entry)) head) (callsOf (now (calls .entry)))) h (now (value .exit)) ⌝ }
+{
+    let mut rows = take_reward(listings, head, value);
+    let mut steps = 0;
+    let mut power = 1;
+    let mut i = 0;
+    while i < calls.len() {
+        let held = call(
+            arities,
+            listings,
+            table,
+            head,
+            calls[i],
+            Held {
+                rows: rows,
+                steps: steps,
+                power: power,
+            },
+            value,
+            work,
+        );
+        rows = held.rows;
+        steps = held.steps;
+        power = held.power;
+        i += 1;
+    }
+    Held {
+        rows: rows,
+        steps: steps,
+        power: power,
+    }
+}
