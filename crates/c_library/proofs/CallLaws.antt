@@ -12,14 +12,20 @@ use Rattle.apply.specs.declared.Names.{Names}
 use Rattle.apply.specs.declared.Combined.{Combined}
 use Rattle.apply.specs.declared.Combined.the-variants.{Done as CombinedDone, Refused as CombinedRefused}
 use Rattle.apply.specs.Combination.{combineAnswer, combineResult}
+use Rattle.regress.specs.declared.Regressed.{Regressed}
+use Rattle.regress.specs.declared.Regressed.the-variants.{Done as RegressedDone, Refused as RegressedRefused}
 use Rattle.regress.specs.declared.Freed.{Freed}
 use Rattle.regress.specs.declared.Freed.the-variants.{Done as FreedDone, Refused as FreedRefused}
-use Rattle.regress.specs.RegressCall.{freeAnswer, freeResult}
+use Rattle.regress.specs.RegressCall.{regressAnswer, regressResult, freeAnswer, freeResult}
+use Rattle.cut.specs.declared.Edge.{Edge}
+use Rattle.cut.specs.declared.Cut.{Cut}
+use Rattle.cut.specs.declared.Cut.the-variants.{Done as CutDone, Refused as CutRefused}
+use Rattle.cut.specs.Cut.{cutAnswer, cutBuffer}
 use Rattle.state.specs.declared.Valued.{Valued}
 use Rattle.state.specs.declared.Valued.the-variants.{Value, Refused as ValuedRefused}
 use Rattle.state.specs.ValueCall.{valueAnswer}
-use Rattle.c_library.specs.Answers.{combinedNumber, combinedRows, combinedPairs, freedNumber, freedRows, valuedNumber, valuedValue, listingNumber}
-use Rattle.c_library.specs.Calls.{Combines, Frees, Values}
+use Rattle.c_library.specs.Answers.{combinedNumber, combinedRows, combinedPairs, regressedNumber, regressedRows, freedNumber, freedRows, cutNumber, cutRow, edgeNumber, cutEdge, cutRows, valuedNumber, valuedValue, listingNumber}
+use Rattle.c_library.specs.Calls.{Combines, Regresses, Frees, Cuts, Values}
 
 module _ {op : Operation} {names : Names} {ar x y out work : List ℕ} (rows pairs : ℕ) {a : Combined} {out′ : List ℕ}
     (q : a ≡ combineAnswer op names ar x y (length out) (length work)) (b : out′ ≡ combineResult op names ar x y (length work) out) where
@@ -37,6 +43,34 @@ module _ {op : Operation} {names : Names} {ar x y out work : List ℕ} (rows pai
     buffer = b;
     row-count = ap (λ (z : Combined). combinedRows z rows) (sym e ∙ q);
     pair-count = ap (λ (z : Combined). combinedPairs z pairs) (sym e ∙ q);
+  }
+
+module _ {ar value truths spans out work : List ℕ} (rows : ℕ) {a : Regressed} {out′ : List ℕ}
+    (q : a ≡ regressAnswer ar value truths spans (length out) (length work)) (b : out′ ≡ regressResult ar value truths spans (length work) out) where
+  pub regressed-done : {n : ℕ} → a ≡ RegressedDone n → Regresses ar value truths spans out work rows 0 out′ n
+  regressed-done e = record { answer = ap regressedNumber (sym e ∙ q); buffer = b; row-count = ap (λ (z : Regressed). regressedRows z rows) (sym e ∙ q) }
+
+  pub regressed-refused : {why : Refusal} {k : ℕ} → a ≡ RegressedRefused why → k ≡ numberOf why → Regresses ar value truths spans out work rows k out′ rows
+  regressed-refused e h = record { answer = h ∙ ap regressedNumber (sym e ∙ q); buffer = b; row-count = ap (λ (z : Regressed). regressedRows z rows) (sym e ∙ q) }
+
+module _ {ar words out work : List ℕ} (row edge rows : ℕ) {a : Cut} {out′ : List ℕ}
+    (q : a ≡ cutAnswer ar words (length out) (length work)) (b : out′ ≡ cutBuffer ar words out (length work)) where
+  pub cut-done : {k n g : ℕ} {e : Edge} → a ≡ CutDone k e n → g ≡ edgeNumber e → Cuts ar words out work row edge rows 0 out′ k g n
+  cut-done h i = record {
+    answer = ap cutNumber (sym h ∙ q);
+    buffer = b;
+    row-cut = ap (λ (z : Cut). cutRow z row) (sym h ∙ q);
+    edge-cut = i ∙ ap (λ (z : Cut). cutEdge z edge) (sym h ∙ q);
+    row-count = ap (λ (z : Cut). cutRows z rows) (sym h ∙ q);
+  }
+
+  pub cut-refused : {why : Refusal} {k : ℕ} → a ≡ CutRefused why → k ≡ numberOf why → Cuts ar words out work row edge rows k out′ row edge rows
+  cut-refused e h = record {
+    answer = h ∙ ap cutNumber (sym e ∙ q);
+    buffer = b;
+    row-cut = ap (λ (z : Cut). cutRow z row) (sym e ∙ q);
+    edge-cut = ap (λ (z : Cut). cutEdge z edge) (sym e ∙ q);
+    row-count = ap (λ (z : Cut). cutRows z rows) (sym e ∙ q);
   }
 
 module _ {ar words : List ℕ} {count : ℕ} {out work : List ℕ} (rows : ℕ) {a : Freed} {out′ : List ℕ}

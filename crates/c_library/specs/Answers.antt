@@ -6,8 +6,14 @@ use Rattle.refusal.specs.Numbers.{numberOf}
 use Rattle.refusal.specs.declared.Refusal.the-variants.{Listing}
 use Rattle.apply.specs.declared.Combined.{Combined}
 use Rattle.apply.specs.declared.Combined.the-variants.{Done as CombinedDone, Refused as CombinedRefused}
+use Rattle.regress.specs.declared.Regressed.{Regressed}
+use Rattle.regress.specs.declared.Regressed.the-variants.{Done as RegressedDone, Refused as RegressedRefused}
 use Rattle.regress.specs.declared.Freed.{Freed}
 use Rattle.regress.specs.declared.Freed.the-variants.{Done as FreedDone, Refused as FreedRefused}
+use Rattle.cut.specs.declared.Edge.{Edge}
+use Rattle.cut.specs.declared.Edge.the-variants.{True, False}
+use Rattle.cut.specs.declared.Cut.{Cut}
+use Rattle.cut.specs.declared.Cut.the-variants.{Done as CutDone, Refused as CutRefused}
 use Rattle.state.specs.declared.Valued.{Valued}
 use Rattle.state.specs.declared.Valued.the-variants.{Value, Refused as ValuedRefused}
 
@@ -24,6 +30,15 @@ abbrev pub combinedPairs : Combined → ℕ → ℕ
 combinedPairs (CombinedDone n p) before = p
 combinedPairs (CombinedRefused r) before = before
 
+-- a regression: its number and its rows
+abbrev pub regressedNumber : Regressed → ℕ
+regressedNumber (RegressedDone n) = 0
+regressedNumber (RegressedRefused r) = numberOf r
+
+abbrev pub regressedRows : Regressed → ℕ → ℕ
+regressedRows (RegressedDone n) before = n
+regressedRows (RegressedRefused r) before = before
+
 -- freeing: its number and its rows
 abbrev pub freedNumber : Freed → ℕ
 freedNumber (FreedDone n) = 0
@@ -32,6 +47,27 @@ freedNumber (FreedRefused r) = numberOf r
 abbrev pub freedRows : Freed → ℕ → ℕ
 freedRows (FreedDone n) before = n
 freedRows (FreedRefused r) before = before
+
+-- a cut: its number, the row and the edge that went (1 for the true edge, 0 for the false one) and the rows left
+abbrev pub cutNumber : Cut → ℕ
+cutNumber (CutDone k e n) = 0
+cutNumber (CutRefused r) = numberOf r
+
+abbrev pub cutRow : Cut → ℕ → ℕ
+cutRow (CutDone k e n) before = k
+cutRow (CutRefused r) before = before
+
+abbrev pub edgeNumber : Edge → ℕ
+edgeNumber True = 1
+edgeNumber False = 0
+
+abbrev pub cutEdge : Cut → ℕ → ℕ
+cutEdge (CutDone k e n) before = edgeNumber e
+cutEdge (CutRefused r) before = before
+
+abbrev pub cutRows : Cut → ℕ → ℕ
+cutRows (CutDone k e n) before = n
+cutRows (CutRefused r) before = before
 
 -- valuing: its number and the value
 abbrev pub valuedNumber : Valued → ℕ

@@ -6,9 +6,10 @@ use lib.ListN.{length}
 use Rattle.apply.specs.declared.Operation.{Operation}
 use Rattle.apply.specs.declared.Names.{Names}
 use Rattle.apply.specs.Combination.{combineAnswer, combineResult}
-use Rattle.regress.specs.RegressCall.{freeAnswer, freeResult}
+use Rattle.regress.specs.RegressCall.{regressAnswer, regressResult, freeAnswer, freeResult}
+use Rattle.cut.specs.Cut.{cutAnswer, cutBuffer}
 use Rattle.state.specs.ValueCall.{valueAnswer}
-use Rattle.c_library.specs.Answers.{combinedNumber, combinedRows, combinedPairs, freedNumber, freedRows, valuedNumber, valuedValue}
+use Rattle.c_library.specs.Answers.{combinedNumber, combinedRows, combinedPairs, regressedNumber, regressedRows, freedNumber, freedRows, cutNumber, cutRow, cutEdge, cutRows, valuedNumber, valuedValue}
 
 -- a combination of x and y; r is the answer, and a dash marks what is lent after the call
 pub record Combines (op : Operation) (names : Names) (ar x y out work : List ℕ) (rows pairs r : ℕ) (out′ : List ℕ) (rows′ pairs′ : ℕ) : Type 0 where
@@ -17,11 +18,25 @@ pub record Combines (op : Operation) (names : Names) (ar x y out work : List ℕ
   pub row-count : rows′ ≡ combinedRows (combineAnswer op names ar x y (length out) (length work)) rows
   pub pair-count : pairs′ ≡ combinedPairs (combineAnswer op names ar x y (length out) (length work)) pairs
 
+-- the regression of a value listing under truth diagrams
+pub record Regresses (ar value truths spans out work : List ℕ) (rows r : ℕ) (out′ : List ℕ) (rows′ : ℕ) : Type 0 where
+  pub answer : r ≡ regressedNumber (regressAnswer ar value truths spans (length out) (length work))
+  pub buffer : out′ ≡ regressResult ar value truths spans (length work) out
+  pub row-count : rows′ ≡ regressedRows (regressAnswer ar value truths spans (length out) (length work)) rows
+
 -- freeing the parameters of an action that has `count` of them
 pub record Frees (ar words : List ℕ) (count : ℕ) (out work : List ℕ) (rows r : ℕ) (out′ : List ℕ) (rows′ : ℕ) : Type 0 where
   pub answer : r ≡ freedNumber (freeAnswer ar words count (length out) (length work))
   pub buffer : out′ ≡ freeResult ar words count (length work) out
   pub row-count : rows′ ≡ freedRows (freeAnswer ar words count (length out) (length work)) rows
+
+-- a cut of a listing
+pub record Cuts (ar words out work : List ℕ) (row edge rows r : ℕ) (out′ : List ℕ) (row′ edge′ rows′ : ℕ) : Type 0 where
+  pub answer : r ≡ cutNumber (cutAnswer ar words (length out) (length work))
+  pub buffer : out′ ≡ cutBuffer ar words out (length work)
+  pub row-cut : row′ ≡ cutRow (cutAnswer ar words (length out) (length work)) row
+  pub edge-cut : edge′ ≡ cutEdge (cutAnswer ar words (length out) (length work)) edge
+  pub row-count : rows′ ≡ cutRows (cutAnswer ar words (length out) (length work)) rows
 
 -- valuing a listing in a state of n objects
 pub record Values (ar words : List ℕ) (n : ℕ) (constants facts : List ℕ) (value r value′ : ℕ) : Type 0 where
