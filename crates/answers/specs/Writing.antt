@@ -1,4 +1,4 @@
--- Bytes written into a lent buffer at a place.
+-- Bytes written into a lent buffer at a place: an answer that has no room is not written (document 01, section 'A run, whole').
 use Prim.Native.Nat.{ℕ, _+_, _*_, _≤_}
 use mathlib.Core.Path.{_≡_}
 use mathlib.Core.Bool.{Bool, true, false, cond}

@@ -1,4 +1,5 @@
--- The operations that a diagram's words are turned into, in the order of the words, and a machine with two stacks that runs them.
+-- The operations that a diagram's words are turned into, in the order of the words, and a machine with two stacks that runs them (document 01, section
+-- 'Text': 'read as the row step above when it closes'). It builds what `readDiagram` reads (`build-reading`).
 use mathlib.Core.Bool.{true, false}
 use mathlib.Core.List.{List, [], _∷_, _++_}
 use Prim.Native.Nat.{ℕ, zero, suc, _+_, _*_}
@@ -23,7 +24,7 @@ unfoldable pub opsOf : Reading → List Op
 opsOf (number v) = leafOp v ∷ []
 opsOf (branch t h f) = ask t ∷ (opsOf h ++ (opsOf f ++ (step ∷ [])))
 
--- 64 brackets open together at most
+-- 64 brackets open together at most: a test waits for each (if ..) that is open, and a true part's result for each of them, besides the last result
 abbrev pub mostTests : ℕ
 mostTests = 64
 

@@ -1,4 +1,5 @@
--- The machine in lent words: the places of the tests asked and the rows of the results given, and the working space.
+-- The machine in lent words: the places of the tests asked and the rows of the results given, and the working space (document 01, sections 'Text' and
+-- 'Combination').
 use mathlib.Core.Path.{_≡_}
 use mathlib.Core.Bool.{Bool, true, false}
 use mathlib.Core.List.{List, [], _∷_}
