@@ -1,12 +1,11 @@
 -- The search over two stored paths answers whether one covers the other.
-use mathlib.Core.Path.{_≡_, refl, sym, ap, subst, _∙_}
+use mathlib.Core.Path.{_≡_, sym, ap, subst, _∙_}
 use mathlib.Core.Bool.{Bool, true}
-use mathlib.Core.List.{List, _++_, List·Memᴰ}
+use mathlib.Core.List.{List, List·Memᴰ}
 use Prim.Native.Nat.{ℕ, _+_, _-_, _≤_, _<_}
 use native.Mathlib.Omega.{arith}
-use lib.ListN.{length, getD, take, drop, replicate, length-take, length-drop, length-replicate, getD-replicate}
+use lib.ListN.{length, getD, take, drop, replicate, length-take, length-replicate, getD-replicate}
 use lib.Seq.{length-take-le, take-add, drop-at, getD-take}
-use Rattle.label.specs.Limits.{termBase}
 use Rattle.label.specs.Labels.{areArities}
 use Rattle.diagram.specs.Validity.{tree}
 use Rattle.diagram.specs.ListingValid.{listing-is-valid}
@@ -38,12 +37,12 @@ module _ {into from : List ℕ} {a b : ℕ} (g : BothStored into a from b) where
   }
 
   -- the literals behind the marks
-  pub into-literals : literalsIn (drop 64 (take (64 + a) into)) ≡ literalsIn (take a (drop 64 into))
+  into-literals : literalsIn (drop 64 (take (64 + a) into)) ≡ literalsIn (take a (drop 64 into))
   into-literals =
       ap literalsIn (ap (drop 64) (take-add 64 a into) ∙ drop-at (take 64 into) (take a (drop 64 into)) 64 (length-take-le 64 into (omega (arith, g .into-room))))
 
   module _ (ar : List ℕ) (p : Path) (sp : Stored ar p into a) where
-    pub into-marks : Marks ar (λ t. getD (take (64 + a) into) t 0) (literals p)
+    into-marks : Marks ar (λ t. getD (take (64 + a) into) t 0) (literals p)
     into-marks = record { has = has; of = of }
       where
         same : (t : ℕ) → t < 64 → getD (take (64 + a) into) t 0 ≡ getD into t 0

@@ -2,13 +2,12 @@
 use mathlib.Core.Path.{_≡_, refl, sym, ap, ap₂, subst, _∙_, fun-ext}
 use mathlib.Core.Logic.{_⊎_, inl, inr}
 use mathlib.Core.Bool.{Bool, true, false}
-use mathlib.Core.List.{List, [], _∷_, _++_, map, List·Memᴰ, Memᴰ·append-left, Memᴰ·append-right, List·Memᴰ·append-cases, List·Memᴰ·not-nil, List·Memᴰ·head, List·Memᴰ·tail}
-use mathlib.Core.Option.{Option, some, none}
-use Prim.Native.Nat.{ℕ, zero, suc, _+_, _-_, _*_, _≤_, _<_}
+use mathlib.Core.List.{List, [], _∷_, _++_, List·Memᴰ, Memᴰ·append-left, Memᴰ·append-right, List·Memᴰ·append-cases, List·Memᴰ·not-nil, List·Memᴰ·head, List·Memᴰ·tail}
+use mathlib.Core.Option.{some, none}
+use Prim.Native.Nat.{ℕ, _+_, _-_, _*_, _≤_, _<_}
 use native.Mathlib.Omega.{arith}
-use lib.ListN.{length, getD, take, drop}
+use lib.ListN.{length, getD, drop}
 use lib.Seq.{take-all}
-use lib.Dec.{ltb, leb}
 use borrow.Author.Tests.{lt-ltb, le-ltb, le-leb, lt-leb}
 use Rattle.basics.specs.Tests.{Cmp, cmp, below, equal, above}
 use Rattle.label.specs.Terms.{isVariable}
@@ -16,8 +15,8 @@ use Rattle.label.specs.Labels.{areArities, unpacked, termsOf}
 use Rattle.cut.specs.Paths.{Literal, Path, literals, termsIn}
 use Rattle.cut.specs.Match.{Partial, pickOption, start, matches}
 use Rattle.cut.specs.Cut.{covers}
-use Rattle.cut.specs.MatchLaws.{AllLabels, Searchable, in-terms, matches-order}
-use Rattle.cut.specs.CoverLaws.{PathLabels, in-small, searchable}
+use Rattle.cut.specs.MatchLaws.{Searchable, in-terms, matches-order}
+use Rattle.cut.specs.CoverLaws.{PathLabels, searchable}
 use Rattle.cut.specs.Stored.{Marks, Ready, PartPost}
 use Rattle.cut.specs.Search.{literalsIn, segment, known, Replacing, Tabled, Setting, Inside, SolvePost, Unplaced, Placing}
 use Rattle.cut.proofs.WayLaws.{known-some, known-none, known-past}
@@ -126,7 +125,7 @@ module _ (ar : List ℕ) (good : areArities ar ≡ true) (p q : Path) (np : Path
   abbrev pub bothTerms : List ℕ
   bothTerms = termsIn ar (literals p) ++ termsIn ar (literals q)
 
-  pub covers-searchable : Searchable ar (literals p) bothTerms
+  covers-searchable : Searchable ar (literals p) bothTerms
   covers-searchable = searchable ar (literals p) (literals q) good (np .each)
 
   -- the first path's literals stand behind their terms' marks, some of the second's in ord, the marks of its terms behind tab's first places

@@ -1,11 +1,10 @@
 -- Literals that share no variable match exactly if each of them match.
 use mathlib.Core.Path.{_≡_, refl, sym, ap, ap₂, subst, _∙_}
 use mathlib.Core.Logic.{_⊎_, inl, inr}
-use mathlib.Core.Bool.{Bool, true, false, _||_}
+use mathlib.Core.Bool.{Bool, true, false}
 use mathlib.Core.List.{List, [], _∷_, _++_, map, List·Memᴰ, List·Memᴰ·head, List·Memᴰ·tail, List·Memᴰ·append-cases}
-use mathlib.Core.Option.{Option, some, none}
-use Prim.Native.Nat.{ℕ, _<_}
-use native.Mathlib.Omega.{arith}
+use mathlib.Core.Option.{some}
+use Prim.Native.Nat.{ℕ}
 use lib.Dec.{eqb}
 use borrow.Author.Tests.{eqb-true, eq-eqb}
 use Rattle.basics.specs.Tests.{Flag, isTrue, isFalse, flag, Either, one, other, either, or-one, or-other}
@@ -18,6 +17,7 @@ use Rattle.cut.specs.Match.{start, matches}
 use Rattle.cut.specs.Cut.{Matched, plain, found}
 use Rattle.cut.specs.MovedLaws.{asks, moved-asks}
 use Rattle.cut.specs.MatchLaws.{Searchable, Solves, matches-sound, matches-complete, in-terms}
+use Rattle.cut.specs.CoverLaws.{start-other}
 use Rattle.cut.specs.Search.{pickNat}
 use Rattle.cut.proofs.CoversLaws.{of-terms}
 
@@ -51,10 +51,6 @@ true-mem t (u ∷ ts) e = go (either (eqb t u) (mem eqb t ts) e) (true-mem t ts)
     go (one q) rec = List·Memᴰ·head (eqb-true t u q)
     go (other q) rec = List·Memᴰ·tail (rec q)
 
-start-fixed : (t : ℕ) → isVariable t ≡ false → start t ≡ some t
-unfolding start
-start-fixed t e = rw e
-
 module _ (ar : List ℕ) (ls : List Literal) (T : List ℕ) (ok : Searchable ar ls T) where
   -- fewer literals match too
   pub matches-fewer : (qs rs : List Literal) → ((l : Literal) → List·Memᴰ l rs → List·Memᴰ l qs) → matches ar ls T qs start ≡ true → matches ar ls T rs start ≡ true
@@ -87,7 +83,7 @@ module _ (ar : List ℕ) (ls : List Literal) (T : List ℕ) (ok : Searchable ar 
           go (isFalse q) = sym (ap (λ (b : Bool). pickNat b (s .σ t) (u .σ t)) q)
           go (isTrue q) =
               let o = of-terms ar qs t (true-mem t (termsIn ar qs) q) in
-              let f = start-fixed t (apart (o .0) l (o .1) n t (o .2) i) in
+              let f = start-other t (apart (o .0) l (o .1) n t (o .2) i) in
               u .extends .known t t f ∙ sym (s .extends .known t t f) ∙ sym (ap (λ (b : Bool). pickNat b (s .σ t) (u .σ t)) q)
 
       image : (l : Literal) → List·Memᴰ l (qs ++ rs) → (t : ℕ) → List·Memᴰ t (termsOf ar (unpacked (l .label))) → List·Memᴰ (σ t) T

@@ -1,15 +1,14 @@
 -- Marking the terms of literals, and the tables that a search starts from.
-use mathlib.Core.Path.{_≡_, refl, sym, ap, ap₂, subst, _∙_}
+use mathlib.Core.Path.{_≡_, refl, sym, ap, subst, _∙_}
 use mathlib.Core.Logic.{_⊎_, inl, inr}
-use mathlib.Core.Bool.{Bool, true, false}
 use mathlib.Core.List.{List, [], _∷_, List·Memᴰ, List·Memᴰ·head, List·Memᴰ·tail}
-use Prim.Native.Nat.{ℕ, zero, suc, _+_, _-_, _/_, _%_, _≤_, _<_}
+use Prim.Native.Nat.{ℕ, _+_, _-_, _/_, _%_, _≤_, _<_}
 use native.Mathlib.Omega.{arith}
 use lib.ListN.{length, getD, set, take, drop, length-set}
 use lib.Seq.{getD-set-same, getD-set-other, take-all, drop-set-lt, getD-drop}
 use Rattle.basics.specs.Tests.{Cmp, cmp, below, equal, above}
 use Rattle.label.specs.Limits.{termBase, firstVariable, predicateWeight, firstWeight, secondWeight, thirdWeight}
-use Rattle.label.specs.Labels.{areArities, unpacked, termsOf}
+use Rattle.label.specs.Labels.{unpacked, termsOf}
 use Rattle.label.specs.LabelLaws.{label-fits}
 use Rattle.label.proofs.CodeLaws.{under-all}
 use Rattle.listing.specs.Used.{marked}
@@ -54,7 +53,7 @@ module _ (ar ms : List ℕ) (x : ℕ) where
 abbrev AllTerms : List ℕ → Type 0
 AllTerms ts = (t : ℕ) → List·Memᴰ t ts → t < termBase
 
-pub code-terms : (ar : List ℕ) (x : ℕ) → AllTerms (termsOfCode ar x)
+code-terms : (ar : List ℕ) (x : ℕ) → AllTerms (termsOfCode ar x)
 unfolding termsOfCode
 code-terms ar x t w = terms-below ar (x / 2) t w
 

@@ -1,7 +1,7 @@
 -- The order in which literals are taken, and where a part ends.
 use mathlib.Core.Path.{_≡_, refl, sym, ap, subst, _∙_}
 use mathlib.Core.Bool.{Bool, true, false, not, _&&_, _||_}
-use mathlib.Core.List.{List, [], _∷_, List·Memᴰ, List·Memᴰ·head, List·Memᴰ·tail}
+use mathlib.Core.List.{List, List·Memᴰ, List·Memᴰ·head, List·Memᴰ·tail}
 use Prim.Native.Nat.{ℕ, zero, suc, _+_, _*_, _/_, _%_, _≤_, _<_}
 use native.Mathlib.Omega.{arith}
 use lib.ListN.{length, getD, set, replicate, length-set, length-replicate, getD-replicate}
@@ -59,7 +59,7 @@ module _ (seen : List ℕ) (x : ℕ) {a : Bool} (p : a ≡ isSeen seen (x / 2 / 
       shares-4 g s = s ∙ rw (sym p ∙ e, sym q ∙ f, sym r ∙ g)
 
 -- a literal that shares no seen variable
-pub shares-none : (seen : List ℕ) (x : ℕ) → shares seen x ≡ false → (j : ℕ) → 32 ≤ placeOf (x / 2) j → getD seen (placeOf (x / 2) j) 0 ≡ 0
+shares-none : (seen : List ℕ) (x : ℕ) → shares seen x ≡ false → (j : ℕ) → 32 ≤ placeOf (x / 2) j → getD seen (placeOf (x / 2) j) 0 ≡ 0
 unfolding shares
 shares-none seen x e zero h = seen-none seen _ (or-left (isSeen seen (placeOf (x / 2) 0)) _ e) h
 shares-none seen x e (suc zero) h =
@@ -72,6 +72,9 @@ shares-none seen x e (suc (suc (suc j))) h =
     (or-right (isSeen seen (placeOf (x / 2) 2)) _ (or-right (isSeen seen (placeOf (x / 2) 1)) _ (or-right (isSeen seen (placeOf (x / 2) 0)) _ e))) h
 
 -- ===== rank =====
+pub rank-known : (seen : List ℕ) (x : ℕ) → Ranked seen x 0
+rank-known seen x = record { most = omega arith; strangers = λ k. absurd (omega arith) }
+
 module _ (seen : List ℕ) (x : ℕ) {n : ℕ} (h : n ≤ 4) where
   pub rank-strange : {b : Bool} → b ≡ shares seen x → not b ≡ true → Ranked seen x (100 + n * 2)
   rank-strange p e = record { most = omega arith; strangers = λ k. sym p ∙ untaken e }
@@ -122,6 +125,9 @@ module _ {ord seen : List ℕ} {k i at low : ℕ} (c : Choosing ord seen k i at 
     strangers = λ m j a b. more m (omega arith) j a b (cmp j i);
   }
 
+pub choosing-known : {ord seen : List ℕ} {k i at low : ℕ} → Choosing ord seen k i at low → i < length ord → Best ord seen k (record { at = i; rank = 0 })
+choosing-known c h = record { from = c .from; below = h; strangers = λ l. absurd (omega arith) }
+
 pub choosing-end : {ord seen : List ℕ} {k i at low : ℕ} → Choosing ord seen k i at low → length ord ≤ i → Best ord seen k (record { at = at; rank = low })
 choosing-end c h = record { from = c .at-from; below = c .at-below; strangers = λ l. record { each = λ j a b. c .strangers l j a (omega arith) } }
 
@@ -142,9 +148,6 @@ pub take-room : {ord seen : List ℕ} {k at : ℕ} → Takable ord seen k at →
 take-room {ord} {seen} {k} {at} g v = omega (arith, g .from, g .below, length-set ord at v)
 
 module _ {ord seen : List ℕ} {k at : ℕ} (g : Takable ord seen k at) where
-  one : List ℕ
-  one = set ord at (getD ord k 0)
-
   abbrev swapped : List ℕ
   swapped = set (set ord at (getD ord k 0)) k (getD ord at 0)
 
@@ -157,7 +160,7 @@ module _ {ord seen : List ℕ} {k at : ℕ} (g : Takable ord seen k at) where
   at-at : (at ≡ k → ⊥) → getD swapped at 0 ≡ getD ord k 0
   at-at a = getD-set-other (set ord at (getD ord k 0)) k at (getD ord at 0) 0 a ∙ getD-set-same ord at (getD ord k 0) 0 (g .below)
 
-  pub swap-reordered : Reordered k ord swapped
+  swap-reordered : Reordered k ord swapped
   swap-reordered = record {
     length-same = length-set (set ord at (getD ord k 0)) k (getD ord at 0) ∙ length-set ord at (getD ord k 0);
     front = λ i h. at-other i (omega arith) (omega (arith, g .from));

@@ -1,16 +1,15 @@
 -- The search of all parts: each matches by itself exactly if all of them match together.
-use mathlib.Core.Path.{_≡_, refl, sym, ap, ap₂, subst, _∙_}
+use mathlib.Core.Path.{_≡_, refl, sym, ap, subst, _∙_}
 use mathlib.Core.Bool.{Bool, true, false, not}
-use mathlib.Core.List.{List, [], _∷_, _++_, map, List·Memᴰ, List·Memᴰ·head, List·Memᴰ·tail, List·Memᴰ·not-nil}
+use mathlib.Core.List.{List, [], _∷_, _++_, List·Memᴰ, List·Memᴰ·head, List·Memᴰ·tail, List·Memᴰ·not-nil}
 use Prim.Native.Nat.{ℕ, zero, suc, _+_, _-_, _/_, _≤_, _<_}
 use native.Mathlib.Omega.{arith}
 use lib.ListN.{length, getD, take, drop, replicate, length-take, length-drop, length-replicate}
 use lib.Seq.{take-add, take-all, getD-take, getD-drop}
 use Rattle.basics.specs.Tests.{Flag, isTrue, isFalse, flag, Cmp, cmp, below, equal, above}
 use Rattle.basics.specs.Members.{clash}
-use Rattle.label.specs.Terms.{isVariable}
 use Rattle.label.specs.Labels.{unpacked, termsOf}
-use Rattle.cut.specs.Paths.{Literal, termsIn}
+use Rattle.cut.specs.Paths.{Literal}
 use Rattle.cut.specs.Match.{start, matches}
 use Rattle.cut.specs.MatchLaws.{Searchable, in-terms, matches-order}
 use Rattle.cut.specs.Search.{literalAt, literalsIn, placeOf, Setting}

@@ -1,23 +1,23 @@
 -- A literal that has no way keeps its list from matching.
-use mathlib.Core.Path.{_≡_, refl, sym, ap, ap₂, subst, _∙_}
+use mathlib.Core.Path.{_≡_, refl, sym, ap, subst, _∙_}
 use mathlib.Core.Logic.{_⊎_, inl, inr}
-use mathlib.Core.Bool.{Bool, true, false, not, _&&_}
+use mathlib.Core.Bool.{Bool, true, false, not}
 use mathlib.Core.List.{List, [], _∷_, List·Memᴰ, List·Memᴰ·head, List·Memᴰ·tail, List·Memᴰ·append-cases, List·Memᴰ·not-nil}
-use Prim.Native.Nat.{ℕ, zero, suc, _+_, _-_, _/_, _%_, _≤_, _<_}
+use Prim.Native.Nat.{ℕ, zero, suc, _+_, _/_, _%_, _≤_, _<_}
 use native.Mathlib.Omega.{arith}
-use lib.ListN.{length, getD, drop, length-drop}
-use lib.Seq.{getD-drop}
-use lib.Dec.{eqb}
-use borrow.Author.Tests.{eqb-true, eqb-false, eq-eqb}
-use Rattle.basics.specs.Tests.{Flag, isTrue, isFalse, flag, Cmp, cmp, below, equal, above}
+use lib.ListN.{length, getD, set, drop, length-set, length-drop}
+use lib.Seq.{getD-drop, getD-set-same, getD-set-other}
+use lib.Dec.{eqb, ltb}
+use borrow.Author.Tests.{eqb-true, eqb-false, eq-eqb, ltb-false}
+use Rattle.basics.specs.Tests.{and-left, and-right, Flag, isTrue, isFalse, flag, Cmp, cmp, below, equal, above}
 use Rattle.basics.specs.Members.{clash}
 use Rattle.label.specs.Labels.{predicateOf}
 use Rattle.cut.specs.Paths.{Literal}
 use Rattle.cut.specs.Match.{start, waysAmong, plainWays, targets, matches}
 use Rattle.cut.specs.MatchLaws.{among-out, some-out}
 use Rattle.cut.specs.Search.{literalAt, literalsIn, alike, Setting}
-use Rattle.cut.specs.Parts.{NoWay, WayPost, WaysPost, PartsPost}
-use Rattle.cut.proofs.WayLaws.{untaken, unleft}
+use Rattle.cut.specs.Parts.{NoWay, kindOf, Kinds, WayPost, WaysPost, PartsPost}
+use Rattle.cut.proofs.WayLaws.{untaken}
 use Rattle.cut.proofs.PartLaws.{literal-at, at-literal}
 use Rattle.cut.proofs.JoinLaws.{matches-fewer}
 
@@ -82,32 +82,78 @@ ways-fail {ord} {into} tab {r} w q = record { answer = λ ar T s. go ar T s (fla
 pub equal-not : (x : ℕ) → eqb (x % 2) 1 ≡ false → x < 33554432 → x % 2 ≡ 1 → ⊥
 equal-not x e h = eqb-false (x % 2) 1 e
 
--- none of the literals before j is alike
-pub record Seeking (into : List ℕ) (x j : ℕ) : Type 0 where
-  pub from : 64 ≤ j
-  pub passed : (i : ℕ) → 64 ≤ i → i < j → alike x (getD into i 0) ≡ false
-  pub equality : x < 33554432 → x % 2 ≡ 1 → ⊥
+pub way-yes : (kinds : List ℕ) (x : ℕ) → WayPost kinds x true
+way-yes kinds x = record { kind = λ e. clash refl e; unmarked = λ e. clash refl e; equality = λ e. clash refl e }
 
-pub way-yes : (into : List ℕ) (x : ℕ) → WayPost into x true
-way-yes into x = record { no = λ e. clash refl e }
+pub way-marked : (kinds : List ℕ) (x : ℕ) {b : Bool} {k w : ℕ} → (b ≡ false → x < 33554432 → x % 2 ≡ 1 → ⊥) → b ≡ false → k ≡ kindOf x → k < 64
+    → w ≡ getD kinds k 0 → WayPost kinds x (ltb 0 w)
+way-marked kinds x {b} {k} {w} f e q h z = record {
+  kind = λ i. omega arith;
+  unmarked = λ i. ap (λ (j : ℕ). getD kinds j 0) (sym q) ∙ sym z ∙ omega (arith, ltb-false 0 w i);
+  equality = λ i. f e;
+}
 
-pub seeking-start : (into : List ℕ) (x : ℕ) {b : Bool} → (b ≡ false → x < 33554432 → x % 2 ≡ 1 → ⊥) → b ≡ false → Seeking into x 64
-seeking-start into x f e = record { from = omega arith; passed = λ i a b. absurd (omega arith); equality = f e }
+-- ===== mark_kinds =====
+module _ {into : List ℕ} where
+  pub kinds-start : {kinds : List ℕ} → 64 ≤ length kinds → Kinds into kinds 64
+  kinds-start h = record { room = h; each = λ i a b. absurd (omega arith) }
 
-pub seeking-next : {into : List ℕ} {x j y : ℕ} {b : Bool} → Seeking into x j → y ≡ getD into j 0 → b ≡ alike x y → b ≡ false → Seeking into x (j + 1)
-seeking-next {into} {x} {j} {y} {b} s e p q = record { from = omega (arith, s .from); passed = λ i a c. go i a c (cmp i j); equality = s .equality }
-  where
-    go : (i : ℕ) → 64 ≤ i → i < j + 1 → Cmp i j → alike x (getD into i 0) ≡ false
-    go i a c (below d) = s .passed i a d
-    go i a c (equal d) = ap (λ (k : ℕ). alike x (getD into k 0)) d ∙ ap (alike x) (sym e) ∙ sym p ∙ q
-    go i a c (above d) = absurd (omega arith)
+  module _ {kinds : List ℕ} {j w k : ℕ} (s : Kinds into kinds j) (e : w ≡ getD into j 0) (q : k ≡ kindOf w) where
+    pub kinds-marked : k < 64 → Kinds into (set kinds k 1) (j + 1)
+    kinds-marked h = record { room = omega (arith, length-set kinds k 1, s .room); each = λ i a b c. go i a b c (cmp i j) }
+      where
+        here : getD (set kinds k 1) k 0 ≡ 1
+        here = getD-set-same kinds k 1 0 (omega (arith, s .room))
 
-pub seeking-end : {into : List ℕ} {x j : ℕ} → Seeking into x j → length into ≤ j → WayPost into x false
-seeking-end s h = record { no = λ e. record { others = λ i a b. s .passed i a (omega arith); equality = s .equality } }
+        old : (v : ℕ) → 0 < getD kinds v 0 → Cmp v k → 0 < getD (set kinds k 1) v 0
+        old v p (below c) = omega (arith, getD-set-other kinds k v 1 0 (omega arith))
+        old v p (equal c) = omega (arith, ap (λ (i : ℕ). getD (set kinds k 1) i 0) c, here)
+        old v p (above c) = omega (arith, getD-set-other kinds k v 1 0 (omega arith))
 
--- ===== all_have_ways =====
+        go : (i : ℕ) → 64 ≤ i → i < j + 1 → kindOf (getD into i 0) < 64 → Cmp i j → 0 < getD (set kinds k 1) (kindOf (getD into i 0)) 0
+        go i a b c (below d) = old (kindOf (getD into i 0)) (s .each i a d c) (cmp (kindOf (getD into i 0)) k)
+        go i a b c (equal d) =
+            let z : kindOf (getD into i 0) ≡ k = ap (λ (v : ℕ). kindOf (getD into v 0)) d ∙ sym (q ∙ ap kindOf e) in
+            omega (arith, ap (λ (v : ℕ). getD (set kinds k 1) v 0) z, here)
+        go i a b c (above d) = absurd (omega arith)
+
+    pub kinds-other : 64 ≤ k → Kinds into kinds (j + 1)
+    kinds-other h = record { room = s .room; each = λ i a b c. go i a b c (cmp i j) }
+      where
+        go : (i : ℕ) → 64 ≤ i → i < j + 1 → kindOf (getD into i 0) < 64 → Cmp i j → 0 < getD kinds (kindOf (getD into i 0)) 0
+        go i a b c (below d) = s .each i a d c
+        go i a b c (equal d) =
+            let z : kindOf (getD into i 0) ≡ k = ap (λ (v : ℕ). kindOf (getD into v 0)) d ∙ sym (q ∙ ap kindOf e) in
+            absurd (omega arith)
+        go i a b c (above d) = absurd (omega arith)
+
+  pub kinds-end : {kinds : List ℕ} {j : ℕ} → Kinds into kinds j → length into ≤ j → Kinds into kinds (length into)
+  kinds-end s h = record { room = s .room; each = λ i a b. s .each i a (omega arith) }
+
+-- ===== have_ways =====
 pub ways-yes : (ord into : List ℕ) → WaysPost ord into true
 ways-yes ord into = record { no = λ e. clash refl e }
 
-pub ways-no : {ord into : List ℕ} {i x : ℕ} {r : Bool} → i < length ord → x ≡ getD ord i 0 → WayPost into x r → not r ≡ true → WaysPost ord into false
-ways-no {ord} {into} {i} {x} {r} h e w q = record { no = λ z. (i, h, subst (NoWay into) e (w .no (untaken q))) }
+-- two literals that are alike are of one kind
+alike-kind : (x y : ℕ) → alike x y ≡ true → kindOf x ≡ kindOf y
+unfolding alike
+alike-kind x y e =
+    let u = eqb-true (x / 33554432) (y / 33554432) (and-left (eqb (x / 33554432) (y / 33554432)) (eqb (x % 2) (y % 2)) e) in
+    let v = eqb-true (x % 2) (y % 2) (and-right (eqb (x / 33554432) (y / 33554432)) (eqb (x % 2) (y % 2)) e) in
+    omega arith
+
+pub ways-no : {ord into kinds : List ℕ} {i x : ℕ} {r : Bool} → Kinds into kinds (length into) → i < length ord → x ≡ getD ord i 0 → WayPost kinds x r → not r ≡ true
+    → WaysPost ord into false
+ways-no {ord} {into} {kinds} {i} {x} {r} s h e w q = record { no = λ z. (i, h, subst (NoWay into) e (record { others = others; equality = w .equality (untaken q) })) }
+  where
+    others : (j : ℕ) → 64 ≤ j → j < length into → alike x (getD into j 0) ≡ false
+    others j a b = go (flag (alike x (getD into j 0)))
+      where
+        go : Flag (alike x (getD into j 0)) → alike x (getD into j 0) ≡ false
+        go (isFalse z) = z
+        go (isTrue z) =
+            let u = alike-kind x (getD into j 0) z in
+            let k = w .kind (untaken q) in
+            let v = s .each j a b (omega arith) in
+            let m = w .unmarked (untaken q) in
+            absurd (omega (arith, ap (λ (t : ℕ). getD kinds t 0) u))

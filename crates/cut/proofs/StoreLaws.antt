@@ -4,7 +4,6 @@ use mathlib.Core.Bool.{Bool, true, false}
 use mathlib.Core.List.{List, [], _∷_, map, List·Memᴰ, List·Memᴰ·head, List·Memᴰ·tail}
 use Prim.Native.Nat.{ℕ, zero, suc, _+_, _-_, _*_, _/_, _%_, _≤_, _<_}
 use native.Mathlib.Omega.{arith}
-use native.Mathlib.Nat.{le-trans}
 use lib.ListN.{length, getD, take, drop, length-take, length-drop}
 use lib.Seq.{getD-take, getD-drop}
 use lib.Dec.{eqb}
@@ -22,10 +21,9 @@ use Rattle.cut.specs.MatchLaws.{in-terms}
 use Rattle.cut.specs.CoverLaws.{PathLabels, path-labels}
 use Rattle.cut.specs.ReduceLaws.{paths-branch}
 use Rattle.cut.specs.Routes.{bit, codeOf, codes, stepOn, pathAt, At, Entered}
-use Rattle.cut.specs.Search.{literalAt, literalsIn, Sorted}
-use Rattle.cut.specs.Stored.{Marks, termsOfCode, Unmarked, Marking, Enterable, Stored}
+use Rattle.cut.specs.Search.{literalAt, literalsIn}
+use Rattle.cut.specs.Stored.{termsOfCode, Unmarked, Marking, Enterable, Stored}
 use Rattle.cut.proofs.RouteLaws.{path-in, path-high, path-low, codes-step}
-use Rattle.cut.proofs.TargetLaws.{mem-at, at-mem}
 use Rattle.cut.proofs.CoversLaws.{of-terms}
 
 -- ===== Literals and their numbers =====
@@ -38,7 +36,7 @@ odd l true = let e : (l * 2 + 1) % 2 ≡ 1 = omega arith in ap (λ (x : ℕ). eq
 odd l false = let e : (l * 2 + 0) % 2 ≡ 0 = omega arith in ap (λ (x : ℕ). eqb x 1) e
 
 -- the number of a literal stands for it
-pub literal-code : (l : Literal) → literalAt (codeOf l) ≡ l
+literal-code : (l : Literal) → literalAt (codeOf l) ≡ l
 unfolding literalAt codeOf
 literal-code l = λ i. record { label = half (l .label) (l .sign) i; sign = odd (l .label) (l .sign) i }
 
@@ -46,7 +44,7 @@ literals-codes : (ls : List Literal) → map literalAt (map codeOf ls) ≡ ls
 literals-codes [] = refl
 literals-codes (l ∷ ls) = ap₂ _∷_ (literal-code l) (literals-codes ls)
 
-pub codes-are : (p : Path) → literalsIn (codes p) ≡ literals p
+codes-are : (p : Path) → literalsIn (codes p) ≡ literals p
 unfolding literalsIn codes
 codes-are p = literals-codes (literals p)
 

@@ -74,7 +74,7 @@ searchable ar ls qs g al = record { arities = g; labels = al; holds-terms = λ t
         go (inl n) = in-small ar ls t n
         go (inr n) = in-small ar qs t n
 
-start-other : (t : ℕ) → isVariable t ≡ false → start t ≡ some t
+pub start-other : (t : ℕ) → isVariable t ≡ false → start t ≡ some t
 unfolding start
 start-other t e = rw e
 

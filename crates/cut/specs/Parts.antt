@@ -1,9 +1,9 @@
 -- The search part by part (document 01, section 'Cut'): literals that share no variable are searched by themselves, and within a part those with
 -- the fewest new variables come first.
 use mathlib.Core.Path.{_≡_}
-use mathlib.Core.Bool.{Bool, true, false, _&&_, _||_}
+use mathlib.Core.Bool.{Bool, false, _&&_, _||_}
 use mathlib.Core.List.{List}
-use Prim.Native.Nat.{ℕ, _+_, _/_, _%_, _≤_, _<_}
+use Prim.Native.Nat.{ℕ, _+_, _*_, _/_, _%_, _≤_, _<_}
 use lib.ListN.{length, getD, drop}
 use lib.Dec.{ltb, leb}
 use Rattle.label.specs.Limits.{firstVariable, termBase}
@@ -82,9 +82,20 @@ pub record NoWay (into : List ℕ) (x : ℕ) : Type 0 where
   pub others : (j : ℕ) → termBase ≤ j → j < length into → alike x (getD into j 0) ≡ false
   pub equality : x < 33554432 → x % 2 ≡ 1 → ⊥
 
+-- the kind of a literal: its predicate and sign
+abbrev pub kindOf : ℕ → ℕ
+kindOf x = x / 33554432 * 2 + x % 2
+
+-- kinds marks the kinds of the literals of the first path, as far as j
+pub record Kinds (into kinds : List ℕ) (j : ℕ) : Type 0 where
+  pub room : termBase ≤ length kinds
+  pub each : (i : ℕ) → termBase ≤ i → i < j → kindOf (getD into i 0) < termBase → 0 < getD kinds (kindOf (getD into i 0)) 0
+
 -- what the tests for ways say
-pub record WayPost (into : List ℕ) (x : ℕ) (r : Bool) : Type 0 where
-  pub no : r ≡ false → NoWay into x
+pub record WayPost (kinds : List ℕ) (x : ℕ) (r : Bool) : Type 0 where
+  pub kind : r ≡ false → kindOf x < termBase
+  pub unmarked : r ≡ false → getD kinds (kindOf x) 0 ≡ 0
+  pub equality : r ≡ false → x < 33554432 → x % 2 ≡ 1 → ⊥
 
 pub record WaysPost (ord into : List ℕ) (r : Bool) : Type 0 where
   pub no : r ≡ false → (i : ℕ) × (i < length ord) × NoWay into (getD ord i 0)

@@ -14,7 +14,7 @@ ghost use Rattle.listing.specs.Used.{marked};
 ghost use Rattle.cut.specs.Paths.{paths};
 ghost use Rattle.cut.specs.Cut.{covers};
 ghost use Rattle.cut.specs.Covering.{Coverable};
-ghost use Rattle.cut.specs.Parts.{isSeen, shares, Ranked, Best, Takable, Taken, Separable, PartTaken, PartsPost, WayPost, WaysPost};
+ghost use Rattle.cut.specs.Parts.{isSeen, shares, Ranked, Best, Takable, Taken, Separable, PartTaken, PartsPost, kindOf, Kinds, WayPost, WaysPost};
 ghost use Rattle.cut.specs.Stored.{termsOfCode, Markable, Unmarked, Marking, Enterable, Stored, Ready, PartPost, BothStored, Answers};
 ghost use Rattle.cut.specs.Routes.{Rows, Counted, At, Stepped, pathAt, Sided, Entered};
 ghost use Rattle.cut.specs.Search.{fourOf, slotFits, slotAfter, Slots, Replacing, BindPost, alike, plainWay, equalWay, wayAt, wayCount, TryPost, allKnown, Sorted, Finds, Images, Digits, Met, numberOf, Tabled, SolvePost, termAt, Unplaced, Placing};
@@ -674,12 +674,16 @@ fn new_places(seen: &[u32], x: u64) -> u64
     a + b + c + d
 }
 
-// The rank of the literal x: fewer new variables come first, equalities behind others, and behind all the literals that share no variable.
+// The rank of the literal x: without a new variable it comes at once. Fewer new variables come first, equalities behind others, and behind all the
+// literals that share no variable.
 fn rank(seen: &[u32], x: u64) -> u64
     requires { ⌜ termBase ≤ length (now seen) ⌝ }
     ensures { λ r. ⌜ Ranked (now (seen .entry)) x r ⌝ }
 {
     let n = new_places(seen, x) * 2;
+    if n == 0 {
+        return 0;
+    }
     if !shares(seen, x) {
         return STRANGE + n;
     }
@@ -700,6 +704,9 @@ fn best(ord: &[u32], seen: &[u32], k: usize) -> Pick
     let mut low = WORST;
     while i < ord.len() {
         let r = rank(seen, wide(ord[i]));
+        if r == 0 {
+            return Pick { at: i, rank: 0 };
+        }
         if r < low {
             low = r;
             at = i;
@@ -734,7 +741,8 @@ fn take_literal(ord: &mut [u32], seen: &mut [u32], k: usize, at: usize)
     see(seen, wide(x));
 }
 
-// Puts a part at place k: literals, one after the other, that share a variable with one before. Answers where it ends; what is behind it shares none.
+// Puts a part at place k: literals, one after the other, that share a variable with one before or have no new one. Answers where it ends; what is
+// behind it shares none.
 fn next_part(ord: &mut [u32], seen: &mut [u32], k: usize) -> usize
     requires { ⌜ Separable (now ord) (now seen) k ⌝ }
     ensures { λ e. ⌜ PartTaken (now (ord .entry)) k e (now (ord .exit)) (now (seen .exit)) ⌝ }
@@ -780,32 +788,54 @@ fn is_equal(x: u64) -> bool
     x % 2 == 1
 }
 
-// Whether the literal x has a way: one of the first path has its predicate and sign, or it may become t = t.
-fn has_way(into: &[u32], x: u64) -> bool
-    requires { ⌜ termBase ≤ length (now into) ⌝ }
-    ensures { λ r. ⌜ WayPost (now (into .entry)) x r ⌝ }
+// The kind of a literal: its predicate and sign.
+fn kind(x: u64) -> usize
+    ensures { λ r. ⌜ r ≡ kindOf x ⌝ }
+{
+    (x / LITERAL_WEIGHT * 2 + x % 2) as usize
+}
+
+// Marks the kinds of the literals of the first path.
+fn mark_kinds(into: &[u32], kinds: &mut [u32])
+    requires { ⌜ termBase ≤ length (now kinds) ⌝ }
+    ensures { λ _. ⌜ Kinds (now (into .entry)) (now (kinds .exit)) (length (now (into .entry))) ⌝ }
+{
+    let mut j = TERMS;
+    while j < into.len() {
+        let k = kind(wide(into[j]));
+        if k < TERMS {
+            kinds[k] = 1;
+            j += 1;
+        } else {
+            j += 1;
+        }
+    }
+}
+
+// Whether the literal x has a way: one of the first path has its kind, or it may become t = t.
+fn has_way(kinds: &[u32], x: u64) -> bool
+    requires { ⌜ termBase ≤ length (now kinds) ⌝ }
+    ensures { λ r. ⌜ WayPost (now (kinds .entry)) x r ⌝ }
 {
     if is_equal(x) {
         return true;
     }
-    let mut j = TERMS;
-    while j < into.len() {
-        if alike(x, wide(into[j])) {
-            return true;
-        }
-        j += 1;
+    let k = kind(x);
+    if k >= TERMS {
+        return true;
     }
-    false
+    wide(kinds[k]) > 0
 }
 
 // Whether each literal of ord has a way.
 fn have_ways(ord: &[u32], into: &[u32]) -> bool
-    requires { ⌜ termBase ≤ length (now into) ⌝ }
     ensures { λ r. ⌜ WaysPost (now (ord .entry)) (now (into .entry)) r ⌝ }
 {
+    let mut kinds = [0u32; TERMS];
+    mark_kinds(into, &mut kinds);
     let mut i = 0;
     while i < ord.len() {
-        if !has_way(into, wide(ord[i])) {
+        if !has_way(&kinds, wide(ord[i])) {
             return false;
         }
         i += 1;

@@ -1,7 +1,7 @@
 -- Laws of what a variant adds.
 use mathlib.Core.Path.{_≡_, refl, sym, ap, subst, _∙_}
 use mathlib.Core.List.{List, _++_}
-use Prim.Native.Nat.{ℕ, _+_, _*_, _-_, _≤_}
+use Prim.Native.Nat.{ℕ, _*_, _≤_}
 use native.Mathlib.Omega.{arith}
 use lib.ListN.{length, take, drop, replicate, length-replicate}
 use Rattle.refusal.specs.declared.Refusal.{Refusal}
@@ -21,7 +21,7 @@ use Rattle.regress.specs.RegressCall.{truthsOf, regressedAs, writtenAs}
 use Rattle.regress.specs.Regressing.{Regressable}
 use Rattle.regress.specs.NextLaws.{regressed-tells}
 use Rattle.mdp.specs.Backup.{combined}
-use Rattle.model.specs.Layout.{spanWords, variantWords, weightWords, spansAt, variantAt, rewardWords}
+use Rattle.model.specs.Layout.{weightWords, spansAt, variantAt, rewardWords}
 use Rattle.model.specs.declared.Head.{Head}
 use Rattle.planner.specs.declared.Step.{Step}
 use Rattle.planner.specs.declared.Step.the-variants.{Rows, Refused}
@@ -29,13 +29,6 @@ use Rattle.planner.specs.Steps.{Result, Given, Wrote, Begins, Operands, 
 use Rattle.planner.specs.Parts.{variantProduct, variantAdded}
 use Rattle.planner.specs.Tasks.{VariantTask, WeightTask, RewardTask, Folding}
 use Rattle.planner.proofs.StepLaws.{listing-result, given-ok, given-refused, wrote-given, refused-then, done-then, given-same}
-
--- the words of a part that begins at i and ends at i + n
-pub part-words : (s : List ℕ) (i n : ℕ) → take (i + n - i) (drop i s) ≡ take n (drop i s)
-part-words s i n = let e : i + n - i ≡ n = omega arith in ap (λ (k : ℕ). take k (drop i s)) e
-
-pub part-spans : (table : List ℕ) (place : ℕ) → take (place + variantWords - (place + 2)) (drop (place + 2) table) ≡ spansAt table place
-part-spans table place = let e : place + variantWords - (place + 2) ≡ spanWords = omega arith in ap (λ (k : ℕ). take k (drop (place + 2) table)) e
 
 -- ===== A variant regressed =====
 

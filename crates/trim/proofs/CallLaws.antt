@@ -1,13 +1,13 @@
 -- The ways out of `cut_checked` and of the public call.
-use mathlib.Core.Path.{_≡_, refl, sym, ap, ap₂, subst, _∙_}
+use mathlib.Core.Path.{_≡_, refl, sym, ap, subst, _∙_}
 use mathlib.Core.Bool.{Bool, true, false, not, _||_}
 use mathlib.Core.List.{List}
-use Prim.Native.Nat.{ℕ, zero, suc, pred, _+_, _-_, _*_, _/_, _≤_, _<_, min}
+use Prim.Native.Nat.{ℕ, zero, suc, pred, _-_, _/_, _≤_, _<_, min}
 use native.Mathlib.Omega.{arith}
 use lib.ListN.{length, getD, replicate, length-replicate, length-map}
 use lib.Dec.{ltb}
 use borrow.Author.Tests.{lt-ltb, le-ltb}
-use Rattle.basics.specs.Tests.{Flag, isTrue, isFalse, flag, or-one, or-other}
+use Rattle.basics.specs.Tests.{or-one, or-other}
 use Rattle.refusal.specs.declared.Refusal.{Refusal}
 use Rattle.refusal.specs.declared.Refusal.the-variants.{Listing, Buffer, Paths, Nothing as NoEdge}
 use Rattle.listing.proofs.RowLaws.{not-taken, not-left}
@@ -22,7 +22,7 @@ use Rattle.diagram.specs.Validity.{Valid, tree}
 use Rattle.diagram.specs.DiagramOfListing.{diagram-is, rows-are}
 use Rattle.diagram.specs.ListingValid.{listing-is-valid}
 use Rattle.cut.specs.Paths.{paths, mostPaths}
-use Rattle.cut.specs.Cut.{Choice, goes, stays, pickChoice, mayGo, choiceBelow, choice, pickCut, chosenAnswer, diagramAnswer, cutDiagram, written, answerBuffer, cutAnswer, cutBuffer}
+use Rattle.cut.specs.Cut.{Choice, goes, stays, pickChoice, mayGo, choiceBelow, choice, chosenAnswer, diagramAnswer, cutDiagram, written, answerBuffer, cutAnswer, cutBuffer}
 use Rattle.cut.specs.Routes.{Rows, Counted}
 use Rattle.cut.specs.declared.Edge.the-variants.{True, False}
 use Rattle.cut.specs.declared.Cut.{Cut}

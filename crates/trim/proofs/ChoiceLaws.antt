@@ -1,9 +1,8 @@
 -- Laws of `edge_of` and `choose`.
-use mathlib.Core.Path.{_≡_, refl, sym, ap, ap₂, subst, _∙_}
-use mathlib.Core.Logic.{_≢_}
+use mathlib.Core.Path.{_≡_, refl, sym, ap, ap₂, _∙_}
 use mathlib.Core.Bool.{Bool, true, false}
-use mathlib.Core.List.{List, map}
-use Prim.Native.Nat.{ℕ, zero, suc, pred, _+_, _-_, _*_, _≤_, _<_}
+use mathlib.Core.List.{List}
+use Prim.Native.Nat.{ℕ, suc, pred, _+_, _-_, _*_, _≤_, _<_}
 use native.Mathlib.Omega.{arith}
 use lib.ListN.{length, getD, replicate, length-replicate, getD-replicate, length-map}
 use lib.Dec.{eqb}
@@ -17,8 +16,7 @@ use Rattle.diagram.specs.Listing.{diagramOf}
 use Rattle.diagram.specs.Validity.{Valid, tree}
 use Rattle.diagram.specs.DiagramOfListing.{diagram-is, rows-are}
 use Rattle.diagram.specs.ListingValid.{listing-is-valid}
-use Rattle.cut.specs.Cut.{Choice, goes, stays, pickChoice, mayGo, choiceBelow, choice}
-use Rattle.trim.specs.declared.Chosen.{Chosen}
+use Rattle.cut.specs.Cut.{goes, stays, pickChoice, mayGo, choiceBelow, choice}
 use Rattle.trim.specs.declared.Chosen.the-variants.{Edge, Nothing}
 use Rattle.trim.specs.Choosing.{Routed, Leaves, Sides, Charted, Known, Asking, Edged, Tested, EdgeFound, firstEdge, chosenAs}
 use Rattle.trim.specs.ListingLaws.{row-is}

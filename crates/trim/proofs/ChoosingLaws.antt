@@ -12,15 +12,13 @@ use lib.Seq.{getD-set-same, getD-set-other}
 use lib.Dec.{eqb}
 use borrow.Author.Tests.{eqb-true, eqb-false, eq-eqb, ne-eqb, le-leb, lt-leb}
 use Rattle.basics.specs.Tests.{Flag, isTrue, isFalse, flag, Cmp, cmp, below, equal, above}
-use Rattle.basics.specs.Members.{clash}
 use Rattle.label.specs.Limits.{leafMark}
 use Rattle.diagram.specs.Diagram.{Diagram, leaf, same}
 use Rattle.diagram.specs.Words.{labelAt, highAt}
 use Rattle.diagram.specs.Validity.{tree}
 use Rattle.listing.proofs.RowLaws.{not-taken, not-left}
-use Rattle.cut.specs.Paths.{paths}
 use Rattle.cut.specs.Cut.{covers, mayGo}
-use Rattle.cut.specs.Routes.{Rows, At, Sided, pathAt}
+use Rattle.cut.specs.Routes.{Rows, At, Sided}
 use Rattle.cut.specs.Covering.{Coverable}
 use Rattle.trim.specs.Choosing.{pathOf, Routed, Leaves, Sides, Known, Asking, Edged, Tested, isCoverOn, coverBelow, isFreeOn, freeBelow}
 use Rattle.trim.specs.ChoosingLaws.{child-before, may-go-is}

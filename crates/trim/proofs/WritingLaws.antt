@@ -2,22 +2,19 @@
 use mathlib.Core.Path.{_≡_, sym, ap, subst, _∙_}
 use mathlib.Core.Bool.{Bool}
 use mathlib.Core.List.{List, _++_}
-use Prim.Native.Nat.{ℕ, pred, _+_, _*_, _≤_, _<_}
+use Prim.Native.Nat.{ℕ, _+_, _*_, _≤_}
 use native.Mathlib.Omega.{arith}
 use lib.ListN.{length, drop, replicate}
 use borrow.Author.Tests.{le-leb, le-ltb}
-use Rattle.refusal.specs.declared.Refusal.the-variants.{Space}
 use Rattle.diagram.specs.Sizes.{mostRows, spaceRows}
 use Rattle.diagram.specs.Diagram.{Diagram}
 use Rattle.diagram.specs.Rows.{rows}
-use Rattle.diagram.specs.Words.{rowCount}
 use Rattle.diagram.specs.Listing.{listing, diagramOf, Good}
 use Rattle.diagram.specs.Validity.{Valid, tree}
 use Rattle.diagram.specs.Variables.{closed}
 use Rattle.diagram.specs.DiagramOfListing.{diagram-is, good-diagram}
 use Rattle.diagram.specs.ListingValid.{listing-is-valid}
-use Rattle.apply.specs.declared.Combined.{Combined}
-use Rattle.apply.specs.declared.Combined.the-variants.{Done, Refused}
+use Rattle.apply.specs.declared.Combined.the-variants.{Done}
 use Rattle.store.specs.declared.Formed.{Formed}
 use Rattle.store.specs.declared.Formed.the-variants.{Row}
 use Rattle.write.specs.declared.Listed.{Listed}
@@ -26,10 +23,10 @@ use Rattle.write.specs.Renaming.{listedIn}
 use Rattle.write.specs.Writing as write
 use Rattle.write.specs.Writing.{writeAnswer, WritePost}
 use Rattle.apart.specs.Results as apart
-use Rattle.apart.specs.Results.{Closable, Regular, resultAnswer, ResultWritten}
+use Rattle.apart.specs.Results.{Closable, Regular, resultAnswer}
 use Rattle.apart.proofs.ResultLaws.{closed-count, result-writable, result-closable, result-done}
 use Rattle.cut.specs.Cut.{cutDiagram, written}
-use Rattle.cut.specs.ReduceLaws.{cut-few, cut-good}
+use Rattle.cut.specs.ReduceLaws.{cut-good}
 use Rattle.trim.specs.Calls.{Writable, Trimmed}
 use Rattle.trim.specs.Leaving.{leftOf, Leavable, Left}
 use Rattle.trim.specs.LeavingLaws.{cut-left}

@@ -7,7 +7,6 @@ use Prim.Native.Nat.{ℕ, zero, suc, _+_, _-_, _*_, _≤_, _<_}
 use lib.ListN.{length, getD}
 use lib.Dec.{eqb, leb}
 use Rattle.label.specs.Limits.{leafMark}
-use Rattle.diagram.specs.Diagram.{Diagram}
 use Rattle.diagram.specs.Words.{labelAt, rowCount, isListing}
 use Rattle.diagram.specs.Validity.{tree}
 use Rattle.cut.specs.Paths.{Path, paths, mostPaths}

@@ -1,26 +1,24 @@
 -- An edge may go, by the numbers of the paths.
 use mathlib.Core.Path.{_≡_, refl, sym, ap, ap₂, _∙_}
-use mathlib.Core.Logic.{_≢_}
 use mathlib.Core.Bool.{Bool, true, false, not, _&&_, _||_, cond}
 use mathlib.Core.List.{List, [], _∷_, _++_, map}
 use Prim.Native.Nat.{ℕ, zero, suc, _+_, _-_, _*_, _≤_, _<_}
 use native.Mathlib.Omega.{arith}
-use lib.ListN.{length, getD, length-append, length-map, List·getD-append}
+use lib.ListN.{length, getD, length-map, List·getD-append}
 use lib.Seq.{ext-getD, getD-append-add}
-use lib.Dec.{eqb, leb}
-use borrow.Author.Tests.{eqb-true, eqb-false, eq-eqb, ne-eqb}
+use lib.Dec.{eqb}
+use borrow.Author.Tests.{eqb-true, eqb-false}
 use Rattle.basics.specs.Tests.{Flag, isTrue, isFalse, flag, Cmp, cmp, below, equal, above}
-use Rattle.label.specs.Limits.{leafMark}
 use Rattle.diagram.specs.Diagram.{Diagram, leaf, branch, same}
 use Rattle.diagram.specs.Words.{labelAt, highAt, lowAt, upTo}
 use Rattle.diagram.specs.WordLaws.{length-upTo, map-snoc, getD-map, getD-upTo}
 use Rattle.diagram.specs.Validity.{tree}
 use Rattle.cut.specs.Paths.{Path, paths, through, stepBefore}
-use Rattle.cut.specs.ReduceLaws.{paths-branch, paths-leaf}
-use Rattle.cut.specs.Cut.{covers, isCover, isFree, somePath, everyPath, mayGo, target}
+use Rattle.cut.specs.ReduceLaws.{paths-branch}
+use Rattle.cut.specs.Cut.{isCover, isFree, somePath, everyPath, mayGo, target}
 use Rattle.cut.specs.Routes.{Sided, pathAt, stepOn}
 use Rattle.cut.proofs.RouteLaws.{path-high, path-low}
-use Rattle.trim.specs.Choosing.{pathOf, Routed, Sides, Edged, isCoverOn, coverBelow, isFreeOn, freeBelow}
+use Rattle.trim.specs.Choosing.{pathOf, Routed, Edged, isCoverOn, coverBelow, isFreeOn, freeBelow}
 
 -- the paths of a diagram by their numbers
 module _ (l : ℕ) (t f : Diagram) (k : ℕ) (x : Path) where

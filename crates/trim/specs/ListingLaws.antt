@@ -2,9 +2,8 @@
 use mathlib.Core.Path.{_≡_, ap, _∙_}
 use mathlib.Core.Bool.{true}
 use mathlib.Core.List.{List}
-use Prim.Native.Nat.{ℕ, _*_, _<_, _/_}
+use Prim.Native.Nat.{ℕ, _<_, _/_}
 use native.Mathlib.Omega.{arith}
-use Rattle.label.specs.Limits.{leafMark}
 use Rattle.label.specs.Labels.{isLabel, unpacked}
 use Rattle.label.specs.LabelLaws.{label-fits}
 use Rattle.diagram.specs.Diagram.{leaf}
@@ -13,12 +12,11 @@ use Rattle.diagram.specs.RowLists.{rowTree}
 use Rattle.diagram.specs.Words.{labelAt, rowCount, upTo, isListing}
 use Rattle.diagram.specs.WordLaws.{length-upTo, getD-map, getD-upTo}
 use Rattle.diagram.specs.Listing.{diagramOf}
-use Rattle.diagram.specs.Validity.{Valid, tree}
+use Rattle.diagram.specs.Validity.{tree}
 use Rattle.diagram.specs.RowDiagrams.{branch-row}
 use Rattle.diagram.specs.DiagramOfListing.{valid-rows, shown-rows, rows-are}
 use Rattle.diagram.specs.ListingValid.{listing-is-valid}
 use Rattle.cut.specs.Routes.{Rows}
-use lib.ListN.{length}
 
 -- a label has one of 32 predicates
 label-most : (ar : List ℕ) (l : ℕ) → isLabel ar l ≡ true → l < 536870912

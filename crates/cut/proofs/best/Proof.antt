@@ -1,7 +1,7 @@
 use lib.ListN.{length}
 use Prim.Native.Nat.{_-_}
 use borrow.Author.Needs.{needs}
-use Rattle.cut.proofs.OrderLaws.{Choosing, choosing-start, choosing-lower, choosing-same, choosing-end}
+use Rattle.cut.proofs.OrderLaws.{Choosing, choosing-start, choosing-known, choosing-lower, choosing-same, choosing-end}
 use Rattle.cut.proofs.best.Statement.{statement}
 use Rattle.cut.proofs.best.Tie as tie
 
@@ -17,16 +17,19 @@ loop-holds c = choosing-start _ (c .before .before .pre .0)
 rank-requires : tie.Need-rank-requires Inv-loop μ-loop
 rank-requires c κs = c .before .before .before .before .before .before .pre .1
 
+returns : tie.Need-returns Inv-loop μ-loop
+returns c = choosing-known (c .before .before .before .before .before .loop .inv) (c .before .before .before .before .loop-test .taken)
+
 loop-again : tie.Need-loop-again Inv-loop μ-loop
-loop-again c = choosing-lower (c .before .before .before .before .before .loop .inv) (c .before .before .before .before .loop-test .taken) (c .before .before .wide .ensures .0) (c .before .rank .ensures) (c .if1 .taken)
+loop-again c = choosing-lower (c .before .before .before .before .before .before .loop .inv) (c .before .before .before .before .before .loop-test .taken) (c .before .before .before .wide .ensures .0) (c .before .before .rank .ensures) (c .if2 .taken)
 
 loop-again-2 : tie.Need-loop-again-2 Inv-loop μ-loop
-loop-again-2 c = choosing-same (c .before .before .before .before .before .loop .inv) (c .before .before .before .before .loop-test .taken) (c .before .before .wide .ensures .0) (c .before .rank .ensures) (c .if1 .left)
+loop-again-2 c = choosing-same (c .before .before .before .before .before .before .loop .inv) (c .before .before .before .before .before .loop-test .taken) (c .before .before .before .wide .ensures .0) (c .before .before .rank .ensures) (c .if2 .left)
 
-returns : tie.Need-returns Inv-loop μ-loop
-returns c = choosing-end (c .before .loop .inv) (c .loop-test .left)
+returns-2 : tie.Need-returns-2 Inv-loop μ-loop
+returns-2 c = choosing-end (c .before .loop .inv) (c .loop-test .left)
 
 pub best-spec : {M : Type 1} → statement M
 best-spec =
     tie.close
-    (tie.spec Inv-loop μ-loop loop-holds (λ c. search needs) (λ c. search needs) (λ c κs. search needs) rank-requires (λ c. search needs) (λ c. search needs) loop-again (λ c. search needs) (λ c. search needs) loop-again-2 returns)
+    (tie.spec Inv-loop μ-loop loop-holds (λ c. search needs) (λ c. search needs) (λ c κs. search needs) rank-requires returns (λ c. search needs) (λ c. search needs) loop-again (λ c. search needs) (λ c. search needs) loop-again-2 returns-2)

@@ -1,18 +1,21 @@
-use borrow.Author.Needs.{needs}
-use Prim.Native.Nat.{_-_, _≤_}
 use lib.ListN.{length}
+use Prim.Native.Nat.{_-_, _≤_}
+use borrow.Author.Needs.{needs}
 use Rattle.cut.proofs.SomeWayLaws.{ways-yes, ways-no}
 use Rattle.cut.proofs.have_ways.Statement.{statement}
 use Rattle.cut.proofs.have_ways.Tie as tie
 
 abbrev Inv-loop : tie.InvT-loop
-Inv-loop ord into i₀ i = i ≤ length ord
+Inv-loop ord into kinds i₀ i = i ≤ length ord
 
 abbrev μ-loop : tie.MeasureT-loop
-μ-loop ord into i₀ i = length ord - i
+μ-loop ord into kinds i₀ i = length ord - i
+
+has-way-requires : tie.Need-has-way-requires Inv-loop μ-loop
+has-way-requires c κs = c .before .before .before .before .before .before .mark-kinds .ensures .room
 
 returns : tie.Need-returns Inv-loop μ-loop
-returns c = ways-no (c .before .before .before .before .loop-test .taken) (c .before .before .wide .ensures .0) (c .before .has-way .ensures) (c .if1 .taken)
+returns c = ways-no (c .before .before .before .before .before .before .before .before .mark-kinds .ensures) (c .before .before .before .before .before .loop-test .taken) (c .before .before .wide .ensures .0) (c .before .has-way .ensures) (c .if1 .taken)
 
 returns-2 : tie.Need-returns-2 Inv-loop μ-loop
 returns-2 c = ways-yes _ _
@@ -20,4 +23,4 @@ returns-2 c = ways-yes _ _
 pub have-ways-spec : {M : Type 1} → statement M
 have-ways-spec =
     tie.close
-    (tie.spec Inv-loop μ-loop (λ c. search needs) (λ c. search needs) (λ c. search needs) (λ c κs. search needs) (λ c κs. search needs) returns (λ c. search needs) (λ c. search needs) (λ c. search needs) returns-2)
+    (tie.spec Inv-loop μ-loop (λ c. search needs) (λ c κs. search needs) (λ c. search needs) (λ c. search needs) (λ c. search needs) (λ c. search needs) (λ c κs. search needs) has-way-requires returns (λ c. search needs) (λ c. search needs) (λ c. search needs) returns-2)

@@ -1,4 +1,5 @@
-use Rattle.planner.proofs.VariantLaws.{part-spans, regress-able, regress-given, regress-stops}
+use Rattle.model.proofs.CheckLaws.{part-spans}
+use Rattle.planner.proofs.VariantLaws.{regress-able, regress-given, regress-stops}
 use borrow.Author.Needs.{needs}
 use Rattle.planner.proofs.regress_variant.Statement.{statement}
 use Rattle.planner.proofs.regress_variant.Tie as tie

@@ -1,4 +1,5 @@
-use Rattle.planner.proofs.VariantLaws.{part-words, reward-scalable, reward-given}
+use Rattle.model.proofs.CheckLaws.{part-words}
+use Rattle.planner.proofs.VariantLaws.{reward-scalable, reward-given}
 use borrow.Author.Needs.{needs}
 use Rattle.planner.proofs.scale_reward.Statement.{statement}
 use Rattle.planner.proofs.scale_reward.Tie as tie

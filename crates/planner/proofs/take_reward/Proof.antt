@@ -1,4 +1,4 @@
-use Rattle.planner.proofs.VariantLaws.{part-words}
+use Rattle.model.proofs.CheckLaws.{part-words}
 use Rattle.planner.proofs.HeldLaws.{taking-there, taking-room, taking-taken}
 use borrow.Author.Needs.{needs}
 use Rattle.planner.proofs.take_reward.Statement.{statement}

@@ -1,4 +1,5 @@
-use Rattle.planner.proofs.VariantLaws.{part-words, weigh-scalable, weigh-given}
+use Rattle.model.proofs.CheckLaws.{part-words}
+use Rattle.planner.proofs.VariantLaws.{weigh-scalable, weigh-given}
 use Prim.Native.Nat.{_+_}
 use lib.ListN.{getD}
 use borrow.Author.Needs.{needs}
