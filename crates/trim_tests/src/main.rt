@@ -295,6 +295,73 @@ fn no_arities(number: u64, words: &[u64]) {
     cut_with(number, &arities, words, &mut out, &mut work);
 }
 
+// Leaf 5 where q has all ordered pairs of three variables, or all of four others: the three go into the four.
+fn cliques() {
+    let words = [
+        LEAF,
+        5,
+        0,
+        LEAF,
+        0,
+        0,
+        43667456,
+        0,
+        1,
+        43663360,
+        2,
+        1,
+        43659264,
+        3,
+        1,
+        43409408,
+        4,
+        1,
+        43401216,
+        5,
+        1,
+        43397120,
+        6,
+        1,
+        43147264,
+        7,
+        1,
+        43143168,
+        8,
+        1,
+        43134976,
+        9,
+        1,
+        42885120,
+        10,
+        1,
+        42881024,
+        11,
+        1,
+        42876928,
+        12,
+        1,
+        42602496,
+        0,
+        13,
+        42598400,
+        14,
+        13,
+        42344448,
+        15,
+        13,
+        42336256,
+        16,
+        13,
+        42082304,
+        17,
+        13,
+        42078208,
+        18,
+        13,
+    ];
+    test(34, &words);
+}
+
 fn refusals() {
     // two equal children; no words; no arity list; short buffers; no listing comes before short buffers
     let none = [0u64; 0];
@@ -367,6 +434,7 @@ fn main() {
     nothing();
     covered();
     equality();
+    cliques();
     refusals();
     many();
 }
