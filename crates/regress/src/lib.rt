@@ -49,7 +49,7 @@ pub enum Freed {
 }
 
 // Whether one of the n marks from `first` on is set.
-fn any_set(marks: &[u64], first: usize, n: usize) -> bool
+pub fn any_set(marks: &[u64], first: usize, n: usize) -> bool
     requires { ⌜ first + n ≤ length (now marks) ⌝ }
     ensures { λ r. ⌜ r ≡ anySet (now (marks .entry)) first n ⌝ }
 {
@@ -531,7 +531,7 @@ fn replace_arguments(
 }
 
 // Word i, or 0 where there is none.
-fn word_at(words: &[u64], i: usize) -> u64
+pub fn word_at(words: &[u64], i: usize) -> u64
     ensures { λ r. ⌜ r ≡ getD (now (words .entry)) i 0 ⌝ }
 {
     if i < words.len() {
@@ -793,7 +793,7 @@ fn is_listed(arities: &[u64], truths: &[u64], spans: &[u64], p: usize) -> bool
 }
 
 // Whether all lent truth diagrams are listings.
-fn are_listed(arities: &[u64], truths: &[u64], spans: &[u64]) -> bool
+pub fn are_listed(arities: &[u64], truths: &[u64], spans: &[u64]) -> bool
     ensures { λ r. ⌜ r ≡ areListings (now (arities .entry)) (now (truths .entry)) (now (spans .entry)) 1 (predicateCount - 1) ⌝ }
 {
     let mut p = 1usize;
@@ -853,7 +853,7 @@ fn has_unbound(arities: &[u64], words: &[u64], n: usize) -> bool
 }
 
 // Checks the truth diagram of a predicate of arity n: 7, then 6.
-fn judge(arities: &[u64], words: &[u64], n: usize) -> Verdict
+pub fn judge(arities: &[u64], words: &[u64], n: usize) -> Verdict
     requires { ⌜ Valid (now arities) (now words) ⌝ }
     requires { ⌜ n ≤ mostPlaces ⌝ }
     ensures { λ r. ⌜ r ≡ verdictOn (now (arities .entry)) n (diagramOf (now (words .entry))) ⌝ }
