@@ -567,7 +567,7 @@ fn has_truth(spans: &[u64], p: usize) -> bool
 }
 
 // The words of the truth diagram of predicate p.
-fn truth_words<'a>(truths: &'a [u64], spans: &[u64], p: usize) -> &'a [u64]
+pub fn truth_words<'a>(truths: &'a [u64], spans: &[u64], p: usize) -> &'a [u64]
     requires { ⌜ p < predicateCount ⌝ }
     ensures { λ r. ⌜ now r ≡ truthWords (now (truths .entry)) (now (spans .entry)) p ⌝ }
 {
