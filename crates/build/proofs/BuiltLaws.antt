@@ -36,10 +36,11 @@ use Rattle.regress.specs.Running.{Valued, Ready, Gave, Ran, countThen}
 use Rattle.build.specs.declared.Built.{Built}
 use Rattle.build.specs.declared.Built.the-variants.{Done, Refused}
 use Rattle.build.specs.Build.{held}
-use Rattle.build.specs.Machine.{Op, build, built, builtClosed}
+use Rattle.build.specs.Machine.{build, built, builtClosed}
 use Rattle.build.specs.RegularLaws.{built-regular}
 use Rattle.build.specs.Stacks.{wholeOps}
 use Rattle.build.specs.Writing.{Callable, Under, Answered, RowWritable}
+use Rattle.reading.specs.Operations.{Op}
 
 -- a result held to 1,024 rows
 held-many : (d : Diagram) → mostRows < length (rows d) → held d ≡ refused NoSpace

@@ -6,9 +6,11 @@ use native.Mathlib.Omega.{arith}
 use lib.ListN.{length, getD, take}
 use lib.Seq.{length-take-le, getD-take}
 use Rattle.build.specs.declared.Built.{Built}
-use Rattle.build.specs.Machine.{Op, opAt, opsIn, built, builtClosed}
+use Rattle.build.specs.Machine.{built, builtClosed}
 use Rattle.build.specs.Stacks.{opsFrom, wholeOps}
 use Rattle.build.specs.Writing.{Buildable, Labelled, Callable, Under, Answered}
+use Rattle.names.specs.Many.{many}
+use Rattle.reading.specs.Operations.{Op, opAt, opsIn}
 
 from-last : (ws : List ℕ) (k n : ℕ) → opsFrom ws k (suc n) ≡ opsFrom ws k n ++ (opAt ws (k + n) ∷ [])
 unfolding opsFrom
@@ -18,7 +20,7 @@ from-last ws k (suc n) =
     ap (λ (os : List Op). opAt ws k ∷ os) (from-last ws (suc k) n ∙ ap (λ (j : ℕ). opsFrom ws (suc k) n ++ (opAt ws j ∷ [])) e)
 
 in-from : (ws : List ℕ) (n : ℕ) → opsIn ws n ≡ opsFrom ws 0 n
-unfolding opsIn opsFrom
+unfolding opsIn many opsFrom
 in-from ws zero = refl
 in-from ws (suc n) =
     let e : 0 + n ≡ n = omega arith in

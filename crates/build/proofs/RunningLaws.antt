@@ -16,8 +16,9 @@ use Rattle.regress.specs.Calls.{Outcome, ok, refused, andThen, Run}
 use Rattle.regress.specs.Running.{Space, Ready, Gave, Ran}
 use Rattle.build.specs.declared.Moved.{Moved}
 use Rattle.build.specs.declared.Moved.the-variants.{To, Refused}
-use Rattle.build.specs.Machine.{Machine, mostTests, operation, operations, ending, build, opAt}
+use Rattle.build.specs.Machine.{Machine, mostTests, operation, operations, ending, build}
 use Rattle.build.specs.Stacks.{opsFrom, wholeOps, testsOf, resultsOf, machineOf, stackWords, Stacked, rowsThen, Moves}
+use Rattle.reading.specs.Operations.{opAt}
 
 abbrev empty : Machine
 empty = record { tests = []; results = []; formed = [] }

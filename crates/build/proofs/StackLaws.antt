@@ -32,8 +32,10 @@ use Rattle.regress.specs.Step.{testDiagram, rowStep}
 use Rattle.regress.specs.Running.{Space, Ready, Two, Testable, Gave, Ran, countThen}
 use Rattle.build.specs.declared.Moved.{Moved}
 use Rattle.build.specs.declared.Moved.the-variants.{To, Refused}
-use Rattle.build.specs.Machine.{Op, leafOp, ask, step, Machine, mostTests, mostResults, given, closing, operation, opOf, opAt}
+use Rattle.build.specs.Machine.{Machine, mostTests, mostResults, given, closing, operation}
 use Rattle.build.specs.Stacks.{Ops, pickTest, testAt, testsOf, resultsOf, machineOf, Stacked, Moves}
+use Rattle.reading.specs.Operations.{Op, opAt, opOf}
+use Rattle.reading.specs.Operations.Op.{ask, leafOp, step}
 
 -- `test_at`
 pub test-is : (ops : List ℕ) (k : ℕ) → getD ops (k * 2) 0 ≡ 1 → Is (record { packed = getD ops (k * 2 + 1) 0 }) ≡ testAt ops k

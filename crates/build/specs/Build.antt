@@ -14,16 +14,8 @@ use Rattle.diagram.specs.Variables.{closed}
 use Rattle.regress.specs.Calls.{Outcome, ok, refused, andThen, pickOutcome, Run, bind, form}
 use Rattle.regress.specs.Result.{asked}
 use Rattle.regress.specs.Step.{testDiagram, rowStep}
-
--- a diagram as it is written, each atom as what it asks: a label, or t = t
-pub data Reading : Type 0 where
-  number : ℕ → Reading
-  branch : Test → Reading → Reading → Reading
-
--- how many (if ..) are open together
-abbrev pub depth : Reading → ℕ
-depth (number v) = 0
-depth (branch t h f) = suc (max (depth h) (depth f))
+use Rattle.reading.specs.Tree.{Reading}
+use Rattle.reading.specs.Tree.Reading.{branch, number}
 
 -- what is written means, for a choice of true or false for all labels, the leaf that the choice leads to
 abbrev pub meaning : (ℕ → Bool) → Reading → ℕ

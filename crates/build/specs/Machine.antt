@@ -12,17 +12,9 @@ use Rattle.diagram.specs.Diagram.{Diagram, leaf}
 use Rattle.diagram.specs.Variables.{closed}
 use Rattle.regress.specs.Calls.{Outcome, ok, refused, andThen, pickOutcome, Run, form}
 use Rattle.regress.specs.Step.{testDiagram, rowStep}
-use Rattle.build.specs.Build.{Reading, number, branch, held}
-
-pub data Op : Type 0 where
-  leafOp : ℕ → Op
-  ask : Test → Op
-  step : Op
-
--- an (if ..) asks its test, has its true part and its false part, and steps when it closes
-unfoldable pub opsOf : Reading → List Op
-opsOf (number v) = leafOp v ∷ []
-opsOf (branch t h f) = ask t ∷ (opsOf h ++ (opsOf f ++ (step ∷ [])))
+use Rattle.build.specs.Build.{held}
+use Rattle.reading.specs.Operations.{Op}
+use Rattle.reading.specs.Operations.Op.{ask, leafOp, step}
 
 -- 64 brackets open together at most: a test waits for each (if ..) that is open, and a true part's result for each of them, besides the last result
 abbrev pub mostTests : ℕ
@@ -86,19 +78,3 @@ built os = andThen (build os []) (λ p. held (p .0))
 unfoldable pub builtClosed : List ℕ → List Op → Outcome Diagram
 unfolding build closed
 builtClosed ar os = andThen (build os []) (λ p. held (closed ar (p .0)))
-
--- an operation as two words: 0 and a leaf's value, 1 and the label asked, 2 and 0 for t = t, 3 and 0 for a step
-abbrev pub opOf : ℕ → ℕ → Op
-opOf zero v = leafOp v
-opOf (suc zero) v = ask (Is (record { packed = v }))
-opOf (suc (suc zero)) v = ask Always
-opOf (suc (suc (suc k))) v = step
-
--- operation k in lent words, and the first n
-unfoldable pub opAt : List ℕ → ℕ → Op
-opAt ws k = opOf (getD ws (k * 2) 0) (getD ws (k * 2 + 1) 0)
-
-unfoldable pub opsIn : List ℕ → ℕ → List Op
-unfolding opAt
-opsIn ws zero = []
-opsIn ws (suc n) = opsIn ws n ++ (opAt ws n ∷ [])

@@ -10,8 +10,12 @@ use Rattle.diagram.specs.Diagram.{Diagram, leaf}
 use Rattle.diagram.specs.Variables.{closed}
 use Rattle.regress.specs.Calls.{Outcome, ok, refused, andThen, form}
 use Rattle.regress.specs.Step.{testDiagram, rowStep}
-use Rattle.build.specs.Build.{Reading, number, branch, depth, readDiagram, held, textDiagram, rewardDiagram}
-use Rattle.build.specs.Machine.{Op, leafOp, ask, step, opsOf, mostTests, mostResults, Machine, given, closing, operation, operations, ending, build, built, builtClosed}
+use Rattle.build.specs.Build.{readDiagram, held, textDiagram, rewardDiagram}
+use Rattle.build.specs.Machine.{mostTests, mostResults, Machine, given, closing, operation, operations, ending, build, built, builtClosed}
+use Rattle.reading.specs.Operations.{Op}
+use Rattle.reading.specs.Operations.Op.{ask, leafOp, step}
+use Rattle.reading.specs.Tree.{Reading, depth, opsOf}
+use Rattle.reading.specs.Tree.Reading.{branch, number}
 
 abbrev at : List Test → List Diagram → List Diagram → Machine
 at ts ds rs = record { tests = ts; results = ds; formed = rs }
@@ -45,7 +49,7 @@ ops-step t x y more ts ds rs = go (rowStep (testDiagram t) x y rs)
 
 pub build-ops : (r : Reading) (more : List Op) (ts : List Test) (ds rs : List Diagram) → length ts + depth r ≤ mostTests → length ds ≤ length ts
     → operations (opsOf r ++ more) (at ts ds rs) ≡ after more ts ds (readDiagram r rs)
-unfolding opsOf readDiagram
+unfolding readDiagram
 build-ops (number v) more ts ds rs h l = ops-leaf v more ts ds rs (omega arith)
 build-ops (branch t a b) more ts ds rs h l =
     ap (λ (os : List Op). operations (ask t ∷ os) (at ts ds rs)) (shape (opsOf a) (opsOf b) more)

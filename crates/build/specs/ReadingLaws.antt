@@ -24,8 +24,10 @@ use Rattle.regress.specs.CallLaws.{Accepted, accepted-ok, accepted-refused, acc
 use Rattle.regress.specs.Step.{testDiagram}
 use Rattle.regress.specs.StepLaws.{most-eval, eval-test, ordered-test, step-gives, eval-stepped, from-stepped, reduced-stepped, every-stepped}
 use Rattle.regress.specs.Result.{AtMost, asked, stepped}
-use Rattle.build.specs.Build.{Reading, number, branch, meaning, readDiagram, held, textDiagram, rewardDiagram}
+use Rattle.build.specs.Build.{meaning, readDiagram, held, textDiagram, rewardDiagram}
 use Rattle.build.specs.RegularLaws.{fine-made}
+use Rattle.reading.specs.Tree.{Reading}
+use Rattle.reading.specs.Tree.Reading.{branch, number}
 
 -- the diagram that the row steps give where none is refused
 unfoldable pub diagramFor : Reading → Diagram

@@ -20,9 +20,11 @@ use Rattle.regress.specs.CallLaws.{Accepted, accepted-ok, accepted-refused, acc
 use Rattle.regress.specs.Step.{testDiagram, rowStep}
 use Rattle.regress.specs.StepLaws.{eval-most, most-eval, eval-test, ordered-test, step-gives, eval-stepped, from-stepped, reduced-stepped, every-stepped}
 use Rattle.regress.specs.Result.{AtMost, asked, stepped}
-use Rattle.build.specs.Machine.{Op, leafOp, ask, step, Machine, given, closing, operation, operations, lone, build, opOf, opAt, mostTests, mostResults}
+use Rattle.build.specs.Machine.{Machine, given, closing, operation, operations, lone, build, mostTests, mostResults}
 use Rattle.build.specs.Stacks.{Ops, opsFrom, wholeOps}
 use Rattle.build.specs.Writing.{Under}
+use Rattle.reading.specs.Operations.{Op, opAt, opOf}
+use Rattle.reading.specs.Operations.Op.{ask, leafOp, step}
 
 abbrev All : {A : Type 0} → (A → Type 0) → List A → Type 0
 All P [] = Unit {0}

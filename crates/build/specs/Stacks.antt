@@ -19,7 +19,8 @@ use Rattle.regress.specs.Calls.{ok, refused}
 use Rattle.regress.specs.Running.{Space}
 use Rattle.build.specs.declared.Moved.{Moved}
 use Rattle.build.specs.declared.Moved.the-variants.{To, Refused}
-use Rattle.build.specs.Machine.{Op, Machine, mostTests, mostResults, opAt, operation}
+use Rattle.build.specs.Machine.{Machine, mostTests, mostResults, operation}
+use Rattle.reading.specs.Operations.{Op, opAt}
 
 abbrev pub pickTest : Bool → Test → Test → Test
 pickTest true x y = x

@@ -15,8 +15,10 @@ ghost use Rattle.diagram.specs.Variables.{closed};
 ghost use Rattle.apart.specs.Results.{Writable};
 ghost use Rattle.build.specs.Build.{held};
 ghost use Rattle.build.specs.Writing.{RowWritable, Answered, Callable, Under, Buildable, Labelled};
-ghost use Rattle.build.specs.Machine.{opAt, opsIn, step, build, built, builtClosed};
+ghost use Rattle.build.specs.Machine.{build, built, builtClosed};
 ghost use Rattle.build.specs.Stacks.{Ops, testAt, wholeOps, Stacked, machineOf, Moves};
+ghost use Rattle.reading.specs.Operations.{opAt, opsIn};
+ghost use Rattle.reading.specs.Operations.Op.{step};
 
 // Words of a plan of 4,096 pairs.
 const PLAN_WORDS: usize = 20480;

@@ -18,7 +18,7 @@ use Rattle.names.specs.Layout.{constantsAt, declaredAt, actionsAt, parametersAt
 use Rattle.names.specs.KeyLaws.{among-at, among-none, length-keys, keys-same, length-put, put-before, put-behind, keys-more}
 use Rattle.regress.specs.Calls.{Outcome, ok, refused}
 use Rattle.session.specs.Session.{Names}
-use Rattle.session.specs.Declaring.{isDeclared, constantLine, Vocabulary, predicateLine}
+use Rattle.session.specs.Declaring.{isDeclared, constantLine, Vocabulary, predicateLine, isTotal, isDiscount}
 use Rattle.declare.specs.declared.Counts.{Counts}
 use Rattle.declare.specs.declared.Declared.the-variants.{Done, Refused}
 use Rattle.declare.specs.Tables.{namesOf, GoodNames, Named, Naming, vocabularyOf, GoodVocabulary, Wording}
@@ -176,3 +176,25 @@ module _ (s ar : List ℕ) (n : Counts) (k : Key) (a : ℕ) where
 pub arity-room : (s ar : List ℕ) (n : Counts) → GoodVocabulary s ar n → n .predicates + 1 < 32 → n .predicates + 1 < length ar
 unfolding areArities
 arity-room s ar n g h = let e = eqb-true (length ar) 32 (and-left (eqb (length ar) 32) _ (g .arities)) in omega arith
+
+-- ===== (total W) and (discount G D) =====
+
+pub total-none : (w : ℕ) → w ≡ 0 → false ≡ isTotal w
+unfolding isTotal
+total-none w e = rw e
+
+pub total-some : (w : ℕ) → (w ≡ 0 → ⊥) → leb w 1000000 ≡ isTotal w
+unfolding isTotal
+total-some w e = rw (le-leb 1 w (omega (arith, e)))
+
+pub discount-none : (g d : ℕ) → d ≡ 0 → false ≡ isDiscount g d
+unfolding isDiscount
+discount-none g d e = rw e
+
+pub discount-over : (g d : ℕ) → (d ≡ 0 → ⊥) → 1000000 < d → false ≡ isDiscount g d
+unfolding isDiscount
+discount-over g d e h = rw (le-leb 1 d (omega (arith, e)), lt-leb d 1000000 h)
+
+pub discount-some : (g d : ℕ) → (d ≡ 0 → ⊥) → d ≤ 1000000 → leb g d ≡ isDiscount g d
+unfolding isDiscount
+discount-some g d e h = rw (le-leb 1 d (omega (arith, e)), le-leb d 1000000 h)

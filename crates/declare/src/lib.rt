@@ -8,7 +8,7 @@ ghost use Prim.Native.Nat.{ℕ, _+_, _*_, _<_, _≤_};
 ghost use lib.ListN.{length, drop};
 ghost use Rattle.events.specs.Front.{eventsOf};
 ghost use Rattle.events.specs.Contents.{keysIn};
-ghost use Rattle.session.specs.Declaring.{isDeclared, constantLine, predicateLine, actionLine};
+ghost use Rattle.session.specs.Declaring.{isDeclared, constantLine, predicateLine, isTotal, isDiscount, actionLine};
 ghost use Rattle.declare.specs.Tables.{namesOf, GoodNames, Naming, vocabularyOf, GoodVocabulary, Wording, ParametersOf, Copied};
 
 // How many names there are of each sort; parameters and variants are those of the last action.
@@ -178,4 +178,30 @@ pub fn action(
         parameters: count,
         variants: 0,
     })
+}
+
+// W, and D, at most.
+const MOST: u64 = 1000000;
+
+// Whether w may be the total of an action's weights.
+pub fn is_total(w: u64) -> bool
+    ensures { λ r. ⌜ r ≡ isTotal w ⌝ }
+{
+    if w == 0 {
+        return false;
+    }
+    w <= MOST
+}
+
+// Whether g / d may be the discount.
+pub fn is_discount(g: u64, d: u64) -> bool
+    ensures { λ r. ⌜ r ≡ isDiscount g d ⌝ }
+{
+    if d == 0 {
+        return false;
+    }
+    if d > MOST {
+        return false;
+    }
+    g <= d
 }

@@ -61,12 +61,20 @@ predicateLine v k a =
     }))))
 
 -- (total W): 1 to 1,000,000
+unfoldable pub isTotal : ℕ → Bool
+isTotal w = leb 1 w && leb w mostTotal
+
 unfoldable pub totalLine : ℕ → Outcome ℕ
-totalLine w = refuseIf (not (leb 1 w && leb w mostTotal)) Range (ok w)
+unfolding isTotal
+totalLine w = refuseIf (not (isTotal w)) Range (ok w)
 
 -- (discount G D): D 1 to 1,000,000, G 0 to D
+unfoldable pub isDiscount : ℕ → ℕ → Bool
+isDiscount g d = leb 1 d && (leb d mostDenominator && leb g d)
+
 unfoldable pub discountLine : ℕ → ℕ → Outcome (ℕ × ℕ)
-discountLine g d = refuseIf (not (leb 1 d && (leb d mostDenominator && leb g d))) Range (ok (g, d))
+unfolding isDiscount
+discountLine g d = refuseIf (not (isDiscount g d)) Range (ok (g, d))
 
 -- one of the names ks is among those before it, the names vs first
 unfoldable pub repeated : List Key → List Key → Bool

@@ -3,3 +3,4 @@ pub mod Place
 pub mod Session
 pub mod Declaring
 pub mod Facts
+pub mod Modelling

@@ -1,0 +1,205 @@
+-- Lines of the model with a diagram: their checks in order, and what an accepted one does (document 01, sections 'Text' and 'Refusals by trade word').
+use mathlib.Core.Bool.{Bool, true, false, not, _||_, _&&_}
+use mathlib.Core.List.{List, [], _∷_, _++_}
+use mathlib.Core.Option.{Option, some, none}
+use Prim.Native.Nat.{ℕ, suc, _+_}
+use lib.ListN.{length, getD}
+use lib.Dec.{ltb, leb, eqb}
+use Rattle.refusal.specs.declared.Refusal.the-variants.{Name, Truth, Space, Place, Weights}
+use Rattle.words.specs.Keys.{keyOf}
+use Rattle.words.specs.declared.Key.{Key}
+use Rattle.names.specs.Keys.{placeOf, isAmong}
+use Rattle.diagram.specs.Diagram.{Diagram, leaf, same}
+use Rattle.diagram.specs.Rows.{rows}
+use Rattle.apply.specs.declared.Operation.the-variants.{Sum}
+use Rattle.apply.specs.declared.Names.the-variants.{Shared}
+use Rattle.regress.specs.Calls.{Outcome, ok, refused, andThen, pickOutcome}
+use Rattle.regress.specs.Regression.{Truths}
+use Rattle.regress.specs.RegressCall.{leafAbove}
+use Rattle.forms.specs.Tree as T
+use Rattle.events.specs.Events.{wordsEvents}
+use Rattle.events.specs.declared.Event.{Event}
+use Rattle.reading.specs.declared.Binding.{Binding}
+use Rattle.reading.specs.declared.Binding.the-variants.{Any, None, Only}
+use Rattle.reading.specs.Reading.{Names as ReadingNames, Judged, Written, reading}
+use Rattle.reading.specs.Reading.Judged.{fine, refused as judged}
+use Rattle.reading.specs.Head.{Head, headNumber, headArguments}
+use Rattle.build.specs.Machine.{built, builtClosed}
+use Rattle.mdp.specs.Model.{Variant, Action, Model, mostVariants}
+use Rattle.mdp.specs.Backup.{combined}
+use Rattle.session.specs.Session.{Names, Singles, Session, refuseIf}
+
+-- all model listings together have 2,048 rows
+abbrev pub mostModelRows : ℕ
+mostModelRows = 2048
+
+-- the answer of a word's checks as an outcome
+abbrev pub outcomeOf : {A : Type 0} → Judged A → Outcome A
+outcomeOf (fine a) = ok a
+outcomeOf (judged r) = refused r
+
+-- the names that a diagram of the line may have: a reward has no parameters, and numbers its variables as they occur; a weight and a truth diagram have
+-- those of the last action
+abbrev pub namesFor : Session → Binding → List Key → ReadingNames
+namesFor σ b ps = record {
+    constants = σ .names .constants;
+    predicates = σ .names .predicates;
+    arities = σ .model .arities;
+    parameters = ps;
+    binding = b }
+
+-- the model's rows with those of d
+abbrev pub rowsWith : Session → Diagram → ℕ
+rowsWith σ d = σ .rows + length (rows d)
+
+-- ===== (reward DIAGRAM) =====
+
+unfoldable pub withReward : Session → Diagram → Session
+withReward σ d = record {
+    part = σ .part;
+    names = σ .names;
+    singles = record { total = σ .singles .total; discount = σ .singles .discount; reward = true };
+    model = record {
+        arities = σ .model .arities;
+        total = σ .model .total;
+        numerator = σ .model .numerator;
+        denominator = σ .model .denominator;
+        reward = d;
+        actions = σ .model .actions };
+    rows = rowsWith σ d;
+    live = σ .live;
+    held = σ .held }
+
+-- its words, 8, then 10, 11, 9 at each row step, 9 for its result, closed up; last 9 for model rows
+unfoldable pub rewardLine : Session → List Event → Outcome Session
+unfolding reading builtClosed withReward rows
+rewardLine σ es =
+    andThen (outcomeOf (reading (namesFor σ Any []) es [])) (λ w.
+    andThen (builtClosed (σ .model .arities) (w .operations)) (λ d.
+    refuseIf (ltb mostModelRows (rowsWith σ d)) Space
+    (ok (withReward σ d))))
+
+-- ===== (variant n WEIGHT) =====
+
+-- the last action with one variant more
+abbrev pub addVariant : List Action → Variant → List Action
+addVariant [] v = []
+addVariant (a ∷ []) v = record { count = a .count; variants = a .variants ++ (v ∷ []) } ∷ []
+addVariant (a ∷ b ∷ l) v = a ∷ addVariant (b ∷ l) v
+
+abbrev pub noTruths : Truths
+noTruths p = none
+
+unfoldable pub withVariant : Session → Key → Diagram → Session
+withVariant σ k d = record {
+    part = σ .part;
+    names = record {
+        constants = σ .names .constants;
+        predicates = σ .names .predicates;
+        actions = σ .names .actions;
+        parameters = σ .names .parameters;
+        variants = σ .names .variants ++ (k ∷ []) };
+    singles = σ .singles;
+    model = record {
+        arities = σ .model .arities;
+        total = σ .model .total;
+        numerator = σ .model .numerator;
+        denominator = σ .model .denominator;
+        reward = σ .model .reward;
+        actions = addVariant (σ .model .actions) (record { weight = d; truths = noTruths }) };
+    rows = rowsWith σ d;
+    live = σ .live;
+    held = σ .held }
+
+-- 2 at its name; the weight's words; its diagram; last 9 for 8 variants and model rows
+unfoldable pub variantLine : Session → Key → List Event → Outcome Session
+unfolding isAmong reading built withVariant rows
+variantLine σ k es =
+    refuseIf (isAmong k (σ .names .variants)) Name
+    (andThen (outcomeOf (reading (namesFor σ None (σ .names .parameters)) es [])) (λ w.
+    andThen (built (w .operations)) (λ d.
+    refuseIf (leb mostVariants (length (σ .names .variants)) || ltb mostModelRows (rowsWith σ d)) Space
+    (ok (withVariant σ k d)))))
+
+-- ===== (becomes (p ?a ..) DIAGRAM) =====
+
+abbrev pub pickOption : Bool → Option Diagram → Option Diagram → Option Diagram
+pickOption true x y = x
+pickOption false x y = y
+
+-- the truth diagrams with d for p
+unfoldable pub withTruthAt : Truths → ℕ → Diagram → Truths
+withTruthAt truths p d q = pickOption (eqb q p) (some d) (truths q)
+
+abbrev pub lastTruths : List Variant → (Truths → Truths) → List Variant
+lastTruths [] f = []
+lastTruths (v ∷ []) f = record { weight = v .weight; truths = f (v .truths) } ∷ []
+lastTruths (v ∷ w ∷ l) f = v ∷ lastTruths (w ∷ l) f
+
+abbrev pub lastVariant : List Action → (Truths → Truths) → List Action
+lastVariant [] f = []
+lastVariant (a ∷ []) f = record { count = a .count; variants = lastTruths (a .variants) f } ∷ []
+lastVariant (a ∷ b ∷ l) f = a ∷ lastVariant (b ∷ l) f
+
+-- the truth diagrams of the last variant of the last action
+abbrev pub truthsOfLast : List Variant → Truths
+truthsOfLast [] = noTruths
+truthsOfLast (v ∷ []) = v .truths
+truthsOfLast (v ∷ w ∷ l) = truthsOfLast (w ∷ l)
+
+abbrev pub truthsNow : List Action → Truths
+truthsNow [] = noTruths
+truthsNow (a ∷ []) = truthsOfLast (a .variants)
+truthsNow (a ∷ b ∷ l) = truthsNow (b ∷ l)
+
+abbrev pub isSome : Option Diagram → Bool
+isSome none = false
+isSome (some d) = true
+
+unfoldable pub withTruth : Session → ℕ → Diagram → Session
+unfolding withTruthAt
+withTruth σ p d = record {
+    part = σ .part;
+    names = σ .names;
+    singles = σ .singles;
+    model = record {
+        arities = σ .model .arities;
+        total = σ .model .total;
+        numerator = σ .model .numerator;
+        denominator = σ .model .denominator;
+        reward = σ .model .reward;
+        actions = lastVariant (σ .model .actions) (λ truths. withTruthAt truths p d) };
+    rows = rowsWith σ d;
+    live = σ .live;
+    held = σ .held }
+
+-- at the predicate's word 2 (undeclared, or it has one already), then 3; 2 at a repeated argument; the diagram's words, its arguments the only variables;
+-- its diagram; 7; last 9 for model rows
+unfoldable pub becomesLine : Session → List Event → Outcome Session
+unfolding headNumber headArguments reading built leafAbove withTruth rows
+becomesLine σ es =
+    andThen (outcomeOf (headNumber (σ .names .predicates) es)) (λ p.
+    refuseIf (isSome (truthsNow (σ .model .actions) p)) Name
+    (andThen (outcomeOf (headArguments (getD (σ .model .arities) p 0) es)) (λ h.
+    andThen (outcomeOf (reading (namesFor σ Only (σ .names .parameters)) (h .rest) (h .variables))) (λ w.
+    andThen (built (w .operations)) (λ d.
+    refuseIf (leafAbove 1 d) Truth
+    (refuseIf (ltb mostModelRows (rowsWith σ d)) Space
+    (ok (withTruth σ p d))))))))
+
+-- ===== (start) =====
+
+-- the weights of variants, begun at sum, each added in order with names shared
+unfoldable pub weightsSum : List ℕ → Diagram → List Variant → Outcome Diagram
+unfolding combined
+weightsSum ar sum [] = ok sum
+weightsSum ar sum (v ∷ vs) = andThen (combined Sum Shared ar sum (v .weight)) (λ sum′. weightsSum ar sum′ vs)
+
+-- action by action: the sum of its weights is the one leaf W, or 13
+unfoldable pub weighed : List ℕ → ℕ → List Action → Outcome (Unit {0})
+unfolding weightsSum same
+weighed ar total [] = ok tt
+weighed ar total (a ∷ l) =
+    andThen (weightsSum ar (leaf 0) (a .variants)) (λ sum.
+    refuseIf (not (same sum (leaf total))) Weights
+    (weighed ar total l))
