@@ -42,11 +42,12 @@ outcomeOf (judged r) = refused r
 -- those of the last action
 abbrev pub namesFor : Session → Binding → List Key → ReadingNames
 namesFor σ b ps = record {
-    constants = σ .names .constants;
-    predicates = σ .names .predicates;
-    arities = σ .model .arities;
-    parameters = ps;
-    binding = b }
+  constants = σ .names .constants;
+  predicates = σ .names .predicates;
+  arities = σ .model .arities;
+  parameters = ps;
+  binding = b;
+}
 
 -- the model's rows with those of d
 abbrev pub rowsWith : Session → Diagram → ℕ
@@ -56,19 +57,21 @@ rowsWith σ d = σ .rows + length (rows d)
 
 unfoldable pub withReward : Session → Diagram → Session
 withReward σ d = record {
-    part = σ .part;
-    names = σ .names;
-    singles = record { total = σ .singles .total; discount = σ .singles .discount; reward = true };
-    model = record {
-        arities = σ .model .arities;
-        total = σ .model .total;
-        numerator = σ .model .numerator;
-        denominator = σ .model .denominator;
-        reward = d;
-        actions = σ .model .actions };
-    rows = rowsWith σ d;
-    live = σ .live;
-    held = σ .held }
+  part = σ .part;
+  names = σ .names;
+  singles = record { total = σ .singles .total; discount = σ .singles .discount; reward = true };
+  model = record {
+    arities = σ .model .arities;
+    total = σ .model .total;
+    numerator = σ .model .numerator;
+    denominator = σ .model .denominator;
+    reward = d;
+    actions = σ .model .actions;
+  };
+  rows = rowsWith σ d;
+  live = σ .live;
+  held = σ .held;
+}
 
 -- its words, 8, then 10, 11, 9 at each row step, 9 for its result, closed up; last 9 for model rows
 unfoldable pub rewardLine : Session → List Event → Outcome Session
@@ -92,24 +95,27 @@ noTruths p = none
 
 unfoldable pub withVariant : Session → Key → Diagram → Session
 withVariant σ k d = record {
-    part = σ .part;
-    names = record {
-        constants = σ .names .constants;
-        predicates = σ .names .predicates;
-        actions = σ .names .actions;
-        parameters = σ .names .parameters;
-        variants = σ .names .variants ++ (k ∷ []) };
-    singles = σ .singles;
-    model = record {
-        arities = σ .model .arities;
-        total = σ .model .total;
-        numerator = σ .model .numerator;
-        denominator = σ .model .denominator;
-        reward = σ .model .reward;
-        actions = addVariant (σ .model .actions) (record { weight = d; truths = noTruths }) };
-    rows = rowsWith σ d;
-    live = σ .live;
-    held = σ .held }
+  part = σ .part;
+  names = record {
+    constants = σ .names .constants;
+    predicates = σ .names .predicates;
+    actions = σ .names .actions;
+    parameters = σ .names .parameters;
+    variants = σ .names .variants ++ (k ∷ []);
+  };
+  singles = σ .singles;
+  model = record {
+    arities = σ .model .arities;
+    total = σ .model .total;
+    numerator = σ .model .numerator;
+    denominator = σ .model .denominator;
+    reward = σ .model .reward;
+    actions = addVariant (σ .model .actions) (record { weight = d; truths = noTruths });
+  };
+  rows = rowsWith σ d;
+  live = σ .live;
+  held = σ .held;
+}
 
 -- 2 at its name; the weight's words; its diagram; last 9 for 8 variants and model rows
 unfoldable pub variantLine : Session → Key → List Event → Outcome Session
@@ -159,19 +165,21 @@ isSome (some d) = true
 unfoldable pub withTruth : Session → ℕ → Diagram → Session
 unfolding withTruthAt
 withTruth σ p d = record {
-    part = σ .part;
-    names = σ .names;
-    singles = σ .singles;
-    model = record {
-        arities = σ .model .arities;
-        total = σ .model .total;
-        numerator = σ .model .numerator;
-        denominator = σ .model .denominator;
-        reward = σ .model .reward;
-        actions = lastVariant (σ .model .actions) (λ truths. withTruthAt truths p d) };
-    rows = rowsWith σ d;
-    live = σ .live;
-    held = σ .held }
+  part = σ .part;
+  names = σ .names;
+  singles = σ .singles;
+  model = record {
+    arities = σ .model .arities;
+    total = σ .model .total;
+    numerator = σ .model .numerator;
+    denominator = σ .model .denominator;
+    reward = σ .model .reward;
+    actions = lastVariant (σ .model .actions) (λ truths. withTruthAt truths p d);
+  };
+  rows = rowsWith σ d;
+  live = σ .live;
+  held = σ .held;
+}
 
 -- at the predicate's word 2 (undeclared, or it has one already), then 3; 2 at a repeated argument; the diagram's words, its arguments the only variables;
 -- its diagram; 7; last 9 for model rows
