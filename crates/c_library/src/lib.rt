@@ -4,13 +4,14 @@ use apply::Names;
 use apply::Operation;
 use refusal::Refusal;
 use regress::Freed;
+use regress::Regressed;
 use state::Valued;
 ghost use mathlib.Core.Path.{_≡_};
 ghost use Rattle.diagram.specs.Words.{isListing};
 ghost use Rattle.apply.specs.declared.Operation.the-variants.{Sum, Product, Max};
 ghost use Rattle.apply.specs.declared.Names.the-variants.{Apart, Shared};
 ghost use Rattle.c_library.specs.Answers.{listingNumber};
-ghost use Rattle.c_library.specs.Calls.{Combines, Frees, Values};
+ghost use Rattle.c_library.specs.Calls.{Combines, Regresses, Frees, Values};
 
 // Whether the words are a listing under the arity list: 0, or 14.
 #[no_mangle]
@@ -202,6 +203,29 @@ pub extern "C" fn yindolve_max_shared(
         rows,
         pairs,
     )
+}
+
+// The regression of a value listing under truth diagrams.
+#[no_mangle]
+pub extern "C" fn yindolve_regress(
+    arities: &[u64],
+    words: &[u64],
+    truths: &[u64],
+    spans: &[u64],
+    result: &mut [u64],
+    work: &mut [u64],
+    rows: &mut u64,
+) -> u64
+    ensures { λ r. ⌜ Regresses (now (arities .entry)) (now (words .entry)) (now (truths .entry)) (now (spans .entry)) (now (result .entry)) (now (work .entry)) (now (rows .entry)) r (now (result .exit)) (now (rows .exit)) ⌝ }
+{
+    let answer = regress::regress(arities, words, truths, spans, result, work);
+    match answer {
+        Regressed::Done(n) => {
+            *rows = n as u64;
+            0
+        }
+        Regressed::Refused(why) => why.number(),
+    }
 }
 
 // Frees the parameters of an action that has `count` of them.
