@@ -1,16 +1,16 @@
 /* Yindolve, a value engine on first-order decision diagrams: the functions of the static library, for C.
  *
  * Memory. The library owns none: the caller lends every word, 64 bits each, as a pointer and a count of words. A pointer is to as many words as its count says and
- * is not null, also where the count is 0; what a call writes to (result, work, rows, pairs, value) overlaps nothing else that the call is lent. Nothing else
- * is asked of the words: any are taken, and those that are not what they should be are refused.
+ * is not null, also where the count is 0; what a call writes to (result, work, rows, pairs, row, edge, value) overlaps nothing else that the call is lent. Nothing
+ * else is asked of the words: any are taken, and those that are not what they should be are refused.
  *
  * Listings. A row is three words: a leaf is YINDOLVE_LEAF, its value, 0; a branch is its label, true row, false row. A label is predicate * 2^24 + t1 * 2^18 +
  * t2 * 2^12 + t3 * 2^6 + t4, unused places 0. Terms: constants 0 to 15, parameters 16 to 19, variables 32 to 63. Predicate 0 is equality, its smaller term
  * first. Rows are numbered as a walk from the root, true branch first, finishes them, so that the root is the last row. With each call goes a list of
  * YINDOLVE_ARITIES arities, the first of them 2, each at most 4.
  *
- * Answers. Each function answers 0, or the number of the refusal. After a refusal the result buffer, the counts and the value are as they were. Words of the
- * result buffer behind a result stay. The working space may hold anything before a call and holds nothing of use after it.
+ * Answers. Each function answers 0, or the number of the refusal. After a refusal the result buffer and what the other pointers are to, the working space
+ * apart, are as they were. Words of the result buffer behind a result stay. The working space may hold anything before a call and holds nothing of use after it.
  *
  * Each function is proved to answer and to write what document 01 says, on all words.
  */
@@ -36,11 +36,12 @@ extern "C" {
 #define YINDOLVE_WORK_WORDS 6144   /* a working space, at least */
 #define YINDOLVE_CONSTANTS 16      /* the objects of a state's constants */
 #define YINDOLVE_FACT_WORDS 5      /* a fact: its predicate and four objects, unused places ignored */
+#define YINDOLVE_SPAN_WORDS 64     /* where truth diagrams stand: two words for each predicate */
 
 /* The refusals that library calls answer. */
 enum {
     YINDOLVE_RANGE = 4,       /* a state without objects or with an object beyond them; more than 4 parameters */
-    YINDOLVE_UNBOUND = 6,     /* a parameter where none is allowed, or past the action's */
+    YINDOLVE_UNBOUND = 6,     /* a parameter where none is allowed, or past the action's; a truth diagram's variable that is no argument */
     YINDOLVE_TRUTH = 7,       /* a truth diagram's leaf above 1 */
     YINDOLVE_VARIABLES = 8,   /* more than 32 variables, or a variable past 63 */
     YINDOLVE_SPACE = 9,       /* more than 2,048 rows formed, or a result of more than 1,024 */
@@ -74,11 +75,31 @@ uint64_t yindolve_max_apart(const uint64_t *arities, size_t arities_count, const
 uint64_t yindolve_max_shared(const uint64_t *arities, size_t arities_count, const uint64_t *first, size_t first_count, const uint64_t *second,
     size_t second_count, uint64_t *result, size_t result_count, uint64_t *work, size_t work_count, uint64_t *rows, uint64_t *pairs);
 
+/* The regression of a value listing (`words`) under truth diagrams, the result to `result`, its rows to *rows: each test is replaced by what makes its atom true
+ * after an action. The listings of the truth diagrams are lent in `truths`, and `spans` has two words for each predicate: spans[2 * p] is the word of `truths`
+ * where the listing of predicate p begins, and spans[2 * p + 1] how many words it has, 0 for a predicate that stays as it is. A listing ends with `truths` at
+ * the latest. A word of `spans` that is not lent counts as 0; the two of predicate 0 and words past YINDOLVE_SPAN_WORDS are not read. A truth diagram has
+ * leaves 0 and 1, and its variables are the arguments of its predicate, 32 onward in their order; it may have parameters.
+ * Refused, in this order: LISTING for the value listing, then for the truth diagrams by predicate number; BUFFER; diagram by diagram TRUTH, then UNBOUND (a
+ * variable that is no argument); then step by step PAIRS, TOO_HIGH, SPACE.
+ */
+uint64_t yindolve_regress(const uint64_t *arities, size_t arities_count, const uint64_t *words, size_t words_count, const uint64_t *truths, size_t truths_count,
+    const uint64_t *spans, size_t spans_count, uint64_t *result, size_t result_count, uint64_t *work, size_t work_count, uint64_t *rows);
+
 /* Frees the parameters of an action that has `parameters` of them: parameter 16 + i turns into variable 32 + i, and the other variables move up by that count.
  * Refused, in this order: LISTING; BUFFER; RANGE (more than 4 parameters); UNBOUND (a parameter past the count); VARIABLES (a variable would pass 63).
  */
 uint64_t yindolve_free(const uint64_t *arities, size_t arities_count, const uint64_t *words, size_t words_count, uint64_t parameters, uint64_t *result,
     size_t result_count, const uint64_t *work, size_t work_count, uint64_t *rows);
+
+/* Cuts a listing: one edge goes to leaf 0, and the diagram is reduced and closed up. The result goes to `result` and its rows to *rows, the row of `words` whose
+ * edge went to *row, and 1 for its true edge or 0 for its false one to *edge. An edge may go if it is not to leaf 0 yet and each path through it to a leaf above
+ * 0 has a path that avoids it, with a leaf at least as high, and a replacement of that path's variables by terms of the two paths under which each of its
+ * literals is one of the first path or is t = t true. The highest row goes first, its true edge before its false one.
+ * Refused, in this order: LISTING; BUFFER; PATHS; NOTHING.
+ */
+uint64_t yindolve_cut(const uint64_t *arities, size_t arities_count, const uint64_t *words, size_t words_count, uint64_t *result, size_t result_count,
+    uint64_t *work, size_t work_count, uint64_t *row, uint64_t *edge, uint64_t *rows);
 
 /* The value of a listing in a state, to *value: the highest leaf over all valuations of its variables. The state has objects 0 to objects - 1; constants[c] is the
  * object of constant c (0 for a constant that has no word, words past YINDOLVE_CONSTANTS are not read); facts are rows of YINDOLVE_FACT_WORDS words, words behind

@@ -2,15 +2,18 @@
 use apply::Combined;
 use apply::Names;
 use apply::Operation;
+use cut::Cut;
+use cut::Edge;
 use refusal::Refusal;
 use regress::Freed;
+use regress::Regressed;
 use state::Valued;
 ghost use mathlib.Core.Path.{_≡_};
 ghost use Rattle.diagram.specs.Words.{isListing};
 ghost use Rattle.apply.specs.declared.Operation.the-variants.{Sum, Product, Max};
 ghost use Rattle.apply.specs.declared.Names.the-variants.{Apart, Shared};
-ghost use Rattle.c_library.specs.Answers.{listingNumber};
-ghost use Rattle.c_library.specs.Calls.{Combines, Frees, Values};
+ghost use Rattle.c_library.specs.Answers.{listingNumber, edgeNumber};
+ghost use Rattle.c_library.specs.Calls.{Combines, Regresses, Frees, Cuts, Values};
 
 // Whether the words are a listing under the arity list: 0, or 14.
 #[no_mangle]
@@ -204,6 +207,29 @@ pub extern "C" fn yindolve_max_shared(
     )
 }
 
+// The regression of a value listing under truth diagrams.
+#[no_mangle]
+pub extern "C" fn yindolve_regress(
+    arities: &[u64],
+    words: &[u64],
+    truths: &[u64],
+    spans: &[u64],
+    result: &mut [u64],
+    work: &mut [u64],
+    rows: &mut u64,
+) -> u64
+    ensures { λ r. ⌜ Regresses (now (arities .entry)) (now (words .entry)) (now (truths .entry)) (now (spans .entry)) (now (result .entry)) (now (work .entry)) (now (rows .entry)) r (now (result .exit)) (now (rows .exit)) ⌝ }
+{
+    let answer = regress::regress(arities, words, truths, spans, result, work);
+    match answer {
+        Regressed::Done(n) => {
+            *rows = n as u64;
+            0
+        }
+        Regressed::Refused(why) => why.number(),
+    }
+}
+
 // Frees the parameters of an action that has `count` of them.
 #[no_mangle]
 pub extern "C" fn yindolve_free(
@@ -223,6 +249,41 @@ pub extern "C" fn yindolve_free(
             0
         }
         Freed::Refused(why) => why.number(),
+    }
+}
+
+// An edge as a number: 1 for the true edge, 0 for the false one.
+fn edge_number(edge: Edge) -> u64
+    ensures { λ r. ⌜ r ≡ edgeNumber edge ⌝ }
+{
+    match edge {
+        Edge::True => 1,
+        Edge::False => 0,
+    }
+}
+
+// Cuts a listing once.
+#[no_mangle]
+pub extern "C" fn yindolve_cut(
+    arities: &[u64],
+    words: &[u64],
+    result: &mut [u64],
+    work: &mut [u64],
+    row: &mut u64,
+    edge: &mut u64,
+    rows: &mut u64,
+) -> u64
+    ensures { λ r. ⌜ Cuts (now (arities .entry)) (now (words .entry)) (now (result .entry)) (now (work .entry)) (now (row .entry)) (now (edge .entry)) (now (rows .entry)) r (now (result .exit)) (now (row .exit)) (now (edge .exit)) (now (rows .exit)) ⌝ }
+{
+    let answer = trim::cut(arities, words, result, work);
+    match answer {
+        Cut::Done(k, e, n) => {
+            *row = k as u64;
+            *edge = edge_number(e);
+            *rows = n as u64;
+            0
+        }
+        Cut::Refused(why) => why.number(),
     }
 }
 

@@ -1,0 +1,15 @@
+use Rattle.c_library.proofs.CallLaws.{regressed-done, regressed-refused}
+use borrow.Author.Needs.{needs}
+use Rattle.c_library.proofs.yindolve_regress.Statement.{statement}
+use Rattle.c_library.proofs.yindolve_regress.Tie as tie
+
+returns : tie.Need-returns
+returns c = regressed-done _ (c .before .before .before .before .before .before .before .regress .ensures .0) (c .before .before .before .before .before .before .before .regress .ensures .1) (c .before .answer .given .1)
+
+returns-2 : tie.Need-returns-2
+returns-2 c = regressed-refused _ (c .before .before .before .before .before .before .before .before .regress .ensures .0) (c .before .before .before .before .before .before .before .before .regress .ensures .1) (c .before .before .answer2 .given .1) (c .number .ensures)
+
+pub yindolve-regress-spec : {M : Type 1} → statement M
+yindolve-regress-spec =
+    tie.close
+    (tie.spec (λ c κs. search needs) (λ c. search needs) (λ c. search needs) (λ c κs. search needs) (λ c. search needs) (λ c. search needs) returns (λ c. search needs) (λ c. search needs) returns-2)
