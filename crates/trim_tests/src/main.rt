@@ -429,12 +429,67 @@ fn many() {
     test(52, &more);
 }
 
+fn label_of(a: u64, b: u64) -> u64 {
+    Q_FIRST + a % 64 * 262144 + b % 64 * 4096
+}
+
+// Number j of the numbers but i.
+fn other(i: u64, j: u64) -> u64 {
+    if j < i {
+        return j;
+    }
+    j % 64 + 1
+}
+
+// The label of q with the ordered pair k of the variables 32 to 39; it grows with k.
+fn eight_pair(k: usize) -> u64 {
+    let n = (k as u64) % 56;
+    label_of(32 + n / 7, 32 + other(n / 7, n % 7) % 32)
+}
+
+// The same with the variables 40 to 46.
+fn seven_pair(k: usize) -> u64 {
+    let n = (k as u64) % 42;
+    label_of(40 + n / 6, 40 + other(n / 6, n % 6) % 24)
+}
+
+fn ask_eight(words: &mut [u64]) {
+    let mut i = 3;
+    while i < 57 {
+        put(words, i, eight_pair(57 - i), (i - 1) as u64, 1);
+        i += 1;
+    }
+}
+
+fn have_seven(words: &mut [u64]) {
+    let mut i = 58;
+    while i < 100 {
+        put(words, i, seven_pair(99 - i), (i - 1) as u64, 1);
+        i += 1;
+    }
+}
+
+// Leaf 5 where q has all ordered pairs of eight variables; leaf 4 where it lacks the first of them and has all pairs of seven others. The eight do not go into
+// the seven, which takes a search that must not try all ways.
+fn large_cliques() {
+    let mut words = [0u64; 303];
+    put(&mut words, 0, LEAF, 5, 0);
+    put(&mut words, 1, LEAF, 0, 0);
+    put(&mut words, 2, eight_pair(55), 0, 1);
+    ask_eight(&mut words);
+    put(&mut words, 57, LEAF, 4, 0);
+    have_seven(&mut words);
+    put(&mut words, 100, eight_pair(0), 56, 99);
+    test(35, &words);
+}
+
 fn main() {
     run();
     nothing();
     covered();
     equality();
     cliques();
+    large_cliques();
     refusals();
     many();
 }
