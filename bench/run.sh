@@ -9,3 +9,6 @@ cc -Wall -Wextra -Iinclude -o target/bench/calls bench/calls.c target/staticlib/
 target/bench/calls
 rustc --edition 2021 -C opt-level=3 -o target/bench/main bench/main.rs -L target/staticlib -l static=c_library
 target/bench/main
+# all cuts of the first value diagram of examples/logistics.txt; the arities are those of on, tin, bin and rain
+rustc --edition 2021 -C opt-level=3 -o target/bench/cuts bench/cuts.rs -L target/staticlib -l static=c_library
+target/bench/cuts 2 2 2 0 <bench/logistics.rows
