@@ -52,15 +52,15 @@ many-every {A} P f (suc n) v h k = let r = every-last P (many f n) (f n) h in go
     go p rest (inr l) = rest l
 
 -- a refusal met is the answer, whatever follows
-refused-stays : {A : Type 0} (s : List A → Outcome Diagram) (step : Diagram → A → Outcome Diagram) (f : ℕ → A)
+pub refused-stays : {A D : Type 0} (s : List A → Outcome D) (step : D → A → Outcome D) (f : ℕ → A)
     → ((l : List A) (a : A) → s (l ++ (a ∷ [])) ≡ andThen (s l) (λ d. step d a)) → (v n : ℕ) (e : Refusal) → s (many f v) ≡ refused e → v ≤ n → s (many f n) ≡ refused e
 unfolding many
 refused-stays s step f more v zero e h k = let z : v ≡ 0 = omega arith in subst (λ (x : ℕ). s (many f x) ≡ refused e) z h
-refused-stays {A} s step f more v (suc n) e h k = go (refused-stays s step f more v n e h) (eq-or-lt-of-le k)
+refused-stays {A} {D} s step f more v (suc n) e h k = go (refused-stays s step f more v n e h) (eq-or-lt-of-le k)
   where
     go : (v ≤ n → s (many f n) ≡ refused e) → (v ≡ suc n) ⊎ (v < suc n) → s (many f n ++ (f n ∷ [])) ≡ refused e
     go rest (inl z) = subst (λ (x : ℕ). s (many f x) ≡ refused e) z h
-    go rest (inr l) = more (many f n) (f n) ∙ ap (λ (o : Outcome Diagram). andThen o (λ d. step d (f n))) (rest (le-of-suc-le-suc l))
+    go rest (inr l) = more (many f n) (f n) ∙ ap (λ (o : Outcome D). andThen o (λ d. step d (f n))) (rest (le-of-suc-le-suc l))
 
 -- ===== A fold over n parts, as the loops run it =====
 
@@ -70,7 +70,7 @@ pub record Folded {A : Type 0} (ar : List ℕ) (s : List A → Outcome Diagram) 
 module _ {A : Type 0} (s : List A → Outcome Diagram) (step : Diagram → A → Outcome Diagram) (f : ℕ → A)
     (more : (l : List A) (a : A) → s (l ++ (a ∷ [])) ≡ andThen (s l) (λ d. step d a)) {ar : List ℕ} where
   -- leaf 0 first
-  folded-start : areArities ar ≡ true → s [] ≡ ok (leaf 0) → {n : ℕ} {out : List ℕ} → Begun n out → Folded ar s f out n 0
+  pub folded-start : areArities ar ≡ true → s [] ≡ ok (leaf 0) → {n : ℕ} {out : List ℕ} → Begun n out → Folded ar s f out n 0
   unfolding many
   folded-start good e {n} {out} b = record {
     result = subst (λ (x : ℕ). Result ar (s []) x out) (sym (b .one)) (record {
@@ -89,18 +89,18 @@ module _ {A : Type 0} (s : List A → Outcome Diagram) (step : Diagram → A →
     step-is = done-then (λ d. step d (f v)) (x .result) (more (many f v) (f v))
 
     module _ {r : Step} {out′ : List ℕ} (g : Given ar (step (diagramOf (take (n * 3) out)) (f v)) r out′) where
-      folded-stops : {e : Refusal} → r ≡ Refused e → (count : ℕ) → v < count → {out″ : List ℕ} → Given ar (s (many f count)) r out″
+      pub folded-stops : {e : Refusal} → r ≡ Refused e → (count : ℕ) → v < count → {out″ : List ℕ} → Given ar (s (many f count)) r out″
       folded-stops {e} h count l {out″} =
           let k : s (many f (suc v)) ≡ refused e = step-is ∙ step-refused (step (diagramOf (take (n * 3) out)) (f v)) e (sym (g .answer) ∙ h) in
           subst (λ (z : Step). Given ar (s (many f count)) z out″) (sym h) (given-refused (refused-stays s step f more (suc v) count e k l))
 
-      folded-on : {m : ℕ} → r ≡ Rows m → Folded ar s f out′ m (v + 1)
+      pub folded-on : {m : ℕ} → r ≡ Rows m → Folded ar s f out′ m (v + 1)
       folded-on {m} h = record {
         result = subst (λ (k : ℕ). Result ar (s (many f k)) m out′) (sym (add-one v))
             (subst (λ (o : Outcome Diagram). Result ar o m out′) (sym step-is) (g .result m h));
       }
 
-    folded-end : {count : ℕ} → count ≡ v → Given ar (s (many f count)) (Rows n) out
+    pub folded-end : {count : ℕ} → count ≡ v → Given ar (s (many f count)) (Rows n) out
     folded-end {count} e = subst (λ (k : ℕ). Given ar (s (many f k)) (Rows n) out) (sym e) (result-given (x .result))
 
 -- ===== The sum over the variants =====

@@ -48,7 +48,7 @@ fn told(r: Combined) -> Step
 }
 
 // Combines two listings, names shared.
-fn shared(
+pub fn shared(
     op: Operation,
     arities: &[u64],
     x: &[u64],
@@ -115,7 +115,7 @@ fn max_shared(arities: &[u64], buffer: &mut [u64], n: usize, y: &[u64], work: &m
 }
 
 // Writes leaf 0: one row.
-fn begin(out: &mut [u64]) -> usize
+pub fn begin(out: &mut [u64]) -> usize
     requires { ⌜ resultWords ≤ length (now out) ⌝ }
     ensures { λ r. ⌜ Begun r (now (out .exit)) ⌝ }
 {

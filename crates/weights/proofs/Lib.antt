@@ -1,0 +1,3 @@
+-- Laws of the code.
+pub mod SumLaws
+pub mod ActionLaws

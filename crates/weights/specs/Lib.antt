@@ -1,0 +1,2 @@
+-- The weights of a model in lent words.
+pub mod Weighing
