@@ -1,3 +1,5 @@
 -- Laws that the functions' proofs use.
 pub mod WordLaws
 pub mod AddLaws
+pub mod VariantLaws
+pub mod GoodLaws

@@ -1,10 +1,15 @@
 // What accepted lines add to a model in lent words.
 use model::Head;
 ghost use mathlib.Core.Path.{_≡_};
-ghost use Prim.Native.Nat.{_+_, _*_, _≤_};
+ghost use Prim.Native.Nat.{_+_, _*_, _<_, _≤_};
 ghost use lib.ListN.{length};
 ghost use lib.Seq.{paste};
-ghost use Rattle.modelling.specs.Building.{ActionRoom, ActionAdded, RowsRoom, RewardAdded};
+ghost use Rattle.mdp.specs.Model.{mostVariants};
+ghost use Rattle.model.specs.Layout.{spanWords, actionWords, variantsOf};
+ghost use Rattle.modelling.specs.Building.{ActionRoom, ActionAdded, RowsRoom, RewardAdded, Cleared, Opened, VariantRoom, VariantAdded};
+
+// Words of a variant in the table for its truth diagrams: two for each predicate.
+const SPAN_WORDS: usize = 64;
 
 // Copies the first rows of the result buffer into the listings, from the word `start` on.
 fn append(listings: &mut [u64], start: usize, out: &[u64], rows: usize)
@@ -53,6 +58,59 @@ pub fn add_reward(listings: &mut [u64], head: Head, out: &[u64], rows: usize) ->
         denominator: head.denominator,
         reward_start: start,
         reward_words: n,
+        actions: head.actions,
+        words: start + n,
+    }
+}
+
+// No words: 64 words of the table from the word `first` on become 0.
+fn clear(table: &mut [u64], first: usize)
+    requires { ⌜ first + spanWords ≤ length (now table) ⌝ }
+    ensures { λ _. ⌜ Cleared (now (table .entry)) first spanWords (now (table .exit)) ⌝ }
+{
+    let mut k = 0;
+    while k < SPAN_WORDS {
+        table[first + k] = 0;
+        k += 1;
+    }
+}
+
+// One variant more of the action a: its weight has n words from the word `start` of the listings on, and it has no truth diagram.
+fn open_variant(table: &mut [u64], a: usize, start: usize, n: usize)
+    requires { ⌜ a * actionWords + actionWords ≤ length (now table) ⌝ }
+    requires { ⌜ variantsOf (now table) a < mostVariants ⌝ }
+    ensures { λ _. ⌜ Opened (now (table .entry)) a start n (now (table .exit)) ⌝ }
+{
+    let v = table[a * model::ACTION_WORDS + 1] as usize;
+    let place = a * model::ACTION_WORDS + 2 + v * model::VARIANT_WORDS;
+    clear(table, place + 2);
+    table[place] = start as u64;
+    table[place + 1] = n as u64;
+    table[a * model::ACTION_WORDS + 1] = (v + 1) as u64;
+}
+
+// (variant n WEIGHT): one variant more of the last action, the result buffer's first rows are its weight.
+pub fn add_variant(
+    listings: &mut [u64],
+    table: &mut [u64],
+    head: Head,
+    out: &[u64],
+    rows: usize,
+) -> Head
+    requires { ⌜ RowsRoom (now listings) head (now out) rows ⌝ }
+    requires { ⌜ VariantRoom (now table) head ⌝ }
+    ensures { λ r. ⌜ VariantAdded (now (listings .entry)) (now (table .entry)) head (now (out .entry)) rows (now (listings .exit)) (now (table .exit)) r ⌝ }
+{
+    let start = head.words;
+    append(listings, start, out, rows);
+    let n = rows * 3;
+    open_variant(table, head.actions - 1, start, n);
+    Head {
+        total: head.total,
+        numerator: head.numerator,
+        denominator: head.denominator,
+        reward_start: head.reward_start,
+        reward_words: head.reward_words,
         actions: head.actions,
         words: start + n,
     }
