@@ -2,4 +2,5 @@
 pub mod WordLaws
 pub mod AddLaws
 pub mod VariantLaws
+pub mod TruthLaws
 pub mod GoodLaws

@@ -161,3 +161,8 @@ pub record Opened (table : List ℕ) (a start n : ℕ) (table′ : List ℕ) : T
 -- where the last variant of the last action stands
 abbrev pub lastPlace : List ℕ → Head → ℕ
 lastPlace table h = variantPlace (h .actions - 1) (variantsOf table (h .actions - 1) - 1)
+
+-- the two words for the truth diagram of the predicate p stand at the place i, within the table
+pub record TruthPlaced (table : List ℕ) (h : Head) (p i : ℕ) : Type 0 where
+  pub place : i ≡ truthPlace (lastPlace table h) p
+  pub inside : i + 2 ≤ length table

@@ -6,7 +6,7 @@ ghost use lib.ListN.{length};
 ghost use lib.Seq.{paste};
 ghost use Rattle.mdp.specs.Model.{mostVariants};
 ghost use Rattle.model.specs.Layout.{spanWords, actionWords, variantsOf};
-ghost use Rattle.modelling.specs.Building.{ActionRoom, ActionAdded, RowsRoom, RewardAdded, Cleared, Opened, VariantRoom, VariantAdded};
+ghost use Rattle.modelling.specs.Building.{ActionRoom, ActionAdded, RowsRoom, RewardAdded, Cleared, Opened, VariantRoom, VariantAdded, TruthRoom, TruthPlaced, HasTruth, TruthAdded};
 
 // Words of a variant in the table for its truth diagrams: two for each predicate.
 const SPAN_WORDS: usize = 64;
@@ -105,6 +105,59 @@ pub fn add_variant(
     append(listings, start, out, rows);
     let n = rows * 3;
     open_variant(table, head.actions - 1, start, n);
+    Head {
+        total: head.total,
+        numerator: head.numerator,
+        denominator: head.denominator,
+        reward_start: head.reward_start,
+        reward_words: head.reward_words,
+        actions: head.actions,
+        words: start + n,
+    }
+}
+
+// Where the two words for the truth diagram of the predicate p stand in the table, for the last variant of the last action.
+fn truth_place(table: &[u64], head: Head, p: usize) -> usize
+    requires { ⌜ TruthRoom (now table) head p ⌝ }
+    ensures { λ r. ⌜ TruthPlaced (now (table .entry)) head p r ⌝ }
+{
+    let a = head.actions - 1;
+    let v = (table[a * model::ACTION_WORDS + 1] as usize) - 1;
+    a * model::ACTION_WORDS + 2 + v * model::VARIANT_WORDS + 2 + p * 2
+}
+
+// Whether the last variant of the last action has a truth diagram of the predicate p.
+pub fn has_truth(table: &[u64], head: Head, p: usize) -> bool
+    requires { ⌜ TruthRoom (now table) head p ⌝ }
+    ensures { λ r. ⌜ HasTruth (now (table .entry)) head p r ⌝ }
+{
+    let place = truth_place(table, head, p);
+    if table[place + 1] == 0 {
+        return false;
+    }
+    true
+}
+
+// (becomes (p ?a ..) DIAGRAM): the result buffer's first rows are the truth diagram of the predicate p, of the last variant of the last action.
+pub fn add_truth(
+    listings: &mut [u64],
+    table: &mut [u64],
+    head: Head,
+    p: usize,
+    out: &[u64],
+    rows: usize,
+) -> Head
+    requires { ⌜ RowsRoom (now listings) head (now out) rows ⌝ }
+    requires { ⌜ 0 < rows ⌝ }
+    requires { ⌜ TruthRoom (now table) head p ⌝ }
+    ensures { λ r. ⌜ TruthAdded (now (listings .entry)) (now (table .entry)) head p (now (out .entry)) rows (now (listings .exit)) (now (table .exit)) r ⌝ }
+{
+    let start = head.words;
+    append(listings, start, out, rows);
+    let n = rows * 3;
+    let place = truth_place(table, head, p);
+    table[place] = start as u64;
+    table[place + 1] = n as u64;
     Head {
         total: head.total,
         numerator: head.numerator,
