@@ -1,24 +1,20 @@
 -- Laws of the lines that add to a model: the model afterwards, and what stays good.
-use mathlib.Core.Path.{_≡_, refl, sym, ap, ap₂, _∙_, fun-ext}
+use mathlib.Core.Path.{_≡_, refl, ap, ap₂, _∙_}
 use mathlib.Core.Bool.{true}
 use mathlib.Core.List.{List, [], _∷_, _++_}
-use mathlib.Core.Option.{some, none}
-use Prim.Native.Nat.{ℕ, zero, suc, _+_, _*_, _-_, _≤_, _<_}
+use Prim.Native.Nat.{ℕ, suc, _+_, _*_, _≤_, _<_}
 use native.Mathlib.Omega.{arith}
-use lib.ListN.{length, getD, set, take, drop, length-set}
-use lib.Seq.{getD-set-same, getD-set-other, paste, length-paste}
-use Rattle.label.specs.Limits.{predicateCount}
+use lib.ListN.{length, getD, set, take, length-set}
+use lib.Seq.{getD-set-same, getD-set-other, paste}
 use Rattle.state.specs.ValueLaws.{by-low}
 use Rattle.diagram.specs.Diagram.{Diagram}
 use Rattle.diagram.specs.Words.{isListing}
 use Rattle.diagram.specs.Listing.{diagramOf}
-use Rattle.regress.specs.Regression.{Truths}
-use Rattle.mdp.specs.Model.{Variant, Action, Model}
-use Rattle.session.specs.Modelling.{addVariant}
+use Rattle.mdp.specs.Model.{Action, Model}
 use Rattle.model.specs.declared.Head.{Head}
-use Rattle.model.specs.Layout.{many, part, listingWords, variantWords, actionWords, variantPlace, weightWords, variantAt, variantsOf, actionAt, rewardWords, modelOf}
-use Rattle.modelling.specs.Building.{Inside, truthPlace, SpannedVariant, SpannedAction, Spanned, ListedVariant, Listed, Building, withActions, rewarded, newAction, newVariant, ActionRoom, ActionAdded, RowsRoom, RewardAdded}
-use Rattle.modelling.proofs.WordLaws.{Same, variantOf, actionOf, actionUse, part-under, paste-before, paste-there, truth-none, many-same, action-same, variant-same, spanned-variant, spanned-action, listed-variant}
+use Rattle.model.specs.Layout.{many, part, listingWords, actionWords, variantPlace, variantAt, variantsOf, actionAt, rewardWords, modelOf}
+use Rattle.modelling.specs.Building.{SpannedAction, Spanned, ListedVariant, Listed, Building, withActions, rewarded, newAction, moreActions, rewardHead, ActionRoom, ActionAdded, RowsRoom, RewardAdded}
+use Rattle.modelling.proofs.WordLaws.{Same, actionOf, actionUse, paste-before, paste-there, many-same, action-same, spanned-action, listed-variant}
 
 -- the model that a head's numbers, a reward and actions are
 abbrev pub modelWith : List ℕ → Head → Diagram → List Action → Model
@@ -36,17 +32,6 @@ abbrev pub snoc : {A : Type 0} → List A → A → List A
 snoc l x = l ++ (x ∷ [])
 
 -- ===== One action more =====
-
-abbrev pub moreActions : Head → Head
-moreActions h = record {
-  total = h .total;
-  numerator = h .numerator;
-  denominator = h .denominator;
-  «reward_start» = h .«reward_start»;
-  «reward_words» = h .«reward_words»;
-  actions = h .actions + 1;
-  words = h .words;
-}
 
 -- the words of the action a in use stay where no word before the action n changes
 pub below-action : (t t′ : List ℕ) (n a w : ℕ) → ((j : ℕ) → j < n * actionWords → getD t′ j 0 ≡ getD t j 0) → a < n → SpannedAction t w a
@@ -123,22 +108,13 @@ module _ (t : List ℕ) (h : Head) (c : ℕ) (r : ActionRoom t h) where
 
   pub action-added : ActionAdded t h c (set (set t (h .actions * actionWords) c) (h .actions * actionWords + 1) 0) (moreActions h)
   action-added = record {
+    answer = refl;
+    variants = variants-none;
     model = action-model;
     building = λ ar l b. record { spanned = action-spanned; listed = action-listed ar l (b .listed) };
   }
 
 -- ===== A reward =====
-
-abbrev pub rewardHead : Head → ℕ → Head
-rewardHead h n = record {
-  total = h .total;
-  numerator = h .numerator;
-  denominator = h .denominator;
-  «reward_start» = h .words;
-  «reward_words» = n;
-  actions = h .actions;
-  words = h .words + n;
-}
 
 -- n words behind the first w
 pub record Appended (l : List ℕ) (w : ℕ) (out : List ℕ) (n : ℕ) (l′ : List ℕ) : Type 0 where
@@ -180,4 +156,4 @@ module _ {l l′ out : List ℕ} {h : Head} {n : ℕ} (p : Appended l (h .words)
 
 pub reward-added : {l l′ out : List ℕ} {h : Head} {rows : ℕ} → RowsRoom l h out rows → l′ ≡ paste l (h .words) out (rows * 3)
     → RewardAdded l h out rows l′ (rewardHead h (rows * 3))
-reward-added r e = let p = appended r e in record { model = reward-model p; building = reward-building p (r .room) }
+reward-added r e = let p = appended r e in record { answer = refl; model = reward-model p; building = reward-building p (r .room) }

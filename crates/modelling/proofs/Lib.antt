@@ -3,4 +3,4 @@ pub mod WordLaws
 pub mod AddLaws
 pub mod VariantLaws
 pub mod TruthLaws
-pub mod GoodLaws
+pub mod BuildingLaws

@@ -2,8 +2,8 @@
 use mathlib.Core.Path.{_≡_, refl, sym, ap, ap₂, subst, _∙_, fun-ext}
 use mathlib.Core.Bool.{Bool, true, false}
 use mathlib.Core.List.{List, [], _∷_, _++_}
-use mathlib.Core.Option.{Option, some, none}
-use Prim.Native.Nat.{ℕ, zero, suc, _+_, _*_, _-_, _≤_, _<_}
+use mathlib.Core.Option.{some, none}
+use Prim.Native.Nat.{ℕ, suc, _+_, _*_, _-_, _≤_, _<_}
 use native.Mathlib.Omega.{arith}
 use lib.ListN.{length, getD, set, take, length-set}
 use lib.Seq.{getD-set-same, getD-set-other, paste}
@@ -21,10 +21,9 @@ use Rattle.mdp.specs.Model.{Variant, Action, mostVariants}
 use Rattle.session.specs.Modelling.{lastVariant, lastTruths, withTruthAt, pickOption, truthsNow, truthsOfLast, isSome}
 use Rattle.model.specs.declared.Head.{Head}
 use Rattle.model.specs.Layout.{many, part, variantWords, actionWords, variantPlace, weightWords, spansAt, variantAt, variantsOf, actionAt, modelOf}
-use Rattle.modelling.specs.Building.{Inside, truthPlace, SpannedVariant, SpannedAction, Spanned, ListedVariant, Listed, Building, withActions, RowsRoom, TruthRoom, HasTruth, TruthAdded, lastPlace, TruthPlaced}
+use Rattle.modelling.specs.Building.{Inside, truthPlace, SpannedVariant, SpannedAction, ListedVariant, Listed, withActions, RowsRoom, TruthRoom, HasTruth, TruthAdded, lastPlace, TruthPlaced, moreWords}
 use Rattle.modelling.proofs.WordLaws.{Same, variantOf, actionOf, actionUse, part-under, truth-none, truth-here, truth-same, truths-over, span-same, many-same, action-same, variant-same, inside-kept, spanned-variant, spanned-action, listed-variant}
 use Rattle.modelling.proofs.AddLaws.{modelWith, snoc, below-action, Appended, appended}
-use Rattle.modelling.proofs.VariantLaws.{moreWords}
 
 -- ===== The last of a list =====
 
@@ -309,6 +308,8 @@ module _ {l l′ t out : List ℕ} {h : Head} {rows p : ℕ} (r : RowsRoom l h o
 
   pub truth-added : {j : ℕ} → TruthPlaced t h p j → TruthAdded l t h p out rows l′ (set (set t j (h .words)) (j + 1) (rows * 3)) (moreWords h (rows * 3))
   truth-added s = subst (λ (x : ℕ). TruthAdded l t h p out rows l′ (set (set t x (h .words)) (x + 1) (rows * 3)) (moreWords h (rows * 3))) (sym (s .place)) (record {
+    answer = refl;
+    variants = before (a * actionWords + 1) (omega arith);
     model = model-is;
     building = λ ar b g. record {
       spanned = record {

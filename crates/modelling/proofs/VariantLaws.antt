@@ -2,19 +2,18 @@
 use mathlib.Core.Path.{_≡_, refl, sym, ap, ap₂, subst, _∙_, fun-ext}
 use mathlib.Core.Bool.{true}
 use mathlib.Core.List.{List, [], _∷_, _++_}
-use Prim.Native.Nat.{ℕ, zero, suc, _+_, _*_, _-_, _≤_, _<_}
+use Prim.Native.Nat.{ℕ, suc, _+_, _*_, _-_, _≤_, _<_}
 use native.Mathlib.Omega.{arith}
 use lib.ListN.{length, getD, set, take, length-set}
 use lib.Seq.{getD-set-same, getD-set-other, paste}
 use Rattle.state.specs.ValueLaws.{by-low}
-use Rattle.diagram.specs.Diagram.{Diagram}
 use Rattle.diagram.specs.Words.{isListing}
 use Rattle.diagram.specs.Listing.{diagramOf}
 use Rattle.mdp.specs.Model.{Variant, Action, mostVariants}
 use Rattle.session.specs.Modelling.{addVariant}
 use Rattle.model.specs.declared.Head.{Head}
 use Rattle.model.specs.Layout.{many, part, spanWords, variantWords, actionWords, variantPlace, variantAt, variantsOf, actionAt, modelOf}
-use Rattle.modelling.specs.Building.{truthPlace, SpannedVariant, SpannedAction, Spanned, ListedVariant, Listed, Building, withActions, newVariant, RowsRoom, VariantRoom, VariantAdded, Cleared, newPlace, Opened}
+use Rattle.modelling.specs.Building.{truthPlace, SpannedVariant, SpannedAction, ListedVariant, Listed, withActions, newVariant, RowsRoom, VariantRoom, VariantAdded, Cleared, newPlace, Opened, moreWords}
 use Rattle.modelling.proofs.WordLaws.{Same, variantOf, actionOf, actionUse, part-under, truth-none, many-same, action-same, variant-same, spanned-variant, spanned-action, listed-variant}
 use Rattle.modelling.proofs.AddLaws.{modelWith, snoc, below-action, Appended, appended}
 
@@ -88,18 +87,6 @@ module _ (t t₁ : List ℕ) (a x n : ℕ) (l : a * actionWords + actionWords �
   }
 
 -- ===== The model =====
-
--- the head with n words more in use
-abbrev pub moreWords : Head → ℕ → Head
-moreWords h n = record {
-  total = h .total;
-  numerator = h .numerator;
-  denominator = h .denominator;
-  «reward_start» = h .«reward_start»;
-  «reward_words» = h .«reward_words»;
-  actions = h .actions;
-  words = h .words + n;
-}
 
 add-last : (l : List Action) (a : Action) (v : Variant) → addVariant (l ++ (a ∷ [])) v ≡ l ++ (actionOf (a .count) (a .variants ++ (v ∷ [])) ∷ [])
 add-last [] a v = refl
@@ -215,6 +202,8 @@ module _ {l l′ t t′ out : List ℕ} {h : Head} {rows : ℕ} (r : RowsRoom l 
 
   pub variant-added : VariantAdded l t h out rows l′ t′ (moreWords h (rows * 3))
   variant-added = record {
+    answer = refl;
+    variants = o .more;
     model = model-is;
     building = λ ar b i. record {
       spanned = record {

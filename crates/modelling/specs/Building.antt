@@ -85,6 +85,44 @@ pub record Building (ar listings table : List ℕ) (h : Head) : Type 0 where
   pub spanned : Spanned table h
   pub listed : Listed ar listings table h
 
+-- ===== The head afterwards =====
+
+-- one action more
+abbrev pub moreActions : Head → Head
+moreActions h = record {
+  total = h .total;
+  numerator = h .numerator;
+  denominator = h .denominator;
+  «reward_start» = h .«reward_start»;
+  «reward_words» = h .«reward_words»;
+  actions = h .actions + 1;
+  words = h .words;
+}
+
+-- the next n words are in use too, and are the reward
+abbrev pub rewardHead : Head → ℕ → Head
+rewardHead h n = record {
+  total = h .total;
+  numerator = h .numerator;
+  denominator = h .denominator;
+  «reward_start» = h .words;
+  «reward_words» = n;
+  actions = h .actions;
+  words = h .words + n;
+}
+
+-- the next n words are in use too
+abbrev pub moreWords : Head → ℕ → Head
+moreWords h n = record {
+  total = h .total;
+  numerator = h .numerator;
+  denominator = h .denominator;
+  «reward_start» = h .«reward_start»;
+  «reward_words» = h .«reward_words»;
+  actions = h .actions;
+  words = h .words + n;
+}
+
 -- ===== What is asked before a line adds to the model, and what holds then =====
 
 -- one action more
@@ -93,6 +131,8 @@ pub record ActionRoom (table : List ℕ) (h : Head) : Type 0 where
   pub more : h .actions < mostActions
 
 pub record ActionAdded (table : List ℕ) (h : Head) (count : ℕ) (table′ : List ℕ) (h′ : Head) : Type 0 where
+  pub answer : h′ ≡ moreActions h
+  pub variants : variantsOf table′ (h .actions) ≡ 0
   pub model : (ar listings : List ℕ) → modelOf ar listings table′ h′
       ≡ withActions (modelOf ar listings table h) (modelOf ar listings table h .actions ++ (newAction count ∷ []))
   pub building : (ar listings : List ℕ) → Building ar listings table h → Building ar listings table′ h′
@@ -105,6 +145,7 @@ pub record RowsRoom (listings : List ℕ) (h : Head) (out : List ℕ) (rows : �
 
 -- a reward
 pub record RewardAdded (listings : List ℕ) (h : Head) (out : List ℕ) (rows : ℕ) (listings′ : List ℕ) (h′ : Head) : Type 0 where
+  pub answer : h′ ≡ rewardHead h (rows * 3)
   pub model : (ar table : List ℕ) → Spanned table h → modelOf ar listings′ table h′ ≡ rewarded (modelOf ar listings table h) (diagramOf (take (rows * 3) out))
   pub building : (ar table : List ℕ) → Building ar listings table h → isListing ar (take (rows * 3) out) ≡ true → Building ar listings′ table h′
 
@@ -115,6 +156,8 @@ pub record VariantRoom (table : List ℕ) (h : Head) : Type 0 where
   pub more : variantsOf table (h .actions - 1) < mostVariants
 
 pub record VariantAdded (listings table : List ℕ) (h : Head) (out : List ℕ) (rows : ℕ) (listings′ table′ : List ℕ) (h′ : Head) : Type 0 where
+  pub answer : h′ ≡ moreWords h (rows * 3)
+  pub variants : variantsOf table′ (h .actions - 1) ≡ variantsOf table (h .actions - 1) + 1
   pub model : (ar : List ℕ) → modelOf ar listings′ table′ h′
       ≡ withActions (modelOf ar listings table h) (addVariant (modelOf ar listings table h .actions) (newVariant (diagramOf (take (rows * 3) out))))
   pub building : (ar : List ℕ) → Building ar listings table h → isListing ar (take (rows * 3) out) ≡ true → Building ar listings′ table′ h′
@@ -131,6 +174,8 @@ pub record HasTruth (table : List ℕ) (h : Head) (p : ℕ) (b : Bool) : Type 0 
   pub answer : (ar listings : List ℕ) → b ≡ isSome (truthsNow (modelOf ar listings table h .actions) p)
 
 pub record TruthAdded (listings table : List ℕ) (h : Head) (p : ℕ) (out : List ℕ) (rows : ℕ) (listings′ table′ : List ℕ) (h′ : Head) : Type 0 where
+  pub answer : h′ ≡ moreWords h (rows * 3)
+  pub variants : variantsOf table′ (h .actions - 1) ≡ variantsOf table (h .actions - 1)
   pub model : (ar : List ℕ) → modelOf ar listings′ table′ h′
       ≡ withActions (modelOf ar listings table h)
       (lastVariant (modelOf ar listings table h .actions) (λ truths. withTruthAt truths p (diagramOf (take (rows * 3) out))))

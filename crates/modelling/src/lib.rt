@@ -155,9 +155,9 @@ pub fn add_truth(
     let start = head.words;
     append(listings, start, out, rows);
     let n = rows * 3;
-    let place = truth_place(table, head, p);
-    table[place] = start as u64;
-    table[place + 1] = n as u64;
+    let at = truth_place(table, head, p);
+    table[at] = start as u64;
+    table[at + 1] = n as u64;
     Head {
         total: head.total,
         numerator: head.numerator,

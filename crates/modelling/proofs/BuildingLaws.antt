@@ -1,21 +1,29 @@
--- Laws of a model while its lines are read: the first one has no action, and what the planner asks of the words holds of every one.
-use mathlib.Core.Path.{_≡_, refl, sym, ap, ap₂, _∙_}
-use mathlib.Core.Bool.{Bool, true, false, _||_, _&&_}
-use mathlib.Core.List.{List}
-use Prim.Native.Nat.{ℕ, zero, suc, _+_, _*_, _-_, _≤_, _<_}
+-- Laws of a model while its lines are read: how it begins, that each line adds what the session says, and that its words are laid out as the planner asks.
+use mathlib.Core.Path.{_≡_, refl, ap, ap₂, _∙_}
+use mathlib.Core.Bool.{true, _||_, _&&_}
+use mathlib.Core.List.{List, []}
+use Prim.Native.Nat.{ℕ, zero, suc, _+_, _-_, _≤_, _<_}
 use native.Mathlib.Omega.{arith}
-use lib.ListN.{length, getD}
+use lib.ListN.{length}
 use lib.Dec.{eqb}
 use borrow.Author.Tests.{eqb-false}
 use Rattle.basics.specs.Tests.{Flag, isTrue, isFalse, flag, or-one, or-other}
 use Rattle.label.specs.Limits.{predicateCount}
+use Rattle.words.specs.declared.Key.{Key}
+use Rattle.diagram.specs.Diagram.{Diagram, leaf}
 use Rattle.diagram.specs.Words.{isListing}
+use Rattle.diagram.specs.Listing.{treeAt, diagramOf}
 use Rattle.regress.specs.RegressCall.{truthCount, truthWords, areListings}
 use Rattle.regress.specs.RegressCallLaws.{listings-none, listings-cons}
+use Rattle.session.specs.Session.{Session}
+use Rattle.session.specs.Modelling.{withReward, addVariant, withVariant, lastVariant, withTruthAt, withTruth}
 use Rattle.model.specs.declared.Head.{Head}
-use Rattle.model.specs.Layout.{part, tableWords, variantPlace, spansAt, LaidVariant, LaidAction}
-use Rattle.modelling.specs.Building.{Spanned, Listed, Building, truthPlace, SpannedVariant, ListedVariant}
+use Rattle.model.specs.Layout.{many, part, tableWords, variantPlace, spansAt, actionAt, modelOf, LaidVariant, LaidAction}
+use Rattle.modelling.specs.Building.{rewarded, withActions, newVariant, Building, SpannedVariant, ListedVariant}
 use Rattle.modelling.proofs.WordLaws.{span-count, span-start}
+use Rattle.modelling.proofs.AddLaws.{modelWith}
+
+-- ===== The first =====
 
 -- no action and no reward yet
 pub begun : {ar listings table : List ℕ} {h : Head} → tableWords ≤ length table → h .actions ≡ 0 → h .words ≡ 0 → h .«reward_start» ≡ 0 → h .«reward_words» ≡ 0
@@ -24,6 +32,30 @@ begun r a w s n = record {
   spanned = record { room = r; few = omega arith; used = omega arith; reward = omega arith; actions = λ k q. absurd (omega arith) };
   listed = record { reward = λ f. absurd (f n); variants = λ k v q y. absurd (omega arith) };
 }
+
+pub begun-model : (ar listings table : List ℕ) (h : Head) → h .actions ≡ 0 → h .«reward_words» ≡ 0
+    → modelOf ar listings table h
+    ≡ record { arities = ar; total = h .total; numerator = h .numerator; denominator = h .denominator; reward = leaf 0; actions = [] }
+unfolding modelOf many diagramOf treeAt
+begun-model ar listings table h a n =
+    ap₂ (modelWith ar h) (ap (λ (k : ℕ). diagramOf (part listings (h .«reward_start») k)) n) (ap (many (actionAt listings table)) a)
+
+-- ===== What the session says of each line =====
+
+module _ (σ : Session) (d : Diagram) where
+  pub reward-line : withReward σ d .model ≡ rewarded (σ .model) d
+  unfolding withReward
+  reward-line = refl
+
+  pub variant-line : (k : Key) → withVariant σ k d .model ≡ withActions (σ .model) (addVariant (σ .model .actions) (newVariant d))
+  unfolding withVariant
+  variant-line k = refl
+
+  pub truth-line : (p : ℕ) → withTruth σ p d .model ≡ withActions (σ .model) (lastVariant (σ .model .actions) (λ truths. withTruthAt truths p d))
+  unfolding withTruth
+  truth-line p = refl
+
+-- ===== Laid out =====
 
 -- n predicates from p on
 listings-are : (ar truths spans : List ℕ) (p n : ℕ)
