@@ -39,6 +39,13 @@ clear-end {s} {t} {i} {k} c h l = let e : k ≡ spanWords = omega arith in subst
 
 -- ===== The table =====
 
+module _ (t t₁ : List ℕ) (a x n i m : ℕ) (l : a * actionWords + actionWords ≤ length t) (few : variantsOf t a < mostVariants) (c : Cleared t i m t₁) where
+  pub place-second : newPlace t a + 1 < length (set t₁ (newPlace t a) x)
+  place-second = omega (arith, length-set t₁ (newPlace t a) x, c .size)
+
+  pub place-count : a * actionWords + 1 < length (set (set t₁ (newPlace t a) x) (newPlace t a + 1) n)
+  place-count = omega (arith, length-set t₁ (newPlace t a) x, length-set (set t₁ (newPlace t a) x) (newPlace t a + 1) n, c .size)
+
 module _ (t t₁ : List ℕ) (a x n : ℕ) (l : a * actionWords + actionWords ≤ length t) (few : variantsOf t a < mostVariants)
     (c : Cleared t (newPlace t a + 2) spanWords t₁) where
   abbrev t₂ : List ℕ
@@ -60,17 +67,11 @@ module _ (t t₁ : List ℕ) (a x n : ℕ) (l : a * actionWords + actionWords �
   length-three : length t₃ ≡ length t
   length-three = length-set t₂ (newPlace t a + 1) n ∙ length-two
 
-  pub place-second : newPlace t a + 1 < length (set t₁ (newPlace t a) x)
-  place-second = omega (arith, length-two)
-
-  pub place-count : a * actionWords + 1 < length (set (set t₁ (newPlace t a) x) (newPlace t a + 1) n)
-  place-count = omega (arith, length-three)
-
   pub opened : Opened t a x n (set (set (set t₁ (newPlace t a) x) (newPlace t a + 1) n) (a * actionWords + 1) (variantsOf t a + 1))
   opened = record {
     size = length-set t₃ (a * actionWords + 1) (variantsOf t a + 1) ∙ length-three;
     before = λ j h. kept j (λ e. omega arith) (omega arith);
-    more = getD-set-same t₃ (a * actionWords + 1) (variantsOf t a + 1) 0 place-count;
+    more = getD-set-same t₃ (a * actionWords + 1) (variantsOf t a + 1) 0 (omega (arith, length-three));
     others = λ j h k. kept j (λ e. omega arith) k;
     begins =
         getD-set-other t₃ (a * actionWords + 1) (newPlace t a) (variantsOf t a + 1) 0 (λ e. omega arith)
@@ -78,7 +79,7 @@ module _ (t t₁ : List ℕ) (a x n : ℕ) (l : a * actionWords + actionWords �
         ∙ getD-set-same t₁ (newPlace t a) x 0 (omega (arith, c .size));
     counts =
         getD-set-other t₃ (a * actionWords + 1) (newPlace t a + 1) (variantsOf t a + 1) 0 (λ e. omega arith)
-        ∙ getD-set-same t₂ (newPlace t a + 1) n 0 place-second;
+        ∙ getD-set-same t₂ (newPlace t a + 1) n 0 (omega (arith, length-two));
     zeros = λ j h k.
         getD-set-other t₃ (a * actionWords + 1) j (variantsOf t a + 1) 0 (λ e. omega arith)
         ∙ getD-set-other t₂ (newPlace t a + 1) j n 0 (λ e. omega arith)
