@@ -1,0 +1,2 @@
+-- A model in lent words while its lines are read.
+pub mod Building
