@@ -1,6 +1,5 @@
 -- Laws of the lines that add to a model: the model afterwards, and what stays good.
 use mathlib.Core.Path.{_≡_, refl, ap, ap₂, _∙_}
-use mathlib.Core.Bool.{true}
 use mathlib.Core.List.{List, [], _∷_, _++_}
 use Prim.Native.Nat.{ℕ, suc, _+_, _*_, _≤_, _<_}
 use native.Mathlib.Omega.{arith}
@@ -8,13 +7,12 @@ use lib.ListN.{length, getD, set, take, length-set}
 use lib.Seq.{getD-set-same, getD-set-other, paste}
 use Rattle.state.specs.ValueLaws.{by-low}
 use Rattle.diagram.specs.Diagram.{Diagram}
-use Rattle.diagram.specs.Words.{isListing}
 use Rattle.diagram.specs.Listing.{diagramOf}
 use Rattle.mdp.specs.Model.{Action, Model}
 use Rattle.model.specs.declared.Head.{Head}
 use Rattle.model.specs.Layout.{many, part, listingWords, actionWords, variantPlace, variantAt, variantsOf, actionAt, rewardWords, modelOf}
-use Rattle.modelling.specs.Building.{SpannedAction, Spanned, ListedVariant, Listed, Building, withActions, rewarded, newAction, moreActions, rewardHead, ActionRoom, ActionAdded, RowsRoom, RewardAdded}
-use Rattle.modelling.proofs.WordLaws.{Same, actionOf, actionUse, paste-before, paste-there, many-same, action-same, spanned-action, listed-variant}
+use Rattle.modelling.specs.Building.{SpannedAction, Spanned, Canonical, ListedVariant, Listed, Building, withActions, rewarded, newAction, moreActions, rewardHead, ActionRoom, ActionAdded, RowsRoom, RewardAdded}
+use Rattle.modelling.proofs.WordLaws.{Same, actionOf, actionUse, paste-before, paste-there, many-same, action-same, spanned-action, canonical-on, listed-variant}
 
 -- the model that a head's numbers, a reward and actions are
 abbrev pub modelWith : List ℕ → Head → Diagram → List Action → Model
@@ -93,16 +91,16 @@ module _ (t : List ℕ) (h : Head) (c : ℕ) (r : ActionRoom t h) where
         (λ k. let z = none-from a q k in record { few = omega (arith, z); variants = λ v y. absurd (omega (arith, z, y)) });
   }
 
-  action-listed : (ar l : List ℕ) → Listed ar l t h → Listed ar l t′ (moreActions h)
-  action-listed ar l x = record {
+  action-listed : (l : List ℕ) → Listed l t h → Listed l t′ (moreActions h)
+  action-listed l x = record {
     reward = x .reward;
-    variants = λ a v q k. by-low (ListedVariant ar l t′ (variantPlace a v)) (h .actions) a
+    variants = λ a v q k. by-low (ListedVariant l t′ (variantPlace a v)) (h .actions) a
         (λ z.
         let y = r .spanned .actions a z in
         let s = below-action t t′ (h .actions) a (h .words) words-same z y in
         let u = s (a * actionWords + 1) (omega arith) (omega arith) in
         let g : v < variantsOf t a = omega (arith, u, k) in
-        listed-variant l l t t′ (h .words) (h .words) refl (omega arith) ar (variantPlace a v) (λ j m o. s j (omega arith) (omega arith)) (y .variants v g) (x .variants a v z g))
+        listed-variant l l t t′ (h .words) (h .words) refl (omega arith) (variantPlace a v) (λ j m o. s j (omega arith) (omega arith)) (y .variants v g) (x .variants a v z g))
         (λ z. absurd (omega (arith, none-from a q z, k)));
   }
 
@@ -111,7 +109,7 @@ module _ (t : List ℕ) (h : Head) (c : ℕ) (r : ActionRoom t h) where
     answer = refl;
     variants = variants-none;
     model = action-model;
-    building = λ ar l b. record { spanned = action-spanned; listed = action-listed ar l (b .listed) };
+    building = λ l b. record { spanned = action-spanned; listed = action-listed l (b .listed) };
   }
 
 -- ===== A reward =====
@@ -136,9 +134,9 @@ module _ {l l′ out : List ℕ} {h : Head} {n : ℕ} (p : Appended l (h .words)
       ap₂ (modelWith ar h) (ap diagramOf (p .there))
       (many-same (actionAt l′ t) (actionAt l t) (h .actions) (λ a q. action-same l l′ t t (h .words) (p .before) a (λ j y z. refl) (s .actions a q)))
 
-  reward-building : h .words + n ≤ listingWords → (ar t : List ℕ) → Building ar l t h → isListing ar (take n out) ≡ true
-      → Building ar l′ t (rewardHead h n)
-  reward-building m ar t b i = record {
+  reward-building : h .words + n ≤ listingWords → (t : List ℕ) → Building l t h → Canonical (take n out)
+      → Building l′ t (rewardHead h n)
+  reward-building m t b i = record {
     spanned = record {
       room = b .spanned .room;
       few = b .spanned .few;
@@ -147,9 +145,9 @@ module _ {l l′ out : List ℕ} {h : Head} {n : ℕ} (p : Appended l (h .words)
       actions = λ a q. spanned-action l l′ t t (h .words) (h .words + n) (p .before) (omega arith) a (λ j y z. refl) (b .spanned .actions a q);
     };
     listed = record {
-      reward = λ x. ap (isListing ar) (p .there) ∙ i;
+      reward = λ x. canonical-on (p .there) i;
       variants = λ a v q k.
-          listed-variant l l′ t t (h .words) (h .words + n) (p .before) (omega arith) ar (variantPlace a v) (λ j y z. refl) (b .spanned .actions a q .variants v k)
+          listed-variant l l′ t t (h .words) (h .words + n) (p .before) (omega arith) (variantPlace a v) (λ j y z. refl) (b .spanned .actions a q .variants v k)
           (b .listed .variants a v q k);
     };
   }

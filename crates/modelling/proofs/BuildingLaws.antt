@@ -1,10 +1,10 @@
 -- Laws of a model while its lines are read: how it begins, that each line adds what the session says, and that its words are laid out as the planner asks.
-use mathlib.Core.Path.{_≡_, refl, ap, ap₂, _∙_}
+use mathlib.Core.Path.{_≡_, refl, sym, ap, ap₂, subst, _∙_}
 use mathlib.Core.Bool.{true, _||_, _&&_}
-use mathlib.Core.List.{List, []}
-use Prim.Native.Nat.{ℕ, zero, suc, _+_, _-_, _≤_, _<_}
+use mathlib.Core.List.{List, [], _∷_, _++_}
+use Prim.Native.Nat.{ℕ, zero, suc, _+_, _*_, _-_, _≤_, _<_}
 use native.Mathlib.Omega.{arith}
-use lib.ListN.{length}
+use lib.ListN.{length, getD}
 use lib.Dec.{eqb}
 use borrow.Author.Tests.{eqb-false}
 use Rattle.basics.specs.Tests.{Flag, isTrue, isFalse, flag, or-one, or-other}
@@ -12,22 +12,25 @@ use Rattle.label.specs.Limits.{predicateCount}
 use Rattle.words.specs.declared.Key.{Key}
 use Rattle.diagram.specs.Diagram.{Diagram, leaf}
 use Rattle.diagram.specs.Words.{isListing}
-use Rattle.diagram.specs.Listing.{treeAt, diagramOf}
+use Rattle.diagram.specs.Listing.{treeAt, diagramOf, Good}
+use Rattle.diagram.specs.Listings.{good-is-listing}
+use Rattle.state.specs.ValueLaws.{by-low}
 use Rattle.regress.specs.RegressCall.{truthCount, truthWords, areListings}
-use Rattle.regress.specs.RegressCallLaws.{listings-none, listings-cons}
+use Rattle.regress.specs.RegressCallLaws.{listings-none, listings-cons, truths-some}
+use Rattle.mdp.specs.Model.{Every, GoodVariant, GoodAction, GoodModel}
 use Rattle.session.specs.Session.{Session}
 use Rattle.session.specs.Modelling.{withReward, addVariant, withVariant, lastVariant, withTruthAt, withTruth}
 use Rattle.model.specs.declared.Head.{Head}
-use Rattle.model.specs.Layout.{many, part, tableWords, variantPlace, spansAt, actionAt, modelOf, LaidVariant, LaidAction}
-use Rattle.modelling.specs.Building.{rewarded, withActions, newVariant, Building, SpannedVariant, ListedVariant}
-use Rattle.modelling.proofs.WordLaws.{span-count, span-start}
+use Rattle.model.specs.Layout.{many, part, tableWords, actionWords, variantPlace, weightWords, spansAt, variantAt, variantsOf, actionAt, rewardWords, modelOf, LaidVariant, LaidAction, Laid}
+use Rattle.modelling.specs.Building.{rewarded, withActions, newVariant, truthPlace, Canonical, Building, SpannedVariant, ListedVariant}
+use Rattle.modelling.proofs.WordLaws.{span-count, span-start, canonical-on}
 use Rattle.modelling.proofs.AddLaws.{modelWith}
 
 -- ===== The first =====
 
 -- no action and no reward yet
-pub begun : {ar listings table : List ℕ} {h : Head} → tableWords ≤ length table → h .actions ≡ 0 → h .words ≡ 0 → h .«reward_start» ≡ 0 → h .«reward_words» ≡ 0
-    → Building ar listings table h
+pub begun : {listings table : List ℕ} {h : Head} → tableWords ≤ length table → h .actions ≡ 0 → h .words ≡ 0 → h .«reward_start» ≡ 0 → h .«reward_words» ≡ 0
+    → Building listings table h
 begun r a w s n = record {
   spanned = record { room = r; few = omega arith; used = omega arith; reward = omega arith; actions = λ k q. absurd (omega arith) };
   listed = record { reward = λ f. absurd (f n); variants = λ k v q y. absurd (omega arith) };
@@ -68,18 +71,56 @@ listings-are ar truths spans p (suc n) f =
     here (isTrue e) = or-one (eqb (truthCount spans p) 0) (isListing ar (truthWords truths spans p)) e
     here (isFalse e) = or-other (eqb (truthCount spans p) 0) (isListing ar (truthWords truths spans p)) (f p (omega arith) (omega arith) (eqb-false (truthCount spans p) 0 e))
 
-variant-laid : (ar l t : List ℕ) (w i : ℕ) → w ≤ length l → SpannedVariant t w i → ListedVariant ar l t i → LaidVariant ar l t i
-variant-laid ar l t w i h s x = record {
+every-last : {A : Type 0} (P : A → Type 0) (l : List A) (x : A) → Every P (l ++ (x ∷ [])) → Every P l × P x
+every-last P [] x h = (tt, h .0)
+every-last P (y ∷ l) x h = let r = every-last P l x (h .1) in ((h .0, r .0), r .1)
+
+many-every : {A : Type 0} (P : A → Type 0) (f : ℕ → A) (n v : ℕ) → Every P (many f n) → v < n → P (f v)
+unfolding many
+many-every P f zero v h k = absurd (omega arith)
+many-every P f (suc n) v h k =
+    let r = every-last P (many f n) (f n) h in
+    by-low (P (f v)) n v (λ q. many-every P f n v (r .0) q) (λ q. let e : n ≡ v = omega arith in subst (λ (x : ℕ). P (f x)) e (r .1))
+
+listed-under : (ar ws : List ℕ) → Canonical ws → Good ar (diagramOf ws) → isListing ar ws ≡ true
+listed-under ar ws c g = ap (isListing ar) (sym c) ∙ good-is-listing ar (diagramOf ws) g
+
+variant-laid : (ar l t : List ℕ) (w i c : ℕ) → w ≤ length l → SpannedVariant t w i → ListedVariant l t i → GoodVariant ar c (variantAt l t i) → LaidVariant ar l t i
+unfolding variantAt
+variant-laid ar l t w i c h s x g = record {
   inside = omega (arith, s .weight);
-  weight = x .weight;
+  weight = listed-under ar (weightWords l t i) (x .weight) (g .listed);
   truths = listings-are ar l (spansAt t i) 1 (predicateCount - 1)
       (λ q y z n.
       let k : q < predicateCount = omega arith in
-      ap (isListing ar) (ap₂ (part l) (span-start t i q k) (span-count t i q k)) ∙ x .truths q k (λ o. n (span-count t i q k ∙ o)));
+      let e : truthWords l (spansAt t i) q ≡ weightWords l t (truthPlace i q) = ap₂ (part l) (span-start t i q k) (span-count t i q k) in
+      listed-under ar (truthWords l (spansAt t i) q) (canonical-on e (x .truths q k (λ o. n (span-count t i q k ∙ o))))
+      (g .truths q (diagramOf (truthWords l (spansAt t i) q)) (omega arith) k (truths-some l (spansAt t i) q n) .listed));
 }
 
-pub building-laid : {ar l t : List ℕ} {h : Head} → Building ar l t h → h .words ≤ length l → (a : ℕ) → a < h .actions → LaidAction ar l t a
-building-laid {ar} {l} {t} {h} b m a q = record {
-  few = b .spanned .actions a q .few;
-  variants = λ v k. variant-laid ar l t (h .words) (variantPlace a v) m (b .spanned .actions a q .variants v k) (b .listed .variants a v q k);
-}
+module _ (ar : List ℕ) {l t : List ℕ} {h : Head} (b : Building l t h) (m : h .words ≤ length l) (g : GoodModel (modelOf ar l t h)) where
+  action-laid : (a : ℕ) → a < h .actions → LaidAction ar l t a
+  unfolding modelOf actionAt
+  action-laid a q =
+      let x = many-every (GoodAction ar) (actionAt l t) (h .actions) a (g .actions) q in
+      record {
+        few = b .spanned .actions a q .few;
+        variants = λ v k.
+            variant-laid ar l t (h .words) (variantPlace a v) (getD t (a * actionWords) 0) m (b .spanned .actions a q .variants v k) (b .listed .variants a v q k)
+            (many-every (GoodVariant ar (getD t (a * actionWords) 0)) (λ u. variantAt l t (variantPlace a u)) (variantsOf t a) v (x .variants) k);
+      }
+
+  reward-laid : (h .«reward_words» ≡ 0 → ⊥) → isListing ar (rewardWords l h) ≡ true
+  unfolding modelOf
+  reward-laid n = listed-under ar (rewardWords l h) (b .listed .reward n) (g .reward-listed)
+
+  -- with a reward, and good: what the planner asks of a model in words
+  pub building-laid : (h .«reward_words» ≡ 0 → ⊥) → Laid ar l t h
+  building-laid n = record {
+    room = b .spanned .room;
+    few = b .spanned .few;
+    inside = omega (arith, b .spanned .reward);
+    reward = reward-laid n;
+    actions = action-laid;
+    good = g;
+  }

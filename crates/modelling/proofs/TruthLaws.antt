@@ -13,7 +13,6 @@ use Rattle.basics.specs.Tests.{Flag, isTrue, isFalse, flag}
 use Rattle.label.specs.Limits.{predicateCount}
 use Rattle.state.specs.ValueLaws.{by-low}
 use Rattle.diagram.specs.Diagram.{Diagram}
-use Rattle.diagram.specs.Words.{isListing}
 use Rattle.diagram.specs.Listing.{diagramOf}
 use Rattle.regress.specs.Regression.{Truths, pickTruth}
 use Rattle.regress.specs.RegressCall.{truthsOf}
@@ -21,8 +20,8 @@ use Rattle.mdp.specs.Model.{Variant, Action, mostVariants}
 use Rattle.session.specs.Modelling.{lastVariant, lastTruths, withTruthAt, pickOption, truthsNow, truthsOfLast, isSome}
 use Rattle.model.specs.declared.Head.{Head}
 use Rattle.model.specs.Layout.{many, part, variantWords, actionWords, variantPlace, weightWords, spansAt, variantAt, variantsOf, actionAt, modelOf}
-use Rattle.modelling.specs.Building.{Inside, truthPlace, SpannedVariant, SpannedAction, ListedVariant, Listed, withActions, RowsRoom, TruthRoom, HasTruth, TruthAdded, lastPlace, TruthPlaced, moreWords}
-use Rattle.modelling.proofs.WordLaws.{Same, variantOf, actionOf, actionUse, part-under, truth-none, truth-here, truth-same, truths-over, span-same, many-same, action-same, variant-same, inside-kept, spanned-variant, spanned-action, listed-variant}
+use Rattle.modelling.specs.Building.{Inside, truthPlace, SpannedVariant, SpannedAction, Canonical, ListedVariant, Listed, withActions, RowsRoom, TruthRoom, HasTruth, TruthAdded, lastPlace, TruthPlaced, moreWords}
+use Rattle.modelling.proofs.WordLaws.{Same, variantOf, actionOf, actionUse, part-under, truth-none, truth-here, truth-same, truths-over, span-same, many-same, action-same, variant-same, inside-kept, spanned-variant, spanned-action, canonical-on, listed-variant}
 use Rattle.modelling.proofs.AddLaws.{modelWith, snoc, below-action, Appended, appended}
 
 -- ===== The last of a list =====
@@ -268,50 +267,50 @@ module _ {l l′ t out : List ℕ} {h : Head} {rows p : ℕ} (r : RowsRoom l h o
         variants = λ u g. variant-spanned u (omega (arith, variants-now-some, g));
       }))
 
-  module _ (ar : List ℕ) (b : Listed ar l t h) (listed : isListing ar (take (rows * 3) out) ≡ true) where
-    old : ListedVariant ar l t i
+  module _ (b : Listed l t h) (listed : Canonical (take (rows * 3) out)) where
+    old : ListedVariant l t i
     old = b .variants a n (omega (arith, actions-some)) (omega (arith, variants-some))
 
-    truth-listed : (k : ℕ) → k < predicateCount → (getD t′ (truthPlace i k + 1) 0 ≡ 0 → ⊥) → Flag (eqb k p) → isListing ar (weightWords l′ t′ (truthPlace i k)) ≡ true
+    truth-listed : (k : ℕ) → k < predicateCount → (getD t′ (truthPlace i k + 1) 0 ≡ 0 → ⊥) → Flag (eqb k p) → Canonical (weightWords l′ t′ (truthPlace i k))
     truth-listed k y s (isTrue z) =
-        subst (λ (x : ℕ). isListing ar (weightWords l′ t′ (truthPlace i x)) ≡ true) (sym (eqb-true k p z)) (ap (isListing ar) new-words ∙ listed)
+        subst (λ (x : ℕ). Canonical (weightWords l′ t′ (truthPlace i x))) (sym (eqb-true k p z)) (canonical-on new-words listed)
     truth-listed k y s (isFalse z) =
         let x = other-truth k (eqb-false k p z) in
-        ap (isListing ar) (span-same l l′ t t′ (h .words) (c .before) (truthPlace i k) (x .0) (x .1) (last-variant .truths k y)) ∙ old .truths k y (λ g. s (x .1 ∙ g))
+        canonical-on (span-same l l′ t t′ (h .words) (c .before) (truthPlace i k) (x .0) (x .1) (last-variant .truths k y)) (old .truths k y (λ g. s (x .1 ∙ g)))
 
-    new-listed : ListedVariant ar l′ t′ i
+    new-listed : ListedVariant l′ t′ i
     new-listed = record {
       weight =
-          ap (isListing ar) (span-same l l′ t t′ (h .words) (c .before) i (before i (omega arith)) (before (i + 1) (omega arith)) (last-variant .weight)) ∙ old .weight;
+          canonical-on (span-same l l′ t t′ (h .words) (c .before) i (before i (omega arith)) (before (i + 1) (omega arith)) (last-variant .weight)) (old .weight);
       truths = λ k y s. truth-listed k y s (flag (eqb k p));
     }
 
-    variant-listed : (u : ℕ) → u < suc n → ListedVariant ar l′ t′ (variantPlace a u)
-    variant-listed u y = by-low (ListedVariant ar l′ t′ (variantPlace a u)) n u
+    variant-listed : (u : ℕ) → u < suc n → ListedVariant l′ t′ (variantPlace a u)
+    variant-listed u y = by-low (ListedVariant l′ t′ (variantPlace a u)) n u
         (λ z.
         let g : u < variantsOf t a = omega (arith, variants-some) in
-        listed-variant l l′ t t′ (h .words) w (c .before) (omega arith) ar (variantPlace a u) (earlier-variant u z) (last-action .variants u g)
+        listed-variant l l′ t t′ (h .words) w (c .before) (omega arith) (variantPlace a u) (earlier-variant u z) (last-action .variants u g)
         (b .variants a u (omega (arith, actions-some)) g))
-        (λ z. let m : n ≡ u = omega arith in subst (λ (x : ℕ). ListedVariant ar l′ t′ (variantPlace a x)) m new-listed)
+        (λ z. let m : n ≡ u = omega arith in subst (λ (x : ℕ). ListedVariant l′ t′ (variantPlace a x)) m new-listed)
 
-    all-listed : (k u : ℕ) → k < h .actions → u < variantsOf t′ k → ListedVariant ar l′ t′ (variantPlace k u)
-    all-listed k u y s = by-low (ListedVariant ar l′ t′ (variantPlace k u)) a k
+    all-listed : (k u : ℕ) → k < h .actions → u < variantsOf t′ k → ListedVariant l′ t′ (variantPlace k u)
+    all-listed k u y s = by-low (ListedVariant l′ t′ (variantPlace k u)) a k
         (λ z.
         let f = earlier k z in
         let x = v .spanned .actions k y in
         let g : u < variantsOf t k = omega (arith, f (k * actionWords + 1) (omega arith) (omega arith), s) in
-        listed-variant l l′ t t′ (h .words) w (c .before) (omega arith) ar (variantPlace k u) (λ j o m. f j (omega arith) (omega arith)) (x .variants u g) (b .variants k u y g))
+        listed-variant l l′ t t′ (h .words) w (c .before) (omega arith) (variantPlace k u) (λ j o m. f j (omega arith) (omega arith)) (x .variants u g) (b .variants k u y g))
         (λ z.
         let m : a ≡ k = omega (arith, actions-some) in
         let g : u < variantsOf t′ a = subst (λ (x : ℕ). u < variantsOf t′ x) (sym m) s in
-        subst (λ (x : ℕ). ListedVariant ar l′ t′ (variantPlace x u)) m (variant-listed u (omega (arith, variants-now-some, g))))
+        subst (λ (x : ℕ). ListedVariant l′ t′ (variantPlace x u)) m (variant-listed u (omega (arith, variants-now-some, g))))
 
   pub truth-added : {j : ℕ} → TruthPlaced t h p j → TruthAdded l t h p out rows l′ (set (set t j (h .words)) (j + 1) (rows * 3)) (moreWords h (rows * 3))
   truth-added s = subst (λ (x : ℕ). TruthAdded l t h p out rows l′ (set (set t x (h .words)) (x + 1) (rows * 3)) (moreWords h (rows * 3))) (sym (s .place)) (record {
     answer = refl;
     variants = before (a * actionWords + 1) (omega arith);
     model = model-is;
-    building = λ ar b g. record {
+    building = λ b g. record {
       spanned = record {
         room = omega (arith, pair-length t q (h .words) (rows * 3), v .spanned .room);
         few = v .spanned .few;
@@ -320,8 +319,8 @@ module _ {l l′ t out : List ℕ} {h : Head} {rows p : ℕ} (r : RowsRoom l h o
         actions = action-spanned;
       };
       listed = record {
-        reward = λ z. ap (isListing ar) reward-same ∙ b .listed .reward z;
-        variants = all-listed ar (b .listed) g;
+        reward = λ z. canonical-on reward-same (b .listed .reward z);
+        variants = all-listed (b .listed) g;
       };
     };
   })

@@ -1,20 +1,18 @@
 -- Laws of one variant more.
 use mathlib.Core.Path.{_≡_, refl, sym, ap, ap₂, subst, _∙_, fun-ext}
-use mathlib.Core.Bool.{true}
 use mathlib.Core.List.{List, [], _∷_, _++_}
 use Prim.Native.Nat.{ℕ, suc, _+_, _*_, _-_, _≤_, _<_}
 use native.Mathlib.Omega.{arith}
 use lib.ListN.{length, getD, set, take, length-set}
 use lib.Seq.{getD-set-same, getD-set-other, paste}
 use Rattle.state.specs.ValueLaws.{by-low}
-use Rattle.diagram.specs.Words.{isListing}
 use Rattle.diagram.specs.Listing.{diagramOf}
 use Rattle.mdp.specs.Model.{Variant, Action, mostVariants}
 use Rattle.session.specs.Modelling.{addVariant}
 use Rattle.model.specs.declared.Head.{Head}
 use Rattle.model.specs.Layout.{many, part, spanWords, variantWords, actionWords, variantPlace, variantAt, variantsOf, actionAt, modelOf}
-use Rattle.modelling.specs.Building.{truthPlace, SpannedVariant, SpannedAction, ListedVariant, Listed, withActions, newVariant, RowsRoom, VariantRoom, VariantAdded, Cleared, newPlace, Opened, moreWords}
-use Rattle.modelling.proofs.WordLaws.{Same, variantOf, actionOf, actionUse, part-under, truth-none, many-same, action-same, variant-same, spanned-variant, spanned-action, listed-variant}
+use Rattle.modelling.specs.Building.{truthPlace, SpannedVariant, SpannedAction, Canonical, ListedVariant, Listed, withActions, newVariant, RowsRoom, VariantRoom, VariantAdded, Cleared, newPlace, Opened, moreWords}
+use Rattle.modelling.proofs.WordLaws.{Same, variantOf, actionOf, actionUse, part-under, truth-none, many-same, action-same, variant-same, spanned-variant, spanned-action, canonical-on, listed-variant}
 use Rattle.modelling.proofs.AddLaws.{modelWith, snoc, below-action, Appended, appended}
 
 -- ===== Clearing =====
@@ -174,39 +172,39 @@ module _ {l l′ t t′ out : List ℕ} {h : Head} {rows : ℕ} (r : RowsRoom l 
         variants = λ u z. variant-spanned u (omega (arith, o .more, z));
       }))
 
-  variant-listed : (ar : List ℕ) → Listed ar l t h → isListing ar (take (rows * 3) out) ≡ true → (u : ℕ) → u < variantsOf t (h .actions - 1) + 1
-      → ListedVariant ar l′ t′ (variantPlace (h .actions - 1) u)
-  variant-listed ar b i u q = by-low (ListedVariant ar l′ t′ (variantPlace (h .actions - 1) u)) (variantsOf t (h .actions - 1)) u
+  variant-listed : Listed l t h → Canonical (take (rows * 3) out) → (u : ℕ) → u < variantsOf t (h .actions - 1) + 1
+      → ListedVariant l′ t′ (variantPlace (h .actions - 1) u)
+  variant-listed b i u q = by-low (ListedVariant l′ t′ (variantPlace (h .actions - 1) u)) (variantsOf t (h .actions - 1)) u
       (λ k.
-      listed-variant l l′ t t′ (h .words) (h .words + rows * 3) (p .before) (omega arith) ar (variantPlace (h .actions - 1) u) (earlier-variant u k) (last-spanned .variants u k)
+      listed-variant l l′ t t′ (h .words) (h .words + rows * 3) (p .before) (omega arith) (variantPlace (h .actions - 1) u) (earlier-variant u k) (last-spanned .variants u k)
       (b .variants (h .actions - 1) u last-below k))
       (λ k.
       let m : variantsOf t (h .actions - 1) ≡ u = omega arith in
-      subst (λ (x : ℕ). ListedVariant ar l′ t′ (variantPlace (h .actions - 1) x)) m (record {
-        weight = ap (isListing ar) (ap₂ (part l′) (o .begins) (o .counts) ∙ p .there) ∙ i;
+      subst (λ (x : ℕ). ListedVariant l′ t′ (variantPlace (h .actions - 1) x)) m (record {
+        weight = canonical-on (ap₂ (part l′) (o .begins) (o .counts) ∙ p .there) i;
         truths = λ q y n. absurd (n (o .zeros (truthPlace (newPlace t (h .actions - 1)) q + 1) (omega arith) (omega arith)));
       }))
 
-  all-listed : (ar : List ℕ) → Listed ar l t h → isListing ar (take (rows * 3) out) ≡ true → (k u : ℕ) → k < h .actions → u < variantsOf t′ k
-      → ListedVariant ar l′ t′ (variantPlace k u)
-  all-listed ar b i k u q z = by-low (ListedVariant ar l′ t′ (variantPlace k u)) (h .actions - 1) k
+  all-listed : Listed l t h → Canonical (take (rows * 3) out) → (k u : ℕ) → k < h .actions → u < variantsOf t′ k
+      → ListedVariant l′ t′ (variantPlace k u)
+  all-listed b i k u q z = by-low (ListedVariant l′ t′ (variantPlace k u)) (h .actions - 1) k
       (λ y.
       let s = earlier k y in
       let x = v .spanned .actions k q in
       let g : u < variantsOf t k = omega (arith, s (k * actionWords + 1) (omega arith) (omega arith), z) in
-      listed-variant l l′ t t′ (h .words) (h .words + rows * 3) (p .before) (omega arith) ar (variantPlace k u) (λ j f d. s j (omega arith) (omega arith)) (x .variants u g)
+      listed-variant l l′ t t′ (h .words) (h .words + rows * 3) (p .before) (omega arith) (variantPlace k u) (λ j f d. s j (omega arith) (omega arith)) (x .variants u g)
       (b .variants k u q g))
       (λ y.
       let m : h .actions - 1 ≡ k = omega arith in
       let g : u < variantsOf t′ (h .actions - 1) = subst (λ (x : ℕ). u < variantsOf t′ x) (sym m) z in
-      subst (λ (x : ℕ). ListedVariant ar l′ t′ (variantPlace x u)) m (variant-listed ar b i u (omega (arith, o .more, g))))
+      subst (λ (x : ℕ). ListedVariant l′ t′ (variantPlace x u)) m (variant-listed b i u (omega (arith, o .more, g))))
 
   pub variant-added : VariantAdded l t h out rows l′ t′ (moreWords h (rows * 3))
   variant-added = record {
     answer = refl;
     variants = o .more;
     model = model-is;
-    building = λ ar b i. record {
+    building = λ b i. record {
       spanned = record {
         room = omega (arith, o .size, v .spanned .room);
         few = v .spanned .few;
@@ -216,8 +214,8 @@ module _ {l l′ t t′ out : List ℕ} {h : Head} {rows : ℕ} (r : RowsRoom l 
       };
       listed = record {
         reward = λ n.
-            ap (isListing ar) (part-under (h .words) l l′ (p .before) (h .«reward_start») (h .«reward_words») (v .spanned .reward)) ∙ b .listed .reward n;
-        variants = all-listed ar (b .listed) i;
+            canonical-on (part-under (h .words) l l′ (p .before) (h .«reward_start») (h .«reward_words») (v .spanned .reward)) (b .listed .reward n);
+        variants = all-listed (b .listed) i;
       };
     };
   }

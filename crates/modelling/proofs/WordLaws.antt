@@ -1,5 +1,5 @@
 -- Laws of words in use: what lies behind them changes no part of them, and a word of one block of the table changes no other block.
-use mathlib.Core.Path.{_≡_, refl, sym, ap, ap₂, _∙_, fun-ext}
+use mathlib.Core.Path.{_≡_, refl, sym, ap, ap₂, subst, _∙_, fun-ext}
 use mathlib.Core.List.{List, [], _∷_, _++_}
 use mathlib.Core.Option.{Option, some, none}
 use Prim.Native.Nat.{ℕ, zero, suc, _+_, _*_, _≤_, _<_}
@@ -10,14 +10,13 @@ use lib.Dec.{eqb}
 use Rattle.label.specs.Limits.{predicateCount}
 use Rattle.state.specs.ValueLaws.{by-low}
 use Rattle.diagram.specs.Diagram.{Diagram}
-use Rattle.diagram.specs.Words.{isListing}
 use Rattle.diagram.specs.Listing.{diagramOf}
 use Rattle.regress.specs.Regression.{Truths, pickTruth}
 use Rattle.regress.specs.RegressCall.{truthsOf}
 use Rattle.regress.specs.RegressCallLaws.{truths-none}
 use Rattle.mdp.specs.Model.{Variant, Action}
 use Rattle.model.specs.Layout.{many, part, spanWords, variantWords, actionWords, variantPlace, weightWords, spansAt, variantAt, variantsOf, actionAt}
-use Rattle.modelling.specs.Building.{Inside, truthPlace, SpannedVariant, SpannedAction, ListedVariant}
+use Rattle.modelling.specs.Building.{Inside, truthPlace, SpannedVariant, SpannedAction, Canonical, ListedVariant}
 
 -- ===== Parts of lists =====
 
@@ -159,6 +158,9 @@ module _ (l l′ t t′ : List ℕ) (w : ℕ) (e : take w l′ ≡ take w l) (a 
 
 -- ===== What stays good =====
 
+pub canonical-on : {ws ws′ : List ℕ} → ws′ ≡ ws → Canonical ws → Canonical ws′
+canonical-on e x = subst Canonical (sym e) x
+
 module _ (l l′ t t′ : List ℕ) (w w′ : ℕ) (e : take w l′ ≡ take w l) (m : w ≤ w′) where
   pub inside-kept : (i : ℕ) → getD t′ i 0 ≡ getD t i 0 → getD t′ (i + 1) 0 ≡ getD t (i + 1) 0 → Inside t w i → Inside t′ w′ i
   inside-kept i x y h = omega (arith, x, y, h)
@@ -177,11 +179,11 @@ module _ (l l′ t t′ : List ℕ) (w w′ : ℕ) (e : take w l′ ≡ take w l
         variants = λ v q. let k : v < variantsOf t a = omega (arith, y) in spanned-variant (variantPlace a v) (λ j g z. s j (omega arith) (omega arith)) (x .variants v k);
       }
 
-  pub listed-variant : (ar : List ℕ) (i : ℕ) → Same t t′ i variantWords → SpannedVariant t w i → ListedVariant ar l t i → ListedVariant ar l′ t′ i
-  listed-variant ar i s v x = record {
-    weight = ap (isListing ar) (span-same l l′ t t′ w e i (s i (omega arith) (omega arith)) (s (i + 1) (omega arith) (omega arith)) (v .weight)) ∙ x .weight;
+  pub listed-variant : (i : ℕ) → Same t t′ i variantWords → SpannedVariant t w i → ListedVariant l t i → ListedVariant l′ t′ i
+  listed-variant i s v x = record {
+    weight = canonical-on (span-same l l′ t t′ w e i (s i (omega arith) (omega arith)) (s (i + 1) (omega arith) (omega arith)) (v .weight)) (x .weight);
     truths = λ p h n.
         let y = s (truthPlace i p) (omega arith) (omega arith) in
         let z = s (truthPlace i p + 1) (omega arith) (omega arith) in
-        ap (isListing ar) (span-same l l′ t t′ w e (truthPlace i p) y z (v .truths p h)) ∙ x .truths p h (λ o. n (z ∙ o));
+        canonical-on (span-same l l′ t t′ w e (truthPlace i p) y z (v .truths p h)) (x .truths p h (λ o. n (z ∙ o)));
   }

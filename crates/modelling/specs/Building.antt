@@ -1,13 +1,12 @@
 -- A model in lent words while its lines are read: what an accepted line adds (document 01, section 'Text').
 use mathlib.Core.Path.{_≡_}
-use mathlib.Core.Bool.{Bool, true}
+use mathlib.Core.Bool.{Bool}
 use mathlib.Core.List.{List, [], _∷_, _++_}
 use Prim.Native.Nat.{ℕ, _+_, _*_, _-_, _≤_, _<_}
 use lib.ListN.{length, getD, take}
 use Rattle.label.specs.Limits.{predicateCount}
 use Rattle.diagram.specs.Diagram.{Diagram}
-use Rattle.diagram.specs.Words.{isListing}
-use Rattle.diagram.specs.Listing.{diagramOf}
+use Rattle.diagram.specs.Listing.{listing, diagramOf}
 use Rattle.mdp.specs.Model.{Variant, Action, Model, mostActions, mostVariants}
 use Rattle.session.specs.Modelling.{addVariant, noTruths, lastVariant, withTruthAt, truthsNow, isSome}
 use Rattle.model.specs.declared.Head.{Head}
@@ -71,19 +70,23 @@ pub record Spanned (table : List ℕ) (h : Head) : Type 0 where
 
 -- ===== Listings =====
 
-pub record ListedVariant (ar listings table : List ℕ) (i : ℕ) : Type 0 where
-  pub weight : isListing ar (weightWords listings table i) ≡ true
-  pub truths : (p : ℕ) → p < predicateCount → (getD table (truthPlace i p + 1) 0 ≡ 0 → ⊥) → isListing ar (weightWords listings table (truthPlace i p)) ≡ true
+-- the words are the listing of their diagram; under which arity list, the model says
+abbrev pub Canonical : List ℕ → Type 0
+Canonical ws = listing (diagramOf ws) ≡ ws
+
+pub record ListedVariant (listings table : List ℕ) (i : ℕ) : Type 0 where
+  pub weight : Canonical (weightWords listings table i)
+  pub truths : (p : ℕ) → p < predicateCount → (getD table (truthPlace i p + 1) 0 ≡ 0 → ⊥) → Canonical (weightWords listings table (truthPlace i p))
 
 -- the reward, if there is one, every weight and every truth diagram are listings
-pub record Listed (ar listings table : List ℕ) (h : Head) : Type 0 where
-  pub reward : (h .«reward_words» ≡ 0 → ⊥) → isListing ar (rewardWords listings h) ≡ true
-  pub variants : (a v : ℕ) → a < h .actions → v < variantsOf table a → ListedVariant ar listings table (variantPlace a v)
+pub record Listed (listings table : List ℕ) (h : Head) : Type 0 where
+  pub reward : (h .«reward_words» ≡ 0 → ⊥) → Canonical (rewardWords listings h)
+  pub variants : (a v : ℕ) → a < h .actions → v < variantsOf table a → ListedVariant listings table (variantPlace a v)
 
 -- a model while its lines are read
-pub record Building (ar listings table : List ℕ) (h : Head) : Type 0 where
+pub record Building (listings table : List ℕ) (h : Head) : Type 0 where
   pub spanned : Spanned table h
-  pub listed : Listed ar listings table h
+  pub listed : Listed listings table h
 
 -- ===== The head afterwards =====
 
@@ -135,7 +138,7 @@ pub record ActionAdded (table : List ℕ) (h : Head) (count : ℕ) (table′ : L
   pub variants : variantsOf table′ (h .actions) ≡ 0
   pub model : (ar listings : List ℕ) → modelOf ar listings table′ h′
       ≡ withActions (modelOf ar listings table h) (modelOf ar listings table h .actions ++ (newAction count ∷ []))
-  pub building : (ar listings : List ℕ) → Building ar listings table h → Building ar listings table′ h′
+  pub building : (listings : List ℕ) → Building listings table h → Building listings table′ h′
 
 -- the first rows of the result buffer fit behind the words in use
 pub record RowsRoom (listings : List ℕ) (h : Head) (out : List ℕ) (rows : ℕ) : Type 0 where
@@ -147,7 +150,7 @@ pub record RowsRoom (listings : List ℕ) (h : Head) (out : List ℕ) (rows : �
 pub record RewardAdded (listings : List ℕ) (h : Head) (out : List ℕ) (rows : ℕ) (listings′ : List ℕ) (h′ : Head) : Type 0 where
   pub answer : h′ ≡ rewardHead h (rows * 3)
   pub model : (ar table : List ℕ) → Spanned table h → modelOf ar listings′ table h′ ≡ rewarded (modelOf ar listings table h) (diagramOf (take (rows * 3) out))
-  pub building : (ar table : List ℕ) → Building ar listings table h → isListing ar (take (rows * 3) out) ≡ true → Building ar listings′ table h′
+  pub building : (table : List ℕ) → Building listings table h → Canonical (take (rows * 3) out) → Building listings′ table h′
 
 -- one variant more, of the last action
 pub record VariantRoom (table : List ℕ) (h : Head) : Type 0 where
@@ -160,7 +163,7 @@ pub record VariantAdded (listings table : List ℕ) (h : Head) (out : List ℕ) 
   pub variants : variantsOf table′ (h .actions - 1) ≡ variantsOf table (h .actions - 1) + 1
   pub model : (ar : List ℕ) → modelOf ar listings′ table′ h′
       ≡ withActions (modelOf ar listings table h) (addVariant (modelOf ar listings table h .actions) (newVariant (diagramOf (take (rows * 3) out))))
-  pub building : (ar : List ℕ) → Building ar listings table h → isListing ar (take (rows * 3) out) ≡ true → Building ar listings′ table′ h′
+  pub building : Building listings table h → Canonical (take (rows * 3) out) → Building listings′ table′ h′
 
 -- a truth diagram of the predicate p, of the last variant of the last action
 pub record TruthRoom (table : List ℕ) (h : Head) (p : ℕ) : Type 0 where
@@ -179,7 +182,7 @@ pub record TruthAdded (listings table : List ℕ) (h : Head) (p : ℕ) (out : Li
   pub model : (ar : List ℕ) → modelOf ar listings′ table′ h′
       ≡ withActions (modelOf ar listings table h)
       (lastVariant (modelOf ar listings table h .actions) (λ truths. withTruthAt truths p (diagramOf (take (rows * 3) out))))
-  pub building : (ar : List ℕ) → Building ar listings table h → isListing ar (take (rows * 3) out) ≡ true → Building ar listings′ table′ h′
+  pub building : Building listings table h → Canonical (take (rows * 3) out) → Building listings′ table′ h′
 
 -- ===== What the inner functions leave =====
 
