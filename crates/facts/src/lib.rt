@@ -42,7 +42,7 @@ pub const WORDS: usize = 5152;
 pub const FACT_WORDS: usize = 5;
 
 // Places no constant.
-fn clear(state: &mut [u64])
+pub fn clear(state: &mut [u64])
     requires { ⌜ 5152 ≤ length (now state) ⌝ }
     ensures { λ _. ⌜ Cleared (now (state .entry)) (now (state .exit)) 32 ⌝ }
 {

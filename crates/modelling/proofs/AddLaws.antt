@@ -11,19 +11,8 @@ use Rattle.diagram.specs.Listing.{diagramOf}
 use Rattle.mdp.specs.Model.{Action, Model}
 use Rattle.model.specs.declared.Head.{Head}
 use Rattle.model.specs.Layout.{many, part, listingWords, actionWords, variantPlace, variantAt, variantsOf, actionAt, rewardWords, modelOf}
-use Rattle.modelling.specs.Building.{SpannedAction, Spanned, Canonical, ListedVariant, Listed, Building, withActions, rewarded, newAction, moreActions, rewardHead, ActionRoom, ActionAdded, RowsRoom, RewardAdded}
-use Rattle.modelling.proofs.WordLaws.{Same, actionOf, actionUse, paste-before, paste-there, many-same, action-same, spanned-action, canonical-on, listed-variant}
-
--- the model that a head's numbers, a reward and actions are
-abbrev pub modelWith : List ℕ → Head → Diagram → List Action → Model
-modelWith ar h d l = record {
-  arities = ar;
-  total = h .total;
-  numerator = h .numerator;
-  denominator = h .denominator;
-  reward = d;
-  actions = l;
-}
+use Rattle.modelling.specs.Building.{modelWith, SpannedAction, Spanned, Canonical, ListedVariant, Listed, Building, withActions, rewarded, newAction, moreActions, rewardHead, ActionRoom, ActionAdded, RowsRoom, RewardAdded}
+use Rattle.modelling.specs.WordLaws.{Same, actionOf, actionUse, paste-before, paste-there, many-same, action-same, spanned-action, canonical-on, listed-variant}
 
 -- a list and one more
 abbrev pub snoc : {A : Type 0} → List A → A → List A

@@ -11,9 +11,9 @@ use Rattle.mdp.specs.Model.{Variant, Action, mostVariants}
 use Rattle.session.specs.Modelling.{addVariant}
 use Rattle.model.specs.declared.Head.{Head}
 use Rattle.model.specs.Layout.{many, part, spanWords, variantWords, actionWords, variantPlace, variantAt, variantsOf, actionAt, modelOf}
-use Rattle.modelling.specs.Building.{truthPlace, SpannedVariant, SpannedAction, Canonical, ListedVariant, Listed, withActions, newVariant, RowsRoom, VariantRoom, VariantAdded, Cleared, newPlace, Opened, moreWords}
-use Rattle.modelling.proofs.WordLaws.{Same, variantOf, actionOf, actionUse, part-under, truth-none, many-same, action-same, variant-same, spanned-variant, spanned-action, canonical-on, listed-variant}
-use Rattle.modelling.proofs.AddLaws.{modelWith, snoc, below-action, Appended, appended}
+use Rattle.modelling.specs.Building.{modelWith, truthPlace, SpannedVariant, SpannedAction, Canonical, ListedVariant, Listed, withActions, newVariant, RowsRoom, VariantRoom, VariantAdded, Cleared, newPlace, Opened, moreWords}
+use Rattle.modelling.specs.WordLaws.{Same, variantOf, actionOf, actionUse, part-under, truth-none, many-same, action-same, variant-same, spanned-variant, spanned-action, canonical-on, listed-variant}
+use Rattle.modelling.proofs.AddLaws.{snoc, below-action, Appended, appended}
 
 -- ===== Clearing =====
 

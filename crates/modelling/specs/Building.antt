@@ -12,6 +12,17 @@ use Rattle.session.specs.Modelling.{addVariant, noTruths, lastVariant, withTrut
 use Rattle.model.specs.declared.Head.{Head}
 use Rattle.model.specs.Layout.{listingWords, tableWords, actionWords, variantWords, variantPlace, weightWords, variantsOf, rewardWords, modelOf}
 
+-- the model that a head's numbers, a reward and actions are
+abbrev pub modelWith : List ℕ → Head → Diagram → List Action → Model
+modelWith ar h d l = record {
+  arities = ar;
+  total = h .total;
+  numerator = h .numerator;
+  denominator = h .denominator;
+  reward = d;
+  actions = l;
+}
+
 -- the model with another reward
 abbrev pub rewarded : Model → Diagram → Model
 rewarded m d = record {

@@ -1,2 +1,4 @@
 -- A model in lent words while its lines are read.
 pub mod Building
+pub mod WordLaws
+pub mod BuildingLaws

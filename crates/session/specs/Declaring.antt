@@ -17,12 +17,6 @@ unfoldable pub isDeclared : Names → Key → Bool
 unfolding isAmong
 isDeclared n k = isAmong k (n .constants) || isAmong k (n .predicates)
 
--- what of a session a declaration changes
-pub record Declared : Type 0 where
-  pub names : Names
-  pub singles : Singles
-  pub model : Model
-
 -- (constant n): 2 at its name; 16 constants
 unfoldable pub constantLine : Names → Key → Outcome Names
 unfolding isDeclared

@@ -4,3 +4,7 @@ pub mod Session
 pub mod Declaring
 pub mod Facts
 pub mod Modelling
+pub mod Running
+pub mod Replies
+pub mod Texts
+pub mod Good

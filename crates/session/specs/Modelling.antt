@@ -5,7 +5,7 @@ use mathlib.Core.Option.{Option, some, none}
 use Prim.Native.Nat.{ℕ, suc, _+_}
 use lib.ListN.{length, getD}
 use lib.Dec.{ltb, leb, eqb}
-use Rattle.refusal.specs.declared.Refusal.the-variants.{Name, Truth, Space, Place, Weights}
+use Rattle.refusal.specs.declared.Refusal.the-variants.{Name, Truth, Space, Weights}
 use Rattle.words.specs.Keys.{keyOf}
 use Rattle.words.specs.declared.Key.{Key}
 use Rattle.names.specs.Keys.{placeOf, isAmong}
@@ -40,18 +40,18 @@ outcomeOf (judged r) = refused r
 
 -- the names that a diagram of the line may have: a reward has no parameters, and numbers its variables as they occur; a weight and a truth diagram have
 -- those of the last action
-abbrev pub namesFor : Session → Binding → List Key → ReadingNames
-namesFor σ b ps = record {
-  constants = σ .names .constants;
-  predicates = σ .names .predicates;
-  arities = σ .model .arities;
+abbrev pub namesFor : Names → List ℕ → Binding → List Key → ReadingNames
+namesFor n ar b ps = record {
+  constants = n .constants;
+  predicates = n .predicates;
+  arities = ar;
   parameters = ps;
   binding = b;
 }
 
--- the model's rows with those of d
-abbrev pub rowsWith : Session → Diagram → ℕ
-rowsWith σ d = σ .rows + length (rows d)
+-- r rows of model listings, and those of d
+abbrev pub rowsWith : ℕ → Diagram → ℕ
+rowsWith r d = r + length (rows d)
 
 -- ===== (reward DIAGRAM) =====
 
@@ -68,19 +68,23 @@ withReward σ d = record {
     reward = d;
     actions = σ .model .actions;
   };
-  rows = rowsWith σ d;
+  rows = rowsWith (σ .rows) d;
   live = σ .live;
   held = σ .held;
 }
 
--- its words, 8, then 10, 11, 9 at each row step, 9 for its result, closed up; last 9 for model rows
+-- its words, 8, then 10, 11, 9 at each row step, 9 for its result, closed up; last 9 for model rows, of which there are r so far
+unfoldable pub rewardRead : Names → List ℕ → ℕ → List Event → Outcome Diagram
+unfolding reading builtClosed rows
+rewardRead n ar r es =
+    andThen (outcomeOf (reading (namesFor n ar Any []) es [])) (λ w.
+    andThen (builtClosed ar (w .operations)) (λ d.
+    refuseIf (ltb mostModelRows (rowsWith r d)) Space
+    (ok d)))
+
 unfoldable pub rewardLine : Session → List Event → Outcome Session
-unfolding reading builtClosed withReward rows
-rewardLine σ es =
-    andThen (outcomeOf (reading (namesFor σ Any []) es [])) (λ w.
-    andThen (builtClosed (σ .model .arities) (w .operations)) (λ d.
-    refuseIf (ltb mostModelRows (rowsWith σ d)) Space
-    (ok (withReward σ d))))
+unfolding rewardRead withReward
+rewardLine σ es = andThen (rewardRead (σ .names) (σ .model .arities) (σ .rows) es) (λ d. ok (withReward σ d))
 
 -- ===== (variant n WEIGHT) =====
 
@@ -112,20 +116,24 @@ withVariant σ k d = record {
     reward = σ .model .reward;
     actions = addVariant (σ .model .actions) (record { weight = d; truths = noTruths });
   };
-  rows = rowsWith σ d;
+  rows = rowsWith (σ .rows) d;
   live = σ .live;
   held = σ .held;
 }
 
 -- 2 at its name; the weight's words; its diagram; last 9 for 8 variants and model rows
-unfoldable pub variantLine : Session → Key → List Event → Outcome Session
-unfolding isAmong reading built withVariant rows
-variantLine σ k es =
-    refuseIf (isAmong k (σ .names .variants)) Name
-    (andThen (outcomeOf (reading (namesFor σ None (σ .names .parameters)) es [])) (λ w.
+unfoldable pub weightRead : Names → List ℕ → ℕ → Key → List Event → Outcome Diagram
+unfolding isAmong reading built rows
+weightRead n ar r k es =
+    refuseIf (isAmong k (n .variants)) Name
+    (andThen (outcomeOf (reading (namesFor n ar None (n .parameters)) es [])) (λ w.
     andThen (built (w .operations)) (λ d.
-    refuseIf (leb mostVariants (length (σ .names .variants)) || ltb mostModelRows (rowsWith σ d)) Space
-    (ok (withVariant σ k d)))))
+    refuseIf (leb mostVariants (length (n .variants)) || ltb mostModelRows (rowsWith r d)) Space
+    (ok d))))
+
+unfoldable pub variantLine : Session → Key → List Event → Outcome Session
+unfolding weightRead withVariant
+variantLine σ k es = andThen (weightRead (σ .names) (σ .model .arities) (σ .rows) k es) (λ d. ok (withVariant σ k d))
 
 -- ===== (becomes (p ?a ..) DIAGRAM) =====
 
@@ -176,24 +184,29 @@ withTruth σ p d = record {
     reward = σ .model .reward;
     actions = lastVariant (σ .model .actions) (λ truths. withTruthAt truths p d);
   };
-  rows = rowsWith σ d;
+  rows = rowsWith (σ .rows) d;
   live = σ .live;
   held = σ .held;
 }
 
 -- at the predicate's word 2 (undeclared, or it has one already), then 3; 2 at a repeated argument; the diagram's words, its arguments the only variables;
 -- its diagram; 7; last 9 for model rows
-unfoldable pub becomesLine : Session → List Event → Outcome Session
-unfolding headNumber headArguments reading built leafAbove withTruth rows
-becomesLine σ es =
-    andThen (outcomeOf (headNumber (σ .names .predicates) es)) (λ p.
-    refuseIf (isSome (truthsNow (σ .model .actions) p)) Name
-    (andThen (outcomeOf (headArguments (getD (σ .model .arities) p 0) es)) (λ h.
-    andThen (outcomeOf (reading (namesFor σ Only (σ .names .parameters)) (h .rest) (h .variables))) (λ w.
+unfoldable pub truthRead : Names → List ℕ → Truths → ℕ → List Event → Outcome (ℕ × Diagram)
+unfolding headNumber headArguments reading built leafAbove rows
+truthRead n ar truths r es =
+    andThen (outcomeOf (headNumber (n .predicates) es)) (λ p.
+    refuseIf (isSome (truths p)) Name
+    (andThen (outcomeOf (headArguments (getD ar p 0) es)) (λ h.
+    andThen (outcomeOf (reading (namesFor n ar Only (n .parameters)) (h .rest) (h .variables))) (λ w.
     andThen (built (w .operations)) (λ d.
     refuseIf (leafAbove 1 d) Truth
-    (refuseIf (ltb mostModelRows (rowsWith σ d)) Space
-    (ok (withTruth σ p d))))))))
+    (refuseIf (ltb mostModelRows (rowsWith r d)) Space
+    (ok (p, d))))))))
+
+unfoldable pub becomesLine : Session → List Event → Outcome Session
+unfolding truthRead withTruth
+becomesLine σ es =
+    andThen (truthRead (σ .names) (σ .model .arities) (truthsNow (σ .model .actions)) (σ .rows) es) (λ t. ok (withTruth σ (t .0) (t .1)))
 
 -- ===== (start) =====
 

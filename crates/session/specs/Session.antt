@@ -1,12 +1,11 @@
 -- A session: what the lines of a text declared, the model, the state and the value diagram (document 01, section 'Text').
-use mathlib.Core.Bool.{Bool, true, false, not, _||_, _&&_}
-use mathlib.Core.List.{List, [], _∷_, _++_}
-use Prim.Native.Nat.{ℕ, suc, _+_}
-use lib.ListN.{length, replicate}
-use lib.Dec.{ltb, eqb}
+use mathlib.Core.Bool.{Bool, false}
+use mathlib.Core.List.{List, [], _∷_}
+use Prim.Native.Nat.{ℕ, _-_}
+use lib.ListN.{replicate}
 use Rattle.refusal.specs.declared.Refusal.{Refusal}
 use Rattle.words.specs.declared.Key.{Key}
-use Rattle.label.specs.Limits.{constantCount, predicateCount}
+use Rattle.label.specs.Limits.{constantCount, predicateCount, equalityArity}
 use Rattle.diagram.specs.Diagram.{Diagram, leaf}
 use Rattle.regress.specs.Calls.{Outcome, refused, pickOutcome}
 use Rattle.mdp.specs.Model.{Model}
@@ -28,7 +27,7 @@ pub record Singles : Type 0 where
   pub discount : Bool
   pub reward : Bool
 
--- a state as it is lent to the value operation: how many objects, 0 before an accepted (objects n); for each of 16 constants 1 where it is placed, and its
+-- a state as it is lent to the value operation: how many objects, 0 before an accepted (objects n); for each constant 1 where it is placed, and its
 -- object; the facts as rows of five words
 pub record Live : Type 0 where
   pub objects : ℕ
@@ -52,9 +51,9 @@ opening = record {
   part = ModelPart;
   names = record { constants = []; predicates = []; actions = []; parameters = []; variants = [] };
   singles = record { total = false; discount = false; reward = false };
-  model = record { arities = 2 ∷ replicate 31 0; total = 100; numerator = 1; denominator = 1; reward = leaf 0; actions = [] };
+  model = record { arities = equalityArity ∷ replicate (predicateCount - 1) 0; total = 100; numerator = 1; denominator = 1; reward = leaf 0; actions = [] };
   rows = 0;
-  live = record { objects = 0; placed = replicate 16 0; constants = replicate 16 0; facts = [] };
+  live = record { objects = 0; placed = replicate constantCount 0; constants = replicate constantCount 0; facts = [] };
   held = record { diagram = leaf 0; steps = 0 };
 }
 

@@ -1,6 +1,6 @@
 use Prim.Native.Nat.{_-_}
 use borrow.Author.Needs.{needs}
-use Rattle.modelling.proofs.WordLaws.{Copying, copy-start, copy-room, copy-on, copy-end}
+use Rattle.modelling.specs.WordLaws.{Copying, copy-start, copy-room, copy-on, copy-end}
 use Rattle.modelling.proofs.append.Statement.{statement}
 use Rattle.modelling.proofs.append.Tie as tie
 

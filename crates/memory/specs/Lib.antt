@@ -1,0 +1,2 @@
+-- A session in lent words.
+pub mod Memory

@@ -1,0 +1,71 @@
+-- What holds of a session from line to line.
+use mathlib.Core.Path.{_≡_}
+use mathlib.Core.Bool.{true, false}
+use mathlib.Core.List.{List, [], _∷_}
+use Prim.Native.Nat.{ℕ, _≤_, _<_}
+use lib.ListN.{length, getD}
+use Rattle.label.specs.Limits.{constantCount, predicateCount, parameterCount}
+use Rattle.label.specs.Labels.{areArities}
+use Rattle.diagram.specs.Diagram.{Diagram}
+use Rattle.diagram.specs.Listing.{Good}
+use Rattle.diagram.specs.Variables.{closed}
+use Rattle.state.specs.State.{meaning}
+use Rattle.state.specs.Lent.{isState}
+use Rattle.regress.specs.Parameters.{Within}
+use Rattle.mdp.specs.Model.{Action, Model, Every, GoodAction, GoodModel, mostTotal, mostDenominator, mostActions, mostVariants}
+use Rattle.mdp.specs.Runs.{Call, run}
+use Rattle.session.specs.declared.Part.the-variants.{Model as ModelPart, Run}
+use Rattle.session.specs.Session.{Names, Singles, Session}
+use Rattle.session.specs.Modelling.{mostModelRows}
+
+-- names within their limits; a predicate that is not declared has arity 0
+pub record GoodTables (n : Names) (ar : List ℕ) : Type 0 where
+  pub constants : length (n .constants) ≤ constantCount
+  pub predicates : length (n .predicates) < predicateCount
+  pub actions : length (n .actions) ≤ mostActions
+  pub parameters : length (n .parameters) ≤ parameterCount
+  pub variants : length (n .variants) ≤ mostVariants
+  pub arities : areArities ar ≡ true
+  pub undeclared : (p : ℕ) → length (n .predicates) < p → getD ar p 0 ≡ 0
+
+-- the last of the actions has c parameters and v variants
+abbrev pub LastAction : List Action → ℕ → ℕ → Type 0
+LastAction [] c v = v ≡ 0
+LastAction (a ∷ []) c v = (a .count ≡ c) × (length (a .variants) ≡ v)
+LastAction (a ∷ b ∷ l) c v = LastAction (b ∷ l) c v
+
+-- names and actions agree
+pub record Agreeing (n : Names) (l : List Action) : Type 0 where
+  pub count : length (n .actions) ≡ length l
+  pub last : LastAction l (length (n .parameters)) (length (n .variants))
+
+-- a reward that is read
+pub record GoodReward (ar : List ℕ) (d : Diagram) : Type 0 where
+  pub listed : Good ar d
+  pub is-closed : closed ar d ≡ d
+  pub within : Within 0 (meaning ar d)
+
+-- a model while its lines are read
+pub record GoodParts (s : Singles) (m : Model) : Type 0 where
+  pub total-some : 1 ≤ m .total
+  pub total-few : m .total ≤ mostTotal
+  pub denominator-some : 1 ≤ m .denominator
+  pub denominator-few : m .denominator ≤ mostDenominator
+  pub numerator-few : m .numerator ≤ m .denominator
+  pub reward : s .reward ≡ true → GoodReward (m .arities) (m .reward)
+  pub actions : Every (GoodAction (m .arities)) (m .actions)
+
+-- the run has begun: the model is good, and what is held is what some list of backups and cuts leads to
+pub record Begun (σ : Session) : Type 0 where
+  pub good : GoodModel (σ .model)
+  pub calls : List Call
+  pub held : σ .held ≡ run (σ .model) calls
+
+pub record GoodSession (σ : Session) : Type 0 where
+  pub tables : GoodTables (σ .names) (σ .model .arities)
+  pub agreeing : Agreeing (σ .names) (σ .model .actions)
+  pub parts : GoodParts (σ .singles) (σ .model)
+  pub few : σ .rows ≤ mostModelRows
+  pub state : 1 ≤ σ .live .objects → isState (σ .model .arities) (σ .live .objects) (σ .live .constants) (σ .live .facts) ≡ true
+  pub quiet : σ .part ≡ ModelPart → σ .live .objects ≡ 0
+  pub begun : σ .part ≡ Run → Begun σ

@@ -1,0 +1,220 @@
+-- What a line is answered, and the session behind it (document 01, sections 'Text', 'Refusals by trade word' and 'A run, whole').
+use mathlib.Core.Bool.{Bool, true, false, not, _||_, _&&_}
+use mathlib.Core.List.{List, [], _∷_, _++_}
+use Prim.Native.Nat.{ℕ, zero, suc, _^_}
+use lib.ListN.{length, getD, drop}
+use lib.Dec.{leb, eqb}
+use Rattle.refusal.specs.declared.Refusal.{Refusal}
+use Rattle.refusal.specs.declared.Refusal.the-variants.{Form, Place}
+use Rattle.diagram.specs.Rows.{rows}
+use Rattle.diagram.specs.Words.{everyBelow}
+use Rattle.regress.specs.Calls.{Outcome, ok, refused, andThen}
+use Rattle.cut.specs.Cut.{diagramAnswer}
+use Rattle.mdp.specs.Model.{Action, Model, scale}
+use Rattle.mdp.specs.Runs.{Held}
+use Rattle.text.specs.declared.Kind.{Kind}
+use Rattle.text.specs.declared.Kind.the-variants as K
+use Rattle.text.specs.LineForm.{lineKind}
+use Rattle.events.specs.declared.Event.{Event}
+use Rattle.events.specs.Events.{firstWord}
+use Rattle.events.specs.Front.{eventsOf}
+use Rattle.events.specs.Contents.{keyIn, numberIn, wordAt, keysIn, numbersIn}
+use Rattle.answers.specs.declared.Answer.{Answer}
+use Rattle.answers.specs.declared.Answer.the-variants as A
+use Rattle.session.specs.declared.Rule.{Rule}
+use Rattle.session.specs.declared.Rule.the-variants as R
+use Rattle.session.specs.Place.{ruleOf}
+use Rattle.session.specs.Session.{Names, Singles, Live, Session, refuseIf}
+use Rattle.session.specs.Declaring.{Vocabulary, constantLine, predicateLine, totalLine, discountLine, actionLine}
+use Rattle.session.specs.Facts.{objectsLine, isLine, trueLine}
+use Rattle.session.specs.Modelling.{rewardLine, variantLine, becomesLine}
+use Rattle.session.specs.Running.{withHeld, startLine, valueRead, backupLine, cutLine, cutSays}
+
+-- the session behind a line, and what the line is answered
+pub record Reply : Type 0 where
+  pub session : Session
+  pub answer : Answer
+
+-- ===== Its place: 5, behind 1 =====
+
+-- every action has a variant
+abbrev pub eachVaried : List Action → Bool
+eachVaried [] = true
+eachVaried (a ∷ l) = leb 1 (length (a .variants)) && eachVaried l
+
+-- a reward, an action, and a variant of each action
+abbrev pub isWhole : Session → Bool
+isWhole σ = σ .singles .reward && (leb 1 (length (σ .names .actions)) && eachVaried (σ .model .actions))
+
+-- the first n constants are placed
+abbrev pub eachPlaced : List ℕ → ℕ → Bool
+eachPlaced marks n = everyBelow n (λ c. eqb (getD marks c 0) 1)
+
+abbrev pub hasObjects : Session → Bool
+hasObjects σ = leb 1 (σ .live .objects)
+
+-- an accepted (objects n), and every declared constant placed
+abbrev pub isPlaced : Session → Bool
+isPlaced σ = hasObjects σ && eachPlaced (σ .live .placed) (length (σ .names .constants))
+
+abbrev pub unless : Bool → Outcome (Unit {0})
+unless b = refuseIf b Place (ok tt)
+
+-- what a rule asks for is there
+unfoldable pub allowed : Session → Rule → Outcome (Unit {0})
+allowed σ R.NoForm = refused Form
+allowed σ R.Misplaced = refused Place
+allowed σ R.Anywhere = ok tt
+allowed σ R.OneTotal = unless (σ .singles .total)
+allowed σ R.OneDiscount = unless (σ .singles .discount)
+allowed σ R.OneReward = unless (σ .singles .reward)
+allowed σ R.AfterAction = unless (not (leb 1 (length (σ .names .actions))))
+allowed σ R.AfterVariant = unless (not (leb 1 (length (σ .names .variants))))
+allowed σ R.WholeModel = unless (not (isWhole σ))
+allowed σ R.AfterObjects = unless (not (hasObjects σ))
+allowed σ R.WholeState = unless (not (isPlaced σ))
+
+-- ===== What an accepted line does =====
+
+abbrev pub withModel : Session → Singles → Model → Session
+withModel σ singles m = record {
+  part = σ .part;
+  names = σ .names;
+  singles = singles;
+  model = m;
+  rows = σ .rows;
+  live = σ .live;
+  held = σ .held;
+}
+
+abbrev pub withNames : Session → Names → Session
+withNames σ n = record {
+  part = σ .part;
+  names = n;
+  singles = σ .singles;
+  model = σ .model;
+  rows = σ .rows;
+  live = σ .live;
+  held = σ .held;
+}
+
+abbrev pub withLive : Session → Live → Session
+withLive σ l = record {
+  part = σ .part;
+  names = σ .names;
+  singles = σ .singles;
+  model = σ .model;
+  rows = σ .rows;
+  live = l;
+  held = σ .held;
+}
+
+unfoldable pub withVocabulary : Session → Vocabulary → Session
+withVocabulary σ v =
+    withNames (withModel σ (σ .singles) (record {
+      arities = v .arities;
+      total = σ .model .total;
+      numerator = σ .model .numerator;
+      denominator = σ .model .denominator;
+      reward = σ .model .reward;
+      actions = σ .model .actions;
+    })) (v .names)
+
+unfoldable pub withTotal : Session → ℕ → Session
+withTotal σ w =
+    withModel σ (record { total = true; discount = σ .singles .discount; reward = σ .singles .reward }) (record {
+      arities = σ .model .arities;
+      total = w;
+      numerator = σ .model .numerator;
+      denominator = σ .model .denominator;
+      reward = σ .model .reward;
+      actions = σ .model .actions;
+    })
+
+unfoldable pub withDiscount : Session → ℕ × ℕ → Session
+withDiscount σ q =
+    withModel σ (record { total = σ .singles .total; discount = true; reward = σ .singles .reward }) (record {
+      arities = σ .model .arities;
+      total = σ .model .total;
+      numerator = q .0;
+      denominator = q .1;
+      reward = σ .model .reward;
+      actions = σ .model .actions;
+    })
+
+-- one action more: it has the parameters that the line names and no variant
+unfoldable pub withAction : Session → Names → Session
+withAction σ n =
+    withNames (withModel σ (σ .singles) (record {
+      arities = σ .model .arities;
+      total = σ .model .total;
+      numerator = σ .model .numerator;
+      denominator = σ .model .denominator;
+      reward = σ .model .reward;
+      actions = σ .model .actions ++ (record { count = length (n .parameters); variants = [] } ∷ []);
+    })) n
+
+-- ===== The answer =====
+
+abbrev pub refusal : Session → ℕ → Refusal → Reply
+refusal σ number r = record { session = σ; answer = A.Refused r number }
+
+-- a line that prints nothing unless it is refused: a refused line leaves the session as it was
+abbrev pub quietly : {A : Type 0} → Session → ℕ → (A → Session) → Outcome A → Reply
+quietly σ number f (ok a) = record { session = f a; answer = A.Nothing }
+quietly σ number f (refused r) = refusal σ number r
+
+-- value, k, S^k
+abbrev pub valueSays : Session → ℕ → Outcome ℕ → Reply
+valueSays σ number (ok v) = record { session = σ; answer = A.Value v (σ .held .steps) (scale (σ .model) ^ σ .held .steps) }
+valueSays σ number (refused r) = refusal σ number r
+
+-- k, rows
+abbrev pub backupSays : Session → ℕ → Outcome Held → Reply
+backupSays σ number (ok h) = record { session = withHeld σ (σ .part) h; answer = A.Backup (h .steps) (length (rows (h .diagram))) }
+backupSays σ number (refused r) = refusal σ number r
+
+-- the words es of a line of the kind that stands where it may
+unfoldable pub done : Session → ℕ → Kind → List Event → Reply
+unfolding constantLine predicateLine totalLine discountLine actionLine rewardLine variantLine becomesLine startLine objectsLine isLine trueLine withVocabulary withTotal withDiscount withAction valueRead backupLine cutLine diagramAnswer rows
+done σ number K.Constant es = quietly σ number (withNames σ) (constantLine (σ .names) (keyIn (wordAt es 0)))
+done σ number K.Predicate es =
+    quietly σ number (withVocabulary σ) (predicateLine (record { names = σ .names; arities = σ .model .arities }) (keyIn (wordAt es 0)) (numberIn (wordAt es 1)))
+done σ number K.Total es = quietly σ number (withTotal σ) (totalLine (numberIn (wordAt es 0)))
+done σ number K.Discount es = quietly σ number (withDiscount σ) (discountLine (numberIn (wordAt es 0)) (numberIn (wordAt es 1)))
+done σ number K.Reward es = quietly σ number (λ τ. τ) (rewardLine σ es)
+done σ number K.Action es = quietly σ number (withAction σ) (actionLine (σ .names) (keyIn (wordAt es 0)) (keysIn (drop 1 es)))
+done σ number K.Variant es = quietly σ number (λ τ. τ) (variantLine σ (keyIn (wordAt es 0)) (drop 1 es))
+done σ number K.Becomes es = quietly σ number (λ τ. τ) (becomesLine σ es)
+done σ number K.Start es = quietly σ number (λ τ. τ) (startLine σ)
+done σ number K.Objects es = quietly σ number (withLive σ) (objectsLine (numberIn (wordAt es 0)))
+done σ number K.Is es = quietly σ number (withLive σ) (isLine (σ .names) (σ .live) (keyIn (wordAt es 0)) (numberIn (wordAt es 1)))
+done σ number K.True es =
+    quietly σ number (withLive σ) (trueLine (σ .model .arities) (σ .names) (σ .live) (keyIn (wordAt es 0)) (numbersIn (drop 1 es)))
+done σ number K.Value es = valueSays σ number (valueRead (σ .model .arities) (σ .live) (σ .held .diagram))
+done σ number K.Backup es = backupSays σ number (backupLine (σ .model) (σ .held))
+done σ number K.Cut es = record {
+  session = withHeld σ (σ .part) (cutLine (σ .model .arities) (σ .held));
+  answer = cutSays number (diagramAnswer (σ .model .arities) (σ .held .diagram));
+}
+done σ number K.Show es = record { session = σ; answer = A.Show (length (rows (σ .held .diagram))) }
+done σ number K.Bad es = refusal σ number Form
+
+-- behind the place
+abbrev pub placed : Session → ℕ → Outcome (Unit {0}) → Reply → Reply
+placed σ number (ok u) after = after
+placed σ number (refused r) after = refusal σ number r
+
+-- line `number` of a text is of a kind and has the words es: 1, 5, then the line's own checks
+unfoldable pub replyTo : Session → ℕ → Kind → List Event → Reply
+unfolding allowed done
+replyTo σ number k es = placed σ number (allowed σ (ruleOf k (σ .part))) (done σ number k es)
+
+-- the words behind the key word of a line of the kind k
+abbrev pub wordsOf : Kind → List ℕ → List Event
+wordsOf k s = eventsOf (drop (firstWord k) s)
+
+-- line `number` of a text, in bytes
+unfoldable pub reply : Session → ℕ → List ℕ → Reply
+unfolding replyTo lineKind eventsOf
+reply σ number s = replyTo σ number (lineKind s) (wordsOf (lineKind s) s)

@@ -1,0 +1,91 @@
+-- The answers of a whole text: a fold over its lines (document 01, sections 'Text' and 'A run, whole').
+use mathlib.Core.Bool.{Bool, true, false, cond}
+use mathlib.Core.List.{List, [], _∷_, _++_}
+use Prim.Native.Nat.{ℕ, suc, _+_}
+use lib.ListN.{length}
+use lib.Dec.{eqb, ltb}
+use Rattle.refusal.specs.declared.Refusal.the-variants.{Form, Place}
+use Rattle.diagram.specs.Listing.{listing}
+use Rattle.answers.specs.declared.Answer.{Answer}
+use Rattle.answers.specs.declared.Answer.the-variants.{Refused}
+use Rattle.answers.specs.Answers.{answerBytes, answerLine}
+use Rattle.session.specs.declared.Part.{Part}
+use Rattle.session.specs.declared.Part.the-variants.{Model, Run}
+use Rattle.session.specs.Session.{Session, opening}
+use Rattle.session.specs.Replies.{Reply, reply, refusal}
+
+-- 'line feed at the end'
+abbrev pub lineFeed : ℕ
+lineFeed = 10
+
+-- the lines of a text, each without its line feed, and the bytes behind the last line feed
+pub record Lines : Type 0 where
+  pub whole : List (List ℕ)
+  pub rest : List ℕ
+
+-- one byte more in front of the first line
+abbrev pub behindByte : ℕ → List (List ℕ) → List ℕ → Lines
+behindByte b [] rest = record { whole = []; rest = b ∷ rest }
+behindByte b (l ∷ ls) rest = record { whole = (b ∷ l) ∷ ls; rest = rest }
+
+abbrev pub pickLines : Bool → Lines → Lines → Lines
+pickLines true x y = x
+pickLines false x y = y
+
+unfoldable pub linesOf : List ℕ → Lines
+linesOf [] = record { whole = []; rest = [] }
+linesOf (b ∷ s) =
+    pickLines (eqb b lineFeed)
+    (record { whole = [] ∷ linesOf s .whole; rest = linesOf s .rest })
+    (behindByte b (linesOf s .whole) (linesOf s .rest))
+
+-- how far a text is read: the session, how many lines were answered, and the bytes of the answers
+pub record Progress : Type 0 where
+  pub session : Session
+  pub lines : ℕ
+  pub bytes : List ℕ
+
+-- the bytes of a reply; (show) shows the value diagram's listing
+unfoldable pub replyBytes : Reply → List ℕ
+unfolding answerBytes listing
+replyBytes r = answerBytes (listing (r .session .held .diagram)) (r .answer)
+
+-- one reply more
+abbrev pub replied : Progress → Reply → Progress
+replied p r = record { session = r .session; lines = suc (p .lines); bytes = p .bytes ++ replyBytes r }
+
+-- lines are numbered from 1
+unfoldable pub afterLine : Progress → List ℕ → Progress
+unfolding reply replyBytes
+afterLine p s = replied p (reply (p .session) (suc (p .lines)) s)
+
+unfoldable pub afterLines : Progress → List (List ℕ) → Progress
+unfolding afterLine
+afterLines p [] = p
+afterLines p (l ∷ ls) = afterLines (afterLine p l) ls
+
+-- a last line without a line feed is 1
+unfoldable pub afterRest : Progress → List ℕ → Progress
+unfolding replyBytes
+afterRest p [] = p
+afterRest p (b ∷ s) = replied p (refusal (p .session) (suc (p .lines)) Form)
+
+-- 'Input ending without an accepted (start) prints a last (refused 5 0)'
+unfoldable pub closing : Part → List ℕ
+unfolding answerLine
+closing Model = answerLine (Refused Place 0)
+closing Run = []
+
+unfoldable pub beginning : Progress
+unfolding opening
+beginning = record { session = opening; lines = 0; bytes = [] }
+
+-- the whole text read, but for the closing line
+unfoldable pub textRead : List ℕ → Progress
+unfolding linesOf afterLines afterRest beginning
+textRead s = afterRest (afterLines beginning (linesOf s .whole)) (linesOf s .rest)
+
+-- all answers of a text
+unfoldable pub textAnswers : List ℕ → List ℕ
+unfolding textRead closing
+textAnswers s = textRead s .bytes ++ closing (textRead s .session .part)
