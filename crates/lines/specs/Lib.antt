@@ -1,0 +1,2 @@
+-- Lines of a text, answered.
+pub mod Placing
