@@ -1,2 +1,3 @@
 -- Lines of a text, answered.
+pub mod Lines
 pub mod Placing

@@ -1,16 +1,47 @@
 // Lines of a text, answered: where a line may stand, and the function of its kind. What is answered stands in crate session, specs/Replies.
+use answers::Answer;
+use label::Label;
 use memory::Numbers;
+use memory::Said;
 use refusal::Refusal;
 use session::Rule;
+use text::Kind;
 ghost use mathlib.Core.Path.{_≡_};
 ghost use Prim.Native.Nat.{_≤_};
 ghost use lib.ListN.{length};
-ghost use Rattle.label.specs.Limits.{constantCount};
+ghost use Rattle.label.specs.Limits.{constantCount, predicateCount};
 ghost use Rattle.mdp.specs.Model.{mostActions};
+ghost use Rattle.session.specs.Session.{opening};
 ghost use Rattle.session.specs.Replies.{eachPlaced, unless};
 ghost use Rattle.facts.specs.Words.{part, placedBase, stateWords};
 ghost use Rattle.model.specs.Layout.{tableWords};
+ghost use Rattle.memory.specs.Memory.{memoryOf, Ready, Answers, Kept, Replied, workWords};
+ghost use Rattle.lines.specs.Lines.{Opened};
 ghost use Rattle.lines.specs.Placing.{placedAs, Counted, Varied, Whole, AllPlaced, Placing};
+
+// The arity list before the first line: equality has its arity, every other predicate 0.
+fn open_arities(arities: &mut [u64])
+    requires { ⌜ length (now arities) ≡ predicateCount ⌝ }
+    ensures { λ _. ⌜ now (arities .exit) ≡ opening .model .arities ⌝ }
+{
+    arities[Label::EQUALITY as usize] = Label::EQUALITY_ARITY;
+    let mut p = 1;
+    while p < Label::PREDICATES {
+        arities[p] = 0;
+        p += 1;
+    }
+}
+
+// Before the first line.
+pub fn open(arities: &mut [u64], state: &mut [u64]) -> Numbers
+    requires { ⌜ length (now arities) ≡ predicateCount ⌝ }
+    requires { ⌜ stateWords ≤ length (now state) ⌝ }
+    ensures { λ r. ⌜ Opened (now (arities .entry)) (now (state .entry)) r (now (arities .exit)) (now (state .exit)) ⌝ }
+{
+    open_arities(arities);
+    facts::clear(state);
+    memory::opening()
+}
 
 // Whether a line stands where it may, or why it is refused.
 enum Placed {
@@ -104,5 +135,106 @@ fn allowed(rule: Rule, n: Numbers, table: &[u64], state: &[u64]) -> Placed
         Rule::WholeModel => unless(!is_whole(n, table)),
         Rule::AfterObjects => unless(n.live.objects == 0),
         Rule::WholeState => unless(!is_placed(n, state)),
+    }
+}
+
+// What a line of the kind asks for, where it stands where it may.
+fn perform(
+    kind: Kind,
+    line: &[u8],
+    number: u64,
+    n: Numbers,
+    names: &mut [u64],
+    arities: &mut [u64],
+    listings: &mut [u64],
+    table: &mut [u64],
+    state: &mut [u64],
+    value: &mut [u64],
+    work: &mut [u64],
+) -> Said
+    requires { ⌜ Ready kind (now line) n (memoryOf (now names) (now arities) (now listings) (now table) (now state) (now value)) ⌝ }
+    requires { ⌜ workWords ≤ length (now work) ⌝ }
+    ensures { λ r. ⌜ Answers kind (now (line .entry)) number n (memoryOf (now (names .entry)) (now (arities .entry)) (now (listings .entry)) (now (table .entry)) (now (state .entry)) (now (value .entry))) r (memoryOf (now (names .exit)) (now (arities .exit)) (now (listings .exit)) (now (table .exit)) (now (state .exit)) (now (value .exit))) ⌝ }
+{
+    match kind {
+        Kind::Constant => declaration_lines::constant(line, number, n, names),
+        Kind::Predicate => declaration_lines::predicate(line, number, n, names, arities),
+        Kind::Total => declaration_lines::total(line, number, n),
+        Kind::Discount => declaration_lines::discount(line, number, n),
+        Kind::Reward => diagram_lines::reward(line, number, n, names, arities, listings, work),
+        Kind::Action => declaration_lines::action(line, number, n, names, table, work),
+        Kind::Variant => diagram_lines::variant(
+            line,
+            number,
+            n,
+            names,
+            arities,
+            listings,
+            table,
+            work,
+        ),
+        Kind::Becomes => diagram_lines::becomes(
+            line,
+            number,
+            n,
+            names,
+            arities,
+            listings,
+            table,
+            work,
+        ),
+        Kind::Start => run_lines::start(number, n, arities, listings, table, value, work),
+        Kind::Objects => state_lines::objects(line, number, n, state),
+        Kind::Is => state_lines::is(line, number, n, names, state),
+        Kind::True => state_lines::tell(line, number, n, names, arities, state),
+        Kind::Value => run_lines::value(number, n, arities, state, value),
+        Kind::Backup => run_lines::backup(number, n, arities, listings, table, value, work),
+        Kind::Cut => run_lines::cut(number, n, arities, value, work),
+        Kind::Show => run_lines::show(n),
+        Kind::Bad => Said {
+            numbers: n,
+            answer: Answer::Refused(Refusal::Form, number),
+        },
+    }
+}
+
+// Line `number` of a text, its line feed left out: the session behind it, and what it is answered.
+pub fn answer(
+    line: &[u8],
+    number: u64,
+    n: Numbers,
+    names: &mut [u64],
+    arities: &mut [u64],
+    listings: &mut [u64],
+    table: &mut [u64],
+    state: &mut [u64],
+    value: &mut [u64],
+    work: &mut [u64],
+) -> Said
+    requires { ⌜ Kept n (memoryOf (now names) (now arities) (now listings) (now table) (now state) (now value)) ⌝ }
+    requires { ⌜ workWords ≤ length (now work) ⌝ }
+    ensures { λ r. ⌜ Replied (now (line .entry)) number n (memoryOf (now (names .entry)) (now (arities .entry)) (now (listings .entry)) (now (table .entry)) (now (state .entry)) (now (value .entry))) r (memoryOf (now (names .exit)) (now (arities .exit)) (now (listings .exit)) (now (table .exit)) (now (state .exit)) (now (value .exit))) ⌝ }
+{
+    let kind = text::read_line(line);
+    let part = n.part;
+    let rule = session::rule_of(kind, part);
+    match allowed(rule, n, table, state) {
+        Placed::Done => perform(
+            kind,
+            line,
+            number,
+            n,
+            names,
+            arities,
+            listings,
+            table,
+            state,
+            value,
+            work,
+        ),
+        Placed::Refused(why) => Said {
+            numbers: n,
+            answer: Answer::Refused(why, number),
+        },
     }
 }

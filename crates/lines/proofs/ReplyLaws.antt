@@ -1,0 +1,125 @@
+-- Laws of the function of any line.
+use mathlib.Core.Path.{_≡_, refl, sym, ap, subst, _∙_}
+use mathlib.Core.Bool.{false}
+use mathlib.Core.List.{List}
+use Prim.Native.Nat.{ℕ}
+use native.Mathlib.Omega.{arith}
+use Rattle.refusal.specs.declared.Refusal.{Refusal}
+use Rattle.refusal.specs.declared.Refusal.the-variants.{Form}
+use Rattle.regress.specs.Calls.{Outcome, ok, refused}
+use Rattle.text.specs.declared.Kind.{Kind}
+use Rattle.text.specs.declared.Kind.the-variants as K
+use Rattle.text.specs.Line.{isBad, IsLine}
+use Rattle.text.specs.LineForm.{lineKind}
+use Rattle.answers.specs.declared.Answer.the-variants as A
+use Rattle.session.specs.declared.Part.{Part}
+use Rattle.session.specs.declared.Part.the-variants.{Model, Run}
+use Rattle.session.specs.declared.Rule.{Rule}
+use Rattle.session.specs.Session.{Session}
+use Rattle.session.specs.Place.{ruleOf}
+use Rattle.session.specs.Replies.{allowed, done, replyTo, reply, wordsOf}
+use Rattle.session.specs.Good.{GoodSession}
+use Rattle.session_laws.specs.MemoryLaws.{kept-good}
+use Rattle.memory.specs.declared.Numbers.{Numbers}
+use Rattle.memory.specs.declared.Said.{Said}
+use Rattle.memory.specs.Memory.{Memory, memoryOf, sessionOf, Ready, Answers, Kept, Replied}
+use Rattle.lines.specs.declared.Placed.{Placed}
+use Rattle.lines.specs.declared.Placed.the-variants.{Done, Refused}
+use Rattle.lines.specs.Placing.{placedAs, Counted, Placing}
+
+-- ===== The place =====
+
+placed-done : (o : Outcome (Unit {0})) → Done ≡ placedAs o → o ≡ ok tt
+placed-done (ok u) e = refl
+placed-done (refused r) e = absurd (let z : _≡_ {A = ℕ} 0 1 = cc in omega arith)
+
+placed-refused : (o : Outcome (Unit {0})) (r : Refusal) → Refused r ≡ placedAs o → o ≡ refused r
+placed-refused (ok u) r e = absurd (let z : _≡_ {A = ℕ} 0 1 = cc in omega arith)
+placed-refused (refused x) r e = cc
+
+-- a line that is none stands nowhere
+bad-nowhere : (σ : Session) (p : Part) → allowed σ (ruleOf K.Bad p) ≡ ok tt → ⊥
+unfolding allowed
+bad-nowhere σ Model e = let z : _≡_ {A = ℕ} 0 1 = cc in omega arith
+bad-nowhere σ Run e = let z : _≡_ {A = ℕ} 0 1 = cc in omega arith
+
+some-kind : (σ : Session) (k : Kind) (p : Part) → allowed σ (ruleOf k p) ≡ ok tt → isBad k ≡ false
+unfolding isBad
+some-kind σ K.Constant p e = refl
+some-kind σ K.Predicate p e = refl
+some-kind σ K.Total p e = refl
+some-kind σ K.Discount p e = refl
+some-kind σ K.Reward p e = refl
+some-kind σ K.Action p e = refl
+some-kind σ K.Variant p e = refl
+some-kind σ K.Becomes p e = refl
+some-kind σ K.Start p e = refl
+some-kind σ K.Objects p e = refl
+some-kind σ K.Is p e = refl
+some-kind σ K.True p e = refl
+some-kind σ K.Value p e = refl
+some-kind σ K.Backup p e = refl
+some-kind σ K.Cut p e = refl
+some-kind σ K.Show p e = refl
+some-kind σ K.Bad p e = absurd (bad-nowhere σ p e)
+
+-- ===== The answer =====
+
+-- table and state of a session
+pub kept-counted : {n : Numbers} {w : Memory} → Kept n w → Counted n (w .table) (w .state)
+kept-counted k =
+    let s = k .stored in
+    record {
+      table-room = s .building .spanned .room;
+      actions = s .building .spanned .few;
+      state-room = s .live .room;
+      constants = s .vocabulary .names .constants;
+    }
+
+module _ (σ : Session) (number : ℕ) (s : List ℕ) where
+  reply-done : allowed σ (ruleOf (lineKind s) (σ .part)) ≡ ok tt → reply σ number s ≡ done σ number (lineKind s) (wordsOf (lineKind s) s)
+  unfolding reply replyTo
+  reply-done e = rw e
+
+  reply-refused : (r : Refusal) → allowed σ (ruleOf (lineKind s) (σ .part)) ≡ refused r → reply σ number s ≡ record { session = σ; answer = A.Refused r number }
+  unfolding reply replyTo
+  reply-refused r e = rw e
+
+place-told : (σ : Session) (k : Kind) (q : Part) {rule : Rule} {p : Placed} → rule ≡ ruleOf k q → p ≡ placedAs (allowed σ rule) → p ≡ placedAs (allowed σ (ruleOf k q))
+place-told σ k q e h = h ∙ ap (λ x. placedAs (allowed σ x)) e
+
+place-ok : (σ : Session) (k : Kind) (q : Part) {rule : Rule} {p : Placed} → rule ≡ ruleOf k q → p ≡ placedAs (allowed σ rule) → p ≡ Done → allowed σ (ruleOf k q) ≡ ok tt
+place-ok σ k q e h d = placed-done (allowed σ (ruleOf k q)) (sym d ∙ place-told σ k q e h)
+
+module _ {n : Numbers} {names arities listings table state value : List ℕ} {k : Kind} {rule : Rule} {p : Placed}
+    (h : Kept n (memoryOf names arities listings table state value)) (b : rule ≡ ruleOf k (n .part)) (c : Placing rule n table state p) where
+  pub answer-ready : {s : List ℕ} → IsLine s k → p ≡ Done → Ready k s n (memoryOf names arities listings table state value)
+  answer-ready l e =
+      let σ = sessionOf n (memoryOf names arities listings table state value) in
+      let x = place-ok σ k (n .part) b (c .is names arities listings value) e in
+      let w = l .written (some-kind σ k (n .part) x) in
+      record { line = record { words = w .0; good = w .1; bytes = w .2 }; stored = h .stored; good = h .good; place = x }
+
+  pub answer-refused : (s : List ℕ) (number : ℕ) {r : Refusal} → k ≡ lineKind s → p ≡ Refused r
+      → Replied s number n (memoryOf names arities listings table state value) (record { numbers = n; answer = A.Refused r number }) (memoryOf names arities listings table state value)
+  unfolding sessionOf
+  answer-refused s number {r} a e =
+      let σ = sessionOf n (memoryOf names arities listings table state value) in
+      let x = placed-refused (allowed σ (ruleOf k (n .part))) r (sym e ∙ place-told σ k (n .part) b (c .is names arities listings value)) in
+      let y = sym (reply-refused σ number s r (subst (λ (z : Kind). allowed σ (ruleOf z (n .part)) ≡ refused r) a x)) in
+      record { answer = ap (λ t. t .answer) y; session = ap (λ t. t .session) y; kept = h }
+
+  pub answer-done : {s : List ℕ} {number : ℕ} {r : Said} {w′ : Memory} → k ≡ lineKind s → p ≡ Done → Answers k s number n (memoryOf names arities listings table state value) r w′
+      → Replied s number n (memoryOf names arities listings table state value) r w′
+  unfolding sessionOf
+  answer-done {s} {number} {r} {w′} a e d =
+      let σ = sessionOf n (memoryOf names arities listings table state value) in
+      let x = place-ok σ k (n .part) b (c .is names arities listings value) e in
+      let y = sym (reply-done σ number s (subst (λ (z : Kind). allowed σ (ruleOf z (n .part)) ≡ ok tt) a x)) in
+      let z = ap (λ x. done σ number x (wordsOf x s)) a ∙ y in
+      let m = d .session ∙ ap (λ t. t .session) z in
+      record {
+        answer = d .answer ∙ ap (λ t. t .answer) z;
+        session = m;
+        kept = record { stored = d .stored; good = subst GoodSession (sym m) (kept-good n (memoryOf names arities listings table state value) h number s) };
+      }
