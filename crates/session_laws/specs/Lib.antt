@@ -1,0 +1,5 @@
+-- Every line keeps a session good, and what the answers of a text are.
+pub mod OpeningLaws
+pub mod StateLaws
+pub mod FactLaws
+pub mod RunLaws
