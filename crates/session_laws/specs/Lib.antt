@@ -3,3 +3,5 @@ pub mod OpeningLaws
 pub mod StateLaws
 pub mod FactLaws
 pub mod RunLaws
+pub mod CaseLaws
+pub mod AnswerLaws
