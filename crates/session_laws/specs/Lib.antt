@@ -2,6 +2,8 @@
 pub mod OpeningLaws
 pub mod StateLaws
 pub mod FactLaws
+pub mod PlaceLaws
 pub mod RunLaws
 pub mod CaseLaws
 pub mod AnswerLaws
+pub mod ValueLaws

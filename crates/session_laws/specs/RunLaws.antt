@@ -1,16 +1,13 @@
 -- (start), (backup) and (cut) keep a session good (document 01, sections 'Text', 'Backup' and 'Cut').
 use mathlib.Core.Path.{_≡_, refl, sym, ap, _∙_}
-use mathlib.Core.Bool.{Bool, true, false, not, _&&_}
+use mathlib.Core.Bool.{true}
 use mathlib.Core.List.{List, [], _∷_, _++_}
-use Prim.Native.Nat.{ℕ, suc, _≤_}
+use Prim.Native.Nat.{ℕ, suc}
 use native.Mathlib.Omega.{arith}
-use lib.ListN.{length}
-use lib.Dec.{leb}
 use Rattle.basics.specs.Tests.{and-left}
-use Rattle.refusal.specs.declared.Refusal.the-variants.{Place}
 use Rattle.diagram.specs.Diagram.{Diagram}
 use Rattle.regress.specs.Calls.{Outcome, ok, refused, andThen}
-use Rattle.regress.specs.CallLaws.{Accepted, accepted-ok, accepted-then}
+use Rattle.regress.specs.CallLaws.{accepted-ok, accepted-then}
 use Rattle.cut.specs.declared.Cut.{Cut}
 use Rattle.cut.specs.declared.Cut.the-variants as C
 use Rattle.cut.specs.Cut.{diagramAnswer}
@@ -18,27 +15,17 @@ use Rattle.mdp.specs.Model.{Model, GoodModel}
 use Rattle.mdp.specs.Backup.{backup}
 use Rattle.mdp.specs.Runs.{Call, aBackup, aCut, Held, leaves, cutOutcome, taken, call, runFrom, begin, run}
 use Rattle.text.specs.declared.Kind.the-variants as K
-use Rattle.session.specs.declared.Part.{Part}
 use Rattle.session.specs.declared.Part.the-variants.{Model as ModelPart, Run}
-use Rattle.session.specs.declared.Rule.the-variants as R
 use Rattle.session.specs.Place.{ruleOf}
 use Rattle.session.specs.Session.{Session}
 use Rattle.session.specs.Modelling.{weighed}
 use Rattle.session.specs.Running.{withHeld, startLine, backupLine, cutTo, cutLine}
-use Rattle.session.specs.Replies.{isWhole, unless, allowed}
+use Rattle.session.specs.Replies.{isWhole, allowed}
 use Rattle.session.specs.Good.{Begun, GoodSession}
 use Rattle.session_laws.specs.OpeningLaws.{model-run}
+use Rattle.session_laws.specs.PlaceLaws.{start-whole}
 
 -- ===== (start) =====
-
-unless-passed : (b : Bool) → unless (not b) ≡ ok tt → b ≡ true
-unless-passed true e = refl
-unless-passed false e = let z : _≡_ {A = ℕ} 0 1 = cc in absurd (omega arith)
-
-start-whole : (σ : Session) (p : Part) → p ≡ ModelPart → allowed σ (ruleOf K.Start p) ≡ ok tt → isWhole σ ≡ true
-unfolding allowed
-start-whole σ ModelPart q e = unless-passed (isWhole σ) e
-start-whole σ Run q e = model-run (sym q)
 
 model-good : (σ : Session) → GoodSession σ → isWhole σ ≡ true → GoodModel (σ .model)
 model-good σ g w =
@@ -77,7 +64,7 @@ pub start-good : (σ : Session) → GoodSession σ → σ .part ≡ ModelPart �
     → startLine σ ≡ ok τ → GoodSession τ
 unfolding startLine
 start-good σ g p a τ e =
-    let m = model-good σ g (start-whole σ (σ .part) p a) in
+    let m = model-good σ g (start-whole σ p a) in
     accepted-then {P = λ u. Unit {0}} {Q = GoodSession} (weighed (σ .model .arities) (σ .model .total) (σ .model .actions)) (record { given = λ u q. tt })
     (λ u q. accepted-ok (held-good σ g (begin (σ .model)) (record { good = m; calls = []; held = begins (σ .model) }))) .given τ e
 
