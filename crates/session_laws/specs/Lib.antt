@@ -7,3 +7,5 @@ pub mod RunLaws
 pub mod CaseLaws
 pub mod AnswerLaws
 pub mod ValueLaws
+pub mod ModelLines
+pub mod ReplyLaws

@@ -24,6 +24,7 @@ use Rattle.mdp.specs.RunLaws.{demand-3}
 use Rattle.text.specs.declared.Kind.{Kind}
 use Rattle.text.specs.declared.Kind.the-variants as K
 use Rattle.text.specs.LineForm.{lineKind}
+use Rattle.events.specs.declared.Event.{Event}
 use Rattle.answers.specs.declared.Answer.the-variants as A
 use Rattle.session.specs.declared.Part.the-variants.{Run}
 use Rattle.session.specs.Place.{ruleOf}
@@ -104,3 +105,27 @@ value-bellman σ g number s v k w e = go (lineKind s) (reply σ number s) (one-a
     go : (i : Kind) (y : Reply) → OneAnswer σ number i y → y .answer ≡ A.Value v k w → IsValue σ v k w
     go i y (refusing r p) e = let d = sym (ap (λ (z : Reply). z .answer) p) ∙ e in let z : _≡_ {A = ℕ} 0 1 = cc in absurd (omega arith)
     go i y (accepted a p) e = valued-is i y a p e
+
+-- a (value) that stands where it may and has few valuations is answered so
+value-says : (σ : Session) (number : ℕ) (es : List Event) → allowed σ (ruleOf K.Value (σ .part)) ≡ ok tt → (v : ℕ)
+    → valueRead (σ .model .arities) (σ .live) (σ .held .diagram) ≡ ok v
+    → replyTo σ number K.Value es ≡ record { session = σ; answer = A.Value v (σ .held .steps) (scale (σ .model) ^ σ .held .steps) }
+unfolding replyTo done
+value-says σ number es a v e = ap (λ o. placed σ number o (done σ number K.Value es)) a ∙ ap (valueSays σ number) e
+
+value-few : (σ : Session) → valuations (σ .model .arities) (σ .live .objects) (σ .held .diagram) ≤ mostValuations
+    → valueRead (σ .model .arities) (σ .live) (σ .held .diagram)
+    ≡ ok (highest (stateIn (σ .model .arities) (σ .live)) [] (meaning (σ .model .arities) (σ .held .diagram)))
+unfolding valueRead
+value-few σ few = rw (le-ltb mostValuations (valuations (σ .model .arities) (σ .live .objects) (σ .held .diagram)) few)
+
+pub value-accepted : (σ : Session) → GoodSession σ → σ .part ≡ Run → isPlaced σ ≡ true
+    → valuations (σ .model .arities) (σ .live .objects) (σ .held .diagram) ≤ mostValuations → (number : ℕ) (s : List ℕ) → lineKind s ≡ K.Value
+    → reply σ number s ≡ record {
+      session = σ;
+      answer = A.Value (bellman (σ .model) (σ .held .steps) (stateIn (σ .model .arities) (σ .live))) (σ .held .steps) (scale (σ .model) ^ σ .held .steps);
+    }
+unfolding reply
+value-accepted σ g p h few number s i =
+    ap (λ k. replyTo σ number k (wordsOf k s)) i
+    ∙ value-says σ number (wordsOf K.Value s) (value-allowed σ p h) _ (value-few σ few ∙ ap ok (held-bellman σ g p (placed-objects σ h)))
