@@ -9,3 +9,4 @@ pub mod AnswerLaws
 pub mod ValueLaws
 pub mod ModelLines
 pub mod ReplyLaws
+pub mod WholeLaws

@@ -98,9 +98,9 @@ module _ (lines : ModelLines) (σ : Session) (g : GoodSession σ) (whole : Whole
   line-standing s a = record {
     place = a;
     tree = λ h.
-      let k = lineKind s in
-      let x = line-sound s k refl h in
-      (x .0, x .1, ap (λ b. eventsOf (drop (firstWord k) b)) (x .2) ∙ line-events k (x .0) (x .1 .0));
+        let k = lineKind s in
+        let x = line-sound s k refl h in
+        (x .0, x .1, ap (λ b. eventsOf (drop (firstWord k) b)) (x .2) ∙ line-events k (x .0) (x .1 .0));
   }
 
   pub reply-good : (number : ℕ) (s : List ℕ) → GoodSession (reply σ number s .session)

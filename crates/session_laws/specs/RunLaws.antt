@@ -60,13 +60,18 @@ begins : (m : Model) → begin m ≡ run m []
 unfolding run runFrom
 begins m = refl
 
+-- a session made from what a line reads
+pub made-by : {A : Type 0} (Q : Session → Type 0) (o : Outcome A) (f : A → Session) → ((a : A) → Q (f a)) → (τ : Session) → andThen o (λ a. ok (f a)) ≡ ok τ
+    → Q τ
+made-by Q o f h τ e = accepted-then {P = λ a. Unit {0}} {Q = Q} o (record { given = λ a q. tt }) (λ a q. accepted-ok (h a)) .given τ e
+
 pub start-good : (σ : Session) → GoodSession σ → σ .part ≡ ModelPart → allowed σ (ruleOf K.Start (σ .part)) ≡ ok tt → (τ : Session)
     → startLine σ ≡ ok τ → GoodSession τ
 unfolding startLine
 start-good σ g p a τ e =
     let m = model-good σ g (start-whole σ p a) in
-    accepted-then {P = λ u. Unit {0}} {Q = GoodSession} (weighed (σ .model .arities) (σ .model .total) (σ .model .actions)) (record { given = λ u q. tt })
-    (λ u q. accepted-ok (held-good σ g (begin (σ .model)) (record { good = m; calls = []; held = begins (σ .model) }))) .given τ e
+    made-by GoodSession (weighed (σ .model .arities) (σ .model .total) (σ .model .actions)) (λ u. withHeld σ Run (begin (σ .model)))
+    (λ u. held-good σ g (begin (σ .model)) (record { good = m; calls = []; held = begins (σ .model) })) τ e
 
 -- ===== (backup) and (cut): one call more =====
 

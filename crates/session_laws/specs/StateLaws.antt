@@ -15,9 +15,9 @@ use Rattle.names.specs.Keys.{placeOf, isAmong}
 use Rattle.diagram.specs.WordLaws.{every-below, below-every}
 use Rattle.state.specs.Lent.{factCount, namesBelow, constantsBelow, isState}
 use Rattle.regress.specs.Calls.{ok}
-use Rattle.regress.specs.CallLaws.{accepted-ok, accepted-pick}
+use Rattle.regress.specs.CallLaws.{Accepted, accepted-ok, accepted-pick}
 use Rattle.session.specs.declared.Part.the-variants.{Run}
-use Rattle.session.specs.Session.{Live, Session}
+use Rattle.session.specs.Session.{Names, Live, Session}
 use Rattle.session.specs.Facts.{mostObjects, cleared, objectsLine, placed, isLine}
 use Rattle.session.specs.Replies.{withLive}
 use Rattle.session.specs.Good.{GoodSession}
@@ -72,11 +72,14 @@ cleared-state ar n h = state-made ar n (replicate constantCount 0) [] (record {
   naming = λ i k. absurd (omega arith);
 })
 
+pub objects-kept : (P : Live → Type 0) (n : ℕ) → P (cleared n) → Accepted P (objectsLine n)
+unfolding objectsLine
+objects-kept P n h = accepted-pick (not (leb 1 n && leb n mostObjects)) Range (ok (cleared n)) (λ d. accepted-ok h)
+
 pub objects-good : (σ : Session) → GoodSession σ → σ .part ≡ Run → (n : ℕ) (l : Live) → objectsLine n ≡ ok l → GoodSession (withLive σ l)
-unfolding objectsLine cleared
+unfolding cleared
 objects-good σ g p n l e =
-    accepted-pick {P = λ l. GoodSession (withLive σ l)} (not (leb 1 n && leb n mostObjects)) Range (ok (cleared n))
-    (λ d. accepted-ok (live-good σ g p (cleared n) (cleared-state (σ .model .arities) n))) .given l e
+    objects-kept (λ m. GoodSession (withLive σ m)) n (live-good σ g p (cleared n) (cleared-state (σ .model .arities) n)) .given l e
 
 -- ===== (is c o) =====
 
@@ -102,10 +105,14 @@ placed-good : (σ : Session) → GoodSession σ → σ .part ≡ Run → (c o : 
 unfolding placed
 placed-good σ g p c o h = live-good σ g p (placed (σ .live) c o) (λ k. placed-state (σ .model .arities) (σ .live) c o h (g .state k))
 
-pub is-good : (σ : Session) → GoodSession σ → σ .part ≡ Run → (k : Key) (o : ℕ) (l : Live) → isLine (σ .names) (σ .live) k o ≡ ok l → GoodSession (withLive σ l)
+pub is-kept : (P : Live → Type 0) (n : Names) (l : Live) (k : Key) (o : ℕ) → (o < l .objects → P (placed l (placeOf k (n .constants)) o))
+    → Accepted P (isLine n l k o)
 unfolding isLine
+is-kept P n l k o h =
+    accepted-pick (not (isAmong k (n .constants)) || eqb (getD (l .placed) (placeOf k (n .constants)) 0) 1) Name _ (λ d₁.
+    accepted-pick (leb (l .objects) o) Range _ (λ d₂.
+    accepted-ok (h (leb-false (l .objects) o d₂))))
+
+pub is-good : (σ : Session) → GoodSession σ → σ .part ≡ Run → (k : Key) (o : ℕ) (l : Live) → isLine (σ .names) (σ .live) k o ≡ ok l → GoodSession (withLive σ l)
 is-good σ g p k o l e =
-    let c = placeOf k (σ .names .constants) in
-    accepted-pick {P = λ l. GoodSession (withLive σ l)} (not (isAmong k (σ .names .constants)) || eqb (getD (σ .live .placed) c 0) 1) Name _ (λ d₁.
-    accepted-pick (leb (σ .live .objects) o) Range _ (λ d₂.
-    accepted-ok (placed-good σ g p c o (leb-false (σ .live .objects) o d₂)))) .given l e
+    is-kept (λ m. GoodSession (withLive σ m)) (σ .names) (σ .live) k o (placed-good σ g p (placeOf k (σ .names .constants)) o) .given l e
