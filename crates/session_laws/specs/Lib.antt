@@ -10,3 +10,5 @@ pub mod ValueLaws
 pub mod ModelLines
 pub mod ReplyLaws
 pub mod WholeLaws
+pub mod FoldLaws
+pub mod TextLaws
