@@ -7,7 +7,6 @@ pub mod RunLaws
 pub mod CaseLaws
 pub mod AnswerLaws
 pub mod ValueLaws
-pub mod ModelLines
 pub mod ReplyLaws
 pub mod WholeLaws
 pub mod FoldLaws

@@ -43,10 +43,6 @@ module _ (σ : Session) where
   unfolding allowed
   variant-action p a = leb-true 1 _ (unless-passed (leb 1 (length (σ .names .actions))) (subst (λ q. allowed σ (ruleOf K.Variant q) ≡ ok tt) p a))
 
-  pub becomes-variant : σ .part ≡ Model → allowed σ (ruleOf K.Becomes (σ .part)) ≡ ok tt → 1 ≤ length (σ .names .variants)
-  unfolding allowed
-  becomes-variant p a = leb-true 1 _ (unless-passed (leb 1 (length (σ .names .variants))) (subst (λ q. allowed σ (ruleOf K.Becomes q) ≡ ok tt) p a))
-
   pub value-placed : σ .part ≡ Run → allowed σ (ruleOf K.Value (σ .part)) ≡ ok tt → isPlaced σ ≡ true
   unfolding allowed
   value-placed p a = unless-passed (isPlaced σ) (subst (λ q. allowed σ (ruleOf K.Value q) ≡ ok tt) p a)

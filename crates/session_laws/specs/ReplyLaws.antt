@@ -1,5 +1,5 @@
 -- Every line keeps a session good (document 01, section 'Text').
-use mathlib.Core.Path.{_≡_, refl, ap, _∙_, subst}
+use mathlib.Core.Path.{_≡_, refl, ap, _∙_}
 use mathlib.Core.Bool.{false}
 use mathlib.Core.List.{List}
 use Prim.Native.Nat.{ℕ}
@@ -24,12 +24,16 @@ use Rattle.session.specs.Session.{Session}
 use Rattle.session.specs.Modelling.{rewardLine, variantLine, becomesLine}
 use Rattle.session.specs.Replies.{Reply, allowed, done, wordsOf, reply}
 use Rattle.session.specs.Good.{GoodSession}
+use Rattle.model_laws.specs.DeclaringLaws.{constant-good, total-good, discount-good, action-good}
+use Rattle.model_laws.specs.PredicateLaws.{predicate-good}
+use Rattle.model_laws.specs.RewardLaws.{reward-good}
+use Rattle.model_laws.specs.VariantLaws.{variant-good}
+use Rattle.model_laws.specs.BecomesLaws.{becomes-good}
 use Rattle.session_laws.specs.StateLaws.{objects-good, is-good}
 use Rattle.session_laws.specs.FactLaws.{WholeRows, true-good}
-use Rattle.session_laws.specs.PlaceLaws.{in-model, in-run, variant-action, becomes-variant}
+use Rattle.session_laws.specs.PlaceLaws.{in-model, in-run, variant-action}
 use Rattle.session_laws.specs.RunLaws.{start-good, backup-good, cut-good}
 use Rattle.session_laws.specs.CaseLaws.{Cases, done-by, reply-by}
-use Rattle.session_laws.specs.ModelLines.{ModelLines}
 
 -- a line of the kind k that stands where it may, and the events es of its words are those of its tree
 pub record Standing (σ : Session) (k : Kind) (es : List Event) : Type 0 where
@@ -39,7 +43,7 @@ pub record Standing (σ : Session) (k : Kind) (es : List Event) : Type 0 where
 abbrev KeepsGood : Session → List Event → Kind → Reply → Type 0
 KeepsGood σ es k y = Standing σ k es → GoodSession (y .session)
 
-module _ (lines : ModelLines) (σ : Session) (g : GoodSession σ) (whole : WholeRows (σ .live .facts)) where
+module _ (σ : Session) (g : GoodSession σ) (whole : WholeRows (σ .live .facts)) where
   -- the part of a line's session, by its place
   model : (k : Kind) {es : List Event} → ruleOf k Run ≡ R.Misplaced → Standing σ k es → σ .part ≡ Model
   model k q t = in-model σ (ruleOf k) q (σ .part) (t .place)
@@ -51,33 +55,30 @@ module _ (lines : ModelLines) (σ : Session) (g : GoodSession σ) (whole : Whole
   unfolding isBad
   reward es τ e t =
       let w = t .tree refl in
-      lines .reward-good σ g (model K.Reward refl t) (w .0) (omega (arith, w .1 .1)) τ (subst (λ x. rewardLine σ x ≡ ok τ) (w .2) e)
+      reward-good σ g (model K.Reward refl t) (w .0) (omega (arith, w .1 .1)) es (w .2) τ e
 
   variant : (es : List Event) (τ : Session) → variantLine σ (keyIn (wordAt es 0)) (drop 1 es) ≡ ok τ → Standing σ K.Variant es → GoodSession τ
   unfolding isBad
   variant es τ e t =
       let w = t .tree refl in
       let p = model K.Variant refl t in
-      lines .variant-good σ g p (variant-action σ p (t .place)) _ (w .0 .1) (omega (arith, w .1 .1)) τ
-      (subst (λ x. variantLine σ (keyIn (wordAt x 0)) (drop 1 x) ≡ ok τ) (w .2) e)
+      variant-good σ g p _ (w .0 .1) (omega (arith, w .1 .1)) (drop 1 es) (ap (drop 1) (w .2)) (variant-action σ p (t .place)) τ e
 
   becomes : (es : List Event) (τ : Session) → becomesLine σ es ≡ ok τ → Standing σ K.Becomes es → GoodSession τ
   unfolding isBad
   becomes es τ e t =
       let w = t .tree refl in
-      let p = model K.Becomes refl t in
-      lines .becomes-good σ g p (becomes-variant σ p (t .place)) (w .0 .0) (w .0 .1) (w .0 .2) (omega (arith, w .1 .1)) τ
-      (subst (λ x. becomesLine σ x ≡ ok τ) (w .2) e)
+      becomes-good σ g (model K.Becomes refl t) (w .0 .0) (w .0 .1) (w .0 .2) (omega (arith, w .1 .1)) es (w .2) τ e
 
   cases : (number : ℕ) (es : List Event) → Cases σ number es (KeepsGood σ es)
   cases number es = record {
     refusing = λ k r t. g;
-    forConstant = λ n e t. lines .constant-good σ g (model K.Constant refl t) _ n e;
-    forPredicate = λ v e t. lines .predicate-good σ g (model K.Predicate refl t) _ _ v e;
-    forTotal = λ w e t. lines .total-good σ g (model K.Total refl t) _ w e;
-    forDiscount = λ q e t. lines .discount-good σ g (model K.Discount refl t) _ _ q e;
+    forConstant = λ n e t. constant-good σ g (model K.Constant refl t) _ n e;
+    forPredicate = λ v e t. predicate-good σ g (model K.Predicate refl t) _ _ v e;
+    forTotal = λ w e t. total-good σ g (model K.Total refl t) _ w e;
+    forDiscount = λ q e t. discount-good σ g (model K.Discount refl t) _ _ q e;
     forReward = reward es;
-    forAction = λ n e t. lines .action-good σ g (model K.Action refl t) _ _ n e;
+    forAction = λ n e t. action-good σ g (model K.Action refl t) _ _ n e;
     forVariant = variant es;
     forBecomes = becomes es;
     forStart = λ τ e t. start-good σ g (model K.Start refl t) (t .place) τ e;
