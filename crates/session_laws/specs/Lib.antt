@@ -11,3 +11,4 @@ pub mod ReplyLaws
 pub mod WholeLaws
 pub mod FoldLaws
 pub mod TextLaws
+pub mod MemoryLaws
