@@ -13,7 +13,7 @@ use Rattle.refusal.specs.declared.Refusal.the-variants.{Name, Arity, Range, Spa
 use Rattle.words.specs.declared.Key.{Key}
 use Rattle.names.specs.Keys.{isAmong}
 use Rattle.state.specs.Lent.{factWords, factCount, predicateAt, objectsAt, allBelow, namesBelow, isState}
-use Rattle.regress.specs.Calls.{Outcome, ok}
+use Rattle.regress.specs.Calls.{ok}
 use Rattle.regress.specs.CallLaws.{Accepted, accepted-ok, accepted-pick}
 use Rattle.regress.specs.RegressCallLaws.{not-false}
 use Rattle.session.specs.declared.Part.the-variants.{Run}

@@ -1,9 +1,8 @@
 -- A session that is kept in lent words: its facts are whole rows, and every line keeps it good.
-use mathlib.Core.Path.{_≡_}
 use mathlib.Core.List.{List}
-use Prim.Native.Nat.{ℕ, _*_, _≤_}
+use Prim.Native.Nat.{ℕ, _*_}
 use native.Mathlib.Omega.{arith}
-use lib.ListN.{length, take, drop, length-take, length-drop}
+use lib.ListN.{drop, length-take, length-drop}
 use Rattle.state.specs.Lent.{factWords}
 use Rattle.facts.specs.declared.Live.{Live}
 use Rattle.facts.specs.Words.{factsBase, liveOf, GoodLive}

@@ -1,18 +1,12 @@
 -- The session before the first line is good (document 01, section 'Text').
 use mathlib.Core.Path.{_≡_, refl}
-use mathlib.Core.List.{[]}
 use Prim.Native.Nat.{ℕ, zero, suc, _<_}
 use native.Mathlib.Omega.{arith}
 use lib.ListN.{getD, replicate}
-use Rattle.label.specs.Limits.{predicateCount}
 use Rattle.label.specs.Labels.{areArities}
-use Rattle.session.specs.declared.Part.{Part}
-use Rattle.session.specs.declared.Part.the-variants.{Model, Run}
 use Rattle.session.specs.Session.{opening}
-use Rattle.session.specs.Good.{GoodTables, Agreeing, GoodParts, GoodSession}
-
-pub model-run : {A : Type 0} → Model ≡ Run → A
-model-run e = let z : _≡_ {A = ℕ} 0 1 = cc in absurd (omega arith)
+use Rattle.session.specs.Good.{GoodTables, GoodParts, GoodSession}
+use Rattle.session_laws.specs.PlaceLaws.{model-run}
 
 zeros : (n i : ℕ) → getD {A = ℕ} (replicate n 0) i 0 ≡ 0
 zeros zero i = refl

@@ -1,14 +1,13 @@
 -- What it says of a session that a line stands where it may (document 01, section 'Text').
 use mathlib.Core.Path.{_≡_, refl, sym, ap, _∙_, subst}
-use mathlib.Core.Bool.{Bool, true, false, not, _&&_}
+use mathlib.Core.Bool.{Bool, true, false, not}
 use Prim.Native.Nat.{ℕ, _≤_}
 use native.Mathlib.Omega.{arith}
 use lib.ListN.{length}
 use lib.Dec.{leb}
 use borrow.Author.Tests.{leb-true}
 use Rattle.basics.specs.Tests.{and-left}
-use Rattle.refusal.specs.declared.Refusal.{Refusal}
-use Rattle.regress.specs.Calls.{Outcome, ok, refused}
+use Rattle.regress.specs.Calls.{ok}
 use Rattle.text.specs.declared.Kind.the-variants as K
 use Rattle.session.specs.declared.Part.{Part}
 use Rattle.session.specs.declared.Part.the-variants.{Model, Run}
@@ -17,6 +16,9 @@ use Rattle.session.specs.declared.Rule.the-variants as R
 use Rattle.session.specs.Place.{ruleOf}
 use Rattle.session.specs.Session.{Session}
 use Rattle.session.specs.Replies.{isWhole, hasObjects, isPlaced, unless, allowed}
+
+pub model-run : {A : Type 0} → Model ≡ Run → A
+model-run e = let z : _≡_ {A = ℕ} 0 1 = cc in absurd (omega arith)
 
 -- a rule that is Misplaced in one part: the session is in the other
 module _ (σ : Session) (rule : Part → Rule) where

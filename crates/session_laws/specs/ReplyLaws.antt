@@ -8,7 +8,7 @@ use lib.ListN.{drop}
 use Rattle.regress.specs.Calls.{ok}
 use Rattle.text.specs.declared.Kind.{Kind}
 use Rattle.text.specs.declared.Kind.the-variants as K
-use Rattle.text.specs.Line.{isBad, Words, lineBytes, GoodLine}
+use Rattle.text.specs.Line.{isBad, Words, GoodLine}
 use Rattle.text.specs.Line.Line.{line}
 use Rattle.text.specs.LineForm.{lineKind}
 use Rattle.text.specs.LineLaws.{line-sound}

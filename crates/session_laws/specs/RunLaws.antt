@@ -22,8 +22,7 @@ use Rattle.session.specs.Modelling.{weighed}
 use Rattle.session.specs.Running.{withHeld, startLine, backupLine, cutTo, cutLine}
 use Rattle.session.specs.Replies.{isWhole, allowed}
 use Rattle.session.specs.Good.{Begun, GoodSession}
-use Rattle.session_laws.specs.OpeningLaws.{model-run}
-use Rattle.session_laws.specs.PlaceLaws.{start-whole}
+use Rattle.session_laws.specs.PlaceLaws.{model-run, start-whole}
 
 -- ===== (start) =====
 

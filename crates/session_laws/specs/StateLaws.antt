@@ -21,7 +21,7 @@ use Rattle.session.specs.Session.{Names, Live, Session}
 use Rattle.session.specs.Facts.{mostObjects, cleared, objectsLine, placed, isLine}
 use Rattle.session.specs.Replies.{withLive}
 use Rattle.session.specs.Good.{GoodSession}
-use Rattle.session_laws.specs.OpeningLaws.{model-run}
+use Rattle.session_laws.specs.PlaceLaws.{model-run}
 
 -- ===== States, taken apart and made =====
 

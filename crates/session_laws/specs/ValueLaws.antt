@@ -1,23 +1,22 @@
 -- Demand 3 for one line: what an accepted (value) answers is Mk of the state in hand, k and S^k (document 01, section 'Backup').
 use mathlib.Core.Path.{_≡_, refl, sym, ap, _∙_, subst}
-use mathlib.Core.Bool.{Bool, true, false, not}
+use mathlib.Core.Bool.{true}
 use mathlib.Core.List.{List, []}
 use Prim.Native.Nat.{ℕ, _^_, _≤_, _<_}
 use native.Mathlib.Omega.{arith}
-use lib.ListN.{length, getD}
-use lib.Dec.{leb, ltb}
-use borrow.Author.Tests.{leb-true, le-ltb}
-use Rattle.basics.specs.Tests.{and-left}
+use lib.ListN.{getD}
+use lib.Dec.{ltb}
+use borrow.Author.Tests.{le-ltb}
 use Rattle.refusal.specs.declared.Refusal.the-variants.{Valuations}
 use Rattle.label.specs.Limits.{constantCount}
-use Rattle.state.specs.State.{State, Good, meaning, low}
+use Rattle.state.specs.State.{Good, meaning, low}
 use Rattle.state.specs.ValueLaws.{low-lt, low-ge, by-low}
 use Rattle.state.specs.Highest.{highest}
-use Rattle.state.specs.Lent.{stateOf, isState}
+use Rattle.state.specs.Lent.{stateOf}
 use Rattle.state.specs.ValueCall.{valuations, mostValuations}
-use Rattle.regress.specs.Calls.{Outcome, ok, refused}
+use Rattle.regress.specs.Calls.{ok}
 use Rattle.regress.specs.CallLaws.{accepted-ok, accepted-pick}
-use Rattle.mdp.specs.Model.{Model, scale}
+use Rattle.mdp.specs.Model.{scale}
 use Rattle.mdp.specs.Bellman.{bellman}
 use Rattle.mdp.specs.Runs.{Held}
 use Rattle.mdp.specs.RunLaws.{demand-3}
@@ -30,7 +29,7 @@ use Rattle.session.specs.declared.Part.the-variants.{Run}
 use Rattle.session.specs.Place.{ruleOf}
 use Rattle.session.specs.Session.{Session}
 use Rattle.session.specs.Running.{stateIn, valueRead}
-use Rattle.session.specs.Replies.{Reply, isPlaced, hasObjects, eachPlaced, allowed, valueSays, done, placed, replyTo, wordsOf, reply}
+use Rattle.session.specs.Replies.{Reply, isPlaced, allowed, valueSays, done, placed, replyTo, wordsOf, reply}
 use Rattle.session.specs.Good.{GoodSession}
 use Rattle.session_laws.specs.PlaceLaws.{in-run, value-placed, value-allowed, placed-objects}
 use Rattle.session_laws.specs.AnswerLaws.{Answered, quiet, valued, backed, cutting, showing, OneAnswer, refusing, accepted, one-answer}
