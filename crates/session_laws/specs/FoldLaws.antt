@@ -43,18 +43,15 @@ unfolding afterLines afterLine
 lines-count p [] = omega arith
 lines-count p (s ∷ ls) = omega (arith, lines-count (replied p (reply (p .session) (suc (p .lines)) s)) ls)
 
-lines-last : (p : Progress) (ls : List (List ℕ)) (s : List ℕ) → afterLines p (ls ++ (s ∷ [])) ≡ afterLine (afterLines p ls) s
-unfolding afterLines
-lines-last p [] s = refl
-lines-last p (l ∷ ls) s = lines-last (afterLine p l) ls s
-
--- the reply to a line is that of the session that the lines before it lead to, and it has the line's own number
-pub lines-then : (p : Progress) (ls : List (List ℕ)) (s : List ℕ)
-    → afterLines p (ls ++ (s ∷ [])) ≡ replied (afterLines p ls) (reply (afterLines p ls .session) (suc (p .lines + length ls)) s)
-unfolding afterLine
-lines-then p ls s =
-    let q = afterLines p ls in
-    lines-last p ls s ∙ ap (λ n. replied q (reply (q .session) (suc n) s)) (lines-count p ls)
+-- the replies to the lines behind ls are those of the session that ls leads to, numbered on
+pub replies-then : (p : Progress) (ls ms : List (List ℕ))
+    → replies (p .session) (p .lines) (ls ++ ms)
+    ≡ replies (p .session) (p .lines) ls ++ replies (afterLines p ls .session) (afterLines p ls .lines) ms
+unfolding replies afterLines afterLine
+replies-then p [] ms = refl
+replies-then p (s ∷ ls) ms =
+    let y = reply (p .session) (suc (p .lines)) s in
+    ap (λ ys. y ∷ ys) (replies-then (replied p y) ls ms)
 
 -- ===== A whole text =====
 
@@ -76,3 +73,10 @@ text-bytes s =
     let ls = linesOf s .whole in
     rest-bytes (afterLines beginning ls) (linesOf s .rest)
     ∙ ap₂ (λ bs n. bs ++ restBytes n (linesOf s .rest)) (lines-bytes beginning ls) (lines-count beginning ls ∙ zero-add (length ls))
+
+-- the line behind ls: its reply is that of the session that ls leads to, and it has the line's own number
+pub text-line : (ls : List (List ℕ)) (s : List ℕ) → replies opening 0 (ls ++ (s ∷ [])) ≡ replies opening 0 ls ++ (reply (afterLines beginning ls .session) (suc (length ls)) s ∷ [])
+unfolding replies beginning
+text-line ls s =
+    replies-then beginning ls (s ∷ [])
+    ∙ ap (λ n. replies opening 0 ls ++ (reply (afterLines beginning ls .session) (suc n) s ∷ [])) (lines-count beginning ls ∙ zero-add (length ls))
