@@ -1,0 +1,4 @@
+-- Every line of a model keeps a session good.
+pub mod OutcomeLaws
+pub mod SessionLaws
+pub mod DeclaringLaws
