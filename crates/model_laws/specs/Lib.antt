@@ -2,3 +2,6 @@
 pub mod OutcomeLaws
 pub mod SessionLaws
 pub mod DeclaringLaws
+pub mod ArityLaws
+pub mod GrowthLaws
+pub mod PredicateLaws
