@@ -21,7 +21,7 @@ use Rattle.session.specs.Declaring.{isDeclared, constantLine, isTotal, totalLin
 use Rattle.session.specs.Replies.{withNames, withTotal, withDiscount, withAction}
 use Rattle.session.specs.Good.{LastAction, GoodSession}
 use Rattle.model_laws.specs.OutcomeLaws.{ok-one, passed, neither}
-use Rattle.model_laws.specs.SessionLaws.{while-model}
+use Rattle.model_laws.specs.SessionLaws.{while-model, parts-with}
 
 -- one name more
 pub length-more : {A : Type 0} (l : List A) (a : A) → length (l ++ (a ∷ [])) ≡ suc (length l)
@@ -123,13 +123,6 @@ module _ (σ : Session) (good : GoodSession σ) (part : σ .part ≡ ModelPart) 
         count = omega (arith, length-more (σ .names .actions) k, length-more (σ .model .actions) a, good .agreeing .count);
         last = last-more (σ .model .actions) a;
       })
-      (record {
-        total-some = g .total-some;
-        total-few = g .total-few;
-        denominator-some = g .denominator-some;
-        denominator-few = g .denominator-few;
-        numerator-few = g .numerator-few;
-        reward = g .reward;
-        actions = every-more _ (σ .model .actions) a (g .actions) (record { few = few; variants-few = omega arith; variants = tt });
-      })
+      (parts-with _ (σ .singles) (σ .model) (σ .model .arities) (σ .model .reward) (σ .model .actions ++ (a ∷ [])) g (g .reward)
+      (every-more _ (σ .model .actions) a (g .actions) (record { few = few; variants-few = omega arith; variants = tt })))
       (good .few))

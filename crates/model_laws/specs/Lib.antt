@@ -5,3 +5,6 @@ pub mod DeclaringLaws
 pub mod ArityLaws
 pub mod GrowthLaws
 pub mod PredicateLaws
+pub mod DrawnLaws
+pub mod ReadLaws
+pub mod VariantLaws

@@ -17,7 +17,7 @@ use Rattle.session.specs.Declaring.{isDeclared, Vocabulary, predicateLine}
 use Rattle.session.specs.Replies.{withVocabulary}
 use Rattle.session.specs.Good.{GoodSession}
 use Rattle.model_laws.specs.OutcomeLaws.{ok-one, passed}
-use Rattle.model_laws.specs.SessionLaws.{while-model}
+use Rattle.model_laws.specs.SessionLaws.{while-model, parts-with}
 use Rattle.model_laws.specs.DeclaringLaws.{length-more}
 use Rattle.model_laws.specs.ArityLaws.{Grown, grown-set}
 use Rattle.model_laws.specs.GrowthLaws.{reward-grown, actions-grown}
@@ -47,13 +47,6 @@ module _ (σ : Session) (good : GoodSession σ) (part : σ .part ≡ ModelPart) 
         undeclared = λ j h. let l = length-more (σ .names .predicates) k in getD-set-other ar i j a 0 (λ z. omega arith) ∙ t .undeclared j (omega arith);
       })
       (record { count = good .agreeing .count; last = good .agreeing .last })
-      (record {
-        total-some = m .total-some;
-        total-few = m .total-few;
-        denominator-some = m .denominator-some;
-        denominator-few = m .denominator-few;
-        numerator-few = m .numerator-few;
-        reward = λ s. reward-grown ar (set ar i a) g (σ .model .reward) (m .reward s);
-        actions = actions-grown ar (set ar i a) g (σ .model .actions) (m .actions);
-      })
+      (parts-with _ (σ .singles) (σ .model) (set ar i a) (σ .model .reward) (σ .model .actions) m (λ s. reward-grown ar (set ar i a) g (σ .model .reward) (m .reward s))
+      (actions-grown ar (set ar i a) g (σ .model .actions) (m .actions)))
       (good .few))
