@@ -8,3 +8,5 @@ pub mod PredicateLaws
 pub mod DrawnLaws
 pub mod ReadLaws
 pub mod VariantLaws
+pub mod RewardLaws
+pub mod BecomesLaws
