@@ -13,7 +13,6 @@ use Rattle.diagram.specs.Sizes.{mostRows, highestValue}
 use Rattle.diagram.specs.Diagram.{Diagram, leaf, branch, relabel, eval, Ordered, Reduced}
 use Rattle.diagram.specs.Rows.{rows}
 use Rattle.diagram.specs.Listing.{Fine, Good}
-use Rattle.diagram.specs.Variables.{closed}
 use Rattle.rename.specs.Ascending.{All}
 use Rattle.rename.specs.TermLaws.{each-terms}
 use Rattle.rename.specs.ClosingLaws.{closed-good, closed-twice}
@@ -29,7 +28,6 @@ use Rattle.regress.specs.Parameters.{Allowed, Within}
 use Rattle.mdp.specs.CallLaws.{within-closed, closed-count}
 use Rattle.reading.specs.Tree.{Reading, depth, opsOf, Named, GoodTest, GoodReading}
 use Rattle.reading.specs.Tree.Reading.{branch as conditional, number}
-use Rattle.build.specs.Build.{textDiagram, rewardDiagram}
 use Rattle.build.specs.Machine.{mostTests, built, builtClosed}
 use Rattle.build.specs.MachineLaws.{built-text, built-reward}
 use Rattle.build.specs.ReadingLaws.{diagramFor, text-held, reward-held}

@@ -2,32 +2,32 @@
 -- places adds the constant 0 and nothing else to the diagrams that have it.
 use mathlib.Core.Path.{_≡_, refl, sym, ap, subst, _∙_}
 use mathlib.Core.Logic.{_⊎_, inl, inr}
-use mathlib.Core.Bool.{Bool, true, false, _||_, cond}
+use mathlib.Core.Bool.{true, false}
 use mathlib.Core.List.{List, [], _∷_}
-use Prim.Native.Nat.{ℕ, zero, suc, _+_, _≤_, _<_}
+use Prim.Native.Nat.{ℕ, zero, suc, _+_, _<_}
 use native.Mathlib.Omega.{arith}
 use lib.ListN.{length, getD, take}
 use lib.Dec.{eqb, ltb}
 use borrow.Author.Tests.{eqb-true, ne-eqb, le-ltb}
 use Rattle.basics.specs.Tests.{cond-const}
 use Rattle.basics.specs.Members.{mem}
-use Rattle.label.specs.Limits.{firstParameter, firstVariable, variableCount, predicateCount}
+use Rattle.label.specs.Limits.{firstParameter, firstVariable, variableCount}
 use Rattle.label.specs.Terms.{isTerm, isConstant}
-use Rattle.label.specs.Labels.{placeFits, isAtom, isLabel, termsOf, unpacked}
+use Rattle.label.specs.Labels.{placeFits, isLabel, termsOf, unpacked}
 use Rattle.label.specs.LabelLaws.{PlacesFit, Fitting, label-fits, fits-atom}
 use Rattle.label.specs.declared.Atom.{Atom}
 use Rattle.diagram.specs.Diagram.{Diagram, leaf, branch, relabel}
 use Rattle.diagram.specs.Listing.{Fine, Good}
-use Rattle.diagram.specs.Variables.{occurs, pickList, occurring, variables, closed}
+use Rattle.diagram.specs.Variables.{occurs, occurring, variables, closed}
 use Rattle.rename.specs.ClosingLaws.{closed-variables, closed-same}
 use Rattle.state.specs.State.{atomOf, meaning}
 use Rattle.state.specs.Terms.{Each, Terms}
 use Rattle.state.specs.ValueLaws.{Terms-mono}
 use Rattle.regress.specs.Parameters.{Allowed, Within}
 use Rattle.mdp.specs.Model.{Variant, Action, Every, GoodTruthDiagram, GoodVariant, GoodAction}
-use Rattle.session.specs.Session.{Singles}
 use Rattle.session.specs.Good.{GoodReward}
 use Rattle.model_laws.specs.ArityLaws.{Grown, grown-more}
+use Rattle.model_laws.specs.ActionLaws.{every-mono}
 
 -- ===== Labels =====
 
@@ -77,10 +77,6 @@ bare-each P p n a b = each-take P n (places a) (rw (b .first) p, (rw (b .second)
 each-not : (t : ℕ) (ts : List ℕ) → Each (λ u. eqb t u ≡ false) ts → mem eqb t ts ≡ false
 each-not t [] h = refl
 each-not t (u ∷ ts) h = rw (h .0) (each-not t ts (h .1))
-
-every-map : {A : Type 0} (P Q : A → Type 0) → ((a : A) → P a → Q a) → (l : List A) → Every P l → Every Q l
-every-map P Q f [] h = tt
-every-map P Q f (a ∷ l) h = (f a (h .0), every-map P Q f l (h .1))
 
 module _ (ar br : List ℕ) (grown : Grown ar br) where
   abbrev Way : Atom → Type 0
@@ -185,8 +181,8 @@ module _ (ar br : List ℕ) (grown : Grown ar br) where
   action-grown a g = record {
     few = g .few;
     variants-few = g .variants-few;
-    variants = every-map (GoodVariant ar (a .count)) (GoodVariant br (a .count)) (variant-grown (a .count)) (a .variants) (g .variants);
+    variants = every-mono (GoodVariant ar (a .count)) (GoodVariant br (a .count)) (variant-grown (a .count)) (a .variants) (g .variants);
   }
 
   pub actions-grown : (l : List Action) → Every (GoodAction ar) l → Every (GoodAction br) l
-  actions-grown l h = every-map (GoodAction ar) (GoodAction br) action-grown l h
+  actions-grown l h = every-mono (GoodAction ar) (GoodAction br) action-grown l h

@@ -1,23 +1,19 @@
 -- The diagram on a line of a good session, its words read and built.
 use mathlib.Core.Path.{_≡_, ap, sym, _∙_}
 use mathlib.Core.List.{List, []}
-use Prim.Native.Nat.{ℕ, _+_, _≤_, _<_}
+use Prim.Native.Nat.{ℕ, _≤_}
 use native.Mathlib.Omega.{arith}
 use lib.ListN.{length}
-use Rattle.basics.specs.Tests.{Cmp, below, equal, above, cmp}
-use Rattle.label.specs.Limits.{parameterCount, firstParameter}
+use Rattle.label.specs.Limits.{parameterCount}
 use Rattle.words.specs.declared.Key.{Key}
 use Rattle.forms.specs.Tree as T
 use Rattle.diagram.specs.Diagram.{Diagram}
-use Rattle.state.specs.State.{meaning}
-use Rattle.state.specs.Terms.{Terms}
-use Rattle.state.specs.ValueLaws.{Terms-mono}
 use Rattle.regress.specs.Calls.{ok}
 use Rattle.events.specs.Events.{diagramEvents}
 use Rattle.reading.specs.declared.Binding.{Binding}
 use Rattle.reading.specs.Reading.{Written, reading}
 use Rattle.reading.specs.Reading.Judged.{fine}
-use Rattle.reading.specs.Tree.{Named, reach, NamesFit, Sound}
+use Rattle.reading.specs.Tree.{reach, NamesFit}
 use Rattle.reading.specs.GoodLaws.{reading-sound}
 use Rattle.build.specs.Machine.{mostTests, built, builtClosed}
 use Rattle.session.specs.Session.{Names}

@@ -1,8 +1,8 @@
 -- (variant n WEIGHT): an accepted one keeps a session good.
-use mathlib.Core.Path.{_≡_, refl, sym, subst}
+use mathlib.Core.Path.{_≡_, sym, subst}
 use mathlib.Core.Bool.{_||_}
-use mathlib.Core.List.{List, [], _∷_, _++_}
-use Prim.Native.Nat.{ℕ, suc, _+_, _≤_, _<_}
+use mathlib.Core.List.{List, []}
+use Prim.Native.Nat.{ℕ, _+_, _≤_, _<_}
 use native.Mathlib.Omega.{arith}
 use lib.ListN.{length}
 use lib.Dec.{leb, ltb}
@@ -18,20 +18,21 @@ use Rattle.state.specs.State.{meaning}
 use Rattle.state.specs.Terms.{Terms}
 use Rattle.state.specs.ValueLaws.{Terms-mono}
 use Rattle.regress.specs.Calls.{ok}
+use Rattle.regress.specs.CallLaws.{Accepted, accepted-ok, accepted-then, accepted-pick}
 use Rattle.events.specs.declared.Event.{Event}
 use Rattle.events.specs.Events.{diagramEvents}
 use Rattle.reading.specs.declared.Binding.the-variants.{None}
 use Rattle.reading.specs.Reading.{reading}
 use Rattle.reading.specs.Tree.{Named}
 use Rattle.build.specs.Machine.{mostTests, built}
-use Rattle.mdp.specs.Model.{Variant, Action, Every, GoodVariant, GoodAction, mostVariants}
+use Rattle.mdp.specs.Model.{Variant, Action, GoodVariant, mostVariants}
 use Rattle.session.specs.declared.Part.the-variants.{Model as ModelPart}
 use Rattle.session.specs.Session.{Names, Session}
-use Rattle.session.specs.Modelling.{mostModelRows, outcomeOf, namesFor, rowsWith, addVariant, noTruths, withVariant, weightRead, variantLine}
+use Rattle.session.specs.Modelling.{mostModelRows, namesFor, rowsWith, addVariant, noTruths, withVariant, weightRead, variantLine}
 use Rattle.session.specs.Good.{GoodTables, LastAction, GoodSession}
-use Rattle.model_laws.specs.OutcomeLaws.{ok-one, passed, chained, judged-fine, neither}
+use Rattle.model_laws.specs.OutcomeLaws.{accepted-next, accepted-read, neither}
 use Rattle.model_laws.specs.SessionLaws.{while-model, parts-with}
-use Rattle.model_laws.specs.DeclaringLaws.{length-more, every-more}
+use Rattle.model_laws.specs.ActionLaws.{length-more, length-added, last-added, every-added}
 use Rattle.model_laws.specs.DrawnLaws.{Read}
 use Rattle.model_laws.specs.ReadLaws.{line-read}
 
@@ -62,48 +63,20 @@ record Weighed (n : Names) (ar : List ℕ) (r : ℕ) (d : Diagram) : Type 0 wher
   room : length (n .variants) < mostVariants
   few : rowsWith r d ≤ mostModelRows
 
-module _ (n : Names) (ar : List ℕ) (tables : GoodTables n ar) (r : ℕ) (k : Key) (w : T.Diagram) (shallow : T.brackets w ≤ mostTests) where
-  weighed : (d : Diagram) → weightRead n ar r k (diagramEvents w) ≡ ok d → Weighed n ar r d
-  unfolding weightRead
-  weighed d e =
-      let p = passed (isAmong k (n .variants)) Name _ d e in
-      let c = chained (outcomeOf (reading (namesFor n ar None (n .parameters)) (diagramEvents w) [])) _ d (p .1) in
-      let b = chained (built (c .first .operations)) _ d (c .then) in
-      let q = passed (leb mostVariants (length (n .variants)) || ltb mostModelRows (rowsWith r (b .first))) Space _ d (b .then) in
-      let s = neither (leb mostVariants (length (n .variants))) _ (q .0) in
-      let x = line-read n ar tables w shallow None [] (c .first) (b .first) (n .parameters) (tables .parameters) (judged-fine _ _ (c .answers)) (b .answers) in
-      subst (Weighed n ar r) (ok-one (q .1))
-      (record {
-        good = weight-good ar (length (n .parameters)) (b .first) x;
-        room = leb-false mostVariants (length (n .variants)) (s .0);
-        few = ltb-false mostModelRows (rowsWith r (b .first)) (s .1);
-      })
-
--- ===== The last action with one variant more =====
-
-length-added : (l : List Action) (v : Variant) → length (addVariant l v) ≡ length l
-length-added [] v = refl
-length-added (a ∷ []) v = refl
-length-added (a ∷ b ∷ l) v = omega (arith, length-added (b ∷ l) v)
-
-last-added : (l : List Action) (v : Variant) (c n : ℕ) → 1 ≤ length l → LastAction l c n → LastAction (addVariant l v) c (suc n)
-last-added [] v c n some h = absurd (omega arith)
-last-added (a ∷ []) v c n some h = (h .0, omega (arith, length-more (a .variants) v, h .1))
-last-added (a ∷ b ∷ []) v c n some h = last-added (b ∷ []) v c n (omega arith) h
-last-added (a ∷ b ∷ d ∷ l) v c n some h = last-added (b ∷ d ∷ l) v c n (omega arith) h
-
-every-added : (ar : List ℕ) (l : List Action) (v : Variant) (c n : ℕ) → n < mostVariants → GoodVariant ar c v → LastAction l c n → Every (GoodAction ar) l
-    → Every (GoodAction ar) (addVariant l v)
-every-added ar [] v c n room g h e = tt
-every-added ar (a ∷ []) v c n room g h e = (
-  record {
-    few = e .0 .few;
-    variants-few = omega (arith, length-more (a .variants) v, h .1);
-    variants = every-more (GoodVariant ar (a .count)) (a .variants) v (e .0 .variants) (subst (λ (x : ℕ). GoodVariant ar x v) (sym (h .0)) g);
-  },
-  tt,
-)
-every-added ar (a ∷ b ∷ l) v c n room g h e = (e .0, every-added ar (b ∷ l) v c n room g h (e .1))
+weighed : (n : Names) (ar : List ℕ) → GoodTables n ar → (r : ℕ) (k : Key) (w : T.Diagram) → T.brackets w ≤ mostTests → Accepted (Weighed n ar r) (weightRead n ar r k (diagramEvents w))
+unfolding weightRead
+weighed n ar tables r k w shallow =
+    accepted-pick (isAmong k (n .variants)) Name _ (λ new.
+    accepted-read (reading (namesFor n ar None (n .parameters)) (diagramEvents w) []) _ (λ u e.
+    accepted-next (built (u .operations)) _ (λ d m.
+    accepted-pick (leb mostVariants (length (n .variants)) || ltb mostModelRows (rowsWith r d)) Space _ (λ z.
+    let q = neither (leb mostVariants (length (n .variants))) _ z in
+    accepted-ok
+    (record {
+      good = weight-good ar (length (n .parameters)) d (line-read n ar tables w shallow None [] u d (n .parameters) (tables .parameters) e m);
+      room = leb-false mostVariants (length (n .variants)) (q .0);
+      few = ltb-false mostModelRows (rowsWith r d) (q .1);
+    })))))
 
 -- ===== The line =====
 
@@ -111,31 +84,44 @@ module _ (σ : Session) (good : GoodSession σ) (part : σ .part ≡ ModelPart) 
   pub variant-good : (k : Key) (w : T.Diagram) → T.brackets w ≤ mostTests → (es : List Event) → es ≡ diagramEvents w → 1 ≤ length (σ .names .actions) → (τ : Session)
       → variantLine σ k es ≡ ok τ → GoodSession τ
   unfolding variantLine withVariant
-  variant-good k w shallow es words some τ e =
-      let c = chained (weightRead (σ .names) (σ .model .arities) (σ .rows) k es) _ τ e in
-      let d : Diagram = c .first in
-      let x = weighed (σ .names) (σ .model .arities) (good .tables) (σ .rows) k w shallow d
-      (subst (λ (us : List Event). weightRead (σ .names) (σ .model .arities) (σ .rows) k us ≡ ok d) words (c .answers)) in
-      let t = good .tables in
-      let g = good .parts in
-      let l : List Action = σ .model .actions in
-      let m = length-more (σ .names .variants) k in
-      subst GoodSession (ok-one (c .then))
-      (while-model _ part (good .quiet part)
-      (record {
-        constants = t .constants;
-        predicates = t .predicates;
-        actions = t .actions;
-        parameters = t .parameters;
-        variants = omega (arith, m, x .room);
-        arities = t .arities;
-        undeclared = t .undeclared;
-      })
-      (record {
-        count = omega (arith, good .agreeing .count, length-added l (weighted d));
-        last = subst (LastAction (addVariant l (weighted d)) (length (σ .names .parameters))) (sym m)
-            (last-added l (weighted d) (length (σ .names .parameters)) (length (σ .names .variants)) (omega (arith, good .agreeing .count)) (good .agreeing .last));
-      })
-      (parts-with _ (σ .singles) (σ .model) (σ .model .arities) (σ .model .reward) (addVariant l (weighted d)) g (g .reward)
-      (every-added (σ .model .arities) l (weighted d) (length (σ .names .parameters)) (length (σ .names .variants)) (x .room) (x .good) (good .agreeing .last) (g .actions)))
-      (x .few))
+  variant-good k w shallow es words some = subst (λ (us : List Event). (τ : Session) → variantLine σ k us ≡ ok τ → GoodSession τ) (sym words) (accepted .given)
+    where
+      ar : List ℕ
+      ar = σ .model .arities
+
+      l : List Action
+      l = σ .model .actions
+
+      tables : GoodTables (σ .names) ar
+      tables = good .tables
+
+      -- the parameters and the variants of the last action
+      c : ℕ
+      c = length (σ .names .parameters)
+
+      n : ℕ
+      n = length (σ .names .variants)
+
+      accepted : Accepted GoodSession (variantLine σ k (diagramEvents w))
+      accepted =
+          accepted-then (weightRead (σ .names) ar (σ .rows) k (diagramEvents w)) (weighed (σ .names) ar tables (σ .rows) k w shallow) (λ d x.
+          let v : Variant = weighted d in
+          let m = length-more (σ .names .variants) k in
+          accepted-ok
+          (while-model _ part (good .quiet part)
+          (record {
+            constants = tables .constants;
+            predicates = tables .predicates;
+            actions = tables .actions;
+            parameters = tables .parameters;
+            variants = omega (arith, m, x .room);
+            arities = tables .arities;
+            undeclared = tables .undeclared;
+          })
+          (record {
+            count = omega (arith, good .agreeing .count, length-added v l);
+            last = subst (LastAction (addVariant l v) c) (sym m) (last-added v c n l (omega (arith, good .agreeing .count)) (good .agreeing .last));
+          })
+          (parts-with _ (σ .singles) (σ .model) ar (σ .model .reward) (addVariant l v) (good .parts) (good .parts .reward)
+          (every-added v ar c n (x .room) (x .good) l (good .agreeing .last) (good .parts .actions)))
+          (x .few)))
