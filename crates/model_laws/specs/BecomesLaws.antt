@@ -1,7 +1,7 @@
 -- (becomes (p ?a ..) DIAGRAM): an accepted one keeps a session good.
 use mathlib.Core.Path.{_≡_, sym, subst}
 use mathlib.Core.Bool.{false}
-use mathlib.Core.List.{List, _∷_, _++_, map}
+use mathlib.Core.List.{List}
 use mathlib.Core.Option.{some}
 use Prim.Native.Nat.{ℕ, _+_, _≤_, _<_}
 use native.Mathlib.Omega.{arith}
@@ -13,6 +13,7 @@ use Rattle.refusal.specs.declared.Refusal.the-variants.{Name, Truth, Space}
 use Rattle.label.specs.Limits.{firstVariable, predicateCount}
 use Rattle.words.specs.Keys.{keyOf}
 use Rattle.forms.specs.Tree as T
+use Rattle.text.specs.declared.Kind.the-variants.{Becomes}
 use Rattle.diagram.specs.Diagram.{Diagram}
 use Rattle.state.specs.State.{meaning}
 use Rattle.state.specs.ValueLaws.{Terms-mono}
@@ -22,8 +23,7 @@ use Rattle.regress.specs.Regression.{Truths}
 use Rattle.regress.specs.RegressCall.{leafAbove}
 use Rattle.regress.specs.RegressCallLaws.{above-most}
 use Rattle.events.specs.declared.Event.{Event}
-use Rattle.events.specs.declared.Event.the-variants.{Holds}
-use Rattle.events.specs.Events.{variableEvent, diagramEvents}
+use Rattle.events.specs.Events.{diagramEvents, wordsEvents}
 use Rattle.reading.specs.declared.Binding.the-variants.{Only}
 use Rattle.reading.specs.Reading.{reading}
 use Rattle.reading.specs.Reading.Judged.{fine}
@@ -44,11 +44,7 @@ use Rattle.model_laws.specs.HeadLaws.{head-headed}
 
 -- ===== The truth diagram =====
 
--- an accepted truth diagram of the predicate p
-record Became (n : Names) (ar : List ℕ) (r p : ℕ) (d : Diagram) : Type 0 where
-  good : GoodTruthDiagram ar (length (n .parameters)) (getD ar p 0) d
-  few : rowsWith r d ≤ mostModelRows
-
+-- its m arguments and the parameters of the action, leaves 0 and 1
 truth-read : (ar : List ℕ) (c n m : ℕ) (d : Diagram) → m ≡ n → Read ar c m d → leafAbove 1 d ≡ false → GoodTruthDiagram ar c n d
 truth-read ar c n m d e r bits = record {
   listed = r .listed;
@@ -57,16 +53,18 @@ truth-read ar c n m d e r bits = record {
   arguments = Terms-mono (Named c m) (λ t. t < firstVariable + n) (λ t h. omega (arith, h .variables)) (meaning ar d) (r .terms);
 }
 
-abbrev becomesEvents : List ℕ → List (List ℕ) → T.Diagram → List Event
-becomesEvents p vs d = Holds (keyOf p) (length vs) ∷ (map variableEvent vs ++ diagramEvents d)
+-- an accepted truth diagram of the predicate p
+record Became (n : Names) (ar : List ℕ) (r p : ℕ) (d : Diagram) : Type 0 where
+  good : GoodTruthDiagram ar (length (n .parameters)) (getD ar p 0) d
+  few : rowsWith r d ≤ mostModelRows
 
 became : (n : Names) (ar : List ℕ) → GoodTables n ar → (truths : Truths) (r : ℕ) (p : List ℕ) (vs : List (List ℕ)) (w : T.Diagram) → T.brackets w ≤ mostTests
-    → Accepted (λ (t : ℕ × Diagram). Became n ar r (t .0) (t .1)) (truthRead n ar truths r (becomesEvents p vs w))
+    → Accepted (λ (t : ℕ × Diagram). Became n ar r (t .0) (t .1)) (truthRead n ar truths r (wordsEvents Becomes (p, vs, w)))
 unfolding truthRead
 became n ar tables truths r p vs w shallow =
-    accepted-read (headNumber (n .predicates) (becomesEvents p vs w)) _ (λ q i.
+    accepted-read (headNumber (n .predicates) (wordsEvents Becomes (p, vs, w))) _ (λ q i.
     accepted-pick (isSome (truths q)) Name _ (λ new.
-    accepted-read (headArguments (getD ar q 0) (becomesEvents p vs w)) _ (λ h j.
+    accepted-read (headArguments (getD ar q 0) (wordsEvents Becomes (p, vs, w))) _ (λ h j.
     let x = head-headed (getD ar q 0) (keyOf p) vs (diagramEvents w) h j in
     accepted-read (reading (namesFor n ar Only (n .parameters)) (h .rest) (h .variables)) _ (λ u e.
     accepted-next (built (u .operations)) _ (λ d m.
@@ -80,6 +78,7 @@ became n ar tables truths r p vs w shallow =
       few = ltb-false mostModelRows (rowsWith r d) few;
     }))))))))
 
+-- one truth diagram more
 truth-put : (ar : List ℕ) (c p : ℕ) (d : Diagram) → GoodTruthDiagram ar c (getD ar p 0) d → (v : Variant) → GoodVariant ar c v
     → GoodVariant ar c (withTruths v (λ truths. withTruthAt truths p d))
 unfolding withTruthAt
@@ -94,7 +93,7 @@ truth-put ar c p d g v h = record { listed = h .listed; weight = h .weight; trut
 -- ===== The line =====
 
 module _ (σ : Session) (good : GoodSession σ) (part : σ .part ≡ ModelPart) where
-  pub becomes-good : (p : List ℕ) (vs : List (List ℕ)) (w : T.Diagram) → T.brackets w ≤ mostTests → (es : List Event) → es ≡ becomesEvents p vs w → (τ : Session)
+  pub becomes-good : (p : List ℕ) (vs : List (List ℕ)) (w : T.Diagram) → T.brackets w ≤ mostTests → (es : List Event) → es ≡ wordsEvents Becomes (p, vs, w) → (τ : Session)
       → becomesLine σ es ≡ ok τ → GoodSession τ
   unfolding becomesLine withTruth
   becomes-good p vs w shallow es words = subst (λ (us : List Event). (τ : Session) → becomesLine σ us ≡ ok τ → GoodSession τ) (sym words) (accepted .given)
@@ -112,9 +111,9 @@ module _ (σ : Session) (good : GoodSession σ) (part : σ .part ≡ ModelPart) 
       n : ℕ
       n = length (σ .names .variants)
 
-      accepted : Accepted GoodSession (becomesLine σ (becomesEvents p vs w))
+      accepted : Accepted GoodSession (becomesLine σ (wordsEvents Becomes (p, vs, w)))
       accepted =
-          accepted-then (truthRead (σ .names) ar (truthsNow l) (σ .rows) (becomesEvents p vs w))
+          accepted-then (truthRead (σ .names) ar (truthsNow l) (σ .rows) (wordsEvents Becomes (p, vs, w)))
           (became (σ .names) ar (good .tables) (truthsNow l) (σ .rows) p vs w shallow) (λ t x.
           let f : Truths → Truths = λ truths. withTruthAt truths (t .0) (t .1) in
           accepted-ok

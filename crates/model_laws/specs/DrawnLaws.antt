@@ -37,7 +37,7 @@ use Rattle.session.specs.Good.{GoodReward}
 abbrev Labelled : List ℕ → (ℕ → Type 0) → ℕ → Type 0
 Labelled ar P l = (isLabel ar l ≡ true) × EachIn ar P l
 
--- all but its count of rows
+-- ordered and reduced, its labels and leaves in their ranges: all but the count of its rows
 record Drawn (ar : List ℕ) (P : ℕ → Type 0) (d : Diagram) : Type 0 where
   ordered : Ordered d
   reduced : Reduced d
@@ -70,21 +70,18 @@ module _ (ar : List ℕ) (P : ℕ → Type 0) where
   drawn (number v) g = record { ordered = tt; reduced = tt; labels = tt; most = g }
   drawn (conditional t h f) g = drawn-step t (diagramFor h) (diagramFor f) (g .0) (drawn h (g .1)) (drawn f (g .2))
 
-  drawn-fine : (d : Diagram) → EveryLabel (Labelled ar P) d → AtMost highestValue d → Fine ar d
-  drawn-fine (leaf v) h m = m
-  drawn-fine (branch l t f) h m = (h .0 .0, drawn-fine t (h .1) (m .0), drawn-fine f (h .2) (m .1))
+  labelled-fine : (d : Diagram) → EveryLabel (Labelled ar P) d → AtMost highestValue d → Fine ar d
+  labelled-fine (leaf v) h m = m
+  labelled-fine (branch l t f) h m = (h .0 .0, labelled-fine t (h .1) (m .0), labelled-fine f (h .2) (m .1))
 
   all-each : (ts : List ℕ) → All P ts → Each P ts
   all-each [] h = tt
   all-each (t ∷ ts) h = (h .0, all-each ts (h .1))
 
-  drawn-terms : (d : Diagram) → EveryLabel (Labelled ar P) d → Terms P (meaning ar d)
+  labelled-terms : (d : Diagram) → EveryLabel (Labelled ar P) d → Terms P (meaning ar d)
   unfolding meaning relabel atomOf
-  drawn-terms (leaf v) h = tt
-  drawn-terms (branch l t f) h = (all-each (termsOf ar (unpacked l)) (each-terms P ar l (h .0 .1)), drawn-terms t (h .1), drawn-terms f (h .2))
-
-  drawn-good : (d : Diagram) → areArities ar ≡ true → Drawn ar P d → length (rows d) ≤ mostRows → Good ar d
-  drawn-good d a g few = record { arities = a; ordered = g .ordered; reduced = g .reduced; fine = drawn-fine d (g .labels) (g .most); few = few }
+  labelled-terms (leaf v) h = tt
+  labelled-terms (branch l t f) h = (all-each (termsOf ar (unpacked l)) (each-terms P ar l (h .0 .1)), labelled-terms t (h .1), labelled-terms f (h .2))
 
 -- ===== What is built =====
 
@@ -93,29 +90,33 @@ pub record Read (ar : List ℕ) (c n : ℕ) (d : Diagram) : Type 0 where
   pub listed : Good ar d
   pub terms : Terms (Named c n) (meaning ar d)
 
-module _ (ar : List ℕ) (c n : ℕ) (arities : areArities ar ≡ true) (r : Reading) (good : GoodReading ar (Named c n) r) (shallow : depth r ≤ mostTests) (d : Diagram) where
-  pub built-read : built (opsOf r) ≡ ok d → Read ar c n d
-  built-read e =
-      let h = text-held r .given d (sym (built-text r shallow) ∙ e) in
-      let g = drawn ar (Named c n) r good in
-      subst (Read ar c n) (sym (h .is))
-      (record { listed = drawn-good ar (Named c n) (diagramFor r) arities g (h .few); terms = drawn-terms ar (Named c n) (diagramFor r) (g .labels) })
-
 pub read-within : (ar : List ℕ) (c n : ℕ) (d : Diagram) → Read ar c n d → Within c (meaning ar d)
 read-within ar c n d r = record { terms = Terms-mono (Named c n) (Allowed c) (λ t h. h .parameters) (meaning ar d) (r .terms) }
 
--- closed up it is a reward
-module _ (ar : List ℕ) (n : ℕ) (arities : areArities ar ≡ true) (r : Reading) (good : GoodReading ar (Named 0 n) r) (shallow : depth r ≤ mostTests) (d : Diagram) where
-  pub built-reward-good : builtClosed ar (opsOf r) ≡ ok d → GoodReward ar d
-  built-reward-good e =
+module _ (ar : List ℕ) (arities : areArities ar ≡ true) where
+  drawn-read : (c n : ℕ) (d : Diagram) → Drawn ar (Named c n) d → length (rows d) ≤ mostRows → Read ar c n d
+  drawn-read c n d g few = record {
+    listed = record { arities = arities; ordered = g .ordered; reduced = g .reduced; fine = labelled-fine ar (Named c n) d (g .labels) (g .most); few = few };
+    terms = labelled-terms ar (Named c n) d (g .labels);
+  }
+
+  -- a diagram of a text
+  pub built-read : (c n : ℕ) (r : Reading) → GoodReading ar (Named c n) r → depth r ≤ mostTests → (d : Diagram) → built (opsOf r) ≡ ok d → Read ar c n d
+  built-read c n r good shallow d e =
+      let h = text-held r .given d (sym (built-text r shallow) ∙ e) in
+      subst (Read ar c n) (sym (h .is)) (drawn-read c n (diagramFor r) (drawn ar (Named c n) r good) (h .few))
+
+  -- closed up it is a reward
+  pub built-good : (n : ℕ) (r : Reading) → GoodReading ar (Named 0 n) r → depth r ≤ mostTests → (d : Diagram) → builtClosed ar (opsOf r) ≡ ok d → GoodReward ar d
+  built-good n r good shallow d e =
       let h = reward-held ar r .given d (sym (built-reward ar r shallow) ∙ e) in
       let x : Diagram = diagramFor r in
       let g = drawn ar (Named 0 n) r good in
-      let few : length (rows x) ≤ mostRows = omega (arith, h .few, closed-count ar x arities (drawn-fine ar (Named 0 n) x (g .labels) (g .most))) in
-      let read : Read ar 0 n x = record { listed = drawn-good ar (Named 0 n) x arities g few; terms = drawn-terms ar (Named 0 n) x (g .labels) } in
+      let count = closed-count ar x arities (labelled-fine ar (Named 0 n) x (g .labels) (g .most)) in
+      let y = drawn-read 0 n x g (omega (arith, h .few)) in
       subst (GoodReward ar) (sym (h .is))
       (record {
-        listed = closed-good ar x (read .listed);
-        is-closed = closed-twice ar x (read .listed);
-        within = within-closed 0 ar x (read .listed) (read-within ar 0 n x read);
+        listed = closed-good ar x (y .listed);
+        is-closed = closed-twice ar x (y .listed);
+        within = within-closed 0 ar x (y .listed) (read-within ar 0 n x y);
       })

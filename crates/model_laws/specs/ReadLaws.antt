@@ -19,7 +19,7 @@ use Rattle.build.specs.Machine.{mostTests, built, builtClosed}
 use Rattle.session.specs.Session.{Names}
 use Rattle.session.specs.Modelling.{namesFor}
 use Rattle.session.specs.Good.{GoodTables, GoodReward}
-use Rattle.model_laws.specs.DrawnLaws.{Read, built-read, built-reward-good}
+use Rattle.model_laws.specs.DrawnLaws.{Read, built-read, built-good}
 
 module _ (n : Names) (ar : List ℕ) (good : GoodTables n ar) where
   names-fit : (b : Binding) (ps : List Key) → length ps ≤ parameterCount → NamesFit (namesFor n ar b ps)
@@ -31,10 +31,10 @@ module _ (n : Names) (ar : List ℕ) (good : GoodTables n ar) where
         → Read ar (length ps) (reach b vs) x
     line-read ps few e m =
         let s = reading-sound (namesFor n ar b ps) (names-fit b ps few) d vs w e in
-        built-read ar (length ps) (reach b vs) (good .arities) (s .tree) (s .good) (omega (arith, s .shallow)) x (ap built (sym (s .operations)) ∙ m)
+        built-read ar (good .arities) (length ps) (reach b vs) (s .tree) (s .good) (omega (arith, s .shallow)) x (ap built (sym (s .operations)) ∙ m)
 
     -- a reward, which has no parameters
     pub line-reward : reading (namesFor n ar b []) (diagramEvents d) vs ≡ fine w → builtClosed ar (w .operations) ≡ ok x → GoodReward ar x
     line-reward e m =
         let s = reading-sound (namesFor n ar b []) (names-fit b [] (omega arith)) d vs w e in
-        built-reward-good ar (reach b vs) (good .arities) (s .tree) (s .good) (omega (arith, s .shallow)) x (ap (builtClosed ar) (sym (s .operations)) ∙ m)
+        built-good ar (good .arities) (reach b vs) (s .tree) (s .good) (omega (arith, s .shallow)) x (ap (builtClosed ar) (sym (s .operations)) ∙ m)
