@@ -34,7 +34,7 @@ use Rattle.model_laws.specs.ActionLaws.{every-mono}
 abbrev places : Atom → List ℕ
 places a = a .first ∷ a .second ∷ a .third ∷ a .fourth ∷ []
 
--- the atom a of a predicate without places: all of them are 0
+-- all places of the atom a are 0, as those of a predicate without places are
 record Bare (a : Atom) : Type 0 where
   first : a .first ≡ 0
   second : a .second ≡ 0
@@ -70,7 +70,7 @@ each-take P zero ts h = tt
 each-take P (suc n) [] h = tt
 each-take P (suc n) (t ∷ ts) h = (h .0, each-take P n ts (h .1))
 
--- P names every place of it if P names 0
+-- P names all places if it names 0
 bare-each : (P : ℕ → Type 0) → P 0 → (n : ℕ) (a : Atom) → Bare a → Each P (take n (places a))
 bare-each P p n a b = each-take P n (places a) (rw (b .first) p, (rw (b .second) p, (rw (b .third) p, (rw (b .fourth) p, tt))))
 
@@ -79,6 +79,7 @@ each-not t [] h = refl
 each-not t (u ∷ ts) h = rw (h .0) (each-not t ts (h .1))
 
 module _ (ar br : List ℕ) (grown : Grown ar br) where
+  -- the predicate of a has the places that it had, or had none
   abbrev Way : Atom → Type 0
   Way a = (getD br (a .predicate) 0 ≡ getD ar (a .predicate) 0) ⊎ (getD ar (a .predicate) 0 ≡ 0)
 
@@ -119,11 +120,11 @@ module _ (ar br : List ℕ) (grown : Grown ar br) where
   fine-grown (leaf v) h = h
   fine-grown (branch l t f) h = (label-grown l (h .0), fine-grown t (h .1), fine-grown f (h .2))
 
-  pub good-grown : (d : Diagram) → Good ar d → Good br d
+  good-grown : (d : Diagram) → Good ar d → Good br d
   good-grown d g = record { arities = grown .arities; ordered = g .ordered; reduced = g .reduced; fine = fine-grown d (g .fine); few = g .few }
 
   -- terms, where 0 is allowed
-  pub terms-grown : (P : ℕ → Type 0) → P 0 → (d : Diagram) → Fine ar d → Terms P (meaning ar d) → Terms P (meaning br d)
+  terms-grown : (P : ℕ → Type 0) → P 0 → (d : Diagram) → Fine ar d → Terms P (meaning ar d) → Terms P (meaning br d)
   unfolding meaning relabel atomOf
   terms-grown P p (leaf v) h w = tt
   terms-grown P p (branch l t f) h w =
