@@ -48,12 +48,12 @@ isQuiet K.Bad = false
 pub data Answered (σ : Session) (k : Kind) (y : Reply) : Type 0 where
   quiet : isQuiet k ≡ true → y .answer ≡ A.Nothing → Answered σ k y
   valued : (v : ℕ) → k ≡ K.Value → valueRead (σ .model .arities) (σ .live) (σ .held .diagram) ≡ ok v
-      → y ≡ record { session = σ; answer = A.Value v (σ .held .steps) (scale (σ .model) ^ σ .held .steps) } → Answered σ k y
+      → y .session ≡ σ → y .answer ≡ A.Value v (σ .held .steps) (scale (σ .model) ^ σ .held .steps) → Answered σ k y
   backed : (h : Held) → k ≡ K.Backup → backupLine (σ .model) (σ .held) ≡ ok h
-      → y ≡ record { session = withHeld σ (σ .part) h; answer = A.Backup (h .steps) (length (rows (h .diagram))) } → Answered σ k y
+      → y .session ≡ withHeld σ (σ .part) h → y .answer ≡ A.Backup (h .steps) (length (rows (h .diagram))) → Answered σ k y
   cutting : (row : ℕ) (e : Edge) (n : ℕ) → k ≡ K.Cut → diagramAnswer (σ .model .arities) (σ .held .diagram) ≡ C.Done row e n
-      → y ≡ record { session = withHeld σ (σ .part) (cutLine (σ .model .arities) (σ .held)); answer = A.Cut row e n } → Answered σ k y
-  showing : k ≡ K.Show → y ≡ record { session = σ; answer = A.Show (length (rows (σ .held .diagram))) } → Answered σ k y
+      → y .session ≡ withHeld σ (σ .part) (cutLine (σ .model .arities) (σ .held)) → y .answer ≡ A.Cut row e n → Answered σ k y
+  showing : k ≡ K.Show → y .session ≡ σ → y .answer ≡ A.Show (length (rows (σ .held .diagram))) → Answered σ k y
 
 -- the reply y to line `number`, of the kind k: it is refused under its own number and leaves the session as it was, or it stands where it may and is
 -- answered as its kind is
@@ -80,10 +80,10 @@ cases σ number es = record {
   forObjects = λ l e a. accepted a (quiet refl refl);
   forIs = λ l e a. accepted a (quiet refl refl);
   forTrue = λ l e a. accepted a (quiet refl refl);
-  forValue = λ v e a. accepted a (valued v refl e refl);
-  forBackup = λ h e a. accepted a (backed h refl e refl);
-  forCut = λ row e n q a. accepted a (cutting row e n refl q refl);
-  forShow = λ a. accepted a (showing refl refl);
+  forValue = λ v e a. accepted a (valued v refl e refl refl);
+  forBackup = λ h e a. accepted a (backed h refl e refl refl);
+  forCut = λ row e n q a. accepted a (cutting row e n refl q refl refl);
+  forShow = λ a. accepted a (showing refl refl refl);
 }
 
 pub one-answer : (σ : Session) (number : ℕ) (s : List ℕ) → OneAnswer σ number (lineKind s) (reply σ number s)
@@ -91,14 +91,15 @@ one-answer σ number s =
     let es = wordsOf (lineKind s) s in
     reply-by σ number s (OneAnswer σ number) (λ r. refusing r refl) (done-by σ number es (InPlace σ number) (cases σ number es) (lineKind s))
 
--- an answer that is a refusal: the line was not accepted
+-- an accepted line is answered no refusal
 accepted-none : (σ : Session) (k : Kind) (y : Reply) (r : Refusal) (n : ℕ) → Answered σ k y → y .answer ≡ A.Refused r n → ⊥
 accepted-none σ k y r n (quiet p q) e = let z : _≡_ {A = ℕ} 0 1 = cc in omega arith
-accepted-none σ k y r n (valued v p h q) e = let d = sym e ∙ ap (λ (x : Reply). x .answer) q in let z : _≡_ {A = ℕ} 0 1 = cc in omega arith
-accepted-none σ k y r n (backed h p i q) e = let d = sym e ∙ ap (λ (x : Reply). x .answer) q in let z : _≡_ {A = ℕ} 0 1 = cc in omega arith
-accepted-none σ k y r n (cutting i d m p h q) e = let d = sym e ∙ ap (λ (x : Reply). x .answer) q in let z : _≡_ {A = ℕ} 0 1 = cc in omega arith
-accepted-none σ k y r n (showing p q) e = let d = sym e ∙ ap (λ (x : Reply). x .answer) q in let z : _≡_ {A = ℕ} 0 1 = cc in omega arith
+accepted-none σ k y r n (valued v p h t q) e = let z : _≡_ {A = ℕ} 0 1 = cc in omega arith
+accepted-none σ k y r n (backed h p i t q) e = let z : _≡_ {A = ℕ} 0 1 = cc in omega arith
+accepted-none σ k y r n (cutting i d m p h t q) e = let z : _≡_ {A = ℕ} 0 1 = cc in omega arith
+accepted-none σ k y r n (showing p t q) e = let z : _≡_ {A = ℕ} 0 1 = cc in omega arith
 
+-- a refusal has the line's own number, and leaves the session as it was
 pub refused-reply : (σ : Session) (number : ℕ) (s : List ℕ) (r : Refusal) (n : ℕ) → reply σ number s .answer ≡ A.Refused r n
     → reply σ number s ≡ refusal σ number r
 refused-reply σ number s r n e = go (reply σ number s) (one-answer σ number s) e
@@ -110,5 +111,6 @@ refused-reply σ number s r n e = go (reply σ number s) (one-answer σ number s
         p ∙ ap (refusal σ number) j
     go y (accepted a p) e = absurd (accepted-none σ (lineKind s) y r n p e)
 
-pub refused-leaves : (σ : Session) (number : ℕ) (s : List ℕ) (r : Refusal) (n : ℕ) → reply σ number s .answer ≡ A.Refused r n → reply σ number s .session ≡ σ
+pub refused-leaves : (σ : Session) (number : ℕ) (s : List ℕ) (r : Refusal) (n : ℕ) → reply σ number s .answer ≡ A.Refused r n
+    → reply σ number s .session ≡ σ
 refused-leaves σ number s r n e = ap (λ (y : Reply). y .session) (refused-reply σ number s r n e)

@@ -75,7 +75,8 @@ text-bytes s =
     ∙ ap₂ (λ bs n. bs ++ restBytes n (linesOf s .rest)) (lines-bytes beginning ls) (lines-count beginning ls ∙ zero-add (length ls))
 
 -- the line behind ls: its reply is that of the session that ls leads to, and it has the line's own number
-pub text-line : (ls : List (List ℕ)) (s : List ℕ) → replies opening 0 (ls ++ (s ∷ [])) ≡ replies opening 0 ls ++ (reply (afterLines beginning ls .session) (suc (length ls)) s ∷ [])
+pub text-line : (ls : List (List ℕ)) (s : List ℕ)
+    → replies opening 0 (ls ++ (s ∷ [])) ≡ replies opening 0 ls ++ (reply (afterLines beginning ls .session) (suc (length ls)) s ∷ [])
 unfolding replies beginning
 text-line ls s =
     replies-then beginning ls (s ∷ [])

@@ -86,8 +86,7 @@ value-bellman σ g number s v k w e = go (lineKind s) (reply σ number s) (one-a
   where
     valued-is : (i : Kind) (y : Reply) → allowed σ (ruleOf i (σ .part)) ≡ ok tt → Answered σ i y → y .answer ≡ A.Value v k w → IsValue σ v k w
     valued-is i y a (quiet p q) e = let z : _≡_ {A = ℕ} 0 1 = cc in absurd (omega arith)
-    valued-is i y a (valued x p h q) e =
-        let d = sym (ap (λ (z : Reply). z .answer) q) ∙ e in
+    valued-is i y a (valued x p h t q) e =
         let b = read-bellman σ g (subst (λ j. allowed σ (ruleOf j (σ .part)) ≡ ok tt) p a) x h in
         let vs : x ≡ v = cc in
         let ks : σ .held .steps ≡ k = cc in
@@ -97,9 +96,9 @@ value-bellman σ g number s v k w e = go (lineKind s) (reply σ number s) (one-a
           steps = sym ks;
           power = sym ws ∙ ap (λ j. scale (σ .model) ^ j) ks;
         }
-    valued-is i y a (backed h p r q) e = let d = sym (ap (λ (z : Reply). z .answer) q) ∙ e in let z : _≡_ {A = ℕ} 0 1 = cc in absurd (omega arith)
-    valued-is i y a (cutting j d n p r q) e = let d = sym (ap (λ (z : Reply). z .answer) q) ∙ e in let z : _≡_ {A = ℕ} 0 1 = cc in absurd (omega arith)
-    valued-is i y a (showing p q) e = let d = sym (ap (λ (z : Reply). z .answer) q) ∙ e in let z : _≡_ {A = ℕ} 0 1 = cc in absurd (omega arith)
+    valued-is i y a (backed h p r t q) e = let z : _≡_ {A = ℕ} 0 1 = cc in absurd (omega arith)
+    valued-is i y a (cutting j d n p r t q) e = let z : _≡_ {A = ℕ} 0 1 = cc in absurd (omega arith)
+    valued-is i y a (showing p t q) e = let z : _≡_ {A = ℕ} 0 1 = cc in absurd (omega arith)
 
     go : (i : Kind) (y : Reply) → OneAnswer σ number i y → y .answer ≡ A.Value v k w → IsValue σ v k w
     go i y (refusing r p) e = let d = sym (ap (λ (z : Reply). z .answer) p) ∙ e in let z : _≡_ {A = ℕ} 0 1 = cc in absurd (omega arith)
