@@ -37,9 +37,9 @@ unless-passed true e = refl
 unless-passed false e = let z : _≡_ {A = ℕ} 0 1 = cc in absurd (omega arith)
 
 module _ (σ : Session) where
-  pub start-whole : σ .part ≡ Model → allowed σ (ruleOf K.Start (σ .part)) ≡ ok tt → isWhole σ ≡ true
+  pub start-model : σ .part ≡ Model → allowed σ (ruleOf K.Start (σ .part)) ≡ ok tt → isWhole σ ≡ true
   unfolding allowed
-  start-whole p a = unless-passed (isWhole σ) (subst (λ q. allowed σ (ruleOf K.Start q) ≡ ok tt) p a)
+  start-model p a = unless-passed (isWhole σ) (subst (λ q. allowed σ (ruleOf K.Start q) ≡ ok tt) p a)
 
   pub variant-action : σ .part ≡ Model → allowed σ (ruleOf K.Variant (σ .part)) ≡ ok tt → 1 ≤ length (σ .names .actions)
   unfolding allowed

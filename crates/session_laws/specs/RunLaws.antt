@@ -22,7 +22,7 @@ use Rattle.session.specs.Modelling.{weighed}
 use Rattle.session.specs.Running.{withHeld, startLine, backupLine, cutTo, cutLine}
 use Rattle.session.specs.Replies.{isWhole, allowed}
 use Rattle.session.specs.Good.{Begun, GoodSession}
-use Rattle.session_laws.specs.PlaceLaws.{model-run, start-whole}
+use Rattle.session_laws.specs.PlaceLaws.{model-run, start-model}
 
 -- ===== (start) =====
 
@@ -68,7 +68,7 @@ pub start-good : (σ : Session) → GoodSession σ → σ .part ≡ ModelPart �
     → startLine σ ≡ ok τ → GoodSession τ
 unfolding startLine
 start-good σ g p a τ e =
-    let m = model-good σ g (start-whole σ p a) in
+    let m = model-good σ g (start-model σ p a) in
     made-by GoodSession (weighed (σ .model .arities) (σ .model .total) (σ .model .actions)) (λ u. withHeld σ Run (begin (σ .model)))
     (λ u. held-good σ g (begin (σ .model)) (record { good = m; calls = []; held = begins (σ .model) })) τ e
 
