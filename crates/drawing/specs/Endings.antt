@@ -1,0 +1,28 @@
+-- A diagram that is built ends as it is, or closed up: what the code's inner functions answer and ask for.
+use Prim.Native.Nat.{ℕ, _*_, _≤_}
+use mathlib.Core.List.{List}
+use lib.ListN.{length}
+use Rattle.diagram.specs.Diagram.{Diagram}
+use Rattle.regress.specs.Calls.{Outcome}
+use Rattle.words.specs.declared.Key.{Key}
+use Rattle.events.specs.declared.Event.{Event}
+use Rattle.reading.specs.Operations.{Op}
+use Rattle.reading.specs.Reading.{Names}
+use Rattle.build.specs.Machine.{built, builtClosed}
+use Rattle.drawing.specs.Drawing.{drawn, drawnClosed}
+use Rattle.drawing.specs.declared.Ending.{Ending}
+use Rattle.drawing.specs.declared.Ending.the-variants.{Plain, Closed}
+
+unfoldable pub builtTo : Ending → List ℕ → List Op → Outcome Diagram
+unfolding built builtClosed
+builtTo Plain ar os = built os
+builtTo Closed ar os = builtClosed ar os
+
+unfoldable pub drawnTo : Ending → Names → List Event → List Key → Outcome Diagram
+unfolding drawn drawnClosed
+drawnTo Plain σ es vs = drawn σ es vs
+drawnTo Closed σ es vs = drawnClosed σ es vs
+
+-- words for the operations of the line: two for each byte
+pub record Roomy (line operations : List ℕ) : Type 0 where
+  pub words : length line * 2 ≤ length operations
