@@ -5,7 +5,7 @@ use mathlib.Core.Bool.{true}
 use mathlib.Core.List.{List, _++_}
 use native.Mathlib.Omega.{arith}
 use native.Mathlib.Nat.{le-trans}
-use lib.ListN.{length, take, drop, replicate, length-append, length-replicate}
+use lib.ListN.{length, drop, replicate, length-append, length-replicate}
 use lib.Seq.{take-at}
 use Rattle.refusal.specs.declared.Refusal.{Refusal}
 use Rattle.label.specs.Labels.{areArities}
@@ -24,7 +24,6 @@ use Rattle.reading.specs.declared.Read.{Read}
 use Rattle.reading.specs.declared.Read.the-variants as W
 use Rattle.reading.specs.Operations.{Op, opsIn}
 use Rattle.reading.specs.Reading.{Names, Judged, Written, reading}
-use Rattle.reading.specs.Reading.Judged.{fine, refused as judged}
 use Rattle.reading.specs.Tree.{Reading, depth, opsOf, Named, reach, GoodReading}
 use Rattle.reading.specs.Callers.{namesOf, Reads}
 use Rattle.reading.specs.ReadLaws.{tables-fit, Diagrammed, read-diagram}
@@ -35,23 +34,19 @@ use Rattle.build.specs.MachineLaws.{built-text, built-reward}
 use Rattle.build.specs.ReadingLaws.{text-good, reward-good}
 use Rattle.build.specs.Writing.{builtAs, Buildable, Labelled, Answered}
 use Rattle.session.specs.Modelling.{outcomeOf}
-use Rattle.drawing.specs.Drawing.{drawn, drawnClosed, Drawable, Holds, Draws}
-use Rattle.drawing.specs.Endings.{builtTo, drawnTo, Roomy}
+use Rattle.drawing.specs.Drawing.{Drawable, Holds, Draws}
+use Rattle.drawing.specs.Endings.{builtTo, drawnTo}
 use Rattle.drawing.specs.declared.Ending.{Ending}
 use Rattle.drawing.specs.declared.Ending.the-variants.{Plain, Closed}
 use Rattle.drawing.proofs.LabelLaws.{asked-label, each-asked, each-value}
 
 -- ===== What is drawn, by what is read =====
 
-drawn-read : (x : Ending) (σ : Names) (es : List Event) (vs : List Key) (w : Written) → reading σ es vs ≡ fine w → drawnTo x σ es vs ≡ builtTo x (σ .arities) (w .operations)
+drawn-by : (x : Ending) (σ : Names) (es : List Event) (vs : List Key) (j : Judged Written) → reading σ es vs ≡ j
+    → drawnTo x σ es vs ≡ andThen (outcomeOf j) (λ w. builtTo x (σ .arities) (w .operations))
 unfolding builtTo drawnTo
-drawn-read Plain σ es vs w e = ap (λ (j : Judged Written). andThen (outcomeOf j) (λ u. built (u .operations))) e
-drawn-read Closed σ es vs w e = ap (λ (j : Judged Written). andThen (outcomeOf j) (λ u. builtClosed (σ .arities) (u .operations))) e
-
-drawn-refused : (x : Ending) (σ : Names) (es : List Event) (vs : List Key) (w : Refusal) → reading σ es vs ≡ judged w → drawnTo x σ es vs ≡ refused w
-unfolding builtTo drawnTo
-drawn-refused Plain σ es vs w e = ap (λ (j : Judged Written). andThen (outcomeOf j) (λ u. built (u .operations))) e
-drawn-refused Closed σ es vs w e = ap (λ (j : Judged Written). andThen (outcomeOf j) (λ u. builtClosed (σ .arities) (u .operations))) e
+drawn-by Plain σ es vs j e = ap (λ (i : Judged Written). andThen (outcomeOf i) (λ w. built (w .operations))) e
+drawn-by Closed σ es vs j e = ap (λ (i : Judged Written). andThen (outcomeOf i) (λ w. builtClosed (σ .arities) (w .operations))) e
 
 -- ===== Results =====
 
@@ -80,9 +75,10 @@ answered-draws {ar} {o} {p} {out} {out′} e g a = record {
 
 -- ===== The code =====
 
--- room for the operations in an array of n words
-pub roomy : (line : List ℕ) (n : ℕ) → length line * 2 ≤ n → Roomy line (replicate n 0)
-roomy line n h = record { words = subst (λ (k : ℕ). length line * 2 ≤ k) (sym (length-replicate n 0)) h }
+-- room for the operations of the longest line in an array of n words
+pub room-in : (n : ℕ) → 4095 * 2 ≤ n → {line : List ℕ} {at : ℕ} {names arities : List ℕ} {scope : Scope} {vs : List ℕ} {known : ℕ} {out work : List ℕ}
+    → Drawable line at names arities scope vs known out work → length line * 2 ≤ length {A = ℕ} (replicate n 0)
+room-in n h d = omega (arith, h, d .short, length-replicate {A = ℕ} n 0)
 
 module _ (ar : List ℕ) (os : List Op) {x : Ending} {out out′ : List ℕ} {r : Built} where
   pub answered-plain : x ≡ Plain → Answered (built os) out r out′ → Answered (builtTo x ar os) out r out′
@@ -129,7 +125,7 @@ module _ {line : List ℕ} {at : ℕ} {names arities : List ℕ} {scope : Scope}
 
     pub built-draws : (ending : Ending) {q : Built} {out′ : List ℕ} → Answered (builtTo ending arities (opsIn os′ n)) out q out′
         → Draws arities (drawnTo ending σ es ks) q out′
-    built-draws ending a = answered-draws (drawn-read ending σ es ks _ (sym (done .answer))) good a
+    built-draws ending a = answered-draws (drawn-by ending σ es ks _ (sym (done .answer))) good a
       where
         good : (d : Diagram) → builtTo ending arities (opsIn os′ n) ≡ ok d → Good arities d
         good d h = built-good ending arities (Named (length (σ .parameters)) (reach (σ .binding) ks)) (read-as .tree) d (x .tables .arities-fit) (read-as .good)
@@ -138,7 +134,7 @@ module _ {line : List ℕ} {at : ℕ} {names arities : List ℕ} {scope : Scope}
   pub refused-draws : (ending : Ending) {w : Refusal} {out′ : List ℕ} → r ≡ W.Refused w → Draws arities (drawnTo ending σ es ks) (Refused w) out′
   refused-draws ending {w} e =
       let b : Reads (reading σ es ks) (W.Refused w) vs′ os′ = subst (λ (y : Read). Reads (reading σ es ks) y vs′ os′) e g in
-      let z : drawnTo ending σ es ks ≡ refused w = drawn-refused ending σ es ks w (sym (b .answer)) in
+      let z : drawnTo ending σ es ks ≡ refused w = drawn-by ending σ es ks _ (sym (b .answer)) in
       record {
         answer = ap builtAs (sym z);
         result = λ d h. let y : _≡_ {A = ℕ} 0 1 = cc in absurd (omega arith);

@@ -1,7 +1,6 @@
--- A diagram that is built ends as it is, or closed up: what the code's inner functions answer and ask for.
-use Prim.Native.Nat.{ℕ, _*_, _≤_}
+-- A diagram that is built ends as it is, or closed up: what the code's inner functions answer.
+use Prim.Native.Nat.{ℕ}
 use mathlib.Core.List.{List}
-use lib.ListN.{length}
 use Rattle.diagram.specs.Diagram.{Diagram}
 use Rattle.regress.specs.Calls.{Outcome}
 use Rattle.words.specs.declared.Key.{Key}
@@ -23,6 +22,6 @@ unfolding drawn drawnClosed
 drawnTo Plain σ es vs = drawn σ es vs
 drawnTo Closed σ es vs = drawnClosed σ es vs
 
--- words for the operations of the line: two for each byte
-pub record Roomy (line operations : List ℕ) : Type 0 where
-  pub words : length line * 2 ≤ length operations
+-- a line of at most as many bytes is short
+abbrev pub shortLine : ℕ
+shortLine = 255

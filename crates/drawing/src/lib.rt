@@ -2,7 +2,7 @@
 use build::Built;
 use reading::Read;
 use reading::Scope;
-ghost use Prim.Native.Nat.{_≤_};
+ghost use Prim.Native.Nat.{_*_, _≤_};
 ghost use lib.ListN.{length, drop};
 ghost use Rattle.names.specs.Keys.{keysAt};
 ghost use Rattle.events.specs.Front.{eventsOf};
@@ -10,8 +10,7 @@ ghost use Rattle.reading.specs.Operations.{opsIn};
 ghost use Rattle.reading.specs.Callers.{namesOf};
 ghost use Rattle.build.specs.Writing.{Buildable, Labelled, Answered};
 ghost use Rattle.drawing.specs.Drawing.{drawn, drawnClosed, Drawable, Draws};
-ghost use Rattle.drawing.specs.Endings.{builtTo, drawnTo, Roomy};
-ghost use Rattle.drawing.specs.declared.Ending.the-variants.{Plain, Closed};
+ghost use Rattle.drawing.specs.Endings.{builtTo, drawnTo, shortLine};
 
 // The bytes of a short line, at most, and words for the operations of one: two for each byte.
 const SHORT_LINE: usize = 255;
@@ -61,7 +60,7 @@ fn draw_in(
     work: &mut [u64],
 ) -> Built
     requires { ⌜ Drawable (now line) at (now names) (now arities) scope (now variables) known (now out) (now work) ⌝ }
-    requires { ⌜ Roomy (now line) (now operations) ⌝ }
+    requires { ⌜ length (now line) * 2 ≤ length (now operations) ⌝ }
     ensures { λ r. ⌜ Draws (now (arities .entry)) (drawnTo ending (namesOf (now (names .entry)) (now (arities .entry)) scope) (eventsOf (drop at (now (line .entry)))) (keysAt (now (variables .entry)) 0 known)) r (now (out .exit)) ⌝ }
 {
     let read = reading::read_words(
@@ -94,7 +93,7 @@ fn draw_short(
     work: &mut [u64],
 ) -> Built
     requires { ⌜ Drawable (now line) at (now names) (now arities) scope (now variables) known (now out) (now work) ⌝ }
-    requires { ⌜ length (now line) ≤ 255 ⌝ }
+    requires { ⌜ length (now line) ≤ shortLine ⌝ }
     ensures { λ r. ⌜ Draws (now (arities .entry)) (drawnTo ending (namesOf (now (names .entry)) (now (arities .entry)) scope) (eventsOf (drop at (now (line .entry)))) (keysAt (now (variables .entry)) 0 known)) r (now (out .exit)) ⌝ }
 {
     let mut operations = [0u64; SHORT_WORDS];
