@@ -20,7 +20,7 @@ use Rattle.model.specs.Layout.{modelOf}
 use Rattle.planner.specs.declared.Held.{Held}
 use Rattle.planner.specs.Run.{heldIn, CutTo}
 use Rattle.memory.specs.declared.Numbers.{Numbers}
-use Rattle.memory.specs.Memory.{Memory, memoryOf, sessionOf, Ready, Answers}
+use Rattle.memory.specs.Memory.{Memory, sessionOf, Ready, Answers}
 use Rattle.run_lines.specs.Lines.{runningWith, CutAnswered}
 use Rattle.run_lines.specs.ReadyLaws.{in-run, run-holding}
 use Rattle.run_lines.proofs.HoldLaws.{withValue, running-stored}

@@ -1,13 +1,13 @@
 -- Laws of (start).
-use mathlib.Core.Path.{_≡_, refl, sym, ap, ap₂, subst, _∙_}
+use mathlib.Core.Path.{_≡_, refl, sym, ap, subst, _∙_}
 use mathlib.Core.List.{List, []}
-use Prim.Native.Nat.{ℕ, _*_}
+use Prim.Native.Nat.{ℕ}
 use native.Mathlib.Omega.{arith}
 use lib.ListN.{length}
 use Rattle.refusal.specs.declared.Refusal.{Refusal}
 use Rattle.regress.specs.Calls.{Outcome, ok, refused, andThen}
 use Rattle.mdp.specs.Model.{Model}
-use Rattle.mdp.specs.Runs.{Held as Value, runFrom, begin, run}
+use Rattle.mdp.specs.Runs.{runFrom, begin, run}
 use Rattle.answers.specs.declared.Answer.the-variants as A
 use Rattle.text.specs.declared.Kind.the-variants as K
 use Rattle.session.specs.declared.Part.the-variants.{Run}
@@ -17,7 +17,7 @@ use Rattle.session.specs.Running.{withHeld, startLine}
 use Rattle.session.specs.Replies.{Reply, quietly, done}
 use Rattle.model.specs.Layout.{modelOf}
 use Rattle.planner.specs.declared.Held.{Held}
-use Rattle.planner.specs.Run.{callsOf, heldIn, Holds, Takeable, Taken}
+use Rattle.planner.specs.Run.{callsOf, Holds, Takeable, Taken}
 use Rattle.planner.proofs.HeldLaws.{laid-takeable, running-start}
 use Rattle.weights.specs.declared.Weighed.{Weighed}
 use Rattle.weights.specs.declared.Weighed.the-variants.{Done, Refused}

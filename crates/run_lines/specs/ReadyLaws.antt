@@ -1,6 +1,6 @@
--- What a line that may stand where it stands has: the part of the text, and what its function requires.
+-- What holds where a line stands where it may: the part of the text, and what the line's function requires.
 use mathlib.Core.Path.{_≡_, refl, sym, ap, subst, _∙_}
-use mathlib.Core.Bool.{Bool, true, false, not, _&&_}
+use mathlib.Core.Bool.{Bool, true, false, not}
 use mathlib.Core.List.{List}
 use Prim.Native.Nat.{ℕ, _*_, _≤_}
 use native.Mathlib.Omega.{arith}
@@ -13,29 +13,29 @@ use Rattle.diagram.specs.Diagram.{Diagram}
 use Rattle.diagram.specs.Listing.{diagramOf}
 use Rattle.state.specs.State.{meaning}
 use Rattle.state.specs.Lent.{isState}
-use Rattle.regress.specs.Calls.{Outcome, ok, refused}
+use Rattle.regress.specs.Calls.{ok, refused}
 use Rattle.regress.specs.Parameters.{Within}
 use Rattle.mdp.specs.Model.{GoodModel}
-use Rattle.mdp.specs.Runs.{Held, run}
+use Rattle.mdp.specs.Runs.{Held}
 use Rattle.mdp.specs.RunLaws.{run-right}
 use Rattle.text.specs.declared.Kind.{Kind}
 use Rattle.text.specs.declared.Kind.the-variants.{Start, Value, Backup, Cut}
 use Rattle.session.specs.declared.Part.{Part}
 use Rattle.session.specs.declared.Part.the-variants.{Model, Run}
-use Rattle.session.specs.declared.Rule.the-variants.{Misplaced, WholeModel, WholeState}
+use Rattle.session.specs.declared.Rule.the-variants.{Misplaced}
 use Rattle.session.specs.Session.{Session}
 use Rattle.session.specs.Place.{ruleOf}
 use Rattle.session.specs.Replies.{isWhole, isPlaced, unless, allowed}
-use Rattle.session.specs.Good.{Begun, GoodSession}
+use Rattle.session.specs.Good.{Begun}
 use Rattle.facts.specs.Words.{liveOf}
 use Rattle.model.specs.Layout.{modelOf, Laid}
 use Rattle.modelling.specs.BuildingLaws.{building-laid}
-use Rattle.planner.specs.Run.{Room, Callable, CutTask}
+use Rattle.planner.specs.Run.{Room, CutTask}
 use Rattle.memory.specs.declared.Numbers.{Numbers}
 use Rattle.memory.specs.Memory.{Memory, sessionOf, Holding, Stored, Ready, workWords}
 use Rattle.run_lines.specs.Lines.{StartTask, ValueTask, BackupTask}
 
--- ===== The part =====
+-- ===== The run =====
 
 placed-run : (σ : Session) (k : Kind) (p : Part) → ruleOf k Model ≡ Misplaced → allowed σ (ruleOf k p) ≡ ok tt → p ≡ Run
 unfolding allowed
@@ -49,13 +49,23 @@ placed-run σ k Model e h =
 pub in-run : {k : Kind} {s : List ℕ} {n : Numbers} {w : Memory} → ruleOf k Model ≡ Misplaced → Ready k s n w → n .part ≡ Run
 in-run {k} {s} {n} {w} e r = placed-run (sessionOf n w) k (n .part) e (r .place)
 
+-- what is held
 pub run-holding : {k : Kind} {s : List ℕ} {n : Numbers} {w : Memory} → ruleOf k Model ≡ Misplaced → Ready k s n w → Holding n w
 run-holding e r = r .stored .holding (in-run e r)
+
+-- the value has no parameter
+pub run-within : {k : Kind} {s : List ℕ} {n : Numbers} {w : Memory} → ruleOf k Model ≡ Misplaced → Ready k s n w
+    → Within 0 (meaning (w .arities) (diagramOf (take (n .held .rows * 3) (w .value))))
+unfolding sessionOf
+run-within {k} {s} {n} {w} e r =
+    let b : Begun (sessionOf n w) = r .good .begun (in-run e r) in
+    let m = modelOf (w .arities) (w .listings) (w .table) (n .head) in
+    subst (λ (d : Diagram). Within 0 (meaning (w .arities) d)) (sym (ap (λ (h : Held). h .diagram) (b .held))) (run-right m (b .good) (b .calls) .within)
 
 -- ===== Words =====
 
 module _ {n : Numbers} {w : Memory} (s : Stored n w) where
-  pub stored-room : {work : List ℕ} → workWords ≤ length work → Room (w .value) work
+  stored-room : {work : List ℕ} → workWords ≤ length work → Room (w .value) work
   stored-room l = record { value-room = s .value-room; work-room = omega (arith, l) }
 
   stored-laid : GoodModel (modelOf (w .arities) (w .listings) (w .table) (n .head)) → (n .head .«reward_words» ≡ 0 → ⊥)
@@ -119,15 +129,6 @@ value-state {s} {n} {w} r =
     r .good .state (leb-true 1 (n .live .objects) (and-left (leb 1 (n .live .objects)) _ (placed-state (sessionOf n w) (n .part) (r .place))))
 
 -- ===== (backup) =====
-
--- the value has no parameter
-pub run-within : {k : Kind} {s : List ℕ} {n : Numbers} {w : Memory} → ruleOf k Model ≡ Misplaced → Ready k s n w
-    → Within 0 (meaning (w .arities) (diagramOf (take (n .held .rows * 3) (w .value))))
-unfolding sessionOf
-run-within {k} {s} {n} {w} e r =
-    let b : Begun (sessionOf n w) = r .good .begun (in-run e r) in
-    let m = modelOf (w .arities) (w .listings) (w .table) (n .head) in
-    subst (λ (d : Diagram). Within 0 (meaning (w .arities) d)) (sym (ap (λ (h : Held). h .diagram) (b .held))) (run-right m (b .good) (b .calls) .within)
 
 module _ {s : List ℕ} {n : Numbers} {w : Memory} (r : Ready Backup s n w) where
   backup-good : GoodModel (modelOf (w .arities) (w .listings) (w .table) (n .head))
