@@ -1,0 +1,6 @@
+-- Laws that the functions' proofs use.
+pub mod RoomLaws
+pub mod LineLaws
+pub mod RewardLaws
+pub mod TruthLaws
+pub mod BecomesLaws

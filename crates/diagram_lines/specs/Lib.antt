@@ -1,0 +1,2 @@
+-- The lines with a diagram, in lent words.
+pub mod Lines
