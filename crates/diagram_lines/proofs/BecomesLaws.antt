@@ -53,7 +53,7 @@ told p d = ok (p, d)
 -- 7, then 9
 checked : (p r : ℕ) (o : Outcome Diagram)
     → andThen o (λ d. pickOutcome (leafAbove 1 d) (refused Truth) (pickOutcome (ltb mostModelRows (rowsWith r d)) (refused Space) (told p d)))
-    ≡ andThen (roomed r (lowered o)) (told p)
+    ≡ andThen (roomed false r (lowered o)) (told p)
 checked p r (ok d) = go (leafAbove 1 d)
   where
     inner : (t : Bool) → pickOutcome t (refused Space) (told p d) ≡ andThen (pickOutcome t (refused Space) (ok d)) (told p)
@@ -61,7 +61,7 @@ checked p r (ok d) = go (leafAbove 1 d)
     inner false = refl
 
     go : (b : Bool) → pickOutcome b (refused Truth) (pickOutcome (ltb mostModelRows (rowsWith r d)) (refused Space) (told p d))
-        ≡ andThen (roomed r (pickOutcome b (refused Truth) (ok d))) (told p)
+        ≡ andThen (roomed false r (pickOutcome b (refused Truth) (ok d))) (told p)
     go true = refl
     go false = inner (ltb mostModelRows (rowsWith r d))
 checked p r (refused w) = refl
@@ -78,9 +78,9 @@ module _ (n : Names) (ar : List ℕ) (truths : Truths) (r : ℕ) (es : List Even
   unfolding truthOf drawn
   behind p =
       then-same (outcomeOf (headArguments (getD ar p 0) es)) (λ (h : Head). andThen (words h) (λ w. andThen (built (w .operations)) (checks p)))
-      (λ (h : Head). andThen (roomed r (lowered (andThen (words h) (λ w. built (w .operations))))) (told p))
+      (λ (h : Head). andThen (roomed false r (lowered (andThen (words h) (λ w. built (w .operations))))) (told p))
       (λ (h : Head). sym (then-then (words h) (λ (w : Written). built (w .operations)) (checks p)) ∙ checked p r (andThen (words h) (λ w. built (w .operations))))
-      ∙ sym (then-then (outcomeOf (headArguments (getD ar p 0) es)) (λ (h : Head). roomed r (lowered (andThen (words h) (λ w. built (w .operations))))) (told p))
+      ∙ sym (then-then (outcomeOf (headArguments (getD ar p 0) es)) (λ (h : Head). roomed false r (lowered (andThen (words h) (λ w. built (w .operations))))) (told p))
 
   pick-then : (b : Bool) (p : ℕ) → pickOutcome b (refused Name) (andThen (truthOf n ar p r es) (told p))
       ≡ andThen (pickOutcome b (refused Name) (ok p)) (λ q. andThen (truthOf n ar q r es) (told q))
@@ -102,9 +102,9 @@ truth-few : (n : Names) (ar : List ℕ) (p r : ℕ) (es : List Event) {d : Diagr
 unfolding truthOf
 truth-few n ar p r es {d} e = go (outcomeOf (headArguments (getD ar p 0) es)) e
   where
-    go : (o : Outcome Head) → andThen o (λ h. roomed r (lowered (drawn (namesFor n ar Only (n .parameters)) (h .rest) (h .variables)))) ≡ ok d
+    go : (o : Outcome Head) → andThen o (λ h. roomed false r (lowered (drawn (namesFor n ar Only (n .parameters)) (h .rest) (h .variables)))) ≡ ok d
         → r + length (rows d) ≤ mostModelRows
-    go (ok h) f = roomed-ok r (lowered (drawn (namesFor n ar Only (n .parameters)) (h .rest) (h .variables))) d f .room
+    go (ok h) f = roomed-ok false r (lowered (drawn (namesFor n ar Only (n .parameters)) (h .rest) (h .variables))) d f .room
     go (refused w) f = unlike f
 
 -- ===== Answered =====

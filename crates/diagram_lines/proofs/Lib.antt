@@ -2,5 +2,6 @@
 pub mod RoomLaws
 pub mod LineLaws
 pub mod RewardLaws
+pub mod VariantLaws
 pub mod TruthLaws
 pub mod BecomesLaws

@@ -1,6 +1,6 @@
 -- Laws of (reward DIAGRAM).
 use mathlib.Core.Path.{_≡_, refl, sym, ap, subst, _∙_}
-use mathlib.Core.Bool.{true}
+use mathlib.Core.Bool.{true, false}
 use mathlib.Core.List.{List, []}
 use Prim.Native.Nat.{ℕ, _+_, _*_, _/_, _≤_, _<_}
 use native.Mathlib.Omega.{arith}
@@ -53,10 +53,10 @@ use Rattle.diagram_lines.proofs.LineLaws.{line-short, tables-of, no-key
 
 -- ===== Read =====
 
-reward-drawn : (n : Names) (ar : List ℕ) (r : ℕ) (es : List Event) → rewardRead n ar r es ≡ roomed r (drawnClosed (namesFor n ar Any []) es [])
+reward-drawn : (n : Names) (ar : List ℕ) (r : ℕ) (es : List Event) → rewardRead n ar r es ≡ roomed false r (drawnClosed (namesFor n ar Any []) es [])
 unfolding rewardRead drawnClosed
 reward-drawn n ar r es =
-    sym (then-then (outcomeOf (reading (namesFor n ar Any []) es [])) (λ (w : Written). builtClosed ar (w .operations)) (λ (d : Diagram). roomed r (ok d)))
+    sym (then-then (outcomeOf (reading (namesFor n ar Any []) es [])) (λ (w : Written). builtClosed ar (w .operations)) (λ (d : Diagram). roomed false r (ok d)))
 
 -- the counts of names on the line: a reward has no parameters
 abbrev pub rewardScope : Numbers → Scope
@@ -87,7 +87,7 @@ module _ {s : List ℕ} {n : Numbers} {names ar work : List ℕ} (x : Lent Rewar
 
   -- `read_reward`
   pub reward-reads : (vs : List ℕ) {out : List ℕ} {b r : Built} → Draws ar (drawnClosed (tableNames names ar (rewardScope n)) (eventsOf (drop 8 s)) (keysAt vs 0 0)) b out
-      → r ≡ roomedAs (n .head .words / 3) b
+      → r ≡ roomedAs false (n .head .words / 3) b
       → Draws ar (rewardRead (namesOf names (n .counts)) ar (n .head .words / 3) (wordsOf Reward s)) r out
   unfolding namesOf
   reward-reads vs {out} {b} {r} d e =
@@ -95,7 +95,7 @@ module _ {s : List ℕ} {n : Numbers} {names ar work : List ℕ} (x : Lent Rewar
       = λ ps ks. drawnClosed (namesFor (namesOf names (n .counts)) ar Any ps) (eventsOf (drop 8 s)) ks in
       let y : q (keysAt names parametersAt 0) (keysAt vs 0 0) ≡ q [] [] = ap (λ (ps : List Key). q ps (keysAt vs 0 0)) (no-keys names parametersAt) ∙ ap (q []) (no-keys vs 0) in
       subst (λ (o : Outcome Diagram). Draws ar o r out) (sym (reward-drawn (namesOf names (n .counts)) ar (n .head .words / 3) (wordsOf Reward s)))
-      (draws-room (n .head .words / 3) (subst (λ (o : Outcome Diagram). Draws ar o b out) y d) e)
+      (draws-room false (n .head .words / 3) (subst (λ (o : Outcome Diagram). Draws ar o b out) y d) e)
 
 -- ===== Answered =====
 
@@ -140,7 +140,7 @@ module _ (s : List ℕ) (n : Numbers) (names ar listings : List ℕ) where
           omega (
             arith,
             D .count,
-            roomed-ok (n .head .words / 3) (drawnClosed (namesFor (namesOf names (n .counts)) ar Any []) (wordsOf Reward s) []) (D .diagram)
+            roomed-ok false (n .head .words / 3) (drawnClosed (namesFor (namesOf names (n .counts)) ar Any []) (wordsOf Reward s) []) (D .diagram)
                 (sym (reward-drawn (namesOf names (n .counts)) ar (n .head .words / 3) (wordsOf Reward s)) ∙ D .is) .room,
           )
 

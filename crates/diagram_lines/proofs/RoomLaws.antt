@@ -1,6 +1,6 @@
 -- Laws of a diagram that is built: room for its rows, and the words that it leaves in the result buffer.
 use mathlib.Core.Path.{_≡_, refl, sym, ap, subst, _∙_}
-use mathlib.Core.Bool.{Bool, true, false}
+use mathlib.Core.Bool.{Bool, true, false, _||_}
 use mathlib.Core.List.{List}
 use Prim.Native.Nat.{ℕ, _+_, _*_, _-_, _/_, _≤_, _<_}
 use native.Mathlib.Omega.{arith}
@@ -25,43 +25,53 @@ use Rattle.diagram_lines.specs.Lines.{roomed, pickBuilt, roomedAs}
 
 -- `room`
 
-module _ {words n : ℕ} {b : Built} (h : words ≤ listingWords) (e : b ≡ Done n) where
-  pub room-none : mostModelRows - words / 3 < n → Refused Space ≡ roomedAs (words / 3) b
-  room-none l = rw (e, lt-ltb mostModelRows (words / 3 + n) (omega arith))
+pub room-full : (r : ℕ) {n : ℕ} {b : Built} {full : Bool} → b ≡ Done n → full ≡ true → Refused Space ≡ roomedAs full r b
+room-full r e f = rw (e, f)
 
-  pub room-some : n ≤ mostModelRows - words / 3 → Done n ≡ roomedAs (words / 3) b
-  room-some l = rw (e, le-ltb mostModelRows (words / 3 + n) (omega arith))
+module _ {words n : ℕ} {b : Built} {full : Bool} (h : words ≤ listingWords) (e : b ≡ Done n) (f : full ≡ false) where
+  pub room-none : mostModelRows - words / 3 < n → Refused Space ≡ roomedAs full (words / 3) b
+  room-none l = rw (e, f, lt-ltb mostModelRows (words / 3 + n) (omega arith))
+
+  pub room-some : n ≤ mostModelRows - words / 3 → Done n ≡ roomedAs full (words / 3) b
+  room-some l = rw (e, f, le-ltb mostModelRows (words / 3 + n) (omega arith))
 
 -- what is drawn, with room for it
 
-roomed-answer : (r : ℕ) (o : Outcome Diagram) → roomedAs r (builtAs o) ≡ builtAs (roomed r o)
-roomed-answer r (ok d) = go (ltb mostModelRows (r + length (rows d)))
+roomed-answer : (f : Bool) (r : ℕ) (o : Outcome Diagram) → roomedAs f r (builtAs o) ≡ builtAs (roomed f r o)
+roomed-answer f r (ok d) = go (f || ltb mostModelRows (r + length (rows d)))
   where
     go : (b : Bool) → pickBuilt b (Refused Space) (Done (length (rows d))) ≡ builtAs (pickOutcome b (refused Space) (ok d))
     go true = refl
     go false = refl
-roomed-answer r (refused w) = refl
+roomed-answer f r (refused w) = refl
 
 -- two answers of a step
 pub unlike : {A B : Type 0} {w : Refusal} {a : A} → _≡_ {A = Outcome A} (refused w) (ok a) → B
 unlike e = let z : _≡_ {A = ℕ} 0 1 = cc in absurd (omega arith)
 
-pub record Roomed (r : ℕ) (o : Outcome Diagram) (d : Diagram) : Type 0 where
+pub record Roomed (f : Bool) (r : ℕ) (o : Outcome Diagram) (d : Diagram) : Type 0 where
   pub drawn : o ≡ ok d
+  pub free : f ≡ false
   pub room : r + length (rows d) ≤ mostModelRows
 
-pub roomed-ok : (r : ℕ) (o : Outcome Diagram) (d : Diagram) → roomed r o ≡ ok d → Roomed r o d
-roomed-ok r (ok x) d e = go (ltb mostModelRows (r + length (rows x))) refl e
+pub roomed-ok : (f : Bool) (r : ℕ) (o : Outcome Diagram) (d : Diagram) → roomed f r o ≡ ok d → Roomed f r o d
+roomed-ok true r (ok x) d e = unlike e
+roomed-ok false r (ok x) d e = go (ltb mostModelRows (r + length (rows x))) refl e
   where
-    go : (b : Bool) → ltb mostModelRows (r + length (rows x)) ≡ b → pickOutcome b (refused Space) (ok x) ≡ ok d → Roomed r (ok x) d
+    go : (b : Bool) → ltb mostModelRows (r + length (rows x)) ≡ b → pickOutcome b (refused Space) (ok x) ≡ ok d → Roomed false r (ok x) d
     go true q e = unlike e
-    go false q e = record { drawn = e; room = let z : x ≡ d = cc in omega (arith, ltb-false mostModelRows (r + length (rows x)) q, ap (λ (y : Diagram). length (rows y)) z) }
-roomed-ok r (refused w) d e = unlike e
+    go false q e = record {
+      drawn = e;
+      free = refl;
+      room = let z : x ≡ d = cc in omega (arith, ltb-false mostModelRows (r + length (rows x)) q, ap (λ (y : Diagram). length (rows y)) z);
+    }
+roomed-ok true r (refused w) d e = unlike e
+roomed-ok false r (refused w) d e = unlike e
 
-pub draws-room : {ar out : List ℕ} {o : Outcome Diagram} {b c : Built} (r : ℕ) → Draws ar o b out → c ≡ roomedAs r b → Draws ar (roomed r o) c out
-draws-room {o = o} r x e = record {
-  answer = e ∙ ap (roomedAs r) (x .answer) ∙ roomed-answer r o;
-  result = λ d q. x .result d (roomed-ok r o d q .drawn);
+pub draws-room : {ar out : List ℕ} {o : Outcome Diagram} {b c : Built} (f : Bool) (r : ℕ) → Draws ar o b out → c ≡ roomedAs f r b → Draws ar (roomed f r o) c out
+draws-room {o = o} f r x e = record {
+  answer = e ∙ ap (roomedAs f r) (x .answer) ∙ roomed-answer f r o;
+  result = λ d q. x .result d (roomed-ok f r o d q .drawn);
 }
 
 pub draws-none : {ar out : List ℕ} {o : Outcome Diagram} {w : Refusal} → o ≡ refused w → Draws ar o (Refused w) out

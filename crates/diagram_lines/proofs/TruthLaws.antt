@@ -112,21 +112,21 @@ module _ {ar out : List ℕ} {o : Outcome Diagram} {b : Built} (x : Draws ar o b
 -- ===== The diagram =====
 
 -- `draw_truth`
-pub draws-truth : {ar out : List ℕ} {o : Outcome Diagram} {b c d : Built} (r : ℕ) → Draws ar o b out → c ≡ loweredAs out b → d ≡ roomedAs r c
-    → Draws ar (roomed r (lowered o)) d out
-draws-truth r x e f = draws-room r (draws-low x e) f
+pub draws-truth : {ar out : List ℕ} {o : Outcome Diagram} {b c d : Built} (r : ℕ) → Draws ar o b out → c ≡ loweredAs out b → d ≡ roomedAs false r c
+    → Draws ar (roomed false r (lowered o)) d out
+draws-truth r x e f = draws-room false r (draws-low x e) f
 
 -- `read_truth`
 
 module _ (n : Names) (ar : List ℕ) (p r : ℕ) (es : List Event) where
   truth-refused : {w : Refusal} → headArguments (getD ar p 0) es ≡ judged w → truthOf n ar p r es ≡ refused w
   unfolding truthOf
-  truth-refused e = ap (λ (j : Judged Head). andThen (outcomeOf j) (λ h. roomed r (lowered (drawn (namesFor n ar Only (n .parameters)) (h .rest) (h .variables))))) e
+  truth-refused e = ap (λ (j : Judged Head). andThen (outcomeOf j) (λ h. roomed false r (lowered (drawn (namesFor n ar Only (n .parameters)) (h .rest) (h .variables))))) e
 
   truth-headed : {h : Head} → headArguments (getD ar p 0) es ≡ fine h
-      → truthOf n ar p r es ≡ roomed r (lowered (drawn (namesFor n ar Only (n .parameters)) (h .rest) (h .variables)))
+      → truthOf n ar p r es ≡ roomed false r (lowered (drawn (namesFor n ar Only (n .parameters)) (h .rest) (h .variables)))
   unfolding truthOf
-  truth-headed e = ap (λ (j : Judged Head). andThen (outcomeOf j) (λ h. roomed r (lowered (drawn (namesFor n ar Only (n .parameters)) (h .rest) (h .variables))))) e
+  truth-headed e = ap (λ (j : Judged Head). andThen (outcomeOf j) (λ h. roomed false r (lowered (drawn (namesFor n ar Only (n .parameters)) (h .rest) (h .variables))))) e
 
 abbrev headOf : List Key → List Event → Head
 headOf ks es = record { variables = ks; rest = es }
@@ -177,7 +177,7 @@ module _ {s : List ℕ} {n : Numbers} {names ar work : List ℕ} (x : Lent Becom
         }
 
         pub read-drawn : {out : List ℕ} {b : Built}
-            → Draws ar (roomed (n .head .words / 3) (lowered (drawn (tableNames names ar (truthScope n)) (eventsOf (drop i s)) (keysAt vs 0 (getD ar p 0))))) b out
+            → Draws ar (roomed false (n .head .words / 3) (lowered (drawn (tableNames names ar (truthScope n)) (eventsOf (drop i s)) (keysAt vs 0 (getD ar p 0))))) b out
             → Draws ar (truthOf (namesOf names (n .counts)) ar p (n .head .words / 3) (wordsOf Becomes s)) b out
         unfolding namesOf
         read-drawn {out} {b} d =

@@ -1,7 +1,7 @@
 -- The lines (reward DIAGRAM), (variant n WEIGHT) and (becomes (p ?a ..) DIAGRAM) in lent words: what their functions require and promise (document 01,
 -- section 'Text').
 use mathlib.Core.Path.{_≡_}
-use mathlib.Core.Bool.{Bool, true, false}
+use mathlib.Core.Bool.{Bool, true, false, _||_}
 use mathlib.Core.List.{List}
 use Prim.Native.Nat.{ℕ, _+_, _*_, _-_, _/_, _≤_, _<_}
 use lib.ListN.{length, getD, take}
@@ -14,10 +14,13 @@ use Rattle.diagram.specs.Validity.{Valid}
 use Rattle.regress.specs.Calls.{Outcome, ok, andThen}
 use Rattle.regress.specs.Regression.{Truths}
 use Rattle.regress.specs.RegressCall.{leafAbove}
+use Rattle.words.specs.declared.Key.{Key}
 use Rattle.text.specs.declared.Kind.{Kind}
-use Rattle.text.specs.declared.Kind.the-variants.{Reward, Becomes}
+use Rattle.text.specs.declared.Kind.the-variants.{Reward, Variant, Becomes}
 use Rattle.events.specs.declared.Event.{Event}
-use Rattle.reading.specs.declared.Binding.the-variants.{Only}
+use Rattle.names.specs.Keys.{putKey}
+use Rattle.names.specs.Layout.{variantsAt}
+use Rattle.reading.specs.declared.Binding.the-variants.{None, Only}
 use Rattle.reading.specs.declared.Scope.{Scope}
 use Rattle.reading.specs.declared.Opened.{Opened}
 use Rattle.reading.specs.Head.{headNumber, headArguments}
@@ -26,28 +29,29 @@ use Rattle.build.specs.declared.Built.{Built}
 use Rattle.build.specs.declared.Built.the-variants.{Done, Refused}
 use Rattle.session.specs.Session.{Names, refuseIf}
 use Rattle.session.specs.Modelling.{mostModelRows, outcomeOf, namesFor, rowsWith, isSome, truthsNow}
+use Rattle.declare.specs.declared.Counts.{Counts}
 use Rattle.declare.specs.Tables.{namesOf, GoodVocabulary}
 use Rattle.model.specs.Layout.{listingWords, variantsOf, modelOf}
 use Rattle.modelling.specs.Building.{Spanned}
 use Rattle.memory.specs.declared.Numbers.{Numbers}
 use Rattle.memory.specs.declared.Said.{Said}
 use Rattle.memory.specs.Memory.{memoryOf, LineOf, Ready, Answers}
-use Rattle.drawing.specs.Drawing.{drawn}
+use Rattle.drawing.specs.Drawing.{drawn, DiagramAt}
 
 -- ===== Room for one listing more =====
 
--- 9 where r rows of model listings and those of the diagram are too many
-abbrev pub roomed : ℕ → Outcome Diagram → Outcome Diagram
-roomed r o = andThen o (λ d. refuseIf (ltb mostModelRows (rowsWith r d)) Space (ok d))
+-- 9 where there is no room beside it, or r rows of model listings and those of the diagram are too many
+abbrev pub roomed : Bool → ℕ → Outcome Diagram → Outcome Diagram
+roomed full r o = andThen o (λ d. refuseIf (full || ltb mostModelRows (rowsWith r d)) Space (ok d))
 
 abbrev pub pickBuilt : Bool → Built → Built → Built
 pickBuilt true x y = x
 pickBuilt false x y = y
 
 -- the same of the answer that building it gives
-abbrev pub roomedAs : ℕ → Built → Built
-roomedAs r (Done n) = pickBuilt (ltb mostModelRows (r + n)) (Refused Space) (Done n)
-roomedAs r (Refused w) = Refused w
+abbrev pub roomedAs : Bool → ℕ → Built → Built
+roomedAs full r (Done n) = pickBuilt (full || ltb mostModelRows (r + n)) (Refused Space) (Done n)
+roomedAs full r (Refused w) = Refused w
 
 -- ===== A truth diagram =====
 
@@ -74,7 +78,7 @@ truthNumber n truths es = andThen (outcomeOf (headNumber (n .predicates) es)) (�
 unfoldable pub truthOf : Names → List ℕ → ℕ → ℕ → List Event → Outcome Diagram
 unfolding headArguments drawn leafAbove
 truthOf n ar p r es =
-    andThen (outcomeOf (headArguments (getD ar p 0) es)) (λ h. roomed r (lowered (drawn (namesFor n ar Only (n .parameters)) (h .rest) (h .variables))))
+    andThen (outcomeOf (headArguments (getD ar p 0) es)) (λ h. roomed false r (lowered (drawn (namesFor n ar Only (n .parameters)) (h .rest) (h .variables))))
 
 -- ===== What is lent to read a line =====
 
@@ -105,6 +109,40 @@ pub record RewardReady (s : List ℕ) (n : Numbers) (names ar listings work : Li
 pub record RewardSays (s : List ℕ) (number : ℕ) (n : Numbers) (names ar listings : List ℕ) (r : Said) (listings′ : List ℕ) : Type 0 where
   pub says : (table state value : List ℕ) → Ready Reward s n (memoryOf names ar listings table state value)
       → Answers Reward s number n (memoryOf names ar listings table state value) r (memoryOf names ar listings′ table state value)
+
+-- ===== (variant n WEIGHT) =====
+
+-- the counts of names on the line: its parameters are those of the last action
+abbrev pub weightScope : Numbers → Scope
+weightScope n = record { constants = n .counts .constants; predicates = n .counts .predicates; parameters = n .counts .parameters; binding = None }
+
+-- a diagram stands on the line from a place of it on
+pub record WeightAt (s : List ℕ) (at : ℕ) : Type 0 where
+  pub within : at ≤ length s
+  pub there : DiagramAt s at
+
+-- one variant more
+abbrev pub moreVariants : Counts → Counts
+moreVariants n = record {
+  constants = n .constants;
+  predicates = n .predicates;
+  actions = n .actions;
+  parameters = n .parameters;
+  variants = n .variants + 1;
+}
+
+pub record VariantNamed (names : List ℕ) (n : Counts) (k : Key) (r : Counts) (names′ : List ℕ) : Type 0 where
+  pub counts : r ≡ moreVariants n
+  pub words : names′ ≡ putKey names (variantsAt + n .variants * 2) k
+
+pub record VariantReady (s : List ℕ) (n : Numbers) (names ar listings table work : List ℕ) : Type 0 where
+  pub lent : Lent Variant s n names ar work
+  pub listed : Listings n listings
+  pub last : LastOf table n
+
+pub record VariantSays (s : List ℕ) (number : ℕ) (n : Numbers) (names ar listings table : List ℕ) (r : Said) (names′ listings′ table′ : List ℕ) : Type 0 where
+  pub says : (state value : List ℕ) → Ready Variant s n (memoryOf names ar listings table state value)
+      → Answers Variant s number n (memoryOf names ar listings table state value) r (memoryOf names′ ar listings′ table′ state value)
 
 -- ===== (becomes (p ?a ..) DIAGRAM) =====
 

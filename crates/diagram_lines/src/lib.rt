@@ -1,6 +1,7 @@
 // The lines of a model with a diagram, on a session in lent words: (reward DIAGRAM), (variant n WEIGHT) and (becomes (p ?a ..) DIAGRAM).
 use answers::Answer;
 use build::Built;
+use declare::Counts;
 use label::Label;
 use memory::Numbers;
 use memory::Said;
@@ -9,7 +10,9 @@ use reading::Headed;
 use reading::Opened;
 use reading::Scope;
 use refusal::Refusal;
+use words::Key;
 ghost use mathlib.Core.Path.{_≡_};
+ghost use mathlib.Core.Bool.{false};
 ghost use Prim.Native.Nat.{_+_, _*_, _/_, _≤_, _<_};
 ghost use lib.ListN.{length, drop};
 ghost use Rattle.label.specs.Limits.{predicateCount};
@@ -18,17 +21,18 @@ ghost use Rattle.diagram.specs.Listing.{diagramOf};
 ghost use Rattle.diagram.specs.Validity.{Valid};
 ghost use Rattle.regress.specs.RegressCall.{leafAbove};
 ghost use Rattle.regress.specs.Regressing.{isHighLeaf};
-ghost use Rattle.text.specs.declared.Kind.the-variants.{Reward, Becomes};
+ghost use Rattle.text.specs.declared.Kind.the-variants.{Reward, Variant, Becomes};
 ghost use Rattle.events.specs.Front.{eventsOf};
 ghost use Rattle.names.specs.Keys.{keysAt};
+ghost use Rattle.names.specs.Layout.{variantsAt};
 ghost use Rattle.reading.specs.Callers.{namesOf as tableNames};
-ghost use Rattle.session.specs.Modelling.{rewardRead};
+ghost use Rattle.session.specs.Modelling.{rewardRead, weightRead};
 ghost use Rattle.session.specs.Replies.{wordsOf};
 ghost use Rattle.declare.specs.Tables.{namesOf, GoodNames};
 ghost use Rattle.model.specs.Layout.{listingWords};
 ghost use Rattle.memory.specs.Memory.{LineOf};
 ghost use Rattle.drawing.specs.Drawing.{drawn, Drawable, Draws};
-ghost use Rattle.diagram_lines.specs.Lines.{roomed, roomedAs, lowered, loweredAs, truthOf, BuiltIn, Lent, RewardReady, RewardSays, truthScope, VariantOpen, TruthOpens, BecomesReady, BecomesSays};
+ghost use Rattle.diagram_lines.specs.Lines.{roomed, roomedAs, lowered, loweredAs, truthOf, BuiltIn, Lent, RewardReady, RewardSays, WeightAt, VariantNamed, VariantReady, VariantSays, truthScope, VariantOpen, TruthOpens, BecomesReady, BecomesSays};
 
 // Rows of all listings of a model.
 const MODEL_ROWS: usize = 2048;
@@ -39,16 +43,21 @@ const VARIABLE_WORDS: usize = 66;
 // Where the words behind a line's key word begin.
 const REWARD_WORDS: usize = 8;
 
+const VARIANT_WORDS: usize = 9;
+
 const BECOMES_WORDS: usize = 9;
 
-// The rows of a diagram that is built, or 9 where the model's listings, with so many words in use, have no room for them.
-fn room(built: Built, words: usize) -> Built
+// The rows of a diagram that is built, or 9 where there is no room beside it, or the model's listings, with so many words in use, have none for them.
+fn room(built: Built, full: bool, words: usize) -> Built
     requires { ⌜ words ≤ listingWords ⌝ }
-    ensures { λ r. ⌜ r ≡ roomedAs (words / 3) built ⌝ }
+    ensures { λ r. ⌜ r ≡ roomedAs full (words / 3) built ⌝ }
 {
     let Built::Done(rows) = built else {
         return built;
     };
+    if full {
+        return Built::Refused(Refusal::Space);
+    }
     if rows > MODEL_ROWS - words / 3 {
         return Built::Refused(Refusal::Space);
     }
@@ -86,7 +95,7 @@ fn read_reward(
         out,
         work,
     );
-    room(built, n.head.words)
+    room(built, false, n.head.words)
 }
 
 // (reward DIAGRAM)
@@ -113,6 +122,98 @@ pub fn reward(
             let head = modelling::add_reward(listings, n.head, &out, rows);
             let mut next = n;
             next.reward = true;
+            next.head = head;
+            Said {
+                numbers: next,
+                answer: Answer::Nothing,
+            }
+        }
+    }
+}
+
+// Reads the weight of a (variant n WEIGHT) from the place `at` on, and lists it in the result buffer; 2 where the last action has a variant of that name.
+fn read_weight(
+    line: &[u8],
+    at: usize,
+    key: Key,
+    n: Numbers,
+    names: &[u64],
+    arities: &[u64],
+    out: &mut [u64],
+    work: &mut [u64],
+) -> Built
+    requires { ⌜ Lent Variant (now line) n (now names) (now arities) (now work) ⌝ }
+    requires { ⌜ WeightAt (now line) at ⌝ }
+    requires { ⌜ resultWords ≤ length (now out) ⌝ }
+    ensures { λ r. ⌜ Draws (now (arities .entry)) (weightRead (namesOf (now (names .entry)) (n .counts)) (now (arities .entry)) (n .head .words / 3) key (eventsOf (drop at (now (line .entry))))) r (now (out .exit)) ⌝ }
+{
+    let count = n.counts.variants;
+    if names::find(names, names::VARIANTS, count, key) < count {
+        return Built::Refused(Refusal::Name);
+    }
+    let mut variables = [0u64; VARIABLE_WORDS];
+    let scope = Scope {
+        constants: n.counts.constants,
+        predicates: n.counts.predicates,
+        parameters: n.counts.parameters,
+        binding: Binding::None,
+    };
+    let built = drawing::draw(
+        line,
+        at,
+        names,
+        arities,
+        scope,
+        &mut variables,
+        0,
+        out,
+        work,
+    );
+    room(built, count >= model::VARIANTS, n.head.words)
+}
+
+// One variant more of the last action, by its name.
+fn name_variant(names: &mut [u64], n: Counts, key: Key) -> Counts
+    requires { ⌜ variantsAt + n .variants * 2 + 2 ≤ length (now names) ⌝ }
+    ensures { λ r. ⌜ VariantNamed (now (names .entry)) n key r (now (names .exit)) ⌝ }
+{
+    let count = n.variants;
+    names::put(names, names::VARIANTS + count * 2, key);
+    let mut next = n;
+    next.variants = count + 1;
+    next
+}
+
+// (variant n WEIGHT)
+pub fn variant(
+    line: &[u8],
+    number: u64,
+    n: Numbers,
+    names: &mut [u64],
+    arities: &[u64],
+    listings: &mut [u64],
+    table: &mut [u64],
+    work: &mut [u64],
+) -> Said
+    requires { ⌜ VariantReady (now line) n (now names) (now arities) (now listings) (now table) (now work) ⌝ }
+    ensures { λ r. ⌜ VariantSays (now (line .entry)) number n (now (names .entry)) (now (arities .entry)) (now (listings .entry)) (now (table .entry)) r (now (names .exit)) (now (listings .exit)) (now (table .exit)) ⌝ }
+{
+    let first = events::next_event(line, VARIANT_WORDS);
+    let event = first.event;
+    let key = events::key_in(event);
+    let at = first.place;
+    let mut out = [0u64; diagram::RESULT_WORDS];
+    let built = read_weight(line, at, key, n, names, arities, &mut out, work);
+    match built {
+        Built::Refused(why) => Said {
+            numbers: n,
+            answer: Answer::Refused(why, number),
+        },
+        Built::Done(rows) => {
+            let head = modelling::add_variant(listings, table, n.head, &out, rows);
+            let counts = name_variant(names, n.counts, key);
+            let mut next = n;
+            next.counts = counts;
             next.head = head;
             Said {
                 numbers: next,
@@ -177,7 +278,7 @@ fn draw_truth(
 ) -> Built
     requires { ⌜ Drawable (now line) at (now names) (now arities) (truthScope n) (now variables) known (now out) (now work) ⌝ }
     requires { ⌜ n .head .words ≤ listingWords ⌝ }
-    ensures { λ r. ⌜ Draws (now (arities .entry)) (roomed (n .head .words / 3) (lowered (drawn (tableNames (now (names .entry)) (now (arities .entry)) (truthScope n)) (eventsOf (drop at (now (line .entry)))) (keysAt (now (variables .entry)) 0 known)))) r (now (out .exit)) ⌝ }
+    ensures { λ r. ⌜ Draws (now (arities .entry)) (roomed false (n .head .words / 3) (lowered (drawn (tableNames (now (names .entry)) (now (arities .entry)) (truthScope n)) (eventsOf (drop at (now (line .entry)))) (keysAt (now (variables .entry)) 0 known)))) r (now (out .exit)) ⌝ }
 {
     let scope = Scope {
         constants: n.counts.constants,
@@ -187,7 +288,7 @@ fn draw_truth(
     };
     let built = drawing::draw(line, at, names, arities, scope, variables, known, out, work);
     let low = lower(built, arities, out);
-    room(low, n.head.words)
+    room(low, false, n.head.words)
 }
 
 // Reads what stands behind the predicate p of a (becomes (p ?a ..) DIAGRAM), and lists the diagram in the result buffer.
