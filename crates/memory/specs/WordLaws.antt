@@ -13,10 +13,12 @@ use Rattle.text.specs.Line.{keyword, wordsBytes}
 use Rattle.events.specs.declared.Event.{Event}
 use Rattle.events.specs.declared.Event.the-variants.{Name, Variable, Parameter, Number, Equal, Holds, Step, End}
 use Rattle.events.specs.declared.Seen.{Seen}
+use Rattle.events.specs.declared.Next.{Next}
 use Rattle.events.specs.Events.{firstWord}
 use Rattle.events.specs.Front.{pickSeen, isIf, atomFront, numberFront, frontOf, nextAt, isEnd, eventsOf}
-use Rattle.events.specs.FrontLaws.{next-end, next-more}
+use Rattle.events.specs.FrontLaws.{next-end, next-more, next-moves}
 use Rattle.events.specs.Contents.{wordAt}
+use Rattle.session.specs.Replies.{wordsOf}
 use Rattle.memory.specs.Memory.{LineOf}
 
 -- the end takes no byte
@@ -85,10 +87,26 @@ first-behind : (es : List Event) → wordAt (drop 1 es) 0 ≡ wordAt es 1
 first-behind [] = refl
 first-behind (e ∷ es) = refl
 
--- the second word
-pub second-word : (s : List ℕ) (i : ℕ) → nextAt s (nextAt s i .place) .event ≡ wordAt (eventsOf (drop i s)) 1
+second-word : (s : List ℕ) (i : ℕ) → nextAt s (nextAt s i .place) .event ≡ wordAt (eventsOf (drop i s)) 1
 second-word s i =
     next-word s (nextAt s i .place) ∙ (ap (λ es. wordAt es 0) (next-drops s i) ∙ first-behind (eventsOf (drop i s)))
+
+-- the same in the words of code that reads a line of the kind k: i is the place of its first word, x what stands there
+module _ (k : Kind) (s : List ℕ) {i : ℕ} {x : Next} (p : i ≡ firstWord k) (q : x ≡ nextAt s i) where
+  pub first-is : x .event ≡ wordAt (wordsOf k s) 0
+  first-is = ap (λ (y : Next). y .event) q ∙ (ap (λ j. nextAt s j .event) p ∙ next-word s (firstWord k))
+
+  starts : x .place ≡ nextAt s (firstWord k) .place
+  starts = ap (λ (y : Next). y .place) q ∙ ap (λ j. nextAt s j .place) p
+
+  pub rest-is : eventsOf (drop (x .place) s) ≡ drop 1 (wordsOf k s)
+  rest-is = ap (λ j. eventsOf (drop j s)) starts ∙ next-drops s (firstWord k)
+
+  pub second-is : {y : Next} → y ≡ nextAt s (x .place) → y .event ≡ wordAt (wordsOf k s) 1
+  second-is e = ap (λ (z : Next). z .event) e ∙ (ap (λ j. nextAt s j .event) starts ∙ second-word s (firstWord k))
+
+  pub second-in : firstWord k ≤ length s → x .place ≤ length s
+  second-in h = omega (arith, starts, next-moves s (firstWord k) h .0)
 
 -- a line goes on behind its key word
 pub line-begins : {k : Kind} {s : List ℕ} → LineOf k s → firstWord k ≤ length s
