@@ -2,7 +2,7 @@
 use mathlib.Core.Path.{_≡_, refl, sym, ap, ap₂, subst, _∙_}
 use mathlib.Core.Bool.{Bool, true, false, not, _||_}
 use mathlib.Core.List.{List, [], _∷_, _++_}
-use Prim.Native.Nat.{ℕ, _/_, _≤_, _<_}
+use Prim.Native.Nat.{ℕ, _/_, _<_}
 use native.Mathlib.Omega.{arith}
 use lib.Dec.{ltb, leb}
 use lib.ListN.{length, drop}
@@ -14,10 +14,8 @@ use Rattle.words.specs.declared.Key.{Key}
 use Rattle.names.specs.Keys.{isAmong}
 use Rattle.names.specs.Layout.{actionsAt, parametersAt}
 use Rattle.names.specs.KeyLaws.{length-keys}
-use Rattle.regress.specs.Calls.{Outcome, ok, refused}
+use Rattle.regress.specs.Calls.{Outcome, ok}
 use Rattle.mdp.specs.Model.{mostActions}
-use Rattle.mdp.specs.Runs.{Held}
-use Rattle.text.specs.declared.Kind.{Kind}
 use Rattle.text.specs.declared.Kind.the-variants.{Constant, Predicate, Total, Discount, Action}
 use Rattle.events.specs.declared.Next.{Next}
 use Rattle.events.specs.Events.{firstWord}
@@ -25,21 +23,20 @@ use Rattle.events.specs.Front.{nextAt, eventsOf}
 use Rattle.events.specs.Contents.{keyIn, numberIn, wordAt, keysIn}
 use Rattle.answers.specs.declared.Answer.the-variants.{Refused as RefusedAs, Nothing}
 use Rattle.session.specs.declared.Part.the-variants.{Run}
-use Rattle.session.specs.Session.{Names, Session, refuseIf}
+use Rattle.session.specs.Session.{Names, refuseIf}
 use Rattle.session.specs.Declaring.{Vocabulary, constantLine, predicateLine, isTotal, totalLine, isDiscount, discountLine, repeated, actionLine}
-use Rattle.session.specs.Replies.{withNames, withVocabulary, withTotal, withDiscount, withAction, quietly, done, wordsOf}
+use Rattle.session.specs.Replies.{withNames, withVocabulary, withTotal, withDiscount, withAction, done, wordsOf}
 use Rattle.declare.specs.declared.Counts.{Counts}
 use Rattle.declare.specs.declared.Declared.{Declared}
 use Rattle.declare.specs.declared.Declared.the-variants.{Done, Refused}
-use Rattle.declare.specs.Tables.{namesOf, GoodNames, Named, Naming, vocabularyOf, GoodVocabulary, Worded, Wording}
+use Rattle.declare.specs.Tables.{namesOf, Named, Naming, vocabularyOf, GoodVocabulary, Worded, Wording}
 use Rattle.facts.specs.Words.{liveOf}
 use Rattle.model.specs.declared.Head.{Head}
 use Rattle.model.specs.Layout.{modelOf}
-use Rattle.modelling.specs.Building.{Building, moreActions, withActions, newAction, ActionRoom, ActionAdded, Spanned}
+use Rattle.modelling.specs.Building.{Building, withActions, newAction, ActionRoom, ActionAdded}
 use Rattle.planner.specs.Run.{heldIn}
 use Rattle.memory.specs.declared.Numbers.{Numbers}
-use Rattle.memory.specs.declared.Said.{Said}
-use Rattle.memory.specs.Memory.{Memory, memoryOf, sessionOf, Stored, Ready, Answers}
+use Rattle.memory.specs.Memory.{Memory, memoryOf, sessionOf, Stored}
 use Rattle.memory.specs.WordLaws.{first-is, second-is, rest-is}
 use Rattle.memory.specs.QuietLaws.{quiet-refused, quiet-done, no-run}
 use Rattle.declaration_lines.specs.Lines.{withTables, withWeights, ForAction, ConstantSays, PredicateSays, TotalSays, DiscountSays, ActionSays}

@@ -1,7 +1,7 @@
 -- What the function of a line that declares needs, and what it promises whatever stands in the words that it is not lent
 -- (document 01, sections 'Text' and 'Refusals by trade word').
 use mathlib.Core.Path.{_≡_}
-use mathlib.Core.Bool.{Bool, true}
+use mathlib.Core.Bool.{Bool}
 use mathlib.Core.List.{List}
 use Prim.Native.Nat.{ℕ, _*_, _≤_}
 use lib.ListN.{length}

@@ -23,7 +23,7 @@ use Rattle.facts.specs.declared.Told.the-variants.{Done, Refused}
 use Rattle.facts.specs.declared.Tuple.{Tuple}
 use Rattle.facts.specs.Words.{liveOf, GoodLive, Lives, Living, TupleOf, Telling}
 use Rattle.memory.specs.declared.Numbers.{Numbers}
-use Rattle.memory.specs.Memory.{memoryOf, sessionOf, Stored, Ready, Answers}
+use Rattle.memory.specs.Memory.{memoryOf, sessionOf, Stored, Answers}
 use Rattle.memory.specs.WordLaws.{first-is, second-is, rest-is}
 use Rattle.memory.specs.QuietLaws.{quiet-refused, quiet-done}
 use Rattle.state_lines.specs.Lines.{withState, ObjectsSays, IsSays, TrueSays}
