@@ -19,6 +19,7 @@ use Rattle.events.specs.Front.{pickSeen, isIf, atomFront, numberFront, frontOf,
 use Rattle.events.specs.FrontLaws.{next-end, next-more, next-moves}
 use Rattle.events.specs.Contents.{wordAt}
 use Rattle.session.specs.Replies.{wordsOf}
+use Rattle.facts.specs.Words.{mostBytes}
 use Rattle.memory.specs.Memory.{LineOf}
 
 -- the end takes no byte
@@ -114,6 +115,6 @@ line-begins {k} {s} l =
     let w = wordsBytes k (l .words) in
     omega (arith, ap length (l .bytes), length-append (keyword k) (w ++ 41 ∷ []), length-append w (41 ∷ []))
 
--- 'at most 4,095 bytes'
-pub line-ends : {k : Kind} {s : List ℕ} → LineOf k s → length s ≤ 4095
+-- and has not too many bytes
+pub line-ends : {k : Kind} {s : List ℕ} → LineOf k s → length s ≤ mostBytes
 line-ends {k} {s} l = omega (arith, ap length (l .bytes), l .good .2)

@@ -1,7 +1,6 @@
 -- What each function needs, from what a dispatch over all kinds of lines has.
 use mathlib.Core.List.{List}
 use Prim.Native.Nat.{ℕ}
-use native.Mathlib.Omega.{arith}
 use Rattle.text.specs.declared.Kind.the-variants.{Objects, Is, True}
 use Rattle.memory.specs.declared.Numbers.{Numbers}
 use Rattle.memory.specs.Memory.{memoryOf, Ready}
@@ -18,7 +17,7 @@ module _ {s : List ℕ} {n : Numbers} {names arities listings table state value 
   pub for-true : Ready True s n (memoryOf names arities listings table state value) → ForTrue s n names arities state
   for-true r = record {
     begins = line-begins (r .line);
-    ends = omega (arith, line-ends (r .line));
+    ends = line-ends (r .line);
     good = r .stored .vocabulary;
     live = r .stored .live;
   }

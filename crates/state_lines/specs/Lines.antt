@@ -1,13 +1,13 @@
 -- What the function of a line of the state needs, and what it promises whatever stands in the words that it is not lent
 -- (document 01, sections 'Text' and 'States and value').
 use mathlib.Core.List.{List}
-use Prim.Native.Nat.{ℕ, _≤_, _<_}
+use Prim.Native.Nat.{ℕ, _≤_}
 use lib.ListN.{length}
 use Rattle.text.specs.declared.Kind.the-variants.{Objects, Is, True}
 use Rattle.events.specs.Events.{firstWord}
 use Rattle.declare.specs.Tables.{GoodNames, GoodVocabulary}
 use Rattle.facts.specs.declared.Live.{Live}
-use Rattle.facts.specs.Words.{stateWords, GoodLive}
+use Rattle.facts.specs.Words.{stateWords, mostBytes, GoodLive}
 use Rattle.memory.specs.declared.Numbers.{Numbers}
 use Rattle.memory.specs.declared.Said.{Said}
 use Rattle.memory.specs.Memory.{memoryOf, Ready, Answers}
@@ -50,7 +50,7 @@ pub record IsSays (s : List ℕ) (number : ℕ) (n : Numbers) (names state : Lis
 
 pub record ForTrue (s : List ℕ) (n : Numbers) (names arities state : List ℕ) : Type 0 where
   pub begins : firstWord True ≤ length s
-  pub ends : length s < 4096
+  pub ends : length s ≤ mostBytes
   pub good : GoodVocabulary names arities (n .counts)
   pub live : GoodLive state (n .live)
 
