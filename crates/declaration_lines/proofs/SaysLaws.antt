@@ -221,15 +221,15 @@ passed : {A : Type 0} (b : Bool) (why : Refusal) (o : Outcome A) {a : A} → ref
 passed true why o e = let z : _≡_ {A = ℕ} 0 1 = cc in absurd (omega arith)
 passed false why o e = (refl, e)
 
-neither : (a b : Bool) → (a || b) ≡ false → b ≡ false
-neither true b e = let z : _≡_ {A = ℕ} 0 1 = cc in absurd (omega arith)
-neither false b e = e
+or-false-other : (a b : Bool) → (a || b) ≡ false → b ≡ false
+or-false-other true b e = let z : _≡_ {A = ℕ} 0 1 = cc in absurd (omega arith)
+or-false-other false b e = e
 
 few-actions : (m : Names) (k : Key) (ps : List Key) {r : Names} → actionLine m k ps ≡ ok r → length (m .actions) < mostActions
 unfolding actionLine
 few-actions m k ps e =
     let f = passed (ltb parameterCount (length ps) || leb mostActions (length (m .actions))) Space _ (passed (isAmong k (m .actions) || repeated [] ps) Name _ e .1) .0 in
-    leb-false mostActions (length (m .actions)) (neither (ltb parameterCount (length ps)) _ f)
+    leb-false mostActions (length (m .actions)) (or-false-other (ltb parameterCount (length ps)) _ f)
 
 module _ (s : List ℕ) (n : Numbers) {names names′ : List ℕ} {i : ℕ} {x : Next} {k : Key} {d : Declared} (p : i ≡ firstWord Action) (q : x ≡ nextAt s i) (u : k ≡ keyIn (x .event))
     (g : Naming (actionLine (namesOf names (n .counts)) k (keysIn (eventsOf (drop (x .place) s)))) names d names′) where
