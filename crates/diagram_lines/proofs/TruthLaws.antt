@@ -2,13 +2,12 @@
 use mathlib.Core.Path.{_≡_, refl, sym, ap, subst, _∙_}
 use mathlib.Core.Bool.{Bool, true, false}
 use mathlib.Core.List.{List}
-use Prim.Native.Nat.{ℕ, _+_, _*_, _-_, _/_, _≤_, _<_}
+use Prim.Native.Nat.{ℕ, _+_, _*_, _/_, _≤_, _<_}
 use native.Mathlib.Omega.{arith}
 use lib.ListN.{length, getD, take, drop}
 use lib.Seq.{length-take-le}
-use lib.Dec.{ltb}
 use Rattle.refusal.specs.declared.Refusal.{Refusal}
-use Rattle.refusal.specs.declared.Refusal.the-variants.{Name, Truth, Space}
+use Rattle.refusal.specs.declared.Refusal.the-variants.{Name, Truth}
 use Rattle.label.specs.Limits.{variableCount, predicateCount}
 use Rattle.diagram.specs.Sizes.{resultWords}
 use Rattle.diagram.specs.Diagram.{Diagram}
@@ -24,7 +23,7 @@ use Rattle.text.specs.declared.Kind.the-variants.{Becomes}
 use Rattle.text.specs.Line.{lineBytes}
 use Rattle.text.specs.Line.Line.{line}
 use Rattle.events.specs.declared.Event.{Event}
-use Rattle.events.specs.Events.{firstWord, diagramEvents}
+use Rattle.events.specs.Events.{diagramEvents}
 use Rattle.events.specs.Front.{eventsOf}
 use Rattle.names.specs.Keys.{keysAt}
 use Rattle.names.specs.Layout.{declaredAt}
@@ -33,29 +32,27 @@ use Rattle.reading.specs.declared.Opened.{Opened}
 use Rattle.reading.specs.declared.Opened.the-variants as P
 use Rattle.reading.specs.declared.Headed.{Headed}
 use Rattle.reading.specs.declared.Headed.the-variants as H
-use Rattle.reading.specs.Reading.{Judged, Written, reading}
+use Rattle.reading.specs.Reading.{Judged}
 use Rattle.reading.specs.Reading.Judged.{fine, refused as judged}
 use Rattle.reading.specs.Head.{Head, headNumber, headArguments, headKeys}
-use Rattle.reading.specs.Callers.{namesOf as tableNames, Variables, judgedPredicate, PredicateWithin, Opens, judgedHead, HeadWithin, Heads}
+use Rattle.reading.specs.Callers.{namesOf as tableNames, judgedPredicate, PredicateWithin, Opens, judgedHead, HeadWithin, Heads}
 use Rattle.reading.specs.LineLaws.{becomes-arguments}
-use Rattle.reading.specs.JudgedLaws.{fine-one, Chain, chained}
+use Rattle.reading.specs.JudgedLaws.{fine-one, chained}
 use Rattle.reading.specs.ArityLaws.{arity-most, arity-words}
 use Rattle.build.specs.declared.Built.{Built}
 use Rattle.build.specs.declared.Built.the-variants.{Done, Refused}
 use Rattle.build.specs.Writing.{builtAs}
-use Rattle.build.specs.Machine.{built}
 use Rattle.session.specs.Session.{Names}
-use Rattle.session.specs.Modelling.{outcomeOf, namesFor, isSome, truthRead, truthsNow}
+use Rattle.session.specs.Modelling.{outcomeOf, namesFor, isSome, truthsNow}
 use Rattle.session.specs.Replies.{wordsOf}
 use Rattle.declare.specs.Tables.{namesOf, GoodNames}
-use Rattle.planner.specs.PartLaws.{then-then, then-same}
-use Rattle.model.specs.Layout.{listingWords, modelOf}
+use Rattle.model.specs.Layout.{modelOf}
 use Rattle.modelling.specs.Building.{TruthRoom, HasTruth}
 use Rattle.memory.specs.declared.Numbers.{Numbers}
 use Rattle.memory.specs.Memory.{LineOf}
-use Rattle.drawing.specs.Drawing.{drawn, DiagramAt, Drawable, Draws}
+use Rattle.drawing.specs.Drawing.{drawn, Drawable, Draws}
 use Rattle.diagram_lines.specs.Lines.{roomed, pickBuilt, roomedAs, lowered, loweredAs, BuiltIn, truthNumber, truthOf, Lent, truthScope, VariantOpen, TruthOpens}
-use Rattle.diagram_lines.proofs.RoomLaws.{unlike, draws-room, draws-none, Drew, draws-refused, draws-done, drew-words, drew-diagram, drew-room}
+use Rattle.diagram_lines.proofs.RoomLaws.{unlike, draws-room, draws-none, draws-refused, draws-done, drew-words, drew-diagram, drew-room}
 use Rattle.diagram_lines.proofs.LineLaws.{line-short, tables-of}
 
 -- ===== 7 =====

@@ -2,7 +2,7 @@
 use mathlib.Core.Path.{_≡_, refl, sym, ap, ap₂, subst, _∙_}
 use mathlib.Core.Bool.{Bool, true, false}
 use mathlib.Core.List.{List, [], _∷_, _++_}
-use Prim.Native.Nat.{ℕ, _+_, _*_, _-_, _/_, _≤_, _<_}
+use Prim.Native.Nat.{ℕ, _+_, _*_, _/_, _≤_, _<_}
 use native.Mathlib.Omega.{arith}
 use borrow.Author.Tests.{leb-false}
 use lib.ListN.{length, drop, replicate}
@@ -17,11 +17,9 @@ use Rattle.regress.specs.Calls.{Outcome, ok, refused, andThen, pickOutcome}
 use Rattle.mdp.specs.Model.{mostVariants}
 use Rattle.words.specs.declared.Key.{Key}
 use Rattle.text.specs.declared.Kind.the-variants.{Variant}
-use Rattle.text.specs.Line.{lineBytes}
-use Rattle.text.specs.Line.Line.{line}
 use Rattle.events.specs.declared.Event.{Event}
 use Rattle.events.specs.declared.Next.{Next}
-use Rattle.events.specs.Events.{firstWord, nameEvent, diagramEvents}
+use Rattle.events.specs.Events.{nameEvent, diagramEvents}
 use Rattle.events.specs.Contents.{keyIn, wordAt}
 use Rattle.events.specs.Front.{nextAt, eventsOf}
 use Rattle.events.specs.FrontLaws.{next-moves}
@@ -32,7 +30,7 @@ use Rattle.names.specs.KeyLaws.{length-keys, among-at, among-none, keys-same, l
 use Rattle.reading.specs.declared.Binding.the-variants.{None}
 use Rattle.reading.specs.Reading.{Written, reading}
 use Rattle.reading.specs.Callers.{namesOf as tableNames}
-use Rattle.reading.specs.LineLaws.{Splits, next-splits}
+use Rattle.reading.specs.LineLaws.{next-splits}
 use Rattle.build.specs.declared.Built.{Built}
 use Rattle.build.specs.declared.Built.the-variants.{Done, Refused}
 use Rattle.build.specs.Machine.{built}
@@ -41,7 +39,7 @@ use Rattle.session.specs.Session.{Names}
 use Rattle.session.specs.Modelling.{namesFor, outcomeOf, addVariant, weightRead, withVariant, variantLine}
 use Rattle.session.specs.Replies.{done, quietly, wordsOf}
 use Rattle.declare.specs.declared.Counts.{Counts}
-use Rattle.declare.specs.Tables.{namesOf, GoodNames, GoodVocabulary}
+use Rattle.declare.specs.Tables.{namesOf, GoodNames}
 use Rattle.declare.proofs.TableLaws.{names-ext}
 use Rattle.facts.specs.Words.{liveOf}
 use Rattle.planner.specs.PartLaws.{then-then}
@@ -50,11 +48,11 @@ use Rattle.model.specs.declared.Head.{Head}
 use Rattle.model.specs.Layout.{modelOf}
 use Rattle.modelling.specs.Building.{withActions, newVariant, RowsRoom, VariantRoom, VariantAdded}
 use Rattle.memory.specs.declared.Numbers.{Numbers}
-use Rattle.memory.specs.Memory.{Memory, memoryOf, sessionOf, LineOf, Stored, Ready}
+use Rattle.memory.specs.Memory.{Memory, memoryOf, sessionOf, LineOf, Ready}
 use Rattle.drawing.specs.Drawing.{drawn, Drawable, Draws}
 use Rattle.diagram_lines.specs.Lines.{roomed, roomedAs, Lent, weightScope, WeightAt, moreVariants, VariantNamed, VariantReady, VariantSays}
-use Rattle.diagram_lines.proofs.RoomLaws.{unlike, Roomed, roomed-ok, draws-room, draws-none, Drew, draws-refused, draws-done, drew-diagram, drew-canonical, drew-room}
-use Rattle.diagram_lines.proofs.LineLaws.{line-short, tables-of, no-keys, fresh-variables, line-refused, line-accepted, not-run}
+use Rattle.diagram_lines.proofs.RoomLaws.{unlike, roomed-ok, draws-room, draws-none, Drew, draws-refused, draws-done, drew-diagram, drew-canonical, drew-room}
+use Rattle.diagram_lines.proofs.LineLaws.{line-short, tables-of, no-keys, fresh-variables, line-refused, line-accepted, numbersWith, Grown, grown-stored}
 
 -- ===== Its name, and the place behind it =====
 
@@ -192,19 +190,6 @@ named-good {s} {t} {n} {c} p g = subst (λ (z : List ℕ). GoodNames z c) (sym (
 
 -- ===== Answered =====
 
--- the numbers behind an accepted variant: the counts c, and the head h
-abbrev pub variantNumbers : Numbers → Counts → Head → Numbers
-variantNumbers n c h = record {
-  part = n .part;
-  total = n .total;
-  discount = n .discount;
-  reward = n .reward;
-  counts = c;
-  head = h;
-  live = n .live;
-  held = n .held;
-}
-
 variant-done : (s : List ℕ) (number : ℕ) (n : Numbers) (w : Memory)
     → done (sessionOf n w) number Variant (wordsOf Variant s)
     ≡ quietly (sessionOf n w) number (λ τ. τ)
@@ -278,7 +263,7 @@ module _ (s : List ℕ) (n : Numbers) (names ar listings table : List ℕ) {k : 
           rows-are : h .words / 3 ≡ n .head .words / 3 + length (rows (D .diagram))
           rows-are = omega (arith, used-are, D .count)
 
-          session-is : sessionOf (variantNumbers n c h) After ≡ withVariant (sessionOf n Before) k (D .diagram)
+          session-is : sessionOf (numbersWith n (n .reward) c h) After ≡ withVariant (sessionOf n Before) k (D .diagram)
           unfolding sessionOf withVariant
           session-is = λ i. record {
             part = n .part;
@@ -290,27 +275,20 @@ module _ (s : List ℕ) (n : Numbers) (names ar listings table : List ℕ) {k : 
             held = heldIn (n .held) value;
           }
 
-          stored-is : Stored (variantNumbers n c h) After
-          stored-is = record {
-            vocabulary = record {
-              names = named-good p (names-good names (n .counts) k (y .lent .vocabulary .names) variant-few);
-              arities = y .lent .vocabulary .arities;
-            };
+          grown : Grown n ar listings names′ listings′ table′ (n .reward) c h m
+          grown = record {
+            vocabulary = record { names = named-good p (names-good names (n .counts) k (y .lent .vocabulary .names) variant-few); arities = y .lent .vocabulary .arities };
             building = a .building (q .stored .building) (drew-canonical D);
-            listing-room = omega (arith, l, q .stored .listing-room);
-            whole = omega (arith, used-are, y .listed .whole);
+            size = l;
+            words = used-are;
             reward = λ u z. q .stored .reward u (sym (ap (λ (g : Head). g .«reward_words») (a .answer)) ∙ z);
-            live = q .stored .live;
-            value-room = q .stored .value-room;
-            value-rows = q .stored .value-rows;
-            holding = λ u. absurd (not-run Variant q refl u);
           }
 
         pub variant-accepted : (number : ℕ)
-            → VariantSays s number n names ar listings table (record { numbers = variantNumbers n c h; answer = A.Nothing }) names′ listings′ table′
+            → VariantSays s number n names ar listings table (record { numbers = numbersWith n (n .reward) c h; answer = A.Nothing }) names′ listings′ table′
         variant-accepted number = record {
           says = λ state value q.
               line-accepted number q (line-is number state value)
               (ap (λ (o : Outcome Diagram). andThen o (λ z. ok (withVariant (sessionOf n (memoryOf names ar listings table state value)) k z))) (D .is))
-              (session-is state value q) (stored-is state value q);
+              (session-is state value q) (grown-stored q refl (grown state value q));
         }
