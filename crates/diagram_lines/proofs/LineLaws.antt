@@ -1,16 +1,17 @@
 -- Laws that the lines share: where a diagram stands on a line, what is lent to draw it, and the session behind a line that prints nothing.
 use mathlib.Core.Path.{_≡_, refl, sym, ap, subst, _∙_}
 use mathlib.Core.Bool.{Bool, true}
-use mathlib.Core.List.{List, []}
+use mathlib.Core.List.{List, [], _∷_, _++_}
 use Prim.Native.Nat.{ℕ, _+_, _*_, _≤_}
 use native.Mathlib.Omega.{arith}
-use lib.ListN.{length, replicate, length-replicate}
+use lib.ListN.{length, replicate, length-append, length-replicate}
 use Rattle.refusal.specs.declared.Refusal.{Refusal}
 use Rattle.refusal.specs.declared.Refusal.the-variants.{Place}
 use Rattle.label.specs.Limits.{variableCount}
 use Rattle.regress.specs.Calls.{Outcome, ok, refused}
 use Rattle.text.specs.declared.Kind.{Kind}
-use Rattle.text.specs.Line.Line.{line}
+use Rattle.text.specs.Line.{keyword, wordsBytes}
+use Rattle.events.specs.Events.{firstWord}
 use Rattle.names.specs.Many.{many}
 use Rattle.names.specs.Keys.{keysAt}
 use Rattle.reading.specs.declared.Binding.{Binding}
@@ -34,6 +35,12 @@ use Rattle.diagram_lines.proofs.RoomLaws.{unlike}
 
 pub line-short : {k : Kind} {s : List ℕ} → LineOf k s → length s ≤ 4095
 line-short l = subst (λ (x : List ℕ). length x ≤ 4095) (sym (l .bytes)) (l .good .2)
+
+-- its first word stands on the line
+pub line-begins : {k : Kind} {s : List ℕ} {i : ℕ} → LineOf k s → i ≡ firstWord k → i ≤ length s
+line-begins {k} {s} l e =
+    let w : List ℕ = wordsBytes k (l .words) in
+    omega (arith, e, ap length (l .bytes), length-append (keyword k) (w ++ 41 ∷ []), length-append w (41 ∷ []))
 
 -- the names of a session, the parameters of an action counted or not
 pub tables-of : {names ar : List ℕ} {n : Counts} (m : ℕ) (b : Binding) → GoodVocabulary names ar n → m ≤ n .parameters

@@ -42,7 +42,7 @@ use Rattle.memory.specs.Memory.{Memory, memoryOf, sessionOf, Ready}
 use Rattle.drawing.specs.Drawing.{drawnClosed, DiagramAt, Drawable, Draws}
 use Rattle.diagram_lines.specs.Lines.{roomed, roomedAs, Lent, RewardReady, RewardSays}
 use Rattle.diagram_lines.proofs.RoomLaws.{roomed-ok, draws-room, Drew, draws-refused, draws-done, drew-diagram, drew-canonical, drew-some, drew-room}
-use Rattle.diagram_lines.proofs.LineLaws.{line-short, tables-of, no-keys, fresh-variables, line-refused, line-accepted, numbersWith, Grown, grown-stored}
+use Rattle.diagram_lines.proofs.LineLaws.{line-short, line-begins, tables-of, no-keys, fresh-variables, line-refused, line-accepted, numbersWith, Grown, grown-stored}
 
 -- ===== Read =====
 
@@ -63,15 +63,12 @@ module _ {s : List ℕ} {n : Numbers} {names ar work : List ℕ} (x : Lent Rewar
     shallow = omega (arith, x .line .good .1);
   }
 
-  reward-long : firstWord Reward ≤ length s
-  reward-long = subst (λ (z : List ℕ). firstWord Reward ≤ length z) (sym (x .line .bytes)) (omega arith)
-
-  pub reward-drawable : {out : List ℕ} (m : ℕ) → (variableCount + 1) * 2 ≤ m → resultWords ≤ length out
-      → Drawable s 8 names ar (rewardScope n) (replicate m 0) 0 out work
-  reward-drawable m h l = record {
+  pub reward-drawable : {out : List ℕ} {at : ℕ} (m : ℕ) → (variableCount + 1) * 2 ≤ m → at ≡ firstWord Reward → resultWords ≤ length out
+      → Drawable s at names ar (rewardScope n) (replicate m 0) 0 out work
+  reward-drawable m h e l = record {
     short = line-short (x .line);
-    within = reward-long;
-    there = reward-there;
+    within = line-begins (x .line) e;
+    there = subst (DiagramAt s) (sym e) reward-there;
     tables = tables-of 0 Any (x .vocabulary) (omega arith);
     variables = fresh-variables m 0 h (omega arith);
     out-room = l;
@@ -79,14 +76,17 @@ module _ {s : List ℕ} {n : Numbers} {names ar work : List ℕ} (x : Lent Rewar
   }
 
   -- `read_reward`
-  pub reward-reads : (vs : List ℕ) {out : List ℕ} {b r : Built} → Draws ar (drawnClosed (tableNames names ar (rewardScope n)) (eventsOf (drop 8 s)) (keysAt vs 0 0)) b out
-      → r ≡ roomedAs false (n .head .words / 3) b
+  pub reward-reads : (vs : List ℕ) {out : List ℕ} {at : ℕ} {b r : Built} → at ≡ firstWord Reward
+      → Draws ar (drawnClosed (tableNames names ar (rewardScope n)) (eventsOf (drop at s)) (keysAt vs 0 0)) b out → r ≡ roomedAs false (n .head .words / 3) b
       → Draws ar (rewardRead (namesOf names (n .counts)) ar (n .head .words / 3) (wordsOf Reward s)) r out
   unfolding namesOf
-  reward-reads vs {out} {b} {r} d e =
-      let q : List Key → List Key → Outcome Diagram
-      = λ ps ks. drawnClosed (namesFor (namesOf names (n .counts)) ar Any ps) (eventsOf (drop 8 s)) ks in
-      let y : q (keysAt names parametersAt 0) (keysAt vs 0 0) ≡ q [] [] = ap (λ (ps : List Key). q ps (keysAt vs 0 0)) (no-keys names parametersAt) ∙ ap (q []) (no-keys vs 0) in
+  reward-reads vs {out} {at} {b} {r} f d e =
+      let q : ℕ → List Key → List Key → Outcome Diagram
+      = λ i ps ks. drawnClosed (namesFor (namesOf names (n .counts)) ar Any ps) (eventsOf (drop i s)) ks in
+      let y : q at (keysAt names parametersAt 0) (keysAt vs 0 0) ≡ q (firstWord Reward) [] []
+      = ap (λ (i : ℕ). q i (keysAt names parametersAt 0) (keysAt vs 0 0)) f
+      ∙ ap (λ (ps : List Key). q (firstWord Reward) ps (keysAt vs 0 0)) (no-keys names parametersAt)
+      ∙ ap (q (firstWord Reward) []) (no-keys vs 0) in
       subst (λ (o : Outcome Diagram). Draws ar o r out) (sym (reward-drawn (namesOf names (n .counts)) ar (n .head .words / 3) (wordsOf Reward s)))
       (draws-room false (n .head .words / 3) (subst (λ (o : Outcome Diagram). Draws ar o b out) y d) e)
 

@@ -19,7 +19,7 @@ use Rattle.words.specs.declared.Key.{Key}
 use Rattle.text.specs.declared.Kind.the-variants.{Variant}
 use Rattle.events.specs.declared.Event.{Event}
 use Rattle.events.specs.declared.Next.{Next}
-use Rattle.events.specs.Events.{nameEvent, diagramEvents}
+use Rattle.events.specs.Events.{firstWord, nameEvent, diagramEvents}
 use Rattle.events.specs.Contents.{keyIn, wordAt}
 use Rattle.events.specs.Front.{nextAt, eventsOf}
 use Rattle.events.specs.FrontLaws.{next-moves}
@@ -52,7 +52,7 @@ use Rattle.memory.specs.Memory.{Memory, memoryOf, sessionOf, LineOf, Ready}
 use Rattle.drawing.specs.Drawing.{drawn, Drawable, Draws}
 use Rattle.diagram_lines.specs.Lines.{roomed, roomedAs, Lent, weightScope, WeightAt, moreVariants, VariantNamed, VariantReady, VariantSays}
 use Rattle.diagram_lines.proofs.RoomLaws.{unlike, roomed-ok, draws-room, draws-none, Drew, draws-refused, draws-done, drew-diagram, drew-canonical, drew-room}
-use Rattle.diagram_lines.proofs.LineLaws.{line-short, tables-of, no-keys, fresh-variables, line-refused, line-accepted, numbersWith, Grown, grown-stored}
+use Rattle.diagram_lines.proofs.LineLaws.{line-short, line-begins, tables-of, no-keys, fresh-variables, line-refused, line-accepted, numbersWith, Grown, grown-stored}
 
 -- ===== Its name, and the place behind it =====
 
@@ -65,19 +65,16 @@ module _ {s : List ℕ} (l : LineOf Variant s) where
   words-are : wordsOf Variant s ≡ nameEvent (l .words .0) ∷ diagramEvents (l .words .1)
   words-are = ap (wordsOf Variant) (l .bytes) ∙ line-events Variant (l .words) (l .good .0)
 
-  pub variant-start : 9 ≤ length s
-  variant-start = subst (λ (z : List ℕ). 9 ≤ length z) (sym (l .bytes)) (omega arith)
-
-  pub variant-named : {x : Next} {k : Key} → x ≡ nextAt s 9 → k ≡ keyIn (x .event) → NamedAt s k (x .place)
-  variant-named {x} {k} p q =
-      let y = next-splits s 9 (nameEvent (l .words .0)) (diagramEvents (l .words .1)) words-are in
+  pub variant-named : {x : Next} {k : Key} {i : ℕ} → i ≡ firstWord Variant → x ≡ nextAt s i → k ≡ keyIn (x .event) → NamedAt s k (x .place)
+  variant-named {x} {k} {i} f p q =
+      let y = next-splits s i (nameEvent (l .words .0)) (diagramEvents (l .words .1)) (ap (λ (j : ℕ). eventsOf (drop j s)) f ∙ words-are) in
       let e : x .event ≡ nameEvent (l .words .0) = ap (λ (z : Next). z .event) p ∙ y .event in
       let r : eventsOf (drop (x .place) s) ≡ diagramEvents (l .words .1) = ap (λ (z : Next). eventsOf (drop (z .place) s)) p ∙ y .rest in
       record {
         key = ap (λ (es : List Event). keyIn (wordAt es 0)) words-are ∙ sym (q ∙ ap keyIn e);
         rest = ap (drop 1) words-are ∙ sym r;
         weight = record {
-          within = subst (λ (z : Next). z .place ≤ length s) (sym p) (next-moves s 9 variant-start .0);
+          within = subst (λ (z : Next). z .place ≤ length s) (sym p) (next-moves s i (line-begins l f) .0);
           there = record { diagram = l .words .1; events = r; shallow = omega (arith, l .good .1) };
         };
       }
