@@ -184,7 +184,7 @@ module _ (s : List ℕ) (n : Numbers) (names ar listings table : List ℕ) where
           abbrev D : Drew ar (O p) k out
           D = draws-done d f
 
-          few : n .head .words / 3 + k ≤ 2048
+          few : n .head .words / 3 + k ≤ mostModelRows
           few = omega (arith, D .count, truth-few (namesOf names (n .counts)) ar p (n .head .words / 3) E (D .is))
 
           pub becomes-room : RowsRoom listings (n .head) out k

@@ -28,7 +28,7 @@ use Rattle.build.specs.declared.Built.the-variants.{Done, Refused}
 use Rattle.build.specs.Machine.{builtClosed}
 use Rattle.answers.specs.declared.Answer.the-variants as A
 use Rattle.session.specs.Session.{Names}
-use Rattle.session.specs.Modelling.{namesFor, outcomeOf, rewardRead, withReward, rewardLine}
+use Rattle.session.specs.Modelling.{mostModelRows, namesFor, outcomeOf, rewardRead, withReward, rewardLine}
 use Rattle.session.specs.Replies.{done, quietly, wordsOf}
 use Rattle.declare.specs.Tables.{namesOf}
 use Rattle.facts.specs.Words.{liveOf}
@@ -115,7 +115,7 @@ module _ (s : List ℕ) (n : Numbers) (names ar listings : List ℕ) where
       abbrev D : Drew ar O k out
       D = draws-done d e
 
-      few : n .head .words / 3 + k ≤ 2048
+      few : n .head .words / 3 + k ≤ mostModelRows
       few =
           omega (
             arith,

@@ -51,7 +51,7 @@ use Rattle.modelling.specs.Building.{TruthRoom, HasTruth}
 use Rattle.memory.specs.declared.Numbers.{Numbers}
 use Rattle.memory.specs.Memory.{LineOf}
 use Rattle.drawing.specs.Drawing.{drawn, Drawable, Draws}
-use Rattle.diagram_lines.specs.Lines.{roomed, pickBuilt, roomedAs, lowered, loweredAs, BuiltIn, truthNumber, truthOf, Lent, truthScope, VariantOpen, TruthOpens}
+use Rattle.diagram_lines.specs.Lines.{roomed, pickBuilt, roomedAs, lowered, loweredAs, BuiltIn, truthNumber, truthOf, Lent, actionScope, VariantOpen, TruthOpens}
 use Rattle.diagram_lines.proofs.RoomLaws.{unlike, draws-room, draws-none, draws-refused, draws-done, drew-words, drew-diagram, drew-room}
 use Rattle.diagram_lines.proofs.LineLaws.{line-short, tables-of}
 
@@ -160,7 +160,7 @@ module _ {s : List ℕ} {n : Numbers} {names ar work : List ℕ} (x : Lent Becom
             sym (ap (λ (g : Head). g .rest) d)
 
         pub read-drawable : {out : List ℕ} → (variableCount + 1) * 2 ≤ length vs → resultWords ≤ length out
-            → Drawable s i names ar (truthScope n) vs (getD ar p 0) out work
+            → Drawable s i names ar (actionScope n Only) vs (getD ar p 0) out work
         read-drawable l m = record {
           short = line-short (x .line);
           within = subst (HeadWithin s) e (h .within);
@@ -172,7 +172,7 @@ module _ {s : List ℕ} {n : Numbers} {names ar work : List ℕ} (x : Lent Becom
         }
 
         pub read-drawn : {out : List ℕ} {b : Built}
-            → Draws ar (roomed false (n .head .words / 3) (lowered (drawn (tableNames names ar (truthScope n)) (eventsOf (drop i s)) (keysAt vs 0 (getD ar p 0))))) b out
+            → Draws ar (roomed false (n .head .words / 3) (lowered (drawn (tableNames names ar (actionScope n Only)) (eventsOf (drop i s)) (keysAt vs 0 (getD ar p 0))))) b out
             → Draws ar (truthOf (namesOf names (n .counts)) ar p (n .head .words / 3) (wordsOf Becomes s)) b out
         unfolding namesOf
         read-drawn {out} {b} d =

@@ -36,7 +36,7 @@ use Rattle.build.specs.declared.Built.the-variants.{Done, Refused}
 use Rattle.build.specs.Machine.{built}
 use Rattle.answers.specs.declared.Answer.the-variants as A
 use Rattle.session.specs.Session.{Names}
-use Rattle.session.specs.Modelling.{namesFor, outcomeOf, addVariant, weightRead, withVariant, variantLine}
+use Rattle.session.specs.Modelling.{mostModelRows, namesFor, outcomeOf, addVariant, weightRead, withVariant, variantLine}
 use Rattle.session.specs.Replies.{done, quietly, wordsOf}
 use Rattle.declare.specs.declared.Counts.{Counts}
 use Rattle.declare.specs.Tables.{namesOf, GoodNames}
@@ -50,7 +50,7 @@ use Rattle.modelling.specs.Building.{withActions, newVariant, RowsRoom, Variant
 use Rattle.memory.specs.declared.Numbers.{Numbers}
 use Rattle.memory.specs.Memory.{Memory, memoryOf, sessionOf, LineOf, Ready}
 use Rattle.drawing.specs.Drawing.{drawn, Drawable, Draws}
-use Rattle.diagram_lines.specs.Lines.{roomed, roomedAs, Lent, weightScope, WeightAt, moreVariants, VariantNamed, VariantReady, VariantSays}
+use Rattle.diagram_lines.specs.Lines.{roomed, roomedAs, Lent, actionScope, WeightAt, moreVariants, VariantNamed, VariantReady, VariantSays}
 use Rattle.diagram_lines.proofs.RoomLaws.{unlike, roomed-ok, draws-room, draws-none, Drew, draws-refused, draws-done, drew-diagram, drew-canonical, drew-room}
 use Rattle.diagram_lines.proofs.LineLaws.{line-short, line-begins, tables-of, no-keys, fresh-variables, line-refused, line-accepted, numbersWith, Grown, grown-stored}
 
@@ -92,7 +92,7 @@ weight-drawn n ar r k es =
 
 module _ {s : List ℕ} {n : Numbers} {names ar work : List ℕ} (x : Lent Variant s n names ar work) where
   pub weight-drawable : {out : List ℕ} {at : ℕ} (m : ℕ) → (variableCount + 1) * 2 ≤ m → WeightAt s at → resultWords ≤ length out
-      → Drawable s at names ar (weightScope n) (replicate m 0) 0 out work
+      → Drawable s at names ar (actionScope n None) (replicate m 0) 0 out work
   weight-drawable m h w l = record {
     short = line-short (x .line);
     within = w .within;
@@ -118,7 +118,7 @@ module _ {s : List ℕ} {n : Numbers} {names ar work : List ℕ} (x : Lent Varia
         ∙ ap (λ (b : Bool). pickOutcome b (refused Name) (roomed (leb mostVariants (length (namesOf names (n .counts) .variants))) (n .head .words / 3) (drawn (namesFor (namesOf names (n .counts)) ar None (namesOf names (n .counts) .parameters)) (eventsOf (drop at s)) []))) (among-at names variantsAt (n .counts .variants) k p h))
 
     pub weight-reads : (vs : List ℕ) {out : List ℕ} {b r : Built} → n .counts .variants ≤ i
-        → Draws ar (drawn (tableNames names ar (weightScope n)) (eventsOf (drop at s)) (keysAt vs 0 0)) b out
+        → Draws ar (drawn (tableNames names ar (actionScope n None)) (eventsOf (drop at s)) (keysAt vs 0 0)) b out
         → r ≡ roomedAs (leb mostVariants (n .counts .variants)) (n .head .words / 3) b → Draws ar read r out
     unfolding namesOf
     weight-reads vs {out} {b} {r} h d e =
@@ -135,7 +135,7 @@ module _ {s : List ℕ} {n : Numbers} {names ar work : List ℕ} (x : Lent Varia
 -- accepted, there is room for the variant and for its weight
 pub record WeightFits (n : Names) (r : ℕ) (d : Diagram) : Type 0 where
   pub variant : length (n .variants) < mostVariants
-  pub room : r + length (rows d) ≤ 2048
+  pub room : r + length (rows d) ≤ mostModelRows
 
 weight-fits : (n : Names) (ar : List ℕ) (r : ℕ) (k : Key) (es : List Event) {d : Diagram} → weightRead n ar r k es ≡ ok d → WeightFits n r d
 weight-fits n ar r k es {d} e = go (isAmong k (n .variants)) (sym (weight-drawn n ar r k es) ∙ e)

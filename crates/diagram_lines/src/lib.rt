@@ -26,6 +26,7 @@ ghost use Rattle.text.specs.declared.Kind.the-variants.{Reward, Variant, Become
 ghost use Rattle.events.specs.Front.{eventsOf};
 ghost use Rattle.names.specs.Keys.{keysAt};
 ghost use Rattle.names.specs.Layout.{variantsAt};
+ghost use Rattle.reading.specs.declared.Binding.the-variants.{Only};
 ghost use Rattle.reading.specs.Callers.{namesOf as tableNames};
 ghost use Rattle.session.specs.Modelling.{rewardRead, weightRead};
 ghost use Rattle.session.specs.Replies.{wordsOf};
@@ -33,7 +34,7 @@ ghost use Rattle.declare.specs.Tables.{namesOf, GoodNames};
 ghost use Rattle.model.specs.Layout.{listingWords};
 ghost use Rattle.memory.specs.Memory.{LineOf};
 ghost use Rattle.drawing.specs.Drawing.{drawn, Drawable, Draws};
-ghost use Rattle.diagram_lines.specs.Lines.{roomed, roomedAs, lowered, loweredAs, truthOf, BuiltIn, Lent, RewardReady, RewardSays, WeightAt, VariantNamed, VariantReady, VariantSays, truthScope, VariantOpen, TruthOpens, BecomesReady, BecomesSays};
+ghost use Rattle.diagram_lines.specs.Lines.{roomed, roomedAs, lowered, loweredAs, truthOf, BuiltIn, Lent, RewardReady, RewardSays, WeightAt, VariantNamed, VariantReady, VariantSays, actionScope, VariantOpen, TruthOpens, BecomesReady, BecomesSays};
 
 // Rows of all listings of a model.
 const MODEL_ROWS: usize = model::LISTING_WORDS / 3;
@@ -271,9 +272,9 @@ fn draw_truth(
     out: &mut [u64],
     work: &mut [u64],
 ) -> Built
-    requires { ⌜ Drawable (now line) at (now names) (now arities) (truthScope n) (now variables) known (now out) (now work) ⌝ }
+    requires { ⌜ Drawable (now line) at (now names) (now arities) (actionScope n Only) (now variables) known (now out) (now work) ⌝ }
     requires { ⌜ n .head .words ≤ listingWords ⌝ }
-    ensures { λ r. ⌜ Draws (now (arities .entry)) (roomed false (n .head .words / 3) (lowered (drawn (tableNames (now (names .entry)) (now (arities .entry)) (truthScope n)) (eventsOf (drop at (now (line .entry)))) (keysAt (now (variables .entry)) 0 known)))) r (now (out .exit)) ⌝ }
+    ensures { λ r. ⌜ Draws (now (arities .entry)) (roomed false (n .head .words / 3) (lowered (drawn (tableNames (now (names .entry)) (now (arities .entry)) (actionScope n Only)) (eventsOf (drop at (now (line .entry)))) (keysAt (now (variables .entry)) 0 known)))) r (now (out .exit)) ⌝ }
 {
     let scope = Scope {
         constants: n.counts.constants,
