@@ -2,7 +2,7 @@
 use mathlib.Core.Path.{_≡_, refl, sym, ap, subst, _∙_}
 use mathlib.Core.Bool.{Bool, true, false}
 use mathlib.Core.List.{List}
-use Prim.Native.Nat.{ℕ, _+_, _*_, _-_, _/_, _≤_, _<_}
+use Prim.Native.Nat.{ℕ, _+_, _*_, _/_, _≤_, _<_}
 use native.Mathlib.Omega.{arith}
 use lib.ListN.{length, getD}
 use lib.Dec.{ltb}
@@ -11,7 +11,6 @@ use Rattle.refusal.specs.declared.Refusal.the-variants.{Name, Truth, Space}
 use Rattle.label.specs.Limits.{predicateCount}
 use Rattle.diagram.specs.Diagram.{Diagram}
 use Rattle.diagram.specs.Rows.{rows}
-use Rattle.diagram.specs.RowLaws.{rows-some}
 use Rattle.regress.specs.Calls.{Outcome, ok, refused, andThen, pickOutcome}
 use Rattle.regress.specs.Regression.{Truths}
 use Rattle.regress.specs.RegressCall.{leafAbove}
@@ -20,7 +19,7 @@ use Rattle.events.specs.declared.Event.{Event}
 use Rattle.reading.specs.declared.Binding.the-variants.{Only}
 use Rattle.reading.specs.declared.Opened.{Opened}
 use Rattle.reading.specs.declared.Opened.the-variants as P
-use Rattle.reading.specs.Reading.{Judged, Written, reading}
+use Rattle.reading.specs.Reading.{Written, reading}
 use Rattle.reading.specs.Head.{Head, headNumber, headArguments}
 use Rattle.reading.specs.Callers.{judgedPredicate, PredicateWithin}
 use Rattle.build.specs.declared.Built.{Built}
@@ -38,11 +37,11 @@ use Rattle.model.specs.declared.Head.{Head as ModelHead}
 use Rattle.model.specs.Layout.{modelOf}
 use Rattle.modelling.specs.Building.{withActions, RowsRoom, TruthRoom, TruthAdded}
 use Rattle.memory.specs.declared.Numbers.{Numbers}
-use Rattle.memory.specs.Memory.{Memory, memoryOf, sessionOf, Stored, Ready}
+use Rattle.memory.specs.Memory.{Memory, memoryOf, sessionOf, Ready}
 use Rattle.drawing.specs.Drawing.{drawn, Draws}
-use Rattle.diagram_lines.specs.Lines.{roomed, lowered, truthNumber, truthOf, VariantOpen, TruthOpens, BecomesReady, BecomesSays}
-use Rattle.diagram_lines.proofs.RoomLaws.{unlike, roomed-ok, Drew, draws-refused, draws-done, drew-diagram, drew-canonical, drew-room}
-use Rattle.diagram_lines.proofs.LineLaws.{line-refused, line-accepted, not-run, withHead}
+use Rattle.diagram_lines.specs.Lines.{roomed, lowered, truthNumber, truthOf, TruthOpens, BecomesReady, BecomesSays}
+use Rattle.diagram_lines.proofs.RoomLaws.{unlike, roomed-ok, Drew, draws-refused, draws-done, drew-diagram, drew-canonical, drew-some, drew-room}
+use Rattle.diagram_lines.proofs.LineLaws.{line-refused, line-accepted, numbersWith, Grown, grown-stored}
 
 -- ===== Read =====
 
@@ -185,14 +184,14 @@ module _ (s : List ℕ) (n : Numbers) (names ar listings table : List ℕ) where
           abbrev D : Drew ar (O p) k out
           D = draws-done d f
 
-          few : n .head .words / 3 + k ≤ 2048
+          few : n .head .words / 3 + k ≤ mostModelRows
           few = omega (arith, D .count, truth-few (namesOf names (n .counts)) ar p (n .head .words / 3) E (D .is))
 
           pub becomes-room : RowsRoom listings (n .head) out k
           becomes-room = record { words = y .listed .room; result = drew-room D; room = omega (arith, few, y .listed .whole) }
 
           pub becomes-some : 0 < k
-          becomes-some = omega (arith, D .count, rows-some (D .diagram))
+          becomes-some = drew-some D
 
           pub becomes-place : TruthRoom table (n .head) p
           becomes-place = record {
@@ -221,7 +220,7 @@ module _ (s : List ℕ) (n : Numbers) (names ar listings table : List ℕ) where
               rows-are : h .words / 3 ≡ n .head .words / 3 + length (rows (D .diagram))
               rows-are = omega (arith, words-are, D .count)
 
-              session-is : sessionOf (withHead n h) After ≡ withTruth (sessionOf n (memoryOf names ar listings table state value)) p (D .diagram)
+              session-is : sessionOf (numbersWith n (n .reward) (n .counts) h) After ≡ withTruth (sessionOf n (memoryOf names ar listings table state value)) p (D .diagram)
               unfolding sessionOf withTruth
               session-is = λ i. record {
                 part = n .part;
@@ -233,21 +232,17 @@ module _ (s : List ℕ) (n : Numbers) (names ar listings table : List ℕ) where
                 held = heldIn (n .held) value;
               }
 
-              stored-is : Stored (withHead n h) After
-              stored-is = record {
+              grown : Grown n ar listings names listings′ table′ (n .reward) (n .counts) h k
+              grown = record {
                 vocabulary = q .stored .vocabulary;
                 building = a .building (q .stored .building) (drew-canonical D);
-                listing-room = omega (arith, l, q .stored .listing-room);
-                whole = omega (arith, words-are, y .listed .whole);
+                size = l;
+                words = words-are;
                 reward = λ u z. q .stored .reward u (sym (ap (λ (g : ModelHead). g .«reward_words») (a .answer)) ∙ z);
-                live = q .stored .live;
-                value-room = q .stored .value-room;
-                value-rows = q .stored .value-rows;
-                holding = λ u. absurd (not-run Becomes q refl u);
               }
 
-            pub becomes-accepted : (number : ℕ) → BecomesSays s number n names ar listings table (record { numbers = withHead n h; answer = A.Nothing }) listings′ table′
+            pub becomes-accepted : (number : ℕ) → BecomesSays s number n names ar listings table (record { numbers = numbersWith n (n .reward) (n .counts) h; answer = A.Nothing }) listings′ table′
             becomes-accepted number = record {
               says = λ state value q.
-                  line-accepted number q (line-is number state value) (adds number state value number-is (D .is)) (session-is state value q) (stored-is state value q);
+                  line-accepted number q (line-is number state value) (adds number state value number-is (D .is)) (session-is state value q) (grown-stored q refl (grown state value q));
             }

@@ -1,20 +1,20 @@
 -- Laws that the lines share: where a diagram stands on a line, what is lent to draw it, and the session behind a line that prints nothing.
 use mathlib.Core.Path.{_≡_, refl, sym, ap, subst, _∙_}
-use mathlib.Core.List.{List, []}
-use Prim.Native.Nat.{ℕ, suc, _+_, _*_, _≤_}
+use mathlib.Core.Bool.{Bool, true}
+use mathlib.Core.List.{List, [], _∷_, _++_}
+use Prim.Native.Nat.{ℕ, _+_, _*_, _≤_}
 use native.Mathlib.Omega.{arith}
-use lib.ListN.{length, replicate, length-replicate}
+use lib.ListN.{length, replicate, length-append, length-replicate}
 use Rattle.refusal.specs.declared.Refusal.{Refusal}
 use Rattle.refusal.specs.declared.Refusal.the-variants.{Place}
 use Rattle.label.specs.Limits.{variableCount}
 use Rattle.regress.specs.Calls.{Outcome, ok, refused}
 use Rattle.text.specs.declared.Kind.{Kind}
-use Rattle.text.specs.Line.{lineBytes}
-use Rattle.text.specs.Line.Line.{line}
+use Rattle.text.specs.Line.{keyword, wordsBytes}
+use Rattle.events.specs.Events.{firstWord}
 use Rattle.names.specs.Many.{many}
 use Rattle.names.specs.Keys.{keysAt}
 use Rattle.reading.specs.declared.Binding.{Binding}
-use Rattle.reading.specs.declared.Scope.{Scope}
 use Rattle.reading.specs.Callers.{Tables, Variables}
 use Rattle.answers.specs.declared.Answer.the-variants.{Refused, Nothing}
 use Rattle.session.specs.declared.Part.{Part}
@@ -26,14 +26,21 @@ use Rattle.session.specs.Replies.{Reply, allowed, quietly, refusal, done, words
 use Rattle.declare.specs.declared.Counts.{Counts}
 use Rattle.declare.specs.Tables.{GoodVocabulary}
 use Rattle.model.specs.declared.Head.{Head}
+use Rattle.modelling.specs.Building.{Building}
 use Rattle.memory.specs.declared.Numbers.{Numbers}
-use Rattle.memory.specs.Memory.{Memory, sessionOf, LineOf, Stored, Ready, Answers}
+use Rattle.memory.specs.Memory.{Memory, memoryOf, sessionOf, LineOf, Stored, Ready, Answers}
 use Rattle.diagram_lines.proofs.RoomLaws.{unlike}
 
 -- ===== What is lent =====
 
 pub line-short : {k : Kind} {s : List ℕ} → LineOf k s → length s ≤ 4095
 line-short l = subst (λ (x : List ℕ). length x ≤ 4095) (sym (l .bytes)) (l .good .2)
+
+-- its first word stands on the line
+pub line-begins : {k : Kind} {s : List ℕ} {i : ℕ} → LineOf k s → i ≡ firstWord k → i ≤ length s
+line-begins {k} {s} l e =
+    let w : List ℕ = wordsBytes k (l .words) in
+    omega (arith, e, ap length (l .bytes), length-append (keyword k) (w ++ 41 ∷ []), length-append w (41 ∷ []))
 
 -- the names of a session, the parameters of an action counted or not
 pub tables-of : {names ar : List ℕ} {n : Counts} (m : ℕ) (b : Binding) → GoodVocabulary names ar n → m ≤ n .parameters
@@ -67,24 +74,47 @@ module _ {k : Kind} {s : List ℕ} (number : ℕ) {n : Numbers} {w : Memory} (q 
       let x : record { session = τ; answer = Nothing } ≡ done (sessionOf n w) number k (wordsOf k s) = sym (e ∙ ap (quietly (sessionOf n w) number (λ τ. τ)) f) in
       record { answer = ap (λ (y : Reply). y .answer) x; session = g ∙ ap (λ (y : Reply). y .session) x; stored = b }
 
--- the numbers with the head h
-abbrev pub withHead : Numbers → Head → Numbers
-withHead n h = record {
-  part = n .part;
-  total = n .total;
-  discount = n .discount;
-  reward = n .reward;
-  counts = n .counts;
-  head = h;
-  live = n .live;
-  held = n .held;
-}
-
 -- a line of the model stands in no run
-pub not-run : (k : Kind) {s : List ℕ} {n : Numbers} {w : Memory} → Ready k s n w → ruleOf k Run ≡ Misplaced → n .part ≡ Run → ⊥
+not-run : (k : Kind) {s : List ℕ} {n : Numbers} {w : Memory} → Ready k s n w → ruleOf k Run ≡ Misplaced → n .part ≡ Run → ⊥
 unfolding allowed
 not-run k {s} {n} {w} q m e =
     unlike (sym misplaced ∙ subst (λ (p : Part). allowed (sessionOf n w) (ruleOf k p) ≡ ok tt) e (q .place))
   where
     misplaced : allowed (sessionOf n w) (ruleOf k Run) ≡ refused Place
     misplaced = ap (allowed (sessionOf n w)) m
+
+-- the numbers with a reward or none, the counts c and the head h
+abbrev pub numbersWith : Numbers → Bool → Counts → Head → Numbers
+numbersWith n f c h = record {
+  part = n .part;
+  total = n .total;
+  discount = n .discount;
+  reward = f;
+  counts = c;
+  head = h;
+  live = n .live;
+  held = n .held;
+}
+
+-- a listing of k rows more: what the numbers and words are then
+pub record Grown (n : Numbers) (ar listings names′ listings′ table′ : List ℕ) (f : Bool) (c : Counts) (h : Head) (k : ℕ) : Type 0 where
+  pub vocabulary : GoodVocabulary names′ ar c
+  pub building : Building listings′ table′ h
+  pub size : length listings′ ≡ length listings
+  pub words : h .words ≡ n .head .words + k * 3
+  pub reward : f ≡ true → h .«reward_words» ≡ 0 → ⊥
+
+pub grown-stored : {k : Kind} {s names ar listings table state value names′ listings′ table′ : List ℕ} {n : Numbers} {f : Bool} {c : Counts} {h : Head} {m : ℕ}
+    → Ready k s n (memoryOf names ar listings table state value) → ruleOf k Run ≡ Misplaced → Grown n ar listings names′ listings′ table′ f c h m
+    → Stored (numbersWith n f c h) (memoryOf names′ ar listings′ table′ state value)
+grown-stored {k = k} q e g = record {
+  vocabulary = g .vocabulary;
+  building = g .building;
+  listing-room = omega (arith, g .size, q .stored .listing-room);
+  whole = omega (arith, g .words, q .stored .whole);
+  reward = g .reward;
+  live = q .stored .live;
+  value-room = q .stored .value-room;
+  value-rows = q .stored .value-rows;
+  holding = λ r. absurd (not-run k q e r);
+}

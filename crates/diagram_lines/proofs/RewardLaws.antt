@@ -2,54 +2,47 @@
 use mathlib.Core.Path.{_≡_, refl, sym, ap, subst, _∙_}
 use mathlib.Core.Bool.{true, false}
 use mathlib.Core.List.{List, []}
-use Prim.Native.Nat.{ℕ, _+_, _*_, _/_, _≤_, _<_}
+use Prim.Native.Nat.{ℕ, _+_, _*_, _/_, _≤_}
 use native.Mathlib.Omega.{arith}
-use lib.ListN.{length, take, drop, replicate}
+use lib.ListN.{length, drop, replicate}
 use Rattle.refusal.specs.declared.Refusal.{Refusal}
 use Rattle.label.specs.Limits.{variableCount}
 use Rattle.diagram.specs.Sizes.{resultWords}
 use Rattle.diagram.specs.Diagram.{Diagram}
 use Rattle.diagram.specs.Rows.{rows}
-use Rattle.diagram.specs.RowLaws.{rows-some}
-use Rattle.diagram.specs.Listing.{diagramOf}
-use Rattle.regress.specs.Calls.{Outcome, ok, refused, andThen}
-use Rattle.mdp.specs.Model.{Model}
+use Rattle.regress.specs.Calls.{Outcome, ok, andThen}
 use Rattle.words.specs.declared.Key.{Key}
 use Rattle.text.specs.declared.Kind.the-variants.{Reward}
-use Rattle.text.specs.Line.{lineBytes}
-use Rattle.text.specs.Line.Line.{line}
 use Rattle.events.specs.declared.Event.{Event}
-use Rattle.events.specs.Events.{firstWord, diagramEvents}
+use Rattle.events.specs.Events.{firstWord}
 use Rattle.events.specs.Front.{eventsOf}
 use Rattle.events.specs.LineEvents.{line-events}
 use Rattle.names.specs.Keys.{keysAt}
 use Rattle.names.specs.Layout.{parametersAt}
 use Rattle.reading.specs.declared.Binding.the-variants.{Any}
 use Rattle.reading.specs.declared.Scope.{Scope}
-use Rattle.reading.specs.Reading.{Names as ReadingNames, Written, reading}
+use Rattle.reading.specs.Reading.{Written, reading}
 use Rattle.reading.specs.Callers.{namesOf as tableNames}
 use Rattle.build.specs.declared.Built.{Built}
 use Rattle.build.specs.declared.Built.the-variants.{Done, Refused}
 use Rattle.build.specs.Machine.{builtClosed}
 use Rattle.answers.specs.declared.Answer.the-variants as A
-use Rattle.session.specs.Session.{Names, Singles, Session}
-use Rattle.session.specs.Modelling.{namesFor, outcomeOf, rewardRead, withReward, rewardLine}
+use Rattle.session.specs.Session.{Names}
+use Rattle.session.specs.Modelling.{mostModelRows, namesFor, outcomeOf, rewardRead, withReward, rewardLine}
 use Rattle.session.specs.Replies.{done, quietly, wordsOf}
 use Rattle.declare.specs.Tables.{namesOf}
 use Rattle.facts.specs.Words.{liveOf}
 use Rattle.planner.specs.PartLaws.{then-then}
 use Rattle.planner.specs.Run.{heldIn}
 use Rattle.model.specs.declared.Head.{Head}
-use Rattle.model.specs.Layout.{listingWords, modelOf}
-use Rattle.modelling.specs.Building.{rewarded, rewardHead, RowsRoom, RewardAdded}
-use Rattle.modelling.specs.BuildingLaws.{reward-line}
+use Rattle.model.specs.Layout.{modelOf}
+use Rattle.modelling.specs.Building.{rewarded, RowsRoom, RewardAdded}
 use Rattle.memory.specs.declared.Numbers.{Numbers}
-use Rattle.memory.specs.declared.Said.{Said}
-use Rattle.memory.specs.Memory.{Memory, memoryOf, sessionOf, Stored, Ready, Answers}
+use Rattle.memory.specs.Memory.{Memory, memoryOf, sessionOf, Ready}
 use Rattle.drawing.specs.Drawing.{drawnClosed, DiagramAt, Drawable, Draws}
 use Rattle.diagram_lines.specs.Lines.{roomed, roomedAs, Lent, RewardReady, RewardSays}
-use Rattle.diagram_lines.proofs.RoomLaws.{Roomed, roomed-ok, draws-room, Drew, draws-refused, draws-done, drew-words, drew-diagram, drew-canonical, drew-room}
-use Rattle.diagram_lines.proofs.LineLaws.{line-short, tables-of, no-keys, fresh-variables, line-refused, line-accepted, not-run}
+use Rattle.diagram_lines.proofs.RoomLaws.{roomed-ok, draws-room, Drew, draws-refused, draws-done, drew-diagram, drew-canonical, drew-some, drew-room}
+use Rattle.diagram_lines.proofs.LineLaws.{line-short, line-begins, tables-of, no-keys, fresh-variables, line-refused, line-accepted, numbersWith, Grown, grown-stored}
 
 -- ===== Read =====
 
@@ -70,15 +63,12 @@ module _ {s : List ℕ} {n : Numbers} {names ar work : List ℕ} (x : Lent Rewar
     shallow = omega (arith, x .line .good .1);
   }
 
-  reward-long : firstWord Reward ≤ length s
-  reward-long = subst (λ (z : List ℕ). firstWord Reward ≤ length z) (sym (x .line .bytes)) (omega arith)
-
-  pub reward-drawable : {out : List ℕ} (m : ℕ) → (variableCount + 1) * 2 ≤ m → resultWords ≤ length out
-      → Drawable s 8 names ar (rewardScope n) (replicate m 0) 0 out work
-  reward-drawable m h l = record {
+  pub reward-drawable : {out : List ℕ} {at : ℕ} (m : ℕ) → (variableCount + 1) * 2 ≤ m → at ≡ firstWord Reward → resultWords ≤ length out
+      → Drawable s at names ar (rewardScope n) (replicate m 0) 0 out work
+  reward-drawable m h e l = record {
     short = line-short (x .line);
-    within = reward-long;
-    there = reward-there;
+    within = line-begins (x .line) e;
+    there = subst (DiagramAt s) (sym e) reward-there;
     tables = tables-of 0 Any (x .vocabulary) (omega arith);
     variables = fresh-variables m 0 h (omega arith);
     out-room = l;
@@ -86,31 +76,21 @@ module _ {s : List ℕ} {n : Numbers} {names ar work : List ℕ} (x : Lent Rewar
   }
 
   -- `read_reward`
-  pub reward-reads : (vs : List ℕ) {out : List ℕ} {b r : Built} → Draws ar (drawnClosed (tableNames names ar (rewardScope n)) (eventsOf (drop 8 s)) (keysAt vs 0 0)) b out
-      → r ≡ roomedAs false (n .head .words / 3) b
+  pub reward-reads : (vs : List ℕ) {out : List ℕ} {at : ℕ} {b r : Built} → at ≡ firstWord Reward
+      → Draws ar (drawnClosed (tableNames names ar (rewardScope n)) (eventsOf (drop at s)) (keysAt vs 0 0)) b out → r ≡ roomedAs false (n .head .words / 3) b
       → Draws ar (rewardRead (namesOf names (n .counts)) ar (n .head .words / 3) (wordsOf Reward s)) r out
   unfolding namesOf
-  reward-reads vs {out} {b} {r} d e =
-      let q : List Key → List Key → Outcome Diagram
-      = λ ps ks. drawnClosed (namesFor (namesOf names (n .counts)) ar Any ps) (eventsOf (drop 8 s)) ks in
-      let y : q (keysAt names parametersAt 0) (keysAt vs 0 0) ≡ q [] [] = ap (λ (ps : List Key). q ps (keysAt vs 0 0)) (no-keys names parametersAt) ∙ ap (q []) (no-keys vs 0) in
+  reward-reads vs {out} {at} {b} {r} f d e =
+      let q : ℕ → List Key → List Key → Outcome Diagram
+      = λ i ps ks. drawnClosed (namesFor (namesOf names (n .counts)) ar Any ps) (eventsOf (drop i s)) ks in
+      let y : q at (keysAt names parametersAt 0) (keysAt vs 0 0) ≡ q (firstWord Reward) [] []
+      = ap (λ (i : ℕ). q i (keysAt names parametersAt 0) (keysAt vs 0 0)) f
+      ∙ ap (λ (ps : List Key). q (firstWord Reward) ps (keysAt vs 0 0)) (no-keys names parametersAt)
+      ∙ ap (q (firstWord Reward) []) (no-keys vs 0) in
       subst (λ (o : Outcome Diagram). Draws ar o r out) (sym (reward-drawn (namesOf names (n .counts)) ar (n .head .words / 3) (wordsOf Reward s)))
       (draws-room false (n .head .words / 3) (subst (λ (o : Outcome Diagram). Draws ar o b out) y d) e)
 
 -- ===== Answered =====
-
--- the numbers behind an accepted reward, the head h
-abbrev pub rewardNumbers : Numbers → Head → Numbers
-rewardNumbers n h = record {
-  part = n .part;
-  total = n .total;
-  discount = n .discount;
-  reward = true;
-  counts = n .counts;
-  head = h;
-  live = n .live;
-  held = n .held;
-}
 
 reward-done : (s : List ℕ) (number : ℕ) (n : Numbers) (w : Memory)
     → done (sessionOf n w) number Reward (wordsOf Reward s)
@@ -135,7 +115,7 @@ module _ (s : List ℕ) (n : Numbers) (names ar listings : List ℕ) where
       abbrev D : Drew ar O k out
       D = draws-done d e
 
-      few : n .head .words / 3 + k ≤ 2048
+      few : n .head .words / 3 + k ≤ mostModelRows
       few =
           omega (
             arith,
@@ -164,7 +144,7 @@ module _ (s : List ℕ) (n : Numbers) (names ar listings : List ℕ) where
           rows-are : h .words / 3 ≡ n .head .words / 3 + length (rows (D .diagram))
           rows-are = omega (arith, words-are, D .count)
 
-          session-is : sessionOf (rewardNumbers n h) After ≡ withReward (sessionOf n Before) (D .diagram)
+          session-is : sessionOf (numbersWith n true (n .counts) h) After ≡ withReward (sessionOf n Before) (D .diagram)
           unfolding sessionOf withReward
           session-is = λ i. record {
             part = n .part;
@@ -176,23 +156,19 @@ module _ (s : List ℕ) (n : Numbers) (names ar listings : List ℕ) where
             held = heldIn (n .held) value;
           }
 
-          stored-is : Stored (rewardNumbers n h) After
-          stored-is = record {
+          grown : Grown n ar listings names listings′ table true (n .counts) h k
+          grown = record {
             vocabulary = q .stored .vocabulary;
             building = a .building table (q .stored .building) (drew-canonical D);
-            listing-room = omega (arith, l, q .stored .listing-room);
-            whole = omega (arith, words-are, x .listed .whole);
-            reward = λ y z. absurd (omega (arith, ap (λ (g : Head). g .«reward_words») (a .answer), D .count, rows-some (D .diagram)));
-            live = q .stored .live;
-            value-room = q .stored .value-room;
-            value-rows = q .stored .value-rows;
-            holding = λ y. absurd (not-run Reward q refl y);
+            size = l;
+            words = words-are;
+            reward = λ y z. absurd (omega (arith, z, ap (λ (g : Head). g .«reward_words») (a .answer), drew-some D));
           }
 
-        pub reward-accepted : (number : ℕ) → RewardSays s number n names ar listings (record { numbers = rewardNumbers n h; answer = A.Nothing }) listings′
+        pub reward-accepted : (number : ℕ) → RewardSays s number n names ar listings (record { numbers = numbersWith n true (n .counts) h; answer = A.Nothing }) listings′
         reward-accepted number = record {
           says = λ table state value q.
               let w : Memory = memoryOf names ar listings table state value in
               line-accepted number q (reward-done s number n w) (ap (λ (o : Outcome Diagram). andThen o (λ y. ok (withReward (sessionOf n w) y))) (D .is))
-              (session-is table state value q) (stored-is table state value q);
+              (session-is table state value q) (grown-stored q refl (grown table state value q));
         }

@@ -12,8 +12,7 @@ use Rattle.refusal.specs.declared.Refusal.the-variants.{Space}
 use Rattle.diagram.specs.Diagram.{Diagram}
 use Rattle.diagram.specs.Rows.{rows}
 use Rattle.diagram.specs.Listing.{listing, diagramOf}
-use Rattle.diagram.specs.ListingOfDiagram.{diagram-listing}
-use Rattle.regress.specs.Calls.{Outcome, ok, refused, andThen, pickOutcome}
+use Rattle.regress.specs.Calls.{Outcome, ok, refused, pickOutcome}
 use Rattle.build.specs.declared.Built.{Built}
 use Rattle.build.specs.declared.Built.the-variants.{Done, Refused}
 use Rattle.build.specs.Writing.{builtAs}
@@ -21,6 +20,7 @@ use Rattle.session.specs.Modelling.{mostModelRows}
 use Rattle.model.specs.Layout.{listingWords}
 use Rattle.modelling.specs.Building.{Canonical}
 use Rattle.drawing.specs.Drawing.{Holds, Draws}
+use Rattle.drawing.specs.DrawingLaws.{ListingOf, draws-canonical}
 use Rattle.diagram_lines.specs.Lines.{roomed, pickBuilt, roomedAs}
 
 -- `room`
@@ -111,11 +111,17 @@ module _ {ar out : List ℕ} {o : Outcome Diagram} {n : ℕ} (x : Drew ar o n ou
   pub drew-words : take (n * 3) out ≡ listing (x .diagram)
   drew-words = ap (λ (k : ℕ). take (k * 3) out) (x .count) ∙ x .holds .words
 
+  drew-listing : ListingOf (x .diagram) (take (n * 3) out)
+  drew-listing = subst (λ (k : ℕ). ListingOf (x .diagram) (take (k * 3) out)) (sym (x .count)) (draws-canonical (x .holds))
+
   pub drew-diagram : diagramOf (take (n * 3) out) ≡ x .diagram
-  drew-diagram = ap diagramOf drew-words ∙ diagram-listing ar (x .diagram) (x .holds .good)
+  drew-diagram = drew-listing .is
 
   pub drew-canonical : Canonical (take (n * 3) out)
-  drew-canonical = ap listing drew-diagram ∙ sym drew-words
+  drew-canonical = drew-listing .canonical
+
+  pub drew-some : 0 < n
+  drew-some = omega (arith, x .count, drew-listing .some)
 
   pub drew-room : n * 3 ≤ length out
   drew-room = omega (arith, x .count, x .holds .room)

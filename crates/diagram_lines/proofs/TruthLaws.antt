@@ -2,13 +2,12 @@
 use mathlib.Core.Path.{_≡_, refl, sym, ap, subst, _∙_}
 use mathlib.Core.Bool.{Bool, true, false}
 use mathlib.Core.List.{List}
-use Prim.Native.Nat.{ℕ, _+_, _*_, _-_, _/_, _≤_, _<_}
+use Prim.Native.Nat.{ℕ, _+_, _*_, _/_, _≤_, _<_}
 use native.Mathlib.Omega.{arith}
 use lib.ListN.{length, getD, take, drop}
 use lib.Seq.{length-take-le}
-use lib.Dec.{ltb}
 use Rattle.refusal.specs.declared.Refusal.{Refusal}
-use Rattle.refusal.specs.declared.Refusal.the-variants.{Name, Truth, Space}
+use Rattle.refusal.specs.declared.Refusal.the-variants.{Name, Truth}
 use Rattle.label.specs.Limits.{variableCount, predicateCount}
 use Rattle.diagram.specs.Sizes.{resultWords}
 use Rattle.diagram.specs.Diagram.{Diagram}
@@ -33,29 +32,27 @@ use Rattle.reading.specs.declared.Opened.{Opened}
 use Rattle.reading.specs.declared.Opened.the-variants as P
 use Rattle.reading.specs.declared.Headed.{Headed}
 use Rattle.reading.specs.declared.Headed.the-variants as H
-use Rattle.reading.specs.Reading.{Judged, Written, reading}
+use Rattle.reading.specs.Reading.{Judged}
 use Rattle.reading.specs.Reading.Judged.{fine, refused as judged}
 use Rattle.reading.specs.Head.{Head, headNumber, headArguments, headKeys}
-use Rattle.reading.specs.Callers.{namesOf as tableNames, Variables, judgedPredicate, PredicateWithin, Opens, judgedHead, HeadWithin, Heads}
+use Rattle.reading.specs.Callers.{namesOf as tableNames, judgedPredicate, PredicateWithin, Opens, judgedHead, HeadWithin, Heads}
 use Rattle.reading.specs.LineLaws.{becomes-arguments}
-use Rattle.reading.specs.JudgedLaws.{fine-one, Chain, chained}
+use Rattle.reading.specs.JudgedLaws.{fine-one, chained}
 use Rattle.reading.specs.ArityLaws.{arity-most, arity-words}
 use Rattle.build.specs.declared.Built.{Built}
 use Rattle.build.specs.declared.Built.the-variants.{Done, Refused}
 use Rattle.build.specs.Writing.{builtAs}
-use Rattle.build.specs.Machine.{built}
 use Rattle.session.specs.Session.{Names}
-use Rattle.session.specs.Modelling.{outcomeOf, namesFor, isSome, truthRead, truthsNow}
+use Rattle.session.specs.Modelling.{outcomeOf, namesFor, isSome, truthsNow}
 use Rattle.session.specs.Replies.{wordsOf}
 use Rattle.declare.specs.Tables.{namesOf, GoodNames}
-use Rattle.planner.specs.PartLaws.{then-then, then-same}
-use Rattle.model.specs.Layout.{listingWords, modelOf}
+use Rattle.model.specs.Layout.{modelOf}
 use Rattle.modelling.specs.Building.{TruthRoom, HasTruth}
 use Rattle.memory.specs.declared.Numbers.{Numbers}
 use Rattle.memory.specs.Memory.{LineOf}
-use Rattle.drawing.specs.Drawing.{drawn, DiagramAt, Drawable, Draws}
-use Rattle.diagram_lines.specs.Lines.{roomed, pickBuilt, roomedAs, lowered, loweredAs, BuiltIn, truthNumber, truthOf, Lent, truthScope, VariantOpen, TruthOpens}
-use Rattle.diagram_lines.proofs.RoomLaws.{unlike, draws-room, draws-none, Drew, draws-refused, draws-done, drew-words, drew-diagram, drew-room}
+use Rattle.drawing.specs.Drawing.{drawn, Drawable, Draws}
+use Rattle.diagram_lines.specs.Lines.{roomed, pickBuilt, roomedAs, lowered, loweredAs, BuiltIn, truthNumber, truthOf, Lent, actionScope, VariantOpen, TruthOpens}
+use Rattle.diagram_lines.proofs.RoomLaws.{unlike, draws-room, draws-none, draws-refused, draws-done, drew-words, drew-diagram, drew-room}
 use Rattle.diagram_lines.proofs.LineLaws.{line-short, tables-of}
 
 -- ===== 7 =====
@@ -131,13 +128,7 @@ module _ (n : Names) (ar : List ℕ) (p r : ℕ) (es : List Event) where
 abbrev headOf : List Key → List Event → Head
 headOf ks es = record { variables = ks; rest = es }
 
-pub becomes-long : {s : List ℕ} → LineOf Becomes s → 9 ≤ length s
-becomes-long l = subst (λ (z : List ℕ). 9 ≤ length z) (sym (l .bytes)) (omega arith)
-
 module _ {s : List ℕ} {n : Numbers} {names ar work : List ℕ} (x : Lent Becomes s n names ar work) where
-  pub becomes-start : 9 ≤ length s
-  becomes-start = becomes-long (x .line)
-
   module _ (p : ℕ) where
     pub becomes-arity : getD ar p 0 ≤ 4
     becomes-arity = arity-most ar p (x .vocabulary .arities)
@@ -145,27 +136,31 @@ module _ {s : List ℕ} {n : Numbers} {names ar work : List ℕ} (x : Lent Becom
     pub becomes-known : p < predicateCount → p < length ar
     becomes-known h = omega (arith, arity-words ar (x .vocabulary .arities))
 
-    module _ {vs : List ℕ} {t : Headed} (h : Heads s (getD ar p 0) (headArguments (getD ar p 0) (eventsOf (drop 9 s))) t vs) where
+    module _ {first : ℕ} (f : first ≡ firstWord Becomes) {vs : List ℕ} {t : Headed}
+        (h : Heads s (getD ar p 0) (headArguments (getD ar p 0) (eventsOf (drop first s))) t vs) where
+      head-is : judgedHead s vs (getD ar p 0) t ≡ headArguments (getD ar p 0) (wordsOf Becomes s)
+      head-is = h .answer ∙ ap (λ (i : ℕ). headArguments (getD ar p 0) (eventsOf (drop i s))) f
+
       pub read-refused : {out : List ℕ} {w : Refusal} → t ≡ H.Refused w
           → Draws ar (truthOf (namesOf names (n .counts)) ar p (n .head .words / 3) (wordsOf Becomes s)) (Refused w) out
       read-refused e =
-          draws-none (truth-refused (namesOf names (n .counts)) ar p (n .head .words / 3) (wordsOf Becomes s) (sym (ap (judgedHead s vs (getD ar p 0)) (sym e) ∙ h .answer)))
+          draws-none (truth-refused (namesOf names (n .counts)) ar p (n .head .words / 3) (wordsOf Becomes s) (sym (ap (judgedHead s vs (getD ar p 0)) (sym e) ∙ head-is)))
 
       module _ {i : ℕ} (e : t ≡ H.Arguments i) where
-        headed-is : headArguments (getD ar p 0) (eventsOf (drop 9 s)) ≡ fine (record { variables = keysAt vs 0 (getD ar p 0); rest = eventsOf (drop i s) })
-        headed-is = sym (ap (judgedHead s vs (getD ar p 0)) (sym e) ∙ h .answer)
+        headed-is : headArguments (getD ar p 0) (wordsOf Becomes s) ≡ fine (record { variables = keysAt vs 0 (getD ar p 0); rest = eventsOf (drop i s) })
+        headed-is = sym (ap (judgedHead s vs (getD ar p 0)) (sym e) ∙ head-is)
 
         behind-is : eventsOf (drop i s) ≡ diagramEvents (x .line .words .2)
         behind-is =
-            let y : headArguments (getD ar p 0) (eventsOf (drop 9 s)) ≡ headArguments (getD ar p 0) (eventsOf (drop 9 (lineBytes (line Becomes (x .line .words)))))
-            = ap (λ (z : List ℕ). headArguments (getD ar p 0) (eventsOf (drop 9 z))) (x .line .bytes) in
+            let y : headArguments (getD ar p 0) (wordsOf Becomes s) ≡ headArguments (getD ar p 0) (wordsOf Becomes (lineBytes (line Becomes (x .line .words))))
+            = ap (λ (z : List ℕ). headArguments (getD ar p 0) (wordsOf Becomes z)) (x .line .bytes) in
             let c = chained (headKeys (getD ar p 0) (x .line .words .1)) (λ (ks : List Key). fine (headOf ks (diagramEvents (x .line .words .2)))) (headOf (keysAt vs 0 (getD ar p 0)) (eventsOf (drop i s)))
             (sym (becomes-arguments (getD ar p 0) (x .line .words) (x .line .good .0)) ∙ sym y ∙ headed-is) in
             let d : headOf (c .first) (diagramEvents (x .line .words .2)) ≡ headOf (keysAt vs 0 (getD ar p 0)) (eventsOf (drop i s)) = fine-one (c .then) in
             sym (ap (λ (g : Head). g .rest) d)
 
         pub read-drawable : {out : List ℕ} → (variableCount + 1) * 2 ≤ length vs → resultWords ≤ length out
-            → Drawable s i names ar (truthScope n) vs (getD ar p 0) out work
+            → Drawable s i names ar (actionScope n Only) vs (getD ar p 0) out work
         read-drawable l m = record {
           short = line-short (x .line);
           within = subst (HeadWithin s) e (h .within);
@@ -177,7 +172,7 @@ module _ {s : List ℕ} {n : Numbers} {names ar work : List ℕ} (x : Lent Becom
         }
 
         pub read-drawn : {out : List ℕ} {b : Built}
-            → Draws ar (roomed false (n .head .words / 3) (lowered (drawn (tableNames names ar (truthScope n)) (eventsOf (drop i s)) (keysAt vs 0 (getD ar p 0))))) b out
+            → Draws ar (roomed false (n .head .words / 3) (lowered (drawn (tableNames names ar (actionScope n Only)) (eventsOf (drop i s)) (keysAt vs 0 (getD ar p 0))))) b out
             → Draws ar (truthOf (namesOf names (n .counts)) ar p (n .head .words / 3) (wordsOf Becomes s)) b out
         unfolding namesOf
         read-drawn {out} {b} d =
@@ -186,11 +181,13 @@ module _ {s : List ℕ} {n : Numbers} {names ar work : List ℕ} (x : Lent Becom
 -- ===== The head =====
 
 -- `open_truth`
-module _ (s : List ℕ) (n : Numbers) (names table : List ℕ) {t : Opened} (o : Opens (n .counts .predicates) (headNumber (keysAt names declaredAt (n .counts .predicates)) (eventsOf (drop 9 s))) t) where
+module _ (s : List ℕ) (n : Numbers) (names table : List ℕ) {first : ℕ} (f : first ≡ firstWord Becomes) {t : Opened}
+    (o : Opens (n .counts .predicates) (headNumber (keysAt names declaredAt (n .counts .predicates)) (eventsOf (drop first s))) t) where
   number-is : (truths : Truths) → truthNumber (namesOf names (n .counts)) truths (wordsOf Becomes s)
       ≡ andThen (outcomeOf (judgedPredicate t)) (λ p. pickOutcome (isSome (truths p)) (refused Name) (ok p))
   unfolding truthNumber namesOf
-  number-is truths = ap (λ (j : Judged ℕ). andThen (outcomeOf j) (λ p. pickOutcome (isSome (truths p)) (refused Name) (ok p))) (sym (o .answer))
+  number-is truths = ap (λ (j : Judged ℕ). andThen (outcomeOf j) (λ p. pickOutcome (isSome (truths p)) (refused Name) (ok p)))
+      (sym (o .answer ∙ ap (λ (i : ℕ). headNumber (keysAt names declaredAt (n .counts .predicates)) (eventsOf (drop i s))) f))
 
   pub open-refused : {w : Refusal} → t ≡ P.Refused w → TruthOpens n names table (wordsOf Becomes s) t
   open-refused {w} e =
@@ -222,7 +219,7 @@ module _ (s : List ℕ) (n : Numbers) (names table : List ℕ) {t : Opened} (o :
           ∙ ap (λ (c : Bool). pickOutcome c (refused Name) (ok p)) (sym (h .answer ar listings))
 
       pub open-twice : b ≡ true → TruthOpens n names table (wordsOf Becomes s) (P.Refused Name)
-      open-twice f = record { answer = λ ar listings. sym (there-is ar listings ∙ ap (λ (c : Bool). pickOutcome c (refused Name) (ok p)) f); within = tt }
+      open-twice g = record { answer = λ ar listings. sym (there-is ar listings ∙ ap (λ (c : Bool). pickOutcome c (refused Name) (ok p)) g); within = tt }
 
       pub open-found : b ≡ false → TruthOpens n names table (wordsOf Becomes s) (P.Predicate p)
-      open-found f = record { answer = λ ar listings. sym (there-is ar listings ∙ ap (λ (c : Bool). pickOutcome c (refused Name) (ok p)) f); within = declared-is }
+      open-found g = record { answer = λ ar listings. sym (there-is ar listings ∙ ap (λ (c : Bool). pickOutcome c (refused Name) (ok p)) g); within = declared-is }

@@ -2,7 +2,7 @@
 use mathlib.Core.Path.{_≡_, refl, sym, ap, ap₂, subst, _∙_}
 use mathlib.Core.Bool.{Bool, true, false}
 use mathlib.Core.List.{List, [], _∷_, _++_}
-use Prim.Native.Nat.{ℕ, _+_, _*_, _-_, _/_, _≤_, _<_}
+use Prim.Native.Nat.{ℕ, _+_, _*_, _/_, _≤_, _<_}
 use native.Mathlib.Omega.{arith}
 use borrow.Author.Tests.{leb-false}
 use lib.ListN.{length, drop, replicate}
@@ -17,8 +17,6 @@ use Rattle.regress.specs.Calls.{Outcome, ok, refused, andThen, pickOutcome}
 use Rattle.mdp.specs.Model.{mostVariants}
 use Rattle.words.specs.declared.Key.{Key}
 use Rattle.text.specs.declared.Kind.the-variants.{Variant}
-use Rattle.text.specs.Line.{lineBytes}
-use Rattle.text.specs.Line.Line.{line}
 use Rattle.events.specs.declared.Event.{Event}
 use Rattle.events.specs.declared.Next.{Next}
 use Rattle.events.specs.Events.{firstWord, nameEvent, diagramEvents}
@@ -32,16 +30,16 @@ use Rattle.names.specs.KeyLaws.{length-keys, among-at, among-none, keys-same, l
 use Rattle.reading.specs.declared.Binding.the-variants.{None}
 use Rattle.reading.specs.Reading.{Written, reading}
 use Rattle.reading.specs.Callers.{namesOf as tableNames}
-use Rattle.reading.specs.LineLaws.{Splits, next-splits}
+use Rattle.reading.specs.LineLaws.{next-splits}
 use Rattle.build.specs.declared.Built.{Built}
 use Rattle.build.specs.declared.Built.the-variants.{Done, Refused}
 use Rattle.build.specs.Machine.{built}
 use Rattle.answers.specs.declared.Answer.the-variants as A
 use Rattle.session.specs.Session.{Names}
-use Rattle.session.specs.Modelling.{namesFor, outcomeOf, addVariant, weightRead, withVariant, variantLine}
+use Rattle.session.specs.Modelling.{mostModelRows, namesFor, outcomeOf, addVariant, weightRead, withVariant, variantLine}
 use Rattle.session.specs.Replies.{done, quietly, wordsOf}
 use Rattle.declare.specs.declared.Counts.{Counts}
-use Rattle.declare.specs.Tables.{namesOf, GoodNames, GoodVocabulary}
+use Rattle.declare.specs.Tables.{namesOf, GoodNames}
 use Rattle.declare.proofs.TableLaws.{names-ext}
 use Rattle.facts.specs.Words.{liveOf}
 use Rattle.planner.specs.PartLaws.{then-then}
@@ -50,11 +48,11 @@ use Rattle.model.specs.declared.Head.{Head}
 use Rattle.model.specs.Layout.{modelOf}
 use Rattle.modelling.specs.Building.{withActions, newVariant, RowsRoom, VariantRoom, VariantAdded}
 use Rattle.memory.specs.declared.Numbers.{Numbers}
-use Rattle.memory.specs.Memory.{Memory, memoryOf, sessionOf, LineOf, Stored, Ready}
+use Rattle.memory.specs.Memory.{Memory, memoryOf, sessionOf, LineOf, Ready}
 use Rattle.drawing.specs.Drawing.{drawn, Drawable, Draws}
-use Rattle.diagram_lines.specs.Lines.{roomed, roomedAs, Lent, weightScope, WeightAt, moreVariants, VariantNamed, VariantReady, VariantSays}
-use Rattle.diagram_lines.proofs.RoomLaws.{unlike, Roomed, roomed-ok, draws-room, draws-none, Drew, draws-refused, draws-done, drew-diagram, drew-canonical, drew-room}
-use Rattle.diagram_lines.proofs.LineLaws.{line-short, tables-of, no-keys, fresh-variables, line-refused, line-accepted, not-run}
+use Rattle.diagram_lines.specs.Lines.{roomed, roomedAs, Lent, actionScope, WeightAt, moreVariants, VariantNamed, VariantReady, VariantSays}
+use Rattle.diagram_lines.proofs.RoomLaws.{unlike, roomed-ok, draws-room, draws-none, Drew, draws-refused, draws-done, drew-diagram, drew-canonical, drew-room}
+use Rattle.diagram_lines.proofs.LineLaws.{line-short, line-begins, tables-of, no-keys, fresh-variables, line-refused, line-accepted, numbersWith, Grown, grown-stored}
 
 -- ===== Its name, and the place behind it =====
 
@@ -67,19 +65,16 @@ module _ {s : List ℕ} (l : LineOf Variant s) where
   words-are : wordsOf Variant s ≡ nameEvent (l .words .0) ∷ diagramEvents (l .words .1)
   words-are = ap (wordsOf Variant) (l .bytes) ∙ line-events Variant (l .words) (l .good .0)
 
-  pub variant-start : 9 ≤ length s
-  variant-start = subst (λ (z : List ℕ). 9 ≤ length z) (sym (l .bytes)) (omega arith)
-
-  pub variant-named : {x : Next} {k : Key} → x ≡ nextAt s 9 → k ≡ keyIn (x .event) → NamedAt s k (x .place)
-  variant-named {x} {k} p q =
-      let y = next-splits s 9 (nameEvent (l .words .0)) (diagramEvents (l .words .1)) words-are in
+  pub variant-named : {x : Next} {k : Key} {i : ℕ} → i ≡ firstWord Variant → x ≡ nextAt s i → k ≡ keyIn (x .event) → NamedAt s k (x .place)
+  variant-named {x} {k} {i} f p q =
+      let y = next-splits s i (nameEvent (l .words .0)) (diagramEvents (l .words .1)) (ap (λ (j : ℕ). eventsOf (drop j s)) f ∙ words-are) in
       let e : x .event ≡ nameEvent (l .words .0) = ap (λ (z : Next). z .event) p ∙ y .event in
       let r : eventsOf (drop (x .place) s) ≡ diagramEvents (l .words .1) = ap (λ (z : Next). eventsOf (drop (z .place) s)) p ∙ y .rest in
       record {
         key = ap (λ (es : List Event). keyIn (wordAt es 0)) words-are ∙ sym (q ∙ ap keyIn e);
         rest = ap (drop 1) words-are ∙ sym r;
         weight = record {
-          within = subst (λ (z : Next). z .place ≤ length s) (sym p) (next-moves s 9 variant-start .0);
+          within = subst (λ (z : Next). z .place ≤ length s) (sym p) (next-moves s i (line-begins l f) .0);
           there = record { diagram = l .words .1; events = r; shallow = omega (arith, l .good .1) };
         };
       }
@@ -97,7 +92,7 @@ weight-drawn n ar r k es =
 
 module _ {s : List ℕ} {n : Numbers} {names ar work : List ℕ} (x : Lent Variant s n names ar work) where
   pub weight-drawable : {out : List ℕ} {at : ℕ} (m : ℕ) → (variableCount + 1) * 2 ≤ m → WeightAt s at → resultWords ≤ length out
-      → Drawable s at names ar (weightScope n) (replicate m 0) 0 out work
+      → Drawable s at names ar (actionScope n None) (replicate m 0) 0 out work
   weight-drawable m h w l = record {
     short = line-short (x .line);
     within = w .within;
@@ -123,7 +118,7 @@ module _ {s : List ℕ} {n : Numbers} {names ar work : List ℕ} (x : Lent Varia
         ∙ ap (λ (b : Bool). pickOutcome b (refused Name) (roomed (leb mostVariants (length (namesOf names (n .counts) .variants))) (n .head .words / 3) (drawn (namesFor (namesOf names (n .counts)) ar None (namesOf names (n .counts) .parameters)) (eventsOf (drop at s)) []))) (among-at names variantsAt (n .counts .variants) k p h))
 
     pub weight-reads : (vs : List ℕ) {out : List ℕ} {b r : Built} → n .counts .variants ≤ i
-        → Draws ar (drawn (tableNames names ar (weightScope n)) (eventsOf (drop at s)) (keysAt vs 0 0)) b out
+        → Draws ar (drawn (tableNames names ar (actionScope n None)) (eventsOf (drop at s)) (keysAt vs 0 0)) b out
         → r ≡ roomedAs (leb mostVariants (n .counts .variants)) (n .head .words / 3) b → Draws ar read r out
     unfolding namesOf
     weight-reads vs {out} {b} {r} h d e =
@@ -140,7 +135,7 @@ module _ {s : List ℕ} {n : Numbers} {names ar work : List ℕ} (x : Lent Varia
 -- accepted, there is room for the variant and for its weight
 pub record WeightFits (n : Names) (r : ℕ) (d : Diagram) : Type 0 where
   pub variant : length (n .variants) < mostVariants
-  pub room : r + length (rows d) ≤ 2048
+  pub room : r + length (rows d) ≤ mostModelRows
 
 weight-fits : (n : Names) (ar : List ℕ) (r : ℕ) (k : Key) (es : List Event) {d : Diagram} → weightRead n ar r k es ≡ ok d → WeightFits n r d
 weight-fits n ar r k es {d} e = go (isAmong k (n .variants)) (sym (weight-drawn n ar r k es) ∙ e)
@@ -191,19 +186,6 @@ named-good : {s t : List ℕ} {n c : Counts} {k : Key} → VariantNamed s n k c 
 named-good {s} {t} {n} {c} p g = subst (λ (z : List ℕ). GoodNames z c) (sym (p .words)) (subst (GoodNames _) (sym (p .counts)) g)
 
 -- ===== Answered =====
-
--- the numbers behind an accepted variant: the counts c, and the head h
-abbrev pub variantNumbers : Numbers → Counts → Head → Numbers
-variantNumbers n c h = record {
-  part = n .part;
-  total = n .total;
-  discount = n .discount;
-  reward = n .reward;
-  counts = c;
-  head = h;
-  live = n .live;
-  held = n .held;
-}
 
 variant-done : (s : List ℕ) (number : ℕ) (n : Numbers) (w : Memory)
     → done (sessionOf n w) number Variant (wordsOf Variant s)
@@ -278,7 +260,7 @@ module _ (s : List ℕ) (n : Numbers) (names ar listings table : List ℕ) {k : 
           rows-are : h .words / 3 ≡ n .head .words / 3 + length (rows (D .diagram))
           rows-are = omega (arith, used-are, D .count)
 
-          session-is : sessionOf (variantNumbers n c h) After ≡ withVariant (sessionOf n Before) k (D .diagram)
+          session-is : sessionOf (numbersWith n (n .reward) c h) After ≡ withVariant (sessionOf n Before) k (D .diagram)
           unfolding sessionOf withVariant
           session-is = λ i. record {
             part = n .part;
@@ -290,27 +272,20 @@ module _ (s : List ℕ) (n : Numbers) (names ar listings table : List ℕ) {k : 
             held = heldIn (n .held) value;
           }
 
-          stored-is : Stored (variantNumbers n c h) After
-          stored-is = record {
-            vocabulary = record {
-              names = named-good p (names-good names (n .counts) k (y .lent .vocabulary .names) variant-few);
-              arities = y .lent .vocabulary .arities;
-            };
+          grown : Grown n ar listings names′ listings′ table′ (n .reward) c h m
+          grown = record {
+            vocabulary = record { names = named-good p (names-good names (n .counts) k (y .lent .vocabulary .names) variant-few); arities = y .lent .vocabulary .arities };
             building = a .building (q .stored .building) (drew-canonical D);
-            listing-room = omega (arith, l, q .stored .listing-room);
-            whole = omega (arith, used-are, y .listed .whole);
+            size = l;
+            words = used-are;
             reward = λ u z. q .stored .reward u (sym (ap (λ (g : Head). g .«reward_words») (a .answer)) ∙ z);
-            live = q .stored .live;
-            value-room = q .stored .value-room;
-            value-rows = q .stored .value-rows;
-            holding = λ u. absurd (not-run Variant q refl u);
           }
 
         pub variant-accepted : (number : ℕ)
-            → VariantSays s number n names ar listings table (record { numbers = variantNumbers n c h; answer = A.Nothing }) names′ listings′ table′
+            → VariantSays s number n names ar listings table (record { numbers = numbersWith n (n .reward) c h; answer = A.Nothing }) names′ listings′ table′
         variant-accepted number = record {
           says = λ state value q.
               line-accepted number q (line-is number state value)
               (ap (λ (o : Outcome Diagram). andThen o (λ z. ok (withVariant (sessionOf n (memoryOf names ar listings table state value)) k z))) (D .is))
-              (session-is state value q) (stored-is state value q);
+              (session-is state value q) (grown-stored q refl (grown state value q));
         }

@@ -20,7 +20,8 @@ use Rattle.text.specs.declared.Kind.the-variants.{Reward, Variant, Becomes}
 use Rattle.events.specs.declared.Event.{Event}
 use Rattle.names.specs.Keys.{putKey}
 use Rattle.names.specs.Layout.{variantsAt}
-use Rattle.reading.specs.declared.Binding.the-variants.{None, Only}
+use Rattle.reading.specs.declared.Binding.{Binding}
+use Rattle.reading.specs.declared.Binding.the-variants.{Only}
 use Rattle.reading.specs.declared.Scope.{Scope}
 use Rattle.reading.specs.declared.Opened.{Opened}
 use Rattle.reading.specs.Head.{headNumber, headArguments}
@@ -100,6 +101,12 @@ pub record LastOf (table : List ℕ) (n : Numbers) : Type 0 where
   pub some : 0 < n .head .actions
   pub variants : variantsOf table (n .head .actions - 1) ≡ n .counts .variants
 
+-- the names on the line of a weight or of a truth diagram: the parameters are those of the last action
+abbrev pub actionScope : Numbers → Binding → Scope
+actionScope n b = record { constants = n .counts .constants; predicates = n .counts .predicates; parameters = n .counts .parameters; binding = b }
+
+-- For each line, what its function requires of what it is lent, and what it promises whatever stands in the words that it is not lent.
+
 -- ===== (reward DIAGRAM) =====
 
 pub record RewardReady (s : List ℕ) (n : Numbers) (names ar listings work : List ℕ) : Type 0 where
@@ -112,16 +119,12 @@ pub record RewardSays (s : List ℕ) (number : ℕ) (n : Numbers) (names ar list
 
 -- ===== (variant n WEIGHT) =====
 
--- the counts of names on the line: its parameters are those of the last action
-abbrev pub weightScope : Numbers → Scope
-weightScope n = record { constants = n .counts .constants; predicates = n .counts .predicates; parameters = n .counts .parameters; binding = None }
-
 -- a diagram stands on the line from a place of it on
 pub record WeightAt (s : List ℕ) (at : ℕ) : Type 0 where
   pub within : at ≤ length s
   pub there : DiagramAt s at
 
--- one variant more
+-- one variant more, by its name
 abbrev pub moreVariants : Counts → Counts
 moreVariants n = record {
   constants = n .constants;
@@ -145,10 +148,6 @@ pub record VariantSays (s : List ℕ) (number : ℕ) (n : Numbers) (names ar lis
       → Answers Variant s number n (memoryOf names ar listings table state value) r (memoryOf names′ ar listings′ table′ state value)
 
 -- ===== (becomes (p ?a ..) DIAGRAM) =====
-
--- the counts of names on the line: its parameters are those of the last action
-abbrev pub truthScope : Numbers → Scope
-truthScope n = record { constants = n .counts .constants; predicates = n .counts .predicates; parameters = n .counts .parameters; binding = Only }
 
 -- a variant to which a truth diagram is added
 pub record VariantOpen (table : List ℕ) (n : Numbers) : Type 0 where

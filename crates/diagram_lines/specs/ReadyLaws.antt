@@ -2,20 +2,17 @@
 use mathlib.Core.Path.{_≡_, refl, sym, ap, subst, _∙_}
 use mathlib.Core.Bool.{Bool, true, false, not}
 use mathlib.Core.List.{List, [], _∷_, _++_}
-use Prim.Native.Nat.{ℕ, zero, suc, _+_, _*_, _-_, _≤_, _<_}
+use Prim.Native.Nat.{ℕ, zero, suc, _-_, _≤_, _<_}
 use native.Mathlib.Omega.{arith}
 use native.Mathlib.Numerals.{add-one}
 use borrow.Author.Tests.{leb-true}
-use lib.ListN.{length, getD, length-append}
+use lib.ListN.{length, length-append}
 use lib.Dec.{leb}
-use Rattle.refusal.specs.declared.Refusal.{Refusal}
-use Rattle.refusal.specs.declared.Refusal.the-variants.{Place}
-use Rattle.regress.specs.Calls.{Outcome, ok, refused, pickOutcome}
+use Rattle.regress.specs.Calls.{ok}
 use Rattle.mdp.specs.Model.{Action}
-use Rattle.words.specs.declared.Key.{Key}
 use Rattle.text.specs.declared.Kind.{Kind}
 use Rattle.text.specs.declared.Kind.the-variants.{Reward, Variant, Becomes}
-use Rattle.names.specs.Layout.{actionsAt, parametersAt, variantsAt}
+use Rattle.names.specs.Layout.{actionsAt, variantsAt}
 use Rattle.names.specs.KeyLaws.{length-keys}
 use Rattle.session.specs.declared.Part.{Part}
 use Rattle.session.specs.declared.Part.the-variants.{Model, Run}
@@ -26,8 +23,8 @@ use Rattle.session.specs.Good.{LastAction}
 use Rattle.declare.specs.Tables.{namesOf}
 use Rattle.model.specs.Layout.{many, variantPlace, variantAt, variantsOf, actionAt, modelOf}
 use Rattle.memory.specs.declared.Numbers.{Numbers}
-use Rattle.memory.specs.Memory.{Memory, memoryOf, sessionOf, Ready, workWords}
-use Rattle.diagram_lines.specs.Lines.{Lent, Listings, LastOf, RewardReady, VariantReady, VariantOpen, BecomesReady}
+use Rattle.memory.specs.Memory.{memoryOf, sessionOf, Ready, workWords}
+use Rattle.diagram_lines.specs.Lines.{Lent, Listings, LastOf, RewardReady, VariantReady, BecomesReady}
 
 -- ===== Its place =====
 

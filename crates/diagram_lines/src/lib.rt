@@ -10,6 +10,7 @@ use reading::Headed;
 use reading::Opened;
 use reading::Scope;
 use refusal::Refusal;
+use text::Kind;
 use words::Key;
 ghost use mathlib.Core.Path.{_≡_};
 ghost use mathlib.Core.Bool.{false};
@@ -25,6 +26,7 @@ ghost use Rattle.text.specs.declared.Kind.the-variants.{Reward, Variant, Become
 ghost use Rattle.events.specs.Front.{eventsOf};
 ghost use Rattle.names.specs.Keys.{keysAt};
 ghost use Rattle.names.specs.Layout.{variantsAt};
+ghost use Rattle.reading.specs.declared.Binding.the-variants.{Only};
 ghost use Rattle.reading.specs.Callers.{namesOf as tableNames};
 ghost use Rattle.session.specs.Modelling.{rewardRead, weightRead};
 ghost use Rattle.session.specs.Replies.{wordsOf};
@@ -32,20 +34,13 @@ ghost use Rattle.declare.specs.Tables.{namesOf, GoodNames};
 ghost use Rattle.model.specs.Layout.{listingWords};
 ghost use Rattle.memory.specs.Memory.{LineOf};
 ghost use Rattle.drawing.specs.Drawing.{drawn, Drawable, Draws};
-ghost use Rattle.diagram_lines.specs.Lines.{roomed, roomedAs, lowered, loweredAs, truthOf, BuiltIn, Lent, RewardReady, RewardSays, WeightAt, VariantNamed, VariantReady, VariantSays, truthScope, VariantOpen, TruthOpens, BecomesReady, BecomesSays};
+ghost use Rattle.diagram_lines.specs.Lines.{roomed, roomedAs, lowered, loweredAs, truthOf, BuiltIn, Lent, RewardReady, RewardSays, WeightAt, VariantNamed, VariantReady, VariantSays, actionScope, VariantOpen, TruthOpens, BecomesReady, BecomesSays};
 
 // Rows of all listings of a model.
-const MODEL_ROWS: usize = 2048;
+const MODEL_ROWS: usize = model::LISTING_WORDS / 3;
 
 // Words of a table of 33 variables.
 const VARIABLE_WORDS: usize = 66;
-
-// Where the words behind a line's key word begin.
-const REWARD_WORDS: usize = 8;
-
-const VARIANT_WORDS: usize = 9;
-
-const BECOMES_WORDS: usize = 9;
 
 // The rows of a diagram that is built, or 9 where there is no room beside it, or the model's listings, with so many words in use, have none for them.
 fn room(built: Built, full: bool, words: usize) -> Built
@@ -77,6 +72,7 @@ fn read_reward(
     requires { ⌜ resultWords ≤ length (now out) ⌝ }
     ensures { λ r. ⌜ Draws (now (arities .entry)) (rewardRead (namesOf (now (names .entry)) (n .counts)) (now (arities .entry)) (n .head .words / 3) (wordsOf Reward (now (line .entry)))) r (now (out .exit)) ⌝ }
 {
+    let at = events::first_word(Kind::Reward);
     let mut variables = [0u64; VARIABLE_WORDS];
     let scope = Scope {
         constants: n.counts.constants,
@@ -86,7 +82,7 @@ fn read_reward(
     };
     let built = drawing::draw_closed(
         line,
-        REWARD_WORDS,
+        at,
         names,
         arities,
         scope,
@@ -198,7 +194,7 @@ pub fn variant(
     requires { ⌜ VariantReady (now line) n (now names) (now arities) (now listings) (now table) (now work) ⌝ }
     ensures { λ r. ⌜ VariantSays (now (line .entry)) number n (now (names .entry)) (now (arities .entry)) (now (listings .entry)) (now (table .entry)) r (now (names .exit)) (now (listings .exit)) (now (table .exit)) ⌝ }
 {
-    let first = events::next_event(line, VARIANT_WORDS);
+    let first = events::next_event(line, events::first_word(Kind::Variant));
     let event = first.event;
     let key = events::key_in(event);
     let at = first.place;
@@ -276,9 +272,9 @@ fn draw_truth(
     out: &mut [u64],
     work: &mut [u64],
 ) -> Built
-    requires { ⌜ Drawable (now line) at (now names) (now arities) (truthScope n) (now variables) known (now out) (now work) ⌝ }
+    requires { ⌜ Drawable (now line) at (now names) (now arities) (actionScope n Only) (now variables) known (now out) (now work) ⌝ }
     requires { ⌜ n .head .words ≤ listingWords ⌝ }
-    ensures { λ r. ⌜ Draws (now (arities .entry)) (roomed false (n .head .words / 3) (lowered (drawn (tableNames (now (names .entry)) (now (arities .entry)) (truthScope n)) (eventsOf (drop at (now (line .entry)))) (keysAt (now (variables .entry)) 0 known)))) r (now (out .exit)) ⌝ }
+    ensures { λ r. ⌜ Draws (now (arities .entry)) (roomed false (n .head .words / 3) (lowered (drawn (tableNames (now (names .entry)) (now (arities .entry)) (actionScope n Only)) (eventsOf (drop at (now (line .entry)))) (keysAt (now (variables .entry)) 0 known)))) r (now (out .exit)) ⌝ }
 {
     let scope = Scope {
         constants: n.counts.constants,
@@ -306,9 +302,10 @@ fn read_truth(
     requires { ⌜ resultWords ≤ length (now out) ⌝ }
     ensures { λ r. ⌜ Draws (now (arities .entry)) (truthOf (namesOf (now (names .entry)) (n .counts)) (now (arities .entry)) p (n .head .words / 3) (wordsOf Becomes (now (line .entry)))) r (now (out .exit)) ⌝ }
 {
+    let first = events::first_word(Kind::Becomes);
     let mut variables = [0u64; VARIABLE_WORDS];
     let arity = arities[p] as usize;
-    let headed = reading::head_arguments(line, BECOMES_WORDS, &mut variables, arity);
+    let headed = reading::head_arguments(line, first, &mut variables, arity);
     match headed {
         Headed::Refused(why) => Built::Refused(why),
         Headed::Arguments(at) => draw_truth(
@@ -332,7 +329,8 @@ fn open_truth(line: &[u8], n: Numbers, names: &[u64], table: &[u64]) -> Opened
     requires { ⌜ VariantOpen (now table) n ⌝ }
     ensures { λ r. ⌜ TruthOpens n (now (names .entry)) (now (table .entry)) (wordsOf Becomes (now (line .entry))) r ⌝ }
 {
-    let opened = reading::head_predicate(line, BECOMES_WORDS, names, n.counts.predicates);
+    let first = events::first_word(Kind::Becomes);
+    let opened = reading::head_predicate(line, first, names, n.counts.predicates);
     let Opened::Predicate(p) = opened else {
         return opened;
     };
