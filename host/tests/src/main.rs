@@ -2,20 +2,26 @@
 //!
 //!     tests self [seconds N | count N] [seed N]
 //!     tests program PATH [seconds N | count N] [seed N]
+//!     tests library [seconds N | count N] [seed N]
 //!     tests stored FOLDER [PATH]
 //!     tests text SEED
 //!
 //! `self` holds the reference against brute force, counts the refusals met, and sees that each of document 01's slips is caught.
-//! `program` feeds random texts to a program and to the reference. `stored` runs each NAME.txt of a folder and compares with
+//! `program` feeds random texts to a program and to the reference. `library` (feature `library`) makes random calls of the static
+//! library and of the reference, and sees that each call gave each of its answers. `stored` runs each NAME.txt of a folder and compares with
 //! NAME.out, by the reference or by the program at PATH. `text` prints the random text of a seed. Default: a minute, from seed 0.
 
 mod bellman;
+#[cfg(feature = "library")]
+mod library;
 mod limits;
 mod listings;
 mod meaning;
 mod models;
 mod program;
 mod random;
+#[cfg(feature = "library")]
+mod shapes;
 mod tally;
 mod texts;
 
@@ -117,6 +123,27 @@ fn compare(program: &Path, bound: &Bound) -> Result<(), String> {
     Ok(())
 }
 
+#[cfg(feature = "library")]
+fn library_calls(bound: &Bound) -> Result<(), String> {
+    let mut answers = library::Answers::default();
+    let mut done = 0;
+    for seed in bound.seeds() {
+        library::check(seed, &mut answers).map_err(|message| format!("seed {seed}: {message}"))?;
+        done += 1;
+    }
+    println!("the library's calls of {done} seeds from {} have equal answers", bound.first);
+    answers.print();
+    match answers.wrong() {
+        wrong if wrong.is_empty() => Ok(()),
+        wrong => Err(format!("answers that were never met or are not possible: {wrong:?}")),
+    }
+}
+
+#[cfg(not(feature = "library"))]
+fn library_calls(_: &Bound) -> Result<(), String> {
+    Err("built without the static library; build with --features library".to_string())
+}
+
 fn stored(folder: &Path, program: Option<&Path>) -> Result<(), String> {
     let entries = std::fs::read_dir(folder).map_err(|error| format!("{}: {error}", folder.display()))?;
     let mut texts: Vec<PathBuf> = entries.filter_map(|entry| entry.ok().map(|e| e.path())).collect();
@@ -141,13 +168,14 @@ fn run(arguments: &[String]) -> Result<(), String> {
     match arguments {
         [mode, rest @ ..] if mode == "self" => self_tests(&Bound::read(rest)?),
         [mode, path, rest @ ..] if mode == "program" => compare(Path::new(path), &Bound::read(rest)?),
+        [mode, rest @ ..] if mode == "library" => library_calls(&Bound::read(rest)?),
         [mode, folder] if mode == "stored" => stored(Path::new(folder), None),
         [mode, folder, path] if mode == "stored" => stored(Path::new(folder), Some(Path::new(path))),
         [mode, seed] if mode == "text" => {
             let seed = seed.parse().map_err(|_| format!("{seed} is no number"))?;
             std::io::stdout().write_all(&texts::text(seed)).map_err(|error| error.to_string())
         }
-        _ => Err("use: tests self | program PATH | stored FOLDER [PATH] | text SEED".to_string()),
+        _ => Err("use: tests self | program PATH | library | stored FOLDER [PATH] | text SEED".to_string()),
     }
 }
 
