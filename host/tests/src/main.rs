@@ -8,12 +8,14 @@
 //!
 //! `self` holds the reference against brute force, counts the refusals met, and sees that each of document 01's slips is caught.
 //! `program` feeds random texts to a program and to the reference. `library` (feature `library`) makes random calls of the static
-//! library and of the reference, and sees that each call gave each of its answers. `stored` runs each NAME.txt of a folder and compares with
+//! library and of the reference, and sees that each call gave each of its answers; with the feature `text` whole texts too. `stored` runs each NAME.txt of a folder and compares with
 //! NAME.out, by the reference or by the program at PATH. `text` prints the random text of a seed. Default: a minute, from seed 0.
 
 mod bellman;
 #[cfg(feature = "library")]
 mod library;
+#[cfg(feature = "text")]
+mod library_texts;
 mod limits;
 mod listings;
 mod meaning;
@@ -128,7 +130,10 @@ fn library_calls(bound: &Bound) -> Result<(), String> {
     let mut answers = library::Answers::default();
     let mut done = 0;
     for seed in bound.seeds() {
-        library::check(seed, &mut answers).map_err(|message| format!("seed {seed}: {message}"))?;
+        let failed = |message: String| format!("seed {seed}: {message}");
+        library::check(seed, &mut answers).map_err(failed)?;
+        #[cfg(feature = "text")]
+        library_texts::check(seed, &texts::text(seed)).map_err(failed)?;
         done += 1;
     }
     println!("the library's calls of {done} seeds from {} have equal answers", bound.first);
