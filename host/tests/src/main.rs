@@ -34,6 +34,9 @@ use std::path::{Path, PathBuf};
 use std::time::{Duration, Instant};
 use tally::Tally;
 
+/// So many seeds from 0 on meet every refusal.
+const SEEDS: u64 = 400;
+
 /// How long a run of seeds goes on.
 struct Bound {
     end: Option<Instant>,
@@ -59,8 +62,10 @@ impl Bound {
         Ok(bound)
     }
 
-    fn seeds(&self) -> impl Iterator<Item = u64> + '_ {
-        (self.first..).take(self.count as usize).take_while(|_| self.end.is_none_or(|end| Instant::now() < end))
+    /// The seeds one after another; where time is bound, at least so many.
+    fn seeds(&self, least: u64) -> impl Iterator<Item = u64> + '_ {
+        let goes_on = move |seed: &u64| seed - self.first < least || self.end.is_none_or(|end| Instant::now() < end);
+        (self.first..).take(self.count as usize).take_while(goes_on)
     }
 }
 
@@ -75,7 +80,7 @@ fn values_and_meanings(seed: u64, slips: Slips, tally: &mut Tally) -> Result<(),
 fn self_tests(bound: &Bound) -> Result<(), String> {
     let mut tally = Tally::default();
     let mut done = 0;
-    for seed in bound.seeds() {
+    for seed in bound.seeds(SEEDS) {
         values_and_meanings(seed, Slips::NONE, &mut tally)?;
         meaning::check_combination(seed, &mut tally).map_err(|message| format!("seed {seed}, combination: {message}"))?;
         listings::check(seed, &mut tally).map_err(|message| format!("seed {seed}, listing: {message}"))?;
@@ -112,7 +117,7 @@ fn slips_are_caught() -> Result<(), String> {
 
 fn compare(program: &Path, bound: &Bound) -> Result<(), String> {
     let mut done = 0;
-    for seed in bound.seeds() {
+    for seed in bound.seeds(0) {
         let text = texts::text(seed);
         if let Err(message) = program::check(program, &text) {
             let short = program::shortened(program, &text);
@@ -129,7 +134,7 @@ fn compare(program: &Path, bound: &Bound) -> Result<(), String> {
 fn library_calls(bound: &Bound) -> Result<(), String> {
     let mut answers = library::Answers::default();
     let mut done = 0;
-    for seed in bound.seeds() {
+    for seed in bound.seeds(SEEDS) {
         let failed = |message: String| format!("seed {seed}: {message}");
         library::check(seed, &mut answers).map_err(failed)?;
         #[cfg(feature = "text")]
