@@ -1,13 +1,43 @@
 #!/usr/bin/env bash
-# All tests: layout, proofs, must-fail edits and test programs. The gate's verdict 'N passed, M failed' is the last line.
+# All tests: layout, proofs, must-fail edits and test programs (rt ci), then the host tests. The gate's verdict 'N passed, M failed' is the last line; a host test
+# that fails counts among its failed ones.
 set -uo pipefail
 cd "$(dirname "$0")" || exit 2
 
 rt fmt --check || { echo "rt fmt --check is not clean"; exit 1; }
 
 log=$(mktemp)
-trap 'rm -f "$log"' EXIT
+host_log=$(mktemp)
+trap 'rm -f "$log" "$host_log"' EXIT
 rt ci 2>&1 | tee "$log" | sed -u '$d'
 status=${PIPESTATUS[0]}
-tail -n 1 "$log"
+verdict=$(tail -n 1 "$log")
+
+# The host tests, their own verdict to $host_log; rt ci has removed the static library, so it is built again from what is proved.
+host_tests() {
+    if ! rt staticlib c_library >"$host_log" 2>&1; then
+        tail -n 20 "$host_log"
+        echo "failed: rt staticlib c_library"
+        echo "0 passed, 1 failed" >"$host_log"
+        return
+    fi
+    bash host/test.sh target/bin/yindolve 10 2>&1 | tee "$host_log" | sed -u '$s/^/host tests: /'
+}
+
+failed=0
+if [ "$status" -ne 0 ]; then
+    echo "the host tests are left out, since rt ci did not pass"
+elif ! command -v cargo >/dev/null || ! command -v cc >/dev/null; then
+    echo "the host tests are left out, since they need cargo and a C compiler"
+else
+    host_tests
+    failed=$(sed -n '$s/.* passed, \([0-9]*\) failed$/\1/p' "$host_log")
+    failed=${failed:-1}
+fi
+
+if [ "$failed" -ne 0 ]; then
+    echo "${verdict%% passed,*} passed, $failed failed"
+    exit 1
+fi
+echo "$verdict"
 exit "$status"

@@ -1,15 +1,31 @@
 #!/usr/bin/env bash
-# All host tests. With a program's path, the stored and random texts go through that program too. The last line is the verdict.
+# All host tests. With a program's path, the stored and random texts go through that program too; where the static library is there, its calls are tested. Random
+# tests run for SECONDS each. The last line is the verdict.
 #     host/test.sh [PROGRAM] [SECONDS]
 set -uo pipefail
-program=${1:+$(realpath "$1")}
+program=${1:-}
 seconds=${2:-20}
+if [ -n "$program" ]; then program=$(realpath "$program"); fi
 cd "$(dirname "$0")" || exit 2
+library=${YINDOLVE_LIBRARY:-../target/staticlib/libc_library.a}
 
 passed=0
 failed=0
 step() {
     if "$@"; then passed=$((passed + 1)); else failed=$((failed + 1)); echo "failed: $*"; fi
+}
+
+# prints LINES COMMAND..: whether the command prints these lines.
+prints() {
+    local lines=$1 printed
+    shift
+    printed=$("$@") || return 1
+    if [ "$printed" != "$lines" ]; then echo "$* prints: $printed"; return 1; fi
+}
+
+c_example() {
+    mkdir -p target/c
+    cc -std=c99 -Wall -Wextra -Werror -I../include -o target/c/value ../examples/value.c "$library" && prints 10 target/c/value
 }
 
 step cargo fmt --check
@@ -18,10 +34,31 @@ step cargo build --quiet --release --offline
 step target/release/tests self seconds "$seconds"
 step target/release/tests stored corpus
 step target/release/tests stored ../examples
-if [ -n "$program" ]; then
+
+if [ -f "$library" ]; then
+    text=
+    if nm "$library" | grep -q ' T yindolve_run$'; then text=text; fi
+    step cargo test --quiet --release --offline -p yindolve --features "$text"
+    step cargo build --quiet --release --offline -p tests --features "library $text"
+    step target/release/tests library seconds "$seconds"
+    step c_example
+    step prints $'apart: 6 rows, 7 pairs, value 20\nshared: 6 rows, 7 pairs, value 10' \
+        cargo run --quiet --release --offline -p yindolve --example add_apart
+    if [ -n "$text" ]; then
+        step cargo run --quiet --release --offline -p yindolve --features text --example keep_loaded
+    else
+        echo "the static library has no yindolve_run yet: whole texts by the library are left out"
+    fi
+else
+    echo "no static library at $library (rt staticlib c_library builds it): its tests are left out"
+fi
+
+if [ -n "$program" ] && [ -x "$program" ]; then
     step target/release/tests stored corpus "$program"
     step target/release/tests stored ../examples "$program"
     step target/release/tests program "$program" seconds "$seconds"
+else
+    echo "no program${program:+ at $program}: its texts are left out"
 fi
 echo "$passed passed, $failed failed"
 [ "$failed" -eq 0 ]

@@ -12,6 +12,8 @@
  * Answers. Each function answers 0, or the number of the refusal. After a refusal the result buffer and what the other pointers are to, the working space
  * apart, are as they were. Words of the result buffer behind a result stay. The working space may hold anything before a call and holds nothing of use after it.
  *
+ * Stack and threads. A call uses less than a megabyte of stack. The library has no memory of its own, so calls on different memory may run at the same time.
+ *
  * Each function is proved to answer and to write what document 01 says, on all words.
  */
 #ifndef YINDOLVE_H
@@ -108,6 +110,36 @@ uint64_t yindolve_cut(const uint64_t *arities, size_t arities_count, const uint6
  */
 uint64_t yindolve_value(const uint64_t *arities, size_t arities_count, const uint64_t *words, size_t words_count, uint64_t objects, const uint64_t *constants,
     size_t constants_count, const uint64_t *facts, size_t facts_count, uint64_t *value);
+
+#ifdef YINDOLVE_TEXT /* for a library that has these functions */
+
+/* A whole text, a model and its run: all answers to `answers`, one line each, and their bytes to *bytes. Bytes behind them stay.
+ * Refused: BUFFER where the answer of a line does not fit what is left; then *bytes are written, the answers of *lines lines.
+ */
+uint64_t yindolve_run(const uint8_t *text, size_t text_count, uint8_t *answers, size_t answers_count, uint64_t *bytes, uint64_t *lines);
+
+/* Sizes of a session's memory, in words, and of the answer of one line, in bytes, at most. */
+#define YINDOLVE_NUMBERS_WORDS 24
+#define YINDOLVE_NAMES_WORDS 136
+#define YINDOLVE_LISTINGS_WORDS 6144
+#define YINDOLVE_TABLE_WORDS 4240
+#define YINDOLVE_STATE_WORDS 5152
+#define YINDOLVE_VALUE_WORDS 3072
+#define YINDOLVE_LINE_WORK_WORDS 8190
+#define YINDOLVE_ANSWER_BYTES 92160
+
+/* A text line by line. yindolve_open makes the memory that of a session before its first line; yindolve_line answers the next line, lent without its line feed,
+ * and writes the answer to `answer` and its bytes, 0 where the line has none, to *bytes. A session is the words of numbers, names, arities, listings, table,
+ * state and value: between lines they have to stay as opening or the last line left them, and what the caller lends as a session has to be one, since it is
+ * not checked again. A session is copied by copying these words.
+ * Refused: BUFFER for memory that is too small. A line that is refused is answered in `answer`, as (refused NUMBER LINE).
+ */
+uint64_t yindolve_open(uint64_t *numbers, size_t numbers_count, uint64_t *arities, size_t arities_count, uint64_t *state, size_t state_count);
+uint64_t yindolve_line(const uint8_t *line, size_t line_count, uint64_t *numbers, size_t numbers_count, uint64_t *names, size_t names_count, uint64_t *arities,
+    size_t arities_count, uint64_t *listings, size_t listings_count, uint64_t *table, size_t table_count, uint64_t *state, size_t state_count, uint64_t *value,
+    size_t value_count, uint64_t *work, size_t work_count, uint8_t *answer, size_t answer_count, uint64_t *bytes);
+
+#endif
 
 #ifdef __cplusplus
 }

@@ -1,15 +1,16 @@
 -- Laws of an action's parameters: read one after another, each among those before it or not, and copied into the table of names.
 use mathlib.Core.Path.{_≡_, refl, sym, ap, subst, _∙_}
-use mathlib.Core.Bool.{Bool, true, false, _||_}
+use mathlib.Core.Bool.{Bool, true, false}
 use mathlib.Core.List.{List, [], _∷_, _++_, append-nil, append-assoc}
-use Prim.Native.Nat.{ℕ, zero, suc, _+_, _*_, _-_, _<_, _≤_}
+use Prim.Native.Nat.{ℕ, _+_, _*_, _-_, _<_, _≤_}
 use native.Mathlib.Omega.{arith}
 use borrow.Author.Tests.{lt-ltb, le-ltb, le-leb, lt-leb}
-use lib.ListN.{length, getD, drop, length-drop}
+use lib.ListN.{length, drop, length-drop}
+use Rattle.label.specs.Limits.{parameterCount}
 use Rattle.words.specs.declared.Key.{Key}
 use Rattle.names.specs.Keys.{keyAt, keysAt, placeOf, isAmong, putKey}
-use Rattle.names.specs.Layout.{constantsAt, declaredAt, actionsAt, parametersAt, variantsAt}
-use Rattle.names.specs.KeyLaws.{Same, among-at, among-none, length-keys, keys-same, length-put, put-before, keys-more}
+use Rattle.names.specs.Layout.{constantsAt, declaredAt, actionsAt, parametersAt, variantsAt, nameWords}
+use Rattle.names.specs.KeyLaws.{among-at, among-none, length-keys, keys-same, length-put, put-before, keys-more}
 use Rattle.names.specs.Many.{many}
 use Rattle.names.specs.ManyLaws.{many-more}
 use Rattle.events.specs.declared.Event.{Event}
@@ -19,6 +20,7 @@ use Rattle.events.specs.FrontLaws.{next-end, next-more, next-moves, events-shor
 use Rattle.events.specs.Contents.{keyIn, keysIn}
 use Rattle.refusal.specs.declared.Refusal.the-variants.{Name, Space}
 use Rattle.regress.specs.Calls.{ok}
+use Rattle.mdp.specs.Model.{mostActions}
 use Rattle.session.specs.Declaring.{repeated, actionLine}
 use Rattle.declare.specs.declared.Counts.{Counts}
 use Rattle.declare.specs.declared.Declared.the-variants.{Done, Refused}
@@ -144,7 +146,7 @@ pub copy-start : (ks s : List ℕ) → Copied ks s s 0
 unfolding keysAt many
 copy-start ks s = record { size = refl; keys = refl; before = record { word = λ i h k. refl } }
 
-pub copy-on : (ks s t : List ℕ) (i n : ℕ) {k : Key} {u : List ℕ} → i < n → n ≤ 4 → 136 ≤ length s → Copied ks s t i → k ≡ keyAt ks 0 i → u ≡ putKey t (parametersAt + i * 2) k → Copied ks s u (i + 1)
+pub copy-on : (ks s t : List ℕ) (i n : ℕ) {k : Key} {u : List ℕ} → i < n → n ≤ parameterCount → nameWords ≤ length s → Copied ks s t i → k ≡ keyAt ks 0 i → u ≡ putKey t (parametersAt + i * 2) k → Copied ks s u (i + 1)
 unfolding keysAt
 copy-on ks s t i n {k} {u} h f r c e z =
     let w = c .size in
@@ -158,7 +160,7 @@ copy-on ks s t i n {k} {u} h f r c e z =
 pub put-size : (s t u : List ℕ) (i : ℕ) (k : Key) → length t ≡ length s → u ≡ putKey t i k → length u ≡ length s
 put-size s t u i k e z = ap length z ∙ length-put t i k ∙ e
 
-pub copy-room : (ks s t : List ℕ) (i n : ℕ) → Copied ks s t i → 136 ≤ length s → i < n → n ≤ 4 → parametersAt + i * 2 + 2 ≤ length t
+pub copy-room : (ks s t : List ℕ) (i n : ℕ) → Copied ks s t i → nameWords ≤ length s → i < n → n ≤ parameterCount → parametersAt + i * 2 + 2 ≤ length t
 copy-room ks s t i n c r h f = let w = c .size in omega arith
 
 pub copy-end : (ks s t : List ℕ) (i n : ℕ) → Copied ks s t i → i ≤ n → n ≤ i → Copied ks s t n
@@ -190,25 +192,25 @@ module _ (s : List ℕ) (n : Counts) (k : Key) (ps : List Key) where
       size : length ps ≡ c
       size = ap length (sym (distinct .1)) ∙ length-keys ks 0 c
 
-      pub action-parameters : 4 < c → Naming (actionLine (namesOf s n) k ps) s (Refused Space) s
+      pub action-parameters : parameterCount < c → Naming (actionLine (namesOf s n) k ps) s (Refused Space) s
       unfolding actionLine namesOf
-      action-parameters l = record { named = (rw (among-none s actionsAt (n .actions) k p h, distinct .0, size, lt-ltb 4 c l), refl) }
+      action-parameters l = record { named = (rw (among-none s actionsAt (n .actions) k p h, distinct .0, size, lt-ltb parameterCount c l), refl) }
 
-      pub action-many : c ≤ 4 → 8 ≤ n .actions → Naming (actionLine (namesOf s n) k ps) s (Refused Space) s
+      pub action-many : c ≤ parameterCount → mostActions ≤ n .actions → Naming (actionLine (namesOf s n) k ps) s (Refused Space) s
       unfolding actionLine namesOf
-      action-many l m = record { named = (rw (among-none s actionsAt (n .actions) k p h, distinct .0, size, le-ltb 4 c l, length-keys s actionsAt (n .actions), le-leb 8 (n .actions) m), refl) }
+      action-many l m = record { named = (rw (among-none s actionsAt (n .actions) k p h, distinct .0, size, le-ltb parameterCount c l, length-keys s actionsAt (n .actions), le-leb mostActions (n .actions) m), refl) }
 
       pub action-room : c * 2 ≤ length ks
       action-room = distinct .2
 
-      pub action-done : {t u : List ℕ} → GoodNames s n → c ≤ 4 → n .actions < 8 → t ≡ putKey s (actionsAt + n .actions * 2) k → Copied ks t u c
+      pub action-done : {t u : List ℕ} → GoodNames s n → c ≤ parameterCount → n .actions < mostActions → t ≡ putKey s (actionsAt + n .actions * 2) k → Copied ks t u c
           → Naming (actionLine (namesOf s n) k ps) s
           (Done (record { constants = n .constants; predicates = n .predicates; actions = n .actions + 1; parameters = c; variants = 0 })) u
       unfolding actionLine namesOf
       action-done {t} {u} g l m z y =
           record {
             named = (
-              rw (among-none s actionsAt (n .actions) k p h, distinct .0, size, le-ltb 4 c l, length-keys s actionsAt (n .actions), lt-leb 8 (n .actions) m)
+              rw (among-none s actionsAt (n .actions) k p h, distinct .0, size, le-ltb parameterCount c l, length-keys s actionsAt (n .actions), lt-leb mostActions (n .actions) m)
                   (ap ok (names-ext _ _
                   (sym (early constantsAt (n .constants) (let a = g .constants in omega arith) ∙ kept constantsAt (n .constants) (let a = g .constants in omega arith)))
                   (sym (early declaredAt (n .predicates) (let a = g .predicates in omega arith) ∙ kept declaredAt (n .predicates) (let a = g .predicates in omega arith)))
@@ -233,5 +235,5 @@ module _ (s : List ℕ) (n : Counts) (k : Key) (ps : List Key) where
           kept base w r = ap (λ (x : List ℕ). keysAt x base w) z
               ∙ keys-same s (putKey s (actionsAt + n .actions * 2) k) base w (put-before s (actionsAt + n .actions * 2) k base (w * 2) (omega arith))
 
-pub put-room : (s t : List ℕ) (n : Counts) (i : ℕ) (k : Key) → GoodNames s n → t ≡ putKey s i k → 136 ≤ length t
+pub put-room : (s t : List ℕ) (n : Counts) (i : ℕ) (k : Key) → GoodNames s n → t ≡ putKey s i k → nameWords ≤ length t
 put-room s t n i k g z = let r = g .room in rw (z, length-put) r

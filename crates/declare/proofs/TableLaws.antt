@@ -1,27 +1,28 @@
 -- Laws of the tables of names, one for each way out of a declaration.
-use mathlib.Core.Path.{_≡_, refl, sym, ap, _∙_}
-use mathlib.Core.Bool.{Bool, true, false, _||_, _&&_}
+use mathlib.Core.Path.{_≡_, refl, sym, ap}
+use mathlib.Core.Bool.{Bool, true, false, _&&_}
 use mathlib.Core.List.{List, [], _∷_, _++_}
 use Prim.Native.Nat.{ℕ, zero, suc, _+_, _*_, _<_, _≤_}
 use native.Mathlib.Omega.{arith}
 use borrow.Author.Tests.{le-leb, lt-leb, le-ltb, lt-ltb, eqb-true}
 use lib.ListN.{length, getD, set, length-set}
 use lib.Seq.{getD-set-other}
-use lib.Dec.{ltb, leb, eqb}
+use lib.Dec.{leb, eqb}
 use Rattle.basics.specs.Tests.{and-left, and-right}
-use Rattle.label.specs.Limits.{predicateCount, mostPlaces, equality, equalityArity}
+use Rattle.label.specs.Limits.{predicateCount, mostPlaces, equality, equalityArity, constantCount}
 use Rattle.label.specs.Labels.{allAtMost, areArities}
 use Rattle.refusal.specs.declared.Refusal.the-variants.{Name, Range, Space}
 use Rattle.words.specs.declared.Key.{Key}
-use Rattle.names.specs.Keys.{keysAt, placeOf, isAmong, putKey}
+use Rattle.names.specs.Keys.{keysAt, placeOf, putKey}
 use Rattle.names.specs.Layout.{constantsAt, declaredAt, actionsAt, parametersAt, variantsAt}
 use Rattle.names.specs.KeyLaws.{among-at, among-none, length-keys, keys-same, length-put, put-before, put-behind, keys-more}
-use Rattle.regress.specs.Calls.{Outcome, ok, refused}
+use Rattle.regress.specs.Calls.{ok}
+use Rattle.mdp.specs.Model.{mostTotal, mostDenominator}
 use Rattle.session.specs.Session.{Names}
 use Rattle.session.specs.Declaring.{isDeclared, constantLine, Vocabulary, predicateLine, isTotal, isDiscount}
 use Rattle.declare.specs.declared.Counts.{Counts}
 use Rattle.declare.specs.declared.Declared.the-variants.{Done, Refused}
-use Rattle.declare.specs.Tables.{namesOf, GoodNames, Named, Naming, vocabularyOf, GoodVocabulary, Wording}
+use Rattle.declare.specs.Tables.{namesOf, GoodNames, Naming, vocabularyOf, GoodVocabulary, Wording}
 
 pub names-ext : (x y : Names) → x .constants ≡ y .constants → x .predicates ≡ y .predicates → x .actions ≡ y .actions → x .parameters ≡ y .parameters
     → x .variants ≡ y .variants → x ≡ y
@@ -43,7 +44,7 @@ module _ (s : List ℕ) (n : Counts) (k : Key) {i : ℕ} (p : i ≡ placeOf k (k
 
 -- ===== (constant n) =====
 
-constant-put : (s : List ℕ) (n : Counts) (k : Key) → GoodNames s n → n .constants < 16
+constant-put : (s : List ℕ) (n : Counts) (k : Key) → GoodNames s n → n .constants < constantCount
     → namesOf (putKey s (constantsAt + n .constants * 2) k) (record { constants = n .constants + 1; predicates = n .predicates; actions = n .actions; parameters = n .parameters; variants = n .variants })
     ≡ record {
       constants = keysAt s constantsAt (n .constants) ++ (k ∷ []);
@@ -72,15 +73,15 @@ module _ (s : List ℕ) (n : Counts) (k : Key) where
   constant-name p e = record { named = (rw (← p, e), refl) }
 
   module _ {b : Bool} (p : b ≡ isDeclared (namesOf s n) k) (e : b ≡ false) where
-    pub constant-space : 16 ≤ n .constants → Naming (constantLine (namesOf s n) k) s (Refused Space) s
+    pub constant-space : constantCount ≤ n .constants → Naming (constantLine (namesOf s n) k) s (Refused Space) s
     unfolding constantLine namesOf
-    constant-space h = record { named = (rw (← p, e, length-keys, le-leb 16 (n .constants) h), refl) }
+    constant-space h = record { named = (rw (← p, e, length-keys, le-leb constantCount (n .constants) h), refl) }
 
-    pub constant-done : {t : List ℕ} → GoodNames s n → n .constants < 16 → t ≡ putKey s (constantsAt + n .constants * 2) k
+    pub constant-done : {t : List ℕ} → GoodNames s n → n .constants < constantCount → t ≡ putKey s (constantsAt + n .constants * 2) k
         → Naming (constantLine (namesOf s n) k) s
         (Done (record { constants = n .constants + 1; predicates = n .predicates; actions = n .actions; parameters = n .parameters; variants = n .variants })) t
     unfolding constantLine namesOf
-    constant-done g h q = rw q (record { named = (rw (← p, e, length-keys, lt-leb 16 (n .constants) h) (ap ok (sym (constant-put s n k g h))), good) })
+    constant-done g h q = rw q (record { named = (rw (← p, e, length-keys, lt-leb constantCount (n .constants) h) (ap ok (sym (constant-put s n k g h))), good) })
       where
         good : GoodNames (putKey s (constantsAt + n .constants * 2) k) (record { constants = n .constants + 1; predicates = n .predicates; actions = n .actions; parameters = n .parameters; variants = n .variants })
         good = record { room = rw (length-put) (g .room); constants = omega arith; predicates = g .predicates; actions = g .actions; parameters = g .parameters; variants = g .variants }
@@ -106,7 +107,7 @@ arities-set ar i a h p f =
     and-both (eqb (length (set ar i a)) predicateCount) _ (rw length-set u)
     (and-both (eqb (getD (set ar i a) equality 0) equalityArity) _ (rw (getD-set-other ar i equality a 0 (λ e. omega arith)) w) (at-most-set ar i a x f))
 
-predicate-put : (s : List ℕ) (n : Counts) (k : Key) → GoodNames s n → n .predicates + 1 < 32
+predicate-put : (s : List ℕ) (n : Counts) (k : Key) → GoodNames s n → n .predicates + 1 < predicateCount
     → namesOf (putKey s (declaredAt + n .predicates * 2) k) (record { constants = n .constants; predicates = n .predicates + 1; actions = n .actions; parameters = n .parameters; variants = n .variants })
     ≡ record {
       constants = namesOf s n .constants;
@@ -139,20 +140,20 @@ module _ (s ar : List ℕ) (n : Counts) (k : Key) (a : ℕ) where
   predicate-name p e = record { worded = (rw (← p, e), refl, refl) }
 
   module _ {b : Bool} (p : b ≡ isDeclared (namesOf s n) k) (e : b ≡ false) where
-    pub predicate-range : 4 < a → Wording (predicateLine (vocabularyOf s ar n) k a) s ar (Refused Range) s ar
+    pub predicate-range : mostPlaces < a → Wording (predicateLine (vocabularyOf s ar n) k a) s ar (Refused Range) s ar
     unfolding predicateLine vocabularyOf
-    predicate-range h = record { worded = (rw (← p, e, lt-ltb 4 a h), refl, refl) }
+    predicate-range h = record { worded = (rw (← p, e, lt-ltb mostPlaces a h), refl, refl) }
 
-    pub predicate-space : a ≤ 4 → 32 ≤ n .predicates + 1 → Wording (predicateLine (vocabularyOf s ar n) k a) s ar (Refused Space) s ar
+    pub predicate-space : a ≤ mostPlaces → predicateCount ≤ n .predicates + 1 → Wording (predicateLine (vocabularyOf s ar n) k a) s ar (Refused Space) s ar
     unfolding predicateLine vocabularyOf namesOf
-    predicate-space f h = record { worded = (rw (← p, e, le-ltb 4 a f, length-keys, le-leb 32 (suc (n .predicates)) (omega arith)), refl, refl) }
+    predicate-space f h = record { worded = (rw (← p, e, le-ltb mostPlaces a f, length-keys, le-leb predicateCount (suc (n .predicates)) (omega arith)), refl, refl) }
 
-    pub predicate-done : {t br : List ℕ} → GoodVocabulary s ar n → a ≤ 4 → n .predicates + 1 < 32 → t ≡ putKey s (declaredAt + n .predicates * 2) k
+    pub predicate-done : {t br : List ℕ} → GoodVocabulary s ar n → a ≤ mostPlaces → n .predicates + 1 < predicateCount → t ≡ putKey s (declaredAt + n .predicates * 2) k
         → br ≡ set ar (n .predicates + 1) a
         → Wording (predicateLine (vocabularyOf s ar n) k a) s ar
         (Done (record { constants = n .constants; predicates = n .predicates + 1; actions = n .actions; parameters = n .parameters; variants = n .variants })) t br
     unfolding predicateLine vocabularyOf namesOf
-    predicate-done g f h q u = rw (q, u) (record { worded = (rw (← p, e, le-ltb 4 a f, length-keys, lt-leb 32 (suc (n .predicates)) (omega arith)) (ap ok (sym same)), good) })
+    predicate-done g f h q u = rw (q, u) (record { worded = (rw (← p, e, le-ltb mostPlaces a f, length-keys, lt-leb predicateCount (suc (n .predicates)) (omega arith)) (ap ok (sym same)), good) })
       where
         same : vocabularyOf (putKey s (declaredAt + n .predicates * 2) k) (set ar (n .predicates + 1) a) (record { constants = n .constants; predicates = n .predicates + 1; actions = n .actions; parameters = n .parameters; variants = n .variants })
             ≡ record {
@@ -173,9 +174,9 @@ module _ (s ar : List ℕ) (n : Counts) (k : Key) (a : ℕ) where
           arities = arities-set ar (n .predicates + 1) a (g .arities) (omega arith) f;
         }
 
-pub arity-room : (s ar : List ℕ) (n : Counts) → GoodVocabulary s ar n → n .predicates + 1 < 32 → n .predicates + 1 < length ar
+pub arity-room : (s ar : List ℕ) (n : Counts) → GoodVocabulary s ar n → n .predicates + 1 < predicateCount → n .predicates + 1 < length ar
 unfolding areArities
-arity-room s ar n g h = let e = eqb-true (length ar) 32 (and-left (eqb (length ar) 32) _ (g .arities)) in omega arith
+arity-room s ar n g h = let e = eqb-true (length ar) predicateCount (and-left (eqb (length ar) predicateCount) _ (g .arities)) in omega arith
 
 -- ===== (total W) and (discount G D) =====
 
@@ -183,7 +184,7 @@ pub total-none : (w : ℕ) → w ≡ 0 → false ≡ isTotal w
 unfolding isTotal
 total-none w e = rw e
 
-pub total-some : (w : ℕ) → (w ≡ 0 → ⊥) → leb w 1000000 ≡ isTotal w
+pub total-some : (w : ℕ) → (w ≡ 0 → ⊥) → leb w mostTotal ≡ isTotal w
 unfolding isTotal
 total-some w e = rw (le-leb 1 w (omega (arith, e)))
 
@@ -191,10 +192,10 @@ pub discount-none : (g d : ℕ) → d ≡ 0 → false ≡ isDiscount g d
 unfolding isDiscount
 discount-none g d e = rw e
 
-pub discount-over : (g d : ℕ) → (d ≡ 0 → ⊥) → 1000000 < d → false ≡ isDiscount g d
+pub discount-over : (g d : ℕ) → (d ≡ 0 → ⊥) → mostDenominator < d → false ≡ isDiscount g d
 unfolding isDiscount
-discount-over g d e h = rw (le-leb 1 d (omega (arith, e)), lt-leb d 1000000 h)
+discount-over g d e h = rw (le-leb 1 d (omega (arith, e)), lt-leb d mostDenominator h)
 
-pub discount-some : (g d : ℕ) → (d ≡ 0 → ⊥) → d ≤ 1000000 → leb g d ≡ isDiscount g d
+pub discount-some : (g d : ℕ) → (d ≡ 0 → ⊥) → d ≤ mostDenominator → leb g d ≡ isDiscount g d
 unfolding isDiscount
-discount-some g d e h = rw (le-leb 1 d (omega (arith, e)), le-leb d 1000000 h)
+discount-some g d e h = rw (le-leb 1 d (omega (arith, e)), le-leb d mostDenominator h)

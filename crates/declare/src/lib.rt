@@ -4,8 +4,10 @@ use label::Term;
 use refusal::Refusal;
 use words::Key;
 ghost use mathlib.Core.Path.{_≡_};
-ghost use Prim.Native.Nat.{ℕ, _+_, _*_, _<_, _≤_};
+ghost use Prim.Native.Nat.{_+_, _*_, _<_, _≤_};
 ghost use lib.ListN.{length, drop};
+ghost use Rattle.label.specs.Limits.{parameterCount};
+ghost use Rattle.names.specs.Layout.{nameWords};
 ghost use Rattle.events.specs.Front.{eventsOf};
 ghost use Rattle.events.specs.Contents.{keysIn};
 ghost use Rattle.session.specs.Declaring.{isDeclared, constantLine, predicateLine, isTotal, isDiscount, actionLine};
@@ -127,9 +129,9 @@ fn read_parameters(line: &[u8], at: usize, keys: &mut [u64]) -> Parameters
 
 // Writes the first n keys as the last action's parameters.
 fn copy_parameters(keys: &[u64], n: usize, table: &mut [u64])
-    requires { ⌜ n ≤ 4 ⌝ }
+    requires { ⌜ n ≤ parameterCount ⌝ }
     requires { ⌜ n * 2 ≤ length (now keys) ⌝ }
-    requires { ⌜ 136 ≤ length (now table) ⌝ }
+    requires { ⌜ nameWords ≤ length (now table) ⌝ }
     ensures { λ _. ⌜ Copied (now (keys .entry)) (now (table .entry)) (now (table .exit)) n ⌝ }
 {
     let mut i = 0;
@@ -139,9 +141,6 @@ fn copy_parameters(keys: &[u64], n: usize, table: &mut [u64])
         i += 1;
     }
 }
-
-// Actions at most.
-const ACTIONS: usize = 8;
 
 // (action n !p ..): the key of its name, and the place of its parameters. The keys are working space.
 pub fn action(
@@ -166,7 +165,7 @@ pub fn action(
     if count > (Term::PARAMETERS as usize) {
         return Declared::Refused(Refusal::Space);
     }
-    if n.actions >= ACTIONS {
+    if n.actions >= model::ACTIONS {
         return Declared::Refused(Refusal::Space);
     }
     names::put(table, names::ACTIONS + n.actions * 2, key);
@@ -180,9 +179,6 @@ pub fn action(
     })
 }
 
-// W, and D, at most.
-const MOST: u64 = 1000000;
-
 // Whether w may be the total of an action's weights.
 pub fn is_total(w: u64) -> bool
     ensures { λ r. ⌜ r ≡ isTotal w ⌝ }
@@ -190,7 +186,7 @@ pub fn is_total(w: u64) -> bool
     if w == 0 {
         return false;
     }
-    w <= MOST
+    w <= model::TOTAL
 }
 
 // Whether g / d may be the discount.
@@ -200,7 +196,7 @@ pub fn is_discount(g: u64, d: u64) -> bool
     if d == 0 {
         return false;
     }
-    if d > MOST {
+    if d > model::DENOMINATOR {
         return false;
     }
     g <= d

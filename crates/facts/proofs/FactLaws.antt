@@ -1,7 +1,7 @@
 -- Laws of the facts in lent words: the search for one, and one more.
 use mathlib.Core.Path.{_≡_, refl, sym, ap, ap₂, _∙_}
-use mathlib.Core.Bool.{Bool, true, false, not, _||_, _&&_, or-true}
-use mathlib.Core.List.{List, [], _∷_, _++_}
+use mathlib.Core.Bool.{Bool, true, false, not, _||_, or-true}
+use mathlib.Core.List.{List, _++_}
 use Prim.Native.Nat.{ℕ, zero, suc, _+_, _*_, _-_, _/_, _<_, _≤_}
 use native.Mathlib.Omega.{arith}
 use borrow.Author.Tests.{le-leb, lt-leb, eq-eqb, ne-eqb, eqb-true, eqb-false}
@@ -9,62 +9,64 @@ use lib.ListN.{length, getD, set, take, drop, length-set, length-drop}
 use lib.Seq.{take-add, drop-drop, ext-getD, getD-take, getD-drop, getD-set-same, getD-set-other, length-take-le}
 use lib.Dec.{eqb}
 use Rattle.basics.specs.Tests.{Flag, isTrue, isFalse, flag, and-left}
-use Rattle.state.specs.Lent.{factCount, someBelow, allBelow}
-use Rattle.session.specs.Session.{Live as SessionLive, refuseIf}
-use Rattle.session.specs.Facts.{sameWord, isFact, withFact, factLine, factRow, trueLine}
+use Rattle.state.specs.Lent.{factCount, someBelow, allBelow, factWords}
+use Rattle.session.specs.Session.{refuseIf}
+use Rattle.session.specs.Facts.{isFact, withFact, factLine, factRow, trueLine, mostFacts}
 use Rattle.facts.specs.declared.Fact.{Fact}
 use Rattle.facts.specs.declared.Live.{Live}
 use Rattle.facts.specs.declared.Told.{Told}
 use Rattle.facts.specs.declared.Told.the-variants.{Done, Refused}
 use Rattle.facts.specs.declared.Tuple.{Tuple}
 use Rattle.words.specs.declared.Key.{Key}
-use Rattle.names.specs.Keys.{keysAt, placeOf, isAmong}
+use Rattle.names.specs.Keys.{keysAt, placeOf}
 use Rattle.names.specs.Layout.{declaredAt}
 use Rattle.names.specs.KeyLaws.{among-at, among-none}
 use Rattle.declare.specs.declared.Counts.{Counts}
 use Rattle.declare.specs.Tables.{namesOf, GoodVocabulary}
+use Rattle.label.specs.Limits.{constantCount, predicateCount}
 use Rattle.label.specs.Labels.{areArities}
 use Rattle.refusal.specs.declared.Refusal.the-variants.{Name, Arity, Range, Space}
 use Rattle.regress.specs.Calls.{ok}
-use Rattle.facts.specs.Words.{part, rowOf, rowIs, liveOf, GoodLive, Living, Putting, TupleOf, Telling}
+use Rattle.facts.specs.Words.{part, rowOf, rowIs, liveOf, GoodLive, Living, Putting, TupleOf, Telling, placedBase, factsBase}
+use Rattle.facts.proofs.StateLaws.{live-ext}
 
 -- ===== One row =====
 
 module _ (facts : List ℕ) (f : Fact) (i : ℕ) where
-  at-first : getD facts (i * 5 + 0) 0 ≡ getD facts (i * 5) 0
+  at-first : getD facts (i * factWords + 0) 0 ≡ getD facts (i * factWords) 0
   at-first = ap (λ (j : ℕ). getD facts j 0) (omega arith)
 
-  pub row-first : (getD facts (i * 5) 0 ≡ f .predicate → ⊥) → false ≡ rowIs facts (rowOf f) i
-  row-first n = rw (at-first, ne-eqb (getD facts (i * 5) 0) (f .predicate) n)
+  pub row-first : (getD facts (i * factWords) 0 ≡ f .predicate → ⊥) → false ≡ rowIs facts (rowOf f) i
+  row-first n = rw (at-first, ne-eqb (getD facts (i * factWords) 0) (f .predicate) n)
 
-  module _ (a : getD facts (i * 5) 0 ≡ f .predicate) where
-    pub row-second : (getD facts (i * 5 + 1) 0 ≡ f .first → ⊥) → false ≡ rowIs facts (rowOf f) i
-    row-second n = rw (at-first, eq-eqb (getD facts (i * 5) 0) (f .predicate) a, ne-eqb (getD facts (i * 5 + 1) 0) (f .first) n)
+  module _ (a : getD facts (i * factWords) 0 ≡ f .predicate) where
+    pub row-second : (getD facts (i * factWords + 1) 0 ≡ f .first → ⊥) → false ≡ rowIs facts (rowOf f) i
+    row-second n = rw (at-first, eq-eqb (getD facts (i * factWords) 0) (f .predicate) a, ne-eqb (getD facts (i * factWords + 1) 0) (f .first) n)
 
-    module _ (b : getD facts (i * 5 + 1) 0 ≡ f .first) where
-      pub row-third : (getD facts (i * 5 + 2) 0 ≡ f .second → ⊥) → false ≡ rowIs facts (rowOf f) i
+    module _ (b : getD facts (i * factWords + 1) 0 ≡ f .first) where
+      pub row-third : (getD facts (i * factWords + 2) 0 ≡ f .second → ⊥) → false ≡ rowIs facts (rowOf f) i
       row-third n =
-          rw (at-first, eq-eqb (getD facts (i * 5) 0) (f .predicate) a, eq-eqb (getD facts (i * 5 + 1) 0) (f .first) b, ne-eqb (getD facts (i * 5 + 2) 0) (f .second) n)
+          rw (at-first, eq-eqb (getD facts (i * factWords) 0) (f .predicate) a, eq-eqb (getD facts (i * factWords + 1) 0) (f .first) b, ne-eqb (getD facts (i * factWords + 2) 0) (f .second) n)
 
-      module _ (c : getD facts (i * 5 + 2) 0 ≡ f .second) where
-        pub row-fourth : (getD facts (i * 5 + 3) 0 ≡ f .third → ⊥) → false ≡ rowIs facts (rowOf f) i
+      module _ (c : getD facts (i * factWords + 2) 0 ≡ f .second) where
+        pub row-fourth : (getD facts (i * factWords + 3) 0 ≡ f .third → ⊥) → false ≡ rowIs facts (rowOf f) i
         row-fourth n =
             rw (
               at-first,
-              eq-eqb (getD facts (i * 5) 0) (f .predicate) a,
-              eq-eqb (getD facts (i * 5 + 1) 0) (f .first) b,
-              eq-eqb (getD facts (i * 5 + 2) 0) (f .second) c,
-              ne-eqb (getD facts (i * 5 + 3) 0) (f .third) n,
+              eq-eqb (getD facts (i * factWords) 0) (f .predicate) a,
+              eq-eqb (getD facts (i * factWords + 1) 0) (f .first) b,
+              eq-eqb (getD facts (i * factWords + 2) 0) (f .second) c,
+              ne-eqb (getD facts (i * factWords + 3) 0) (f .third) n,
             )
 
-        pub row-fifth : getD facts (i * 5 + 3) 0 ≡ f .third → eqb (getD facts (i * 5 + 4) 0) (f .fourth) ≡ rowIs facts (rowOf f) i
+        pub row-fifth : getD facts (i * factWords + 3) 0 ≡ f .third → eqb (getD facts (i * factWords + 4) 0) (f .fourth) ≡ rowIs facts (rowOf f) i
         row-fifth d =
             rw (
               at-first,
-              eq-eqb (getD facts (i * 5) 0) (f .predicate) a,
-              eq-eqb (getD facts (i * 5 + 1) 0) (f .first) b,
-              eq-eqb (getD facts (i * 5 + 2) 0) (f .second) c,
-              eq-eqb (getD facts (i * 5 + 3) 0) (f .third) d,
+              eq-eqb (getD facts (i * factWords) 0) (f .predicate) a,
+              eq-eqb (getD facts (i * factWords + 1) 0) (f .first) b,
+              eq-eqb (getD facts (i * factWords + 2) 0) (f .second) c,
+              eq-eqb (getD facts (i * factWords + 3) 0) (f .third) d,
             )
 
 -- ===== The search =====
@@ -89,21 +91,21 @@ module _ (facts : List ℕ) (f : Fact) where
   pub look-start : Looked facts f 0
   look-start = record { none = refl; few = omega arith }
 
-  pub look-room : (i : ℕ) → i < length facts / 5 → i * 5 + 5 ≤ length facts
+  pub look-room : (i : ℕ) → i < length facts / factWords → i * factWords + factWords ≤ length facts
   look-room i h = omega arith
 
   module _ (i : ℕ) {b : Bool} (p : b ≡ rowIs facts (rowOf f) i) where
-    pub look-hit : b ≡ true → i < length facts / 5 → true ≡ isFact facts (rowOf f)
+    pub look-hit : b ≡ true → i < length facts / factWords → true ≡ isFact facts (rowOf f)
     unfolding isFact
     look-hit e h = sym (some-at (rowIs facts (rowOf f)) (factCount facts) i h (sym p ∙ e))
 
-    pub look-on : b ≡ false → i < length facts / 5 → Looked facts f i → Looked facts f (i + 1)
+    pub look-on : b ≡ false → i < length facts / factWords → Looked facts f i → Looked facts f (i + 1)
     look-on e h l = record { none = ap (λ (n : ℕ). someBelow n (rowIs facts (rowOf f))) (plus i) ∙ rw (l .none, ← p, e); few = omega arith }
       where
         plus : (i : ℕ) → i + 1 ≡ suc i
         plus i = omega arith
 
-  pub look-none : (i : ℕ) → length facts / 5 ≤ i → Looked facts f i → false ≡ isFact facts (rowOf f)
+  pub look-none : (i : ℕ) → length facts / factWords ≤ i → Looked facts f i → false ≡ isFact facts (rowOf f)
   unfolding isFact
   look-none i h l =
       let w = l .few in
@@ -141,11 +143,11 @@ module _ (s : List ℕ) (i : ℕ) (f : Fact) where
       ∙ getD-set-other s₁ (i + 1) j (f .first) 0 (λ e. omega arith)
       ∙ getD-set-other s i j (f .predicate) 0 (λ e. omega arith)
 
-  five-row : i + 5 ≤ length s → part (fiveSet s i f) i 5 ≡ rowOf f
+  five-row : i + factWords ≤ length s → part (fiveSet s i f) i factWords ≡ rowOf f
   five-row l =
-      let u = length-take-le 5 (drop i (fiveSet s i f)) (rw (length-drop, five-length) (omega arith)) in
-      ext-getD 0 (part (fiveSet s i f) i 5) (rowOf f) u
-      (λ j k. let m : j < 5 = (rw u at k) in getD-take 5 (drop i (fiveSet s i f)) j 0 m ∙ getD-drop i (fiveSet s i f) j 0 ∙ word j m)
+      let u = length-take-le factWords (drop i (fiveSet s i f)) (rw (length-drop, five-length) (omega arith)) in
+      ext-getD 0 (part (fiveSet s i f) i factWords) (rowOf f) u
+      (λ j k. let m : j < factWords = (rw u at k) in getD-take factWords (drop i (fiveSet s i f)) j 0 m ∙ getD-drop i (fiveSet s i f) j 0 ∙ word j m)
     where
       s₁ : List ℕ
       s₁ = set s i (f .predicate)
@@ -167,7 +169,7 @@ module _ (s : List ℕ) (i : ℕ) (f : Fact) where
           ∙ getD-set-other s₁ (i + 1) i (f .first) 0 (λ e. omega arith)
           ∙ getD-set-same s i (f .predicate) 0 (omega arith))
 
-      word : (j : ℕ) → j < 5 → getD (fiveSet s i f) (i + j) 0 ≡ getD (rowOf f) j 0
+      word : (j : ℕ) → j < factWords → getD (fiveSet s i f) (i + j) 0 ≡ getD (rowOf f) j 0
       word zero m = first (i + 0) (omega arith)
       word (suc zero) m =
           getD-set-other s₄ (i + 4) (i + 1) (f .fourth) 0 (λ e. omega arith)
@@ -184,55 +186,52 @@ module _ (s : List ℕ) (i : ℕ) (f : Fact) where
       word (suc (suc (suc (suc zero)))) m = getD-set-same s₄ (i + 4) (f .fourth) 0 (rw (length-set, length-set, length-set, length-set) (omega arith))
       word (suc (suc (suc (suc (suc j))))) m = absurd (omega arith)
 
-live-more : (x y : SessionLive) → x .objects ≡ y .objects → x .placed ≡ y .placed → x .constants ≡ y .constants → x .facts ≡ y .facts → x ≡ y
-live-more x y a b c d = λ i. record { objects = a i; placed = b i; constants = c i; facts = d i }
-
-pub put-done : (s : List ℕ) (l : Live) (f : Fact) → GoodLive s l → l .facts < 1024 → Putting s l f (fiveSet s (32 + l .facts * 5) f)
+pub put-done : (s : List ℕ) (l : Live) (f : Fact) → GoodLive s l → l .facts < mostFacts → Putting s l f (fiveSet s (factsBase + l .facts * factWords) f)
 unfolding liveOf withFact
 put-done s l f g h =
     let r = g .room in
-    let i : ℕ = 32 + l .facts * 5 in
+    let i : ℕ = factsBase + l .facts * factWords in
     let t : List ℕ = fiveSet s i f in
     record {
-      live = live-more _ _ refl
-          (part-same s t 16 16 (omega arith) (five-length s i f) (λ j k. five-before s i f j (omega arith)))
-          (part-same s t 0 16 (omega arith) (five-length s i f) (λ j k. five-before s i f j (omega arith)))
-          (ap (λ (n : ℕ). part t 32 n) (more (l .facts)) ∙ take-add (l .facts * 5) 5 (drop 32 t)
-          ∙ ap₂ _++_ (part-same s t 32 (l .facts * 5) (omega arith) (five-length s i f) (λ j k. five-before s i f j (omega arith)))
-          (ap (take 5) (drop-drop (l .facts * 5) 32 t) ∙ five-row s i f (omega arith)));
+      live = live-ext _ _ refl
+          (part-same s t placedBase constantCount (omega arith) (five-length s i f) (λ j k. five-before s i f j (omega arith)))
+          (part-same s t 0 constantCount (omega arith) (five-length s i f) (λ j k. five-before s i f j (omega arith)))
+          (ap (λ (n : ℕ). part t factsBase n) (more (l .facts)) ∙ take-add (l .facts * factWords) factWords (drop factsBase t)
+          ∙ ap₂ _++_ (part-same s t factsBase (l .facts * factWords) (omega arith) (five-length s i f) (λ j k. five-before s i f j (omega arith)))
+          (ap (take factWords) (drop-drop (l .facts * factWords) factsBase t) ∙ five-row s i f (omega arith)));
       good = record { room = rw (five-length s i f) r; objects = g .objects; facts = omega arith };
     }
   where
-    more : (n : ℕ) → (n + 1) * 5 ≡ n * 5 + 5
+    more : (n : ℕ) → (n + 1) * factWords ≡ n * factWords + factWords
     more n = omega arith
 
 -- ===== A fact told =====
 
-fact-count : (s : List ℕ) (l : Live) → GoodLive s l → factCount (part s 32 (l .facts * 5)) ≡ l .facts
+fact-count : (s : List ℕ) (l : Live) → GoodLive s l → factCount (part s factsBase (l .facts * factWords)) ≡ l .facts
 fact-count s l g =
     let r = g .room in
     let h = g .facts in
-    let e = length-take-le (l .facts * 5) (drop 32 s) (rw length-drop (omega arith)) in
-    ap (λ (n : ℕ). n / 5) e ∙ (omega arith)
+    let e = length-take-le (l .facts * factWords) (drop factsBase s) (rw length-drop (omega arith)) in
+    ap (λ (n : ℕ). n / factWords) e ∙ (omega arith)
 
-module _ (s : List ℕ) (l : Live) (f : Fact) {b : Bool} (q : b ≡ isFact (take (32 + l .facts * 5 - 32) (drop 32 s)) (rowOf f)) where
-  lent-facts : b ≡ isFact (part s 32 (l .facts * 5)) (rowOf f)
-  lent-facts = let e : 32 + l .facts * 5 - 32 ≡ l .facts * 5 = omega arith in q ∙ ap (λ (n : ℕ). isFact (take n (drop 32 s)) (rowOf f)) e
+module _ (s : List ℕ) (l : Live) (f : Fact) {b : Bool} (q : b ≡ isFact (take (factsBase + l .facts * factWords - factsBase) (drop factsBase s)) (rowOf f)) where
+  lent-facts : b ≡ isFact (part s factsBase (l .facts * factWords)) (rowOf f)
+  lent-facts = let e : factsBase + l .facts * factWords - factsBase ≡ l .facts * factWords = omega arith in q ∙ ap (λ (n : ℕ). isFact (take n (drop factsBase s)) (rowOf f)) e
 
   pub note-again : GoodLive s l → b ≡ true → Living (factLine (liveOf s l) (rowOf f)) s (Done l) s
   unfolding factLine liveOf
   note-again g e = record { lives = (rw (← lent-facts, e), g) }
 
   module _ (g : GoodLive s l) (e : b ≡ false) where
-    pub note-space : 1024 ≤ l .facts → Living (factLine (liveOf s l) (rowOf f)) s (Refused Space) s
+    pub note-space : mostFacts ≤ l .facts → Living (factLine (liveOf s l) (rowOf f)) s (Refused Space) s
     unfolding factLine liveOf
-    note-space h = record { lives = (rw (← lent-facts, e, fact-count s l g, le-leb 1024 (l .facts) h), refl) }
+    note-space h = record { lives = (rw (← lent-facts, e, fact-count s l g, le-leb mostFacts (l .facts) h), refl) }
 
-    pub note-done : {t : List ℕ} → l .facts < 1024 → Putting s l f t → Living (factLine (liveOf s l) (rowOf f)) s (Done (record { objects = l .objects; facts = l .facts + 1 })) t
+    pub note-done : {t : List ℕ} → l .facts < mostFacts → Putting s l f t → Living (factLine (liveOf s l) (rowOf f)) s (Done (record { objects = l .objects; facts = l .facts + 1 })) t
     unfolding factLine liveOf
-    note-done h u = record { lives = (rw (← lent-facts, e, fact-count s l g, lt-leb 1024 (l .facts) h) (ap ok (sym (u .live))), u .good) }
+    note-done h u = record { lives = (rw (← lent-facts, e, fact-count s l g, lt-leb mostFacts (l .facts) h) (ap ok (sym (u .live))), u .good) }
 
-pub note-room : (s : List ℕ) (l : Live) → GoodLive s l → 32 + l .facts * 5 ≤ length s
+pub note-room : (s : List ℕ) (l : Live) → GoodLive s l → factsBase + l .facts * factWords ≤ length s
 note-room s l g = let r = g .room in let h = g .facts in omega arith
 
 module _ (ar table s : List ℕ) (n : Counts) (l : Live) (k : Key) (o : Tuple) {i : ℕ} (p : i ≡ placeOf k (keysAt table declaredAt (n .predicates))) where
@@ -289,6 +288,6 @@ module _ (ar table s : List ℕ) (n : Counts) (l : Live) (k : Key) (o : Tuple) {
 pub tell-room : (ar table : List ℕ) (n : Counts) (i : ℕ) → GoodVocabulary table ar n → i < n .predicates → i + 1 < length ar
 unfolding areArities
 tell-room ar table n i g h =
-    let e = eqb-true (length ar) 32 (and-left (eqb (length ar) 32) _ (g .arities)) in
+    let e = eqb-true (length ar) predicateCount (and-left (eqb (length ar) predicateCount) _ (g .arities)) in
     let b = g .names .predicates in
     omega arith

@@ -1,28 +1,30 @@
 -- Laws of a state in lent words, one for each way out of a line.
 use mathlib.Core.Path.{_≡_, refl, sym, ap, _∙_}
-use mathlib.Core.Bool.{Bool, true, false, not, _||_, _&&_}
-use mathlib.Core.List.{List, [], _∷_, _++_}
-use Prim.Native.Nat.{ℕ, zero, suc, _+_, _*_, _-_, _<_, _≤_}
+use mathlib.Core.Bool.{Bool, true, false}
+use mathlib.Core.List.{List}
+use Prim.Native.Nat.{ℕ, _+_, _*_, _<_, _≤_}
 use native.Mathlib.Omega.{arith}
-use borrow.Author.Tests.{le-leb, lt-leb, eq-eqb, ne-eqb, eqb-true, eqb-false}
+use borrow.Author.Tests.{le-leb, lt-leb, ne-eqb, eqb-true, eqb-false}
 use lib.ListN.{length, getD, set, take, drop, replicate, length-set, length-drop, length-replicate, getD-replicate}
 use lib.Seq.{ext-getD, getD-take, getD-drop, getD-set-same, getD-set-other, length-take-le, take-set-lt, take-set-le, drop-set-lt, drop-set-add}
-use lib.Dec.{leb, eqb}
+use lib.Dec.{eqb}
+use Rattle.label.specs.Limits.{constantCount}
 use Rattle.refusal.specs.declared.Refusal.the-variants.{Name, Range}
 use Rattle.words.specs.declared.Key.{Key}
-use Rattle.names.specs.Keys.{keysAt, placeOf, isAmong}
+use Rattle.names.specs.Keys.{keysAt, placeOf}
 use Rattle.names.specs.Layout.{constantsAt}
 use Rattle.names.specs.KeyLaws.{among-at, among-none}
-use Rattle.regress.specs.Calls.{Outcome, ok, refused}
-use Rattle.session.specs.Session.{Names, Live as SessionLive}
-use Rattle.session.specs.Facts.{objectsLine, isLine, cleared, placed}
+use Rattle.regress.specs.Calls.{ok}
+use Rattle.state.specs.Lent.{factWords}
+use Rattle.session.specs.Session.{Live as SessionLive}
+use Rattle.session.specs.Facts.{objectsLine, isLine, cleared, placed, mostObjects}
 use Rattle.declare.specs.declared.Counts.{Counts}
 use Rattle.declare.specs.Tables.{namesOf, GoodNames}
 use Rattle.facts.specs.declared.Live.{Live}
 use Rattle.facts.specs.declared.Told.the-variants.{Done, Refused}
-use Rattle.facts.specs.Words.{part, liveOf, GoodLive, Living, Cleared}
+use Rattle.facts.specs.Words.{part, liveOf, GoodLive, Living, Cleared, placedBase, factsBase, stateWords}
 
-live-ext : (x y : SessionLive) → x .objects ≡ y .objects → x .placed ≡ y .placed → x .constants ≡ y .constants → x .facts ≡ y .facts → x ≡ y
+pub live-ext : (x y : SessionLive) → x .objects ≡ y .objects → x .placed ≡ y .placed → x .constants ≡ y .constants → x .facts ≡ y .facts → x ≡ y
 live-ext x y a b c d = λ i. record { objects = a i; placed = b i; constants = c i; facts = d i }
 
 -- ===== (objects n) =====
@@ -30,7 +32,7 @@ live-ext x y a b c d = λ i. record { objects = a i; placed = b i; constants = c
 pub clear-begin : (s : List ℕ) → Cleared s s 0
 clear-begin s = record { size = refl; zeros = λ i h. absurd (omega arith) }
 
-pub clear-next : (s t : List ℕ) (n : ℕ) → 5152 ≤ length s → n < 32 → Cleared s t n → Cleared s (set t n 0) (n + 1)
+pub clear-next : (s t : List ℕ) (n : ℕ) → stateWords ≤ length s → n < factsBase → Cleared s t n → Cleared s (set t n 0) (n + 1)
 clear-next s t n w u c = record { size = rw length-set (c .size); zeros = λ i h. go i h (eqb i n) refl }
   where
     go : (i : ℕ) → i < n + 1 → (b : Bool) → eqb i n ≡ b → getD (set t n 0) i 0 ≡ 0
@@ -42,35 +44,35 @@ clear-next s t n w u c = record { size = rw length-set (c .size); zeros = λ i h
         below : (i : ℕ) → i < n + 1 → (i ≡ n → ⊥) → i < n
         below i h q = omega (arith, q)
 
-pub room-kept : (s t : List ℕ) (n i : ℕ) → 5152 ≤ length s → Cleared s t n → i < 32 → i < length t
+pub room-kept : (s t : List ℕ) (n i : ℕ) → stateWords ≤ length s → Cleared s t n → i < factsBase → i < length t
 room-kept s t n i r c h = let e = c .size in omega arith
 
-pub clear-end : (s t : List ℕ) (n : ℕ) → Cleared s t n → n ≤ 32 → 32 ≤ n → Cleared s t 32
+pub clear-end : (s t : List ℕ) (n : ℕ) → Cleared s t n → n ≤ factsBase → factsBase ≤ n → Cleared s t factsBase
 clear-end s t n c h k = record { size = c .size; zeros = λ i l. c .zeros i (omega arith) }
 
-zero-part : (t : List ℕ) (i : ℕ) → i + 16 ≤ length t → ((j : ℕ) → j < i + 16 → getD t j 0 ≡ 0) → part t i 16 ≡ replicate 16 0
+zero-part : (t : List ℕ) (i : ℕ) → i + constantCount ≤ length t → ((j : ℕ) → j < i + constantCount → getD t j 0 ≡ 0) → part t i constantCount ≡ replicate constantCount 0
 zero-part t i l z =
-    let m = length-take-le 16 (drop i t) (rw length-drop (omega arith)) in
-    ext-getD 0 (part t i 16) (replicate 16 0) (m ∙ sym (length-replicate {A = ℕ} 16 0))
-    (λ j h. let k : j < 16 = (rw m at h) in getD-take 16 (drop i t) j 0 k ∙ getD-drop i t j 0 ∙ z (i + j) (omega arith) ∙ sym (getD-replicate {A = ℕ} 16 j 0 0 k))
+    let m = length-take-le constantCount (drop i t) (rw length-drop (omega arith)) in
+    ext-getD 0 (part t i constantCount) (replicate constantCount 0) (m ∙ sym (length-replicate {A = ℕ} constantCount 0))
+    (λ j h. let k : j < constantCount = (rw m at h) in getD-take constantCount (drop i t) j 0 k ∙ getD-drop i t j 0 ∙ z (i + j) (omega arith) ∙ sym (getD-replicate {A = ℕ} constantCount j 0 0 k))
 
 module _ (s : List ℕ) (n : ℕ) where
   pub objects-none : n ≡ 0 → Living (objectsLine n) s (Refused Range) s
   unfolding objectsLine
   objects-none e = record { lives = (rw e, refl) }
 
-  pub objects-many : (n ≡ 0 → ⊥) → 64 < n → Living (objectsLine n) s (Refused Range) s
+  pub objects-many : (n ≡ 0 → ⊥) → mostObjects < n → Living (objectsLine n) s (Refused Range) s
   unfolding objectsLine
-  objects-many z h = record { lives = (rw (le-leb 1 n (omega arith), lt-leb n 64 h), refl) }
+  objects-many z h = record { lives = (rw (le-leb 1 n (omega arith), lt-leb n mostObjects h), refl) }
 
-  pub objects-done : {t : List ℕ} → (n ≡ 0 → ⊥) → n ≤ 64 → 5152 ≤ length s → Cleared s t 32 → Living (objectsLine n) s (Done (record { objects = n; facts = 0 })) t
+  pub objects-done : {t : List ℕ} → (n ≡ 0 → ⊥) → n ≤ mostObjects → stateWords ≤ length s → Cleared s t factsBase → Living (objectsLine n) s (Done (record { objects = n; facts = 0 })) t
   unfolding objectsLine cleared liveOf
   objects-done {t} z h r c =
       let w = c .size in
       record {
         lives = (
-          rw (le-leb 1 n (omega (arith, z)), le-leb n 64 h)
-              (ap ok (live-ext _ _ refl (sym (zero-part t 16 (omega arith) (λ j l. c .zeros j (omega arith)))) (sym (zero-part t 0 (omega arith) (λ j l. c .zeros j (omega arith)))) refl)),
+          rw (le-leb 1 n (omega (arith, z)), le-leb n mostObjects h)
+              (ap ok (live-ext _ _ refl (sym (zero-part t placedBase (omega arith) (λ j l. c .zeros j (omega arith)))) (sym (zero-part t 0 (omega arith) (λ j l. c .zeros j (omega arith)))) refl)),
           record { room = omega arith; objects = h; facts = omega arith },
         );
       }
@@ -82,36 +84,36 @@ module _ (table s : List ℕ) (n : Counts) (l : Live) (k : Key) (o : ℕ) {c : �
   unfolding isLine namesOf
   place-unknown h = record { lives = (rw (among-none table constantsAt (n .constants) k p h), refl) }
 
-  placed-at : c < 16 → getD (part s 16 16) c 0 ≡ getD s (16 + c) 0
-  placed-at h = getD-take 16 (drop 16 s) c 0 h ∙ getD-drop 16 s c 0
+  placed-at : c < constantCount → getD (part s placedBase constantCount) c 0 ≡ getD s (placedBase + c) 0
+  placed-at h = getD-take constantCount (drop placedBase s) c 0 h ∙ getD-drop placedBase s c 0
 
   module _ (g : GoodNames table n) (h : c < n .constants) where
-    pub place-again : getD s (16 + c) 0 ≡ 1 → Living (isLine (namesOf table n) (liveOf s l) k o) s (Refused Name) s
+    pub place-again : getD s (placedBase + c) 0 ≡ 1 → Living (isLine (namesOf table n) (liveOf s l) k o) s (Refused Name) s
     unfolding isLine namesOf liveOf
     place-again e =
         let f = g .constants in
         record { lives = (rw (among-at table constantsAt (n .constants) k p h, ← p, placed-at (omega arith), e), refl) }
 
-    module _ (e : getD s (16 + c) 0 ≡ 1 → ⊥) where
+    module _ (e : getD s (placedBase + c) 0 ≡ 1 → ⊥) where
       pub place-beyond : l .objects ≤ o → Living (isLine (namesOf table n) (liveOf s l) k o) s (Refused Range) s
       unfolding isLine namesOf liveOf
       place-beyond b =
           let f = g .constants in
-          record { lives = (rw (among-at table constantsAt (n .constants) k p h, ← p, placed-at (omega arith), ne-eqb (getD s (16 + c) 0) 1 e, le-leb (l .objects) o b), refl) }
+          record { lives = (rw (among-at table constantsAt (n .constants) k p h, ← p, placed-at (omega arith), ne-eqb (getD s (placedBase + c) 0) 1 e, le-leb (l .objects) o b), refl) }
 
-      pub place-done : GoodLive s l → o < l .objects → Living (isLine (namesOf table n) (liveOf s l) k o) s (Done l) (set (set s (16 + c) 1) c o)
+      pub place-done : GoodLive s l → o < l .objects → Living (isLine (namesOf table n) (liveOf s l) k o) s (Done l) (set (set s (placedBase + c) 1) c o)
       unfolding isLine namesOf liveOf placed
       place-done v b =
           let f = g .constants in
-          let m : c < 16 = omega arith in
-          let u : List ℕ = set s (16 + c) 1 in
+          let m : c < constantCount = omega arith in
+          let u : List ℕ = set s (placedBase + c) 1 in
           record {
             lives = (
-              rw (among-at table constantsAt (n .constants) k p h, ← p, placed-at m, ne-eqb (getD s (16 + c) 0) 1 e, lt-leb (l .objects) o b)
+              rw (among-at table constantsAt (n .constants) k p h, ← p, placed-at m, ne-eqb (getD s (placedBase + c) 0) 1 e, lt-leb (l .objects) o b)
                   (ap ok (live-ext _ _ refl
-                  (sym (ap (take 16) (drop-set-lt 16 u c o m ∙ drop-set-add 16 s c 1) ∙ take-set-lt 16 (drop 16 s) c 1 m))
-                  (sym (take-set-lt 16 u c o m ∙ ap (λ (x : List ℕ). set x c o) (take-set-le 16 s (16 + c) 1 (omega arith))))
-                  (sym (ap (take (l .facts * 5)) (drop-set-lt 32 u c o (omega arith) ∙ drop-set-lt 32 s (16 + c) 1 (omega arith)))))),
+                  (sym (ap (take constantCount) (drop-set-lt placedBase u c o m ∙ drop-set-add placedBase s c 1) ∙ take-set-lt constantCount (drop placedBase s) c 1 m))
+                  (sym (take-set-lt constantCount u c o m ∙ ap (λ (x : List ℕ). set x c o) (take-set-le constantCount s (placedBase + c) 1 (omega arith))))
+                  (sym (ap (take (l .facts * factWords)) (drop-set-lt factsBase u c o (omega arith) ∙ drop-set-lt factsBase s (placedBase + c) 1 (omega arith)))))),
               record { room = rw (length-set, length-set) (v .room); objects = v .objects; facts = v .facts },
             );
           }

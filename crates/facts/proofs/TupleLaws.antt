@@ -1,7 +1,7 @@
 -- Laws of the objects of a (true p o ..), read one after another.
 use mathlib.Core.Path.{_≡_, refl, sym, ap, ap₂, subst, _∙_}
 use mathlib.Core.Bool.{Bool, true, false, _&&_, cond}
-use mathlib.Core.List.{List, [], _∷_, _++_, map, append-nil, append-assoc}
+use mathlib.Core.List.{List, [], _∷_, _++_, append-nil, append-assoc}
 use Prim.Native.Nat.{ℕ, zero, suc, _+_, _-_, _<_, _≤_}
 use native.Mathlib.Omega.{arith}
 use borrow.Author.Tests.{eq-eqb, ne-eqb, eqb-true, eqb-false}
@@ -15,7 +15,7 @@ use Rattle.events.specs.Front.{isEnd, nextAt, eventsOf}
 use Rattle.events.specs.FrontLaws.{next-end, next-more, next-moves, events-short}
 use Rattle.events.specs.Contents.{numberIn, numbersIn}
 use Rattle.facts.specs.declared.Tuple.{Tuple}
-use Rattle.facts.specs.Words.{TupleOf, slotOf, tupleMore}
+use Rattle.facts.specs.Words.{TupleOf, slotOf, tupleMore, mostBytes}
 
 pub slot-here : (count k old v : ℕ) → count ≡ k → v ≡ slotOf count k old v
 slot-here count k old v e = rw (eq-eqb count k e)
@@ -25,9 +25,6 @@ slot-other count k old v e = rw (ne-eqb count k e)
 
 pub still-on : (b : Bool) (v n : ℕ) → b ≡ true → ltb v n ≡ (b && ltb v n)
 still-on b v n e = rw e
-
-pub still-off : (b : Bool) (v n : ℕ) → b ≡ false → false ≡ (b && ltb v n)
-still-off b v n e = rw e
 
 pub add-done : (t : Tuple) (v n : ℕ) {b : Bool} {p q r s : ℕ} → b ≡ (t .within && ltb v n) → p ≡ slotOf (t .count) 0 (t .first) v → q ≡ slotOf (t .count) 1 (t .second) v
     → r ≡ slotOf (t .count) 2 (t .third) v → s ≡ slotOf (t .count) 3 (t .fourth) v
@@ -133,5 +130,5 @@ module _ (line : List ℕ) (start n : ℕ) where
           let k = m .0 in
           rw q (omega arith)
 
-    pub count-few : length line < 4096 → t .count < 4096
+    pub count-few : length line ≤ mostBytes → t .count ≤ mostBytes
     count-few h = let a = c .few in let b = c .within in omega arith

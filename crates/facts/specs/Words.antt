@@ -28,6 +28,10 @@ factsBase = 32
 abbrev pub stateWords : ℕ
 stateWords = 5152
 
+-- a line has at most 4,095 bytes
+abbrev pub mostBytes : ℕ
+mostBytes = 4095
+
 abbrev pub part : List ℕ → ℕ → ℕ → List ℕ
 part s i n = take n (drop i s)
 

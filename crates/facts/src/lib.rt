@@ -1,14 +1,14 @@
 // Lines of the state: its objects, the constants' objects and the facts, in lent words.
 use declare::Counts;
-use label::Term;
 use refusal::Refusal;
 use words::Key;
 ghost use mathlib.Core.Path.{_≡_};
-ghost use Prim.Native.Nat.{ℕ, _+_, _*_, _<_, _≤_};
+ghost use Prim.Native.Nat.{_+_, _*_, _<_, _≤_};
 ghost use lib.ListN.{length, drop};
-ghost use Rattle.session.specs.Facts.{objectsLine, isLine, isFact, factLine};
+ghost use Rattle.state.specs.Lent.{factWords};
+ghost use Rattle.session.specs.Facts.{mostFacts, objectsLine, isLine, isFact, factLine};
 ghost use Rattle.declare.specs.Tables.{namesOf, GoodNames, GoodVocabulary};
-ghost use Rattle.facts.specs.Words.{liveOf, GoodLive, Living, Cleared, rowOf, rowIs, Putting, TupleOf, Telling, slotOf, tupleMore};
+ghost use Rattle.facts.specs.Words.{factsBase, stateWords, mostBytes, liveOf, GoodLive, Living, Cleared, rowOf, rowIs, Putting, TupleOf, Telling, slotOf, tupleMore};
 ghost use mathlib.Core.Bool.{_&&_};
 ghost use lib.Dec.{ltb};
 ghost use Rattle.events.specs.Front.{eventsOf};
@@ -43,8 +43,8 @@ pub const FACT_WORDS: usize = 5;
 
 // Places no constant.
 pub fn clear(state: &mut [u64])
-    requires { ⌜ 5152 ≤ length (now state) ⌝ }
-    ensures { λ _. ⌜ Cleared (now (state .entry)) (now (state .exit)) 32 ⌝ }
+    requires { ⌜ stateWords ≤ length (now state) ⌝ }
+    ensures { λ _. ⌜ Cleared (now (state .entry)) (now (state .exit)) factsBase ⌝ }
 {
     let mut i = 0;
     while i < FACTS_BASE {
@@ -55,7 +55,7 @@ pub fn clear(state: &mut [u64])
 
 // (objects n)
 pub fn objects(state: &mut [u64], n: u64) -> Told
-    requires { ⌜ 5152 ≤ length (now state) ⌝ }
+    requires { ⌜ stateWords ≤ length (now state) ⌝ }
     ensures { λ r. ⌜ Living (objectsLine n) (now (state .entry)) r (now (state .exit)) ⌝ }
 {
     if n == 0 {
@@ -113,22 +113,22 @@ pub struct Tuple {
 
 // Whether row i of the facts is the fact.
 fn row_is(facts: &[u64], i: usize, f: Fact) -> bool
-    requires { ⌜ i * 5 + 5 ≤ length (now facts) ⌝ }
+    requires { ⌜ i * factWords + factWords ≤ length (now facts) ⌝ }
     ensures { λ r. ⌜ r ≡ rowIs (now (facts .entry)) (rowOf f) i ⌝ }
 {
-    if facts[i * 5] != f.predicate {
+    if facts[i * FACT_WORDS] != f.predicate {
         return false;
     }
-    if facts[i * 5 + 1] != f.first {
+    if facts[i * FACT_WORDS + 1] != f.first {
         return false;
     }
-    if facts[i * 5 + 2] != f.second {
+    if facts[i * FACT_WORDS + 2] != f.second {
         return false;
     }
-    if facts[i * 5 + 3] != f.third {
+    if facts[i * FACT_WORDS + 3] != f.third {
         return false;
     }
-    facts[i * 5 + 4] == f.fourth
+    facts[i * FACT_WORDS + 4] == f.fourth
 }
 
 // Whether the fact is one of the facts.
@@ -149,10 +149,10 @@ fn is_fact(facts: &[u64], f: Fact) -> bool
 // Writes the fact behind the others.
 fn put(state: &mut [u64], live: Live, f: Fact)
     requires { ⌜ GoodLive (now state) live ⌝ }
-    requires { ⌜ live .facts < 1024 ⌝ }
+    requires { ⌜ live .facts < mostFacts ⌝ }
     ensures { λ _. ⌜ Putting (now (state .entry)) live f (now (state .exit)) ⌝ }
 {
-    let i = FACTS_BASE + live.facts * 5;
+    let i = FACTS_BASE + live.facts * FACT_WORDS;
     state[i] = f.predicate;
     state[i + 1] = f.first;
     state[i + 2] = f.second;
@@ -165,7 +165,7 @@ fn note(state: &mut [u64], live: Live, f: Fact) -> Told
     requires { ⌜ GoodLive (now state) live ⌝ }
     ensures { λ r. ⌜ Living (factLine (liveOf (now (state .entry)) live) (rowOf f)) (now (state .entry)) r (now (state .exit)) ⌝ }
 {
-    let end = FACTS_BASE + live.facts * 5;
+    let end = FACTS_BASE + live.facts * FACT_WORDS;
     if is_fact(&state[FACTS_BASE..end], f) {
         return Told::Done(live);
     }
@@ -239,7 +239,7 @@ fn still(within: bool, v: u64, n: u64) -> bool
 
 // One object more.
 fn add(t: Tuple, v: u64, n: u64) -> Tuple
-    requires { ⌜ t .count < 4096 ⌝ }
+    requires { ⌜ t .count ≤ mostBytes ⌝ }
     ensures { λ r. ⌜ r ≡ tupleMore t v n ⌝ }
 {
     Tuple {
@@ -255,7 +255,7 @@ fn add(t: Tuple, v: u64, n: u64) -> Tuple
 // The numbers from the place `at` on, as objects of a state of n.
 pub fn read_tuple(line: &[u8], at: usize, n: u64) -> Tuple
     requires { ⌜ at ≤ length (now line) ⌝ }
-    requires { ⌜ length (now line) < 4096 ⌝ }
+    requires { ⌜ length (now line) ≤ mostBytes ⌝ }
     ensures { λ r. ⌜ TupleOf n (numbersIn (eventsOf (drop at (now (line .entry))))) r ⌝ }
 {
     let mut t = Tuple {

@@ -1,2 +1,4 @@
 -- A session in lent words.
 pub mod Memory
+pub mod WordLaws
+pub mod QuietLaws

@@ -7,7 +7,6 @@ use lib.ListN.{length, take}
 use Rattle.label.specs.Limits.{predicateCount}
 use Rattle.diagram.specs.Sizes.{resultWords}
 use Rattle.diagram.specs.Words.{isListing}
-use Rattle.diagram.specs.Listing.{diagramOf}
 use Rattle.regress.specs.Calls.{ok}
 use Rattle.mdp.specs.Model.{scale}
 use Rattle.mdp.specs.Backup.{mostSteps}
@@ -60,8 +59,9 @@ sessionOf n w = record {
   held = heldIn (n .held) (w .value);
 }
 
--- the value's listing, k and S^k once the run has begun
+-- the reward, the value's listing, k and S^k once the run has begun
 pub record Holding (n : Numbers) (w : Memory) : Type 0 where
+  pub reward : n .head .«reward_words» ≡ 0 → ⊥
   pub listing : isListing (w .arities) (take (n .held .rows * 3) (w .value)) ≡ true
   pub steps : n .held .steps ≤ mostSteps
   pub power : n .held .power ≡ scale (modelOf (w .arities) (w .listings) (w .table) (n .head)) ^ n .held .steps

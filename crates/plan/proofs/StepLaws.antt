@@ -2,9 +2,10 @@
 use mathlib.Core.Path.{_≡_, refl, sym, ap, subst, _∙_}
 use mathlib.Core.Logic.{⊎-elim}
 use mathlib.Core.List.{List}
-use Prim.Native.Nat.{ℕ, zero, suc, _+_, _-_, _*_, _<_, _≤_, zero-le}
+use Prim.Native.Nat.{ℕ, zero, suc, _+_, _-_, _*_, _/_, _%_, _<_, _≤_, zero-le}
 use native.Mathlib.Omega.{arith}
 use lib.ListN.{length, getD, set, length-set}
+use borrow.Author.Tests.{ne-eqb}
 use lib.Seq.{getD-set-same, getD-set-other}
 use Rattle.basics.specs.Tests.{Cmp, below, equal, above, cmp}
 use Rattle.table.specs.Chains.{prev}
@@ -12,7 +13,8 @@ use Rattle.table.specs.ChainLaws.{test, prev-same, prev-other, prev-le, prev-ga
 use Rattle.diagram.specs.Words.{labelAt, highAt, lowAt}
 use Rattle.plan.specs.Walk.{lesser, onHigh, onLow}
 use Rattle.plan.specs.WalkLaws.{lesser-le, lesser-gt, descend-first, descend-second, descend-both}
-use Rattle.plan.specs.Plan.{buckets, keyCount, hashOf, keyAt, linkAt, hashAt, putEntry, Index, Clean, Touched, Entered}
+use Rattle.plan.specs.Plan.{buckets, keyCount, hashOf, keyAt, linkAt, hashAt, putEntry, Index, Clean, Touched, packBase, wentOf, Entered}
+use Rattle.plan.specs.declared.Went.{Went}
 use Rattle.plan.specs.declared.Went.the-variants.{To, Full}
 
 -- the search of a chain for the key k: the entries at or above `at` are passed, and `at` is 0 or one more than an entry of k's bucket
@@ -124,6 +126,36 @@ module _ {ws heads : List ℕ} {limit count k label first second : ℕ} where
     );
     full = λ q. absurd (let z : _≡_ {A = ℕ} 0 1 = cc in omega arith);
   }
+
+-- an answer in one word
+pub packed-to : (number count : ℕ) → (number < packBase) × (0 < count) × (count < packBase) → wentOf (count * packBase + number) ≡ To number count
+unfolding wentOf
+packed-to number count h =
+    let low : (count * packBase + number) % packBase ≡ number = omega (arith, h .0) in
+    let high : (count * packBase + number) / packBase ≡ count = omega (arith, h .0) in
+    rw (ne-eqb (count * packBase + number) 0 (λ e. omega (arith, h .1)), low, high)
+
+pub word-full : (r : ℕ) → r ≡ 0 → wentOf r ≡ Full
+unfolding wentOf
+word-full r e = rw e
+
+pub word-to : (r : ℕ) → (r ≡ 0 → ⊥) → wentOf r ≡ To (r % packBase) (r / packBase)
+unfolding wentOf
+word-to r f = rw (ne-eqb r 0 f)
+
+module _ {ws heads : List ℕ} {limit count k label first second : ℕ} where
+  pub add-none : count ≡ limit → Entered ws heads limit count k label first second (wentOf 0) ws heads
+  add-none e = subst (λ (z : Went). Entered ws heads limit count k label first second z ws heads) (sym (word-full 0 refl)) (add-full e)
+
+  pub add-answer : {b link : ℕ} {z : Went} → Index ws heads limit count → (count ≡ limit → ⊥) → (b ≡ hashOf k) × (b < buckets) → link ≡ getD heads b 0
+      → z ≡ To count (count + 1)
+      → Entered ws heads limit count k label first second z
+      (set (set (set (set (set ws (count * 5) k) (count * 5 + 1) link) (count * 5 + 2) label) (count * 5 + 3) first) (count * 5 + 4) second)
+      (set heads b (count + 1))
+  add-answer {b} {link} t f h d e =
+      subst (λ (w : Went). Entered ws heads limit count k label first second w
+      (set (set (set (set (set ws (count * 5) k) (count * 5 + 1) link) (count * 5 + 2) label) (count * 5 + 3) first) (count * 5 + 4) second)
+      (set heads b (count + 1))) (sym e) (add-to t f h d)
 
 -- the ways out of `lower`
 pub lower-le : {a b : ℕ} → a ≤ b → a ≡ lesser a b

@@ -15,7 +15,7 @@ use Rattle.table.specs.ChainLaws.{prev-le, prev-gap, prev-hits}
 use Rattle.diagram.specs.Words.{labelAt, highAt}
 use Rattle.plan.specs.Walk.{Pair, samePair, isEnd, lesser, pairLabel, onHigh, onLow, walked, mostRows, Leading}
 use Rattle.plan.specs.WalkLaws.{mem-at, mem-nowhere, place-one, end-label, branch-label, high-below, low-below, high-leading, low-leading, extends-length, extends-getD, walked-old, walked-end, walked-branch, walked-extends, walked-fresh, walked-root}
-use Rattle.plan.specs.Plan.{keyCount, keyOf, hashOf, keyAt, putEntry, Index, origin, Entry, Plan, Touched, wentTo, Ready, Planned, pairsAt, Reached, Overrun, Visited, Entered}
+use Rattle.plan.specs.Plan.{keyCount, keyOf, hashOf, keyAt, putEntry, Index, origin, Entry, Plan, Touched, wentTo, packBase, Ready, Planned, pairsAt, Reached, Overrun, Visited, Entered}
 use Rattle.plan.specs.PlanLaws.{key-one, length-pairs, plan-pairs, plan-added, index-touched}
 use Rattle.plan.specs.declared.Went.{Went}
 use Rattle.plan.specs.declared.Went.the-variants.{To, Full}
@@ -88,7 +88,7 @@ module _ {x y ws heads : List ℕ} {limit count i j : ℕ} (r : Ready x y ws hea
 
   -- the search for the pair
   module _ {k at : ℕ} (key : (k ≡ keyOf (i, j)) × (k < keyCount)) (found : at ≡ prev (keyAt ws) k count) where
-    pub visit-old : (at ≡ 0 → ⊥) → Visited x y limit (i, j) (walked x y (i, j) (pairsAt ws count)) (To (at - 1) count) ws heads
+    visit-old : (at ≡ 0 → ⊥) → Visited x y limit (i, j) (walked x y (i, j) (pairsAt ws count)) (To (at - 1) count) ws heads
     visit-old n = visited-to (record {
       less = l;
       count-is = ap length w ∙ length-pairs ws count;
@@ -111,6 +111,13 @@ module _ {x y ws heads : List ℕ} {limit count i j : ℕ} (r : Ready x y ws hea
 
         w : walked x y (i, j) (pairsAt ws count) ≡ pairsAt ws count
         w = walked-old x y (i, j) (pairsAt ws count) (subst (λ (q : Pair). mem samePair q (pairsAt ws count) ≡ true) is (mem-at origin (pairsAt ws count) (at - 1) m))
+
+    pub visit-packable : (at ≡ 0 → ⊥) → (at - 1 < packBase) × (0 < count) × (count < packBase)
+    visit-packable n = let i = ready-index in
+        (omega (arith, prev-le (keyAt ws) k count, i .within, i .small), omega (arith, prev-le (keyAt ws) k count), omega (arith, i .within, i .small))
+
+    pub visit-answer : {z : Went} → (at ≡ 0 → ⊥) → z ≡ To (at - 1) count → Visited x y limit (i, j) (walked x y (i, j) (pairsAt ws count)) z ws heads
+    visit-answer n e = subst (λ (w : Went). Visited x y limit (i, j) (walked x y (i, j) (pairsAt ws count)) w ws heads) (sym e) (visit-old n)
 
     pub visit-new : at ≡ 0 → mem samePair (i, j) (pairsAt ws count) ≡ false
     visit-new z = mem-nowhere origin (i, j) (pairsAt ws count)
@@ -265,7 +272,8 @@ planned x y limit p a Full ws heads v =
     let o : Overrun limit (walked x y p []) ws heads = v .full refl in
     record { answer = sym (went-many limit (walked x y p []) (o .many)); plan = λ h. absurd (omega (arith, o .many)); touched = λ h. o .touched }
 
-pub walk-out : (ws : List ℕ) {x y ws′ heads′ : List ℕ} {limit i j : ℕ} {z : Went} → Leading x y (i, j) → Visited x y limit (i, j) (walked x y (i, j) (pairsAt ws 0)) z ws′ heads′
+pub walk-out : (ws : List ℕ) {x y ws′ heads′ : List ℕ} {limit i j : ℕ} {z w : Went} → Leading x y (i, j) → w ≡ z → Visited x y limit (i, j) (walked x y (i, j) (pairsAt ws 0)) w ws′ heads′
     → Planned x y limit (walked x y (i, j) []) z ws′ heads′
 unfolding pairsAt
-walk-out ws {x} {y} {ws′} {heads′} {limit} {i} {j} {z} a v = planned x y limit (i, j) a z ws′ heads′ v
+walk-out ws {x} {y} {ws′} {heads′} {limit} {i} {j} {z} a e v =
+    planned x y limit (i, j) a z ws′ heads′ (subst (λ (t : Went). Visited x y limit (i, j) (walked x y (i, j) []) t ws′ heads′) e v)

@@ -4,7 +4,7 @@ use mathlib.Core.Path.{_≡_}
 use mathlib.Core.List.{List, [], _∷_, _++_}
 use Prim.Native.Nat.{ℕ, zero, suc, _+_, _-_, _*_, _/_, _%_, _<_, _≤_}
 use lib.ListN.{length, getD, set}
-use lib.Dec.{leb}
+use lib.Dec.{leb, eqb}
 use Rattle.basics.specs.Members.{NoDup}
 use Rattle.table.specs.Chains.{prev}
 use Rattle.diagram.specs.Words.{highAt}
@@ -115,6 +115,13 @@ pub record Touched (ws heads : List ℕ) (count : ℕ) : Type 0 where
 -- the answer of a walk that finishes the pairs ps, the root last: its number and how many they are, or that they are more than `limit`
 unfoldable pub wentTo : ℕ → List Pair → Went
 wentTo limit ps = cond (leb (length ps) limit) (To (length ps - 1) (length ps)) Full
+
+-- the same in one word: a pair's number below 2^16, the count of pairs above it; 0 says that they are too many
+abbrev pub packBase : ℕ
+packBase = 65536
+
+unfoldable pub wentOf : ℕ → Went
+wentOf r = cond (eqb r 0) Full (To (r % packBase) (r / packBase))
 
 -- what `walk` ensures, ps being the pairs of the walk: the answer, the plan of these pairs, and, where they are too many, that the index can be cleared
 pub record Planned (x y : List ℕ) (limit : ℕ) (ps : List Pair) (r : Went) (ws heads : List ℕ) : Type 0 where

@@ -7,7 +7,8 @@ ghost use lib.ListN.{length};
 ghost use Rattle.basics.specs.Members.{mem};
 ghost use Rattle.table.specs.Chains.{prev};
 ghost use Rattle.plan.specs.Walk.{samePair, lesser, onHigh, onLow, walked, mostRows, Leading};
-ghost use Rattle.plan.specs.Plan.{buckets, keyCount, keyOf, hashOf, keyAt, Index, Plan, Clean, Touched, Ready, Planned, pairsAt, Visited, Entered};
+ghost use Rattle.plan.specs.Plan.{buckets, keyCount, keyOf, hashOf, keyAt, Index, Plan, Clean, Touched, Ready, Planned, packBase, wentOf, pairsAt, Visited, Entered};
+ghost use Rattle.plan.specs.declared.Went.the-variants.{To};
 
 // The number of buckets of the index.
 pub const BUCKETS: usize = 4096;
@@ -15,6 +16,10 @@ pub const BUCKETS: usize = 4096;
 pub const ENTRY_WORDS: usize = 5;
 // A leaf's first word.
 const LEAF: u64 = 4294967295;
+// In a packed answer the number of a pair stands below the count of pairs.
+const PACK_BASE: usize = 65536;
+// The packed answer where the pairs are too many.
+const FULL: usize = 0;
 
 // The number of a pair in the plan and of the pairs there, or that they are too many.
 pub enum Went {
@@ -105,6 +110,14 @@ fn successors(x: &[u64], y: &[u64], i: usize, j: usize) -> Ways
     }
 }
 
+// The number of a pair in the plan and of the pairs there, in one word: it comes back from each inner call in a register.
+fn packed(number: usize, count: usize) -> usize
+    requires { ⌜ (number < packBase) × (0 < count) × (count < packBase) ⌝ }
+    ensures { λ r. ⌜ wentOf r ≡ To number count ⌝ }
+{
+    count * PACK_BASE + number
+}
+
 // Writes an entry at the end, if there is room.
 fn add(
     plan: &mut [u64],
@@ -115,13 +128,13 @@ fn add(
     label: u64,
     first: u64,
     second: u64,
-) -> Went
+) -> usize
     requires { ⌜ Index (now plan) (now heads) limit count ⌝ }
     requires { ⌜ k < keyCount ⌝ }
-    ensures { λ r. ⌜ Entered (now (plan .entry)) (now (heads .entry)) limit count k label first second r (now (plan .exit)) (now (heads .exit)) ⌝ }
+    ensures { λ r. ⌜ Entered (now (plan .entry)) (now (heads .entry)) limit count k label first second (wentOf r) (now (plan .exit)) (now (heads .exit)) ⌝ }
 {
     if count == limit {
-        return Went::Full;
+        return FULL;
     }
     let h = hash(k);
     plan[count * ENTRY_WORDS] = k;
@@ -130,7 +143,7 @@ fn add(
     plan[count * ENTRY_WORDS + 3] = first;
     plan[count * ENTRY_WORDS + 4] = second;
     heads[h] = (count + 1) as u16;
-    Went::To(count, count + 1)
+    packed(count, count + 1)
 }
 
 // Walks from a pair, which may be in the plan already.
@@ -143,13 +156,13 @@ fn visit(
     count: usize,
     i: usize,
     j: usize,
-) -> Went
+) -> usize
     requires { ⌜ Ready (now x) (now y) (now plan) (now heads) limit count (i, j) ⌝ }
-    ensures { λ r. ⌜ Visited (now (x .entry)) (now (y .entry)) limit (i, j) (walked (now (x .entry)) (now (y .entry)) (i, j) (pairsAt (now (plan .entry)) count)) r (now (plan .exit)) (now (heads .exit)) ⌝ }
+    ensures { λ r. ⌜ Visited (now (x .entry)) (now (y .entry)) limit (i, j) (walked (now (x .entry)) (now (y .entry)) (i, j) (pairsAt (now (plan .entry)) count)) (wentOf r) (now (plan .exit)) (now (heads .exit)) ⌝ }
 {
     let at = find(plan, heads, limit, count, key(i, j));
     if at != 0 {
-        return Went::To(at - 1, count);
+        return packed(at - 1, count);
     }
     below(x, y, plan, heads, limit, count, i, j)
 }
@@ -164,10 +177,10 @@ fn below(
     count: usize,
     i: usize,
     j: usize,
-) -> Went
+) -> usize
     requires { ⌜ Ready (now x) (now y) (now plan) (now heads) limit count (i, j) ⌝ }
     requires { ⌜ mem samePair (i, j) (pairsAt (now plan) count) ≡ false ⌝ }
-    ensures { λ r. ⌜ Visited (now (x .entry)) (now (y .entry)) limit (i, j) (walked (now (x .entry)) (now (y .entry)) (i, j) (pairsAt (now (plan .entry)) count)) r (now (plan .exit)) (now (heads .exit)) ⌝ }
+    ensures { λ r. ⌜ Visited (now (x .entry)) (now (y .entry)) limit (i, j) (walked (now (x .entry)) (now (y .entry)) (i, j) (pairsAt (now (plan .entry)) count)) (wentOf r) (now (plan .exit)) (now (heads .exit)) ⌝ }
 {
     let l = lower(x[i * 3], y[j * 3]);
     if l == LEAF {
@@ -183,12 +196,18 @@ fn below(
         );
     }
     let s = successors(x, y, i, j);
-    let Went::To(t, n) = visit(x, y, plan, heads, limit, count, s.hi, s.hj) else {
-        return Went::Full;
-    };
-    let Went::To(f, m) = visit(x, y, plan, heads, limit, n, s.li, s.lj) else {
-        return Went::Full;
-    };
+    let high = visit(x, y, plan, heads, limit, count, s.hi, s.hj);
+    if high == FULL {
+        return FULL;
+    }
+    let n = high / PACK_BASE;
+    let low = visit(x, y, plan, heads, limit, n, s.li, s.lj);
+    if low == FULL {
+        return FULL;
+    }
+    let m = low / PACK_BASE;
+    let t = high % PACK_BASE;
+    let f = low % PACK_BASE;
     add(plan, heads, limit, m, key(i, j), l, t as u64, f as u64)
 }
 
@@ -206,7 +225,11 @@ pub fn walk(
     requires { ⌜ Plan (now x) (now y) (now plan) (now heads) limit [] ⌝ }
     ensures { λ r. ⌜ Planned (now (x .entry)) (now (y .entry)) limit (walked (now (x .entry)) (now (y .entry)) (i, j) []) r (now (plan .exit)) (now (heads .exit)) ⌝ }
 {
-    below(x, y, plan, heads, limit, 0, i, j)
+    let r = below(x, y, plan, heads, limit, 0, i, j);
+    if r == FULL {
+        return Went::Full;
+    }
+    Went::To(r % PACK_BASE, r / PACK_BASE)
 }
 
 // Empties the index of the first count entries: clears the buckets that they touched.

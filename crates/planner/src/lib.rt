@@ -552,7 +552,7 @@ fn call(
 }
 
 // Writes the reward's listing to the value's buffer; its rows.
-fn take_reward(listings: &[u64], head: Head, value: &mut [u64]) -> usize
+pub fn take_reward(listings: &[u64], head: Head, value: &mut [u64]) -> usize
     requires { ⌜ Takeable (now listings) head (now value) ⌝ }
     ensures { λ r. ⌜ Taken (now (listings .entry)) head r (now (value .exit)) ⌝ }
 {

@@ -11,7 +11,7 @@ use reference::refusal::Refusal;
 use reference::terms::{FIRST_VARIABLE, LAST_VARIABLE, PREDICATES};
 
 /// One small damage to the words of a listing.
-fn damage(random: &mut Random, words: &mut Vec<u64>) {
+pub fn damage(random: &mut Random, words: &mut Vec<u64>) {
     let at = random.below(words.len() as u64) as usize;
     match random.below(6) {
         0 => words[at] = words[at].wrapping_add(1),

@@ -2,20 +2,28 @@
 //!
 //!     tests self [seconds N | count N] [seed N]
 //!     tests program PATH [seconds N | count N] [seed N]
+//!     tests library [seconds N | count N] [seed N]
 //!     tests stored FOLDER [PATH]
 //!     tests text SEED
 //!
 //! `self` holds the reference against brute force, counts the refusals met, and sees that each of document 01's slips is caught.
-//! `program` feeds random texts to a program and to the reference. `stored` runs each NAME.txt of a folder and compares with
+//! `program` feeds random texts to a program and to the reference. `library` (feature `library`) makes random calls of the static
+//! library and of the reference, and sees that each call gave each of its answers; with the feature `text` whole texts too. `stored` runs each NAME.txt of a folder and compares with
 //! NAME.out, by the reference or by the program at PATH. `text` prints the random text of a seed. Default: a minute, from seed 0.
 
 mod bellman;
+#[cfg(feature = "library")]
+mod library;
+#[cfg(feature = "text")]
+mod library_texts;
 mod limits;
 mod listings;
 mod meaning;
 mod models;
 mod program;
 mod random;
+#[cfg(feature = "library")]
+mod shapes;
 mod tally;
 mod texts;
 
@@ -25,6 +33,9 @@ use std::io::Write;
 use std::path::{Path, PathBuf};
 use std::time::{Duration, Instant};
 use tally::Tally;
+
+/// So many seeds from 0 on meet every refusal.
+const SEEDS: u64 = 400;
 
 /// How long a run of seeds goes on.
 struct Bound {
@@ -51,8 +62,10 @@ impl Bound {
         Ok(bound)
     }
 
-    fn seeds(&self) -> impl Iterator<Item = u64> + '_ {
-        (self.first..).take(self.count as usize).take_while(|_| self.end.is_none_or(|end| Instant::now() < end))
+    /// The seeds one after another; where time is bound, at least so many.
+    fn seeds(&self, least: u64) -> impl Iterator<Item = u64> + '_ {
+        let goes_on = move |seed: &u64| seed - self.first < least || self.end.is_none_or(|end| Instant::now() < end);
+        (self.first..).take(self.count as usize).take_while(goes_on)
     }
 }
 
@@ -67,7 +80,7 @@ fn values_and_meanings(seed: u64, slips: Slips, tally: &mut Tally) -> Result<(),
 fn self_tests(bound: &Bound) -> Result<(), String> {
     let mut tally = Tally::default();
     let mut done = 0;
-    for seed in bound.seeds() {
+    for seed in bound.seeds(SEEDS) {
         values_and_meanings(seed, Slips::NONE, &mut tally)?;
         meaning::check_combination(seed, &mut tally).map_err(|message| format!("seed {seed}, combination: {message}"))?;
         listings::check(seed, &mut tally).map_err(|message| format!("seed {seed}, listing: {message}"))?;
@@ -104,7 +117,7 @@ fn slips_are_caught() -> Result<(), String> {
 
 fn compare(program: &Path, bound: &Bound) -> Result<(), String> {
     let mut done = 0;
-    for seed in bound.seeds() {
+    for seed in bound.seeds(0) {
         let text = texts::text(seed);
         if let Err(message) = program::check(program, &text) {
             let short = program::shortened(program, &text);
@@ -115,6 +128,30 @@ fn compare(program: &Path, bound: &Bound) -> Result<(), String> {
     }
     println!("{done} texts from seed {} have equal answers", bound.first);
     Ok(())
+}
+
+#[cfg(feature = "library")]
+fn library_calls(bound: &Bound) -> Result<(), String> {
+    let mut answers = library::Answers::default();
+    let mut done = 0;
+    for seed in bound.seeds(SEEDS) {
+        let failed = |message: String| format!("seed {seed}: {message}");
+        library::check(seed, &mut answers).map_err(failed)?;
+        #[cfg(feature = "text")]
+        library_texts::check(seed, &texts::text(seed)).map_err(failed)?;
+        done += 1;
+    }
+    println!("the library's calls of {done} seeds from {} have equal answers", bound.first);
+    answers.print();
+    match answers.wrong() {
+        wrong if wrong.is_empty() => Ok(()),
+        wrong => Err(format!("answers that were never met or are not possible: {wrong:?}")),
+    }
+}
+
+#[cfg(not(feature = "library"))]
+fn library_calls(_: &Bound) -> Result<(), String> {
+    Err("built without the static library; build with --features library".to_string())
 }
 
 fn stored(folder: &Path, program: Option<&Path>) -> Result<(), String> {
@@ -141,13 +178,14 @@ fn run(arguments: &[String]) -> Result<(), String> {
     match arguments {
         [mode, rest @ ..] if mode == "self" => self_tests(&Bound::read(rest)?),
         [mode, path, rest @ ..] if mode == "program" => compare(Path::new(path), &Bound::read(rest)?),
+        [mode, rest @ ..] if mode == "library" => library_calls(&Bound::read(rest)?),
         [mode, folder] if mode == "stored" => stored(Path::new(folder), None),
         [mode, folder, path] if mode == "stored" => stored(Path::new(folder), Some(Path::new(path))),
         [mode, seed] if mode == "text" => {
             let seed = seed.parse().map_err(|_| format!("{seed} is no number"))?;
             std::io::stdout().write_all(&texts::text(seed)).map_err(|error| error.to_string())
         }
-        _ => Err("use: tests self | program PATH | stored FOLDER [PATH] | text SEED".to_string()),
+        _ => Err("use: tests self | program PATH | library | stored FOLDER [PATH] | text SEED".to_string()),
     }
 }
 

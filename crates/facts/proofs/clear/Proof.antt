@@ -1,15 +1,15 @@
 use borrow.Author.Needs.{needs}
 use Prim.Native.Nat.{_-_, _≤_}
-use Rattle.facts.specs.Words.{Cleared}
+use Rattle.facts.specs.Words.{factsBase, Cleared}
 use Rattle.facts.proofs.StateLaws.{clear-begin, clear-next, room-kept, clear-end}
 use Rattle.facts.proofs.clear.Statement.{statement}
 use Rattle.facts.proofs.clear.Tie as tie
 
 abbrev Inv-loop : tie.InvT-loop
-Inv-loop state₀ i₀ state i = Cleared state₀ state i × (i ≤ 32)
+Inv-loop state₀ i₀ state i = Cleared state₀ state i × (i ≤ factsBase)
 
 abbrev μ-loop : tie.MeasureT-loop
-μ-loop state₀ i₀ state i = 32 - i
+μ-loop state₀ i₀ state i = factsBase - i
 
 loop-holds : tie.Need-loop-holds Inv-loop μ-loop
 loop-holds c = (clear-begin _, search needs)

@@ -1,5 +1,3 @@
-use mathlib.Core.Path.{_≡_}
-use Prim.Native.Nat.{ℕ}
 use Rattle.facts.proofs.FactLaws.{note-again, note-space, note-done}
 use borrow.Author.Needs.{needs}
 use Rattle.facts.proofs.note.Statement.{statement}

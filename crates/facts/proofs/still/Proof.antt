@@ -1,4 +1,4 @@
-use Rattle.facts.proofs.TupleLaws.{still-on, still-off}
+use Rattle.facts.proofs.TupleLaws.{still-on}
 use borrow.Author.Needs.{needs}
 use Rattle.facts.proofs.still.Statement.{statement}
 use Rattle.facts.proofs.still.Tie as tie

@@ -1,3 +1,4 @@
+use Rattle.plan.proofs.StepLaws.{word-full, word-to}
 use Rattle.plan.proofs.VisitLaws.{walk-ready, walk-new, walk-out}
 use borrow.Author.Needs.{needs}
 use Rattle.plan.proofs.walk.Statement.{statement}
@@ -7,8 +8,11 @@ below-requires : tie.Need-below-requires
 below-requires c κs = let h = c .before .before .before .before .before .before .pre in (walk-ready (h .0) (h .1), walk-new _ _)
 
 returns : tie.Need-returns
-returns c = walk-out _ (c .before .before .before .before .before .before .before .before .before .before .before .pre .0) (c .before .before .before .before .below .ensures)
+returns c = walk-out _ (c .before .before .before .before .before .before .before .before .before .before .before .before .pre .0) (word-full _ (c .if1 .taken)) (c .before .before .before .before .before .below .ensures)
+
+returns-2 : tie.Need-returns-2
+returns-2 c = walk-out _ (c .before .before .before .before .before .before .before .before .before .before .before .before .pre .0) (word-to _ (c .if1 .left)) (c .before .before .before .before .before .below .ensures)
 
 pub walk-spec : {M : Type 1} → statement M
 walk-spec =
-    tie.close (tie.spec below-requires (λ c. search needs) (λ c. search needs) returns)
+    tie.close (tie.spec below-requires (λ c. search needs) (λ c. search needs) returns (λ c. search needs) (λ c. search needs) returns-2)

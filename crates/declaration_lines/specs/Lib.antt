@@ -1,0 +1,3 @@
+-- Lines that declare names and numbers.
+pub mod Lines
+pub mod LineLaws

@@ -1,0 +1,120 @@
+-- Laws that the lines share: where a diagram stands on a line, what is lent to draw it, and the session behind a line that prints nothing.
+use mathlib.Core.Path.{_≡_, refl, sym, ap, subst, _∙_}
+use mathlib.Core.Bool.{Bool, true}
+use mathlib.Core.List.{List, [], _∷_, _++_}
+use Prim.Native.Nat.{ℕ, _+_, _*_, _≤_}
+use native.Mathlib.Omega.{arith}
+use lib.ListN.{length, replicate, length-append, length-replicate}
+use Rattle.refusal.specs.declared.Refusal.{Refusal}
+use Rattle.refusal.specs.declared.Refusal.the-variants.{Place}
+use Rattle.label.specs.Limits.{variableCount}
+use Rattle.regress.specs.Calls.{Outcome, ok, refused}
+use Rattle.text.specs.declared.Kind.{Kind}
+use Rattle.text.specs.Line.{keyword, wordsBytes}
+use Rattle.events.specs.Events.{firstWord}
+use Rattle.names.specs.Many.{many}
+use Rattle.names.specs.Keys.{keysAt}
+use Rattle.reading.specs.declared.Binding.{Binding}
+use Rattle.reading.specs.Callers.{Tables, Variables}
+use Rattle.answers.specs.declared.Answer.the-variants.{Refused, Nothing}
+use Rattle.session.specs.declared.Part.{Part}
+use Rattle.session.specs.declared.Part.the-variants.{Run}
+use Rattle.session.specs.declared.Rule.the-variants.{Misplaced}
+use Rattle.session.specs.Session.{Session}
+use Rattle.session.specs.Place.{ruleOf}
+use Rattle.session.specs.Replies.{Reply, allowed, quietly, refusal, done, wordsOf}
+use Rattle.declare.specs.declared.Counts.{Counts}
+use Rattle.declare.specs.Tables.{GoodVocabulary}
+use Rattle.model.specs.declared.Head.{Head}
+use Rattle.modelling.specs.Building.{Building}
+use Rattle.memory.specs.declared.Numbers.{Numbers}
+use Rattle.memory.specs.Memory.{Memory, memoryOf, sessionOf, LineOf, Stored, Ready, Answers}
+use Rattle.diagram_lines.proofs.RoomLaws.{unlike}
+
+-- ===== What is lent =====
+
+pub line-short : {k : Kind} {s : List ℕ} → LineOf k s → length s ≤ 4095
+line-short l = subst (λ (x : List ℕ). length x ≤ 4095) (sym (l .bytes)) (l .good .2)
+
+-- its first word stands on the line
+pub line-begins : {k : Kind} {s : List ℕ} {i : ℕ} → LineOf k s → i ≡ firstWord k → i ≤ length s
+line-begins {k} {s} l e =
+    let w : List ℕ = wordsBytes k (l .words) in
+    omega (arith, e, ap length (l .bytes), length-append (keyword k) (w ++ 41 ∷ []), length-append w (41 ∷ []))
+
+-- the names of a session, the parameters of an action counted or not
+pub tables-of : {names ar : List ℕ} {n : Counts} (m : ℕ) (b : Binding) → GoodVocabulary names ar n → m ≤ n .parameters
+    → Tables names ar (record { constants = n .constants; predicates = n .predicates; parameters = m; binding = b })
+tables-of m b g h = record {
+  words = g .names .room;
+  constants-fit = g .names .constants;
+  predicates-fit = g .names .predicates;
+  parameters-fit = omega (arith, g .names .parameters);
+  arities-fit = g .arities;
+}
+
+pub no-keys : (s : List ℕ) (base : ℕ) → keysAt s base 0 ≡ []
+unfolding keysAt many
+no-keys s base = refl
+
+pub fresh-variables : (m k : ℕ) → (variableCount + 1) * 2 ≤ m → k ≤ variableCount + 1 → Variables (replicate m 0) k
+fresh-variables m k h l = record { words = rw (length-replicate) h; within = l }
+
+-- ===== The session behind a line that prints nothing =====
+
+module _ {k : Kind} {s : List ℕ} (number : ℕ) {n : Numbers} {w : Memory} (q : Ready k s n w) {o : Outcome Session}
+    (e : done (sessionOf n w) number k (wordsOf k s) ≡ quietly (sessionOf n w) number (λ τ. τ) o) where
+  pub line-refused : {r : Refusal} → o ≡ refused r → Answers k s number n w (record { numbers = n; answer = Refused r number }) w
+  line-refused {r} f =
+      let x : refusal (sessionOf n w) number r ≡ done (sessionOf n w) number k (wordsOf k s) = sym (e ∙ ap (quietly (sessionOf n w) number (λ τ. τ)) f) in
+      record { answer = ap (λ (y : Reply). y .answer) x; session = ap (λ (y : Reply). y .session) x; stored = q .stored }
+
+  pub line-accepted : {m : Numbers} {v : Memory} {τ : Session} → o ≡ ok τ → sessionOf m v ≡ τ → Stored m v → Answers k s number n w (record { numbers = m; answer = Nothing }) v
+  line-accepted {m} {v} {τ} f g b =
+      let x : record { session = τ; answer = Nothing } ≡ done (sessionOf n w) number k (wordsOf k s) = sym (e ∙ ap (quietly (sessionOf n w) number (λ τ. τ)) f) in
+      record { answer = ap (λ (y : Reply). y .answer) x; session = g ∙ ap (λ (y : Reply). y .session) x; stored = b }
+
+-- a line of the model stands in no run
+not-run : (k : Kind) {s : List ℕ} {n : Numbers} {w : Memory} → Ready k s n w → ruleOf k Run ≡ Misplaced → n .part ≡ Run → ⊥
+unfolding allowed
+not-run k {s} {n} {w} q m e =
+    unlike (sym misplaced ∙ subst (λ (p : Part). allowed (sessionOf n w) (ruleOf k p) ≡ ok tt) e (q .place))
+  where
+    misplaced : allowed (sessionOf n w) (ruleOf k Run) ≡ refused Place
+    misplaced = ap (allowed (sessionOf n w)) m
+
+-- the numbers with a reward or none, the counts c and the head h
+abbrev pub numbersWith : Numbers → Bool → Counts → Head → Numbers
+numbersWith n f c h = record {
+  part = n .part;
+  total = n .total;
+  discount = n .discount;
+  reward = f;
+  counts = c;
+  head = h;
+  live = n .live;
+  held = n .held;
+}
+
+-- a listing of k rows more: what the numbers and words are then
+pub record Grown (n : Numbers) (ar listings names′ listings′ table′ : List ℕ) (f : Bool) (c : Counts) (h : Head) (k : ℕ) : Type 0 where
+  pub vocabulary : GoodVocabulary names′ ar c
+  pub building : Building listings′ table′ h
+  pub size : length listings′ ≡ length listings
+  pub words : h .words ≡ n .head .words + k * 3
+  pub reward : f ≡ true → h .«reward_words» ≡ 0 → ⊥
+
+pub grown-stored : {k : Kind} {s names ar listings table state value names′ listings′ table′ : List ℕ} {n : Numbers} {f : Bool} {c : Counts} {h : Head} {m : ℕ}
+    → Ready k s n (memoryOf names ar listings table state value) → ruleOf k Run ≡ Misplaced → Grown n ar listings names′ listings′ table′ f c h m
+    → Stored (numbersWith n f c h) (memoryOf names′ ar listings′ table′ state value)
+grown-stored {k = k} q e g = record {
+  vocabulary = g .vocabulary;
+  building = g .building;
+  listing-room = omega (arith, g .size, q .stored .listing-room);
+  whole = omega (arith, g .words, q .stored .whole);
+  reward = g .reward;
+  live = q .stored .live;
+  value-room = q .stored .value-room;
+  value-rows = q .stored .value-rows;
+  holding = λ r. absurd (not-run k q e r);
+}

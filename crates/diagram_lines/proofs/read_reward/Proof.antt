@@ -1,0 +1,15 @@
+use Rattle.diagram_lines.proofs.RewardLaws.{reward-drawable, reward-reads}
+use lib.Dec.{lit≤}
+use borrow.Author.Needs.{needs}
+use Rattle.diagram_lines.proofs.read_reward.Statement.{statement}
+use Rattle.diagram_lines.proofs.read_reward.Tie as tie
+
+draw-closed-requires : tie.Need-draw-closed-requires
+draw-closed-requires c κs = reward-drawable (c .before .before .before .before .before .before .before .before .before .pre .0) 66 (lit≤ tt) (c .before .before .before .first-word .ensures) (c .before .before .before .before .before .before .before .before .before .pre .1)
+
+returns : tie.Need-returns
+returns c = reward-reads (c .before .before .before .before .before .before .before .before .before .before .before .before .before .before .before .before .pre .0) _ (c .before .before .before .before .before .before .before .before .before .before .first-word .ensures) (c .before .before .before .before .before .before .draw-closed .ensures) (c .room .ensures)
+
+pub read-reward-spec : {M : Type 1} → statement M
+read-reward-spec =
+    tie.close (tie.spec (λ c κs. search needs) (λ c. search needs) draw-closed-requires (λ c κs. search needs) (λ c. search needs) (λ c. search needs) returns)

@@ -1,0 +1,3 @@
+-- The lines with a diagram, in lent words.
+pub mod Lines
+pub mod ReadyLaws

@@ -1,0 +1,134 @@
+-- What the lines' functions require, from what the function of any line may rely on.
+use mathlib.Core.Path.{_≡_, refl, sym, ap, subst, _∙_}
+use mathlib.Core.Bool.{Bool, true, false, not}
+use mathlib.Core.List.{List, [], _∷_, _++_}
+use Prim.Native.Nat.{ℕ, zero, suc, _-_, _≤_, _<_}
+use native.Mathlib.Omega.{arith}
+use native.Mathlib.Numerals.{add-one}
+use borrow.Author.Tests.{leb-true}
+use lib.ListN.{length, length-append}
+use lib.Dec.{leb}
+use Rattle.regress.specs.Calls.{ok}
+use Rattle.mdp.specs.Model.{Action}
+use Rattle.text.specs.declared.Kind.{Kind}
+use Rattle.text.specs.declared.Kind.the-variants.{Reward, Variant, Becomes}
+use Rattle.names.specs.Layout.{actionsAt, variantsAt}
+use Rattle.names.specs.KeyLaws.{length-keys}
+use Rattle.session.specs.declared.Part.{Part}
+use Rattle.session.specs.declared.Part.the-variants.{Model, Run}
+use Rattle.session.specs.Session.{Session}
+use Rattle.session.specs.Place.{ruleOf}
+use Rattle.session.specs.Replies.{allowed, unless}
+use Rattle.session.specs.Good.{LastAction}
+use Rattle.declare.specs.Tables.{namesOf}
+use Rattle.model.specs.Layout.{many, variantPlace, variantAt, variantsOf, actionAt, modelOf}
+use Rattle.memory.specs.declared.Numbers.{Numbers}
+use Rattle.memory.specs.Memory.{memoryOf, sessionOf, Ready, workWords}
+use Rattle.diagram_lines.specs.Lines.{Lent, Listings, LastOf, RewardReady, VariantReady, BecomesReady}
+
+-- ===== Its place =====
+
+passes : (b : Bool) → unless b ≡ ok tt → b ≡ false
+passes true e = let z : _≡_ {A = ℕ} 0 1 = cc in absurd (omega arith)
+passes false e = refl
+
+some-of : (n : ℕ) → unless (not (leb 1 n)) ≡ ok tt → 0 < n
+some-of n e = go (leb 1 n) refl (passes (not (leb 1 n)) e)
+  where
+    go : (b : Bool) → leb 1 n ≡ b → not b ≡ false → 0 < n
+    go true p q = leb-true 1 n p
+    go false p q = let z : _≡_ {A = Bool} true false = q in absurd (let y : _≡_ {A = ℕ} 0 1 = cc in omega arith)
+
+module _ (σ : Session) where
+  after-action : (p : Part) → allowed σ (ruleOf Variant p) ≡ ok tt → 0 < length (σ .names .actions)
+  unfolding allowed
+  after-action Model e = some-of (length (σ .names .actions)) e
+  after-action Run e = let z : _≡_ {A = ℕ} 0 1 = cc in absurd (omega arith)
+
+  after-variant : (p : Part) → allowed σ (ruleOf Becomes p) ≡ ok tt → 0 < length (σ .names .variants)
+  unfolding allowed
+  after-variant Model e = some-of (length (σ .names .variants)) e
+  after-variant Run e = let z : _≡_ {A = ℕ} 0 1 = cc in absurd (omega arith)
+
+-- ===== The last action =====
+
+length-many : {A : Type 0} (f : ℕ → A) (n : ℕ) → length (many f n) ≡ n
+unfolding many
+length-many f zero = refl
+length-many f (suc n) = rw (length-append, length-many f n, add-one)
+
+last-snoc : (l : List Action) (a : Action) (c v : ℕ) → LastAction (l ++ (a ∷ [])) c v → length (a .variants) ≡ v
+last-snoc [] a c v h = h .1
+last-snoc (x ∷ []) a c v h = h .1
+last-snoc (x ∷ y ∷ l) a c v h = last-snoc (y ∷ l) a c v h
+
+variants-are : (listings table : List ℕ) (a : ℕ) → length (actionAt listings table a .variants) ≡ variantsOf table a
+unfolding actionAt
+variants-are listings table a = length-many (λ v. variantAt listings table (variantPlace a v)) (variantsOf table a)
+
+last-many : (listings table : List ℕ) (n c v : ℕ) → 0 < n → LastAction (many (actionAt listings table) n) c v → variantsOf table (n - 1) ≡ v
+unfolding many
+last-many listings table zero c v h e = absurd (omega arith)
+last-many listings table (suc n) c v h e =
+    let k : suc n - 1 ≡ n = omega arith in
+    ap (variantsOf table) k ∙ sym (variants-are listings table n) ∙ last-snoc (many (actionAt listings table) n) (actionAt listings table n) c v e
+
+-- a variant is one of an action
+last-some : (listings table : List ℕ) (n c v : ℕ) → 0 < v → LastAction (many (actionAt listings table) n) c v → 0 < n
+unfolding many
+last-some listings table zero c v h e = absurd (omega (arith, e))
+last-some listings table (suc n) c v h e = omega arith
+
+-- ===== What is required =====
+
+module _ {k : Kind} {s : List ℕ} {n : Numbers} {names ar listings table state value : List ℕ} (q : Ready k s n (memoryOf names ar listings table state value)) where
+  lent-of : {work : List ℕ} → workWords ≤ length work → Lent k s n names ar work
+  lent-of l = record {
+    line = q .line;
+    vocabulary = q .stored .vocabulary;
+    used = q .stored .building .spanned .used;
+    work-room = omega arith;
+  }
+
+  listed-of : Listings n listings
+  listed-of = record { room = q .stored .listing-room; whole = q .stored .whole }
+
+  -- the names count as many actions as the table has, and as many variants as its last action has
+  actions-are : n .counts .actions ≡ n .head .actions
+  unfolding sessionOf namesOf modelOf
+  actions-are = sym (length-keys names actionsAt (n .counts .actions)) ∙ q .good .agreeing .count ∙ length-many (actionAt listings table) (n .head .actions)
+
+  last-is : LastAction (many (actionAt listings table) (n .head .actions)) (length (namesOf names (n .counts) .parameters)) (n .counts .variants)
+  unfolding sessionOf namesOf modelOf
+  last-is =
+      subst (LastAction (many (actionAt listings table) (n .head .actions)) (length (namesOf names (n .counts) .parameters))) (length-keys names variantsAt (n .counts .variants))
+      (q .good .agreeing .last)
+
+  last-of : 0 < n .head .actions → LastOf table n
+  last-of h = record {
+    spanned = q .stored .building .spanned;
+    some = h;
+    variants = last-many listings table (n .head .actions) (length (namesOf names (n .counts) .parameters)) (n .counts .variants) h last-is;
+  }
+
+module _ {s : List ℕ} {n : Numbers} {names ar listings table state value : List ℕ} where
+  pub reward-ready : {work : List ℕ} → Ready Reward s n (memoryOf names ar listings table state value) → workWords ≤ length work → RewardReady s n names ar listings work
+  reward-ready q l = record { lent = lent-of q l; listed = listed-of q }
+
+  pub variant-ready : {work : List ℕ} → Ready Variant s n (memoryOf names ar listings table state value) → workWords ≤ length work → VariantReady s n names ar listings table work
+  unfolding sessionOf namesOf
+  variant-ready q l =
+      let h = after-action (sessionOf n (memoryOf names ar listings table state value)) (n .part) (q .place) in
+      record {
+        lent = lent-of q l;
+        listed = listed-of q;
+        last = last-of q (omega (arith, h, length-keys names actionsAt (n .counts .actions), actions-are q));
+      }
+
+  pub becomes-ready : {work : List ℕ} → Ready Becomes s n (memoryOf names ar listings table state value) → workWords ≤ length work → BecomesReady s n names ar listings table work
+  unfolding sessionOf namesOf
+  becomes-ready q l =
+      let h = after-variant (sessionOf n (memoryOf names ar listings table state value)) (n .part) (q .place) in
+      let v : 0 < n .counts .variants = omega (arith, h, length-keys names variantsAt (n .counts .variants)) in
+      let a = last-some listings table (n .head .actions) (length (namesOf names (n .counts) .parameters)) (n .counts .variants) v (last-is q) in
+      record { lent = lent-of q l; listed = listed-of q; opened = record { last = last-of q a; has = v } }

@@ -1,0 +1,3 @@
+-- Laws of the code.
+pub mod LabelLaws
+pub mod DrawLaws

@@ -1,0 +1,124 @@
+-- (becomes (p ?a ..) DIAGRAM): an accepted one keeps a session good.
+use mathlib.Core.Path.{_≡_, sym, subst}
+use mathlib.Core.Bool.{false}
+use mathlib.Core.List.{List}
+use mathlib.Core.Option.{some}
+use Prim.Native.Nat.{ℕ, _+_, _≤_, _<_}
+use native.Mathlib.Omega.{arith}
+use lib.ListN.{length, getD}
+use lib.Dec.{ltb, eqb}
+use borrow.Author.Tests.{ltb-false, eqb-true}
+use Rattle.basics.specs.Tests.{Flag, isTrue, isFalse, flag}
+use Rattle.refusal.specs.declared.Refusal.the-variants.{Name, Truth, Space}
+use Rattle.label.specs.Limits.{firstVariable, predicateCount}
+use Rattle.words.specs.Keys.{keyOf}
+use Rattle.forms.specs.Tree as T
+use Rattle.text.specs.declared.Kind.the-variants.{Becomes}
+use Rattle.diagram.specs.Diagram.{Diagram}
+use Rattle.state.specs.State.{meaning}
+use Rattle.state.specs.ValueLaws.{Terms-mono}
+use Rattle.regress.specs.Calls.{ok}
+use Rattle.regress.specs.CallLaws.{Accepted, accepted-ok, accepted-then, accepted-pick}
+use Rattle.regress.specs.Regression.{Truths}
+use Rattle.regress.specs.RegressCall.{leafAbove}
+use Rattle.regress.specs.RegressCallLaws.{above-most}
+use Rattle.events.specs.declared.Event.{Event}
+use Rattle.events.specs.Events.{diagramEvents, wordsEvents}
+use Rattle.reading.specs.declared.Binding.the-variants.{Only}
+use Rattle.reading.specs.Reading.{reading}
+use Rattle.reading.specs.Reading.Judged.{fine}
+use Rattle.reading.specs.Head.{headNumber, headArguments}
+use Rattle.reading.specs.Tree.{Named}
+use Rattle.build.specs.Machine.{mostTests, built}
+use Rattle.mdp.specs.Model.{Variant, Action, GoodTruthDiagram, GoodVariant}
+use Rattle.session.specs.declared.Part.the-variants.{Model as ModelPart}
+use Rattle.session.specs.Session.{Names, Session}
+use Rattle.session.specs.Modelling.{mostModelRows, namesFor, rowsWith, pickOption, withTruthAt, lastVariant, truthsNow, isSome, withTruth, truthRead, becomesLine}
+use Rattle.session.specs.Good.{GoodTables, GoodSession}
+use Rattle.model_laws.specs.OutcomeLaws.{accepted-next, accepted-read}
+use Rattle.model_laws.specs.SessionLaws.{while-model, parts-with}
+use Rattle.model_laws.specs.ActionLaws.{withTruths, length-last, last-kept, every-last}
+use Rattle.model_laws.specs.DrawnLaws.{Read, read-within}
+use Rattle.model_laws.specs.ReadLaws.{line-read}
+use Rattle.model_laws.specs.HeadLaws.{head-headed}
+
+-- ===== The truth diagram =====
+
+-- its m arguments and the parameters of the action, leaves 0 and 1
+truth-read : (ar : List ℕ) (c n m : ℕ) (d : Diagram) → m ≡ n → Read ar c m d → leafAbove 1 d ≡ false → GoodTruthDiagram ar c n d
+truth-read ar c n m d e r bits = record {
+  listed = r .listed;
+  bits = above-most 1 d bits;
+  parameters = read-within ar c m d r;
+  arguments = Terms-mono (Named c m) (λ t. t < firstVariable + n) (λ t h. omega (arith, h .variables)) (meaning ar d) (r .terms);
+}
+
+-- an accepted truth diagram of the predicate p
+record Became (n : Names) (ar : List ℕ) (r p : ℕ) (d : Diagram) : Type 0 where
+  good : GoodTruthDiagram ar (length (n .parameters)) (getD ar p 0) d
+  few : rowsWith r d ≤ mostModelRows
+
+became : (n : Names) (ar : List ℕ) → GoodTables n ar → (truths : Truths) (r : ℕ) (p : List ℕ) (vs : List (List ℕ)) (w : T.Diagram) → T.brackets w ≤ mostTests
+    → Accepted (λ (t : ℕ × Diagram). Became n ar r (t .0) (t .1)) (truthRead n ar truths r (wordsEvents Becomes (p, vs, w)))
+unfolding truthRead
+became n ar tables truths r p vs w shallow =
+    accepted-read (headNumber (n .predicates) (wordsEvents Becomes (p, vs, w))) _ (λ q i.
+    accepted-pick (isSome (truths q)) Name _ (λ new.
+    accepted-read (headArguments (getD ar q 0) (wordsEvents Becomes (p, vs, w))) _ (λ h j.
+    let x = head-headed (getD ar q 0) (keyOf p) vs (diagramEvents w) h j in
+    accepted-read (reading (namesFor n ar Only (n .parameters)) (h .rest) (h .variables)) _ (λ u e.
+    accepted-next (built (u .operations)) _ (λ d m.
+    accepted-pick (leafAbove 1 d) Truth _ (λ bits.
+    accepted-pick (ltb mostModelRows (rowsWith r d)) Space _ (λ few.
+    let f = subst (λ (es : List Event). reading (namesFor n ar Only (n .parameters)) es (h .variables) ≡ fine u) (x .rest) e in
+    let y = line-read n ar tables w shallow Only (h .variables) u d (n .parameters) (tables .parameters) f m in
+    accepted-ok
+    (record {
+      good = truth-read ar (length (n .parameters)) (getD ar q 0) (length (h .variables)) d (x .count) y bits;
+      few = ltb-false mostModelRows (rowsWith r d) few;
+    }))))))))
+
+-- one truth diagram more
+truth-put : (ar : List ℕ) (c p : ℕ) (d : Diagram) → GoodTruthDiagram ar c (getD ar p 0) d → (v : Variant) → GoodVariant ar c v
+    → GoodVariant ar c (withTruths v (λ truths. withTruthAt truths p d))
+unfolding withTruthAt
+truth-put ar c p d g v h = record { listed = h .listed; weight = h .weight; truths = λ q x l m e. go q x l m e (flag (eqb q p)) }
+  where
+    go : (q : ℕ) (x : Diagram) → 0 < q → q < predicateCount → pickOption (eqb q p) (some d) (v .truths q) ≡ some x → Flag (eqb q p) → GoodTruthDiagram ar c (getD ar q 0) x
+    go q x l m e (isTrue z) =
+        let y : d ≡ x = (let s : some d ≡ some x = rw z at e in cc) in
+        subst (GoodTruthDiagram ar c (getD ar q 0)) y (subst (λ (i : ℕ). GoodTruthDiagram ar c (getD ar i 0) d) (sym (eqb-true q p z)) g)
+    go q x l m e (isFalse z) = h .truths q x l m (rw z at e)
+
+-- ===== The line =====
+
+module _ (σ : Session) (good : GoodSession σ) (part : σ .part ≡ ModelPart) where
+  pub becomes-good : (p : List ℕ) (vs : List (List ℕ)) (w : T.Diagram) → T.brackets w ≤ mostTests → (es : List Event) → es ≡ wordsEvents Becomes (p, vs, w) → (τ : Session)
+      → becomesLine σ es ≡ ok τ → GoodSession τ
+  unfolding becomesLine withTruth
+  becomes-good p vs w shallow es words = subst (λ (us : List Event). (τ : Session) → becomesLine σ us ≡ ok τ → GoodSession τ) (sym words) (accepted .given)
+    where
+      ar : List ℕ
+      ar = σ .model .arities
+
+      l : List Action
+      l = σ .model .actions
+
+      -- the parameters and the variants of the last action
+      c : ℕ
+      c = length (σ .names .parameters)
+
+      n : ℕ
+      n = length (σ .names .variants)
+
+      accepted : Accepted GoodSession (becomesLine σ (wordsEvents Becomes (p, vs, w)))
+      accepted =
+          accepted-then (truthRead (σ .names) ar (truthsNow l) (σ .rows) (wordsEvents Becomes (p, vs, w)))
+          (became (σ .names) ar (good .tables) (truthsNow l) (σ .rows) p vs w shallow) (λ t x.
+          let f : Truths → Truths = λ truths. withTruthAt truths (t .0) (t .1) in
+          accepted-ok
+          (while-model _ part (good .quiet part) (good .tables)
+          (record { count = omega (arith, good .agreeing .count, length-last f l); last = last-kept f c n l (good .agreeing .last) })
+          (parts-with _ (σ .singles) (σ .model) ar (σ .model .reward) (lastVariant l f) (good .parts) (good .parts .reward)
+          (every-last f ar c n (truth-put ar c (t .0) (t .1) (x .good)) l (good .agreeing .last) (good .parts .actions)))
+          (x .few)))

@@ -1,0 +1,131 @@
+-- Lines that declare constants, numbers and actions keep a session good.
+use mathlib.Core.Path.{_≡_}
+use mathlib.Core.Bool.{not, _||_}
+use mathlib.Core.List.{List, [], _∷_, _++_}
+use Prim.Native.Nat.{ℕ}
+use native.Mathlib.Omega.{arith}
+use lib.ListN.{length}
+use lib.Dec.{ltb, leb}
+use borrow.Author.Tests.{leb-true, leb-false, ltb-false}
+use Rattle.basics.specs.Tests.{and-left, and-right}
+use Rattle.refusal.specs.declared.Refusal.the-variants.{Name, Range, Space}
+use Rattle.label.specs.Limits.{constantCount, parameterCount}
+use Rattle.words.specs.declared.Key.{Key}
+use Rattle.names.specs.Keys.{isAmong}
+use Rattle.regress.specs.Calls.{ok}
+use Rattle.regress.specs.CallLaws.{Accepted, accepted-ok, accepted-pick}
+use Rattle.regress.specs.RegressCallLaws.{not-false}
+use Rattle.mdp.specs.Model.{Action, GoodAction, mostTotal, mostDenominator, mostActions}
+use Rattle.session.specs.declared.Part.the-variants.{Model as ModelPart}
+use Rattle.session.specs.Session.{Names, Session}
+use Rattle.session.specs.Declaring.{isDeclared, constantLine, isTotal, totalLine, isDiscount, discountLine, repeated, actionLine}
+use Rattle.session.specs.Replies.{withNames, withTotal, withDiscount, withAction}
+use Rattle.session.specs.Good.{GoodTables, GoodParts, GoodSession}
+use Rattle.model_laws.specs.OutcomeLaws.{neither}
+use Rattle.model_laws.specs.SessionLaws.{while-model, parts-with}
+use Rattle.model_laws.specs.ActionLaws.{length-more, every-more, last-more}
+
+module _ (σ : Session) (good : GoodSession σ) (part : σ .part ≡ ModelPart) where
+  tables : GoodTables (σ .names) (σ .model .arities)
+  tables = good .tables
+
+  parts : GoodParts (σ .singles) (σ .model)
+  parts = good .parts
+
+  pub constant-good : (k : Key) (n : Names) → constantLine (σ .names) k ≡ ok n → GoodSession (withNames σ n)
+  unfolding constantLine
+  constant-good k = accepted .given
+    where
+      accepted : Accepted (λ (n : Names). GoodSession (withNames σ n)) (constantLine (σ .names) k)
+      accepted =
+          accepted-pick (isDeclared (σ .names) k) Name _ (λ new.
+          accepted-pick (leb constantCount (length (σ .names .constants))) Space _ (λ room.
+          accepted-ok
+          (while-model _ part (good .quiet part)
+          (record {
+            constants = omega (arith, length-more (σ .names .constants) k, leb-false constantCount (length (σ .names .constants)) room);
+            predicates = tables .predicates;
+            actions = tables .actions;
+            parameters = tables .parameters;
+            variants = tables .variants;
+            arities = tables .arities;
+            undeclared = tables .undeclared;
+          })
+          (record { count = good .agreeing .count; last = good .agreeing .last })
+          parts
+          (good .few))))
+
+  pub total-good : (w x : ℕ) → totalLine w ≡ ok x → GoodSession (withTotal σ x)
+  unfolding totalLine isTotal withTotal
+  total-good w = accepted .given
+    where
+      accepted : Accepted (λ (x : ℕ). GoodSession (withTotal σ x)) (totalLine w)
+      accepted =
+          accepted-pick (not (isTotal w)) Range _ (λ e.
+          let q = not-false (isTotal w) e in
+          accepted-ok
+          (while-model _ part (good .quiet part) tables (good .agreeing)
+          (record {
+            total-some = leb-true 1 w (and-left (leb 1 w) _ q);
+            total-few = leb-true w mostTotal (and-right (leb 1 w) _ q);
+            denominator-some = parts .denominator-some;
+            denominator-few = parts .denominator-few;
+            numerator-few = parts .numerator-few;
+            reward = parts .reward;
+            actions = parts .actions;
+          })
+          (good .few)))
+
+  pub discount-good : (g d : ℕ) (q : ℕ × ℕ) → discountLine g d ≡ ok q → GoodSession (withDiscount σ q)
+  unfolding discountLine isDiscount withDiscount
+  discount-good g d = accepted .given
+    where
+      accepted : Accepted (λ (q : ℕ × ℕ). GoodSession (withDiscount σ q)) (discountLine g d)
+      accepted =
+          accepted-pick (not (isDiscount g d)) Range _ (λ e.
+          let q = not-false (isDiscount g d) e in
+          let r = and-right (leb 1 d) _ q in
+          accepted-ok
+          (while-model _ part (good .quiet part) tables (good .agreeing)
+          (record {
+            total-some = parts .total-some;
+            total-few = parts .total-few;
+            denominator-some = leb-true 1 d (and-left (leb 1 d) _ q);
+            denominator-few = leb-true d mostDenominator (and-left (leb d mostDenominator) _ r);
+            numerator-few = leb-true g d (and-right (leb d mostDenominator) _ r);
+            reward = parts .reward;
+            actions = parts .actions;
+          })
+          (good .few)))
+
+  pub action-good : (k : Key) (ps : List Key) (n : Names) → actionLine (σ .names) k ps ≡ ok n → GoodSession (withAction σ n)
+  unfolding actionLine withAction
+  action-good k ps = accepted .given
+    where
+      a : Action
+      a = record { count = length ps; variants = [] }
+
+      accepted : Accepted (λ (n : Names). GoodSession (withAction σ n)) (actionLine (σ .names) k ps)
+      accepted =
+          accepted-pick (isAmong k (σ .names .actions) || repeated [] ps) Name _ (λ new.
+          accepted-pick (ltb parameterCount (length ps) || leb mostActions (length (σ .names .actions))) Space _ (λ e.
+          let q = neither (ltb parameterCount (length ps)) _ e in
+          let few = ltb-false parameterCount (length ps) (q .0) in
+          accepted-ok
+          (while-model _ part (good .quiet part)
+          (record {
+            constants = tables .constants;
+            predicates = tables .predicates;
+            actions = omega (arith, length-more (σ .names .actions) k, leb-false mostActions (length (σ .names .actions)) (q .1));
+            parameters = few;
+            variants = omega arith;
+            arities = tables .arities;
+            undeclared = tables .undeclared;
+          })
+          (record {
+            count = omega (arith, length-more (σ .names .actions) k, length-more (σ .model .actions) a, good .agreeing .count);
+            last = last-more (σ .model .actions) a;
+          })
+          (parts-with _ (σ .singles) (σ .model) (σ .model .arities) (σ .model .reward) (σ .model .actions ++ (a ∷ [])) parts (parts .reward)
+          (every-more (GoodAction (σ .model .arities)) (σ .model .actions) a (parts .actions) (record { few = few; variants-few = omega arith; variants = tt })))
+          (good .few))))

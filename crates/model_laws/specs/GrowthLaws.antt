@@ -1,0 +1,189 @@
+-- What holds of a diagram under an arity list holds under one that has grown. An unused place of a label is 0, and 0 is a constant: a predicate that gets
+-- places adds the constant 0 and nothing else to the diagrams that have it.
+use mathlib.Core.Path.{_≡_, refl, sym, ap, subst, _∙_}
+use mathlib.Core.Logic.{_⊎_, inl, inr}
+use mathlib.Core.Bool.{true, false}
+use mathlib.Core.List.{List, [], _∷_}
+use Prim.Native.Nat.{ℕ, zero, suc, _+_, _<_}
+use native.Mathlib.Omega.{arith}
+use lib.ListN.{length, getD, take}
+use lib.Dec.{eqb, ltb}
+use borrow.Author.Tests.{eqb-true, ne-eqb, le-ltb}
+use Rattle.basics.specs.Tests.{cond-const}
+use Rattle.basics.specs.Members.{mem}
+use Rattle.label.specs.Limits.{firstParameter, firstVariable, variableCount}
+use Rattle.label.specs.Terms.{isTerm, isConstant}
+use Rattle.label.specs.Labels.{placeFits, isLabel, termsOf, unpacked}
+use Rattle.label.specs.LabelLaws.{PlacesFit, Fitting, label-fits, fits-atom}
+use Rattle.label.specs.declared.Atom.{Atom}
+use Rattle.diagram.specs.Diagram.{Diagram, leaf, branch, relabel}
+use Rattle.diagram.specs.Listing.{Fine, Good}
+use Rattle.diagram.specs.Variables.{occurs, occurring, variables, closed}
+use Rattle.rename.specs.ClosingLaws.{closed-variables, closed-same}
+use Rattle.state.specs.State.{atomOf, meaning}
+use Rattle.state.specs.Terms.{Each, Terms}
+use Rattle.state.specs.ValueLaws.{Terms-mono}
+use Rattle.regress.specs.Parameters.{Allowed, Within}
+use Rattle.mdp.specs.Model.{Variant, Action, Every, GoodTruthDiagram, GoodVariant, GoodAction}
+use Rattle.session.specs.Good.{GoodReward}
+use Rattle.model_laws.specs.ArityLaws.{Grown, grown-more}
+use Rattle.model_laws.specs.ActionLaws.{every-mono}
+
+-- ===== Labels =====
+
+abbrev places : Atom → List ℕ
+places a = a .first ∷ a .second ∷ a .third ∷ a .fourth ∷ []
+
+-- all places of the atom a are 0, as those of a predicate without places are
+record Bare (a : Atom) : Type 0 where
+  first : a .first ≡ 0
+  second : a .second ≡ 0
+  third : a .third ≡ 0
+  fourth : a .fourth ≡ 0
+
+place-zero : (k t : ℕ) → placeFits 0 k t ≡ true → t ≡ 0
+unfolding placeFits
+place-zero k t e = let z : ltb k 0 ≡ false = le-ltb k 0 (omega arith) in eqb-true t 0 (rw z at e)
+
+bare : (a : Atom) → PlacesFit 0 a → Bare a
+bare a f = record {
+  first = place-zero 0 (a .first) (f .first-fits);
+  second = place-zero 1 (a .second) (f .second-fits);
+  third = place-zero 2 (a .third) (f .third-fits);
+  fourth = place-zero 3 (a .fourth) (f .fourth-fits);
+}
+
+zero-fits : (n k t : ℕ) → t ≡ 0 → placeFits n k t ≡ true
+unfolding placeFits isTerm isConstant
+zero-fits n k t e = rw e (cond-const (ltb k n) true)
+
+bare-fits : (n : ℕ) (a : Atom) → Bare a → PlacesFit n a
+bare-fits n a b = record {
+  first-fits = zero-fits n 0 (a .first) (b .first);
+  second-fits = zero-fits n 1 (a .second) (b .second);
+  third-fits = zero-fits n 2 (a .third) (b .third);
+  fourth-fits = zero-fits n 3 (a .fourth) (b .fourth);
+}
+
+each-take : (P : ℕ → Type 0) (n : ℕ) (ts : List ℕ) → Each P ts → Each P (take n ts)
+each-take P zero ts h = tt
+each-take P (suc n) [] h = tt
+each-take P (suc n) (t ∷ ts) h = (h .0, each-take P n ts (h .1))
+
+-- P names all places if it names 0
+bare-each : (P : ℕ → Type 0) → P 0 → (n : ℕ) (a : Atom) → Bare a → Each P (take n (places a))
+bare-each P p n a b = each-take P n (places a) (rw (b .first) p, (rw (b .second) p, (rw (b .third) p, (rw (b .fourth) p, tt))))
+
+each-not : (t : ℕ) (ts : List ℕ) → Each (λ u. eqb t u ≡ false) ts → mem eqb t ts ≡ false
+each-not t [] h = refl
+each-not t (u ∷ ts) h = rw (h .0) (each-not t ts (h .1))
+
+module _ (ar br : List ℕ) (grown : Grown ar br) where
+  -- the predicate of a has the places that it had, or had none
+  abbrev Way : Atom → Type 0
+  Way a = (getD br (a .predicate) 0 ≡ getD ar (a .predicate) 0) ⊎ (getD ar (a .predicate) 0 ≡ 0)
+
+  module _ (a : Atom) (f : Fitting ar a) where
+    bare-at : getD ar (a .predicate) 0 ≡ 0 → Bare a
+    bare-at e = bare a (subst (λ (n : ℕ). PlacesFit n a) e (f .places-fit))
+
+    fitting-grown : Fitting br a
+    fitting-grown = record { predicate-fits = f .predicate-fits; places-fit = go (grown .each (a .predicate)); ordered = f .ordered }
+      where
+        go : Way a → PlacesFit (getD br (a .predicate) 0) a
+        go (inl e) = rw e (f .places-fit)
+        go (inr e) = bare-fits (getD br (a .predicate) 0) a (bare-at e)
+
+    each-grown : (P : ℕ → Type 0) → P 0 → Each P (termsOf ar a) → Each P (termsOf br a)
+    unfolding termsOf
+    each-grown P p h = go (grown .each (a .predicate))
+      where
+        go : Way a → Each P (take (getD br (a .predicate) 0) (places a))
+        go (inl e) = rw e h
+        go (inr e) = bare-each P p (getD br (a .predicate) 0) a (bare-at e)
+
+    mem-grown : (t : ℕ) → 0 < t → mem eqb t (termsOf br a) ≡ mem eqb t (termsOf ar a)
+    unfolding termsOf
+    mem-grown t h = go (grown .each (a .predicate))
+      where
+        go : Way a → mem eqb t (take (getD br (a .predicate) 0) (places a)) ≡ mem eqb t (take (getD ar (a .predicate) 0) (places a))
+        go (inl e) = rw e
+        go (inr e) = rw e (each-not t (take (getD br (a .predicate) 0) (places a)) (bare-each (λ u. eqb t u ≡ false) (ne-eqb t 0 (λ z. omega arith)) (getD br (a .predicate) 0) a (bare-at e)))
+
+  label-grown : (l : ℕ) → isLabel ar l ≡ true → isLabel br l ≡ true
+  unfolding isLabel
+  label-grown l e = fits-atom br (unpacked l) (fitting-grown (unpacked l) (label-fits ar l e))
+
+  -- ===== Diagrams =====
+
+  fine-grown : (d : Diagram) → Fine ar d → Fine br d
+  fine-grown (leaf v) h = h
+  fine-grown (branch l t f) h = (label-grown l (h .0), fine-grown t (h .1), fine-grown f (h .2))
+
+  good-grown : (d : Diagram) → Good ar d → Good br d
+  good-grown d g = record { arities = grown .arities; ordered = g .ordered; reduced = g .reduced; fine = fine-grown d (g .fine); few = g .few }
+
+  -- terms, where 0 is allowed
+  terms-grown : (P : ℕ → Type 0) → P 0 → (d : Diagram) → Fine ar d → Terms P (meaning ar d) → Terms P (meaning br d)
+  unfolding meaning relabel atomOf
+  terms-grown P p (leaf v) h w = tt
+  terms-grown P p (branch l t f) h w =
+      (each-grown (unpacked l) (label-fits ar l (h .0)) P p (w .0), terms-grown P p t (h .1) (w .1), terms-grown P p f (h .2) (w .2))
+
+  within-grown : (c : ℕ) (d : Diagram) → Fine ar d → Within c (meaning ar d) → Within c (meaning br d)
+  within-grown c d h w = record { terms = terms-grown (Allowed c) (λ k. absurd (omega arith)) d h (w .terms) }
+
+  -- variables stay the same
+  occurs-grown : (t : ℕ) → 0 < t → (d : Diagram) → Fine ar d → occurs br t d ≡ occurs ar t d
+  unfolding occurs
+  occurs-grown t h (leaf v) g = refl
+  occurs-grown t h (branch l x y) g = rw (mem-grown (unpacked l) (label-fits ar l (g .0)) t h, occurs-grown t h x (g .1), occurs-grown t h y (g .2))
+
+  occurring-grown : (d : Diagram) → Fine ar d → (t n : ℕ) → 0 < t → occurring br d t n ≡ occurring ar d t n
+  unfolding occurring
+  occurring-grown d g t zero h = refl
+  occurring-grown d g t (suc n) h = rw (occurs-grown t h d g, occurring-grown d g (suc t) n (omega arith))
+
+  variables-grown : (d : Diagram) → Fine ar d → variables br d ≡ variables ar d
+  unfolding variables
+  variables-grown d g = occurring-grown d g firstVariable variableCount (omega arith)
+
+  closed-grown : (d : Diagram) → Good ar d → closed ar d ≡ d → closed br d ≡ d
+  closed-grown d g e =
+      closed-same br d (length (variables ar d)) (good-grown d g)
+      (variables-grown d (g .fine) ∙ ap (variables ar) (sym e) ∙ closed-variables ar d g)
+
+  -- ===== Parts of a model =====
+
+  pub reward-grown : (d : Diagram) → GoodReward ar d → GoodReward br d
+  reward-grown d g = record {
+    listed = good-grown d (g .listed);
+    is-closed = closed-grown d (g .listed) (g .is-closed);
+    within = within-grown 0 d (g .listed .fine) (g .within);
+  }
+
+  truth-grown : (c p : ℕ) (d : Diagram) → GoodTruthDiagram ar c (getD ar p 0) d → GoodTruthDiagram br c (getD br p 0) d
+  truth-grown c p d g = record {
+    listed = good-grown d (g .listed);
+    bits = g .bits;
+    parameters = within-grown c d (g .listed .fine) (g .parameters);
+    arguments = Terms-mono (λ t. t < firstVariable + getD ar p 0) (λ t. t < firstVariable + getD br p 0) (λ t h. omega (arith, grown-more ar br grown p))
+        (meaning br d) (terms-grown (λ t. t < firstVariable + getD ar p 0) (omega arith) d (g .listed .fine) (g .arguments));
+  }
+
+  variant-grown : (c : ℕ) (v : Variant) → GoodVariant ar c v → GoodVariant br c v
+  variant-grown c v g = record {
+    listed = good-grown (v .weight) (g .listed);
+    weight = terms-grown (λ t. t < firstParameter + c) (omega arith) (v .weight) (g .listed .fine) (g .weight);
+    truths = λ p d h k e. truth-grown c p d (g .truths p d h k e);
+  }
+
+  action-grown : (a : Action) → GoodAction ar a → GoodAction br a
+  action-grown a g = record {
+    few = g .few;
+    variants-few = g .variants-few;
+    variants = every-mono (GoodVariant ar (a .count)) (GoodVariant br (a .count)) (variant-grown (a .count)) (a .variants) (g .variants);
+  }
+
+  pub actions-grown : (l : List Action) → Every (GoodAction ar) l → Every (GoodAction br) l
+  actions-grown l h = every-mono (GoodAction ar) (GoodAction br) action-grown l h

@@ -1,0 +1,49 @@
+-- (reward DIAGRAM): an accepted one keeps a session good.
+use mathlib.Core.Path.{_≡_, sym, subst}
+use mathlib.Core.List.{List, []}
+use Prim.Native.Nat.{ℕ, _≤_}
+use lib.Dec.{ltb}
+use borrow.Author.Tests.{ltb-false}
+use Rattle.refusal.specs.declared.Refusal.the-variants.{Space}
+use Rattle.forms.specs.Tree as T
+use Rattle.diagram.specs.Diagram.{Diagram}
+use Rattle.regress.specs.Calls.{ok}
+use Rattle.regress.specs.CallLaws.{Accepted, accepted-ok, accepted-then, accepted-pick}
+use Rattle.events.specs.declared.Event.{Event}
+use Rattle.events.specs.Events.{diagramEvents}
+use Rattle.reading.specs.declared.Binding.the-variants.{Any}
+use Rattle.reading.specs.Reading.{reading}
+use Rattle.build.specs.Machine.{mostTests, builtClosed}
+use Rattle.session.specs.declared.Part.the-variants.{Model as ModelPart}
+use Rattle.session.specs.Session.{Names, Session}
+use Rattle.session.specs.Modelling.{mostModelRows, namesFor, rowsWith, withReward, rewardRead, rewardLine}
+use Rattle.session.specs.Good.{GoodTables, GoodReward, GoodSession}
+use Rattle.model_laws.specs.OutcomeLaws.{accepted-next, accepted-read}
+use Rattle.model_laws.specs.SessionLaws.{while-model, parts-with}
+use Rattle.model_laws.specs.ReadLaws.{line-reward}
+
+-- an accepted reward
+record Rewarded (ar : List ℕ) (r : ℕ) (d : Diagram) : Type 0 where
+  good : GoodReward ar d
+  few : rowsWith r d ≤ mostModelRows
+
+rewarded : (n : Names) (ar : List ℕ) → GoodTables n ar → (r : ℕ) (w : T.Diagram) → T.brackets w ≤ mostTests → Accepted (Rewarded ar r) (rewardRead n ar r (diagramEvents w))
+unfolding rewardRead
+rewarded n ar tables r w shallow =
+    accepted-read (reading (namesFor n ar Any []) (diagramEvents w) []) _ (λ u e.
+    accepted-next (builtClosed ar (u .operations)) _ (λ d m.
+    accepted-pick (ltb mostModelRows (rowsWith r d)) Space _ (λ few.
+    accepted-ok (record { good = line-reward n ar tables w shallow Any [] u d e m; few = ltb-false mostModelRows (rowsWith r d) few }))))
+
+module _ (σ : Session) (good : GoodSession σ) (part : σ .part ≡ ModelPart) where
+  pub reward-good : (w : T.Diagram) → T.brackets w ≤ mostTests → (es : List Event) → es ≡ diagramEvents w → (τ : Session) → rewardLine σ es ≡ ok τ → GoodSession τ
+  unfolding rewardLine withReward
+  reward-good w shallow es words = subst (λ (us : List Event). (τ : Session) → rewardLine σ us ≡ ok τ → GoodSession τ) (sym words) (accepted .given)
+    where
+      accepted : Accepted GoodSession (rewardLine σ (diagramEvents w))
+      accepted =
+          accepted-then (rewardRead (σ .names) (σ .model .arities) (σ .rows) (diagramEvents w))
+          (rewarded (σ .names) (σ .model .arities) (good .tables) (σ .rows) w shallow) (λ d x.
+          accepted-ok
+          (while-model _ part (good .quiet part) (good .tables) (good .agreeing)
+          (parts-with _ _ (σ .model) (σ .model .arities) d (σ .model .actions) (good .parts) (λ s. x .good) (good .parts .actions)) (x .few)))

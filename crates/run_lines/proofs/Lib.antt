@@ -1,0 +1,7 @@
+-- Laws of the code.
+pub mod BackupLaws
+pub mod CutLaws
+pub mod HoldLaws
+pub mod ShowLaws
+pub mod StartLaws
+pub mod ValueLaws

@@ -1,0 +1,40 @@
+use Prim.Native.Nat.{_*_}
+use borrow.Author.Needs.{needs}
+use Rattle.model.proofs.CheckLaws.{part-words}
+use Rattle.run_lines.proofs.ValueLaws.{rows-long, constants-long, value-read, value-refused}
+use Rattle.run_lines.proofs.value.Statement.{statement}
+use Rattle.run_lines.proofs.value.Tie as tie
+
+slice-aggregate-value : tie.Need-slice-aggregate-value
+slice-aggregate-value c = rows-long (c .before .before .before .before .before .before .before .pre)
+
+slice-aggregate-value-2 : tie.Need-slice-aggregate-value-2
+slice-aggregate-value-2 c = constants-long (c .before .before .before .before .before .before .before .before .pre)
+
+returns : tie.Need-returns
+returns c =
+    let a = c .before .before .before .before .before .before .before .before .before .before .before .before .before .args in
+    value-read (part-words (a .state .now) 32 (a .n .live .facts * 5)) (c .before .before .before .value .ensures) (c .before .v .given .1)
+
+returns-2 : tie.Need-returns-2
+returns-2 c =
+    let a = c .before .before .before .before .before .before .before .before .before .before .before .before .before .args in
+    value-refused (part-words (a .state .now) 32 (a .n .live .facts * 5)) (c .before .before .before .value .ensures) (c .before .v2 .given .1)
+
+pub value-spec : {M : Type 1} → statement M
+value-spec =
+    tie.close
+    (tie.spec
+    (λ c. search needs)
+    (λ c. search needs)
+    (λ c. search needs)
+    slice-aggregate-value
+    slice-aggregate-value-2
+    (λ c. search needs)
+    (λ c. search needs)
+    (λ c. search needs)
+    (λ c κs. search needs)
+    (λ c. search needs)
+    (λ c. search needs)
+    returns
+    returns-2)

@@ -1,0 +1,67 @@
+-- What the functions of (start) and of the run's lines require of the lent words; and what they promise, whatever bytes the line has and whatever the
+-- words are that are not lent.
+use mathlib.Core.List.{List}
+use Prim.Native.Nat.{ℕ, _*_, _≤_}
+use lib.ListN.{length}
+use Rattle.text.specs.declared.Kind.the-variants.{Start, Value, Backup, Cut, Show}
+use Rattle.session.specs.declared.Part.the-variants.{Run}
+use Rattle.facts.specs.Words.{GoodLive}
+use Rattle.model.specs.Layout.{modelOf, Laid}
+use Rattle.planner.specs.declared.Held.{Held}
+use Rattle.planner.specs.Run.{Room, Callable}
+use Rattle.memory.specs.declared.Numbers.{Numbers}
+use Rattle.memory.specs.declared.Said.{Said}
+use Rattle.memory.specs.Memory.{memoryOf, Ready, Answers}
+
+-- the numbers once the run holds h
+abbrev pub runningWith : Numbers → Held → Numbers
+runningWith n h = record {
+  part = Run;
+  total = n .total;
+  discount = n .discount;
+  reward = n .reward;
+  counts = n .counts;
+  head = n .head;
+  live = n .live;
+  held = h;
+}
+
+-- ===== What they require; (cut) requires what a cut of a run does =====
+
+-- a model laid out, and room for its reward and for the rows formed
+pub record StartTask (n : Numbers) (arities listings table value work : List ℕ) : Type 0 where
+  pub laid : Laid arities listings table (n .head)
+  pub room : Room value work
+
+-- a state, and the rows of a value
+pub record ValueTask (n : Numbers) (state value : List ℕ) : Type 0 where
+  pub live : GoodLive state (n .live)
+  pub rows : n .held .rows * 3 ≤ length value
+
+-- a model laid out, what is held of its run, and room for the next value and for the rows formed
+pub record BackupTask (n : Numbers) (arities listings table value work : List ℕ) : Type 0 where
+  pub laid : Laid arities listings table (n .head)
+  pub callable : Callable arities (modelOf arities listings table (n .head)) (n .held) value
+  pub room : Room value work
+
+-- ===== What they promise =====
+
+pub record StartAnswered (number : ℕ) (n : Numbers) (arities listings table value : List ℕ) (r : Said) (value′ : List ℕ) : Type 0 where
+  pub says : (s names state : List ℕ) → Ready Start s n (memoryOf names arities listings table state value)
+      → Answers Start s number n (memoryOf names arities listings table state value) r (memoryOf names arities listings table state value′)
+
+pub record ValueAnswered (number : ℕ) (n : Numbers) (arities state value : List ℕ) (r : Said) : Type 0 where
+  pub says : (s names listings table : List ℕ) → Ready Value s n (memoryOf names arities listings table state value)
+      → Answers Value s number n (memoryOf names arities listings table state value) r (memoryOf names arities listings table state value)
+
+pub record BackupAnswered (number : ℕ) (n : Numbers) (arities listings table value : List ℕ) (r : Said) (value′ : List ℕ) : Type 0 where
+  pub says : (s names state : List ℕ) → Ready Backup s n (memoryOf names arities listings table state value)
+      → Answers Backup s number n (memoryOf names arities listings table state value) r (memoryOf names arities listings table state value′)
+
+pub record CutAnswered (number : ℕ) (n : Numbers) (arities value : List ℕ) (r : Said) (value′ : List ℕ) : Type 0 where
+  pub says : (s names listings table state : List ℕ) → Ready Cut s n (memoryOf names arities listings table state value)
+      → Answers Cut s number n (memoryOf names arities listings table state value) r (memoryOf names arities listings table state value′)
+
+pub record ShowAnswered (n : Numbers) (r : Said) : Type 0 where
+  pub says : (s : List ℕ) (number : ℕ) (names arities listings table state value : List ℕ) → Ready Show s n (memoryOf names arities listings table state value)
+      → Answers Show s number n (memoryOf names arities listings table state value) r (memoryOf names arities listings table state value)

@@ -1,0 +1,83 @@
+-- Demand 1 for texts: each line of a text has exactly one reply, and the answers are those of the replies in order (document 01, sections 'Text' and
+-- 'A run, whole').
+use mathlib.Core.Path.{_≡_, refl, sym, ap, ap₂, _∙_}
+use mathlib.Core.List.{List, [], _∷_, _++_, append-nil, append-assoc}
+use Prim.Native.Nat.{ℕ, suc, _+_}
+use native.Mathlib.Omega.{arith}
+use native.Mathlib.Nat.{zero-add}
+use lib.ListN.{length}
+use Rattle.refusal.specs.declared.Refusal.the-variants.{Form}
+use Rattle.answers.specs.declared.Answer.the-variants.{Refused}
+use Rattle.answers.specs.Answers.{answerLine, answerBytes}
+use Rattle.session.specs.Session.{Session, opening}
+use Rattle.session.specs.Replies.{Reply, reply}
+use Rattle.session.specs.Texts.{Progress, replyBytes, replied, afterLine, afterLines, afterRest, beginning, linesOf, textRead}
+
+-- the replies to lines, of which n stand before them
+unfoldable pub replies : Session → ℕ → List (List ℕ) → List Reply
+unfolding reply
+replies σ n [] = []
+replies σ n (s ∷ ls) = reply σ (suc n) s ∷ replies (reply σ (suc n) s .session) (suc n) ls
+
+unfoldable pub repliesBytes : List Reply → List ℕ
+unfolding replyBytes
+repliesBytes [] = []
+repliesBytes (y ∷ ys) = replyBytes y ++ repliesBytes ys
+
+-- one for each line
+pub replies-count : (σ : Session) (n : ℕ) (ls : List (List ℕ)) → length (replies σ n ls) ≡ length ls
+unfolding replies
+replies-count σ n [] = refl
+replies-count σ n (s ∷ ls) = ap suc (replies-count (reply σ (suc n) s .session) (suc n) ls)
+
+-- and nothing else is printed
+pub lines-bytes : (p : Progress) (ls : List (List ℕ)) → afterLines p ls .bytes ≡ p .bytes ++ repliesBytes (replies (p .session) (p .lines) ls)
+unfolding afterLines afterLine replies repliesBytes
+lines-bytes p [] = sym (append-nil (p .bytes))
+lines-bytes p (s ∷ ls) =
+    let y = reply (p .session) (suc (p .lines)) s in
+    lines-bytes (replied p y) ls ∙ append-assoc (p .bytes) (replyBytes y) (repliesBytes (replies (y .session) (suc (p .lines)) ls))
+
+pub lines-count : (p : Progress) (ls : List (List ℕ)) → afterLines p ls .lines ≡ p .lines + length ls
+unfolding afterLines afterLine
+lines-count p [] = omega arith
+lines-count p (s ∷ ls) = omega (arith, lines-count (replied p (reply (p .session) (suc (p .lines)) s)) ls)
+
+-- the replies to the lines behind ls are those of the session that ls leads to, numbered on
+pub replies-then : (p : Progress) (ls ms : List (List ℕ))
+    → replies (p .session) (p .lines) (ls ++ ms)
+    ≡ replies (p .session) (p .lines) ls ++ replies (afterLines p ls .session) (afterLines p ls .lines) ms
+unfolding replies afterLines afterLine
+replies-then p [] ms = refl
+replies-then p (s ∷ ls) ms =
+    let y = reply (p .session) (suc (p .lines)) s in
+    ap (λ ys. y ∷ ys) (replies-then (replied p y) ls ms)
+
+-- ===== A whole text =====
+
+-- what the bytes behind the last line feed, n lines before them, are answered
+unfoldable pub restBytes : ℕ → List ℕ → List ℕ
+unfolding answerLine
+restBytes n [] = []
+restBytes n (b ∷ s) = answerLine (Refused Form (suc n))
+
+rest-bytes : (p : Progress) (s : List ℕ) → afterRest p s .bytes ≡ p .bytes ++ restBytes (p .lines) s
+unfolding afterRest restBytes replyBytes answerBytes
+rest-bytes p [] = sym (append-nil (p .bytes))
+rest-bytes p (b ∷ s) = refl
+
+pub text-bytes : (s : List ℕ)
+    → textRead s .bytes ≡ repliesBytes (replies opening 0 (linesOf s .whole)) ++ restBytes (length (linesOf s .whole)) (linesOf s .rest)
+unfolding textRead beginning
+text-bytes s =
+    let ls = linesOf s .whole in
+    rest-bytes (afterLines beginning ls) (linesOf s .rest)
+    ∙ ap₂ (λ bs n. bs ++ restBytes n (linesOf s .rest)) (lines-bytes beginning ls) (lines-count beginning ls ∙ zero-add (length ls))
+
+-- the line behind ls: its reply is that of the session that ls leads to, and it has the line's own number
+pub text-line : (ls : List (List ℕ)) (s : List ℕ)
+    → replies opening 0 (ls ++ (s ∷ [])) ≡ replies opening 0 ls ++ (reply (afterLines beginning ls .session) (suc (length ls)) s ∷ [])
+unfolding replies beginning
+text-line ls s =
+    replies-then beginning ls (s ∷ [])
+    ∙ ap (λ n. replies opening 0 ls ++ (reply (afterLines beginning ls .session) (suc n) s ∷ [])) (lines-count beginning ls ∙ zero-add (length ls))

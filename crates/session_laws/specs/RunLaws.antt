@@ -1,0 +1,123 @@
+-- (start), (backup) and (cut) keep a session good (document 01, sections 'Text', 'Backup' and 'Cut').
+use mathlib.Core.Path.{_≡_, refl, sym, ap, _∙_}
+use mathlib.Core.Bool.{true}
+use mathlib.Core.List.{List, [], _∷_, _++_}
+use Prim.Native.Nat.{ℕ, suc}
+use native.Mathlib.Omega.{arith}
+use Rattle.basics.specs.Tests.{and-left}
+use Rattle.diagram.specs.Diagram.{Diagram}
+use Rattle.regress.specs.Calls.{Outcome, ok, refused, andThen}
+use Rattle.regress.specs.CallLaws.{accepted-ok, accepted-then}
+use Rattle.cut.specs.declared.Cut.{Cut}
+use Rattle.cut.specs.declared.Cut.the-variants as C
+use Rattle.cut.specs.Cut.{diagramAnswer}
+use Rattle.mdp.specs.Model.{Model, GoodModel}
+use Rattle.mdp.specs.Backup.{backup}
+use Rattle.mdp.specs.Runs.{Call, aBackup, aCut, Held, leaves, cutOutcome, taken, call, runFrom, begin, run}
+use Rattle.text.specs.declared.Kind.the-variants as K
+use Rattle.session.specs.declared.Part.the-variants.{Model as ModelPart, Run}
+use Rattle.session.specs.Place.{ruleOf}
+use Rattle.session.specs.Session.{Session}
+use Rattle.session.specs.Modelling.{weighed}
+use Rattle.session.specs.Running.{withHeld, startLine, backupLine, cutTo, cutLine}
+use Rattle.session.specs.Replies.{isWhole, allowed}
+use Rattle.session.specs.Good.{Begun, GoodSession}
+use Rattle.session_laws.specs.PlaceLaws.{model-run, start-model}
+
+-- ===== (start) =====
+
+model-good : (σ : Session) → GoodSession σ → isWhole σ ≡ true → GoodModel (σ .model)
+model-good σ g w =
+    let r = g .parts .reward (and-left (σ .singles .reward) _ w) in
+    record {
+      arities = g .tables .arities;
+      total-some = g .parts .total-some;
+      total-few = g .parts .total-few;
+      denominator-some = g .parts .denominator-some;
+      denominator-few = g .parts .denominator-few;
+      numerator-few = g .parts .numerator-few;
+      reward-listed = r .listed;
+      reward-closed = r .is-closed;
+      reward = r .within;
+      actions-few = omega (arith, g .agreeing .count, g .tables .actions);
+      actions = g .parts .actions;
+    }
+
+-- another value diagram, in the run
+held-good : (σ : Session) → GoodSession σ → (h : Held) → Begun (withHeld σ Run h) → GoodSession (withHeld σ Run h)
+held-good σ g h b = record {
+  tables = g .tables;
+  agreeing = g .agreeing;
+  parts = g .parts;
+  few = g .few;
+  state = g .state;
+  quiet = λ e. model-run (sym e);
+  begun = λ e. b;
+}
+
+begins : (m : Model) → begin m ≡ run m []
+unfolding run runFrom
+begins m = refl
+
+-- a session made from what a line reads
+pub made-by : {A : Type 0} (Q : Session → Type 0) (o : Outcome A) (f : A → Session) → ((a : A) → Q (f a)) → (τ : Session) → andThen o (λ a. ok (f a)) ≡ ok τ
+    → Q τ
+made-by Q o f h τ e = accepted-then {P = λ a. Unit {0}} {Q = Q} o (record { given = λ a q. tt }) (λ a q. accepted-ok (h a)) .given τ e
+
+pub start-good : (σ : Session) → GoodSession σ → σ .part ≡ ModelPart → allowed σ (ruleOf K.Start (σ .part)) ≡ ok tt → (τ : Session)
+    → startLine σ ≡ ok τ → GoodSession τ
+unfolding startLine
+start-good σ g p a τ e =
+    let m = model-good σ g (start-model σ p a) in
+    made-by GoodSession (weighed (σ .model .arities) (σ .model .total) (σ .model .actions)) (λ u. withHeld σ Run (begin (σ .model)))
+    (λ u. held-good σ g (begin (σ .model)) (record { good = m; calls = []; held = begins (σ .model) })) τ e
+
+-- ===== (backup) and (cut): one call more =====
+
+call-last : (m : Model) (c : Call) (l : List Call) (h : Held) → runFrom m (l ++ (c ∷ [])) h ≡ call m c (runFrom m l h)
+unfolding runFrom
+call-last m c [] h = refl
+call-last m c (d ∷ l) h = call-last m c l (call m d h)
+
+run-last : (m : Model) (c : Call) (l : List Call) → run m (l ++ (c ∷ [])) ≡ call m c (run m l)
+unfolding run
+run-last m c l = call-last m c l (begin m)
+
+-- the session that one call more leads to
+called-good : (σ : Session) → GoodSession σ → (c : Call) → GoodSession (withHeld σ (σ .part) (call (σ .model) c (σ .held)))
+called-good σ g c = record {
+  tables = g .tables;
+  agreeing = g .agreeing;
+  parts = g .parts;
+  few = g .few;
+  state = g .state;
+  quiet = g .quiet;
+  begun = λ e. let b = g .begun e in record {
+    good = b .good;
+    calls = b .calls ++ (c ∷ []);
+    held = ap (call (σ .model) c) (b .held) ∙ sym (run-last (σ .model) c (b .calls));
+  };
+}
+
+backup-taken : (h : Held) (o : Outcome Diagram) (h′ : Held) → andThen o (λ d. ok (record { diagram = d; steps = suc (h .steps) })) ≡ ok h′
+    → taken h o (suc (h .steps)) ≡ h′
+backup-taken h (ok d) h′ e = cc
+backup-taken h (refused r) h′ e = let z : _≡_ {A = ℕ} 0 1 = cc in absurd (omega arith)
+
+backup-call : (m : Model) (h h′ : Held) → backupLine m h ≡ ok h′ → call m aBackup h ≡ h′
+unfolding backupLine call
+backup-call m h h′ e = backup-taken h (backup m (h .steps) (h .diagram)) h′ e
+
+pub backup-good : (σ : Session) → GoodSession σ → (h : Held) → backupLine (σ .model) (σ .held) ≡ ok h → GoodSession (withHeld σ (σ .part) h)
+backup-good σ g h e = rw (← backup-call (σ .model) (σ .held) h e) (called-good σ g aBackup)
+
+cut-taken : (ar : List ℕ) (h : Held) (c : Cut) → taken h (leaves ar (h .diagram) c) (h .steps) ≡ cutTo ar h c
+cut-taken ar h (C.Done k e n) = refl
+cut-taken ar h (C.Refused r) = refl
+
+cut-call : (m : Model) (h : Held) → call m aCut h ≡ cutLine (m .arities) h
+unfolding call cutLine cutOutcome
+cut-call m h = cut-taken (m .arities) h (diagramAnswer (m .arities) (h .diagram))
+
+pub cut-good : (σ : Session) → GoodSession σ → GoodSession (withHeld σ (σ .part) (cutLine (σ .model .arities) (σ .held)))
+cut-good σ g = rw (← cut-call (σ .model) (σ .held)) (called-good σ g aCut)

@@ -1,0 +1,129 @@
+-- Demand 3 for one line: what an accepted (value) answers is Mk of the state in hand, k and S^k (document 01, section 'Backup').
+use mathlib.Core.Path.{_≡_, refl, sym, ap, _∙_, subst}
+use mathlib.Core.Bool.{true}
+use mathlib.Core.List.{List, []}
+use Prim.Native.Nat.{ℕ, _^_, _≤_, _<_}
+use native.Mathlib.Omega.{arith}
+use lib.ListN.{getD}
+use lib.Dec.{ltb}
+use borrow.Author.Tests.{le-ltb}
+use Rattle.refusal.specs.declared.Refusal.the-variants.{Valuations}
+use Rattle.label.specs.Limits.{constantCount}
+use Rattle.state.specs.State.{Good, meaning, low}
+use Rattle.state.specs.ValueLaws.{low-lt, low-ge, by-low}
+use Rattle.state.specs.Highest.{highest}
+use Rattle.state.specs.Lent.{stateOf}
+use Rattle.state.specs.ValueCall.{valuations, mostValuations}
+use Rattle.regress.specs.Calls.{ok}
+use Rattle.regress.specs.CallLaws.{accepted-ok, accepted-pick}
+use Rattle.mdp.specs.Model.{scale}
+use Rattle.mdp.specs.Bellman.{bellman}
+use Rattle.mdp.specs.Runs.{Held}
+use Rattle.mdp.specs.RunLaws.{demand-3}
+use Rattle.text.specs.declared.Kind.{Kind}
+use Rattle.text.specs.declared.Kind.the-variants as K
+use Rattle.text.specs.LineForm.{lineKind}
+use Rattle.events.specs.declared.Event.{Event}
+use Rattle.answers.specs.declared.Answer.the-variants as A
+use Rattle.session.specs.declared.Part.the-variants.{Run}
+use Rattle.session.specs.Place.{ruleOf}
+use Rattle.session.specs.Session.{Session}
+use Rattle.session.specs.Running.{stateIn, valueRead}
+use Rattle.session.specs.Replies.{Reply, isPlaced, allowed, valueSays, done, placed, replyTo, wordsOf, reply}
+use Rattle.session.specs.Good.{GoodSession}
+use Rattle.session_laws.specs.PlaceLaws.{in-run, value-placed, value-allowed, placed-objects}
+use Rattle.session_laws.specs.AnswerLaws.{Answered, quiet, valued, backed, cutting, showing, OneAnswer, refusing, accepted, one-answer}
+use Rattle.session_laws.specs.StateLaws.{Described, described}
+
+-- the answer of (value): Mk of the state in hand, k and S^k
+pub record IsValue (σ : Session) (v k w : ℕ) : Type 0 where
+  pub value : v ≡ bellman (σ .model) k (stateIn (σ .model .arities) (σ .live))
+  pub steps : k ≡ σ .held .steps
+  pub power : w ≡ scale (σ .model) ^ k
+
+state-good : (ar : List ℕ) (n : ℕ) (constants facts : List ℕ) → Described ar n constants facts → Good (stateOf ar n constants facts)
+unfolding stateOf
+state-good ar n constants facts d = record {
+  some = d .some;
+  placed = λ c. by-low (low constantCount c (getD constants c 0) 0 < n) constantCount c
+      (λ h. rw (low-lt constantCount c (getD constants c 0) 0 h) (d .placing c h))
+      (λ h. rw (low-ge constantCount c (getD constants c 0) 0 h) (d .some));
+}
+
+-- once the run has begun and there are objects, the highest leaf of the value diagram is Mk
+pub held-bellman : (σ : Session) → GoodSession σ → σ .part ≡ Run → 1 ≤ σ .live .objects
+    → highest (stateIn (σ .model .arities) (σ .live)) [] (meaning (σ .model .arities) (σ .held .diagram))
+    ≡ bellman (σ .model) (σ .held .steps) (stateIn (σ .model .arities) (σ .live))
+unfolding stateIn
+held-bellman σ g p some =
+    let m = σ .model in
+    let l = σ .live in
+    let b = g .begun p in
+    let s = stateIn (m .arities) l in
+    subst (λ (h : Held). highest s [] (meaning (m .arities) (h .diagram)) ≡ bellman m (h .steps) s) (sym (b .held))
+    (demand-3 m (b .good) (b .calls) s (state-good (m .arities) (l .objects) (l .constants) (l .facts)
+    (described (m .arities) (l .objects) (l .constants) (l .facts) (g .state some))))
+
+-- ===== The line =====
+
+value-found : (σ : Session) (v : ℕ) → valueRead (σ .model .arities) (σ .live) (σ .held .diagram) ≡ ok v
+    → v ≡ highest (stateIn (σ .model .arities) (σ .live)) [] (meaning (σ .model .arities) (σ .held .diagram))
+unfolding valueRead
+value-found σ v e =
+    accepted-pick {P = λ x. x ≡ highest (stateIn (σ .model .arities) (σ .live)) [] (meaning (σ .model .arities) (σ .held .diagram))}
+    (ltb mostValuations (valuations (σ .model .arities) (σ .live .objects) (σ .held .diagram))) Valuations _ (λ d. accepted-ok refl) .given v e
+
+-- where the place of a (value) is right and it reads v, v is Mk
+read-bellman : (σ : Session) → GoodSession σ → allowed σ (ruleOf K.Value (σ .part)) ≡ ok tt → (v : ℕ)
+    → valueRead (σ .model .arities) (σ .live) (σ .held .diagram) ≡ ok v → v ≡ bellman (σ .model) (σ .held .steps) (stateIn (σ .model .arities) (σ .live))
+read-bellman σ g a v e =
+    let p = in-run σ (ruleOf K.Value) refl (σ .part) a in
+    value-found σ v e ∙ held-bellman σ g p (placed-objects σ (value-placed σ p a))
+
+-- whatever line is answered (value v k w)
+pub value-bellman : (σ : Session) → GoodSession σ → (number : ℕ) (s : List ℕ) (v k w : ℕ) → reply σ number s .answer ≡ A.Value v k w → IsValue σ v k w
+value-bellman σ g number s v k w e = go (lineKind s) (reply σ number s) (one-answer σ number s) e
+  where
+    valued-is : (i : Kind) (y : Reply) → allowed σ (ruleOf i (σ .part)) ≡ ok tt → Answered σ i y → y .answer ≡ A.Value v k w → IsValue σ v k w
+    valued-is i y a (quiet p q) e = let z : _≡_ {A = ℕ} 0 1 = cc in absurd (omega arith)
+    valued-is i y a (valued x p h t q) e =
+        let b = read-bellman σ g (subst (λ j. allowed σ (ruleOf j (σ .part)) ≡ ok tt) p a) x h in
+        let vs : x ≡ v = cc in
+        let ks : σ .held .steps ≡ k = cc in
+        let ws : scale (σ .model) ^ σ .held .steps ≡ w = cc in
+        record {
+          value = sym vs ∙ b ∙ ap (λ j. bellman (σ .model) j (stateIn (σ .model .arities) (σ .live))) ks;
+          steps = sym ks;
+          power = sym ws ∙ ap (λ j. scale (σ .model) ^ j) ks;
+        }
+    valued-is i y a (backed h p r t q) e = let z : _≡_ {A = ℕ} 0 1 = cc in absurd (omega arith)
+    valued-is i y a (cutting j d n p r t q) e = let z : _≡_ {A = ℕ} 0 1 = cc in absurd (omega arith)
+    valued-is i y a (showing p t q) e = let z : _≡_ {A = ℕ} 0 1 = cc in absurd (omega arith)
+
+    go : (i : Kind) (y : Reply) → OneAnswer σ number i y → y .answer ≡ A.Value v k w → IsValue σ v k w
+    go i y (refusing r p) e = let d = sym (ap (λ (z : Reply). z .answer) p) ∙ e in let z : _≡_ {A = ℕ} 0 1 = cc in absurd (omega arith)
+    go i y (accepted a p) e = valued-is i y a p e
+
+-- a (value) that stands where it may and has few valuations is answered so
+value-says : (σ : Session) (number : ℕ) (es : List Event) → allowed σ (ruleOf K.Value (σ .part)) ≡ ok tt → (v : ℕ)
+    → valueRead (σ .model .arities) (σ .live) (σ .held .diagram) ≡ ok v
+    → replyTo σ number K.Value es ≡ record { session = σ; answer = A.Value v (σ .held .steps) (scale (σ .model) ^ σ .held .steps) }
+unfolding replyTo done
+value-says σ number es a v e = ap (λ o. placed σ number o (done σ number K.Value es)) a ∙ ap (valueSays σ number) e
+
+value-few : (σ : Session) → valuations (σ .model .arities) (σ .live .objects) (σ .held .diagram) ≤ mostValuations
+    → valueRead (σ .model .arities) (σ .live) (σ .held .diagram)
+    ≡ ok (highest (stateIn (σ .model .arities) (σ .live)) [] (meaning (σ .model .arities) (σ .held .diagram)))
+unfolding valueRead
+value-few σ few = rw (le-ltb mostValuations (valuations (σ .model .arities) (σ .live .objects) (σ .held .diagram)) few)
+
+pub value-accepted : (σ : Session) → GoodSession σ → σ .part ≡ Run → isPlaced σ ≡ true
+    → valuations (σ .model .arities) (σ .live .objects) (σ .held .diagram) ≤ mostValuations → (number : ℕ) (s : List ℕ) → lineKind s ≡ K.Value
+    → reply σ number s ≡ record {
+      session = σ;
+      answer = A.Value (bellman (σ .model) (σ .held .steps) (stateIn (σ .model .arities) (σ .live))) (σ .held .steps) (scale (σ .model) ^ σ .held .steps);
+    }
+unfolding reply
+value-accepted σ g p h few number s i =
+    ap (λ k. replyTo σ number k (wordsOf k s)) i
+    ∙ value-says σ number (wordsOf K.Value s) (value-allowed σ p h) _ (value-few σ few ∙ ap ok (held-bellman σ g p (placed-objects σ h)))

@@ -1,0 +1,3 @@
+-- Lines of the state.
+pub mod Lines
+pub mod LineLaws

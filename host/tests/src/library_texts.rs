@@ -1,0 +1,50 @@
+//! Whole texts by the static library beside the reference: in one call, in one call with little room for the answers, and line by line.
+
+use crate::program::difference;
+use crate::random::Random;
+use reference::text::lines;
+use yindolve::{run, run_into, Full, Session};
+
+fn expect(what: &str, right: &[u8], other: &[u8]) -> Result<(), String> {
+    difference(right, other).map_or(Ok(()), |difference| Err(format!("{what}, {difference}")))
+}
+
+pub fn check(seed: u64, text: &[u8]) -> Result<(), String> {
+    let right = reference::session::run(text);
+    expect("run", &right, &run(text))?;
+
+    // the answers line by line; what is left over closes a text that has no accepted (start)
+    let mut session = Session::open();
+    let mut answers: Vec<Vec<u8>> = Vec::new();
+    for (number, (line, ended)) in (1..).zip(lines(text)) {
+        if ended {
+            session.line(line);
+            answers.push(session.answer_bytes().to_vec());
+        } else {
+            answers.push(format!("(refused 1 {number})\n").into_bytes());
+        }
+    }
+    let together = answers.concat();
+    let closing: &[u8] = if right.len() > together.len() { b"(refused 5 0)\n" } else { b"" };
+    expect("session", &right, &[&together, closing].concat())?;
+
+    // as much as fits
+    let room = Random::new(seed).below(right.len() as u64 + 2) as usize;
+    let mut buffer = vec![7; room];
+    let (bytes, behind) = match run_into(text, &mut buffer) {
+        Ok(bytes) => (bytes, right.len()),
+        Err(Full { bytes, lines }) => {
+            let before: usize = answers[..lines as usize].iter().map(Vec::len).sum();
+            let next = answers.get(lines as usize).map_or(closing.len(), Vec::len);
+            if before != bytes || bytes + next <= room {
+                return Err(format!("run_into says {bytes} bytes and {lines} lines where the buffer has {room} bytes"));
+            }
+            (bytes, before)
+        }
+    };
+    expect("run_into", &right[..behind], &buffer[..bytes])?;
+    if buffer[bytes..].iter().any(|byte| *byte != 7) {
+        return Err(format!("run_into writes behind its {bytes} bytes"));
+    }
+    Ok(())
+}

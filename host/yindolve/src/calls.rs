@@ -1,0 +1,202 @@
+//! The library's calls on lent words, for callers who keep their own memory.
+//!
+//! Each function takes any words: those that are not what they should be are refused. After a refusal `result` and the counts are as they were; words of
+//! `result` behind a result stay; `work` may hold anything before a call and holds nothing of use after it. [`Space`](crate::Space) lends its own memory to
+//! these functions and is easier to use.
+
+use crate::ffi;
+use crate::refusal::{accepted, Refusal};
+
+/// Words of an arity list.
+pub const ARITIES: usize = 32;
+/// Words of a row.
+pub const ROW_WORDS: usize = 3;
+/// Words that a result buffer has at least.
+pub const RESULT_WORDS: usize = 3_072;
+/// Words that a working space has at least.
+pub const WORK_WORDS: usize = 6_144;
+/// Words of a fact: its predicate and four objects.
+pub const FACT_WORDS: usize = 5;
+/// Words that say where truth diagrams stand: two for each predicate.
+pub const SPAN_WORDS: usize = 64;
+
+/// Whether the words are a listing.
+///
+/// # Refusals
+/// [`Listing`](Refusal::Listing).
+pub fn check(arities: &[u64], words: &[u64]) -> Result<(), Refusal> {
+    // SAFETY: each pointer is to as many words as its count says.
+    accepted(unsafe { ffi::yindolve_check(arities.as_ptr(), arities.len(), words.as_ptr(), words.len()) })
+}
+
+macro_rules! combinations {
+    ($($(#[$about:meta])* $name:ident = $function:ident;)*) => {$(
+        $(#[$about])*
+        ///
+        /// The result goes to `result`, its rows to `rows`, and the pairs that the walk reached to `pairs`.
+        ///
+        /// # Refusals
+        /// In this order: [`Listing`](Refusal::Listing) for the first operand, then for the second; [`Buffer`](Refusal::Buffer);
+        /// [`Variables`](Refusal::Variables) (apart only); [`Pairs`](Refusal::Pairs); [`Value`](Refusal::Value) (never of a max);
+        /// [`Space`](Refusal::Space).
+        pub fn $name(
+            arities: &[u64],
+            first: &[u64],
+            second: &[u64],
+            result: &mut [u64],
+            work: &mut [u64],
+            rows: &mut u64,
+            pairs: &mut u64,
+        ) -> Result<(), Refusal> {
+            // SAFETY: each pointer is to as many words as its count says, and what is written to overlaps nothing.
+            accepted(unsafe {
+                ffi::$function(
+                    arities.as_ptr(),
+                    arities.len(),
+                    first.as_ptr(),
+                    first.len(),
+                    second.as_ptr(),
+                    second.len(),
+                    result.as_mut_ptr(),
+                    result.len(),
+                    work.as_mut_ptr(),
+                    work.len(),
+                    rows,
+                    pairs,
+                )
+            })
+        }
+    )*};
+}
+
+combinations! {
+    /// The sum, variables set apart.
+    sum_apart = yindolve_sum_apart;
+    /// The sum, names shared.
+    sum_shared = yindolve_sum_shared;
+    /// The product, variables set apart.
+    product_apart = yindolve_product_apart;
+    /// The product, names shared.
+    product_shared = yindolve_product_shared;
+    /// The maximum, variables set apart.
+    max_apart = yindolve_max_apart;
+    /// The maximum, names shared.
+    max_shared = yindolve_max_shared;
+}
+
+/// The regression of a value listing under truth diagrams: each test is replaced by what makes its atom true after an action.
+///
+/// The listing of predicate p's truth diagram is the `spans[2 * p + 1]` words of `truths` from word `spans[2 * p]` on; a count of 0 is for a predicate that
+/// stays as it is. Words of `spans` that are not lent count as 0.
+///
+/// # Refusals
+/// In this order: [`Listing`](Refusal::Listing) for the value listing, then for the truth diagrams by predicate; [`Buffer`](Refusal::Buffer); diagram by
+/// diagram [`Truth`](Refusal::Truth), then [`Unbound`](Refusal::Unbound) for a variable that is no argument; then step by step [`Pairs`](Refusal::Pairs)
+/// and [`Space`](Refusal::Space).
+pub fn regress(
+    arities: &[u64],
+    words: &[u64],
+    truths: &[u64],
+    spans: &[u64],
+    result: &mut [u64],
+    work: &mut [u64],
+    rows: &mut u64,
+) -> Result<(), Refusal> {
+    // SAFETY: each pointer is to as many words as its count says, and what is written to overlaps nothing.
+    accepted(unsafe {
+        ffi::yindolve_regress(
+            arities.as_ptr(),
+            arities.len(),
+            words.as_ptr(),
+            words.len(),
+            truths.as_ptr(),
+            truths.len(),
+            spans.as_ptr(),
+            spans.len(),
+            result.as_mut_ptr(),
+            result.len(),
+            work.as_mut_ptr(),
+            work.len(),
+            rows,
+        )
+    })
+}
+
+/// Frees the parameters of an action that has `parameters` of them: they become variables 0, 1, .., and the other variables move up by that count.
+///
+/// # Refusals
+/// In this order: [`Listing`](Refusal::Listing); [`Buffer`](Refusal::Buffer); [`Range`](Refusal::Range) (more than 4 parameters);
+/// [`Unbound`](Refusal::Unbound) (a parameter past the count); [`Variables`](Refusal::Variables) (a variable would pass the last one).
+pub fn free(arities: &[u64], words: &[u64], parameters: u64, result: &mut [u64], work: &[u64], rows: &mut u64) -> Result<(), Refusal> {
+    // SAFETY: each pointer is to as many words as its count says, and what is written to overlaps nothing.
+    accepted(unsafe {
+        ffi::yindolve_free(
+            arities.as_ptr(),
+            arities.len(),
+            words.as_ptr(),
+            words.len(),
+            parameters,
+            result.as_mut_ptr(),
+            result.len(),
+            work.as_ptr(),
+            work.len(),
+            rows,
+        )
+    })
+}
+
+/// Cuts one edge: it goes to leaf 0 without changing any value. The row whose edge went goes to `row`, 1 for its true edge or 0 for its false one to `edge`.
+///
+/// # Refusals
+/// In this order: [`Listing`](Refusal::Listing); [`Buffer`](Refusal::Buffer); [`Paths`](Refusal::Paths); [`Nothing`](Refusal::Nothing).
+pub fn cut(
+    arities: &[u64],
+    words: &[u64],
+    result: &mut [u64],
+    work: &mut [u64],
+    row: &mut u64,
+    edge: &mut u64,
+    rows: &mut u64,
+) -> Result<(), Refusal> {
+    // SAFETY: each pointer is to as many words as its count says, and what is written to overlaps nothing.
+    accepted(unsafe {
+        ffi::yindolve_cut(
+            arities.as_ptr(),
+            arities.len(),
+            words.as_ptr(),
+            words.len(),
+            result.as_mut_ptr(),
+            result.len(),
+            work.as_mut_ptr(),
+            work.len(),
+            row,
+            edge,
+            rows,
+        )
+    })
+}
+
+/// The value of a listing in a state, to `value`: the highest leaf over all valuations of its variables.
+///
+/// `constants[c]` is the object of constant c, 0 for a constant that has no word; `facts` are rows of five words.
+///
+/// # Refusals
+/// In this order: [`Listing`](Refusal::Listing); [`Range`](Refusal::Range) (no object, or one named that is not there); [`Unbound`](Refusal::Unbound)
+/// (any parameter); [`Valuations`](Refusal::Valuations).
+pub fn value(arities: &[u64], words: &[u64], objects: u64, constants: &[u64], facts: &[u64], value: &mut u64) -> Result<(), Refusal> {
+    // SAFETY: each pointer is to as many words as its count says, and what is written to overlaps nothing.
+    accepted(unsafe {
+        ffi::yindolve_value(
+            arities.as_ptr(),
+            arities.len(),
+            words.as_ptr(),
+            words.len(),
+            objects,
+            constants.as_ptr(),
+            constants.len(),
+            facts.as_ptr(),
+            facts.len(),
+            value,
+        )
+    })
+}

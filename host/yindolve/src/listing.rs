@@ -1,0 +1,236 @@
+use crate::calls::{self, ARITIES, ROW_WORDS};
+use crate::refusal::Refusal;
+
+/// The first word of a leaf's row.
+const LEAF: u64 = 4_294_967_295;
+
+/// How many terms each predicate has.
+///
+/// ```
+/// use yindolve::Arities;
+/// // predicate 1 has one term, predicate 2 two; equality, predicate 0, always has two
+/// let arities = Arities::new(&[1, 2])?;
+/// assert_eq!(arities.words()[..4], [2, 1, 2, 0]);
+/// # Ok::<(), yindolve::Refusal>(())
+/// ```
+#[derive(Clone, Copy, Debug, PartialEq, Eq, Hash)]
+pub struct Arities([u64; ARITIES]);
+
+impl Arities {
+    /// The arities of predicates 1, 2, ..; predicates behind the last have arity 0.
+    ///
+    /// # Refusals
+    /// [`Listing`](Refusal::Listing): more than 31 predicates, or an arity above 4.
+    pub fn new(predicates: &[u64]) -> Result<Arities, Refusal> {
+        let mut words = [0; ARITIES];
+        words[0] = 2;
+        words.get_mut(1..=predicates.len()).ok_or(Refusal::Listing)?.copy_from_slice(predicates);
+        let arities = Arities(words);
+        calls::check(&arities.0, &Row::Leaf(0).words()).map(|()| arities)
+    }
+
+    /// The list as it is lent to the library, equality's arity first.
+    pub fn words(&self) -> &[u64; ARITIES] {
+        &self.0
+    }
+}
+
+/// What an atom is about.
+#[derive(Clone, Copy, Debug, PartialEq, Eq, PartialOrd, Ord, Hash)]
+pub enum Term {
+    /// A constant, 0 to 15.
+    Constant(u8),
+    /// A parameter of an action, 0 to 3.
+    Parameter(u8),
+    /// A variable, 0 to 31.
+    Variable(u8),
+}
+
+impl Term {
+    /// The term's number: constants from 0, parameters from 16, variables from 32 on.
+    ///
+    /// # Panics
+    /// If there is no such constant, parameter or variable.
+    pub const fn number(self) -> u64 {
+        match self {
+            Term::Constant(c) if c < 16 => c as u64,
+            Term::Parameter(p) if p < 4 => 16 + p as u64,
+            Term::Variable(v) if v < 32 => 32 + v as u64,
+            _ => panic!("there are 16 constants, 4 parameters and 32 variables"),
+        }
+    }
+
+    /// The term of a number, if it is one.
+    pub const fn from_number(number: u64) -> Option<Term> {
+        match number {
+            0..=15 => Some(Term::Constant(number as u8)),
+            16..=19 => Some(Term::Parameter((number - 16) as u8)),
+            32..=63 => Some(Term::Variable((number - 32) as u8)),
+            _ => None,
+        }
+    }
+}
+
+/// What a branch tests: a predicate and its terms, packed into a number. Labels are ordered as these numbers.
+///
+/// ```
+/// use yindolve::{Label, Term};
+/// let stock_of_hub = Label::new(1, &[Term::Constant(0)]);
+/// assert_eq!(stock_of_hub.word(), 16_777_216);
+/// assert_eq!(Label::equality(Term::Variable(0), Term::Constant(0)).unwrap().word(), 131_072);
+/// ```
+#[derive(Clone, Copy, Debug, PartialEq, Eq, PartialOrd, Ord, Hash)]
+pub struct Label(u64);
+
+impl Label {
+    /// The label of a predicate, 1 to 31, and its terms. Whether the predicate has so many terms is checked with a listing.
+    ///
+    /// # Panics
+    /// If there is no such predicate (equality has a function of its own), a term is none, or there are more than 4.
+    pub const fn new(predicate: u64, terms: &[Term]) -> Label {
+        assert!(1 <= predicate && predicate < 32, "predicates are numbered from 1 to 31");
+        assert!(terms.len() <= 4, "a predicate has at most 4 terms");
+        Label::pack(predicate, terms)
+    }
+
+    /// The label of `first = second`, or none for `t = t`, which is plain truth.
+    ///
+    /// # Panics
+    /// If a term is none.
+    pub const fn equality(first: Term, second: Term) -> Option<Label> {
+        let (a, b) = (first.number(), second.number());
+        if a == b {
+            None
+        } else if a < b {
+            Some(Label::pack(0, &[first, second]))
+        } else {
+            Some(Label::pack(0, &[second, first]))
+        }
+    }
+
+    const fn pack(predicate: u64, terms: &[Term]) -> Label {
+        let mut word = predicate << 24;
+        let mut place = 0;
+        while place < terms.len() {
+            word += terms[place].number() << (18 - 6 * place);
+            place += 1;
+        }
+        Label(word)
+    }
+
+    /// The label that a word is taken for.
+    pub const fn from_word(word: u64) -> Label {
+        Label(word)
+    }
+
+    /// The label as a number.
+    pub const fn word(self) -> u64 {
+        self.0
+    }
+
+    /// The predicate, 0 for equality.
+    pub const fn predicate(self) -> u64 {
+        self.0 >> 24
+    }
+
+    /// The terms, given the predicate's arity; places that hold no term are left out.
+    pub fn terms(self, arities: &Arities) -> impl Iterator<Item = Term> {
+        let arity = arities.words().get(self.predicate() as usize).copied().unwrap_or(0);
+        (0..arity).filter_map(move |place| Term::from_number(self.0 >> (18 - 6 * place) & 63))
+    }
+}
+
+/// A row of a listing.
+#[derive(Clone, Copy, Debug, PartialEq, Eq, Hash)]
+pub enum Row {
+    /// A leaf and its value, at most 10^18.
+    Leaf(u64),
+    /// A test with the rows to go on with.
+    Branch {
+        /// What is tested.
+        label: Label,
+        /// The row where the test is true.
+        yes: usize,
+        /// The row where the test is false.
+        no: usize,
+    },
+}
+
+impl Row {
+    /// The row as the library has it.
+    pub const fn words(self) -> [u64; ROW_WORDS] {
+        match self {
+            Row::Leaf(value) => [LEAF, value, 0],
+            Row::Branch { label, yes, no } => [label.word(), yes as u64, no as u64],
+        }
+    }
+
+    fn from_words(words: &[u64]) -> Row {
+        match *words {
+            [LEAF, value, _] => Row::Leaf(value),
+            [label, yes, no] => Row::Branch { label: Label(label), yes: yes as usize, no: no as usize },
+            _ => unreachable!("a row has three words"),
+        }
+    }
+}
+
+/// A decision diagram as the list of its rows, the root last.
+///
+/// The words were checked when the listing was made, or the library made them. An operation checks them again by its own arities, and refuses
+/// ([`Refusal::Listing`]) a listing that was made for others that do not fit.
+///
+/// ```
+/// use yindolve::{Arities, Label, Listing, Refusal, Row, Term};
+/// let arities = Arities::new(&[1])?;
+/// let label = Label::new(1, &[Term::Constant(0)]);
+/// // 10 if predicate 1 holds of constant 0, else 0
+/// let listing = Listing::from_rows(&arities, [Row::Leaf(10), Row::Leaf(0), Row::Branch { label, yes: 0, no: 1 }])?;
+/// assert_eq!(listing.len(), 3);
+/// assert_eq!(listing.rows().next(), Some(Row::Leaf(10)));
+/// // a branch whose two ways are one
+/// let refused = Listing::from_rows(&arities, [Row::Leaf(10), Row::Branch { label, yes: 0, no: 0 }]);
+/// assert_eq!(refused, Err(Refusal::Listing));
+/// # Ok::<(), Refusal>(())
+/// ```
+#[derive(Clone, Debug, PartialEq, Eq, Hash)]
+pub struct Listing(Vec<u64>);
+
+impl Listing {
+    /// A listing from its words, three for each row.
+    ///
+    /// # Refusals
+    /// [`Listing`](Refusal::Listing): the words are no listing under these arities.
+    pub fn new(arities: &Arities, words: impl Into<Vec<u64>>) -> Result<Listing, Refusal> {
+        let words = words.into();
+        calls::check(arities.words(), &words).map(|()| Listing(words))
+    }
+
+    /// A listing from its rows.
+    ///
+    /// # Refusals
+    /// [`Listing`](Refusal::Listing): the rows are no listing under these arities.
+    pub fn from_rows(arities: &Arities, rows: impl IntoIterator<Item = Row>) -> Result<Listing, Refusal> {
+        Listing::new(arities, rows.into_iter().flat_map(Row::words).collect::<Vec<u64>>())
+    }
+
+    /// What the library wrote.
+    pub(crate) fn written(words: &[u64]) -> Listing {
+        Listing(words.to_vec())
+    }
+
+    /// The words, three for each row.
+    pub fn words(&self) -> &[u64] {
+        &self.0
+    }
+
+    /// How many rows there are, 1 to 1,024.
+    #[allow(clippy::len_without_is_empty)]
+    pub fn len(&self) -> usize {
+        self.0.len() / ROW_WORDS
+    }
+
+    /// The rows in the order of their numbers, the root last.
+    pub fn rows(&self) -> impl ExactSizeIterator<Item = Row> + '_ {
+        self.0.chunks_exact(ROW_WORDS).map(Row::from_words)
+    }
+}

@@ -1,0 +1,118 @@
+use std::fmt;
+
+/// Why a call or a line is refused, by the trade words of document 01.
+///
+/// A refused call leaves everything as it was. Which refusals an operation can answer, and in which order it checks for them, stands with the operation.
+#[derive(Clone, Copy, Debug, PartialEq, Eq, PartialOrd, Ord, Hash)]
+pub enum Refusal {
+    /// A line that is not of the grammar.
+    Form = 1,
+    /// A name that is not declared, or that is given twice.
+    Name = 2,
+    /// A count of terms or objects that is not the predicate's.
+    Arity = 3,
+    /// A number outside its range; a state without objects or with an object beyond them; more than 4 parameters.
+    Range = 4,
+    /// A line in the wrong part of the text, a missing part, a second single form, or a constant that is not placed.
+    Place = 5,
+    /// A variable or a parameter that is not allowed here.
+    Unbound = 6,
+    /// A truth diagram's leaf above 1.
+    Truth = 7,
+    /// More than 32 variables, or a variable past the last one.
+    Variables = 8,
+    /// More rows, facts or declarations than there is room for.
+    Space = 9,
+    /// More than 4,096 pairs.
+    Pairs = 10,
+    /// A value above 10^18.
+    Value = 11,
+    /// A power of the scale above 10^18, or 10^18 steps.
+    Scale = 12,
+    /// Weights of an action that do not add up to the total.
+    Weights = 13,
+    /// Words that are no listing, or a wrong arity list.
+    Listing = 14,
+    /// More than 1,000,000 valuations.
+    Valuations = 15,
+    /// No edge to cut.
+    Nothing = 16,
+    /// More than 256 paths.
+    Paths = 17,
+    /// A result buffer or a working space that is too small.
+    Buffer = 18,
+}
+
+impl Refusal {
+    /// All refusals, in the order of their numbers.
+    pub const ALL: [Refusal; 18] = [
+        Refusal::Form,
+        Refusal::Name,
+        Refusal::Arity,
+        Refusal::Range,
+        Refusal::Place,
+        Refusal::Unbound,
+        Refusal::Truth,
+        Refusal::Variables,
+        Refusal::Space,
+        Refusal::Pairs,
+        Refusal::Value,
+        Refusal::Scale,
+        Refusal::Weights,
+        Refusal::Listing,
+        Refusal::Valuations,
+        Refusal::Nothing,
+        Refusal::Paths,
+        Refusal::Buffer,
+    ];
+
+    /// The refusal's number, 1 to 18.
+    pub const fn number(self) -> u64 {
+        self as u64
+    }
+
+    /// The refusal of a number, if there is one.
+    pub fn from_number(number: u64) -> Option<Refusal> {
+        Refusal::ALL.into_iter().find(|refusal| refusal.number() == number)
+    }
+
+    /// The trade word.
+    pub const fn word(self) -> &'static str {
+        match self {
+            Refusal::Form => "form",
+            Refusal::Name => "name",
+            Refusal::Arity => "arity",
+            Refusal::Range => "range",
+            Refusal::Place => "place",
+            Refusal::Unbound => "unbound",
+            Refusal::Truth => "truth",
+            Refusal::Variables => "variables",
+            Refusal::Space => "space",
+            Refusal::Pairs => "pairs",
+            Refusal::Value => "value",
+            Refusal::Scale => "scale",
+            Refusal::Weights => "weights",
+            Refusal::Listing => "listing",
+            Refusal::Valuations => "valuations",
+            Refusal::Nothing => "nothing",
+            Refusal::Paths => "paths",
+            Refusal::Buffer => "buffer",
+        }
+    }
+}
+
+impl fmt::Display for Refusal {
+    fn fmt(&self, f: &mut fmt::Formatter) -> fmt::Result {
+        write!(f, "refused, {}: {}", self.number(), self.word())
+    }
+}
+
+impl std::error::Error for Refusal {}
+
+/// A call's answer: 0, or the number of a refusal.
+pub(crate) fn accepted(number: u64) -> Result<(), Refusal> {
+    match number {
+        0 => Ok(()),
+        number => Err(Refusal::from_number(number).expect("the library answers 0 or a refusal")),
+    }
+}

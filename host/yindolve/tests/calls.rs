@@ -1,0 +1,118 @@
+//! What the types add to the library's calls: memory, threads, and words that cannot be wrong.
+
+use yindolve::{calls, fact, Arities, Label, Listing, Refusal, Row, Space, State, Term, Truths};
+
+fn arities() -> Arities {
+    Arities::new(&[2, 1, 2]).unwrap()
+}
+
+/// (if p(t, u) 1 0) for each of these labels in turn, leaf 0 where one fails.
+fn conjunction(labels: impl DoubleEndedIterator<Item = Label>) -> Listing {
+    let mut rows = vec![Row::Leaf(1), Row::Leaf(0)];
+    for label in labels.rev() {
+        let last = rows.len() - 1;
+        rows.push(Row::Branch { label, yes: if last == 1 { 0 } else { last }, no: 1 });
+    }
+    Listing::from_rows(&arities(), rows).unwrap()
+}
+
+/// The labels of predicates 1 and 3 with two variables, in their order: 2,048.
+fn pair(number: usize) -> Label {
+    Label::new(if number < 1_024 { 1 } else { 3 }, &[Term::Variable((number / 32 % 32) as u8), Term::Variable((number % 32) as u8)])
+}
+
+#[test]
+fn refusals_by_number() {
+    for (number, refusal) in (1..).zip(Refusal::ALL) {
+        assert_eq!(refusal.number(), number);
+        assert_eq!(Refusal::from_number(number), Some(refusal));
+    }
+    assert_eq!(Refusal::from_number(0), None);
+    assert_eq!(Refusal::from_number(19), None);
+    let error: Box<dyn std::error::Error> = Refusal::Listing.into();
+    assert_eq!(error.to_string(), "refused, 14: listing");
+}
+
+#[test]
+fn wrong_arities() {
+    assert_eq!(Arities::new(&[0; 32]), Err(Refusal::Listing));
+    assert_eq!(Arities::new(&[5]), Err(Refusal::Listing));
+    assert!(Arities::new(&[4; 31]).is_ok());
+}
+
+#[test]
+fn a_listing_for_other_arities_is_refused() {
+    let test = conjunction([pair(0)].into_iter());
+    let mut other = Space::new(Arities::new(&[1]).unwrap());
+    assert_eq!(other.cut(&test), Err(Refusal::Listing));
+    assert_eq!(Space::new(arities()).cut(&test), Err(Refusal::Nothing));
+}
+
+#[test]
+fn labels_and_terms() {
+    let label = Label::new(1, &[Term::Constant(15), Term::Parameter(3)]);
+    assert_eq!(label.terms(&arities()).collect::<Vec<_>>(), [Term::Constant(15), Term::Parameter(3)]);
+    assert_eq!(Label::equality(Term::Variable(31), Term::Variable(31)), None);
+    assert_eq!((0..64).filter_map(Term::from_number).filter(|term| Term::from_number(term.number()) == Some(*term)).count(), 52);
+}
+
+#[test]
+fn operations() {
+    let mut space = Space::new(arities());
+    let test = |predicate, terms: &[Term]| {
+        let label = Label::new(predicate, terms);
+        Listing::from_rows(&arities(), [Row::Leaf(1), Row::Leaf(0), Row::Branch { label, yes: 0, no: 1 }]).unwrap()
+    };
+    let (variable, parameter) = (Term::Variable(0), Term::Parameter(0));
+    let of_variable = test(2, &[variable]);
+    assert_eq!(space.product_shared(&of_variable, &of_variable).unwrap().listing, of_variable);
+    assert_eq!(space.max_shared(&of_variable, &of_variable).unwrap().listing, of_variable);
+    assert_eq!(space.max_apart(&of_variable, &of_variable).unwrap().pairs, 7);
+    assert_eq!(space.product_apart(&of_variable, &of_variable).unwrap().listing.len(), 4);
+    let mut truths = Truths::new();
+    truths.set(2, &test(2, &[Term::Variable(1)]));
+    assert_eq!(space.regress(&of_variable, &truths), Err(Refusal::Unbound));
+    truths.set(2, &test(1, &[variable, parameter]));
+    let regressed = space.regress(&of_variable, &truths).unwrap();
+    assert_eq!(regressed, test(1, &[variable, parameter]));
+    assert_eq!(space.value(&regressed, &State { objects: 1, ..State::default() }), Err(Refusal::Unbound));
+    let freed = space.free(&regressed, 1).unwrap();
+    assert_eq!(freed, test(1, &[Term::Variable(1), variable]));
+    let state = State { objects: 2, constants: vec![], facts: vec![fact(1, &[0, 1])] };
+    assert_eq!(space.value(&freed, &state), Ok(1));
+    assert_eq!(space.value(&freed, &State { objects: 1, ..state }), Err(Refusal::Range));
+}
+
+#[test]
+fn lent_memory_of_any_size() {
+    let test = conjunction([pair(0)].into_iter());
+    let (mut rows, mut edge, mut row) = (7, 7, 7);
+    let cut = calls::cut(arities().words(), test.words(), &mut [], &mut [], &mut row, &mut edge, &mut rows);
+    assert_eq!((cut, rows, edge, row), (Err(Refusal::Buffer), 7, 7, 7));
+    assert_eq!(calls::check(&[], &[]), Err(Refusal::Listing));
+}
+
+/// The deepest walk: the labels of two listings of 1,024 rows in turn. A thread of one megabyte has room for it.
+#[test]
+fn stack() {
+    let deep = || {
+        let (even, odd) = ((0..2_044).step_by(2), (1..2_044).step_by(2));
+        let (first, second) = (conjunction(even.map(pair)), conjunction(odd.map(pair)));
+        assert_eq!((first.len(), second.len()), (1_024, 1_024));
+        assert_eq!(Space::new(arities()).product_shared(&first, &second), Err(Refusal::Space));
+        assert_eq!(Space::new(arities()).product_apart(&first, &second), Err(Refusal::Variables));
+    };
+    std::thread::Builder::new().stack_size(1 << 20).spawn(deep).unwrap().join().unwrap();
+}
+
+#[test]
+fn threads() {
+    let work = |count: usize| {
+        let mut space = Space::new(arities());
+        let (first, second) = (conjunction((0..count).map(pair)), conjunction((0..2 * count).map(pair)));
+        (0..50).map(|_| space.product_shared(&first, &second).unwrap()).last().unwrap()
+    };
+    let alone: Vec<_> = (1..5).map(work).collect();
+    let together: Vec<_> = (1..5).map(|count| std::thread::spawn(move || work(count))).collect();
+    assert_eq!(together.into_iter().map(|thread| thread.join().unwrap()).collect::<Vec<_>>(), alone);
+}
