@@ -42,7 +42,7 @@ stored-state st′ l g h = record {
   live = h;
   value-room = g .value-room;
   value-rows = g .value-rows;
-  holding = λ e. record { listing = g .holding e .listing; steps = g .holding e .steps; power = g .holding e .power };
+  holding = λ e. record { reward = g .holding e .reward; listing = g .holding e .listing; steps = g .holding e .steps; power = g .holding e .power };
 }
 
 module _ {k : Kind} {s : List ℕ} {number : ℕ} {n : Numbers} {names ar ls tb st v : List ℕ} (o : Outcome SessionLive)
