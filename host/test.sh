@@ -6,6 +6,7 @@ set -uo pipefail
 program=${1:-}
 seconds=${2:-20}
 if [ -n "$program" ]; then program=$(realpath "$program"); fi
+if [ -n "${YINDOLVE_LIBRARY:-}" ]; then YINDOLVE_LIBRARY=$(realpath "$YINDOLVE_LIBRARY"); export YINDOLVE_LIBRARY; fi
 cd "$(dirname "$0")" || exit 2
 library=${YINDOLVE_LIBRARY:-../target/staticlib/libc_library.a}
 
@@ -48,7 +49,7 @@ step target/release/tests stored ../examples
 
 if [ -f "$library" ]; then
     text=
-    if nm "$library" | grep -q ' T yindolve_run$'; then text=text; fi
+    if nm "$library" | grep ' T yindolve_run$' >target/run_symbol; then text=text; fi
     step quiet cargo test --quiet --release --offline -p yindolve --features "$text"
     step quiet cargo build --quiet --release --offline -p tests --features "library $text"
     step target/release/tests library seconds "$seconds"
