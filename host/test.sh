@@ -6,13 +6,21 @@ set -uo pipefail
 program=${1:-}
 seconds=${2:-20}
 if [ -n "$program" ]; then program=$(realpath "$program"); fi
+if [ -n "${YINDOLVE_LIBRARY:-}" ]; then YINDOLVE_LIBRARY=$(realpath "$YINDOLVE_LIBRARY"); export YINDOLVE_LIBRARY; fi
 cd "$(dirname "$0")" || exit 2
 library=${YINDOLVE_LIBRARY:-../target/staticlib/libc_library.a}
 
 passed=0
 failed=0
 step() {
-    if "$@"; then passed=$((passed + 1)); else failed=$((failed + 1)); echo "failed: $*"; fi
+    local name="$*"
+    if "$@"; then passed=$((passed + 1)); echo "passed: ${name#quiet }"; else failed=$((failed + 1)); echo "failed: ${name#quiet }"; fi
+}
+
+# quiet COMMAND..: shows what the command prints only where it fails.
+quiet() {
+    local printed
+    printed=$("$@" 2>&1) || { echo "$printed"; return 1; }
 }
 
 # prints LINES COMMAND..: whether the command prints these lines.
@@ -28,24 +36,27 @@ c_example() {
     cc -std=c99 -Wall -Wextra -Werror -I../include -o target/c/value ../examples/value.c "$library" && prints 10 target/c/value
 }
 
+rust_example() {
+    prints $'apart: 6 rows, 7 pairs, value 20\nshared: 6 rows, 7 pairs, value 10' cargo run --quiet --release --offline -p yindolve --example add_apart
+}
+
 step cargo fmt --check
-step cargo test --quiet --release --offline
-step cargo build --quiet --release --offline
+step quiet cargo test --quiet --release --offline
+step quiet cargo build --quiet --release --offline
 step target/release/tests self seconds "$seconds"
 step target/release/tests stored corpus
 step target/release/tests stored ../examples
 
 if [ -f "$library" ]; then
     text=
-    if nm "$library" | grep -q ' T yindolve_run$'; then text=text; fi
-    step cargo test --quiet --release --offline -p yindolve --features "$text"
-    step cargo build --quiet --release --offline -p tests --features "library $text"
+    if nm "$library" | grep ' T yindolve_run$' >target/run_symbol; then text=text; fi
+    step quiet cargo test --quiet --release --offline -p yindolve --features "$text"
+    step quiet cargo build --quiet --release --offline -p tests --features "library $text"
     step target/release/tests library seconds "$seconds"
     step c_example
-    step prints $'apart: 6 rows, 7 pairs, value 20\nshared: 6 rows, 7 pairs, value 10' \
-        cargo run --quiet --release --offline -p yindolve --example add_apart
+    step rust_example
     if [ -n "$text" ]; then
-        step cargo run --quiet --release --offline -p yindolve --features text --example keep_loaded
+        step quiet cargo run --quiet --release --offline -p yindolve --features text --example keep_loaded
     else
         echo "the static library has no yindolve_run yet: whole texts by the library are left out"
     fi

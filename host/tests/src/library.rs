@@ -1,4 +1,5 @@
-//! The static library beside the reference: the same lent words to both, and the answer, the counts, the result words and those behind them compared.
+//! The static library beside the reference: the same lent words to both, and the answer, the counts, the result words and those
+//! behind them compared.
 
 use crate::listings::damage;
 use crate::random::Random;
@@ -221,7 +222,8 @@ fn by_predicate<'a>(words: &'a [u64], spans: &[u64]) -> [Option<&'a [u64]>; PRED
     })
 }
 
-/// A value that tests one atom above a wide diagram, and a wide truth diagram for its predicate: the step of the root has about 4,096 pairs.
+/// A value that tests one atom above a wide diagram, and a wide truth diagram for its predicate: the step of the root has about
+/// 4,096 pairs.
 fn many_pairs(random: &mut Random, atoms: &mut Atoms) -> (Vec<u64>, (Vec<u64>, Vec<u64>)) {
     let tested = (1..PREDICATES as u64 - 2).find(|p| atoms.arities[*p as usize] > 0).unwrap_or(1);
     atoms.predicates = vec![PREDICATES as u64 - 1];

@@ -8,8 +8,9 @@
 //!
 //! `self` holds the reference against brute force, counts the refusals met, and sees that each of document 01's slips is caught.
 //! `program` feeds random texts to a program and to the reference. `library` (feature `library`) makes random calls of the static
-//! library and of the reference, and sees that each call gave each of its answers; with the feature `text` whole texts too. `stored` runs each NAME.txt of a folder and compares with
-//! NAME.out, by the reference or by the program at PATH. `text` prints the random text of a seed. Default: a minute, from seed 0.
+//! library and of the reference, and sees that each call gave each of its answers; with the feature `text` whole texts too.
+//! `stored` runs each NAME.txt of a folder and compares with NAME.out, by the reference or by the program at PATH. `text` prints
+//! the random text of a seed. Default: a minute, from seed 0.
 
 mod bellman;
 #[cfg(feature = "library")]

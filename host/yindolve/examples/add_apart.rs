@@ -1,4 +1,5 @@
-//! A reward for a van at the hub and one for a van at the shop: added apart, two vans may earn one each; with names shared, one van would have to earn both.
+//! A reward for a van at the hub and one for a van at the shop: added apart, two vans may earn one each; with names shared, one
+//! van would have to earn both.
 
 use yindolve::{fact, Arities, Label, Listing, Refusal, Row, Space, State, Term};
 

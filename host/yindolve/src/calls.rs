@@ -1,8 +1,8 @@
 //! The library's calls on lent words, for callers who keep their own memory.
 //!
-//! Each function takes any words: those that are not what they should be are refused. After a refusal `result` and the counts are as they were; words of
-//! `result` behind a result stay; `work` may hold anything before a call and holds nothing of use after it. [`Space`](crate::Space) lends its own memory to
-//! these functions and is easier to use.
+//! Each function takes any words: those that are not what they should be are refused. After a refusal `result` and the counts are
+//! as they were; words of `result` behind a result stay; `work` may hold anything before a call and holds nothing of use after
+//! it. [`Space`](crate::Space) lends its own memory to these functions and is easier to use.
 
 use crate::ffi;
 use crate::refusal::{accepted, Refusal};
@@ -86,13 +86,13 @@ combinations! {
 
 /// The regression of a value listing under truth diagrams: each test is replaced by what makes its atom true after an action.
 ///
-/// The listing of predicate p's truth diagram is the `spans[2 * p + 1]` words of `truths` from word `spans[2 * p]` on; a count of 0 is for a predicate that
-/// stays as it is. Words of `spans` that are not lent count as 0.
+/// The listing of predicate p's truth diagram is the `spans[2 * p + 1]` words of `truths` from word `spans[2 * p]` on; a count of
+/// 0 is for a predicate that stays as it is. Words of `spans` that are not lent count as 0.
 ///
 /// # Refusals
-/// In this order: [`Listing`](Refusal::Listing) for the value listing, then for the truth diagrams by predicate; [`Buffer`](Refusal::Buffer); diagram by
-/// diagram [`Truth`](Refusal::Truth), then [`Unbound`](Refusal::Unbound) for a variable that is no argument; then step by step [`Pairs`](Refusal::Pairs)
-/// and [`Space`](Refusal::Space).
+/// In this order: [`Listing`](Refusal::Listing) for the value listing, then for the truth diagrams by predicate;
+/// [`Buffer`](Refusal::Buffer); diagram by diagram [`Truth`](Refusal::Truth), then [`Unbound`](Refusal::Unbound) for a variable
+/// that is no argument; then step by step [`Pairs`](Refusal::Pairs) and [`Space`](Refusal::Space).
 pub fn regress(
     arities: &[u64],
     words: &[u64],
@@ -122,7 +122,8 @@ pub fn regress(
     })
 }
 
-/// Frees the parameters of an action that has `parameters` of them: they become variables 0, 1, .., and the other variables move up by that count.
+/// Frees the parameters of an action that has `parameters` of them: they become variables 0, 1, .., and the other variables move
+/// up by that count.
 ///
 /// # Refusals
 /// In this order: [`Listing`](Refusal::Listing); [`Buffer`](Refusal::Buffer); [`Range`](Refusal::Range) (more than 4 parameters);
@@ -145,7 +146,8 @@ pub fn free(arities: &[u64], words: &[u64], parameters: u64, result: &mut [u64],
     })
 }
 
-/// Cuts one edge: it goes to leaf 0 without changing any value. The row whose edge went goes to `row`, 1 for its true edge or 0 for its false one to `edge`.
+/// Cuts one edge: it goes to leaf 0 without changing any value. The row whose edge went goes to `row`, 1 for its true edge or 0
+/// for its false one to `edge`.
 ///
 /// # Refusals
 /// In this order: [`Listing`](Refusal::Listing); [`Buffer`](Refusal::Buffer); [`Paths`](Refusal::Paths); [`Nothing`](Refusal::Nothing).
@@ -181,8 +183,8 @@ pub fn cut(
 /// `constants[c]` is the object of constant c, 0 for a constant that has no word; `facts` are rows of five words.
 ///
 /// # Refusals
-/// In this order: [`Listing`](Refusal::Listing); [`Range`](Refusal::Range) (no object, or one named that is not there); [`Unbound`](Refusal::Unbound)
-/// (any parameter); [`Valuations`](Refusal::Valuations).
+/// In this order: [`Listing`](Refusal::Listing); [`Range`](Refusal::Range) (no object, or one named that is not there);
+/// [`Unbound`](Refusal::Unbound) (any parameter); [`Valuations`](Refusal::Valuations).
 pub fn value(arities: &[u64], words: &[u64], objects: u64, constants: &[u64], facts: &[u64], value: &mut u64) -> Result<(), Refusal> {
     // SAFETY: each pointer is to as many words as its count says, and what is written to overlaps nothing.
     accepted(unsafe {

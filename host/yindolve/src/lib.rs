@@ -1,11 +1,13 @@
 //! A value engine on first-order decision diagrams in which every function is proved: this crate is the safe face of its static library.
 //!
-//! A diagram is a [`Listing`]: rows that test atoms, such as `stock(hub)`, and leaves that are numbers. A [`Space`] adds, multiplies and maximises listings,
-//! regresses them through an action's outcome, cuts what no value needs, and values them in a [`State`]. With the feature `text`, `run` answers a whole text (a
-//! model and its run), and a `Session` keeps a model loaded and answers line by line.
+//! A diagram is a [`Listing`]: rows that test atoms, such as `stock(hub)`, and leaves that are numbers. A [`Space`] adds,
+//! multiplies and maximises listings, regresses them through an action's outcome, cuts what no value needs, and values them in a
+//! [`State`]. With the feature `text`, `run` answers a whole text (a model and its run), and a `Session` keeps a model loaded and
+//! answers line by line.
 //!
-//! The library is proved to answer and to write what document 01, the scope, says, on all words; the calls' refusals, each a [`Refusal`], are part of that.
-//! What is believed and not proved are this crate's few lines around each call, which lend the library slices that do not overlap.
+//! The library is proved to answer and to write what document 01, the scope, says, on all words; the calls' refusals, each a
+//! [`Refusal`], are part of that. What is believed and not proved are this crate's few lines around each call, which lend the
+//! library slices that do not overlap.
 //!
 //! # Example
 //!
@@ -34,9 +36,9 @@
 //!
 //! # Building
 //!
-//! The static library is built by `rt staticlib c_library` at the root of the repository; the variable `YINDOLVE_LIBRARY` may name another `libc_library.a`.
-//! It runs on Linux on x86-64. A call uses less than a megabyte of stack and touches it page by page, so that a thread with too little of it ends as by any
-//! overflow of its stack.
+//! The static library is built by `rt staticlib c_library` at the root of the repository; the variable `YINDOLVE_LIBRARY` may
+//! name another `libc_library.a`. It runs on Linux on x86-64. A call uses less than a megabyte of stack and touches it page by
+//! page, so that a thread with too little of it ends as by any overflow of its stack.
 
 #![warn(missing_docs)]
 

@@ -176,8 +176,8 @@ impl Row {
 
 /// A decision diagram as the list of its rows, the root last.
 ///
-/// The words were checked when the listing was made, or the library made them. An operation checks them again by its own arities, and refuses
-/// ([`Refusal::Listing`]) a listing that was made for others that do not fit.
+/// The words were checked when the listing was made, or the library made them. An operation checks them again by its own arities,
+/// and refuses ([`Refusal::Listing`]) a listing that was made for others that do not fit.
 ///
 /// ```
 /// use yindolve::{Arities, Label, Listing, Refusal, Row, Term};

@@ -2,7 +2,8 @@ use std::fmt;
 
 /// Why a call or a line is refused, by the trade words of document 01.
 ///
-/// A refused call leaves everything as it was. Which refusals an operation can answer, and in which order it checks for them, stands with the operation.
+/// A refused call leaves everything as it was. Which refusals an operation can answer, and in which order it checks for them,
+/// stands with the operation.
 #[derive(Clone, Copy, Debug, PartialEq, Eq, PartialOrd, Ord, Hash)]
 pub enum Refusal {
     /// A line that is not of the grammar.

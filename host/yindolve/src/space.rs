@@ -123,8 +123,8 @@ impl Space {
     }
 
     combinations! {
-        /// The sum of two listings, each with variables of its own: the first's are renamed to 0, 1, .. in their order, the second's follow, and those of
-        /// the result are renamed likewise.
+        /// The sum of two listings, each with variables of its own: the first's are renamed to 0, 1, .. in their order, the
+        /// second's follow, and those of the result are renamed likewise.
         sum_apart: "In this order: `Variables` (more than 32, those of both together), `Pairs`, `Value`, `Space`.";
         /// The sum of two listings that share their variables.
         sum_shared: "In this order: `Pairs`, `Value`, `Space`.";
@@ -141,8 +141,8 @@ impl Space {
     /// A value listing as it reads before an action's outcome: each test is replaced by what makes its atom true afterwards.
     ///
     /// # Refusals
-    /// In this order: diagram by diagram `Truth` (a leaf above 1) and `Unbound` (a variable that is no argument of the predicate); then, step by step, `Pairs`
-    /// and `Space`.
+    /// In this order: diagram by diagram `Truth` (a leaf above 1) and `Unbound` (a variable that is no argument of the
+    /// predicate); then, step by step, `Pairs` and `Space`.
     ///
     /// ```
     /// use yindolve::{Arities, Label, Listing, Refusal, Row, Space, Term, Truths};
@@ -170,10 +170,12 @@ impl Space {
         Ok(self.written(rows))
     }
 
-    /// Frees the parameters of an action that has so many of them: they become variables 0, 1, .., and the other variables move up by that count.
+    /// Frees the parameters of an action that has so many of them: they become variables 0, 1, .., and the other variables move
+    /// up by that count.
     ///
     /// # Refusals
-    /// In this order: `Range` (more than 4 parameters), `Unbound` (a parameter past the count), `Variables` (a variable would pass the last one).
+    /// In this order: `Range` (more than 4 parameters), `Unbound` (a parameter past the count), `Variables` (a variable would
+    /// pass the last one).
     pub fn free(&mut self, listing: &Listing, parameters: u64) -> Result<Listing, Refusal> {
         let mut rows = 0;
         calls::free(self.arities.words(), listing.words(), parameters, &mut self.result, &self.work, &mut rows)?;
@@ -214,7 +216,8 @@ impl Space {
     /// The value of a listing in a state: the highest leaf over all ways to choose an object for each of its variables.
     ///
     /// # Refusals
-    /// In this order: `Range` (no object, or one named that is not there), `Unbound` (a parameter), `Valuations` (more than 1,000,000 ways).
+    /// In this order: `Range` (no object, or one named that is not there), `Unbound` (a parameter), `Valuations` (more than
+    /// 1,000,000 ways).
     pub fn value(&self, listing: &Listing, state: &State) -> Result<u64, Refusal> {
         let mut value = 0;
         let facts = state.facts.as_flattened();

@@ -186,7 +186,7 @@ impl Default for Session {
 }
 
 impl Session {
-    /// A session before its first line: 309 KB of memory, which no line adds to.
+    /// A session before its first line: about 300 KB of memory, which no line adds to.
     pub fn open() -> Session {
         let mut memory = Memory::new();
         let Memory { numbers, arities, state, .. } = &mut memory;
@@ -202,8 +202,8 @@ impl Session {
     pub fn line(&mut self, line: &[u8]) -> Answer {
         let Memory { numbers, names, arities, listings, table, state, value, work } = &mut self.memory;
         let mut bytes = 0;
-        // SAFETY: each pointer is to as many words as its count says, and what is written to overlaps nothing. The memory is what opening or the last line left,
-        // since nothing else writes to it.
+        // SAFETY: each pointer is to as many words as its count says, and what is written to overlaps nothing. The memory is what
+        // opening or the last line left, since nothing else writes to it.
         let number = unsafe {
             ffi::yindolve_line(
                 line.as_ptr(),
