@@ -1,7 +1,7 @@
 /* And, or of 0/1 diagrams: product and max of the library, names shared, beside bdd_and and bdd_or of BuDDy (Debian libbdd-dev). Both get the same random
  * diagrams, in the same order of variables; the library's results are compared with BuDDy's, row by row, before anything is timed. Each pair of diagrams is
- * combined once a round; between rounds BuDDy collects its garbage, which also empties its caches, so that no answer is found from the round before. The sizes of its
- * tables are the best for it among those tried: larger ones fall out of the processor's cache, and smaller ones would be collected or grown while time is taken. */
+ * combined once a round; between rounds BuDDy collects its garbage, which also empties its caches, so that no answer is found from the round before. Its table
+ * is small enough to be quick and large enough that nothing is collected and nothing grows while time is taken. */
 #include "yindolve.h"
 #include <assert.h>
 #include <bdd.h>
@@ -149,7 +149,7 @@ static void compare(const char *name, Combination combination, BDD (*operation)(
 int main(void) {
     static const uint64_t shapes[][2] = {{4, 3}, {7, 6}, {12, 8}, {16, 16}};
     setvbuf(stdout, NULL, _IOLBF, 0);
-    assert(bdd_init(100000, 10000) == 0);
+    assert(bdd_init(60000, 10000) == 0);
     bdd_setvarnum(VARIABLES);
     bdd_gbc_hook(collected);
     bdd_resize_hook(grown);
