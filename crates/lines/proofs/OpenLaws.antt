@@ -1,13 +1,10 @@
 -- Laws of a session in lent words before its first line.
 use mathlib.Core.Path.{_≡_, refl, sym, ap, subst, _∙_}
-use mathlib.Core.Bool.{Bool, true, false}
 use mathlib.Core.List.{List, [], _∷_}
 use Prim.Native.Nat.{ℕ, zero, suc, _+_, _-_, _<_, _≤_}
 use native.Mathlib.Omega.{arith}
-use borrow.Author.Tests.{eqb-true}
 use lib.ListN.{length, getD, set, replicate, length-set, length-replicate, getD-replicate}
 use lib.Seq.{ext-getD, getD-set-same, getD-set-other}
-use lib.Dec.{eqb}
 use Rattle.basics.specs.Tests.{Cmp, below, equal, above, cmp}
 use Rattle.label.specs.Limits.{predicateCount, equality, equalityArity}
 use Rattle.diagram.specs.Diagram.{leaf}
@@ -15,16 +12,16 @@ use Rattle.diagram.specs.Listing.{treeAt, diagramOf}
 use Rattle.regress.specs.Calls.{ok}
 use Rattle.names.specs.Many.{many}
 use Rattle.names.specs.Keys.{keysAt}
-use Rattle.session.specs.Session.{Session, Live, opening}
+use Rattle.session.specs.Session.{Session, opening}
 use Rattle.session.specs.Facts.{objectsLine, cleared}
 use Rattle.session.specs.Good.{GoodSession}
 use Rattle.session_laws.specs.OpeningLaws.{opening-good}
 use Rattle.declare.specs.Tables.{namesOf}
-use Rattle.facts.specs.Words.{stateWords, factsBase, liveOf, Living, Cleared}
+use Rattle.facts.specs.Words.{stateWords, factsBase, liveOf, Cleared}
 use Rattle.facts.proofs.StateLaws.{objects-done}
 use Rattle.modelling.specs.BuildingLaws.{begun, begun-model}
 use Rattle.memory.specs.declared.Numbers.{Numbers}
-use Rattle.memory.specs.Memory.{Memory, memoryOf, sessionOf, Stored, Kept, Rooms, openingNumbers}
+use Rattle.memory.specs.Memory.{memoryOf, sessionOf, Stored, Rooms, openingNumbers}
 use Rattle.lines.specs.Lines.{Opening, Opened}
 
 -- ===== The arity list =====

@@ -16,7 +16,6 @@ use Rattle.mdp.specs.Model.{Action}
 use Rattle.names.specs.Layout.{actionsAt, variantsAt}
 use Rattle.names.specs.KeyLaws.{length-keys}
 use Rattle.refusal.specs.declared.Refusal.the-variants.{Form, Place}
-use Rattle.regress.specs.Calls.{ok}
 use Rattle.session.specs.declared.Rule.{Rule}
 use Rattle.session.specs.declared.Rule.the-variants as R
 use Rattle.session.specs.Replies.{eachVaried, eachPlaced, unless, allowed}

@@ -5,7 +5,6 @@ use mathlib.Core.List.{List}
 use Prim.Native.Nat.{ℕ}
 use native.Mathlib.Omega.{arith}
 use Rattle.refusal.specs.declared.Refusal.{Refusal}
-use Rattle.refusal.specs.declared.Refusal.the-variants.{Form}
 use Rattle.regress.specs.Calls.{Outcome, ok, refused}
 use Rattle.text.specs.declared.Kind.{Kind}
 use Rattle.text.specs.declared.Kind.the-variants as K
@@ -22,7 +21,7 @@ use Rattle.session.specs.Good.{GoodSession}
 use Rattle.session_laws.specs.MemoryLaws.{kept-good}
 use Rattle.memory.specs.declared.Numbers.{Numbers}
 use Rattle.memory.specs.declared.Said.{Said}
-use Rattle.memory.specs.Memory.{Memory, memoryOf, sessionOf, Ready, Answers, Kept, Replied}
+use Rattle.memory.specs.Memory.{Memory, sessionOf, Ready, Answers, Kept, Replied}
 use Rattle.lines.specs.declared.Placed.{Placed}
 use Rattle.lines.specs.declared.Placed.the-variants.{Done, Refused}
 use Rattle.lines.specs.Placing.{placedAs, Counted, Placing}
@@ -91,35 +90,32 @@ place-told σ k q e h = h ∙ ap (λ x. placedAs (allowed σ x)) e
 place-ok : (σ : Session) (k : Kind) (q : Part) {rule : Rule} {p : Placed} → rule ≡ ruleOf k q → p ≡ placedAs (allowed σ rule) → p ≡ Done → allowed σ (ruleOf k q) ≡ ok tt
 place-ok σ k q e h d = placed-done (allowed σ (ruleOf k q)) (sym d ∙ place-told σ k q e h)
 
-module _ {n : Numbers} {names arities listings table state value : List ℕ} {k : Kind} {rule : Rule} {p : Placed}
-    (h : Kept n (memoryOf names arities listings table state value)) (b : rule ≡ ruleOf k (n .part)) (c : Placing rule n table state p) where
-  pub answer-ready : {s : List ℕ} → IsLine s k → p ≡ Done → Ready k s n (memoryOf names arities listings table state value)
+module _ {n : Numbers} {w : Memory} {k : Kind} {rule : Rule} {p : Placed} (h : Kept n w) (b : rule ≡ ruleOf k (n .part)) (c : Placing rule n (w .table) (w .state) p) where
+  pub answer-ready : {s : List ℕ} → IsLine s k → p ≡ Done → Ready k s n w
   answer-ready l e =
-      let σ = sessionOf n (memoryOf names arities listings table state value) in
-      let x = place-ok σ k (n .part) b (c .is names arities listings value) e in
-      let w = l .written (some-kind σ k (n .part) x) in
-      record { line = record { words = w .0; good = w .1; bytes = w .2 }; stored = h .stored; good = h .good; place = x }
+      let x = place-ok (sessionOf n w) k (n .part) b (c .is (w .names) (w .arities) (w .listings) (w .value)) e in
+      let t = l .written (some-kind (sessionOf n w) k (n .part) x) in
+      record { line = record { words = t .0; good = t .1; bytes = t .2 }; stored = h .stored; good = h .good; place = x }
 
   pub answer-refused : (s : List ℕ) (number : ℕ) {r : Refusal} → k ≡ lineKind s → p ≡ Refused r
-      → Replied s number n (memoryOf names arities listings table state value) (record { numbers = n; answer = A.Refused r number }) (memoryOf names arities listings table state value)
+      → Replied s number n w (record { numbers = n; answer = A.Refused r number }) w
   unfolding sessionOf
   answer-refused s number {r} a e =
-      let σ = sessionOf n (memoryOf names arities listings table state value) in
-      let x = placed-refused (allowed σ (ruleOf k (n .part))) r (sym e ∙ place-told σ k (n .part) b (c .is names arities listings value)) in
+      let σ = sessionOf n w in
+      let x = placed-refused (allowed σ (ruleOf k (n .part))) r (sym e ∙ place-told σ k (n .part) b (c .is (w .names) (w .arities) (w .listings) (w .value))) in
       let y = sym (reply-refused σ number s r (subst (λ (z : Kind). allowed σ (ruleOf z (n .part)) ≡ refused r) a x)) in
       record { answer = ap (λ t. t .answer) y; session = ap (λ t. t .session) y; kept = h }
 
-  pub answer-done : {s : List ℕ} {number : ℕ} {r : Said} {w′ : Memory} → k ≡ lineKind s → p ≡ Done → Answers k s number n (memoryOf names arities listings table state value) r w′
-      → Replied s number n (memoryOf names arities listings table state value) r w′
+  pub answer-done : {s : List ℕ} {number : ℕ} {r : Said} {w′ : Memory} → k ≡ lineKind s → p ≡ Done → Answers k s number n w r w′ → Replied s number n w r w′
   unfolding sessionOf
   answer-done {s} {number} {r} {w′} a e d =
-      let σ = sessionOf n (memoryOf names arities listings table state value) in
-      let x = place-ok σ k (n .part) b (c .is names arities listings value) e in
+      let σ = sessionOf n w in
+      let x = place-ok σ k (n .part) b (c .is (w .names) (w .arities) (w .listings) (w .value)) e in
       let y = sym (reply-done σ number s (subst (λ (z : Kind). allowed σ (ruleOf z (n .part)) ≡ ok tt) a x)) in
       let z = ap (λ x. done σ number x (wordsOf x s)) a ∙ y in
       let m = d .session ∙ ap (λ t. t .session) z in
       record {
         answer = d .answer ∙ ap (λ t. t .answer) z;
         session = m;
-        kept = record { stored = d .stored; good = subst GoodSession (sym m) (kept-good n (memoryOf names arities listings table state value) h number s) };
+        kept = record { stored = d .stored; good = subst GoodSession (sym m) (kept-good n w h number s) };
       }
