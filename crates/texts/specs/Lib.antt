@@ -1,0 +1,8 @@
+-- Whole texts: answered in a lent buffer, or while they are read (document 01, sections 'Text' and 'A run, whole').
+pub mod Ends
+pub mod Running
+pub mod Sending
+-- laws
+pub mod LineLaws
+pub mod RunningLaws
+pub mod ShowLaws

@@ -1,0 +1,191 @@
+// Whole texts: answered in a lent buffer, or while they are read. What their answers are stands in crate session and in specs/.
+use answers::Answer;
+use answers::Put;
+use memory::Numbers;
+use refusal::Refusal;
+use session::Part;
+ghost use mathlib.Core.Path.{_≡_};
+ghost use mathlib.Core.List.{List, _∷_};
+ghost use Prim.Native.Nat.{ℕ, _+_, _<_, _≤_};
+ghost use lib.ListN.{length, drop};
+ghost use Rattle.answers.specs.declared.Answer.the-variants.{Refused};
+ghost use Rattle.answers.specs.Answers.{answerLine};
+ghost use Rattle.answers.specs.Writing.{Placed};
+ghost use Rattle.session.specs.Texts.{afterLine};
+ghost use Rattle.memory.specs.Memory.{Memory, memoryOf, Kept, workWords};
+ghost use Rattle.lines.specs.Lines.{StandIn};
+ghost use Rattle.texts.specs.Ends.{lineLength};
+ghost use Rattle.texts.specs.Running.{fillClosing, fillRest, Fills};
+ghost use Rattle.texts.specs.Sending.{Sends, mostLines, progressOf, Going, Goes};
+
+// What a text is answered in a buffer: the bytes of all answers; or the bytes written and the lines answered before the line whose answer has no room.
+pub enum Ran {
+    Done(usize),
+    Full(usize, u64),
+}
+
+// The numbers behind a line, and the place behind its answer, if that has room.
+pub struct Sent {
+    pub numbers: Numbers,
+    pub put: Put,
+}
+
+// How far a text is read: the session's numbers, the lines answered and the bytes of their answers.
+pub struct Position {
+    pub numbers: Numbers,
+    pub lines: u64,
+    pub end: usize,
+}
+
+// Where a line leads, or that its answer has no room.
+pub enum Next {
+    To(Position),
+    Full,
+}
+
+// The place of the first line feed from a place on, or behind the last byte.
+fn line_end(text: &[u8], at: usize) -> usize
+    ensures { λ r. ⌜ r ≡ at + lineLength (drop at (now (text .entry))) ⌝ }
+{
+    let mut i = at;
+    while i < text.len() {
+        if text[i] == b'\n' {
+            return i;
+        }
+        i += 1;
+    }
+    i
+}
+
+// Answers a line, and puts the answer's bytes at a place, if there is room.
+fn reply_line(
+    line: &[u8],
+    number: u64,
+    n: Numbers,
+    names: &mut [u64],
+    arities: &mut [u64],
+    listings: &mut [u64],
+    table: &mut [u64],
+    state: &mut [u64],
+    value: &mut [u64],
+    work: &mut [u64],
+    out: &mut [u8],
+    at: usize,
+) -> Sent
+    requires { ⌜ Kept n (memoryOf (now names) (now arities) (now listings) (now table) (now state) (now value)) ⌝ }
+    requires { ⌜ workWords ≤ length (now work) ⌝ }
+    requires { ⌜ StandIn ⌝ }
+    ensures { λ r. ⌜ Sends (now (line .entry)) number n (memoryOf (now (names .entry)) (now (arities .entry)) (now (listings .entry)) (now (table .entry)) (now (state .entry)) (now (value .entry))) (now (out .entry)) at r (memoryOf (now (names .exit)) (now (arities .exit)) (now (listings .exit)) (now (table .exit)) (now (state .exit)) (now (value .exit))) (now (out .exit)) ⌝ }
+{
+    let said = lines::answer(
+        line,
+        number,
+        n,
+        names,
+        arities,
+        listings,
+        table,
+        state,
+        value,
+        work,
+    );
+    let answer = said.answer;
+    let numbers = said.numbers;
+    let put = answers::put_answer(out, at, value, answer);
+    Sent {
+        numbers: numbers,
+        put: put,
+    }
+}
+
+// Answers the next line, behind the answers before it.
+fn next_line(
+    line: &[u8],
+    p: Position,
+    names: &mut [u64],
+    arities: &mut [u64],
+    listings: &mut [u64],
+    table: &mut [u64],
+    state: &mut [u64],
+    value: &mut [u64],
+    work: &mut [u64],
+    out: &mut [u8],
+) -> Next
+    requires { ⌜ Going p (memoryOf (now names) (now arities) (now listings) (now table) (now state) (now value)) (now out) ⌝ }
+    requires { ⌜ p .lines < mostLines ⌝ }
+    requires { ⌜ workWords ≤ length (now work) ⌝ }
+    requires { ⌜ StandIn ⌝ }
+    ensures { λ r. ⌜ Goes (afterLine (progressOf p (memoryOf (now (names .entry)) (now (arities .entry)) (now (listings .entry)) (now (table .entry)) (now (state .entry)) (now (value .entry))) (now (out .entry))) (now (line .entry))) (now (out .entry)) r (memoryOf (now (names .exit)) (now (arities .exit)) (now (listings .exit)) (now (table .exit)) (now (state .exit)) (now (value .exit))) (now (out .exit)) ⌝ }
+{
+    let number = p.lines + 1;
+    let sent = reply_line(
+        line,
+        number,
+        p.numbers,
+        names,
+        arities,
+        listings,
+        table,
+        state,
+        value,
+        work,
+        out,
+        p.end,
+    );
+    let numbers = sent.numbers;
+    let put = sent.put;
+    let Put::At(end) = put else {
+        return Next::Full;
+    };
+    Next::To(Position {
+        numbers: numbers,
+        lines: number,
+        end: end,
+    })
+}
+
+// Puts a refusal's line at a place, if there is room.
+fn put_refusal(out: &mut [u8], at: usize, why: Refusal, number: u64) -> Put
+    ensures { λ r. ⌜ Placed (now (out .entry)) at (answerLine (Refused why number)) r (now (out .exit)) ⌝ }
+{
+    let none = [0u64; 1];
+    answers::put_answer(out, at, &none, Answer::Refused(why, number))
+}
+
+// The end of a text behind its last line: without an accepted (start) it is refused.
+fn close(p: Position, out: &mut [u8]) -> Ran
+    requires { ⌜ p .end ≤ length (now out) ⌝ }
+    ensures { λ r. ⌜ ((w : Memory) → Fills (fillClosing (length (now (out .entry))) (progressOf p w (now (out .entry)))) (now (out .entry)) r (now (out .exit))) ⌝ }
+{
+    let end = p.end;
+    let numbers = p.numbers;
+    let part = numbers.part;
+    match part {
+        Part::Model => {
+            let Put::At(last) = put_refusal(out, end, Refusal::Place, 0) else {
+                return Ran::Full(end, p.lines);
+            };
+            Ran::Done(last)
+        }
+        Part::Run => Ran::Done(end),
+    }
+}
+
+// The end of a text with a last line that no line feed ends: it is refused.
+fn close_rest(p: Position, out: &mut [u8]) -> Ran
+    requires { ⌜ p .end ≤ length (now out) ⌝ }
+    requires { ⌜ p .lines < mostLines ⌝ }
+    ensures { λ r. ⌜ ((w : Memory) (b : ℕ) (s : List ℕ) → Fills (fillRest (length (now (out .entry))) (progressOf p w (now (out .entry))) (b ∷ s)) (now (out .entry)) r (now (out .exit))) ⌝ }
+{
+    let number = p.lines + 1;
+    let Put::At(end) = put_refusal(out, p.end, Refusal::Form, number) else {
+        return Ran::Full(p.end, p.lines);
+    };
+    let numbers = p.numbers;
+    let q = Position {
+        numbers: numbers,
+        lines: number,
+        end: end,
+    };
+    close(q, out)
+}
