@@ -1,2 +1,3 @@
 pub mod SendLaws
 pub mod MoveLaws
+pub mod RunLaws

@@ -75,29 +75,38 @@ module _ {out : List ℕ} {place : ℕ} {w : List ℕ} {r : Put} {out′ : List 
 
 -- ===== A line =====
 
+goes-to : {q : Progress} {out : List ℕ} {p : Position} {w : Memory} {out′ : List ℕ} → Moved q out p w out′ → Goes q out (N.To p) w out′
+goes-to {q} {out} {p} {w} {out′} m = record {
+  to = λ p′ e. let k : p ≡ p′ = cc in subst (λ (x : Position). Moved q out x w out′) k m;
+  full = λ e. absurd (let z : _≡_ {A = ℕ} 0 1 = cc in omega arith);
+}
+
+goes-full : {q : Progress} {out : List ℕ} {w : Memory} {out′ : List ℕ} → NoRoom q out out′ → Goes q out N.Full w out′
+goes-full m = record { to = λ p e. absurd (let z : _≡_ {A = ℕ} 0 1 = cc in omega arith); full = λ e. m }
+
 module _ {s : List ℕ} {p : Position} {w : Memory} {out : List ℕ} {r : Sent} {w′ : Memory} {out′ : List ℕ} (g : Going p w out)
     (x : Sends s (p .lines + 1) (p .numbers) w out (p .end) r w′ out′) where
   sends : Sends s (suc (p .lines)) (p .numbers) w out (p .end) r w′ out′
   sends = subst (λ (k : ℕ). Sends s k (p .numbers) w out (p .end) r w′ out′) (add-one (p .lines)) x
 
   pub next-to : (e : ℕ) → r .put ≡ P.At e
-      → Moved (afterLine (progressOf p w out) s) out (record { numbers = r .numbers; lines = p .lines + 1; end = e }) w′ out′
+      → Goes (afterLine (progressOf p w out) s) out (N.To (record { numbers = r .numbers; lines = p .lines + 1; end = e })) w′ out′
   unfolding afterLine progressOf
   next-to e q =
       let y = sends in
       let a = placed-at (y .placed) e q in
-      record {
+      goes-to (record {
         going = record { kept = y .kept; within = omega (arith, a .within, a .long) };
         is = λ i. record { session = y .session i; lines = add-one (p .lines) i; bytes = a .front i };
         behind = a .behind;
-      }
+      })
 
-  pub next-full : r .put ≡ P.Full → NoRoom (afterLine (progressOf p w out) s) out out′
+  pub next-full : r .put ≡ P.Full → Goes (afterLine (progressOf p w out) s) out N.Full w′ out′
   unfolding afterLine progressOf
   next-full q =
       let y = sends in
       let a = placed-full (y .placed) q in
-      record { room = omega (arith, a .0, length-append (take (p .end) out) (replyBytes (reply (sessionOf (p .numbers) w) (suc (p .lines)) s)), length-take-le (p .end) out (g .within)); result = a .1 }
+      goes-full (record { room = omega (arith, a .0, length-append (take (p .end) out) (replyBytes (reply (sessionOf (p .numbers) w) (suc (p .lines)) s)), length-take-le (p .end) out (g .within)); result = a .1 })
 
 -- ===== The end of a text =====
 

@@ -25,11 +25,11 @@ begins-trans : {x y z : List ℕ} → Begins x y → Begins y z → Begins x z
 begins-trans {x} {y} {z} p q =
     record { more = p .more ++ q .more; is = q .is ∙ ap (λ (w : List ℕ). w ++ q .more) (p .is) ∙ append-assoc x (p .more) (q .more) }
 
-begins-short : {x y : List ℕ} → Begins x y → length x ≤ length y
+pub begins-short : {x y : List ℕ} → Begins x y → length x ≤ length y
 begins-short {x} p = omega (arith, ap length (p .is), length-append x (p .more))
 
 -- answers are only added
-line-begins : (p : Progress) (l : List ℕ) → Begins (p .bytes) (afterLine p l .bytes)
+pub line-begins : (p : Progress) (l : List ℕ) → Begins (p .bytes) (afterLine p l .bytes)
 unfolding afterLine
 line-begins p l = record { more = _; is = refl }
 

@@ -6,15 +6,13 @@ use lib.ListN.{length, take, drop}
 use Rattle.answers.specs.declared.Put.{Put}
 use Rattle.answers.specs.Writing.{Placed}
 use Rattle.session.specs.Replies.{Reply, reply}
-use Rattle.session.specs.Texts.{Progress, replyBytes}
+use Rattle.session.specs.Texts.{Progress, replyBytes, beginning}
 use Rattle.memory.specs.declared.Numbers.{Numbers}
-use Rattle.memory.specs.Memory.{Memory, sessionOf, Kept}
+use Rattle.memory.specs.Memory.{Memory, memoryOf, sessionOf, Kept, Rooms}
 use Rattle.texts.specs.declared.Sent.{Sent}
 use Rattle.texts.specs.declared.Position.{Position}
 use Rattle.texts.specs.declared.Next.{Next}
 use Rattle.texts.specs.declared.Next.the-variants.{To, Full}
-use Rattle.texts.specs.declared.Ran.{Ran}
-use Rattle.texts.specs.Running.{Filled, inFront}
 
 -- the session behind the line, and the answer's bytes put at a place, if there is room
 pub record Sends (s : List ℕ) (number : ℕ) (n : Numbers) (w : Memory) (out : List ℕ) (place : ℕ) (r : Sent) (w′ : Memory) (out′ : List ℕ) : Type 0 where
@@ -48,6 +46,17 @@ pub record NoRoom (q : Progress) (out out′ : List ℕ) : Type 0 where
   pub result : out′ ≡ out
 
 -- q is reached, or there is no room for the answer that leads to it
-abbrev pub Goes : Progress → List ℕ → Next → Memory → List ℕ → Type 0
-Goes q out (To p) w out′ = Moved q out p w out′
-Goes q out Full w out′ = NoRoom q out out′
+pub record Goes (q : Progress) (out : List ℕ) (r : Next) (w : Memory) (out′ : List ℕ) : Type 0 where
+  pub to : (p : Position) → r ≡ To p → Moved q out p w out′
+  pub full : r ≡ Full → NoRoom q out out′
+
+-- before the first line
+pub record Started (p : Position) (w : Memory) (out : List ℕ) : Type 0 where
+  pub going : Going p w out
+  pub is : progressOf p w out ≡ beginning
+  pub end : p .end ≡ 0
+
+-- whatever the other words are, if they have their room
+pub record Starts (arities state : List ℕ) (r : Position) (arities′ state′ : List ℕ) : Type 0 where
+  pub says : (names listings table value out : List ℕ) → Rooms (memoryOf names arities listings table state value)
+      → Started r (memoryOf names arities′ listings table state′ value) out

@@ -1,6 +1,7 @@
 // Whole texts: answered in a lent buffer, or while they are read. What their answers are stands in crate session and in specs/.
 use answers::Answer;
 use answers::Put;
+use label::Label;
 use memory::Numbers;
 use refusal::Refusal;
 use session::Part;
@@ -11,12 +12,17 @@ ghost use lib.ListN.{length, drop};
 ghost use Rattle.answers.specs.declared.Answer.the-variants.{Refused};
 ghost use Rattle.answers.specs.Answers.{answerLine};
 ghost use Rattle.answers.specs.Writing.{Placed};
-ghost use Rattle.session.specs.Texts.{afterLine};
-ghost use Rattle.memory.specs.Memory.{Memory, memoryOf, Kept, workWords};
+ghost use Rattle.session.specs.Texts.{linesOf, afterLine};
+ghost use Rattle.memory.specs.Memory.{Memory, memoryOf, Kept, Rooms, workWords};
+ghost use Rattle.label.specs.Limits.{predicateCount};
+ghost use Rattle.facts.specs.Words.{stateWords};
 ghost use Rattle.lines.specs.Lines.{StandIn};
 ghost use Rattle.texts.specs.Ends.{lineLength};
-ghost use Rattle.texts.specs.Running.{fillClosing, fillRest, Fills};
-ghost use Rattle.texts.specs.Sending.{Sends, mostLines, progressOf, Going, Goes};
+ghost use Rattle.texts.specs.Running.{fillClosing, fillRest, fillFrom, filled, Fills};
+ghost use Rattle.texts.specs.Sending.{Sends, mostLines, progressOf, Going, Goes, Starts};
+
+// Words of working space for a session.
+pub const WORK_WORDS: usize = 8190;
 
 // What a text is answered in a buffer: the bytes of all answers; or the bytes written and the lines answered before the line whose answer has no room.
 pub enum Ran {
@@ -188,4 +194,123 @@ fn close_rest(p: Position, out: &mut [u8]) -> Ran
         end: end,
     };
     close(q, out)
+}
+
+// Answers a text line by line, and its end.
+fn answer_lines(
+    text: &[u8],
+    first: Position,
+    names: &mut [u64],
+    arities: &mut [u64],
+    listings: &mut [u64],
+    table: &mut [u64],
+    state: &mut [u64],
+    value: &mut [u64],
+    work: &mut [u64],
+    out: &mut [u8],
+) -> Ran
+    requires { ⌜ Going first (memoryOf (now names) (now arities) (now listings) (now table) (now state) (now value)) (now out) ⌝ }
+    requires { ⌜ first .lines + length (now text) ≤ mostLines ⌝ }
+    requires { ⌜ workWords ≤ length (now work) ⌝ }
+    requires { ⌜ StandIn ⌝ }
+    ensures { λ r. ⌜ Fills (fillFrom (length (now (out .entry))) (progressOf first (memoryOf (now (names .entry)) (now (arities .entry)) (now (listings .entry)) (now (table .entry)) (now (state .entry)) (now (value .entry))) (now (out .entry))) (linesOf (now (text .entry)))) (now (out .entry)) r (now (out .exit)) ⌝ }
+{
+    let mut p = first;
+    let mut at = 0;
+    while at < text.len() {
+        let end = line_end(text, at);
+        if text.len() <= end {
+            return close_rest(p, out);
+        }
+        let Next::To(q) = next_line(
+            &text[at..end],
+            p,
+            names,
+            arities,
+            listings,
+            table,
+            state,
+            value,
+            work,
+            out,
+        )
+        else {
+            return Ran::Full(p.end, p.lines);
+        };
+        p = q;
+        at = end + 1;
+    }
+    close(p, out)
+}
+
+// Before the first line.
+pub fn begin(arities: &mut [u64], state: &mut [u64]) -> Position
+    requires { ⌜ length (now arities) ≡ predicateCount ⌝ }
+    requires { ⌜ stateWords ≤ length (now state) ⌝ }
+    requires { ⌜ StandIn ⌝ }
+    ensures { λ r. ⌜ Starts (now (arities .entry)) (now (state .entry)) r (now (arities .exit)) (now (state .exit)) ⌝ }
+{
+    let numbers = lines::open(arities, state);
+    Position {
+        numbers: numbers,
+        lines: 0,
+        end: 0,
+    }
+}
+
+// Answers a whole text by a session in lent words.
+fn run_in(
+    text: &[u8],
+    names: &mut [u64],
+    arities: &mut [u64],
+    listings: &mut [u64],
+    table: &mut [u64],
+    state: &mut [u64],
+    value: &mut [u64],
+    work: &mut [u64],
+    out: &mut [u8],
+) -> Ran
+    requires { ⌜ Rooms (memoryOf (now names) (now arities) (now listings) (now table) (now state) (now value)) ⌝ }
+    requires { ⌜ workWords ≤ length (now work) ⌝ }
+    requires { ⌜ StandIn ⌝ }
+    ensures { λ r. ⌜ Fills (filled (length (now (out .entry))) (now (text .entry))) (now (out .entry)) r (now (out .exit)) ⌝ }
+{
+    let first = begin(arities, state);
+    answer_lines(
+        text,
+        first,
+        names,
+        arities,
+        listings,
+        table,
+        state,
+        value,
+        work,
+        out,
+    )
+}
+
+// Answers a whole text: all answers behind one another, or those before the first that has no room.
+pub fn run(text: &[u8], out: &mut [u8]) -> Ran
+    requires { ⌜ StandIn ⌝ }
+    ensures { λ r. ⌜ Fills (filled (length (now (out .entry))) (now (text .entry))) (now (out .entry)) r (now (out .exit)) ⌝ }
+{
+    let mut names = [0u64; names::WORDS];
+    let mut arities = [0u64; Label::PREDICATES];
+    let mut listings = [0u64; model::LISTING_WORDS];
+    let mut table = [0u64; model::TABLE_WORDS];
+    let mut state = [0u64; facts::WORDS];
+    let mut value = [0u64; diagram::RESULT_WORDS];
+    let mut work = [0u64; WORK_WORDS];
+    run_in(
+        text,
+        &mut names,
+        &mut arities,
+        &mut listings,
+        &mut table,
+        &mut state,
+        &mut value,
+        &mut work,
+        out,
+    )
 }
