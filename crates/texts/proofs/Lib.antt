@@ -1,3 +1,4 @@
 pub mod SendLaws
 pub mod MoveLaws
 pub mod RunLaws
+pub mod KeepLaws

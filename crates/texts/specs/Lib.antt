@@ -2,7 +2,9 @@
 pub mod Ends
 pub mod Running
 pub mod Sending
+pub mod Streaming
 -- laws
 pub mod LineLaws
 pub mod RunningLaws
 pub mod ShowLaws
+pub mod StreamLaws

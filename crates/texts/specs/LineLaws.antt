@@ -4,11 +4,11 @@ use mathlib.Core.Bool.{Bool, true, false, cond, not}
 use mathlib.Core.List.{List, [], _∷_, _++_}
 use Prim.Native.Nat.{ℕ, zero, suc, _+_, _-_, _≤_, _<_}
 use native.Mathlib.Omega.{arith}
-use borrow.Author.Tests.{eq-eqb, ne-eqb}
+use borrow.Author.Tests.{eq-eqb, ne-eqb, eqb-true}
 use lib.ListN.{length, getD, take, drop}
 use lib.Dec.{eqb}
 use Rattle.words.specs.Bytes.{run}
-use Rattle.words.specs.ByteLaws.{run-le, run-more, run-stop, run-end}
+use Rattle.words.specs.ByteLaws.{run-le, run-more, run-stop, run-end, run-take}
 use Rattle.session.specs.Texts.{lineFeed, Lines, behindByte, pickLines, linesOf}
 use Rattle.texts.specs.Ends.{inLine, lineLength}
 
@@ -58,3 +58,18 @@ lines-none (b ∷ s) h = go (eqb b lineFeed) (lines-none s) h
         → pickLines t (behindLine [] (linesOf s)) (behindByte b (linesOf s .whole) (linesOf s .rest)) ≡ record { whole = []; rest = b ∷ s }
     go true ih h = absurd (omega arith)
     go false ih h = ap (λ (x : Lines). behindByte b (x .whole) (x .rest)) (ih (omega arith))
+
+-- the bytes before the first line feed have none, and one ends them
+pub line-whole : (s : List ℕ) → lineLength (take (lineLength s) s) ≡ length (take (lineLength s) s)
+unfolding lineLength
+line-whole s = run-take inLine s
+
+pub line-ends : (s : List ℕ) → lineLength s < length s → getD s (lineLength s) 0 ≡ lineFeed
+unfolding lineLength run
+line-ends [] h = absurd (omega arith)
+line-ends (b ∷ s) h = go (eqb b lineFeed) refl (line-ends s) h
+  where
+    go : (t : Bool) → eqb b lineFeed ≡ t → (lineLength s < length s → getD s (lineLength s) 0 ≡ lineFeed) → cond (not t) (suc (lineLength s)) 0 < suc (length s)
+        → getD (b ∷ s) (cond (not t) (suc (lineLength s)) 0) 0 ≡ lineFeed
+    go true e ih h = eqb-true b lineFeed e
+    go false e ih h = ih (omega arith)

@@ -6,7 +6,7 @@ use memory::Numbers;
 use refusal::Refusal;
 use session::Part;
 ghost use mathlib.Core.Path.{_≡_};
-ghost use mathlib.Core.List.{List, _∷_};
+ghost use mathlib.Core.List.{List, [], _∷_};
 ghost use Prim.Native.Nat.{ℕ, _+_, _<_, _≤_};
 ghost use lib.ListN.{length, drop};
 ghost use Rattle.answers.specs.declared.Answer.the-variants.{Refused};
@@ -19,10 +19,14 @@ ghost use Rattle.facts.specs.Words.{stateWords};
 ghost use Rattle.lines.specs.Lines.{StandIn};
 ghost use Rattle.texts.specs.Ends.{lineLength};
 ghost use Rattle.texts.specs.Running.{fillClosing, fillRest, fillFrom, filled, Fills};
+ghost use Rattle.texts.specs.Streaming.{lineRoom, Keeps, Takes};
 ghost use Rattle.texts.specs.Sending.{Sends, mostLines, progressOf, Going, Goes, Starts};
 
 // Words of working space for a session.
 pub const WORK_WORDS: usize = 8190;
+
+// The bytes of a line that are kept: one more than a line may have.
+pub const LINE_ROOM: usize = 4096;
 
 // What a text is answered in a buffer: the bytes of all answers; or the bytes written and the lines answered before the line whose answer has no room.
 pub enum Ran {
@@ -47,6 +51,12 @@ pub struct Position {
 pub enum Next {
     To(Position),
     Full,
+}
+
+// What taking in a block answers: a line is whole, the next begins at a place; or the block has ended. With them the bytes that are kept of the line.
+pub enum Taken {
+    Line(usize, usize),
+    More(usize),
 }
 
 // The place of the first line feed from a place on, or behind the last byte.
@@ -313,4 +323,48 @@ pub fn run(text: &[u8], out: &mut [u8]) -> Ran
         &mut work,
         out,
     )
+}
+
+// Keeps a byte of a line behind n others, if there is room.
+fn keep_byte(partial: &mut [u8], n: usize, b: u8) -> usize
+    requires { ⌜ lineRoom ≤ length (now partial) ⌝ }
+    requires { ⌜ n ≤ lineRoom ⌝ }
+    ensures { λ r. ⌜ Keeps (now (partial .entry)) n (b ∷ []) r (now (partial .exit)) ⌝ }
+{
+    if LINE_ROOM <= n {
+        return n;
+    }
+    partial[n] = b;
+    n + 1
+}
+
+// Keeps the bytes of a line behind those that came before, as far as there is room.
+fn keep(partial: &mut [u8], count: usize, bytes: &[u8]) -> usize
+    requires { ⌜ lineRoom ≤ length (now partial) ⌝ }
+    requires { ⌜ count ≤ lineRoom ⌝ }
+    ensures { λ r. ⌜ Keeps (now (partial .entry)) count (now (bytes .entry)) r (now (partial .exit)) ⌝ }
+{
+    let mut n = count;
+    let mut i = 0;
+    while i < bytes.len() {
+        n = keep_byte(partial, n, bytes[i]);
+        i += 1;
+    }
+    n
+}
+
+// Takes in a block from a place on, to the end of the line or of the block.
+pub fn take_in(block: &[u8], at: usize, partial: &mut [u8], count: usize) -> Taken
+    requires { ⌜ at ≤ length (now block) ⌝ }
+    requires { ⌜ lineRoom ≤ length (now partial) ⌝ }
+    requires { ⌜ count ≤ lineRoom ⌝ }
+    ensures { λ r. ⌜ Takes (now (block .entry)) at (now (partial .entry)) count r (now (partial .exit)) ⌝ }
+{
+    let end = line_end(block, at);
+    let kept = keep(partial, count, &block[at..end]);
+    if end < block.len() {
+        let next = end + 1;
+        return Taken::Line(next, kept);
+    }
+    Taken::More(kept)
 }
