@@ -84,11 +84,14 @@ takes-more {block} {place} {partial} {n} {kept} {partial′} t = record {
   more = λ kept′ e. let b : kept ≡ kept′ = cc in subst (λ (k : ℕ). MoreTaken block place partial n k partial′) b t;
 }
 
-module _ {block : List ℕ} {place : ℕ} {partial : List ℕ} {n e kept : ℕ} {partial′ : List ℕ} (inside : place ≤ length block) (room : lineRoom ≤ length partial)
-    (few : n ≤ lineRoom) (q : e ≡ place + lineLength (drop place block)) (x : Keeps partial n (take (e - place) (drop place block)) kept partial′) where
-  begun-few : length (take n partial) ≤ lineRoom
-  begun-few = omega (arith, length-take-le n partial (omega arith))
+pub end-inside : (block : List ℕ) (place : ℕ) {e : ℕ} → place ≤ length block → e ≡ place + lineLength (drop place block) → e ≤ length block
+end-inside block place h q = omega (arith, line-within (drop place block), length-drop place block)
 
+begun-few : (partial : List ℕ) (n : ℕ) → lineRoom ≤ length partial → n ≤ lineRoom → length (take n partial) ≤ lineRoom
+begun-few partial n room few = omega (arith, length-take-le n partial (omega arith))
+
+module _ (block : List ℕ) (place : ℕ) {partial : List ℕ} {n e kept : ℕ} {partial′ : List ℕ} (inside : place ≤ length block) (room : lineRoom ≤ length partial)
+    (few : n ≤ lineRoom) (q : e ≡ place + lineLength (drop place block)) (x : Keeps partial n (take (e - place) (drop place block)) kept partial′) where
   pub taken-line : e < length block → Takes block place partial n (Line (e + 1) kept) partial′
   taken-line l =
       let s : List ℕ = drop place block in
@@ -104,7 +107,7 @@ module _ {block : List ℕ} {place : ℕ} {partial : List ℕ} {n e kept : ℕ} 
         within = y .within;
         is = λ p.
             ap (onBytes (keeping p partial n)) t ∙ bytes-append (keeping p partial n) (take (lineLength s) s) (lineFeed ∷ [])
-            ∙ ap (λ (u : Stream). onBytes u (lineFeed ∷ [])) (on-line p (take n partial) (take (lineLength s) s) begun-few (line-whole s))
+            ∙ ap (λ (u : Stream). onBytes u (lineFeed ∷ [])) (on-line p (take n partial) (take (lineLength s) s) (begun-few partial n room few) (line-whole s))
             ∙ feed-ends p (take lineRoom (take n partial ++ take (lineLength s) s))
             ∙ ap (λ (u : List ℕ). record { progress = afterLine p u; partial = [] }) (sym (y .is));
       })
@@ -117,5 +120,5 @@ module _ {block : List ℕ} {place : ℕ} {partial : List ℕ} {n e kept : ℕ} 
       subst (λ (u : List ℕ). Keeps partial n u kept partial′) (take-all (e - place) s (omega (arith, length-drop place block))) x in
       takes-more (record {
         within = y .within;
-        is = λ p. on-line p (take n partial) s begun-few k ∙ ap (λ (u : List ℕ). record { progress = p; partial = u }) (sym (y .is));
+        is = λ p. on-line p (take n partial) s (begun-few partial n room few) k ∙ ap (λ (u : List ℕ). record { progress = p; partial = u }) (sym (y .is));
       })

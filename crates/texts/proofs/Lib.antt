@@ -2,3 +2,4 @@ pub mod SendLaws
 pub mod MoveLaws
 pub mod RunLaws
 pub mod KeepLaws
+pub mod FeedLaws

@@ -25,7 +25,7 @@ use Rattle.texts.specs.declared.Sent.{Sent}
 use Rattle.texts.specs.declared.Position.{Position}
 use Rattle.texts.specs.declared.Next.the-variants as N
 use Rattle.texts.specs.Running.{Filled, fits, stopped, allBytes, fillClosing, fillRest, inFront, Fills}
-use Rattle.texts.specs.RunningLaws.{closing-grows}
+use Rattle.texts.specs.RunningLaws.{rest-none, closing-grows}
 use Rattle.texts.specs.Sending.{Sends, progressOf, Going, Moved, NoRoom, Goes}
 
 -- ===== An answer that has room, or none =====
@@ -199,3 +199,17 @@ module _ (p : Position) (out : List ℕ) (h : p .end ≤ length out) (w : Memory
         let l = rest-long in
         rw (lt-leb (length (afterRest (progressOf p w out) (b ∷ s) .bytes)) (length out) (omega (arith, a .0)), a .1)
         (stays (progressOf p w out) h refl)
+
+-- ===== The end of a text that came in blocks =====
+
+module _ (p : Position) (out : List ℕ) {r : Ran} {out′ : List ℕ} where
+  pub end-closed : {n : ℕ} → p .end ≤ length out → n ≡ 0 → ((w : Memory) → Fills (fillClosing (length out) (progressOf p w out)) out r out′)
+      → (w : Memory) (s : List ℕ) → length s ≡ n → Fills (fillRest (length out) (progressOf p w out) s) out r out′
+  unfolding progressOf
+  end-closed h e f w [] l = rw (rest-none (length out) (progressOf p w out) (omega (arith, length-take-le (p .end) out h))) (f w)
+  end-closed h e f w (b ∷ s) l = absurd (omega arith)
+
+  pub end-rest : {n : ℕ} → (n ≡ 0 → ⊥) → ((w : Memory) (b : ℕ) (s : List ℕ) → Fills (fillRest (length out) (progressOf p w out) (b ∷ s)) out r out′)
+      → (w : Memory) (s : List ℕ) → length s ≡ n → Fills (fillRest (length out) (progressOf p w out) s) out r out′
+  end-rest e f w [] l = absurd (e (sym l))
+  end-rest e f w (b ∷ s) l = f w b s

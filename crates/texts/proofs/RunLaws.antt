@@ -22,7 +22,7 @@ use Rattle.texts.specs.declared.Position.{Position}
 use Rattle.texts.specs.Ends.{lineLength}
 use Rattle.texts.specs.LineLaws.{behindLine, line-within, lines-first, lines-none}
 use Rattle.texts.specs.Running.{Filled, stopped, fillClosing, fillRest, fillLines, fillFrom, filled, Fills}
-use Rattle.texts.specs.RunningLaws.{closing-grows, rest-grows, line-begins, begins-short}
+use Rattle.texts.specs.RunningLaws.{rest-none, closing-grows, rest-grows, line-begins, begins-short}
 use Rattle.texts.specs.Sending.{mostLines, progressOf, Going, Moved, NoRoom, Started, Starts}
 use Rattle.texts.proofs.MoveLaws.{fills-over, stays}
 
@@ -88,13 +88,12 @@ module _ {text : List ℕ} {f : Filled} {out₀ : List ℕ} {p : Position} {plac
   -- all lines are answered
   pub reading-ends : {r : Ran} {out′ : List ℕ} → length text ≤ place → ((v : Memory) → Fills (fillClosing (length out) (progressOf p v out)) out r out′)
       → Fills f out₀ r out′
-  unfolding linesOf fillLines fillRest afterRest
+  unfolding linesOf fillLines
   reading-ends {r} {out′} h c =
       let q : Progress = progressOf p w out in
       let e : f ≡ fillRest (length out₀) q [] =
       x .rest ∙ ap (λ (s : List ℕ). fillFrom (length out₀) q (linesOf s)) (drop-of-length-le text {i = place} h) in
-      let d : fillRest (length out₀) q [] ≡ fillClosing (length out₀) q =
-      rw (le-leb (length (q .bytes)) (length out₀) (omega (arith, bytes-long, x .going .within, x .long))) in
+      let d = rest-none (length out₀) q (omega (arith, bytes-long, x .going .within, x .long)) in
       let k : Fills (fillClosing (length out₀) q) out r out′ = subst (λ (n : ℕ). Fills (fillClosing n q) out r out′) (x .long) (c w) in
       rw (e ∙ d) (fills-over (p .end) (x .behind) (omega (arith, bytes-long, closing-grows (length out₀) q)) k)
 

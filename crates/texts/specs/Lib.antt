@@ -3,6 +3,7 @@ pub mod Ends
 pub mod Running
 pub mod Sending
 pub mod Streaming
+pub mod Feeding
 -- laws
 pub mod LineLaws
 pub mod RunningLaws

@@ -124,6 +124,11 @@ fill-some room p (l ∷ ls) s b h = go (decLt room (length (afterLine p l .bytes
           within = t .within;
         }
 
+-- no byte behind the last line feed
+pub rest-none : (room : ℕ) (p : Progress) → length (p .bytes) ≤ room → fillRest room p [] ≡ fillClosing room p
+unfolding fillRest afterRest
+rest-none room p h = rw (le-leb (length (p .bytes)) room h)
+
 -- what was written stays
 pub closing-grows : (room : ℕ) (p : Progress) → length (p .bytes) ≤ length (fillClosing room p .bytes)
 unfolding fillClosing

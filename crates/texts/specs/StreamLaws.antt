@@ -2,7 +2,7 @@
 use mathlib.Core.Path.{_≡_, refl, sym, ap, subst, _∙_}
 use mathlib.Core.Bool.{Bool, true, false, cond, not}
 use mathlib.Core.List.{List, [], _∷_, _++_, append-nil, append-assoc}
-use Prim.Native.Nat.{ℕ, suc, _≤_, _<_}
+use Prim.Native.Nat.{ℕ, suc, _+_, _≤_, _<_}
 use native.Mathlib.Omega.{arith}
 use native.Mathlib.Decide.{decLt}
 use borrow.Author.Tests.{le-leb, lt-leb}
@@ -98,6 +98,19 @@ on-line q x (b ∷ s) h e = go (eqb b lineFeed) (λ (k : lineLength s ≡ length
         ∙ ap (λ (z : List ℕ). record { progress = q; partial = z }) (take-again lineRoom (x ++ (b ∷ [])) s ∙ ap (take lineRoom) (append-assoc x (b ∷ []) s))
 
 -- ===== The whole text =====
+
+-- a byte ends one line at most
+pub lines-few : (t : Stream) (s : List ℕ) → onBytes t s .progress .lines ≤ t .progress .lines + length s
+unfolding onBytes onByte afterLine
+lines-few t [] = omega arith
+lines-few t (b ∷ s) = go (eqb b lineFeed) (λ (u : Stream). lines-few u s)
+  where
+    go : (k : Bool) → ((u : Stream) → onBytes u s .progress .lines ≤ u .progress .lines + length s)
+        → onBytes (pickStream k (record { progress = afterLine (t .progress) (t .partial); partial = [] })
+        (record { progress = t .progress; partial = take lineRoom (t .partial ++ (b ∷ [])) })) s .progress .lines
+        ≤ t .progress .lines + suc (length s)
+    go true ih = omega (arith, ih (record { progress = afterLine (t .progress) (t .partial); partial = [] }))
+    go false ih = omega (arith, ih (record { progress = t .progress; partial = take lineRoom (t .partial ++ (b ∷ [])) }))
 
 pub bytes-append : (t : Stream) (x y : List ℕ) → onBytes t (x ++ y) ≡ onBytes (onBytes t x) y
 unfolding onBytes

@@ -20,6 +20,7 @@ ghost use Rattle.lines.specs.Lines.{StandIn};
 ghost use Rattle.texts.specs.Ends.{lineLength};
 ghost use Rattle.texts.specs.Running.{fillClosing, fillRest, fillFrom, filled, Fills};
 ghost use Rattle.texts.specs.Streaming.{lineRoom, Keeps, Takes};
+ghost use Rattle.texts.specs.Feeding.{streamOf, Feeding, Feeds};
 ghost use Rattle.texts.specs.Sending.{Sends, mostLines, progressOf, Going, Goes, Starts};
 
 // Words of working space for a session.
@@ -57,6 +58,13 @@ pub enum Next {
 pub enum Taken {
     Line(usize, usize),
     More(usize),
+}
+
+// Where feeding a block leads: a line was answered, the next begins at a place; the block has ended, so many bytes of a line are kept; or an answer has no room.
+pub enum Fed {
+    Line(usize, Position),
+    More(usize),
+    Full,
 }
 
 // The place of the first line feed from a place on, or behind the last byte.
@@ -367,4 +375,60 @@ pub fn take_in(block: &[u8], at: usize, partial: &mut [u8], count: usize) -> Tak
         return Taken::Line(next, kept);
     }
     Taken::More(kept)
+}
+
+// Takes in a block from a place on, to the end of the line or of the block, and answers the line if it is whole.
+pub fn feed(
+    block: &[u8],
+    at: usize,
+    partial: &mut [u8],
+    count: usize,
+    p: Position,
+    names: &mut [u64],
+    arities: &mut [u64],
+    listings: &mut [u64],
+    table: &mut [u64],
+    state: &mut [u64],
+    value: &mut [u64],
+    work: &mut [u64],
+    out: &mut [u8],
+) -> Fed
+    requires { ⌜ Feeding (now block) at (now partial) count p (memoryOf (now names) (now arities) (now listings) (now table) (now state) (now value)) (now work) (now out) ⌝ }
+    requires { ⌜ StandIn ⌝ }
+    ensures { λ r. ⌜ Feeds (now (block .entry)) at (streamOf p (memoryOf (now (names .entry)) (now (arities .entry)) (now (listings .entry)) (now (table .entry)) (now (state .entry)) (now (value .entry))) (now (out .entry)) (now (partial .entry)) count) p (memoryOf (now (names .entry)) (now (arities .entry)) (now (listings .entry)) (now (table .entry)) (now (state .entry)) (now (value .entry))) (now (out .entry)) r (now (partial .exit)) (memoryOf (now (names .exit)) (now (arities .exit)) (now (listings .exit)) (now (table .exit)) (now (state .exit)) (now (value .exit))) (now (out .exit)) ⌝ }
+{
+    let taken = take_in(block, at, partial, count);
+    match taken {
+        Taken::Line(next, kept) => {
+            let Next::To(q) = next_line(
+                &partial[..kept],
+                p,
+                names,
+                arities,
+                listings,
+                table,
+                state,
+                value,
+                work,
+                out,
+            )
+            else {
+                return Fed::Full;
+            };
+            Fed::Line(next, q)
+        }
+        Taken::More(kept) => Fed::More(kept),
+    }
+}
+
+// The end of a text that came in blocks, of whose last line so many bytes are kept.
+pub fn end(count: usize, p: Position, out: &mut [u8]) -> Ran
+    requires { ⌜ p .end ≤ length (now out) ⌝ }
+    requires { ⌜ p .lines < mostLines ⌝ }
+    ensures { λ r. ⌜ ((w : Memory) (s : List ℕ) → length s ≡ count → Fills (fillRest (length (now (out .entry))) (progressOf p w (now (out .entry))) s) (now (out .entry)) r (now (out .exit))) ⌝ }
+{
+    if count == 0 {
+        return close(p, out);
+    }
+    close_rest(p, out)
 }
