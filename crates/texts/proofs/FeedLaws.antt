@@ -78,11 +78,15 @@ pub kept-inside : {block : List ℕ} {place : ℕ} {partial : List ℕ} {n : ℕ
     → (next kept : ℕ) → r ≡ T.Line next kept → lineRoom ≤ length partial → length partial′ ≡ length partial → kept ≤ length partial′
 kept-inside x next kept e h l = omega (arith, x .line next kept e .within)
 
--- a line fed counts one line more at most for each byte
-pub fed-lines : {block : List ℕ} {place : ℕ} {p : Position} {w : Memory} {out : List ℕ} {partial : List ℕ} {n : ℕ} {out₁ : List ℕ} {next : ℕ} {q : Position} {w′ : Memory}
-    {out′ : List ℕ} → LineFed block place (streamOf p w out partial n) out₁ next q w′ out′ → q .lines ≤ p .lines + (next - place)
+-- a line more for each byte that was fed, at most
+pub fed-lines : {block : List ℕ} {place : ℕ} {t : Stream} {out : List ℕ} {next : ℕ} {q : Position} {w′ : Memory} {out′ : List ℕ}
+    → LineFed block place t out next q w′ out′ → q .lines ≤ t .progress .lines + (next - place)
 unfolding progressOf
-fed-lines {block} {place} {p} {w} {out} {partial} {n} {out₁} {next} {q} {w′} {out′} x =
+fed-lines {block} {place} {t} {out} {next} {q} {w′} {out′} x =
     let s : List ℕ = take (next - place) (drop place block) in
-    let e = ap (λ (t : Stream). t .progress .lines) (x .is) in
-    omega (arith, lines-few (streamOf p w out partial n) s, length-take-le (next - place) (drop place block) (omega (arith, length-drop place block, x .later, x .inside)))
+    let e = ap (λ (u : Stream). u .progress .lines) (x .is) in
+    omega (arith, lines-few t s, length-take-le (next - place) (drop place block) (omega (arith, length-drop place block, x .later, x .inside)))
+
+pub progress-lines : (p : Position) (w : Memory) (out : List ℕ) → progressOf p w out .lines ≡ p .lines
+unfolding progressOf
+progress-lines p w out = refl
