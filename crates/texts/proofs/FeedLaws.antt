@@ -74,9 +74,13 @@ module _ {block : List ℕ} {place : ℕ} {partial : List ℕ} {n : ℕ} {r : Ta
         feeds-full (record { next = next; inside = l .inside; room = omega (arith, m .room, k) })
 
 -- the kept bytes are within their buffer
-pub kept-inside : {block : List ℕ} {place : ℕ} {partial : List ℕ} {n : ℕ} {r : Taken} {partial′ : List ℕ} → Takes block place partial n r partial′
-    → (next kept : ℕ) → r ≡ T.Line next kept → lineRoom ≤ length partial → length partial′ ≡ length partial → kept ≤ length partial′
-kept-inside x next kept e h l = omega (arith, x .line next kept e .within)
+module _ {block : List ℕ} {place : ℕ} {partial : List ℕ} {n : ℕ} {r : Taken} {partial′ : List ℕ} (x : Takes block place partial n r partial′) (next kept : ℕ)
+    (e : r ≡ T.Line next kept) (h : lineRoom ≤ length partial) (l : length partial′ ≡ length partial) where
+  pub kept-inside : kept ≤ length partial′
+  kept-inside = omega (arith, x .line next kept e .within)
+
+  pub kept-taken : length (take kept partial′) ≡ kept
+  kept-taken = length-take-le kept partial′ kept-inside
 
 -- a line more for each byte that was fed, at most
 pub fed-lines : {block : List ℕ} {place : ℕ} {t : Stream} {out : List ℕ} {next : ℕ} {q : Position} {w′ : Memory} {out′ : List ℕ}

@@ -16,7 +16,6 @@ ghost use Rattle.session.specs.Texts.{linesOf, afterLine};
 ghost use Rattle.memory.specs.Memory.{Memory, memoryOf, Kept, Rooms, workWords};
 ghost use Rattle.label.specs.Limits.{predicateCount};
 ghost use Rattle.facts.specs.Words.{stateWords};
-ghost use Rattle.lines.specs.Lines.{StandIn};
 ghost use Rattle.texts.specs.Ends.{lineLength};
 ghost use Rattle.texts.specs.Running.{fillClosing, fillRest, fillFrom, filled, Fills};
 ghost use Rattle.texts.specs.Streaming.{lineRoom, Keeps, Takes};
@@ -98,7 +97,6 @@ fn reply_line(
 ) -> Sent
     requires { ⌜ Kept n (memoryOf (now names) (now arities) (now listings) (now table) (now state) (now value)) ⌝ }
     requires { ⌜ workWords ≤ length (now work) ⌝ }
-    requires { ⌜ StandIn ⌝ }
     ensures { λ r. ⌜ Sends (now (line .entry)) number n (memoryOf (now (names .entry)) (now (arities .entry)) (now (listings .entry)) (now (table .entry)) (now (state .entry)) (now (value .entry))) (now (out .entry)) at r (memoryOf (now (names .exit)) (now (arities .exit)) (now (listings .exit)) (now (table .exit)) (now (state .exit)) (now (value .exit))) (now (out .exit)) ⌝ }
 {
     let said = lines::answer(
@@ -138,7 +136,6 @@ fn next_line(
     requires { ⌜ Going p (memoryOf (now names) (now arities) (now listings) (now table) (now state) (now value)) (now out) ⌝ }
     requires { ⌜ p .lines < mostLines ⌝ }
     requires { ⌜ workWords ≤ length (now work) ⌝ }
-    requires { ⌜ StandIn ⌝ }
     ensures { λ r. ⌜ Goes (afterLine (progressOf p (memoryOf (now (names .entry)) (now (arities .entry)) (now (listings .entry)) (now (table .entry)) (now (state .entry)) (now (value .entry))) (now (out .entry))) (now (line .entry))) (now (out .entry)) r (memoryOf (now (names .exit)) (now (arities .exit)) (now (listings .exit)) (now (table .exit)) (now (state .exit)) (now (value .exit))) (now (out .exit)) ⌝ }
 {
     let number = p.lines + 1;
@@ -230,7 +227,6 @@ fn answer_lines(
     requires { ⌜ Going first (memoryOf (now names) (now arities) (now listings) (now table) (now state) (now value)) (now out) ⌝ }
     requires { ⌜ first .lines + length (now text) ≤ mostLines ⌝ }
     requires { ⌜ workWords ≤ length (now work) ⌝ }
-    requires { ⌜ StandIn ⌝ }
     ensures { λ r. ⌜ Fills (fillFrom (length (now (out .entry))) (progressOf first (memoryOf (now (names .entry)) (now (arities .entry)) (now (listings .entry)) (now (table .entry)) (now (state .entry)) (now (value .entry))) (now (out .entry))) (linesOf (now (text .entry)))) (now (out .entry)) r (now (out .exit)) ⌝ }
 {
     let mut p = first;
@@ -265,7 +261,6 @@ fn answer_lines(
 pub fn begin(arities: &mut [u64], state: &mut [u64]) -> Position
     requires { ⌜ length (now arities) ≡ predicateCount ⌝ }
     requires { ⌜ stateWords ≤ length (now state) ⌝ }
-    requires { ⌜ StandIn ⌝ }
     ensures { λ r. ⌜ Starts (now (arities .entry)) (now (state .entry)) r (now (arities .exit)) (now (state .exit)) ⌝ }
 {
     let numbers = lines::open(arities, state);
@@ -290,7 +285,6 @@ fn run_in(
 ) -> Ran
     requires { ⌜ Rooms (memoryOf (now names) (now arities) (now listings) (now table) (now state) (now value)) ⌝ }
     requires { ⌜ workWords ≤ length (now work) ⌝ }
-    requires { ⌜ StandIn ⌝ }
     ensures { λ r. ⌜ Fills (filled (length (now (out .entry))) (now (text .entry))) (now (out .entry)) r (now (out .exit)) ⌝ }
 {
     let first = begin(arities, state);
@@ -310,7 +304,6 @@ fn run_in(
 
 // Answers a whole text: all answers behind one another, or those before the first that has no room.
 pub fn run(text: &[u8], out: &mut [u8]) -> Ran
-    requires { ⌜ StandIn ⌝ }
     ensures { λ r. ⌜ Fills (filled (length (now (out .entry))) (now (text .entry))) (now (out .entry)) r (now (out .exit)) ⌝ }
 {
     let mut names = [0u64; names::WORDS];
@@ -394,7 +387,6 @@ pub fn feed(
     out: &mut [u8],
 ) -> Fed
     requires { ⌜ Feeding (now block) at (now partial) count p (memoryOf (now names) (now arities) (now listings) (now table) (now state) (now value)) (now work) (now out) ⌝ }
-    requires { ⌜ StandIn ⌝ }
     ensures { λ r. ⌜ Feeds (now (block .entry)) at (streamOf p (memoryOf (now (names .entry)) (now (arities .entry)) (now (listings .entry)) (now (table .entry)) (now (state .entry)) (now (value .entry))) (now (out .entry)) (now (partial .entry)) count) p (memoryOf (now (names .entry)) (now (arities .entry)) (now (listings .entry)) (now (table .entry)) (now (state .entry)) (now (value .entry))) (now (out .entry)) r (now (partial .exit)) (memoryOf (now (names .exit)) (now (arities .exit)) (now (listings .exit)) (now (table .exit)) (now (state .exit)) (now (value .exit))) (now (out .exit)) ⌝ }
 {
     let taken = take_in(block, at, partial, count);

@@ -10,7 +10,6 @@ ghost use mathlib.Core.Path.{_≡_};
 ghost use Prim.Native.Nat.{_+_, _<_, _≤_};
 ghost use lib.ListN.{length};
 ghost use Rattle.memory.specs.Memory.{memoryOf, Rooms, workWords};
-ghost use Rattle.lines.specs.Lines.{StandIn};
 ghost use Rattle.texts.specs.Sending.{mostLines};
 ghost use Rattle.texts.specs.Streaming.{lineRoom};
 ghost use Rattle.texts.specs.Feeding.{Feeding};
@@ -43,7 +42,6 @@ fn answer_some(
 ) -> Went
     requires { ⌜ Feeding (now block) at (now partial) count p (memoryOf (now names) (now arities) (now listings) (now table) (now state) (now value)) (now work) (now out) ⌝ }
     requires { ⌜ at < length (now block) ⌝ }
-    requires { ⌜ StandIn ⌝ }
     ensures { λ r. ⌜ WentOn (length (now (block .entry))) at p r (memoryOf (now (names .exit)) (now (arities .exit)) (now (listings .exit)) (now (table .exit)) (now (state .exit)) (now (value .exit))) (now (out .exit)) ⌝ }
 {
     let fed = texts::feed(
@@ -101,7 +99,6 @@ fn answer_block(
 ) -> Went
     requires { ⌜ Feeding (now block) 0 (now partial) count first (memoryOf (now names) (now arities) (now listings) (now table) (now state) (now value)) (now work) (now out) ⌝ }
     requires { ⌜ first .lines + length (now block) ≤ mostLines ⌝ }
-    requires { ⌜ StandIn ⌝ }
     ensures { λ r. ⌜ Answered (first .lines + length (now (block .entry))) r (memoryOf (now (names .exit)) (now (arities .exit)) (now (listings .exit)) (now (table .exit)) (now (state .exit)) (now (value .exit))) (now (out .exit)) ⌝ }
 {
     let mut at = 0;
@@ -160,7 +157,6 @@ fn answer_input(
     requires { ⌜ Rooms (memoryOf (now names) (now arities) (now listings) (now table) (now state) (now value)) ⌝ }
     requires { ⌜ workWords ≤ length (now work) ⌝ }
     requires { ⌜ lineRoom ≤ length (now partial) ⌝ }
-    requires { ⌜ StandIn ⌝ }
 {
     let mut p = texts::begin(arities, state);
     let mut count = 0;
@@ -198,9 +194,7 @@ fn answer_input(
     }
 }
 
-fn whole()
-    requires { ⌜ StandIn ⌝ }
-{
+fn main() {
     let mut names = [0u64; names::WORDS];
     let mut arities = [0u64; Label::PREDICATES];
     let mut listings = [0u64; model::LISTING_WORDS];
@@ -223,7 +217,4 @@ fn whole()
         &mut block,
         &mut out,
     );
-}
-
-fn main() {
 }

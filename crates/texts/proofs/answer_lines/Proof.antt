@@ -40,7 +40,7 @@ next-line-requires : tie.Need-next-line-requires Inv-loop μ-loop
 next-line-requires c κs =
     let i = c .before .before .before .before .before .before .before .before .before .before .before .before .loop .inv in
     let s = c .before .before .before .before .before .before .before .before .before .before .before .before .before .before .before .before .before .before .before .before .before .before .pre .1 .1 in
-    (i .0 .going, (omega (arith, i .0 .few, c .before .before .before .before .before .before .before .before .before .before .before .loop-test .taken), (omega (arith, s .0, i .1 .work-room), s .1)))
+    (i .0 .going, (omega (arith, i .0 .few, c .before .before .before .before .before .before .before .before .before .before .before .loop-test .taken), omega (arith, s, i .1 .work-room)))
 
 returns-2 : tie.Need-returns-2 Inv-loop μ-loop
 returns-2 c =

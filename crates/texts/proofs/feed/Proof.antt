@@ -1,14 +1,24 @@
 use native.Mathlib.Omega.{arith}
 use borrow.Author.Needs.{needs}
 use Rattle.memory.specs.Memory.{memoryOf}
-use Rattle.texts.proofs.FeedLaws.{feed-line, feed-full, feed-more}
+use Rattle.texts.proofs.FeedLaws.{kept-inside, kept-taken, feed-line, feed-full, feed-more}
 use Rattle.texts.proofs.feed.Statement.{statement}
 use Rattle.texts.proofs.feed.Tie as tie
+
+slice-reshare-prefix-next-line : tie.Need-slice-reshare-prefix-next-line
+slice-reshare-prefix-next-line c =
+    let t = c .before .before .before .before .before .take-in in
+    omega (arith, kept-inside (t .ensures) _ _ (c .before .taken .given .1) (c .before .before .before .before .before .before .before .before .before .before .before .before .before .before .before .before .before .pre .room) (omega (arith, t .kept)))
+
+slice-aggregate-next-line : tie.Need-slice-aggregate-next-line
+slice-aggregate-next-line c =
+    let t = c .before .before .before .before .before .before .take-in in
+    omega (arith, kept-taken (t .ensures) _ _ (c .before .before .taken .given .1) (c .before .before .before .before .before .before .before .before .before .before .before .before .before .before .before .before .before .before .pre .room) (omega (arith, t .kept)))
 
 next-line-requires : tie.Need-next-line-requires
 next-line-requires c κs =
     let s = c .before .before .before .before .before .before .before .before .before .before .before .before .before .before .before .before .before .before .before .before .before .before .before .before .before .before .pre in
-    (s .0 .going, (s .0 .lines, (s .0 .work-room, s .1)))
+    (s .going, (s .lines, s .work-room))
 
 returns : tie.Need-returns
 returns c =
@@ -36,7 +46,7 @@ returns-3 c =
 pub feed-spec : {M : Type 1} → statement M
 feed-spec =
     tie.close
-    (tie.spec (λ c κs. search needs) (λ c. search needs) (λ c. search needs) (λ c. search needs) next-line-requires (λ c. search needs) (λ c. search needs)
+    (tie.spec (λ c κs. search needs) (λ c. search needs) slice-reshare-prefix-next-line slice-aggregate-next-line next-line-requires (λ c. search needs) (λ c. search needs)
     (λ c. search needs) (λ c. search needs) (λ c. search needs) (λ c. search needs) (λ c. search needs) (λ c. search needs) (λ c. search needs) (λ c. search needs) (λ c. search needs)
     returns
     (λ c. search needs) same-length-10

@@ -9,7 +9,7 @@ answer-lines-requires c κs =
     let s = c .before .before .before .before .before .before .before .before .before .before .before .before .before .before .before .before .before .before .before .before .before .before .before .before in
     let a = s .args in
     let g = c .before .before .before .before .before .before .before .before .before .before .before .before .begin .ensures .says (a .names .now) (a .listings .now) (a .table .now) (a .value .now) (a .out .now) (s .pre .0) in
-    (g .going, (started-few (a .text .now) g (omega (arith, s .good)), (s .pre .1 .0, s .pre .1 .1)))
+    (g .going, (started-few (a .text .now) g (omega (arith, s .good)), s .pre .1))
 
 returns : tie.Need-returns
 returns c =

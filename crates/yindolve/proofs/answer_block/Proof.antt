@@ -21,7 +21,7 @@ answer-some-requires c κs =
     let i = c .before .before .before .before .before .before .before .before .before .before .loop .inv in
     let t = c .before .before .before .before .before .before .before .before .before .loop-test .taken in
     let s = c .before .before .before .before .before .before .before .before .before .before .before .before .before .before .before .before .before .before .before .before .before .pre in
-    (read-feeds (i .0) (s .1 .0) t (omega (arith, i .1 .kept, s .0 .room)) (omega (arith, i .1 .working, s .0 .work-room)), (t, s .1 .1))
+    (read-feeds (i .0) (s .1) t (omega (arith, i .1 .kept, s .0 .room)) (omega (arith, i .1 .working, s .0 .work-room)), t)
 
 loop-less : tie.Need-loop-less Inv-loop μ-loop
 loop-less c =

@@ -34,8 +34,8 @@ answer-block-requires c κs =
     let i = c .before .before .before .before .before .before .before .before .before .before .before .before .before .before .before .before .before .before .before .loop .inv in
     let s = c .before .before .before .before .before .before .before .before .before .before .before .before .before .before .before .before .before .before .before .before .before .before .before .before .before .before .before .before .before .before .before .before .before .before .before .before .before .pre .1 in
     let n = c .before .before .before .before .before .before .before .before .before .before .before .before .count .ensures .0 in
-    (waiting-feeds (i .0) (c .before .before .before .before .before .before .before .before .before .before .before .before .before .before .before .before .before .before .loop-test .taken) (omega (arith, i .1 .kept, s .1 .0)) (omega (arith, i .1 .working, s .0)),
-    (omega (arith, i .0 .lines, n .1, c .before .before .before .before .before .before .before .before .before .before .if2 .left), s .1 .1))
+    (waiting-feeds (i .0) (c .before .before .before .before .before .before .before .before .before .before .before .before .before .before .before .before .before .before .loop-test .taken) (omega (arith, i .1 .kept, s .1)) (omega (arith, i .1 .working, s .0)),
+    omega (arith, i .0 .lines, n .1, c .before .before .before .before .before .before .before .before .before .before .if2 .left))
 
 loop-again : tie.Need-loop-again Inv-loop μ-loop
 loop-again c =
