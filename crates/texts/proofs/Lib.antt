@@ -1,0 +1,5 @@
+pub mod SendLaws
+pub mod MoveLaws
+pub mod RunLaws
+pub mod KeepLaws
+pub mod FeedLaws

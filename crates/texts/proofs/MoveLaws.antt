@@ -1,0 +1,215 @@
+-- Laws of answers put behind one another in a buffer.
+use mathlib.Core.Path.{_≡_, refl, sym, ap, subst, _∙_}
+use mathlib.Core.Bool.{Bool, true, false, cond}
+use mathlib.Core.List.{List, [], _∷_, _++_, append-nil}
+use Prim.Native.Nat.{ℕ, suc, _+_, _-_, _≤_, _<_}
+use native.Mathlib.Omega.{arith}
+use native.Mathlib.Numerals.{add-one}
+use borrow.Author.Tests.{leb-true, leb-false, le-leb, lt-leb}
+use lib.ListN.{length, take, drop, length-append, take-append-drop, length-drop}
+use lib.Seq.{length-take-le, take-at, drop-at, drop-drop}
+use lib.Dec.{leb}
+use Rattle.refusal.specs.declared.Refusal.the-variants.{Form, Place}
+use Rattle.answers.specs.declared.Answer.the-variants.{Refused}
+use Rattle.answers.specs.declared.Put.{Put}
+use Rattle.answers.specs.declared.Put.the-variants as P
+use Rattle.answers.specs.Answers.{answerLine, answerBytes}
+use Rattle.answers.specs.Writing.{Placed, pickPut, putAnswer, putResult}
+use Rattle.session.specs.declared.Part.the-variants.{Model, Run}
+use Rattle.session.specs.Replies.{reply}
+use Rattle.session.specs.Texts.{Progress, replyBytes, afterLine, afterRest, closing}
+use Rattle.memory.specs.Memory.{Memory, sessionOf}
+use Rattle.texts.specs.declared.Ran.{Ran}
+use Rattle.texts.specs.declared.Ran.the-variants.{Done, Full}
+use Rattle.texts.specs.declared.Sent.{Sent}
+use Rattle.texts.specs.declared.Position.{Position}
+use Rattle.texts.specs.declared.Next.the-variants as N
+use Rattle.texts.specs.Running.{Filled, fits, stopped, allBytes, fillClosing, fillRest, inFront, Fills}
+use Rattle.texts.specs.RunningLaws.{rest-none, closing-grows}
+use Rattle.texts.specs.Sending.{Sends, progressOf, Going, Moved, NoRoom, Goes}
+
+-- ===== An answer that has room, or none =====
+
+-- the bytes w stand behind those in front of the place
+pub record Appended (out : List ℕ) (place : ℕ) (w : List ℕ) (e : ℕ) (out′ : List ℕ) : Type 0 where
+  pub end : e ≡ place + length w
+  pub within : e ≤ length out
+  pub front : take e out′ ≡ take place out ++ w
+  pub behind : drop e out′ ≡ drop e out
+  pub long : length out′ ≡ length out
+
+appended : (out : List ℕ) (place : ℕ) (w : List ℕ) → place + length w ≤ length out
+    → Appended out place w (place + length w) (take place out ++ w ++ drop (place + length w) out)
+appended out place w h =
+    let P : List ℕ = take place out ++ w in
+    let Q : List ℕ = drop (place + length w) out in
+    let n : length P ≡ place + length w = omega (arith, length-append (take place out) w, length-take-le place out (omega arith)) in
+    record {
+      end = refl;
+      within = h;
+      front = take-at P Q (place + length w) n;
+      behind = drop-at P Q (place + length w) n;
+      long = omega (arith, length-append P Q, length-drop (place + length w) out);
+    }
+
+module _ {out : List ℕ} {place : ℕ} {w : List ℕ} {r : Put} {out′ : List ℕ} (x : Placed out place w r out′) where
+  pub placed-at : (e : ℕ) → r ≡ P.At e → Appended out place w e out′
+  unfolding putAnswer putResult
+  placed-at e q = go (leb (place + length w) (length out)) refl (sym q ∙ x .answer) (x .result)
+    where
+      go : (b : Bool) → leb (place + length w) (length out) ≡ b → P.At e ≡ pickPut b (P.At (place + length w)) P.Full
+          → out′ ≡ cond b (take place out ++ w ++ drop (place + length w) out) out → Appended out place w e out′
+      go true t a g =
+          let k : e ≡ place + length w = cc in
+          rw (k, g) (appended out place w (leb-true (place + length w) (length out) t))
+      go false t a g = absurd (let z : _≡_ {A = ℕ} 0 1 = cc in omega arith)
+
+  pub placed-full : r ≡ P.Full → (length out < place + length w) × (out′ ≡ out)
+  unfolding putAnswer putResult
+  placed-full q = go (leb (place + length w) (length out)) refl (sym q ∙ x .answer) (x .result)
+    where
+      go : (b : Bool) → leb (place + length w) (length out) ≡ b → P.Full ≡ pickPut b (P.At (place + length w)) P.Full
+          → out′ ≡ cond b (take place out ++ w ++ drop (place + length w) out) out → (length out < place + length w) × (out′ ≡ out)
+      go true t a g = absurd (let z : _≡_ {A = ℕ} 0 1 = cc in omega arith)
+      go false t a g = (leb-false (place + length w) (length out) t, g)
+
+-- ===== A line =====
+
+goes-to : {q : Progress} {out : List ℕ} {p : Position} {w : Memory} {out′ : List ℕ} → Moved q out p w out′ → Goes q out (N.To p) w out′
+goes-to {q} {out} {p} {w} {out′} m = record {
+  to = λ p′ e. let k : p ≡ p′ = cc in subst (λ (x : Position). Moved q out x w out′) k m;
+  full = λ e. absurd (let z : _≡_ {A = ℕ} 0 1 = cc in omega arith);
+}
+
+goes-full : {q : Progress} {out : List ℕ} {w : Memory} {out′ : List ℕ} → NoRoom q out out′ → Goes q out N.Full w out′
+goes-full m = record { to = λ p e. absurd (let z : _≡_ {A = ℕ} 0 1 = cc in omega arith); full = λ e. m }
+
+module _ {s : List ℕ} {p : Position} {w : Memory} {out : List ℕ} {r : Sent} {w′ : Memory} {out′ : List ℕ} (g : Going p w out)
+    (x : Sends s (p .lines + 1) (p .numbers) w out (p .end) r w′ out′) where
+  sends : Sends s (suc (p .lines)) (p .numbers) w out (p .end) r w′ out′
+  sends = subst (λ (k : ℕ). Sends s k (p .numbers) w out (p .end) r w′ out′) (add-one (p .lines)) x
+
+  pub next-to : (e : ℕ) → r .put ≡ P.At e
+      → Goes (afterLine (progressOf p w out) s) out (N.To (record { numbers = r .numbers; lines = p .lines + 1; end = e })) w′ out′
+  unfolding afterLine progressOf
+  next-to e q =
+      let y = sends in
+      let a = placed-at (y .placed) e q in
+      goes-to (record {
+        going = record { kept = y .kept; within = omega (arith, a .within, a .long) };
+        is = λ i. record { session = y .session i; lines = add-one (p .lines) i; bytes = a .front i };
+        behind = a .behind;
+      })
+
+  pub next-full : r .put ≡ P.Full → Goes (afterLine (progressOf p w out) s) out N.Full w′ out′
+  unfolding afterLine progressOf
+  next-full q =
+      let y = sends in
+      let a = placed-full (y .placed) q in
+      goes-full (record { room = omega (arith, a .0, length-append (take (p .end) out) (replyBytes (reply (sessionOf (p .numbers) w) (suc (p .lines)) s)), length-take-le (p .end) out (g .within)); result = a .1 })
+
+-- ===== The end of a text =====
+
+-- the bytes in front of the place, and w behind them
+in-front : {out : List ℕ} {place : ℕ} {w : List ℕ} {e : ℕ} {out′ : List ℕ} → place ≤ length out → Appended out place w e out′ → out′ ≡ inFront (take place out ++ w) out
+in-front {out} {place} {w} {e} {out′} h a =
+    let n : e ≡ length (take place out ++ w) = omega (arith, a .end, length-append (take place out) w, length-take-le place out h) in
+    sym (take-append-drop e out′) ∙ (λ i. a .front i ++ a .behind i) ∙ ap (λ (k : ℕ). (take place out ++ w) ++ drop k out) n
+
+-- nothing is written
+in-place : (out : List ℕ) (place : ℕ) → place ≤ length out → out ≡ inFront (take place out) out
+in-place out place h = sym (take-append-drop place out) ∙ ap (λ (k : ℕ). take place out ++ drop k out) (sym (length-take-le place out h))
+
+-- the buffer was written to before
+pub fills-over : {f : Filled} {out₀ out out′ : List ℕ} {r : Ran} (e : ℕ) → drop e out ≡ drop e out₀ → e ≤ length (f .bytes) → Fills f out r out′ → Fills f out₀ r out′
+fills-over {f} {out₀} {out} {out′} {r} e q h x =
+    let n : e + (length (f .bytes) - e) ≡ length (f .bytes) = omega arith in
+    let d : drop (length (f .bytes)) out ≡ drop (length (f .bytes)) out₀ =
+    ap (λ (k : ℕ). drop k out) (sym n) ∙ sym (drop-drop (length (f .bytes) - e) e out) ∙ ap (drop (length (f .bytes) - e)) q
+    ∙ drop-drop (length (f .bytes) - e) e out₀ ∙ ap (λ (k : ℕ). drop k out₀) n in
+    record { answer = x .answer; result = x .result ∙ ap (λ (v : List ℕ). f .bytes ++ v) d }
+
+pub stays : (q : Progress) {out : List ℕ} {e : ℕ} → e ≤ length out → q .bytes ≡ take e out → Fills (stopped q) out (Full e (q .lines)) out
+stays q {out} {e} h b =
+    let n : e ≡ length (q .bytes) = sym (length-take-le e out h) ∙ ap length (sym b) in
+    record { answer = ap (λ (k : ℕ). Full k (q .lines)) n; result = in-place out e h ∙ ap (λ (v : List ℕ). inFront v out) (sym b) }
+
+-- at the end of the text
+module _ (p : Position) (out : List ℕ) (h : p .end ≤ length out) (w : Memory) where
+  end-long : length (take (p .end) out) ≡ p .end
+  end-long = length-take-le (p .end) out h
+
+  pub close-run : p .numbers .part ≡ Run → Fills (fillClosing (length out) (progressOf p w out)) out (Done (p .end)) out
+  unfolding fillClosing closing progressOf sessionOf
+  close-run e =
+      rw (e, append-nil (take (p .end) out), le-leb (length (take (p .end) out)) (length out) (omega (arith, end-long)))
+      (record { answer = ap Done (sym end-long); result = in-place out (p .end) h })
+
+  module _ {r : Put} {out′ : List ℕ} (m : p .numbers .part ≡ Model) (x : Placed out (p .end) (answerLine (Refused Place 0)) r out′) where
+    long : length (take (p .end) out ++ answerLine (Refused Place 0)) ≡ p .end + length (answerLine (Refused Place 0))
+    long = omega (arith, length-append (take (p .end) out) (answerLine (Refused Place 0)), end-long)
+
+    pub close-model : (e : ℕ) → r ≡ P.At e → Fills (fillClosing (length out) (progressOf p w out)) out (Done e) out′
+    unfolding fillClosing closing progressOf sessionOf
+    close-model e q =
+        let a = placed-at x e q in
+        rw (m, le-leb (length (take (p .end) out ++ answerLine (Refused Place 0))) (length out) (omega (arith, a .end, a .within, long)))
+        (record { answer = ap Done (a .end ∙ sym long); result = in-front h a })
+
+    pub close-full : r ≡ P.Full → Fills (fillClosing (length out) (progressOf p w out)) out (Full (p .end) (p .lines)) out′
+    unfolding fillClosing closing progressOf sessionOf
+    close-full q =
+        let a = placed-full x q in
+        rw (m, lt-leb (length (take (p .end) out ++ answerLine (Refused Place 0))) (length out) (omega (arith, a .0, long)), a .1)
+        (stays (progressOf p w out) h refl)
+
+  module _ {r : Put} {out′ : List ℕ} (x : Placed out (p .end) (answerLine (Refused Form (p .lines + 1))) r out′) (b : ℕ) (s : List ℕ) where
+    pub rest-is : (e : ℕ) → r ≡ P.At e
+        → progressOf (record { numbers = p .numbers; lines = p .lines + 1; end = e }) w out′ ≡ afterRest (progressOf p w out) (b ∷ s)
+    unfolding afterRest progressOf replyBytes answerBytes
+    rest-is e q =
+        let a = placed-at x e q in
+        ap (λ (v : List ℕ). record { session = sessionOf (p .numbers) w; lines = p .lines + 1; bytes = v }) (a .front)
+        ∙ ap (λ (k : ℕ). record { session = sessionOf (p .numbers) w; lines = k; bytes = take (p .end) out ++ answerLine (Refused Form k) }) (add-one (p .lines))
+
+    rest-long : length (afterRest (progressOf p w out) (b ∷ s) .bytes) ≡ p .end + length (answerLine (Refused Form (p .lines + 1)))
+    unfolding afterRest progressOf replyBytes answerBytes
+    rest-long =
+        rw (add-one (p .lines)) (omega (arith, length-append (take (p .end) out) (answerLine (Refused Form (suc (p .lines)))), end-long))
+
+    -- the rest is refused, and the text ends
+    pub rest-closed : (e : ℕ) → r ≡ P.At e → {q : Ran} {out″ : List ℕ}
+        → ((v : Memory) → Fills (fillClosing (length out′) (progressOf (record { numbers = p .numbers; lines = p .lines + 1; end = e }) v out′)) out′ q out″)
+        → Fills (fillRest (length out) (progressOf p w out) (b ∷ s)) out q out″
+    unfolding fillRest
+    rest-closed e i {q} {out″} f =
+        let a = placed-at x e i in
+        let t = rest-is e i in
+        let k : Fills (fillClosing (length out) (afterRest (progressOf p w out) (b ∷ s))) out′ q out″ =
+        subst (λ (y : Progress). Fills (fillClosing (length out) y) out′ q out″) t
+        (subst (λ (n : ℕ). Fills (fillClosing n (progressOf (record { numbers = p .numbers; lines = p .lines + 1; end = e }) w out′)) out′ q out″) (a .long) (f w)) in
+        let l = rest-long in
+        rw (le-leb (length (afterRest (progressOf p w out) (b ∷ s) .bytes)) (length out) (omega (arith, a .end, a .within)))
+        (fills-over e (a .behind) (omega (arith, a .end, closing-grows (length out) (afterRest (progressOf p w out) (b ∷ s)))) k)
+
+    pub rest-full : r ≡ P.Full → Fills (fillRest (length out) (progressOf p w out) (b ∷ s)) out (Full (p .end) (p .lines)) out′
+    unfolding fillRest progressOf
+    rest-full i =
+        let a = placed-full x i in
+        let l = rest-long in
+        rw (lt-leb (length (afterRest (progressOf p w out) (b ∷ s) .bytes)) (length out) (omega (arith, a .0)), a .1)
+        (stays (progressOf p w out) h refl)
+
+-- ===== The end of a text that came in blocks =====
+
+module _ (p : Position) (out : List ℕ) {r : Ran} {out′ : List ℕ} where
+  pub end-closed : {n : ℕ} → p .end ≤ length out → n ≡ 0 → ((w : Memory) → Fills (fillClosing (length out) (progressOf p w out)) out r out′)
+      → (w : Memory) (s : List ℕ) → length s ≡ n → Fills (fillRest (length out) (progressOf p w out) s) out r out′
+  unfolding progressOf
+  end-closed h e f w [] l = rw (rest-none (length out) (progressOf p w out) (omega (arith, length-take-le (p .end) out h))) (f w)
+  end-closed h e f w (b ∷ s) l = absurd (omega arith)
+
+  pub end-rest : {n : ℕ} → (n ≡ 0 → ⊥) → ((w : Memory) (b : ℕ) (s : List ℕ) → Fills (fillRest (length out) (progressOf p w out) (b ∷ s)) out r out′)
+      → (w : Memory) (s : List ℕ) → length s ≡ n → Fills (fillRest (length out) (progressOf p w out) s) out r out′
+  end-rest e f w [] l = absurd (e (sym l))
+  end-rest e f w (b ∷ s) l = f w b s

@@ -1,0 +1,65 @@
+-- Laws of a line answered in lent words: its answer's bytes are those of the reply.
+use mathlib.Core.Path.{_≡_, sym, ap, subst, _∙_}
+use mathlib.Core.Bool.{true}
+use mathlib.Core.List.{List}
+use Prim.Native.Nat.{ℕ, _*_, _≤_}
+use native.Mathlib.Omega.{arith}
+use lib.ListN.{length, take}
+use Rattle.diagram.specs.Rows.{rows}
+use Rattle.diagram.specs.Words.{isListing}
+use Rattle.diagram.specs.Listing.{listing, diagramOf}
+use Rattle.diagram.specs.Listings.{is-listing-diagram}
+use Rattle.answers.specs.declared.Put.{Put}
+use Rattle.answers.specs.declared.Answer.the-variants.{Show}
+use Rattle.answers.specs.Answers.{rowLines, answerBytes}
+use Rattle.answers.specs.Writing.{Placed, Showable}
+use Rattle.session.specs.declared.Part.the-variants.{Run}
+use Rattle.session.specs.Session.{Session}
+use Rattle.session.specs.Replies.{reply}
+use Rattle.session.specs.Texts.{replyBytes}
+use Rattle.memory.specs.declared.Numbers.{Numbers}
+use Rattle.memory.specs.declared.Said.{Said}
+use Rattle.memory.specs.Memory.{Memory, sessionOf, Replied}
+use Rattle.texts.specs.ShowLaws.{rows-begin, answers-same, showable, reply-shows, held-count}
+use Rattle.texts.specs.Sending.{Sends}
+
+-- the rows to be shown are the listing that the words hold
+record Held (r : Said) (w : Memory) (m : ℕ) : Type 0 where
+  count : m ≡ r .numbers .held .rows
+  listed : isListing (w .arities) (take (r .numbers .held .rows * 3) (w .value)) ≡ true
+  room : r .numbers .held .rows * 3 ≤ length (w .value)
+
+module _ {s : List ℕ} {number : ℕ} {n : Numbers} {w : Memory} {r : Said} {w′ : Memory} (x : Replied s number n w r w′) where
+  held-shown : (m : ℕ) → r .answer ≡ Show m → Held r w′ m
+  unfolding sessionOf
+  held-shown m h =
+      let v = reply-shows (sessionOf n w) number s m (sym (x .answer) ∙ h) in
+      let q : sessionOf (r .numbers) w′ ≡ sessionOf n w = x .session ∙ v .session in
+      let g = x .kept .stored in
+      let p : r .numbers .part ≡ Run = ap (λ (σ : Session). σ .part) q ∙ v .part in
+      let l = g .holding p .listing in
+      let e : m ≡ length (rows (diagramOf (take (r .numbers .held .rows * 3) (w′ .value)))) =
+      v .count ∙ ap (λ (σ : Session). length (rows (σ .held .diagram))) (sym q) in
+      record { count = e ∙ held-count (w′ .arities) (w′ .value) (r .numbers .held .rows) l (g .value-rows); listed = l; room = g .value-rows }
+
+  pub sent-showable : Showable (w′ .value) (r .answer)
+  sent-showable = showable (w′ .value) (r .answer) (λ m h. let v = held-shown m h in omega (arith, v .count, v .room))
+
+  sent-bytes : replyBytes (reply (sessionOf n w) number s) ≡ answerBytes (w′ .value) (r .answer)
+  unfolding replyBytes sessionOf
+  sent-bytes =
+      let ws : List ℕ = take (r .numbers .held .rows * 3) (w′ .value) in
+      sym (λ i. answerBytes (listing (x .session i .held .diagram)) (x .answer i))
+      ∙ answers-same (listing (diagramOf ws)) (w′ .value) (r .answer)
+      (λ m h.
+          let v = held-shown m h in
+          ap (λ (vs : List ℕ). rowLines vs m) (is-listing-diagram (w′ .arities) ws (v .listed))
+          ∙ rows-begin (r .numbers .held .rows * 3) (w′ .value) m (omega (arith, v .count)))
+
+  pub sent : {put : Put} {out out′ : List ℕ} {place : ℕ} → Placed out place (answerBytes (w′ .value) (r .answer)) put out′
+      → Sends s number n w out place (record { numbers = r .numbers; put = put }) w′ out′
+  sent {put} {out} {out′} {place} p = record {
+    session = x .session;
+    kept = x .kept;
+    placed = subst (λ (b : List ℕ). Placed out place b put out′) (sym sent-bytes) p;
+  }

@@ -1,0 +1,11 @@
+-- Whole texts: answered in a lent buffer, or while they are read (document 01, sections 'Text' and 'A run, whole').
+pub mod Ends
+pub mod Running
+pub mod Sending
+pub mod Streaming
+pub mod Feeding
+-- laws
+pub mod LineLaws
+pub mod RunningLaws
+pub mod ShowLaws
+pub mod StreamLaws

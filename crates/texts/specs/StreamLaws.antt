@@ -1,0 +1,176 @@
+-- Laws of a text that comes in: in whatever blocks, its answers are those of the whole text.
+use mathlib.Core.Path.{_≡_, refl, sym, ap, subst, _∙_}
+use mathlib.Core.Bool.{Bool, true, false, cond, not}
+use mathlib.Core.List.{List, [], _∷_, _++_, append-nil, append-assoc}
+use Prim.Native.Nat.{ℕ, suc, _+_, _≤_, _<_}
+use native.Mathlib.Omega.{arith}
+use native.Mathlib.Decide.{decLt}
+use borrow.Author.Tests.{le-leb, lt-leb}
+use lib.ListN.{length, take, drop, length-append}
+use lib.Seq.{take-all, take-at, length-take-le, take-append-le}
+use lib.Dec.{eqb}
+use Rattle.refusal.specs.declared.Refusal.the-variants.{Form}
+use Rattle.text.specs.declared.Kind.{Kind}
+use Rattle.text.specs.declared.Kind.the-variants as K
+use Rattle.text.specs.LineForm.{lineKind}
+use Rattle.events.specs.declared.Event.{Event}
+use Rattle.session.specs.declared.Part.{Part}
+use Rattle.session.specs.declared.Part.the-variants.{Model, Run}
+use Rattle.session.specs.Session.{Session}
+use Rattle.session.specs.Place.{ruleOf}
+use Rattle.session.specs.Replies.{Reply, allowed, placed, done, replyTo, reply, refusal, wordsOf}
+use Rattle.session.specs.Texts.{lineFeed, Lines, behindByte, pickLines, linesOf, Progress, replied, afterLine, afterLines, afterRest, beginning, textAnswers}
+use Rattle.texts.specs.Ends.{lineLength}
+use Rattle.texts.specs.Running.{allBytes}
+use Rattle.texts.specs.Streaming.{lineRoom, Stream, pickStream, onByte, onBytes, onBlocks, streamStart, onEnd}
+
+-- ===== A line that is too long =====
+
+kind-long : (s : List ℕ) → 4095 < length s → lineKind s ≡ K.Bad
+unfolding lineKind
+kind-long s h = rw (lt-leb (length s) 4095 h)
+
+bad-refused : (σ : Session) (number : ℕ) (es : List Event) → replyTo σ number K.Bad es ≡ refusal σ number Form
+unfolding replyTo allowed
+bad-refused σ number es = go (σ .part)
+  where
+    go : (p : Part) → placed σ number (allowed σ (ruleOf K.Bad p)) (done σ number K.Bad es) ≡ refusal σ number Form
+    go Model = refl
+    go Run = refl
+
+reply-long : (σ : Session) (number : ℕ) (s : List ℕ) → 4095 < length s → reply σ number s ≡ refusal σ number Form
+unfolding reply
+reply-long σ number s h =
+    ap (λ (k : Kind). replyTo σ number k (wordsOf k s)) (kind-long s h) ∙ bad-refused σ number (wordsOf K.Bad s)
+
+-- so the bytes past the room do not count
+reply-kept : (σ : Session) (number : ℕ) (s : List ℕ) → reply σ number (take lineRoom s) ≡ reply σ number s
+reply-kept σ number s = go (decLt lineRoom (length s))
+  where
+    go : Dec (lineRoom < length s) → reply σ number (take lineRoom s) ≡ reply σ number s
+    go (yes h) =
+        reply-long σ number (take lineRoom s) (omega (arith, length-take-le lineRoom s (omega arith))) ∙ sym (reply-long σ number s (omega arith))
+    go (no h) = ap (reply σ number) (take-all lineRoom s (omega arith))
+
+after-kept : (p : Progress) (s : List ℕ) → afterLine p (take lineRoom s) ≡ afterLine p s
+unfolding afterLine
+after-kept p s = ap (replied p) (reply-kept (p .session) (suc (p .lines)) s)
+
+rest-kept : (p : Progress) (s : List ℕ) → afterRest p (take lineRoom s) ≡ afterRest p s
+unfolding afterRest
+rest-kept p [] = refl
+rest-kept p (b ∷ s) = refl
+
+-- what is kept of kept bytes and others behind them
+pub take-again : (n : ℕ) (x y : List ℕ) → take n (take n x ++ y) ≡ take n (x ++ y)
+take-again n x y = go (decLt (length x) n)
+  where
+    go : Dec (length x < n) → take n (take n x ++ y) ≡ take n (x ++ y)
+    go (yes h) = ap (λ (z : List ℕ). take n (z ++ y)) (take-all n x (omega arith))
+    go (no h) = take-at (take n x) y n (length-take-le n x (omega arith)) ∙ sym (take-append-le n x y (omega arith))
+
+-- ===== Bytes of a line =====
+
+-- a line's bytes are kept
+pub on-line : (q : Progress) (x s : List ℕ) → length x ≤ lineRoom → lineLength s ≡ length s
+    → onBytes (record { progress = q; partial = x }) s ≡ record { progress = q; partial = take lineRoom (x ++ s) }
+unfolding onBytes onByte lineLength
+on-line q x [] h e = ap (λ (z : List ℕ). record { progress = q; partial = z }) (sym (ap (take lineRoom) (append-nil x) ∙ take-all lineRoom x h))
+on-line q x (b ∷ s) h e = go (eqb b lineFeed) (λ (k : lineLength s ≡ length s). on-line q (take lineRoom (x ++ (b ∷ []))) s (kept-short (x ++ (b ∷ []))) k) e
+  where
+    kept-short : (y : List ℕ) → length (take lineRoom y) ≤ lineRoom
+    kept-short y = short (decLt (length y) lineRoom)
+      where
+        short : Dec (length y < lineRoom) → length (take lineRoom y) ≤ lineRoom
+        short (yes l) = omega (arith, ap length (take-all lineRoom y (omega arith)))
+        short (no l) = omega (arith, length-take-le lineRoom y (omega arith))
+
+    go : (t : Bool)
+        → (lineLength s ≡ length s
+        → onBytes (record { progress = q; partial = take lineRoom (x ++ (b ∷ [])) }) s
+        ≡ record { progress = q; partial = take lineRoom (take lineRoom (x ++ (b ∷ [])) ++ s) })
+        → cond (not t) (suc (lineLength s)) 0 ≡ suc (length s)
+        → onBytes (pickStream t (record { progress = afterLine q x; partial = [] }) (record { progress = q; partial = take lineRoom (x ++ (b ∷ [])) })) s
+        ≡ record { progress = q; partial = take lineRoom (x ++ (b ∷ s)) }
+    go true ih k = absurd (omega arith)
+    go false ih k =
+        ih (omega arith)
+        ∙ ap (λ (z : List ℕ). record { progress = q; partial = z }) (take-again lineRoom (x ++ (b ∷ [])) s ∙ ap (take lineRoom) (append-assoc x (b ∷ []) s))
+
+-- ===== The whole text =====
+
+-- a byte ends one line at most
+pub lines-few : (t : Stream) (s : List ℕ) → onBytes t s .progress .lines ≤ t .progress .lines + length s
+unfolding onBytes onByte afterLine
+lines-few t [] = omega arith
+lines-few t (b ∷ s) = go (eqb b lineFeed) (λ (u : Stream). lines-few u s)
+  where
+    go : (k : Bool) → ((u : Stream) → onBytes u s .progress .lines ≤ u .progress .lines + length s)
+        → onBytes (pickStream k (record { progress = afterLine (t .progress) (t .partial); partial = [] })
+        (record { progress = t .progress; partial = take lineRoom (t .partial ++ (b ∷ [])) })) s .progress .lines
+        ≤ t .progress .lines + suc (length s)
+    go true ih = omega (arith, ih (record { progress = afterLine (t .progress) (t .partial); partial = [] }))
+    go false ih = omega (arith, ih (record { progress = t .progress; partial = take lineRoom (t .partial ++ (b ∷ [])) }))
+
+pub bytes-append : (t : Stream) (x y : List ℕ) → onBytes t (x ++ y) ≡ onBytes (onBytes t x) y
+unfolding onBytes
+bytes-append t [] y = refl
+bytes-append t (b ∷ x) y = bytes-append (onByte t b) x y
+
+-- one list of all blocks
+abbrev pub joined : List (List ℕ) → List ℕ
+joined [] = []
+joined (b ∷ bs) = b ++ joined bs
+
+pub blocks-joined : (t : Stream) (bs : List (List ℕ)) → onBlocks t bs ≡ onBytes t (joined bs)
+unfolding onBlocks onBytes
+blocks-joined t [] = refl
+blocks-joined t (b ∷ bs) = blocks-joined (onBytes t b) bs ∙ sym (bytes-append t b (joined bs))
+
+-- bytes in front of the first line
+abbrev inFrontOf : List ℕ → List (List ℕ) → List ℕ → Lines
+inFrontOf x [] rest = record { whole = []; rest = x ++ rest }
+inFrontOf x (l ∷ ls) rest = record { whole = (x ++ l) ∷ ls; rest = rest }
+
+none-in-front : (ls : List (List ℕ)) (rest : List ℕ) → inFrontOf [] ls rest ≡ record { whole = ls; rest = rest }
+none-in-front [] rest = refl
+none-in-front (l ∷ ls) rest = refl
+
+byte-in-front : (x : List ℕ) (b : ℕ) (ls : List (List ℕ)) (rest : List ℕ)
+    → inFrontOf (x ++ (b ∷ [])) ls rest ≡ inFrontOf x (behindByte b ls rest .whole) (behindByte b ls rest .rest)
+byte-in-front x b [] rest = ap (λ (z : List ℕ). record { whole = []; rest = z }) (append-assoc x (b ∷ []) rest)
+byte-in-front x b (l ∷ ls) rest = ap (λ (z : List ℕ). record { whole = z ∷ ls; rest = rest }) (append-assoc x (b ∷ []) l)
+
+abbrev answersFrom : Progress → Lines → List ℕ
+answersFrom p t = allBytes (afterRest (afterLines p (t .whole)) (t .rest))
+
+abbrev after : List ℕ → Lines → Lines
+after x t = inFrontOf x (t .whole) (t .rest)
+
+stream-from : (p : Progress) (x s : List ℕ) → onEnd (onBytes (record { progress = p; partial = take lineRoom x }) s) ≡ answersFrom p (after x (linesOf s))
+unfolding onBytes onByte onEnd linesOf afterLines
+stream-from p x [] = ap allBytes (rest-kept p x ∙ ap (afterRest p) (sym (append-nil x)))
+stream-from p x (b ∷ s) = go (eqb b lineFeed) (λ (q : Progress) (y : List ℕ). stream-from q y s)
+  where
+    go : (t : Bool)
+        → ((q : Progress) (y : List ℕ) → onEnd (onBytes (record { progress = q; partial = take lineRoom y }) s) ≡ answersFrom q (after y (linesOf s)))
+        → onEnd (onBytes (pickStream t (record { progress = afterLine p (take lineRoom x); partial = [] })
+        (record { progress = p; partial = take lineRoom (take lineRoom x ++ (b ∷ [])) })) s)
+        ≡ answersFrom p (after x (pickLines t (record { whole = [] ∷ linesOf s .whole; rest = linesOf s .rest }) (behindByte b (linesOf s .whole) (linesOf s .rest))))
+    go true ih =
+        ih (afterLine p (take lineRoom x)) []
+        ∙ ap (answersFrom (afterLine p (take lineRoom x))) (none-in-front (linesOf s .whole) (linesOf s .rest))
+        ∙ ap (λ (q : Progress). answersFrom q (linesOf s)) (after-kept p x ∙ ap (afterLine p) (sym (append-nil x)))
+    go false ih =
+        ap (λ (z : List ℕ). onEnd (onBytes (record { progress = p; partial = z }) s)) (take-again lineRoom x (b ∷ []))
+        ∙ ih p (x ++ (b ∷ []))
+        ∙ ap (answersFrom p) (byte-in-front x b (linesOf s .whole) (linesOf s .rest))
+
+-- read to its end, the stream has answered the text
+pub stream-whole : (s : List ℕ) → onEnd (onBytes streamStart s) ≡ textAnswers s
+unfolding streamStart textAnswers
+stream-whole s = stream-from beginning [] s ∙ ap (answersFrom beginning) (none-in-front (linesOf s .whole) (linesOf s .rest))
+
+-- in whatever blocks it came
+pub stream-blocks : (bs : List (List ℕ)) → onEnd (onBlocks streamStart bs) ≡ textAnswers (joined bs)
+stream-blocks bs = ap onEnd (blocks-joined streamStart bs) ∙ stream-whole (joined bs)

@@ -1,0 +1,2 @@
+-- The program.
+pub mod Blocks
