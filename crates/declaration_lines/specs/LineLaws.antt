@@ -1,15 +1,16 @@
 -- What each function needs, from what a dispatch over all kinds of lines has.
-use mathlib.Core.Path.{_≡_, refl, _∙_}
-use mathlib.Core.List.{List, [], _∷_}
-use Prim.Native.Nat.{ℕ, zero, suc, _≤_}
+use mathlib.Core.Path.{_≡_}
+use mathlib.Core.List.{List}
+use Prim.Native.Nat.{ℕ, _≤_}
 use native.Mathlib.Omega.{arith}
-use lib.ListN.{length, length-append}
+use lib.ListN.{length}
 use Rattle.text.specs.declared.Kind.the-variants.{Constant, Predicate, Total, Discount, Action}
 use Rattle.events.specs.Events.{firstWord}
 use Rattle.names.specs.Layout.{actionsAt}
 use Rattle.names.specs.KeyLaws.{length-keys}
 use Rattle.declare.specs.Tables.{namesOf}
-use Rattle.model.specs.Layout.{many, actionAt, modelOf}
+use Rattle.names.specs.ManyLaws.{length-many}
+use Rattle.model.specs.Layout.{actionAt, modelOf}
 use Rattle.memory.specs.declared.Numbers.{Numbers}
 use Rattle.memory.specs.Memory.{memoryOf, sessionOf, Ready, workWords}
 use Rattle.memory.specs.WordLaws.{line-begins, line-ends}
@@ -27,11 +28,6 @@ module _ {s : List ℕ} {n : Numbers} {names arities listings table state value 
 
   pub for-discount : Ready Discount s n (memoryOf names arities listings table state value) → firstWord Discount ≤ length s
   for-discount r = line-begins (r .line)
-
-length-many : {A : Type 0} (f : ℕ → A) (n : ℕ) → length (many f n) ≡ n
-unfolding many
-length-many f zero = refl
-length-many f (suc n) = length-append (many f n) (f n ∷ []) ∙ omega (arith, length-many f n)
 
 module _ {s : List ℕ} {n : Numbers} {names arities listings table state value : List ℕ}
     (r : Ready Action s n (memoryOf names arities listings table state value)) where

@@ -4,9 +4,8 @@ use mathlib.Core.Bool.{Bool, true, false, not}
 use mathlib.Core.List.{List, [], _∷_, _++_}
 use Prim.Native.Nat.{ℕ, zero, suc, _-_, _≤_, _<_}
 use native.Mathlib.Omega.{arith}
-use native.Mathlib.Numerals.{add-one}
 use borrow.Author.Tests.{leb-true}
-use lib.ListN.{length, length-append}
+use lib.ListN.{length}
 use lib.Dec.{leb}
 use Rattle.regress.specs.Calls.{ok}
 use Rattle.mdp.specs.Model.{Action}
@@ -21,7 +20,9 @@ use Rattle.session.specs.Place.{ruleOf}
 use Rattle.session.specs.Replies.{allowed, unless}
 use Rattle.session.specs.Good.{LastAction}
 use Rattle.declare.specs.Tables.{namesOf}
-use Rattle.model.specs.Layout.{many, variantPlace, variantAt, variantsOf, actionAt, modelOf}
+use Rattle.names.specs.Many.{many}
+use Rattle.names.specs.ManyLaws.{length-many}
+use Rattle.model.specs.Layout.{variantPlace, variantAt, variantsOf, actionAt, modelOf}
 use Rattle.memory.specs.declared.Numbers.{Numbers}
 use Rattle.memory.specs.Memory.{memoryOf, sessionOf, Ready, workWords}
 use Rattle.diagram_lines.specs.Lines.{Lent, Listings, LastOf, RewardReady, VariantReady, BecomesReady}
@@ -51,11 +52,6 @@ module _ (σ : Session) where
   after-variant Run e = let z : _≡_ {A = ℕ} 0 1 = cc in absurd (omega arith)
 
 -- ===== The last action =====
-
-length-many : {A : Type 0} (f : ℕ → A) (n : ℕ) → length (many f n) ≡ n
-unfolding many
-length-many f zero = refl
-length-many f (suc n) = rw (length-append, length-many f n, add-one)
 
 last-snoc : (l : List Action) (a : Action) (c v : ℕ) → LastAction (l ++ (a ∷ [])) c v → length (a .variants) ≡ v
 last-snoc [] a c v h = h .1

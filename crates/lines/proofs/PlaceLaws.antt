@@ -4,9 +4,8 @@ use mathlib.Core.Bool.{Bool, true, false, not, _&&_, and-true, and-false, and-as
 use mathlib.Core.List.{List, [], _∷_, _++_}
 use Prim.Native.Nat.{ℕ, zero, suc, _+_, _*_, _<_, _≤_}
 use native.Mathlib.Omega.{arith}
-use native.Mathlib.Numerals.{add-one}
 use borrow.Author.Tests.{le-leb, lt-leb, eq-eqb, ne-eqb}
-use lib.ListN.{length, getD, drop, length-append}
+use lib.ListN.{length, getD, drop}
 use lib.Seq.{getD-take, getD-drop}
 use lib.Dec.{leb, eqb}
 use Rattle.label.specs.Limits.{constantCount}
@@ -21,7 +20,9 @@ use Rattle.session.specs.declared.Rule.the-variants as R
 use Rattle.session.specs.Replies.{eachVaried, eachPlaced, unless, allowed}
 use Rattle.declare.specs.Tables.{namesOf}
 use Rattle.facts.specs.Words.{part, placedBase, liveOf}
-use Rattle.model.specs.Layout.{many, actionWords, variantAt, variantPlace, variantsOf, actionAt, modelOf}
+use Rattle.names.specs.Many.{many}
+use Rattle.names.specs.ManyLaws.{length-many}
+use Rattle.model.specs.Layout.{actionWords, variantAt, variantPlace, variantsOf, actionAt, modelOf}
 use Rattle.memory.specs.declared.Numbers.{Numbers}
 use Rattle.memory.specs.Memory.{sessionOf}
 use Rattle.lines.specs.declared.Placed.{Placed}
@@ -32,11 +33,6 @@ use Rattle.lines.specs.Placing.{placedAs, Varied, Whole, AllPlaced, Plac
 
 abbrev pub hasVariant : List ℕ → ℕ → Bool
 hasVariant table a = leb 1 (variantsOf table a)
-
-length-many : {A : Type 0} (f : ℕ → A) (n : ℕ) → length (many f n) ≡ n
-unfolding many
-length-many f zero = refl
-length-many f (suc n) = rw (length-append, length-many f n, add-one)
 
 each-snoc : (l : List Action) (a : Action) → eachVaried (l ++ (a ∷ [])) ≡ (eachVaried l && leb 1 (length (a .variants)))
 each-snoc [] a = and-true (leb 1 (length (a .variants)))

@@ -10,7 +10,8 @@ use Rattle.mdp.specs.Model.{mostActions}
 use Rattle.session.specs.declared.Rule.{Rule}
 use Rattle.session.specs.Replies.{eachVaried, isWhole, isPlaced, allowed}
 use Rattle.facts.specs.Words.{stateWords}
-use Rattle.model.specs.Layout.{many, tableWords, actionAt}
+use Rattle.names.specs.Many.{many}
+use Rattle.model.specs.Layout.{tableWords, actionAt}
 use Rattle.memory.specs.declared.Numbers.{Numbers}
 use Rattle.memory.specs.Memory.{memoryOf, sessionOf}
 use Rattle.lines.specs.declared.Placed.{Placed}

@@ -49,7 +49,9 @@ use Rattle.regress.proofs.CheckLaws.{judge-valid}
 use Rattle.mdp.specs.Model.{Every, GoodTruthDiagram, GoodVariant, GoodAction, mostActions, mostVariants}
 use Rattle.mdp.specs.CallLaws.{within-each, closed-count}
 use Rattle.model.specs.declared.Head.{Head}
-use Rattle.model.specs.Layout.{many, part, variantWords, spanWords, actionWords, tableWords, variantPlace, weightWords, spansAt, variantAt, variantsOf, actionAt, rewardWords, modelOf, Laid}
+use Rattle.names.specs.Many.{many}
+use Rattle.names.specs.ManyLaws.{length-many}
+use Rattle.model.specs.Layout.{part, variantWords, spanWords, actionWords, tableWords, variantPlace, weightWords, spansAt, variantAt, variantsOf, actionAt, rewardWords, modelOf, Laid}
 use Rattle.model.specs.Checks.{Says, TruthsFit, TruthFits, IsWeight, WeightFits, VariantFits, ActionFits, ActionsFit, IsReward, RewardFits, NumbersFit}
 
 -- ===== Answers =====
@@ -218,11 +220,6 @@ every-many P f (suc n) h = every-last P (many f n) (f n) (every-many P f n (λ v
     every-last : {A : Type 0} (P : A → Type 0) (l : List A) (a : A) → Every P l → P a → Every P (l ++ (a ∷ []))
     every-last P [] a e p = (p, tt)
     every-last P (b ∷ l) a e p = (e .0, every-last P l a (e .1) p)
-
-length-many : {A : Type 0} (f : ℕ → A) (n : ℕ) → length (many f n) ≡ n
-unfolding many
-length-many f zero = refl
-length-many f (suc n) = length-append (many f n) (f n ∷ []) ∙ omega (arith, length-many f n)
 
 -- v variants are looked at
 pub record Looked (ar listings table : List ℕ) (a c v : ℕ) : Type 0 where

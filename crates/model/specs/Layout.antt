@@ -1,20 +1,16 @@
 -- A model in lent words (document 01, sections 'Text' and 'Backup'): its numbers, its listings one after another, and a table of where they stand.
 use mathlib.Core.Path.{_≡_}
 use mathlib.Core.Bool.{true}
-use mathlib.Core.List.{List, [], _∷_, _++_}
-use Prim.Native.Nat.{ℕ, zero, suc, _+_, _*_, _-_, _≤_, _<_}
+use mathlib.Core.List.{List}
+use Prim.Native.Nat.{ℕ, _+_, _*_, _-_, _≤_, _<_}
 use lib.ListN.{length, getD, take, drop}
 use Rattle.label.specs.Limits.{predicateCount}
 use Rattle.diagram.specs.Words.{isListing}
 use Rattle.diagram.specs.Listing.{diagramOf}
 use Rattle.regress.specs.RegressCall.{truthsOf, areListings}
+use Rattle.names.specs.Many.{many}
 use Rattle.mdp.specs.Model.{Variant, Action, Model, GoodModel, mostActions, mostVariants}
 use Rattle.model.specs.declared.Head.{Head}
-
--- f 0, f 1, .. f (n - 1)
-unfoldable pub many : {A : Type 0} → (ℕ → A) → ℕ → List A
-many f zero = []
-many f (suc n) = many f n ++ (f n ∷ [])
 
 -- all model listings together have 2,048 rows
 abbrev pub listingWords : ℕ

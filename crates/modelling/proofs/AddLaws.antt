@@ -6,13 +6,13 @@ use native.Mathlib.Omega.{arith}
 use lib.ListN.{length, getD, set, take, length-set}
 use lib.Seq.{getD-set-same, getD-set-other, paste}
 use Rattle.state.specs.ValueLaws.{by-low}
-use Rattle.diagram.specs.Diagram.{Diagram}
 use Rattle.diagram.specs.Listing.{diagramOf}
-use Rattle.mdp.specs.Model.{Action, Model}
 use Rattle.model.specs.declared.Head.{Head}
-use Rattle.model.specs.Layout.{many, part, listingWords, actionWords, variantPlace, variantAt, variantsOf, actionAt, rewardWords, modelOf}
+use Rattle.names.specs.Many.{many}
+use Rattle.names.specs.ManyLaws.{many-ext}
+use Rattle.model.specs.Layout.{part, listingWords, actionWords, variantPlace, variantAt, variantsOf, actionAt, rewardWords, modelOf}
 use Rattle.modelling.specs.Building.{modelWith, SpannedAction, Spanned, Canonical, ListedVariant, Listed, Building, withActions, rewarded, newAction, moreActions, rewardHead, ActionRoom, ActionAdded, RowsRoom, RewardAdded}
-use Rattle.modelling.specs.WordLaws.{Same, actionOf, actionUse, paste-before, paste-there, many-same, action-same, spanned-action, canonical-on, listed-variant}
+use Rattle.modelling.specs.WordLaws.{Same, actionOf, actionUse, paste-before, paste-there, action-same, spanned-action, canonical-on, listed-variant}
 
 -- a list and one more
 abbrev pub snoc : {A : Type 0} → List A → A → List A
@@ -60,7 +60,7 @@ module _ (t : List ℕ) (h : Head) (c : ℕ) (r : ActionRoom t h) where
       let e : h .actions + 1 ≡ suc (h .actions) = omega arith in
       ap (many (actionAt l t′)) e
       ∙ ap₂ snoc
-      (many-same (actionAt l t′) (actionAt l t) (h .actions)
+      (many-ext (actionAt l t′) (actionAt l t) (h .actions)
       (λ a q. let x = r .spanned .actions a q in action-same l l t t′ (h .words) refl a (below-action t t′ (h .actions) a (h .words) words-same q x) x))
       (action-new l)
 
@@ -121,7 +121,7 @@ module _ {l l′ out : List ℕ} {h : Head} {n : ℕ} (p : Appended l (h .words)
   unfolding modelOf
   reward-model ar t s =
       ap₂ (modelWith ar h) (ap diagramOf (p .there))
-      (many-same (actionAt l′ t) (actionAt l t) (h .actions) (λ a q. action-same l l′ t t (h .words) (p .before) a (λ j y z. refl) (s .actions a q)))
+      (many-ext (actionAt l′ t) (actionAt l t) (h .actions) (λ a q. action-same l l′ t t (h .words) (p .before) a (λ j y z. refl) (s .actions a q)))
 
   reward-building : h .words + n ≤ listingWords → (t : List ℕ) → Building l t h → Canonical (take n out)
       → Building l′ t (rewardHead h n)

@@ -19,9 +19,11 @@ use Rattle.regress.specs.RegressCall.{truthsOf}
 use Rattle.mdp.specs.Model.{Variant, Action, mostVariants}
 use Rattle.session.specs.Modelling.{lastVariant, lastTruths, withTruthAt, pickOption, truthsNow, truthsOfLast, isSome}
 use Rattle.model.specs.declared.Head.{Head}
-use Rattle.model.specs.Layout.{many, part, variantWords, actionWords, variantPlace, weightWords, spansAt, variantAt, variantsOf, actionAt, modelOf}
+use Rattle.names.specs.Many.{many}
+use Rattle.names.specs.ManyLaws.{many-ext}
+use Rattle.model.specs.Layout.{part, variantWords, actionWords, variantPlace, weightWords, spansAt, variantAt, variantsOf, actionAt, modelOf}
 use Rattle.modelling.specs.Building.{modelWith, Inside, truthPlace, SpannedVariant, SpannedAction, Canonical, ListedVariant, Listed, withActions, RowsRoom, TruthRoom, HasTruth, TruthAdded, lastPlace, TruthPlaced, moreWords}
-use Rattle.modelling.specs.WordLaws.{Same, variantOf, actionOf, actionUse, part-under, truth-none, truth-here, truth-same, truths-over, span-same, many-same, action-same, variant-same, inside-kept, spanned-variant, spanned-action, canonical-on, listed-variant}
+use Rattle.modelling.specs.WordLaws.{Same, variantOf, actionOf, actionUse, part-under, truth-none, truth-here, truth-same, truths-over, span-same, action-same, variant-same, inside-kept, spanned-variant, spanned-action, canonical-on, listed-variant}
 use Rattle.modelling.proofs.AddLaws.{snoc, below-action, Appended, appended}
 
 -- ===== The last of a list =====
@@ -205,7 +207,7 @@ module _ {l l′ t out : List ℕ} {h : Head} {rows p : ℕ} (r : RowsRoom l h o
       ap₂ actionOf (before (a * actionWords) (omega arith))
       (ap (many g′) (before (a * actionWords + 1) (omega arith) ∙ variants-some)
       ∙ ap₂ snoc
-      (many-same g′ g n
+      (many-ext g′ g n
       (λ u z. variant-same l l′ t t′ (h .words) (c .before) (variantPlace a u) (earlier-variant u z) (last-action .variants u (omega (arith, variants-some)))))
       variant-is
       ∙ sym (truths-last (many g n) (g n) (λ truths. withTruthAt truths p d))
@@ -216,7 +218,7 @@ module _ {l l′ t out : List ℕ} {h : Head} {rows p : ℕ} (r : RowsRoom l h o
   actions-are =
       ap (many (actionAt l′ t′)) actions-some
       ∙ ap₂ snoc
-      (many-same (actionAt l′ t′) (actionAt l t) a
+      (many-ext (actionAt l′ t′) (actionAt l t) a
       (λ k z. action-same l l′ t t′ (h .words) (c .before) k (earlier k z) (v .spanned .actions k (omega (arith, actions-some)))))
       action-is
       ∙ sym (variant-last (many (actionAt l t) a) (actionAt l t a) (λ truths. withTruthAt truths p d))

@@ -10,9 +10,11 @@ use Rattle.diagram.specs.Listing.{diagramOf}
 use Rattle.mdp.specs.Model.{Variant, Action, mostVariants}
 use Rattle.session.specs.Modelling.{addVariant}
 use Rattle.model.specs.declared.Head.{Head}
-use Rattle.model.specs.Layout.{many, part, spanWords, variantWords, actionWords, variantPlace, variantAt, variantsOf, actionAt, modelOf}
+use Rattle.names.specs.Many.{many}
+use Rattle.names.specs.ManyLaws.{many-ext}
+use Rattle.model.specs.Layout.{part, spanWords, variantWords, actionWords, variantPlace, variantAt, variantsOf, actionAt, modelOf}
 use Rattle.modelling.specs.Building.{modelWith, truthPlace, SpannedVariant, SpannedAction, Canonical, ListedVariant, Listed, withActions, newVariant, RowsRoom, VariantRoom, VariantAdded, Cleared, newPlace, Opened, moreWords}
-use Rattle.modelling.specs.WordLaws.{Same, variantOf, actionOf, actionUse, part-under, truth-none, many-same, action-same, variant-same, spanned-variant, spanned-action, canonical-on, listed-variant}
+use Rattle.modelling.specs.WordLaws.{Same, variantOf, actionOf, actionUse, part-under, truth-none, action-same, variant-same, spanned-variant, spanned-action, canonical-on, listed-variant}
 use Rattle.modelling.proofs.AddLaws.{snoc, below-action, Appended, appended}
 
 -- ===== Clearing =====
@@ -127,7 +129,7 @@ module _ {l l′ t t′ out : List ℕ} {h : Head} {rows : ℕ} (r : RowsRoom l 
       ap₂ actionOf (o .before ((h .actions - 1) * actionWords) (omega arith))
       (ap (many g′) (o .more ∙ m)
       ∙ ap₂ snoc
-      (many-same g′ g (variantsOf t (h .actions - 1))
+      (many-ext g′ g (variantsOf t (h .actions - 1))
       (λ u q. variant-same l l′ t t′ (h .words) (p .before) (variantPlace (h .actions - 1) u) (earlier-variant u q) (last-spanned .variants u q)))
       variant-new)
 
@@ -137,7 +139,7 @@ module _ {l l′ t t′ out : List ℕ} {h : Head} {rows : ℕ} (r : RowsRoom l 
       let m : h .actions ≡ suc (h .actions - 1) = omega (arith, v .some) in
       ap (many (actionAt l′ t′)) m
       ∙ ap₂ snoc
-      (many-same (actionAt l′ t′) (actionAt l t) (h .actions - 1)
+      (many-ext (actionAt l′ t′) (actionAt l t) (h .actions - 1)
       (λ k q. action-same l l′ t t′ (h .words) (p .before) k (earlier k q) (v .spanned .actions k (omega arith))))
       action-last
       ∙ sym (add-last (many (actionAt l t) (h .actions - 1)) (actionAt l t (h .actions - 1)) new)

@@ -21,7 +21,8 @@ use Rattle.mdp.specs.Model.{Every, GoodVariant, GoodAction, GoodModel}
 use Rattle.session.specs.Session.{Session}
 use Rattle.session.specs.Modelling.{withReward, addVariant, withVariant, lastVariant, withTruthAt, withTruth}
 use Rattle.model.specs.declared.Head.{Head}
-use Rattle.model.specs.Layout.{many, part, tableWords, actionWords, variantPlace, weightWords, spansAt, variantAt, variantsOf, actionAt, rewardWords, modelOf, LaidVariant, LaidAction, Laid}
+use Rattle.names.specs.Many.{many}
+use Rattle.model.specs.Layout.{part, tableWords, actionWords, variantPlace, weightWords, spansAt, variantAt, variantsOf, actionAt, rewardWords, modelOf, LaidVariant, LaidAction, Laid}
 use Rattle.modelling.specs.Building.{modelWith, rewarded, withActions, newVariant, truthPlace, Canonical, Building, SpannedVariant, ListedVariant}
 use Rattle.modelling.specs.WordLaws.{span-count, span-start, canonical-on}
 

@@ -1,6 +1,6 @@
 -- Laws of words in use: what lies behind them changes no part of them, and a word of one block of the table changes no other block.
 use mathlib.Core.Path.{_≡_, refl, sym, ap, ap₂, subst, _∙_, fun-ext}
-use mathlib.Core.List.{List, [], _∷_, _++_}
+use mathlib.Core.List.{List, [], _∷_}
 use mathlib.Core.Option.{Option, some, none}
 use Prim.Native.Nat.{ℕ, zero, suc, _+_, _*_, _≤_, _<_}
 use native.Mathlib.Omega.{arith}
@@ -15,7 +15,9 @@ use Rattle.regress.specs.Regression.{Truths, pickTruth}
 use Rattle.regress.specs.RegressCall.{truthsOf}
 use Rattle.regress.specs.RegressCallLaws.{truths-none}
 use Rattle.mdp.specs.Model.{Variant, Action}
-use Rattle.model.specs.Layout.{many, part, spanWords, variantWords, actionWords, variantPlace, weightWords, spansAt, variantAt, variantsOf, actionAt}
+use Rattle.names.specs.Many.{many}
+use Rattle.names.specs.ManyLaws.{many-ext}
+use Rattle.model.specs.Layout.{part, spanWords, variantWords, actionWords, variantPlace, weightWords, spansAt, variantAt, variantsOf, actionAt}
 use Rattle.modelling.specs.Building.{Inside, truthPlace, SpannedVariant, SpannedAction, Canonical, ListedVariant}
 
 -- ===== Parts of lists =====
@@ -138,11 +140,6 @@ module _ (l l′ t t′ : List ℕ) (w : ℕ) (e : take w l′ ≡ take w l) whe
 
 -- ===== Actions =====
 
-pub many-same : {A : Type 0} (f g : ℕ → A) (n : ℕ) → ((k : ℕ) → k < n → f k ≡ g k) → many f n ≡ many g n
-unfolding many
-many-same f g zero h = refl
-many-same {A} f g (suc n) h = ap₂ (λ (l : List A) (x : A). l ++ (x ∷ [])) (many-same f g n (λ k q. h k (omega arith))) (h n (omega arith))
-
 -- the words of the action a that are in use
 abbrev pub actionUse : List ℕ → ℕ → ℕ
 actionUse t a = 2 + variantsOf t a * variantWords
@@ -153,7 +150,7 @@ module _ (l l′ t t′ : List ℕ) (w : ℕ) (e : take w l′ ≡ take w l) (a 
   action-same s x =
       ap₂ actionOf (s (a * actionWords) (omega arith) (omega arith))
       (ap (many (λ v. variantAt l′ t′ (variantPlace a v))) (s (a * actionWords + 1) (omega arith) (omega arith))
-      ∙ many-same (λ v. variantAt l′ t′ (variantPlace a v)) (λ v. variantAt l t (variantPlace a v)) (variantsOf t a)
+      ∙ many-ext (λ v. variantAt l′ t′ (variantPlace a v)) (λ v. variantAt l t (variantPlace a v)) (variantsOf t a)
       (λ v q. variant-same l l′ t t′ w e (variantPlace a v) (λ j y z. s j (omega arith) (omega arith)) (x .variants v q)))
 
 -- ===== What stays good =====

@@ -23,7 +23,8 @@ use Rattle.mdp.specs.Backup.{combined, variantsSum, actionsBest}
 use Rattle.mdp.specs.StepLaws.{sum-none, best-none}
 use Rattle.mdp.specs.BackupLaws.{truths-good}
 use Rattle.model.specs.declared.Head.{Head}
-use Rattle.model.specs.Layout.{many, actionWords, variantPlace, variantAt, variantsOf, actionAt, modelOf, Laid}
+use Rattle.names.specs.Many.{many}
+use Rattle.model.specs.Layout.{actionWords, variantPlace, variantAt, variantsOf, actionAt, modelOf, Laid}
 use Rattle.planner.specs.declared.Step.{Step}
 use Rattle.planner.specs.declared.Step.the-variants.{Rows, Refused}
 use Rattle.planner.specs.Steps.{Result, Given, Begun, Begins}

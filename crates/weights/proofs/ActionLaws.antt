@@ -19,7 +19,8 @@ use Rattle.diagram.specs.ListingValid.{listing-is-valid}
 use Rattle.regress.specs.Calls.{Outcome, ok, refused, andThen, pickOutcome}
 use Rattle.mdp.specs.Model.{Action}
 use Rattle.model.specs.declared.Head.{Head}
-use Rattle.model.specs.Layout.{many, actionAt, modelOf}
+use Rattle.names.specs.Many.{many}
+use Rattle.model.specs.Layout.{actionAt, modelOf}
 use Rattle.planner.specs.declared.Step.{Step}
 use Rattle.planner.specs.declared.Step.the-variants.{Rows, Refused as Stopped}
 use Rattle.planner.specs.Steps.{Given}

@@ -13,7 +13,8 @@ use Rattle.apply.specs.declared.Names.the-variants.{Shared}
 use Rattle.regress.specs.Calls.{Outcome, ok, refused, andThen}
 use Rattle.mdp.specs.Model.{Variant}
 use Rattle.mdp.specs.Backup.{combined}
-use Rattle.model.specs.Layout.{many, variantPlace, weightWords, variantAt, variantsOf, actionAt}
+use Rattle.names.specs.Many.{many}
+use Rattle.model.specs.Layout.{variantPlace, weightWords, variantAt, variantsOf, actionAt}
 use Rattle.planner.specs.declared.Step.{Step}
 use Rattle.planner.specs.declared.Step.the-variants.{Rows, Refused}
 use Rattle.planner.specs.Steps.{Given, Begun}
