@@ -1,7 +1,7 @@
 -- Laws of a block fed to a session in lent words.
 use mathlib.Core.Path.{_≡_, refl, sym, ap, subst, _∙_}
 use mathlib.Core.List.{List, []}
-use Prim.Native.Nat.{ℕ, _+_, _-_, _<_, _≤_}
+use Prim.Native.Nat.{ℕ, _+_, _-_, _≤_}
 use native.Mathlib.Omega.{arith}
 use lib.ListN.{length, take, drop, length-drop}
 use lib.Seq.{length-take-le}
@@ -13,8 +13,8 @@ use Rattle.texts.specs.declared.Next.the-variants as N
 use Rattle.texts.specs.declared.Taken.{Taken}
 use Rattle.texts.specs.declared.Taken.the-variants as T
 use Rattle.texts.specs.declared.Fed.the-variants as F
-use Rattle.texts.specs.Sending.{progressOf, Going, Moved, NoRoom, Goes}
-use Rattle.texts.specs.Streaming.{lineRoom, Stream, onBytes, keeping, LineTaken, MoreTaken, Takes}
+use Rattle.texts.specs.Sending.{progressOf, Goes}
+use Rattle.texts.specs.Streaming.{lineRoom, Stream, Takes}
 use Rattle.texts.specs.StreamLaws.{lines-few}
 use Rattle.texts.specs.Feeding.{streamOf, LineFed, MoreFed, FullFed, Feeds}
 
@@ -53,25 +53,25 @@ module _ {block : List ℕ} {place : ℕ} {partial : List ℕ} {n : ℕ} {r : Ta
       feeds-more (record { few = m .within; is = m .is (progressOf p w out) })
 
   module _ (next kept : ℕ) (e : r ≡ T.Line next kept) {a : Next} {w′ : Memory} {out′ : List ℕ} (g : Goes (afterLine (progressOf p w out) (take kept partial′)) out a w′ out′)
-      where
-    pub feed-line : (q : Position) → a ≡ N.To q → Feeds block place (streamOf p w out partial n) p w out (F.Line next q) partial′ w′ out′
-    feed-line q i =
-        let l = x .line next kept e in
-        let m = g .to q i in
-        feeds-line (record {
-          later = l .later;
-          inside = l .inside;
-          going = m .going;
-          is = l .is (progressOf p w out) ∙ ap (λ (z : Progress). record { progress = z; partial = [] }) (sym (m .is));
-          behind = m .behind;
-        })
+    where
+      pub feed-line : (q : Position) → a ≡ N.To q → Feeds block place (streamOf p w out partial n) p w out (F.Line next q) partial′ w′ out′
+      feed-line q i =
+          let l = x .line next kept e in
+          let m = g .to q i in
+          feeds-line (record {
+            later = l .later;
+            inside = l .inside;
+            going = m .going;
+            is = l .is (progressOf p w out) ∙ ap (λ (z : Progress). record { progress = z; partial = [] }) (sym (m .is));
+            behind = m .behind;
+          })
 
-    pub feed-full : a ≡ N.Full → Feeds block place (streamOf p w out partial n) p w out F.Full partial′ w′ out′
-    feed-full i =
-        let l = x .line next kept e in
-        let m = g .full i in
-        let k = ap (λ (t : Stream). length (t .progress .bytes)) (l .is (progressOf p w out)) in
-        feeds-full (record { next = next; inside = l .inside; room = omega (arith, m .room, k) })
+      pub feed-full : a ≡ N.Full → Feeds block place (streamOf p w out partial n) p w out F.Full partial′ w′ out′
+      feed-full i =
+          let l = x .line next kept e in
+          let m = g .full i in
+          let k = ap (λ (t : Stream). length (t .progress .bytes)) (l .is (progressOf p w out)) in
+          feeds-full (record { next = next; inside = l .inside; room = omega (arith, m .room, k) })
 
 -- the kept bytes are within their buffer
 module _ {block : List ℕ} {place : ℕ} {partial : List ℕ} {n : ℕ} {r : Taken} {partial′ : List ℕ} (x : Takes block place partial n r partial′) (next kept : ℕ)

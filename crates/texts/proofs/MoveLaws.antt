@@ -24,7 +24,7 @@ use Rattle.texts.specs.declared.Ran.the-variants.{Done, Full}
 use Rattle.texts.specs.declared.Sent.{Sent}
 use Rattle.texts.specs.declared.Position.{Position}
 use Rattle.texts.specs.declared.Next.the-variants as N
-use Rattle.texts.specs.Running.{Filled, fits, stopped, allBytes, fillClosing, fillRest, inFront, Fills}
+use Rattle.texts.specs.Running.{Filled, stopped, fillClosing, fillRest, inFront, Fills}
 use Rattle.texts.specs.RunningLaws.{rest-none, closing-grows}
 use Rattle.texts.specs.Sending.{Sends, progressOf, Going, Moved, NoRoom, Goes}
 
@@ -120,15 +120,18 @@ in-front {out} {place} {w} {e} {out′} h a =
 in-place : (out : List ℕ) (place : ℕ) → place ≤ length out → out ≡ inFront (take place out) out
 in-place out place h = sym (take-append-drop place out) ∙ ap (λ (k : ℕ). take place out ++ drop k out) (sym (length-take-le place out h))
 
+-- buffers that agree behind a place agree behind a later one
+pub drop-later : (x y : List ℕ) (m n : ℕ) → m ≤ n → drop m x ≡ drop m y → drop n x ≡ drop n y
+drop-later x y m n h e =
+    let k : m + (n - m) ≡ n = omega arith in
+    ap (λ (i : ℕ). drop i x) (sym k) ∙ sym (drop-drop (n - m) m x) ∙ ap (drop (n - m)) e ∙ drop-drop (n - m) m y ∙ ap (λ (i : ℕ). drop i y) k
+
 -- the buffer was written to before
 pub fills-over : {f : Filled} {out₀ out out′ : List ℕ} {r : Ran} (e : ℕ) → drop e out ≡ drop e out₀ → e ≤ length (f .bytes) → Fills f out r out′ → Fills f out₀ r out′
 fills-over {f} {out₀} {out} {out′} {r} e q h x =
-    let n : e + (length (f .bytes) - e) ≡ length (f .bytes) = omega arith in
-    let d : drop (length (f .bytes)) out ≡ drop (length (f .bytes)) out₀ =
-    ap (λ (k : ℕ). drop k out) (sym n) ∙ sym (drop-drop (length (f .bytes) - e) e out) ∙ ap (drop (length (f .bytes) - e)) q
-    ∙ drop-drop (length (f .bytes) - e) e out₀ ∙ ap (λ (k : ℕ). drop k out₀) n in
-    record { answer = x .answer; result = x .result ∙ ap (λ (v : List ℕ). f .bytes ++ v) d }
+    record { answer = x .answer; result = x .result ∙ ap (λ (v : List ℕ). f .bytes ++ v) (drop-later out out₀ e (length (f .bytes)) h q) }
 
+-- there is no room for more
 pub stays : (q : Progress) {out : List ℕ} {e : ℕ} → e ≤ length out → q .bytes ≡ take e out → Fills (stopped q) out (Full e (q .lines)) out
 stays q {out} {e} h b =
     let n : e ≡ length (q .bytes) = sym (length-take-le e out h) ∙ ap length (sym b) in

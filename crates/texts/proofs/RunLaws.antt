@@ -1,20 +1,14 @@
 -- Laws of a text answered line by line.
 use mathlib.Core.Path.{_≡_, refl, sym, ap, subst, _∙_}
-use mathlib.Core.List.{List, [], _∷_, _++_}
+use mathlib.Core.List.{List, [], _∷_}
 use Prim.Native.Nat.{ℕ, suc, _+_, _-_, _≤_, _<_}
 use native.Mathlib.Omega.{arith}
-use native.Mathlib.Numerals.{add-one}
 use borrow.Author.Tests.{le-leb, lt-leb}
-use lib.ListN.{replicate, length-replicate, length, getD, take, drop, length-append, length-drop, drop-of-length-le}
+use lib.ListN.{length, getD, take, drop, length-drop, drop-of-length-le}
 use lib.Seq.{length-take-le, drop-cons, drop-drop}
-use Rattle.label.specs.Limits.{predicateCount}
-use Rattle.diagram.specs.Sizes.{resultWords}
-use Rattle.names.specs.Layout.{nameWords}
-use Rattle.facts.specs.Words.{stateWords}
-use Rattle.model.specs.Layout.{listingWords, tableWords}
-use Rattle.session.specs.Texts.{Lines, linesOf, Progress, afterLine, afterRest, beginning}
+use Rattle.session.specs.Texts.{Lines, linesOf, Progress, afterLine, beginning}
 use Rattle.memory.specs.declared.Numbers.{Numbers}
-use Rattle.memory.specs.Memory.{Memory, memoryOf, Rooms, workWords}
+use Rattle.memory.specs.Memory.{Memory}
 use Rattle.lines.specs.Lines.{Opened}
 use Rattle.texts.specs.declared.Ran.{Ran}
 use Rattle.texts.specs.declared.Ran.the-variants.{Full}
@@ -24,7 +18,7 @@ use Rattle.texts.specs.LineLaws.{behindLine, line-within, lines-first, l
 use Rattle.texts.specs.Running.{Filled, stopped, fillClosing, fillRest, fillLines, fillFrom, filled, Fills}
 use Rattle.texts.specs.RunningLaws.{rest-none, closing-grows, rest-grows, line-begins, begins-short}
 use Rattle.texts.specs.Sending.{mostLines, progressOf, Going, Moved, NoRoom, Started, Starts}
-use Rattle.texts.proofs.MoveLaws.{fills-over, stays}
+use Rattle.texts.proofs.MoveLaws.{drop-later, fills-over, stays}
 
 pub drop-none : (s : List ℕ) → drop 0 s ≡ s
 drop-none [] = refl
@@ -73,12 +67,6 @@ reading-first {text} {out} {p} {w} g h = record {
 after-count : (q : Progress) (s : List ℕ) → afterLine q s .lines ≡ suc (q .lines)
 unfolding afterLine
 after-count q s = refl
-
--- behind a place, the buffers agree behind a later one
-drop-later : (x y : List ℕ) (m n : ℕ) → m ≤ n → drop m x ≡ drop m y → drop n x ≡ drop n y
-drop-later x y m n h e =
-    let k : m + (n - m) ≡ n = omega arith in
-    ap (λ (i : ℕ). drop i x) (sym k) ∙ sym (drop-drop (n - m) m x) ∙ ap (drop (n - m)) e ∙ drop-drop (n - m) m y ∙ ap (λ (i : ℕ). drop i y) k
 
 module _ {text : List ℕ} {f : Filled} {out₀ : List ℕ} {p : Position} {place : ℕ} {w : Memory} {out : List ℕ} (x : Reading text f out₀ p place w out) where
   bytes-long : length (progressOf p w out .bytes) ≡ p .end
@@ -185,18 +173,3 @@ pub run-starts : (text : List ℕ) {p : Position} {w : Memory} {out : List ℕ} 
     → Fills (fillFrom (length out) (progressOf p w out) (linesOf text)) out r out′ → Fills (filled (length out) text) out r out′
 unfolding filled
 run-starts text {p} {w} {out} {r} {out′} x f = subst (λ (q : Progress). Fills (fillFrom (length out) q (linesOf text)) out r out′) (x .is) f
-
--- words of zeros are room
-pub rooms : (a b c d e f : ℕ) → nameWords ≤ a → b ≡ predicateCount → listingWords ≤ c → tableWords ≤ d → stateWords ≤ e → resultWords ≤ f
-    → Rooms (memoryOf (replicate a 0) (replicate b 0) (replicate c 0) (replicate d 0) (replicate e 0) (replicate f 0))
-rooms a b c d e f ha hb hc hd he hf = record {
-  names = omega (arith, length-replicate {A = ℕ} a 0);
-  arities = omega (arith, length-replicate {A = ℕ} b 0);
-  listings = omega (arith, length-replicate {A = ℕ} c 0);
-  table = omega (arith, length-replicate {A = ℕ} d 0);
-  state = omega (arith, length-replicate {A = ℕ} e 0);
-  value = omega (arith, length-replicate {A = ℕ} f 0);
-}
-
-pub work-room : (n : ℕ) → workWords ≤ n → workWords ≤ length (replicate {A = ℕ} n 0)
-work-room n h = omega (arith, length-replicate {A = ℕ} n 0)

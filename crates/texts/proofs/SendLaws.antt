@@ -52,9 +52,9 @@ module _ {s : List ℕ} {number : ℕ} {n : Numbers} {w : Memory} {r : Said} {w�
       sym (λ i. answerBytes (listing (x .session i .held .diagram)) (x .answer i))
       ∙ answers-same (listing (diagramOf ws)) (w′ .value) (r .answer)
       (λ m h.
-          let v = held-shown m h in
-          ap (λ (vs : List ℕ). rowLines vs m) (is-listing-diagram (w′ .arities) ws (v .listed))
-          ∙ rows-begin (r .numbers .held .rows * 3) (w′ .value) m (omega (arith, v .count)))
+      let v = held-shown m h in
+      ap (λ (vs : List ℕ). rowLines vs m) (is-listing-diagram (w′ .arities) ws (v .listed))
+      ∙ rows-begin (r .numbers .held .rows * 3) (w′ .value) m (omega (arith, v .count)))
 
   pub sent : {put : Put} {out out′ : List ℕ} {place : ℕ} → Placed out place (answerBytes (w′ .value) (r .answer)) put out′
       → Sends s number n w out place (record { numbers = r .numbers; put = put }) w′ out′

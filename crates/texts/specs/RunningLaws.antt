@@ -1,14 +1,13 @@
 -- Laws of texts answered in a buffer: with room for all answers they are the answers of the text, otherwise they begin them.
-use mathlib.Core.Path.{_≡_, refl, sym, ap, subst, _∙_}
+use mathlib.Core.Path.{_≡_, refl, sym, ap, _∙_}
 use mathlib.Core.Bool.{Bool, true, false}
 use mathlib.Core.List.{List, [], _∷_, _++_, append-assoc, append-nil}
-use Prim.Native.Nat.{ℕ, zero, suc, _≤_, _<_}
+use Prim.Native.Nat.{ℕ, suc, _≤_, _<_}
 use native.Mathlib.Omega.{arith}
 use native.Mathlib.Decide.{decLt}
 use borrow.Author.Tests.{le-leb, lt-leb}
 use lib.ListN.{length, take, length-append}
-use lib.Dec.{leb}
-use Rattle.session.specs.Texts.{Progress, replyBytes, afterLine, afterLines, afterRest, closing, beginning, linesOf, textRead, textAnswers}
+use Rattle.session.specs.Texts.{Progress, afterLine, afterLines, afterRest, closing, beginning, linesOf, textAnswers}
 use Rattle.texts.specs.declared.Ran.{Ran}
 use Rattle.texts.specs.declared.Ran.the-variants.{Done, Full}
 use Rattle.texts.specs.Running.{Filled, pickFilled, fits, stopped, allBytes, fillClosing, fillRest, fillLines, filled, inFront, Fills}
@@ -57,9 +56,10 @@ fill-all : (room : ℕ) (p : Progress) (ls : List (List ℕ)) (s : List ℕ) →
     → fillLines room p ls s ≡ record { bytes = whole p ls s; answer = Done (length (whole p ls s)) }
 unfolding fillLines fillRest fillClosing afterLines
 fill-all room p [] s h =
-    rw
-    (le-leb (length (afterRest p s .bytes)) room (omega (arith, begins-short (whole-rest p s))),
-    le-leb (length (whole p [] s)) room h)
+    rw (
+      le-leb (length (afterRest p s .bytes)) room (omega (arith, begins-short (whole-rest p s))),
+      le-leb (length (whole p [] s)) room h,
+    )
 fill-all room p (l ∷ ls) s h =
     rw (le-leb (length (afterLine p l .bytes)) room (omega (arith, begins-short (whole-begins (afterLine p l) ls s))))
     (fill-all room (afterLine p l) ls s h)

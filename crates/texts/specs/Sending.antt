@@ -3,9 +3,8 @@ use mathlib.Core.Path.{_≡_}
 use mathlib.Core.List.{List}
 use Prim.Native.Nat.{ℕ, _<_, _≤_}
 use lib.ListN.{length, take, drop}
-use Rattle.answers.specs.declared.Put.{Put}
 use Rattle.answers.specs.Writing.{Placed}
-use Rattle.session.specs.Replies.{Reply, reply}
+use Rattle.session.specs.Replies.{reply}
 use Rattle.session.specs.Texts.{Progress, replyBytes, beginning}
 use Rattle.memory.specs.declared.Numbers.{Numbers}
 use Rattle.memory.specs.Memory.{Memory, memoryOf, sessionOf, Kept, Rooms}

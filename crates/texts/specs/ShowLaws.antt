@@ -1,14 +1,14 @@
 -- What a shown listing is: the rows of the value diagram, which begin the words that hold it.
-use mathlib.Core.Path.{_≡_, refl, sym, ap, subst, _∙_}
+use mathlib.Core.Path.{_≡_, refl, sym, ap, subst}
 use mathlib.Core.Bool.{true}
 use mathlib.Core.List.{List}
 use Prim.Native.Nat.{ℕ, zero, suc, _+_, _*_, _≤_}
 use native.Mathlib.Omega.{arith}
-use lib.ListN.{length, getD, take, drop}
+use lib.ListN.{length, take, drop}
 use lib.Seq.{getD-take, length-take-le}
 use Rattle.diagram.specs.Rows.{rows}
 use Rattle.diagram.specs.Words.{labelAt, highAt, lowAt, isListing}
-use Rattle.diagram.specs.Listing.{listing, diagramOf}
+use Rattle.diagram.specs.Listing.{diagramOf}
 use Rattle.diagram.specs.ListingLaws.{length-listing}
 use Rattle.diagram.specs.Listings.{is-listing-diagram}
 use Rattle.regress.specs.Calls.{Outcome, ok, refused}
@@ -23,7 +23,7 @@ use Rattle.events.specs.declared.Event.{Event}
 use Rattle.events.specs.Contents.{keyIn, numberIn, wordAt, keysIn, numbersIn}
 use Rattle.answers.specs.declared.Answer.{Answer}
 use Rattle.answers.specs.declared.Answer.the-variants as A
-use Rattle.answers.specs.Answers.{rowLine, rowLineAt, rowLines, answerBytes}
+use Rattle.answers.specs.Answers.{rowLineAt, rowLines, answerBytes}
 use Rattle.answers.specs.Writing.{Showable}
 use Rattle.session.specs.declared.Part.{Part}
 use Rattle.session.specs.declared.Part.the-variants.{Model, Run}
@@ -33,7 +33,7 @@ use Rattle.session.specs.Declaring.{constantLine, predicateLine, totalLine, dis
 use Rattle.session.specs.Facts.{objectsLine, isLine, trueLine}
 use Rattle.session.specs.Modelling.{rewardLine, variantLine, becomesLine}
 use Rattle.session.specs.Running.{startLine, valueRead, backupLine, cutSays}
-use Rattle.session.specs.Replies.{Reply, withNames, withVocabulary, withTotal, withDiscount, withAction, withLive, allowed, quietly, valueSays, backupSays, done, placed, replyTo, reply, refusal, wordsOf}
+use Rattle.session.specs.Replies.{Reply, withNames, withVocabulary, withTotal, withDiscount, withAction, withLive, allowed, quietly, valueSays, backupSays, done, placed, replyTo, reply, wordsOf}
 
 -- ===== The bytes of an answer =====
 
@@ -42,11 +42,12 @@ pub rows-begin : (m : ℕ) (ws : List ℕ) (n : ℕ) → n * 3 ≤ m → rowLine
 unfolding rowLines rowLineAt labelAt highAt lowAt
 rows-begin m ws zero h = refl
 rows-begin m ws (suc n) h =
-    rw
-    (rows-begin m ws n (omega arith),
-    getD-take m ws (n * 3) 0 (omega arith),
-    getD-take m ws (n * 3 + 1) 0 (omega arith),
-    getD-take m ws (n * 3 + 2) 0 (omega arith))
+    rw (
+      rows-begin m ws n (omega arith),
+      getD-take m ws (n * 3) 0 (omega arith),
+      getD-take m ws (n * 3 + 1) 0 (omega arith),
+      getD-take m ws (n * 3 + 2) 0 (omega arith),
+    )
 
 -- only a shown listing reads the words
 pub answers-same : (vs ws : List ℕ) (a : Answer) → ((n : ℕ) → a ≡ A.Show n → rowLines vs n ≡ rowLines ws n) → answerBytes vs a ≡ answerBytes ws a
@@ -138,10 +139,10 @@ show-line σ number es n = go (σ .part) refl
         → Shows σ n (placed σ number (allowed σ (ruleOf K.Show (σ .part))) (done σ number K.Show es))
     go Model q e = unequal _ (cc)
     go Run q e = let m : length (rows (σ .held .diagram)) ≡ n = cc in record {
-          part = q;
-          count = sym m;
-          session = ap (λ (x : Part). placed σ number (allowed σ (ruleOf K.Show x)) (done σ number K.Show es) .session) q;
-        }
+      part = q;
+      count = sym m;
+      session = ap (λ (x : Part). placed σ number (allowed σ (ruleOf K.Show x)) (done σ number K.Show es) .session) q;
+    }
 
 show-kind : (σ : Session) (number : ℕ) (k : Kind) (es : List Event) (n : ℕ) → replyTo σ number k es .answer ≡ A.Show n → k ≡ K.Show
 unfolding replyTo

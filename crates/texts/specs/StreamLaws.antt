@@ -1,12 +1,12 @@
 -- Laws of a text that comes in: in whatever blocks, its answers are those of the whole text.
-use mathlib.Core.Path.{_≡_, refl, sym, ap, subst, _∙_}
+use mathlib.Core.Path.{_≡_, refl, sym, ap, _∙_}
 use mathlib.Core.Bool.{Bool, true, false, cond, not}
 use mathlib.Core.List.{List, [], _∷_, _++_, append-nil, append-assoc}
 use Prim.Native.Nat.{ℕ, suc, _+_, _≤_, _<_}
 use native.Mathlib.Omega.{arith}
 use native.Mathlib.Decide.{decLt}
-use borrow.Author.Tests.{le-leb, lt-leb}
-use lib.ListN.{length, take, drop, length-append}
+use borrow.Author.Tests.{lt-leb}
+use lib.ListN.{length, take}
 use lib.Seq.{take-all, take-at, length-take-le, take-append-le}
 use lib.Dec.{eqb}
 use Rattle.refusal.specs.declared.Refusal.the-variants.{Form}
@@ -18,7 +18,7 @@ use Rattle.session.specs.declared.Part.{Part}
 use Rattle.session.specs.declared.Part.the-variants.{Model, Run}
 use Rattle.session.specs.Session.{Session}
 use Rattle.session.specs.Place.{ruleOf}
-use Rattle.session.specs.Replies.{Reply, allowed, placed, done, replyTo, reply, refusal, wordsOf}
+use Rattle.session.specs.Replies.{allowed, placed, done, replyTo, reply, refusal, wordsOf}
 use Rattle.session.specs.Texts.{lineFeed, Lines, behindByte, pickLines, linesOf, Progress, replied, afterLine, afterLines, afterRest, beginning, textAnswers}
 use Rattle.texts.specs.Ends.{lineLength}
 use Rattle.texts.specs.Running.{allBytes}

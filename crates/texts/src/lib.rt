@@ -247,8 +247,7 @@ fn answer_lines(
             value,
             work,
             out,
-        )
-        else {
+        ) else {
             return Ran::Full(p.end, p.lines);
         };
         p = q;
@@ -403,8 +402,7 @@ pub fn feed(
                 value,
                 work,
                 out,
-            )
-            else {
+            ) else {
                 return Fed::Full;
             };
             Fed::Line(next, q)

@@ -6,7 +6,6 @@ use libc::STDOUT_FILENO;
 use texts::Fed;
 use texts::Position;
 use texts::Ran;
-ghost use mathlib.Core.Path.{_≡_};
 ghost use Prim.Native.Nat.{_+_, _<_, _≤_};
 ghost use lib.ListN.{length};
 ghost use Rattle.memory.specs.Memory.{memoryOf, Rooms, workWords};
@@ -119,8 +118,7 @@ fn answer_block(
             value,
             work,
             out,
-        )
-        else {
+        ) else {
             return Went::Ends;
         };
         at = next;
@@ -184,8 +182,7 @@ fn answer_input(
             value,
             work,
             out,
-        )
-        else {
+        ) else {
             return;
         };
         left -= n as u64;

@@ -22,9 +22,10 @@ abbrev μ-loop : tie.MeasureT-loop
 
 loop-holds : tie.Need-loop-holds Inv-loop μ-loop
 loop-holds c =
-    let s = c .before .before .before .before .before .before .before .before .before .pre in
-    (reading-first (s .0) (s .1 .0),
-    record { names = refl; arities = refl; listings = refl; table = refl; state = refl; value = refl; work-room = refl })
+    let s = c .before .before .before .before .before .before .before .before .before .pre in (
+      reading-first (s .0) (s .1 .0),
+      record { names = refl; arities = refl; listings = refl; table = refl; state = refl; value = refl; work-room = refl },
+    )
 
 close-rest-requires : tie.Need-close-rest-requires Inv-loop μ-loop
 close-rest-requires c κs =
@@ -52,18 +53,19 @@ loop-again : tie.Need-loop-again Inv-loop μ-loop
 loop-again c =
     let l = c .before .before .before .before .before .before .before .before .before .before .before .before .before .before .before .before .before .before .before .before .before .before .before .before .before .before .before .before .before .before in
     let i = l .before .before .loop .inv in
-    let k = c .before .before .before .before .before .before .before .before .before .before .before .before .before .before .before .before .before .before .before .next-line .kept in
-    (reading-next (i .0) (l .before .loop-test .taken) (l .line-end .ensures) (omega (arith, c .before .before .before .before .before .before .before .before .before .before .before .before .before .before .before .before .before .before .before .before .before .before .before .before .before .before .before .before .before .if1 .left))
-    (c .before .before .before .before .before .before .before .before .before .before .before .before .before .before .before .before .before .before .before .next-line .ensures .to _ (c .before .q .given .1)) (omega (arith, k)),
-    record {
-      names = omega (arith, k, i .1);
-      arities = omega (arith, k, i .1);
-      listings = omega (arith, k, i .1);
-      table = omega (arith, k, i .1);
-      state = omega (arith, k, i .1);
-      value = omega (arith, k, i .1);
-      work-room = omega (arith, k, i .1);
-    })
+    let k = c .before .before .before .before .before .before .before .before .before .before .before .before .before .before .before .before .before .before .before .next-line .kept in (
+      reading-next (i .0) (l .before .loop-test .taken) (l .line-end .ensures) (omega (arith, c .before .before .before .before .before .before .before .before .before .before .before .before .before .before .before .before .before .before .before .before .before .before .before .before .before .before .before .before .before .if1 .left))
+          (c .before .before .before .before .before .before .before .before .before .before .before .before .before .before .before .before .before .before .before .next-line .ensures .to _ (c .before .q .given .1)) (omega (arith, k)),
+      record {
+        names = omega (arith, k, i .1);
+        arities = omega (arith, k, i .1);
+        listings = omega (arith, k, i .1);
+        table = omega (arith, k, i .1);
+        state = omega (arith, k, i .1);
+        value = omega (arith, k, i .1);
+        work-room = omega (arith, k, i .1);
+      },
+    )
 
 returns-3 : tie.Need-returns-3 Inv-loop μ-loop
 returns-3 c = reading-ends (c .before .before .before .before .before .loop .inv .0) (c .before .before .before .before .loop-test .left) (c .before .before .close .ensures)

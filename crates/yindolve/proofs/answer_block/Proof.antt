@@ -32,19 +32,20 @@ loop-less c =
 loop-again : tie.Need-loop-again Inv-loop μ-loop
 loop-again c =
     let i = c .before .before .before .before .before .before .before .before .before .before .before .before .before .before .before .before .before .before .before .before .before .before .before .before .before .before .before .before .before .before .before .before .loop .inv in
-    let k = c .before .before .before .before .before .before .before .before .before .before .before .before .before .before .before .before .before .before .before .before .before .answer-some .kept in
-    (read-next (i .0) (c .before .before .before .before .before .before .before .before .before .before .before .before .before .before .before .before .before .before .before .before .before .answer-some .ensures) _ _ _ (c .before .next .given .1),
-    record {
-      names = omega (arith, k, i .1);
-      arities = omega (arith, k, i .1);
-      listings = omega (arith, k, i .1);
-      table = omega (arith, k, i .1);
-      state = omega (arith, k, i .1);
-      value = omega (arith, k, i .1);
-      working = omega (arith, k, i .1);
-      kept = omega (arith, k, i .1);
-      buffer = omega (arith, k, i .1);
-    })
+    let k = c .before .before .before .before .before .before .before .before .before .before .before .before .before .before .before .before .before .before .before .before .before .answer-some .kept in (
+      read-next (i .0) (c .before .before .before .before .before .before .before .before .before .before .before .before .before .before .before .before .before .before .before .before .before .answer-some .ensures) _ _ _ (c .before .next .given .1),
+      record {
+        names = omega (arith, k, i .1);
+        arities = omega (arith, k, i .1);
+        listings = omega (arith, k, i .1);
+        table = omega (arith, k, i .1);
+        state = omega (arith, k, i .1);
+        value = omega (arith, k, i .1);
+        working = omega (arith, k, i .1);
+        kept = omega (arith, k, i .1);
+        buffer = omega (arith, k, i .1);
+      },
+    )
 
 pub answer-block-spec : {M : Type 1} → statement M
 answer-block-spec =

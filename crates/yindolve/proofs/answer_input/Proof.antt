@@ -20,9 +20,11 @@ abbrev μ-loop : tie.MeasureT-loop
 loop-holds : tie.Need-loop-holds Inv-loop μ-loop
 loop-holds c =
     let s = c .before .before .before .before .before .before .before .before .before .before .before .before .before .before .before .before .before in
-    let a = s .args in
-    (waiting-first (c .before .before .before .before .begin .ensures .says (a .names .now) (a .listings .now) (a .table .now) (a .value .now) (a .out .now) (s .pre .0)),
-    lengths-same _ _ _ _, refl)
+    let a = s .args in (
+      waiting-first (c .before .before .before .before .begin .ensures .says (a .names .now) (a .listings .now) (a .table .now) (a .value .now) (a .out .now) (s .pre .0)),
+      lengths-same _ _ _ _,
+      refl,
+    )
 
 finish-requires : tie.Need-finish-requires Inv-loop μ-loop
 finish-requires c κs =
@@ -33,28 +35,30 @@ answer-block-requires : tie.Need-answer-block-requires Inv-loop μ-loop
 answer-block-requires c κs =
     let i = c .before .before .before .before .before .before .before .before .before .before .before .before .before .before .before .before .before .before .before .loop .inv in
     let s = c .before .before .before .before .before .before .before .before .before .before .before .before .before .before .before .before .before .before .before .before .before .before .before .before .before .before .before .before .before .before .before .before .before .before .before .before .before .pre .1 in
-    let n = c .before .before .before .before .before .before .before .before .before .before .before .before .count .ensures .0 in
-    (waiting-feeds (i .0) (c .before .before .before .before .before .before .before .before .before .before .before .before .before .before .before .before .before .before .loop-test .taken) (omega (arith, i .1 .kept, s .1)) (omega (arith, i .1 .working, s .0)),
-    omega (arith, i .0 .lines, n .1, c .before .before .before .before .before .before .before .before .before .before .if2 .left))
+    let n = c .before .before .before .before .before .before .before .before .before .before .before .before .count .ensures .0 in (
+      waiting-feeds (i .0) (c .before .before .before .before .before .before .before .before .before .before .before .before .before .before .before .before .before .before .loop-test .taken) (omega (arith, i .1 .kept, s .1)) (omega (arith, i .1 .working, s .0)),
+      omega (arith, i .0 .lines, n .1, c .before .before .before .before .before .before .before .before .before .before .if2 .left),
+    )
 
 loop-again : tie.Need-loop-again Inv-loop μ-loop
 loop-again c =
     let i = c .before .before .before .before .before .before .before .before .before .before .before .before .before .before .before .before .before .before .before .before .before .before .before .before .before .before .before .before .before .before .before .before .before .before .before .before .before .before .before .before .before .loop .inv in
     let k = c .before .before .before .before .before .before .before .before .before .before .before .before .before .before .before .before .before .before .before .before .before .answer-block .kept in
-    let n = c .before .before .before .before .before .before .before .before .before .before .before .before .before .before .before .before .before .before .before .before .before .before .before .before .before .before .before .before .before .before .before .before .before .before .count .ensures .0 in
-    (waiting-next (i .0) _ (omega (arith, n .1)) (c .before .before .before .before .before .before .before .before .before .before .before .before .before .before .before .before .before .before .before .before .before .before .before .before .before .before .before .before .before .before .before .before .if2 .left) (c .before .before .before .before .before .before .before .before .before .before .before .before .before .before .before .before .before .before .before .before .before .answer-block .ensures) _ _ _ (c .before .kept .given .1),
-    record {
-      names = omega (arith, k, i .1);
-      arities = omega (arith, k, i .1);
-      listings = omega (arith, k, i .1);
-      table = omega (arith, k, i .1);
-      state = omega (arith, k, i .1);
-      value = omega (arith, k, i .1);
-      working = omega (arith, k, i .1);
-      kept = omega (arith, k, i .1);
-      buffer = omega (arith, k, i .1);
-    },
-    omega (arith, c .before .before .before .before .before .before .before .before .before .before .before .before .before .before .before .before .before .before .before .before .before .before .before .before .before .before .before .before .before .before .before .before .before .before .before .before .before .before .read .kept, i .2))
+    let n = c .before .before .before .before .before .before .before .before .before .before .before .before .before .before .before .before .before .before .before .before .before .before .before .before .before .before .before .before .before .before .before .before .before .before .count .ensures .0 in (
+      waiting-next (i .0) _ (omega (arith, n .1)) (c .before .before .before .before .before .before .before .before .before .before .before .before .before .before .before .before .before .before .before .before .before .before .before .before .before .before .before .before .before .before .before .before .if2 .left) (c .before .before .before .before .before .before .before .before .before .before .before .before .before .before .before .before .before .before .before .before .before .answer-block .ensures) _ _ _ (c .before .kept .given .1),
+      record {
+        names = omega (arith, k, i .1);
+        arities = omega (arith, k, i .1);
+        listings = omega (arith, k, i .1);
+        table = omega (arith, k, i .1);
+        state = omega (arith, k, i .1);
+        value = omega (arith, k, i .1);
+        working = omega (arith, k, i .1);
+        kept = omega (arith, k, i .1);
+        buffer = omega (arith, k, i .1);
+      },
+      omega (arith, c .before .before .before .before .before .before .before .before .before .before .before .before .before .before .before .before .before .before .before .before .before .before .before .before .before .before .before .before .before .before .before .before .before .before .before .before .before .before .read .kept, i .2),
+    )
 
 pub answer-input-spec : {M : Type 1} → statement M
 answer-input-spec =
