@@ -16,7 +16,6 @@ ghost use Rattle.diagram.specs.Words.{isListing};
 ghost use Rattle.apply.specs.declared.Operation.the-variants.{Sum, Product, Max};
 ghost use Rattle.apply.specs.declared.Names.the-variants.{Apart, Shared};
 ghost use Rattle.memory.specs.Memory.{memoryOf};
-ghost use Rattle.lines.specs.Lines.{StandIn};
 ghost use Rattle.c_library.specs.Answers.{listingNumber, edgeNumber};
 ghost use Rattle.c_library.specs.Calls.{Combines, Regresses, Frees, Cuts, Values, Runs};
 ghost use Rattle.c_library.specs.Sessions.{hasRoom, Opens, Lent, Replies};
@@ -323,7 +322,6 @@ pub extern "C" fn yindolve_run(
     bytes: &mut u64,
     lines: &mut u64,
 ) -> u64
-    requires { ⌜ StandIn ⌝ }
     ensures { λ r. ⌜ Runs (now (text .entry)) (now (answers .entry)) (now (lines .entry)) r (now (answers .exit)) (now (bytes .exit)) (now (lines .exit)) ⌝ }
 {
     let ran = texts::run(text, answers);
@@ -356,7 +354,6 @@ fn has_room(numbers: usize, arities: usize, state: usize) -> bool
 // Opens a session: before its first line.
 #[no_mangle]
 pub extern "C" fn yindolve_open(numbers: &mut [u64], arities: &mut [u64], state: &mut [u64]) -> u64
-    requires { ⌜ StandIn ⌝ }
     ensures { λ r. ⌜ Opens (now (numbers .entry)) (now (arities .entry)) (now (state .entry)) r (now (numbers .exit)) (now (arities .exit)) (now (state .exit)) ⌝ }
 {
     if !has_room(numbers.len(), arities.len(), state.len()) {
@@ -383,7 +380,6 @@ pub extern "C" fn yindolve_line(
     bytes: &mut u64,
 ) -> u64
     requires { ⌜ Lent (now numbers) (memoryOf (now names) (now arities) (now listings) (now table) (now state) (now value)) (now work) ⌝ }
-    requires { ⌜ StandIn ⌝ }
     ensures { λ r. ⌜ Replies (now (line .entry)) (now (numbers .entry)) (memoryOf (now (names .entry)) (now (arities .entry)) (now (listings .entry)) (now (table .entry)) (now (state .entry)) (now (value .entry))) (now (answer .entry)) (now (bytes .entry)) r (now (numbers .exit)) (memoryOf (now (names .exit)) (now (arities .exit)) (now (listings .exit)) (now (table .exit)) (now (state .exit)) (now (value .exit))) (now (answer .exit)) (now (bytes .exit)) ⌝ }
 {
     if answer.len() < answers::MOST_BYTES {

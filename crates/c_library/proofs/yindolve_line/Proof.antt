@@ -9,10 +9,10 @@ returns c = line-refused (c .before .if1 .taken) (c .number .ensures)
 reply-line-requires : tie.Need-reply-line-requires
 reply-line-requires c κs =
     let s = c .before .before .before .before .before .before .before .before .before .before .before .before .before .before .before .before .before .before .before .before .before .before .before in
-    (line-kept (s .pre .0) (c .before .before .before .before .before .before .before .before .before .before .load .ensures), (s .pre .0 .work-room, s .pre .1))
+    (line-kept (s .pre) (c .before .before .before .before .before .before .before .before .before .before .load .ensures), s .pre .work-room)
 
 store-requires : tie.Need-store-requires
-store-requires c κs = c .before .before .before .before .before .before .before .before .before .before .before .before .before .before .before .before .before .before .before .before .before .before .before .before .before .before .before .before .before .before .before .before .before .before .before .before .before .before .before .before .before .before .pre .0 .room
+store-requires c κs = c .before .before .before .before .before .before .before .before .before .before .before .before .before .before .before .before .before .before .before .before .before .before .before .before .before .before .before .before .before .before .before .before .before .before .before .before .before .before .before .before .before .before .pre .room
 
 returns-2 : tie.Need-returns-2
 returns-2 c = line-full _ (c .before .before .before .before .before .before .before .before .before .before .before .before .before .before .before .before .before .before .before .before .before .before .before .before .before .before .before .before .before .before .before .before .before .before .before .before .before .if1 .left) (c .before .before .before .before .before .before .before .before .before .before .before .before .before .before .before .before .before .before .before .before .before .before .before .before .before .before .before .before .before .before .before .before .before .before .before .load .ensures) (c .before .before .before .before .before .before .before .before .before .before .before .before .before .before .before .before .before .before .before .before .before .before .before .before .before .before .before .before .before .before .before .before .before .lines-of .ensures) (c .before .before .before .before .before .before .before .before .before .before .before .before .before .before .before .before .before .before .before .before .before .before .before .before .reply-line .ensures) (c .before .before .before .before .before .store .ensures) (c .before .enum-told .given .1) (c .number2 .ensures)

@@ -11,10 +11,9 @@ returns c =
 
 open-requires : tie.Need-open-requires
 open-requires c κs =
-    let s = c .before .before .before .before .before .before .before in
-    let a = s .args in
+    let a = c .before .before .before .before .before .before .before .args in
     let r = room-is (length (a .numbers .now)) (length (a .arities .now)) (length (a .state .now)) (c .before .before .before .has-room .ensures) (c .before .before .if1 .left) in
-    (r .arities, (r .state, s .pre))
+    (r .arities, r .state)
 
 store-requires : tie.Need-store-requires
 store-requires c κs =
