@@ -2,7 +2,8 @@
  *
  * Memory. The library owns none: the caller lends every word, 64 bits each, as a pointer and a count of words. A pointer is to as many words as its count says and
  * is not null, also where the count is 0; what a call writes to (result, work, rows, pairs, row, edge, value) overlaps nothing else that the call is lent. Nothing
- * else is asked of the words: any are taken, and those that are not what they should be are refused.
+ * else is asked of the words: any are taken, and those that are not what they should be are refused. Only yindolve_line asks more: a session's words are as the
+ * library left them.
  *
  * Listings. A row is three words: a leaf is YINDOLVE_LEAF, its value, 0; a branch is its label, true row, false row. A label is predicate * 2^24 + t1 * 2^18 +
  * t2 * 2^12 + t3 * 2^6 + t4, unused places 0. Terms: constants 0 to 15, parameters 16 to 19, variables 32 to 63. Predicate 0 is equality, its smaller term
@@ -39,6 +40,16 @@ extern "C" {
 #define YINDOLVE_CONSTANTS 16      /* the objects of a state's constants */
 #define YINDOLVE_FACT_WORDS 5      /* a fact: its predicate and four objects, unused places ignored */
 #define YINDOLVE_SPAN_WORDS 64     /* where truth diagrams stand: two words for each predicate */
+
+/* Sizes of a session's memory, in words, and of its answers, in bytes. */
+#define YINDOLVE_NUMBER_WORDS 22         /* numbers, at least */
+#define YINDOLVE_NAME_WORDS 136          /* names, at least */
+#define YINDOLVE_LISTING_WORDS 6144      /* the model's listings, at least */
+#define YINDOLVE_TABLE_WORDS 4240        /* where they stand, at least */
+#define YINDOLVE_STATE_WORDS 5152        /* the state, at least */
+#define YINDOLVE_VALUE_WORDS 3072        /* the value's listing, at least */
+#define YINDOLVE_SESSION_WORK_WORDS 8190 /* a session's working space, at least */
+#define YINDOLVE_ANSWER_BYTES 92160      /* the answer of a line: 90 bytes for each of 1,024 rows */
 
 /* The refusals that library calls answer. */
 enum {
@@ -111,35 +122,53 @@ uint64_t yindolve_cut(const uint64_t *arities, size_t arities_count, const uint6
 uint64_t yindolve_value(const uint64_t *arities, size_t arities_count, const uint64_t *words, size_t words_count, uint64_t objects, const uint64_t *constants,
     size_t constants_count, const uint64_t *facts, size_t facts_count, uint64_t *value);
 
-#ifdef YINDOLVE_TEXT /* for a library that has these functions */
+/* Texts. A text is bytes, its lines end with a line feed; document 01 says what lines there are and what each is answered. */
 
-/* A whole text, a model and its run: all answers to `answers`, one line each, and their bytes to *bytes. Bytes behind them stay.
- * Refused: BUFFER where the answer of a line does not fit what is left; then *bytes are written, the answers of *lines lines.
+/* Answers a whole text: the answers behind one another to `answers`, the closing one too, and their bytes to *bytes; bytes behind them stay.
+ * Refused: BUFFER where the answer of a line does not fit: the answers before it are written, *bytes of them, and *lines lines are answered.
  */
 uint64_t yindolve_run(const uint8_t *text, size_t text_count, uint8_t *answers, size_t answers_count, uint64_t *bytes, uint64_t *lines);
 
-/* Sizes of a session's memory, in words, and of the answer of one line, in bytes, at most. */
-#define YINDOLVE_NUMBERS_WORDS 24
-#define YINDOLVE_NAMES_WORDS 136
-#define YINDOLVE_LISTINGS_WORDS 6144
-#define YINDOLVE_TABLE_WORDS 4240
-#define YINDOLVE_STATE_WORDS 5152
-#define YINDOLVE_VALUE_WORDS 3072
-#define YINDOLVE_LINE_WORK_WORDS 8190
-#define YINDOLVE_ANSWER_BYTES 92160
-
-/* A text line by line. yindolve_open makes the memory that of a session before its first line; yindolve_line answers the next line, lent without its line feed,
- * and writes the answer to `answer` and its bytes, 0 where the line has none, to *bytes. A session is the words of numbers, names, arities, listings, table,
- * state and value: between lines they have to stay as opening or the last line left them, and what the caller lends as a session has to be one, since it is
- * not checked again. A session is copied by copying these words.
- * Refused: BUFFER for memory that is too small. A line that is refused is answered in `answer`, as (refused NUMBER LINE).
+/* Opens a session: before its first line. Its memory is `numbers`, `arities` and `state` and, for its lines, words of any value for names, listings, table and
+ * value; all of it belongs to the session until its last line.
+ * Refused: BUFFER where numbers or state have fewer words than above, or there are not YINDOLVE_ARITIES arities.
  */
 uint64_t yindolve_open(uint64_t *numbers, size_t numbers_count, uint64_t *arities, size_t arities_count, uint64_t *state, size_t state_count);
+
+/* Answers the next line of a session, which is given without its line feed: the answer's bytes to `answer`, none for a line that prints nothing, their count to
+ * *bytes. The end of the text and its closing answer are the host's.
+ * ASKED OF THE CALLER, and not checked: the session's memory has the sizes above and is as opening or the line before left it, and fewer than 2^64 - 1 lines were
+ * answered. The working space may hold anything.
+ * Refused: BUFFER where `answer` has fewer than YINDOLVE_ANSWER_BYTES: the line is not answered, and the session stays as it was.
+ */
 uint64_t yindolve_line(const uint8_t *line, size_t line_count, uint64_t *numbers, size_t numbers_count, uint64_t *names, size_t names_count, uint64_t *arities,
     size_t arities_count, uint64_t *listings, size_t listings_count, uint64_t *table, size_t table_count, uint64_t *state, size_t state_count, uint64_t *value,
     size_t value_count, uint64_t *work, size_t work_count, uint8_t *answer, size_t answer_count, uint64_t *bytes);
 
-#endif
+/* A session with all its memory; about 300 KB, so that it is best static or from the heap. */
+typedef struct {
+    uint64_t numbers[YINDOLVE_NUMBER_WORDS];
+    uint64_t names[YINDOLVE_NAME_WORDS];
+    uint64_t arities[YINDOLVE_ARITIES];
+    uint64_t listings[YINDOLVE_LISTING_WORDS];
+    uint64_t table[YINDOLVE_TABLE_WORDS];
+    uint64_t state[YINDOLVE_STATE_WORDS];
+    uint64_t value[YINDOLVE_VALUE_WORDS];
+    uint64_t work[YINDOLVE_SESSION_WORK_WORDS];
+    uint8_t answer[YINDOLVE_ANSWER_BYTES];
+} yindolve_session;
+
+/* Opens the session: 0. */
+static inline uint64_t yindolve_session_open(yindolve_session *s) {
+    return yindolve_open(s->numbers, YINDOLVE_NUMBER_WORDS, s->arities, YINDOLVE_ARITIES, s->state, YINDOLVE_STATE_WORDS);
+}
+
+/* Answers the next line of an open session, given without its line feed: 0, the answer in s->answer, its bytes to *bytes. */
+static inline uint64_t yindolve_session_line(yindolve_session *s, const uint8_t *line, size_t line_count, uint64_t *bytes) {
+    return yindolve_line(line, line_count, s->numbers, YINDOLVE_NUMBER_WORDS, s->names, YINDOLVE_NAME_WORDS, s->arities, YINDOLVE_ARITIES, s->listings,
+        YINDOLVE_LISTING_WORDS, s->table, YINDOLVE_TABLE_WORDS, s->state, YINDOLVE_STATE_WORDS, s->value, YINDOLVE_VALUE_WORDS, s->work,
+        YINDOLVE_SESSION_WORK_WORDS, s->answer, YINDOLVE_ANSWER_BYTES, bytes);
+}
 
 #ifdef __cplusplus
 }

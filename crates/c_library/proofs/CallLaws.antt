@@ -5,7 +5,7 @@ use mathlib.Core.List.{List}
 use Prim.Native.Nat.{ℕ}
 use lib.ListN.{length}
 use Rattle.refusal.specs.declared.Refusal.{Refusal}
-use Rattle.refusal.specs.declared.Refusal.the-variants.{Listing}
+use Rattle.refusal.specs.declared.Refusal.the-variants.{Listing, Buffer}
 use Rattle.refusal.specs.Numbers.{numberOf}
 use Rattle.apply.specs.declared.Operation.{Operation}
 use Rattle.apply.specs.declared.Names.{Names}
@@ -24,8 +24,11 @@ use Rattle.cut.specs.Cut.{cutAnswer, cutBuffer}
 use Rattle.state.specs.declared.Valued.{Valued}
 use Rattle.state.specs.declared.Valued.the-variants.{Value, Refused as ValuedRefused}
 use Rattle.state.specs.ValueCall.{valueAnswer}
-use Rattle.c_library.specs.Answers.{combinedNumber, combinedRows, combinedPairs, regressedNumber, regressedRows, freedNumber, freedRows, cutNumber, cutRow, edgeNumber, cutEdge, cutRows, valuedNumber, valuedValue, listingNumber}
-use Rattle.c_library.specs.Calls.{Combines, Regresses, Frees, Cuts, Values}
+use Rattle.texts.specs.declared.Ran.{Ran}
+use Rattle.texts.specs.declared.Ran.the-variants.{Done as RanDone, Full}
+use Rattle.texts.specs.Running.{filled, Fills}
+use Rattle.c_library.specs.Answers.{combinedNumber, combinedRows, combinedPairs, regressedNumber, regressedRows, freedNumber, freedRows, cutNumber, cutRow, edgeNumber, cutEdge, cutRows, valuedNumber, valuedValue, listingNumber, ranNumber, ranBytes, ranLines}
+use Rattle.c_library.specs.Calls.{Combines, Regresses, Frees, Cuts, Values, Runs}
 
 module _ {op : Operation} {names : Names} {ar x y out work : List ℕ} (rows pairs : ℕ) {a : Combined} {out′ : List ℕ}
     (q : a ≡ combineAnswer op names ar x y (length out) (length work)) (b : out′ ≡ combineResult op names ar x y (length work) out) where
@@ -94,3 +97,20 @@ module _ {b c : Bool} (q : b ≡ c) where
 
   pub listing-not : {k : ℕ} → b ≡ false → k ≡ numberOf Listing → k ≡ listingNumber c
   listing-not e h = h ∙ ap listingNumber (sym e ∙ q)
+
+module _ (text : List ℕ) {out : List ℕ} (lines : ℕ) {a : Ran} {out′ : List ℕ} (x : Fills (filled (length out) text) out a out′) where
+  pub ran-done : {n : ℕ} → a ≡ RanDone n → Runs text out lines 0 out′ n lines
+  ran-done e = record {
+    answer = ap ranNumber (sym e ∙ x .answer);
+    buffer = x .result;
+    byte-count = ap ranBytes (sym e ∙ x .answer);
+    line-count = ap (λ (z : Ran). ranLines z lines) (sym e ∙ x .answer);
+  }
+
+  pub ran-full : {n k v : ℕ} → a ≡ Full n k → v ≡ numberOf Buffer → Runs text out lines v out′ n k
+  ran-full e h = record {
+    answer = h ∙ ap ranNumber (sym e ∙ x .answer);
+    buffer = x .result;
+    byte-count = ap ranBytes (sym e ∙ x .answer);
+    line-count = ap (λ (z : Ran). ranLines z lines) (sym e ∙ x .answer);
+  }

@@ -3,7 +3,7 @@
 use mathlib.Core.Bool.{Bool, true, false}
 use Prim.Native.Nat.{ℕ}
 use Rattle.refusal.specs.Numbers.{numberOf}
-use Rattle.refusal.specs.declared.Refusal.the-variants.{Listing}
+use Rattle.refusal.specs.declared.Refusal.the-variants.{Listing, Buffer}
 use Rattle.apply.specs.declared.Combined.{Combined}
 use Rattle.apply.specs.declared.Combined.the-variants.{Done as CombinedDone, Refused as CombinedRefused}
 use Rattle.regress.specs.declared.Regressed.{Regressed}
@@ -16,6 +16,10 @@ use Rattle.cut.specs.declared.Cut.{Cut}
 use Rattle.cut.specs.declared.Cut.the-variants.{Done as CutDone, Refused as CutRefused}
 use Rattle.state.specs.declared.Valued.{Valued}
 use Rattle.state.specs.declared.Valued.the-variants.{Value, Refused as ValuedRefused}
+use Rattle.answers.specs.declared.Put.{Put}
+use Rattle.answers.specs.declared.Put.the-variants.{At, Full as NoRoom}
+use Rattle.texts.specs.declared.Ran.{Ran}
+use Rattle.texts.specs.declared.Ran.the-variants.{Done as RanDone, Full}
 
 -- a combination: its number, its rows and its pairs
 abbrev pub combinedNumber : Combined → ℕ
@@ -82,3 +86,30 @@ valuedValue (ValuedRefused r) before = before
 abbrev pub listingNumber : Bool → ℕ
 listingNumber true = 0
 listingNumber false = numberOf Listing
+
+-- a text: its number, the bytes written, and the lines answered where the next answer has no room
+abbrev pub ranNumber : Ran → ℕ
+ranNumber (RanDone n) = 0
+ranNumber (Full n k) = numberOf Buffer
+
+abbrev pub ranBytes : Ran → ℕ
+ranBytes (RanDone n) = n
+ranBytes (Full n k) = n
+
+abbrev pub ranLines : Ran → ℕ → ℕ
+ranLines (RanDone n) before = before
+ranLines (Full n k) before = k
+
+-- whether the lent memory is large enough
+abbrev pub roomNumber : Bool → ℕ
+roomNumber true = 0
+roomNumber false = numberOf Buffer
+
+-- an answer put in front of a buffer: its number and its bytes
+abbrev pub putNumber : Put → ℕ
+putNumber (At n) = 0
+putNumber NoRoom = numberOf Buffer
+
+abbrev pub putBytes : Put → ℕ → ℕ
+putBytes (At n) before = n
+putBytes NoRoom before = before

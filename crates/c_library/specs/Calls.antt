@@ -9,7 +9,8 @@ use Rattle.apply.specs.Combination.{combineAnswer, combineResult}
 use Rattle.regress.specs.RegressCall.{regressAnswer, regressResult, freeAnswer, freeResult}
 use Rattle.cut.specs.Cut.{cutAnswer, cutBuffer}
 use Rattle.state.specs.ValueCall.{valueAnswer}
-use Rattle.c_library.specs.Answers.{combinedNumber, combinedRows, combinedPairs, regressedNumber, regressedRows, freedNumber, freedRows, cutNumber, cutRow, cutEdge, cutRows, valuedNumber, valuedValue}
+use Rattle.texts.specs.Running.{filled, inFront}
+use Rattle.c_library.specs.Answers.{combinedNumber, combinedRows, combinedPairs, regressedNumber, regressedRows, freedNumber, freedRows, cutNumber, cutRow, cutEdge, cutRows, valuedNumber, valuedValue, ranNumber, ranBytes, ranLines}
 
 -- a combination of x and y; r is the answer, and a dash marks what is lent after the call
 pub record Combines (op : Operation) (names : Names) (ar x y out work : List ℕ) (rows pairs r : ℕ) (out′ : List ℕ) (rows′ pairs′ : ℕ) : Type 0 where
@@ -42,3 +43,10 @@ pub record Cuts (ar words out work : List ℕ) (row edge rows r : ℕ) (out′ :
 pub record Values (ar words : List ℕ) (n : ℕ) (constants facts : List ℕ) (value r value′ : ℕ) : Type 0 where
   pub answer : r ≡ valuedNumber (valueAnswer ar words n constants facts)
   pub highest : value′ ≡ valuedValue (valueAnswer ar words n constants facts) value
+
+-- a whole text
+pub record Runs (text out : List ℕ) (lines r : ℕ) (out′ : List ℕ) (bytes′ lines′ : ℕ) : Type 0 where
+  pub answer : r ≡ ranNumber (filled (length out) text .answer)
+  pub buffer : out′ ≡ inFront (filled (length out) text .bytes) out
+  pub byte-count : bytes′ ≡ ranBytes (filled (length out) text .answer)
+  pub line-count : lines′ ≡ ranLines (filled (length out) text .answer) lines

@@ -1,19 +1,24 @@
 // The engine's calls for C, over memory that the caller lends; include/yindolve.h describes them. Each answers 0, or the number of the refusal.
+use answers::Put;
 use apply::Combined;
 use apply::Names;
 use apply::Operation;
 use cut::Cut;
 use cut::Edge;
+use label::Label;
 use refusal::Refusal;
 use regress::Freed;
 use regress::Regressed;
 use state::Valued;
+use texts::Ran;
 ghost use mathlib.Core.Path.{_≡_};
 ghost use Rattle.diagram.specs.Words.{isListing};
 ghost use Rattle.apply.specs.declared.Operation.the-variants.{Sum, Product, Max};
 ghost use Rattle.apply.specs.declared.Names.the-variants.{Apart, Shared};
+ghost use Rattle.memory.specs.Memory.{memoryOf};
 ghost use Rattle.c_library.specs.Answers.{listingNumber, edgeNumber};
-ghost use Rattle.c_library.specs.Calls.{Combines, Regresses, Frees, Cuts, Values};
+ghost use Rattle.c_library.specs.Calls.{Combines, Regresses, Frees, Cuts, Values, Runs};
+ghost use Rattle.c_library.specs.Sessions.{hasRoom, Opens, Lent, Replies};
 
 // Whether the words are a listing under the arity list: 0, or 14.
 #[no_mangle]
@@ -307,4 +312,101 @@ pub extern "C" fn yindolve_value(
         }
         Valued::Refused(why) => why.number(),
     }
+}
+
+// Answers a whole text.
+#[no_mangle]
+pub extern "C" fn yindolve_run(
+    text: &[u8],
+    answers: &mut [u8],
+    bytes: &mut u64,
+    lines: &mut u64,
+) -> u64
+    ensures { λ r. ⌜ Runs (now (text .entry)) (now (answers .entry)) (now (lines .entry)) r (now (answers .exit)) (now (bytes .exit)) (now (lines .exit)) ⌝ }
+{
+    let ran = texts::run(text, answers);
+    match ran {
+        Ran::Done(n) => {
+            *bytes = n as u64;
+            0
+        }
+        Ran::Full(n, k) => {
+            *bytes = n as u64;
+            *lines = k;
+            Refusal::Buffer.number()
+        }
+    }
+}
+
+// Whether lent words of these counts are enough for a session to open.
+fn has_room(numbers: usize, arities: usize, state: usize) -> bool
+    ensures { λ r. ⌜ r ≡ hasRoom numbers arities state ⌝ }
+{
+    if numbers < memory::NUMBER_WORDS {
+        return false;
+    }
+    if arities != Label::PREDICATES {
+        return false;
+    }
+    facts::WORDS <= state
+}
+
+// Opens a session: before its first line.
+#[no_mangle]
+pub extern "C" fn yindolve_open(numbers: &mut [u64], arities: &mut [u64], state: &mut [u64]) -> u64
+    ensures { λ r. ⌜ Opens (now (numbers .entry)) (now (arities .entry)) (now (state .entry)) r (now (numbers .exit)) (now (arities .exit)) (now (state .exit)) ⌝ }
+{
+    if !has_room(numbers.len(), arities.len(), state.len()) {
+        return Refusal::Buffer.number();
+    }
+    let n = lines::open(arities, state);
+    memory::store(numbers, n, 0);
+    0
+}
+
+// Answers the next line of a session.
+#[no_mangle]
+pub extern "C" fn yindolve_line(
+    line: &[u8],
+    numbers: &mut [u64],
+    names: &mut [u64],
+    arities: &mut [u64],
+    listings: &mut [u64],
+    table: &mut [u64],
+    state: &mut [u64],
+    value: &mut [u64],
+    work: &mut [u64],
+    answer: &mut [u8],
+    bytes: &mut u64,
+) -> u64
+    requires { ⌜ Lent (now numbers) (memoryOf (now names) (now arities) (now listings) (now table) (now state) (now value)) (now work) ⌝ }
+    ensures { λ r. ⌜ Replies (now (line .entry)) (now (numbers .entry)) (memoryOf (now (names .entry)) (now (arities .entry)) (now (listings .entry)) (now (table .entry)) (now (state .entry)) (now (value .entry))) (now (answer .entry)) (now (bytes .entry)) r (now (numbers .exit)) (memoryOf (now (names .exit)) (now (arities .exit)) (now (listings .exit)) (now (table .exit)) (now (state .exit)) (now (value .exit))) (now (answer .exit)) (now (bytes .exit)) ⌝ }
+{
+    if answer.len() < answers::MOST_BYTES {
+        return Refusal::Buffer.number();
+    }
+    let n = memory::load(numbers);
+    let number = memory::lines_of(numbers) + 1;
+    let sent = texts::reply_line(
+        line,
+        number,
+        n,
+        names,
+        arities,
+        listings,
+        table,
+        state,
+        value,
+        work,
+        answer,
+        0,
+    );
+    let put = sent.put;
+    let after = sent.numbers;
+    memory::store(numbers, after, number);
+    let Put::At(end) = put else {
+        return Refusal::Buffer.number();
+    };
+    *bytes = end as u64;
+    0
 }

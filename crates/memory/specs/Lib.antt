@@ -1,4 +1,7 @@
 -- A session in lent words.
 pub mod Memory
+pub mod Saving
+-- laws
 pub mod WordLaws
 pub mod QuietLaws
+pub mod SavingLaws

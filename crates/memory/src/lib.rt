@@ -6,7 +6,11 @@ use model::Head;
 use planner::Held;
 use session::Part;
 ghost use mathlib.Core.Path.{_≡_};
+ghost use mathlib.Core.List.{_++_};
+ghost use Prim.Native.Nat.{_≤_};
+ghost use lib.ListN.{length, drop};
 ghost use Rattle.memory.specs.Memory.{openingNumbers};
+ghost use Rattle.memory.specs.Saving.{numberWords, partWord, partOf, flagWord, savedWords, numbersAt, linesAt};
 
 // A session's numbers: the part of the text, which single forms were accepted, and how much of each lent table counts.
 pub struct Numbers {
@@ -64,4 +68,136 @@ pub fn opening() -> Numbers
             power: 1,
         },
     }
+}
+
+// The words that a session's numbers and its answered lines take.
+pub const NUMBER_WORDS: usize = 22;
+
+// The part of the text as a word: 0 for the model, 1 for the run.
+fn part_word(part: Part) -> u64
+    ensures { λ r. ⌜ r ≡ partWord part ⌝ }
+{
+    match part {
+        Part::Model => 0,
+        Part::Run => 1,
+    }
+}
+
+// The part that a word says.
+fn part_of(word: u64) -> Part
+    ensures { λ r. ⌜ r ≡ partOf word ⌝ }
+{
+    if word == 0 {
+        return Part::Model;
+    }
+    Part::Run
+}
+
+// A flag as a word.
+fn flag_word(flag: bool) -> u64
+    ensures { λ r. ⌜ r ≡ flagWord flag ⌝ }
+{
+    if flag {
+        return 1;
+    }
+    0
+}
+
+// Writes all words of a list in front of others.
+fn put_front(words: &mut [u64], list: &[u64])
+    requires { ⌜ length (now list) ≤ length (now words) ⌝ }
+    ensures { λ _. ⌜ now (words .exit) ≡ now (list .entry) ++ drop (length (now (list .entry))) (now (words .entry)) ⌝ }
+{
+    let mut i = 0;
+    while i < list.len() {
+        words[i] = list[i];
+        i += 1;
+    }
+}
+
+// Stores a session's numbers, and how many lines were answered; the words behind stay.
+pub fn store(words: &mut [u64], n: Numbers, lines: u64)
+    requires { ⌜ numberWords ≤ length (now words) ⌝ }
+    ensures { λ _. ⌜ now (words .exit) ≡ savedWords n lines ++ drop numberWords (now (words .entry)) ⌝ }
+{
+    let part = n.part;
+    let part = part_word(part);
+    let total = flag_word(n.total);
+    let discount = flag_word(n.discount);
+    let reward = flag_word(n.reward);
+    let counts = n.counts;
+    let head = n.head;
+    let live = n.live;
+    let held = n.held;
+    let list = [
+        part,
+        total,
+        discount,
+        reward,
+        counts.constants as u64,
+        counts.predicates as u64,
+        counts.actions as u64,
+        counts.parameters as u64,
+        counts.variants as u64,
+        head.total,
+        head.numerator,
+        head.denominator,
+        head.reward_start as u64,
+        head.reward_words as u64,
+        head.actions as u64,
+        head.words as u64,
+        live.objects,
+        live.facts as u64,
+        held.rows as u64,
+        held.steps,
+        held.power,
+        lines,
+    ];
+    put_front(words, &list);
+}
+
+// The numbers that were stored.
+pub fn load(words: &[u64]) -> Numbers
+    requires { ⌜ numberWords ≤ length (now words) ⌝ }
+    ensures { λ r. ⌜ r ≡ numbersAt (now (words .entry)) ⌝ }
+{
+    Numbers {
+        part: part_of(words[0]),
+        total: words[1] == 1,
+        discount: words[2] == 1,
+        reward: words[3] == 1,
+        counts: Counts {
+            constants: words[4] as usize,
+            predicates: words[5] as usize,
+            actions: words[6] as usize,
+            parameters: words[7] as usize,
+            variants: words[8] as usize,
+        },
+        head: Head {
+            total: words[9],
+            numerator: words[10],
+            denominator: words[11],
+            reward_start: words[12] as usize,
+            reward_words: words[13] as usize,
+            actions: words[14] as usize,
+            words: words[15] as usize,
+        },
+        live: Live {
+            objects: words[16],
+            facts: words[17] as usize,
+        },
+        held: Held {
+            rows: words[18] as usize,
+            steps: words[19],
+            power: words[20],
+        },
+    }
+}
+
+// The lines answered, as they were stored.
+pub fn lines_of(words: &[u64]) -> u64
+    requires { ⌜ numberWords ≤ length (now words) ⌝ }
+    ensures { λ r. ⌜ r ≡ linesAt (now (words .entry)) ⌝ }
+{
+    words[21]
 }

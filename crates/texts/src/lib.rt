@@ -81,7 +81,7 @@ fn line_end(text: &[u8], at: usize) -> usize
 }
 
 // Answers a line, and puts the answer's bytes at a place, if there is room.
-fn reply_line(
+pub fn reply_line(
     line: &[u8],
     number: u64,
     n: Numbers,

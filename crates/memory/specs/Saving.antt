@@ -1,0 +1,89 @@
+-- A session's numbers and the lines that it answered as words, for a host that keeps them between two lines.
+use mathlib.Core.Bool.{Bool, true, false}
+use mathlib.Core.List.{List, [], _∷_}
+use Prim.Native.Nat.{ℕ}
+use lib.Dec.{eqb}
+use lib.ListN.{getD}
+use Rattle.session.specs.declared.Part.{Part}
+use Rattle.session.specs.declared.Part.the-variants.{Model, Run}
+use Rattle.memory.specs.declared.Numbers.{Numbers}
+
+-- how many words they are
+abbrev pub numberWords : ℕ
+numberWords = 22
+
+-- 0 for the model, 1 for the run
+abbrev pub partWord : Part → ℕ
+partWord Model = 0
+partWord Run = 1
+
+abbrev pub pickPart : Bool → Part
+pickPart true = Model
+pickPart false = Run
+
+abbrev pub partOf : ℕ → Part
+partOf v = pickPart (eqb v 0)
+
+abbrev pub flagWord : Bool → ℕ
+flagWord true = 1
+flagWord false = 0
+
+abbrev pub flagOf : ℕ → Bool
+flagOf v = eqb v 1
+
+-- the words in their order: part, single forms (both given), counts of names, head of the model, state, value, lines answered
+abbrev pub savedBehind : ℕ → ℕ → ℕ → ℕ → Numbers → ℕ → List ℕ
+savedBehind part total discount reward n lines =
+    part
+    ∷ total
+    ∷ discount
+    ∷ reward
+    ∷ n .counts .constants
+    ∷ n .counts .predicates
+    ∷ n .counts .actions
+    ∷ n .counts .parameters
+    ∷ n .counts .variants
+    ∷ n .head .total
+    ∷ n .head .numerator
+    ∷ n .head .denominator
+    ∷ n .head .«reward_start»
+    ∷ n .head .«reward_words»
+    ∷ n .head .actions
+    ∷ n .head .words
+    ∷ n .live .objects
+    ∷ n .live .facts
+    ∷ n .held .rows
+    ∷ n .held .steps
+    ∷ n .held .power
+    ∷ lines
+    ∷ []
+
+unfoldable pub savedWords : Numbers → ℕ → List ℕ
+savedWords n lines = savedBehind (partWord (n .part)) (flagWord (n .total)) (flagWord (n .discount)) (flagWord (n .reward)) n lines
+
+-- the numbers that words say, the part given
+abbrev pub numbersIn : Part → List ℕ → Numbers
+numbersIn part s = record {
+  part = part;
+  total = flagOf (getD s 1 0);
+  discount = flagOf (getD s 2 0);
+  reward = flagOf (getD s 3 0);
+  counts = record { constants = getD s 4 0; predicates = getD s 5 0; actions = getD s 6 0; parameters = getD s 7 0; variants = getD s 8 0 };
+  head = record {
+    total = getD s 9 0;
+    numerator = getD s 10 0;
+    denominator = getD s 11 0;
+    «reward_start» = getD s 12 0;
+    «reward_words» = getD s 13 0;
+    actions = getD s 14 0;
+    words = getD s 15 0;
+  };
+  live = record { objects = getD s 16 0; facts = getD s 17 0 };
+  held = record { rows = getD s 18 0; steps = getD s 19 0; power = getD s 20 0 };
+}
+
+unfoldable pub numbersAt : List ℕ → Numbers
+numbersAt s = numbersIn (partOf (getD s 0 0)) s
+
+abbrev pub linesAt : List ℕ → ℕ
+linesAt s = getD s 21 0
