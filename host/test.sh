@@ -36,6 +36,12 @@ c_example() {
     cc -std=c99 -Wall -Wextra -Werror -I../include -o target/c/value ../examples/value.c "$library" && prints 10 target/c/value
 }
 
+c_session() {
+    mkdir -p target/c
+    cc -std=c99 -Wall -Wextra -Werror -I../include -o target/c/session ../examples/session.c "$library" &&
+        target/c/session <../examples/sample.txt | cmp - ../examples/sample.out
+}
+
 rust_example() {
     prints $'apart: 6 rows, 7 pairs, value 20\nshared: 6 rows, 7 pairs, value 10' cargo run --quiet --release --offline -p yindolve --example add_apart
 }
@@ -56,6 +62,7 @@ if [ -f "$library" ]; then
     step c_example
     step rust_example
     if [ -n "$text" ]; then
+        step c_session
         step quiet cargo run --quiet --release --offline -p yindolve --features text --example keep_loaded
     else
         echo "the static library has no yindolve_run yet: whole texts by the library are left out"
