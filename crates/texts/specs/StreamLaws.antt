@@ -19,7 +19,7 @@ use Rattle.session.specs.declared.Part.the-variants.{Model, Run}
 use Rattle.session.specs.Session.{Session}
 use Rattle.session.specs.Place.{ruleOf}
 use Rattle.session.specs.Replies.{allowed, placed, done, replyTo, reply, refusal, wordsOf}
-use Rattle.session.specs.Texts.{lineFeed, Lines, behindByte, pickLines, linesOf, Progress, replied, afterLine, afterLines, afterRest, beginning, textAnswers}
+use Rattle.session.specs.Texts.{lineFeed, Lines, behindByte, pickLines, linesOf, Progress, replyBytes, closing, replied, afterLine, afterLines, afterRest, beginning, textAnswers}
 use Rattle.texts.specs.Ends.{lineLength}
 use Rattle.texts.specs.Running.{allBytes}
 use Rattle.texts.specs.Streaming.{lineRoom, Stream, pickStream, onByte, onBytes, onBlocks, streamStart, onEnd}
@@ -174,3 +174,49 @@ stream-whole s = stream-from beginning [] s ∙ ap (answersFrom beginning) (none
 -- in whatever blocks it came
 pub stream-blocks : (bs : List (List ℕ)) → onEnd (onBlocks streamStart bs) ≡ textAnswers (joined bs)
 stream-blocks bs = ap onEnd (blocks-joined streamStart bs) ∙ stream-whole (joined bs)
+
+-- ===== Answers that were written before =====
+
+-- the bytes w were written before those of the stream
+abbrev pub behindWritten : List ℕ → Stream → Stream
+behindWritten w t = record {
+  progress = record { session = t .progress .session; lines = t .progress .lines; bytes = w ++ t .progress .bytes };
+  partial = t .partial;
+}
+
+byte-apart : (w : List ℕ) (t : Stream) (b : ℕ) → onByte (behindWritten w t) b ≡ behindWritten w (onByte t b)
+unfolding onByte afterLine
+byte-apart w t b = go (eqb b lineFeed)
+  where
+    answered : Progress → Stream
+    answered q = record { progress = afterLine q (t .partial); partial = [] }
+
+    begun : Progress → Stream
+    begun q = record { progress = q; partial = take lineRoom (t .partial ++ (b ∷ [])) }
+
+    go : (k : Bool)
+        → pickStream k (answered (behindWritten w t .progress)) (begun (behindWritten w t .progress))
+        ≡ behindWritten w (pickStream k (answered (t .progress)) (begun (t .progress)))
+    go true =
+        ap (λ (v : List ℕ). record {
+          progress = record { session = afterLine (t .progress) (t .partial) .session; lines = suc (t .progress .lines); bytes = v };
+          partial = [];
+        }) (append-assoc w (t .progress .bytes) (replyBytes (reply (t .progress .session) (suc (t .progress .lines)) (t .partial))))
+    go false = refl
+
+-- so each answer may be written when its line is done, and the buffer be used again
+pub written-apart : (w : List ℕ) (t : Stream) (s : List ℕ) → onBytes (behindWritten w t) s ≡ behindWritten w (onBytes t s)
+unfolding onBytes
+written-apart w t [] = refl
+written-apart w t (b ∷ s) = ap (λ (u : Stream). onBytes u s) (byte-apart w t b) ∙ written-apart w (onByte t b) s
+
+pub end-apart : (w : List ℕ) (t : Stream) → onEnd (behindWritten w t) ≡ w ++ onEnd t
+unfolding onEnd afterRest
+end-apart w t = go (t .partial)
+  where
+    q : Progress
+    q = behindWritten w t .progress
+
+    go : (s : List ℕ) → allBytes (afterRest q s) ≡ w ++ allBytes (afterRest (t .progress) s)
+    go [] = append-assoc w (t .progress .bytes) (closing (t .progress .session .part))
+    go (b ∷ s) = simp append-assoc
