@@ -1,12 +1,15 @@
-//! Random texts: whole models with a run, damaged lines, and models that soon meet a limit.
+//! Random texts: whole models with a run, damaged lines, models that soon meet a limit, and plain bytes.
 
 use crate::limits;
 use crate::models::{model, state, write_model, write_state, Size};
 use crate::random::Random;
 
-/// The text of a seed: a whole one, a small one damaged, or one about a limit.
+/// The text of a seed: a whole one, a small one damaged, one about a limit, or once in a while plain bytes.
 pub fn text(seed: u64) -> Vec<u8> {
     let random = &mut Random::new(seed);
+    if seed % 16 == 15 {
+        return bytes(random);
+    }
     let kind = random.below(7);
     let size = *[Size::LARGE, Size::WIDE].get(kind as usize).unwrap_or(&Size::SMALL);
     let damaged = (3..6).contains(&kind);
@@ -21,6 +24,13 @@ pub fn text(seed: u64) -> Vec<u8> {
         text.pop();
     }
     text
+}
+
+/// Any bytes at all, or those that texts are made of.
+fn bytes(random: &mut Random) -> Vec<u8> {
+    let any = random.once_in(2);
+    let count = random.below(20_000);
+    (0..count).map(|_| if any { random.next() as u8 } else { *random.pick(b"()  ?!=az09\n") }).collect()
 }
 
 fn whole(random: &mut Random, size: Size) -> Vec<String> {
