@@ -27,7 +27,8 @@ use Rattle.regress.proofs.RunLaws.{formed-ran, full-ran}
 use Rattle.regress.proofs.StepRunLaws.{leaf-onto, row-known, full-known}
 use Rattle.regress.specs.declared.Stepped.{Stepped}
 use Rattle.regress.specs.declared.Stepped.the-variants.{Row, Refused as StepRefused}
-use Rattle.regress.specs.Calls.{ok, refused, Run, form}
+use Rattle.refusal.specs.Outcome.{ok, refused}
+use Rattle.regress.specs.Calls.{Run, form}
 use Rattle.regress.specs.Step.{testDiagram, rowStep}
 use Rattle.regress.specs.Running.{Space, Ready, Two, Testable, Gave, Ran, countThen}
 use Rattle.build.specs.declared.Moved.{Moved}

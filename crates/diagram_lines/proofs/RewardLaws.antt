@@ -10,7 +10,7 @@ use Rattle.label.specs.Limits.{variableCount}
 use Rattle.diagram.specs.Sizes.{resultWords}
 use Rattle.diagram.specs.Diagram.{Diagram}
 use Rattle.diagram.specs.Rows.{rows}
-use Rattle.regress.specs.Calls.{Outcome, ok, andThen}
+use Rattle.refusal.specs.Outcome.{Outcome, ok, andThen}
 use Rattle.words.specs.declared.Key.{Key}
 use Rattle.text.specs.declared.Kind.the-variants.{Reward}
 use Rattle.events.specs.declared.Event.{Event}

@@ -11,7 +11,7 @@ use Rattle.diagram.specs.Sizes.{spaceWords}
 use Rattle.diagram.specs.Diagram.{Diagram}
 use Rattle.diagram.specs.Listing.{diagramOf}
 use Rattle.diagram.specs.Validity.{Valid}
-use Rattle.regress.specs.Calls.{Outcome, ok, andThen}
+use Rattle.refusal.specs.Outcome.{Outcome, ok, andThen}
 use Rattle.regress.specs.Regression.{Truths}
 use Rattle.regress.specs.RegressCall.{leafAbove}
 use Rattle.words.specs.declared.Key.{Key}

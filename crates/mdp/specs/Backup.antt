@@ -1,5 +1,5 @@
 -- A backup is a row of calls; the first refusal met is the answer (document 01, section 'Backup').
-use mathlib.Core.Bool.{Bool, _||_}
+use mathlib.Core.Bool.{Bool, _||_, cond}
 use mathlib.Core.List.{List, [], _∷_}
 use Prim.Native.Nat.{ℕ, suc, _-_, _^_}
 use lib.Dec.{eqb, ltb}
@@ -16,7 +16,7 @@ use Rattle.apply.specs.declared.Combined.{Combined}
 use Rattle.apply.specs.declared.Combined.the-variants.{Done, Refused}
 use Rattle.apply.specs.Combination.{combination, diagramAnswer}
 use Rattle.rename.specs.Freeing.{freed}
-use Rattle.regress.specs.Calls.{Outcome, ok, refused, andThen, pickOutcome}
+use Rattle.refusal.specs.Outcome.{Outcome, ok, refused, andThen}
 use Rattle.regress.specs.Regression.{regressed}
 use Rattle.regress.specs.RegressCall.{anyOccurs}
 use Rattle.mdp.specs.Model.{Variant, Action, Model, scale}
@@ -33,7 +33,7 @@ combined op names ar a b = given (diagramAnswer op names ar a b) (combination op
 -- freeing c parameters: a variable that would pass 63 is 8
 unfoldable pub freedOutcome : List ℕ → ℕ → Diagram → Outcome Diagram
 unfolding anyOccurs freed
-freedOutcome ar c d = pickOutcome (anyOccurs ar d (termBase - c) c) (refused Variables) (ok (freed ar c d))
+freedOutcome ar c d = cond (anyOccurs ar d (termBase - c) c) (refused Variables) (ok (freed ar c d))
 
 -- for each variant come four calls: its value regressed; its weight times leaf G, names shared; the product of these two, names shared; the sum so far
 -- plus that product, apart
@@ -73,7 +73,7 @@ scaleEnds m k = ltb highestScale (scale m ^ suc k) || eqb k mostSteps
 unfoldable pub backup : Model → ℕ → Diagram → Outcome Diagram
 unfolding scaleEnds actionsBest combined scale
 backup m k d =
-    pickOutcome (scaleEnds m k) (refused Scale)
+    cond (scaleEnds m k) (refused Scale)
     (andThen (actionsBest (m .arities) (m .numerator) d (leaf 0) (m .actions)) (λ best.
     andThen (combined Product Shared (m .arities) (m .reward) (leaf (scale m ^ suc k))) (λ r.
     combined Sum Apart (m .arities) best r)))

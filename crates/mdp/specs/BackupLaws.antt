@@ -24,7 +24,8 @@ use Rattle.state.specs.State.{meaning, State, Good, value, fixed, Fits}
 use Rattle.state.specs.ValueLaws.{low-lt, Terms-mono, value-same}
 use Rattle.state.specs.Highest.{Highest, Bound, start, highest}
 use Rattle.state.specs.HighestLaws.{start-fits, bound-tuple, highest-is}
-use Rattle.regress.specs.CallLaws.{Accepted, accepted-ok, accepted-then, accepted-pick, accepted-mono}
+use Rattle.refusal.specs.Outcome.{Accepted}
+use Rattle.refusal.specs.OutcomeLaws.{accepted-ok, accepted-then, accepted-cond, accepted-mono}
 use Rattle.regress.specs.Regression.{regressed}
 use Rattle.regress.specs.Parameters.{Allowed, Within, GoodTruths, WithinTruths}
 use Rattle.regress.specs.Next.{meanings}
@@ -178,7 +179,7 @@ unfolding backup bellman rewardIn
 backup-is m gm k d vals =
     let ar = m .arities in
     let p = scale m ^ suc k in
-    accepted-pick (scaleEnds m k) Scale _ (λ e.
+    accepted-cond (scaleEnds m k) Scale _ (λ e.
     accepted-then (actionsBest ar (m .numerator) d (leaf 0) (m .actions))
     (actions-best ar (gm .arities) (m .numerator) (let u = gm .numerator-few in let v = gm .denominator-few in omega arith) (bellman m k) d vals (m .actions) (gm .actions)
     (λ s. 0) (leaf 0) (leaf-has ar 0 0 (gm .arities) (omega arith))) (λ best hb.

@@ -42,7 +42,8 @@ use Rattle.state.specs.State.{atomOf, meaning, State, Good, truth, holds, value
 use Rattle.state.specs.Terms.{Each, args}
 use Rattle.state.specs.ValueLaws.{Terms-mono}
 use Rattle.state.specs.Highest.{Highest}
-use Rattle.regress.specs.CallLaws.{Accepted, accepted-ok, accepted-refused, accepted-pick}
+use Rattle.refusal.specs.Outcome.{Accepted}
+use Rattle.refusal.specs.OutcomeLaws.{accepted-ok, accepted-refused, accepted-cond}
 use Rattle.regress.specs.Parameters.{Allowed, Within}
 use Rattle.regress.specs.ResultLaws.{value-meaning, terms-every, every-terms}
 use Rattle.regress.specs.NextLaws.{terms-occur, occur-terms}
@@ -225,7 +226,7 @@ pub record FreedTo (ar : List ℕ) (c : ℕ) (d r : Diagram) : Type 0 where
 
 pub freed-to : (ar : List ℕ) (c : ℕ) (d : Diagram) → Listed ar d → c ≤ parameterCount → Within c (meaning ar d) → Accepted (FreedTo ar c d) (freedOutcome ar c d)
 unfolding freedOutcome
-freed-to ar c d good few w = accepted-pick (anyOccurs ar d (termBase - c) c) Variables _ (λ q. accepted-ok (record {
+freed-to ar c d good few w = accepted-cond (anyOccurs ar d (termBase - c) c) Variables _ (λ q. accepted-ok (record {
   listed = freed-good ar c d good (freeable q);
   within = freed-within ar c d (freed ar c d) (is-freed q) w;
   high = λ s g x h. freed-highest ar c d (freed ar c d) (is-freed q) s g x h;

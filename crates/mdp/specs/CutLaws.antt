@@ -14,7 +14,8 @@ use Rattle.apply.specs.GoodLaws.{EveryLabel, every-node}
 use Rattle.rename.specs.ClosingLaws.{closed-good, closed-twice}
 use Rattle.state.specs.State.{atomOf, meaning, State}
 use Rattle.state.specs.Terms.{Each, args}
-use Rattle.regress.specs.CallLaws.{Accepted, accepted-ok, accepted-refused}
+use Rattle.refusal.specs.Outcome.{Accepted}
+use Rattle.refusal.specs.OutcomeLaws.{accepted-ok, accepted-refused}
 use Rattle.regress.specs.Parameters.{Allowed, Within}
 use Rattle.regress.specs.ResultLaws.{terms-every, every-terms}
 use Rattle.cut.specs.declared.Cut.the-variants.{Refused}

@@ -1,6 +1,6 @@
 -- The laws of the definitions, one for each case, as code meets them.
 use mathlib.Core.Path.{_≡_, refl, ap, sym, _∙_}
-use mathlib.Core.Bool.{Bool, true, false, _||_}
+use mathlib.Core.Bool.{Bool, true, false, _||_, cond}
 use mathlib.Core.List.{List, [], _∷_}
 use Prim.Native.Nat.{ℕ, suc, _+_, _*_, _-_, _^_, _≤_, _<_}
 use native.Mathlib.Omega.{arith}
@@ -25,7 +25,7 @@ use Rattle.apply.specs.declared.Combined.the-variants.{Done, Refused}
 use Rattle.apply.specs.Combination.{combination, diagramAnswer}
 use Rattle.rename.specs.Freeing.{freed}
 use Rattle.state.specs.State.{meaning}
-use Rattle.regress.specs.Calls.{Outcome, ok, refused, andThen, pickOutcome}
+use Rattle.refusal.specs.Outcome.{Outcome, ok, refused, andThen}
 use Rattle.regress.specs.Regression.{regressed}
 use Rattle.regress.specs.Parameters.{Within}
 use Rattle.regress.specs.RegressCall.{anyOccurs, freeOutcome}
@@ -141,11 +141,11 @@ module _ (m : Model) (k : ℕ) where
 
   pub backup-ends : (d : Diagram) → scaleEnds m k ≡ true → backup m k d ≡ refused Scale
   unfolding backup
-  backup-ends d e = ap (λ (b : Bool). pickOutcome b (refused Scale) (rowOfCalls d)) e
+  backup-ends d e = ap (λ (b : Bool). cond b (refused Scale) (rowOfCalls d)) e
 
   pub backup-row : (d : Diagram) → scaleEnds m k ≡ false → backup m k d ≡ rowOfCalls d
   unfolding backup
-  backup-row d e = ap (λ (b : Bool). pickOutcome b (refused Scale) (rowOfCalls d)) e
+  backup-row d e = ap (λ (b : Bool). cond b (refused Scale) (rowOfCalls d)) e
 
 -- ===== Runs =====
 

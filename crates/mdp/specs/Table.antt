@@ -19,7 +19,7 @@ use Rattle.apply.specs.declared.Combined.the-variants.{Done, Refused}
 use Rattle.apply.specs.Combination.{rowsFormed, combination, diagramAnswer}
 use Rattle.state.specs.State.{meaning, State}
 use Rattle.state.specs.Highest.{highest}
-use Rattle.regress.specs.Calls.{ok, refused, andThen}
+use Rattle.refusal.specs.Outcome.{ok, refused, andThen}
 use Rattle.regress.specs.Step.{labelTest}
 use Rattle.regress.specs.Regression.{truthAt}
 use Rattle.cut.specs.declared.Edge.the-variants.{False}

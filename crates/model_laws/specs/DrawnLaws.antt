@@ -20,7 +20,7 @@ use Rattle.apply.specs.GoodLaws.{EveryLabel}
 use Rattle.state.specs.State.{atomOf, meaning}
 use Rattle.state.specs.Terms.{Each, Terms}
 use Rattle.state.specs.ValueLaws.{Terms-mono}
-use Rattle.regress.specs.Calls.{ok}
+use Rattle.refusal.specs.Outcome.{ok}
 use Rattle.regress.specs.Step.{testDiagram}
 use Rattle.regress.specs.StepLaws.{eval-most, most-eval, eval-test, ordered-test, eval-stepped, from-stepped, reduced-stepped, every-stepped}
 use Rattle.regress.specs.Result.{AtMost, asked, stepped}

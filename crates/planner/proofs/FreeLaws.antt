@@ -22,8 +22,8 @@ use Rattle.write.specs.Renaming.{listedIn}
 use Rattle.apart.specs.Results.{Closable}
 use Rattle.regress.specs.declared.Freed.{Freed}
 use Rattle.regress.specs.declared.Freed.the-variants.{Done as FreedDone, Refused as NotFreed}
-use Rattle.regress.specs.Calls.{Outcome, ok, refused, andThen}
-use Rattle.regress.specs.CallLaws.{Accepted, accepted-mono}
+use Rattle.refusal.specs.Outcome.{Outcome, ok, refused, andThen, Accepted}
+use Rattle.refusal.specs.OutcomeLaws.{accepted-mono}
 use Rattle.regress.specs.RegressCall.{writtenAs, freedAs, freeOutcome}
 use Rattle.regress.specs.Freeing.{freeOwn, FreeTask, FreedWith}
 use Rattle.mdp.specs.Backup.{freedOutcome}

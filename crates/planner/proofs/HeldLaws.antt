@@ -22,8 +22,8 @@ use Rattle.diagram.specs.ListingValid.{listing-is-valid}
 use Rattle.diagram.specs.Listings.{is-listing-good}
 use Rattle.rename.specs.ClosingLaws.{closed-good}
 use Rattle.state.specs.State.{meaning}
-use Rattle.regress.specs.Calls.{Outcome, ok, refused}
-use Rattle.regress.specs.CallLaws.{Accepted, accepted-ok, accepted-refused}
+use Rattle.refusal.specs.Outcome.{Outcome, ok, refused, Accepted}
+use Rattle.refusal.specs.OutcomeLaws.{accepted-ok, accepted-refused}
 use Rattle.regress.specs.RegressCall.{writtenAs}
 use Rattle.regress.specs.Parameters.{Within}
 use Rattle.cut.specs.declared.Edge.{Edge}

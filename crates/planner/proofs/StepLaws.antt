@@ -26,8 +26,8 @@ use Rattle.apply.specs.declared.Combined.the-variants.{Done, Refused as NotComb
 use Rattle.apply.specs.CombinationLaws.{done-accepted}
 use Rattle.combine.specs.Calls.{Callable, Answered}
 use Rattle.refusal.specs.declared.Refusal.{Refusal}
-use Rattle.regress.specs.Calls.{Outcome, ok, refused, andThen}
-use Rattle.regress.specs.CallLaws.{Accepted, accepted-mono}
+use Rattle.refusal.specs.Outcome.{Outcome, ok, refused, andThen, Accepted}
+use Rattle.refusal.specs.OutcomeLaws.{accepted-mono}
 use Rattle.regress.specs.RegressCall.{writtenAs}
 use Rattle.mdp.specs.Backup.{combined}
 use Rattle.mdp.specs.StepLaws.{combined-done, combined-refused}

@@ -17,7 +17,7 @@ use Rattle.diagram.specs.Listing.{diagramOf}
 use Rattle.diagram.specs.Listings.{is-listing-good}
 use Rattle.apply.specs.declared.Operation.the-variants.{Max}
 use Rattle.apply.specs.declared.Names.the-variants.{Shared}
-use Rattle.regress.specs.Calls.{Outcome, ok, refused, andThen}
+use Rattle.refusal.specs.Outcome.{Outcome, ok, refused, andThen}
 use Rattle.mdp.specs.Model.{Variant, Action, Every, GoodVariant, GoodAction}
 use Rattle.mdp.specs.Backup.{combined, variantsSum, actionsBest}
 use Rattle.mdp.specs.StepLaws.{sum-none, best-none}

@@ -11,8 +11,8 @@ use Rattle.diagram.specs.Diagram.{Diagram, leaf}
 use Rattle.diagram.specs.Listing.{diagramOf, Good}
 use Rattle.apply.specs.declared.Operation.the-variants.{Sum, Product}
 use Rattle.apply.specs.declared.Names.the-variants.{Apart, Shared}
-use Rattle.regress.specs.Calls.{Outcome, refused, andThen}
-use Rattle.regress.specs.CallLaws.{Accepted, accepted-refused}
+use Rattle.refusal.specs.Outcome.{Outcome, refused, andThen, Accepted}
+use Rattle.refusal.specs.OutcomeLaws.{accepted-refused}
 use Rattle.regress.specs.RegressCall.{writtenAs}
 use Rattle.mdp.specs.Backup.{combined, actionsBest}
 use Rattle.model.specs.declared.Head.{Head}

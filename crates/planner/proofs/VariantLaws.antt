@@ -14,8 +14,8 @@ use Rattle.apply.specs.declared.Operation.the-variants.{Sum, Product}
 use Rattle.apply.specs.declared.Names.the-variants.{Apart, Shared}
 use Rattle.regress.specs.declared.Regressed.{Regressed}
 use Rattle.regress.specs.declared.Regressed.the-variants.{Done as RegressedDone, Refused as NotRegressed}
-use Rattle.regress.specs.Calls.{Outcome, ok, refused, andThen}
-use Rattle.regress.specs.CallLaws.{Accepted, accepted-mono}
+use Rattle.refusal.specs.Outcome.{Outcome, ok, refused, andThen, Accepted}
+use Rattle.refusal.specs.OutcomeLaws.{accepted-mono}
 use Rattle.regress.specs.Regression.{Truths, regressed}
 use Rattle.regress.specs.RegressCall.{truthsOf, regressedAs, writtenAs}
 use Rattle.regress.specs.Regressing.{Regressable}

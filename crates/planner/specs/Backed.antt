@@ -8,8 +8,7 @@ use lib.Dec.{eqb, ltb}
 use Rattle.diagram.specs.Diagram.{Diagram}
 use Rattle.diagram.specs.Rows.{rows}
 use Rattle.diagram.specs.Listing.{Good}
-use Rattle.regress.specs.Calls.{Outcome, ok, refused}
-use Rattle.regress.specs.CallLaws.{Accepted}
+use Rattle.refusal.specs.Outcome.{Outcome, ok, refused, Accepted}
 use Rattle.regress.specs.RegressCall.{writtenAs}
 use Rattle.mdp.specs.Model.{Model, scale, mostTotal, mostDenominator}
 use Rattle.mdp.specs.Backup.{highestScale, mostSteps, backup}

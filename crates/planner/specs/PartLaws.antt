@@ -12,8 +12,8 @@ use Rattle.diagram.specs.Variables.{closed}
 use Rattle.apply.specs.declared.Operation.the-variants.{Sum, Product, Max}
 use Rattle.apply.specs.declared.Names.the-variants.{Apart, Shared}
 use Rattle.state.specs.State.{meaning}
-use Rattle.regress.specs.Calls.{Outcome, ok, refused, andThen}
-use Rattle.regress.specs.CallLaws.{Accepted, accepted-ok, accepted-then}
+use Rattle.refusal.specs.Outcome.{Outcome, ok, refused, andThen, Accepted}
+use Rattle.refusal.specs.OutcomeLaws.{accepted-ok, accepted-then}
 use Rattle.regress.specs.Regression.{regressed}
 use Rattle.regress.specs.Parameters.{Within}
 use Rattle.regress.specs.NextLaws.{regressed-tells}

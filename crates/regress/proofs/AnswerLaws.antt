@@ -34,7 +34,7 @@ use Rattle.regress.specs.declared.Regressed.{Regressed}
 use Rattle.regress.specs.declared.Regressed.the-variants.{Done, Refused}
 use Rattle.regress.specs.declared.Verdict.{Verdict}
 use Rattle.regress.specs.declared.Verdict.the-variants.{Passed, Refused as Faulty}
-use Rattle.regress.specs.Calls.{Outcome, ok, refused, andThen, pickOutcome}
+use Rattle.refusal.specs.Outcome.{Outcome, ok, refused, andThen}
 use Rattle.regress.specs.Regression.{regression, regressed}
 use Rattle.regress.specs.RegressCall.{truthsOf, areListings, checkTruths, regressOutcome, regressedAs, writtenAs, regressAnswer, regressResult}
 use Rattle.regress.specs.RegressCallLaws.{regress-value, regress-truths, regress-buffer, regress-checks, regress-refused, result-refused, not-false}

@@ -1,7 +1,7 @@
 -- Laws of the checks of a regression call, and of its answer.
 use mathlib.Core.Path.{_≡_, refl, sym, ap, subst, _∙_}
 use mathlib.Core.Logic.{_≢_}
-use mathlib.Core.Bool.{Bool, true, false, not, _&&_, _||_}
+use mathlib.Core.Bool.{Bool, true, false, not, _&&_, _||_, cond}
 use mathlib.Core.List.{List, [], _∷_, _++_, map}
 use mathlib.Core.Option.{Option, some, none}
 use Prim.Native.Nat.{ℕ, zero, suc, _+_, _*_, _-_, _/_, _≤_, _<_}
@@ -31,7 +31,7 @@ use Rattle.diagram.specs.RowLaws.{row-mem}
 use Rattle.listing.specs.Used.{Used}
 use Rattle.regress.specs.declared.Verdict.{Verdict}
 use Rattle.regress.specs.declared.Verdict.the-variants.{Passed, Refused}
-use Rattle.regress.specs.Calls.{Outcome, refused, pickOutcome}
+use Rattle.refusal.specs.Outcome.{Outcome, refused}
 use Rattle.regress.specs.Regression.{Truths}
 use Rattle.regress.specs.RegressCall.{truthCount, truthWords, truthsOf, areListings, leafAbove, unboundVariable, anyOccurs, checkTruth, checkTruths}
 use Rattle.regress.specs.RegressCallLaws.{truths-none, truths-some, listings-none, listings-cons, listings-at, checks-none, checks-cons}
@@ -208,7 +208,7 @@ check-verdict : (ar : List ℕ) (n : ℕ) (o : Option Diagram) (after : Outcome 
 check-verdict ar n none after = refl
 check-verdict ar n (some d) after = go (leafAbove 1 d) (unboundVariable ar n d)
   where
-    go : (a b : Bool) → pickOutcome a (refused Truth) (pickOutcome b (refused Unbound) after) ≡ afterVerdict (pickVerdict a (Refused Truth) (pickVerdict b (Refused Unbound) Passed)) after
+    go : (a b : Bool) → cond a (refused Truth) (cond b (refused Unbound) after) ≡ afterVerdict (pickVerdict a (Refused Truth) (pickVerdict b (Refused Unbound) Passed)) after
     go true b = refl
     go false true = refl
     go false false = refl

@@ -38,7 +38,7 @@ use Rattle.rename.specs.VariableLaws.{occurs-term}
 use Rattle.rename.specs.RenamedWords.{freed-words}
 use Rattle.regress.specs.declared.Freed.{Freed}
 use Rattle.regress.specs.declared.Freed.the-variants.{Done, Refused}
-use Rattle.regress.specs.Calls.{Outcome, ok, refused, pickOutcome}
+use Rattle.refusal.specs.Outcome.{Outcome, ok, refused}
 use Rattle.regress.specs.RegressCall.{anyOccurs, writtenAs, freeOutcome, freedAs, freeAnswer, freeResult}
 use Rattle.regress.specs.RegressCallLaws.{any-none, any-cons, any-quiet, not-false}
 use Rattle.regress.specs.FreeCallLaws.{free-listing, free-buffer, free-range, free-refused, freed-refused}

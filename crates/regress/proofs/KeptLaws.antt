@@ -21,7 +21,8 @@ use Rattle.regress.specs.declared.Stepped.{Stepped}
 use Rattle.regress.specs.declared.Stepped.the-variants.{Row, Refused}
 use Rattle.regress.specs.declared.Task.{Task}
 use Rattle.regress.specs.declared.Task.the-variants.{Leaf, Branch}
-use Rattle.regress.specs.Calls.{Outcome, ok, refused, andThen, Run, bind, form}
+use Rattle.refusal.specs.Outcome.{Outcome, ok, refused, andThen}
+use Rattle.regress.specs.Calls.{Run, bind, form}
 use Rattle.regress.specs.CallLaws.{Steady, steady-bind, steady-form, form-forms, form-old}
 use Rattle.regress.specs.SpaceLaws.{Known, known-now, known-later, known-again}
 use Rattle.regress.specs.Step.{rowStep}

@@ -42,7 +42,8 @@ use Rattle.regress.specs.declared.Stepped.{Stepped}
 use Rattle.regress.specs.declared.Stepped.the-variants.{Row, Refused}
 use Rattle.regress.specs.declared.Task.{Task}
 use Rattle.regress.specs.declared.Task.the-variants.{Leaf, Branch}
-use Rattle.regress.specs.Calls.{Outcome, ok, refused, Run, pure, bind, form}
+use Rattle.refusal.specs.Outcome.{Outcome, ok, refused}
+use Rattle.regress.specs.Calls.{Run, pure, bind, form}
 use Rattle.regress.specs.Step.{testDiagram, rowStep}
 use Rattle.regress.specs.Regression.{resultOf, rowResult, rowResults, lastOf, overRows, replacement}
 use Rattle.regress.specs.RegressionLaws.{row-leaf, row-branch, results-none, results-cons, over-rows}

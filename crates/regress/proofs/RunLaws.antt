@@ -45,7 +45,8 @@ use Rattle.combine.specs.declared.Joined.{Joined}
 use Rattle.combine.specs.declared.Joined.the-variants.{At, TooManyPairs, TooHighValue, NoRoom}
 use Rattle.regress.specs.declared.Stepped.{Stepped}
 use Rattle.regress.specs.declared.Stepped.the-variants.{Row, Refused}
-use Rattle.regress.specs.Calls.{Outcome, ok, refused, Run, bind, form, combine}
+use Rattle.refusal.specs.Outcome.{Outcome, ok, refused}
+use Rattle.regress.specs.Calls.{Run, bind, form, combine}
 use Rattle.regress.specs.CallLaws.{form-room, form-space, form-old, combine-pairs, combine-value, combine-calm}
 use Rattle.regress.specs.Step.{exchanged, rowStep}
 use Rattle.regress.specs.Result.{AtMost}

@@ -37,27 +37,14 @@ use Rattle.store.specs.AddLaws.{add-branch}
 use Rattle.store.proofs.SpaceLaws.{length-diagrams, diagram-at, stands-branch, formed-room, formation-row, formation-full, formation-tree, formation-old, full-more, holds-closed}
 use Rattle.regress.specs.declared.Stepped.{Stepped}
 use Rattle.regress.specs.declared.Stepped.the-variants.{Row, Refused}
-use Rattle.regress.specs.Calls.{Outcome, ok, refused, Run, bind, form, combine}
+use Rattle.refusal.specs.Outcome.{Outcome, ok, refused}
+use Rattle.regress.specs.Calls.{Run, bind, form, combine}
 use Rattle.regress.specs.CallLaws.{form-old}
 use Rattle.regress.specs.Step.{labelTest, testDiagram, exchanged, rowStep}
 use Rattle.regress.specs.StepLaws.{most-test, most-exchanged}
 use Rattle.regress.specs.Result.{AtMost}
 use Rattle.regress.specs.Running.{Valued, Space, Ready, Two, Three, Gave, countThen, Ran, Noted, Exchangeable, Exchanged, Testable}
-use Rattle.regress.proofs.RunLaws.{
-  row-label,
-  row-leaf,
-  row-kids,
-  row-branch,
-  there-mem,
-  in-room,
-  formed-gave,
-  formed-space,
-  formed-ran,
-  full-ran,
-  ran-bind,
-  ran-stop,
-  gave-old,
-}
+use Rattle.regress.proofs.RunLaws.{row-label, row-leaf, row-kids, row-branch, there-mem, in-room, formed-gave, formed-space, formed-ran, full-ran, ran-bind, ran-stop, gave-old}
 
 -- a leaf formed is the leaf put onto the rows
 module _ (s₀ : List ℕ) (count : ℕ) {v : ℕ} {r : Formed} {s heads links : List ℕ} where

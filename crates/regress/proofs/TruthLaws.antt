@@ -35,7 +35,8 @@ use Rattle.store.specs.declared.Formed.the-variants.{Row as FormedRow, Full}
 use Rattle.store.specs.Space.{diagramsOf, Formation}
 use Rattle.regress.specs.declared.Stepped.{Stepped}
 use Rattle.regress.specs.declared.Stepped.the-variants.{Row}
-use Rattle.regress.specs.Calls.{ok, Run, pure, bind, form}
+use Rattle.refusal.specs.Outcome.{ok}
+use Rattle.regress.specs.Calls.{Run, pure, bind, form}
 use Rattle.regress.specs.CallLaws.{form-old}
 use Rattle.regress.specs.SpaceLaws.{bind-refused}
 use Rattle.regress.specs.Step.{labelTest, testDiagram}

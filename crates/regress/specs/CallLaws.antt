@@ -1,6 +1,6 @@
 -- Laws of the steps of a call: what an answer is, what is formed, and that forming again what is there adds nothing.
 use mathlib.Core.Path.{_≡_, refl, ap, sym, _∙_, subst}
-use mathlib.Core.Bool.{Bool, true, false}
+use mathlib.Core.Bool.{Bool, true, false, cond}
 use mathlib.Core.List.{List, [], _∷_, _++_}
 use Prim.Native.Nat.{ℕ, _≤_, _<_}
 use native.Mathlib.Omega.{arith}
@@ -24,31 +24,11 @@ use Rattle.apply.specs.Formed.{formed, ClosedRows}
 use Rattle.apply.specs.Snoc.{Begins, begins-refl, begins-trans, mem-begins}
 use Rattle.apply.specs.RowLaws.{onto-begins, onto-mem}
 use Rattle.apply.specs.FormedLaws.{formed-visit, formed-count}
-use Rattle.regress.specs.Calls.{Outcome, ok, refused, andThen, pickOutcome, Run, pure, bind, form, combine}
+use Rattle.refusal.specs.Outcome.{Accepted, Outcome, ok, refused, andThen}
+use Rattle.refusal.specs.OutcomeLaws.{accepted-ok, accepted-then}
+use Rattle.regress.specs.Calls.{Run, pure, bind, form, combine}
 
--- if an answer is given, it has P
-pub record Accepted {A : Type 0} (P : A → Type 0) (o : Outcome A) : Type 0 where
-  pub given : (a : A) → o ≡ ok a → P a
-
-pub accepted-ok : {A : Type 0} {P : A → Type 0} {a : A} → P a → Accepted P (ok a)
-accepted-ok {A} {P} {a} p = record { given = λ b e. let q : a ≡ b = cc in rw q at p }
-
-pub accepted-refused : {A : Type 0} {P : A → Type 0} {r : Refusal} → Accepted P (refused r)
-accepted-refused = record { given = λ b e. let z : _≡_ {A = ℕ} 0 1 = cc in absurd (omega arith) }
-
-pub accepted-then : {A B : Type 0} {P : A → Type 0} {Q : B → Type 0} {f : A → Outcome B} (o : Outcome A)
-    → Accepted P o → ((a : A) → P a → Accepted Q (f a)) → Accepted Q (andThen o f)
-accepted-then (ok a) m k = k a (m .given a refl)
-accepted-then (refused r) m k = accepted-refused
-
-pub accepted-pick : {A : Type 0} {P : A → Type 0} (b : Bool) (r : Refusal) (o : Outcome A) → (b ≡ false → Accepted P o) → Accepted P (pickOutcome b (refused r) o)
-accepted-pick true r o h = accepted-refused
-accepted-pick false r o h = h refl
-
-pub accepted-mono : {A : Type 0} {P Q : A → Type 0} {o : Outcome A} → Accepted P o → ((a : A) → P a → Q a) → Accepted Q o
-accepted-mono m k = record { given = λ a e. k a (m .given a e) }
-
--- the same, of a step of a call: in whatever space
+-- what a step of a call gives, in whatever space, has P
 pub record Gives {A : Type 0} (P : A → Type 0) (m : Run A) : Type 0 where
   pub given : (rs : List Diagram) → Accepted (λ (r : A × List Diagram). P (r .0)) (m rs)
 
@@ -128,7 +108,7 @@ pub form-forms : (d : Diagram) (rs : List Diagram) (x : Diagram) (qs : List Diag
 unfolding form
 form-forms d rs x qs h = go (ltb spaceRows (length (onto d rs))) refl h
   where
-    go : (b : Bool) → ltb spaceRows (length (onto d rs)) ≡ b → pickOutcome {A = Diagram × List Diagram} b (refused Space) (ok (d, onto d rs)) ≡ ok (x, qs) → Forms d x rs qs
+    go : (b : Bool) → ltb spaceRows (length (onto d rs)) ≡ b → cond {A = Outcome (Diagram × List Diagram)} b (refused Space) (ok (d, onto d rs)) ≡ ok (x, qs) → Forms d x rs qs
     go true e k = let z : _≡_ {A = ℕ} 0 1 = cc in absurd (omega arith)
     go false e k = record { is = sym (same-answer d x (onto d rs) qs k); rows-are = sym (same-rows d x (onto d rs) qs k); room = ltb-false _ _ e }
 
@@ -142,7 +122,7 @@ unfolding combine
 combine-combines op a b rs x qs h = go (ltb mostPairs (pairCount a b)) (overflows op (pairs a b)) refl refl h
   where
     go : (p o : Bool) → ltb mostPairs (pairCount a b) ≡ p → overflows op (pairs a b) ≡ o
-        → pickOutcome p (refused Pairs) (pickOutcome o (refused Value) (form (apply op a b) rs)) ≡ ok (x, qs) → Combines op a b x rs qs
+        → cond p (refused Pairs) (cond o (refused Value) (form (apply op a b) rs)) ≡ ok (x, qs) → Combines op a b x rs qs
     go true o e d k = let z : _≡_ {A = ℕ} 0 1 = cc in absurd (omega arith)
     go false true e d k = let z : _≡_ {A = ℕ} 0 1 = cc in absurd (omega arith)
     go false false e d k = record { few = ltb-false _ _ e; calm = d; forms = form-forms (apply op a b) rs x qs k }

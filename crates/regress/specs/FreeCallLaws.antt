@@ -33,8 +33,8 @@ use Rattle.state.specs.ValueLaws.{Each-mono}
 use Rattle.state.specs.Highest.{Highest}
 use Rattle.regress.specs.declared.Freed.{Freed}
 use Rattle.regress.specs.declared.Freed.the-variants.{Done, Refused}
-use Rattle.regress.specs.Calls.{Outcome, ok, refused, pickOutcome}
-use Rattle.regress.specs.CallLaws.{Accepted, accepted-pick, accepted-ok}
+use Rattle.refusal.specs.Outcome.{Outcome, ok, refused, Accepted}
+use Rattle.refusal.specs.OutcomeLaws.{accepted-cond, accepted-ok}
 use Rattle.regress.specs.Parameters.{Within, Labels}
 use Rattle.regress.specs.ResultLaws.{label-terms, terms-every, every-terms, every-both}
 use Rattle.regress.specs.NextLaws.{occur-terms}
@@ -167,11 +167,11 @@ module _ (ar : List ℕ) (count : ℕ) (d : Diagram) (few : count ≤ parameterC
 pub free-is : (ar words : List ℕ) (count outLength workLength : ℕ) → Accepted (IsFreed ar count (diagramOf words)) (freeOutcome ar words count outLength workLength)
 unfolding freeOutcome
 free-is ar words count outLength workLength =
-    accepted-pick (not (isListing ar words)) Listing _ (λ l.
-    accepted-pick (ltb outLength resultWords || ltb workLength spaceWords) Buffer _ (λ b.
-    accepted-pick (ltb parameterCount count) Range _ (λ c.
-    accepted-pick (anyOccurs ar (diagramOf words) (firstParameter + count) (parameterCount - count)) Unbound _ (λ p.
-    accepted-pick (anyOccurs ar (diagramOf words) (termBase - count) count) Variables _ (λ v.
+    accepted-cond (not (isListing ar words)) Listing _ (λ l.
+    accepted-cond (ltb outLength resultWords || ltb workLength spaceWords) Buffer _ (λ b.
+    accepted-cond (ltb parameterCount count) Range _ (λ c.
+    accepted-cond (anyOccurs ar (diagramOf words) (firstParameter + count) (parameterCount - count)) Unbound _ (λ p.
+    accepted-cond (anyOccurs ar (diagramOf words) (termBase - count) count) Variables _ (λ v.
     let few = ltb-false parameterCount count c in
     let ps : (t : ℕ) → firstParameter + count ≤ t → t < firstParameter + parameterCount → occurs ar t (diagramOf words) ≡ false =
     λ t h k. any-quiet ar (diagramOf words) (firstParameter + count) (parameterCount - count) p t h (omega arith) in

@@ -1,6 +1,6 @@
 -- What the inner functions of freeing take and give (document 01, section 'Regression').
 use mathlib.Core.Path.{_≡_}
-use mathlib.Core.Bool.{Bool, true, false, not, _||_}
+use mathlib.Core.Bool.{Bool, true, false, not, _||_, cond}
 use mathlib.Core.List.{List}
 use Prim.Native.Nat.{ℕ, zero, suc, _+_, _-_, _≤_}
 use lib.ListN.{length, getD}
@@ -12,7 +12,7 @@ use Rattle.diagram.specs.Diagram.{Diagram, relabel}
 use Rattle.diagram.specs.Words.{isListing}
 use Rattle.diagram.specs.Listing.{diagramOf}
 use Rattle.regress.specs.declared.Freed.{Freed}
-use Rattle.regress.specs.Calls.{Outcome, ok, refused, pickOutcome}
+use Rattle.refusal.specs.Outcome.{Outcome, ok, refused}
 use Rattle.regress.specs.RegressCall.{anyOccurs, writtenAs, freedAs}
 
 -- one of the n marks from t on is set
@@ -24,8 +24,8 @@ anySet ms t (suc n) = not (eqb (getD ms t 0) 0) || anySet ms (suc t) n
 unfoldable pub freeOwn : List ℕ → List ℕ → ℕ → Outcome Diagram
 unfolding diagramOf anyOccurs relabel
 freeOwn ar words count =
-    pickOutcome (anyOccurs ar (diagramOf words) (firstParameter + count) (parameterCount - count)) (refused Unbound)
-    (pickOutcome (anyOccurs ar (diagramOf words) (termBase - count) count) (refused Variables)
+    cond (anyOccurs ar (diagramOf words) (firstParameter + count) (parameterCount - count)) (refused Unbound)
+    (cond (anyOccurs ar (diagramOf words) (termBase - count) count) (refused Variables)
     (ok (relabel (renamed ar (freeing count)) (diagramOf words))))
 
 -- a listing, a parameter count, and room for the result

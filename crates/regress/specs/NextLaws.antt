@@ -29,24 +29,11 @@ use Rattle.regress.specs.Step.{labelTest}
 use Rattle.regress.specs.StepLaws.{eval-most}
 use Rattle.regress.specs.Regression.{argument, Truths, truthOf, regressed}
 use Rattle.regress.specs.RegressionLaws.{IsRegressed, regressed-is}
-use Rattle.regress.specs.CallLaws.{Accepted, accepted-mono}
+use Rattle.refusal.specs.Outcome.{Accepted}
+use Rattle.refusal.specs.OutcomeLaws.{accepted-mono}
 use Rattle.regress.specs.Result.{replaced, truthGiven, truthDiagram, regressedDiagram, AtMost}
 use Rattle.regress.specs.Parameters.{Allowed, Within, Labels, GoodTruth, GoodTruths, WithinTruths}
-use Rattle.regress.specs.ResultLaws.{
-  value-meaning,
-  eval-rebuilt,
-  value-replaced,
-  label-terms,
-  argument-low,
-  argument-high,
-  argument-terms,
-  bit,
-  terms-regressed,
-  terms-every,
-  every-terms,
-  good-regressed,
-  label-predicate,
-}
+use Rattle.regress.specs.ResultLaws.{value-meaning, eval-rebuilt, value-replaced, label-terms, argument-low, argument-high, argument-terms, bit, terms-regressed, terms-every, every-terms, good-regressed, label-predicate}
 use Rattle.regress.specs.FreeingLaws.{fixed-constant}
 use Rattle.regress.specs.Next.{inner, factAfter, next, meanings}
 

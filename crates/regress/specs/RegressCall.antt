@@ -1,5 +1,5 @@
 -- What regression and freeing answer and write, on lent listings (document 01, sections 'Regression' and 'Refusals by trade word').
-use mathlib.Core.Bool.{Bool, true, false, not, _&&_, _||_}
+use mathlib.Core.Bool.{Bool, true, false, not, _&&_, _||_, cond}
 use mathlib.Core.List.{List, [], _++_}
 use mathlib.Core.Option.{Option, some, none}
 use Prim.Native.Nat.{ℕ, zero, suc, _+_, _*_, _-_}
@@ -18,7 +18,7 @@ use Rattle.regress.specs.declared.Regressed.{Regressed}
 use Rattle.regress.specs.declared.Regressed.the-variants.{Done, Refused}
 use Rattle.regress.specs.declared.Freed.{Freed}
 use Rattle.regress.specs.declared.Freed.the-variants.{Done as FreedDone, Refused as FreedRefused}
-use Rattle.regress.specs.Calls.{Outcome, ok, refused, pickOutcome}
+use Rattle.refusal.specs.Outcome.{Outcome, ok, refused}
 use Rattle.regress.specs.Regression.{Truths, pickTruth, regressed}
 
 -- the lent truth diagrams: their words one after the other, and for predicate p two words of `spans`, where its listing begins and how many words it has.
@@ -59,7 +59,7 @@ unboundVariable ar n d = anyOccurs ar d (firstVariable + n) (variableCount - n)
 abbrev pub checkTruth : {A : Type 0} → List ℕ → ℕ → Option Diagram → Outcome A → Outcome A
 checkTruth ar n none after = after
 checkTruth ar n (some d) after =
-    pickOutcome (leafAbove 1 d) (refused Truth) (pickOutcome (unboundVariable ar n d) (refused Unbound) after)
+    cond (leafAbove 1 d) (refused Truth) (cond (unboundVariable ar n d) (refused Unbound) after)
 
 -- diagram by diagram: those of the n predicates from p on
 unfoldable pub checkTruths : {A : Type 0} → List ℕ → Truths → ℕ → ℕ → Outcome A → Outcome A
@@ -72,9 +72,9 @@ checkTruths ar truths p (suc n) after = checkTruth ar (getD ar p 0) (truths p) (
 unfoldable pub regressOutcome : List ℕ → List ℕ → List ℕ → List ℕ → ℕ → ℕ → Outcome Diagram
 unfolding areListings truthsOf checkTruths regressed diagramOf isListing
 regressOutcome ar value truths spans outLength workLength =
-    pickOutcome (not (isListing ar value)) (refused Listing)
-    (pickOutcome (not (areListings ar truths spans 1 (predicateCount - 1))) (refused Listing)
-    (pickOutcome (ltb outLength resultWords || ltb workLength spaceWords) (refused Buffer)
+    cond (not (isListing ar value)) (refused Listing)
+    (cond (not (areListings ar truths spans 1 (predicateCount - 1))) (refused Listing)
+    (cond (ltb outLength resultWords || ltb workLength spaceWords) (refused Buffer)
     (checkTruths ar (truthsOf truths spans) 1 (predicateCount - 1)
     (regressed ar (truthsOf truths spans) (diagramOf value)))))
 
@@ -100,11 +100,11 @@ regressResult ar value truths spans workLength out = writtenAs (regressOutcome a
 unfoldable pub freeOutcome : List ℕ → List ℕ → ℕ → ℕ → ℕ → Outcome Diagram
 unfolding isListing diagramOf anyOccurs relabel
 freeOutcome ar words count outLength workLength =
-    pickOutcome (not (isListing ar words)) (refused Listing)
-    (pickOutcome (ltb outLength resultWords || ltb workLength spaceWords) (refused Buffer)
-    (pickOutcome (ltb parameterCount count) (refused Range)
-    (pickOutcome (anyOccurs ar (diagramOf words) (firstParameter + count) (parameterCount - count)) (refused Unbound)
-    (pickOutcome (anyOccurs ar (diagramOf words) (termBase - count) count) (refused Variables)
+    cond (not (isListing ar words)) (refused Listing)
+    (cond (ltb outLength resultWords || ltb workLength spaceWords) (refused Buffer)
+    (cond (ltb parameterCount count) (refused Range)
+    (cond (anyOccurs ar (diagramOf words) (firstParameter + count) (parameterCount - count)) (refused Unbound)
+    (cond (anyOccurs ar (diagramOf words) (termBase - count) count) (refused Variables)
     (ok (relabel (renamed ar (freeing count)) (diagramOf words)))))))
 
 abbrev pub freedAs : Outcome Diagram → Freed

@@ -25,29 +25,13 @@ use Rattle.diagram.specs.Variables.{occurs}
 use Rattle.apply.specs.GoodLaws.{EveryLabel, fine-every}
 use Rattle.regress.specs.declared.Regressed.{Regressed}
 use Rattle.regress.specs.declared.Regressed.the-variants.{Done, Refused}
-use Rattle.regress.specs.Calls.{Outcome, ok, refused, pickOutcome}
-use Rattle.regress.specs.CallLaws.{Accepted, accepted-pick}
+use Rattle.refusal.specs.Outcome.{Outcome, ok, refused, Accepted}
+use Rattle.refusal.specs.OutcomeLaws.{accepted-cond}
 use Rattle.regress.specs.Regression.{Truths, pickTruth, regressed}
 use Rattle.regress.specs.Result.{AtMost}
 use Rattle.regress.specs.Parameters.{GoodTruth, GoodTruths}
 use Rattle.regress.specs.NextLaws.{Tells, regressed-tells}
-use Rattle.regress.specs.RegressCall.{
-  truthCount,
-  truthWords,
-  truthsOf,
-  areListings,
-  leafAbove,
-  anyOccurs,
-  unboundVariable,
-  checkTruth,
-  checkTruths,
-  regressOutcome,
-  regressedAs,
-  writtenAs,
-  regressAnswer,
-  regressResult,
-  freeOutcome,
-}
+use Rattle.regress.specs.RegressCall.{truthCount, truthWords, truthsOf, areListings, leafAbove, anyOccurs, unboundVariable, checkTruth, checkTruths, regressOutcome, regressedAs, writtenAs, regressAnswer, regressResult, freeOutcome}
 
 -- the laws of `truthsOf`, `areListings`, `leafAbove`, `anyOccurs` and `checkTruths`: nothing else unfolds them
 pub truths-none : (truths spans : List ℕ) (p : ℕ) → truthCount spans p ≡ 0 → truthsOf truths spans p ≡ none
@@ -204,7 +188,7 @@ accepted-checks {A} {P} ar truths p (suc n) after h = rw (checks-cons ar truths 
     go : (o : Option Diagram) → truths p ≡ o → ((PassAll ar truths (suc p) n → Accepted P after) → Accepted P (checkTruths ar truths (suc p) n after))
         → Accepted P (checkTruth ar (getD ar p 0) o (checkTruths ar truths (suc p) n after))
     go none e ih = ih (λ y. h (all (λ d k. let z : none ≡ some d = sym e ∙ k in let w : _≡_ {A = ℕ} 0 1 = cc in absurd (omega arith)) y))
-    go (some t) e ih = accepted-pick (leafAbove 1 t) Truth _ (λ b. accepted-pick (unboundVariable ar (getD ar p 0) t) Unbound _ (λ u.
+    go (some t) e ih = accepted-cond (leafAbove 1 t) Truth _ (λ b. accepted-cond (unboundVariable ar (getD ar p 0) t) Unbound _ (λ u.
         ih (λ y. h (all (λ d k. let z : some t ≡ some d = sym e ∙ k in let q : t ≡ d = cc in subst (Passes ar (getD ar p 0)) q (record { bits = b; bound = u })) y))))
 
 pub not-false : (b : Bool) → not b ≡ false → b ≡ true
@@ -256,9 +240,9 @@ module _ (ar value truths spans : List ℕ) (outLength workLength : ℕ) where
   pub regress-tells : Accepted (Tells ar (truthsOf truths spans) (diagramOf value)) (regressOutcome ar value truths spans outLength workLength)
   unfolding regressOutcome
   regress-tells =
-      accepted-pick (not (isListing ar value)) Listing _ (λ v.
-      accepted-pick (not (areListings ar truths spans 1 (predicateCount - 1))) Listing _ (λ l.
-      accepted-pick (ltb outLength resultWords || ltb workLength spaceWords) Buffer _ (λ b.
+      accepted-cond (not (isListing ar value)) Listing _ (λ v.
+      accepted-cond (not (areListings ar truths spans 1 (predicateCount - 1))) Listing _ (λ l.
+      accepted-cond (ltb outLength resultWords || ltb workLength spaceWords) Buffer _ (λ b.
       accepted-checks ar (truthsOf truths spans) 1 (predicateCount - 1) _ (λ pass.
       regressed-tells ar (truthsOf truths spans) (diagramOf value) (truths-good (not-false _ l) pass) (is-listing-good ar value (not-false _ v))))))
 

@@ -1,7 +1,7 @@
 -- The checks of a regression call as the code makes them, and what a regression of checked listings requires (document 01, sections 'Regression' and
 -- 'Refusals by trade word').
 use mathlib.Core.Path.{_≡_}
-use mathlib.Core.Bool.{Bool, true, false, _&&_, _||_}
+use mathlib.Core.Bool.{Bool, true, false, _&&_, _||_, cond}
 use mathlib.Core.List.{List}
 use mathlib.Core.Option.{Option, some, none}
 use Prim.Native.Nat.{ℕ, _-_, _*_, _≤_, _<_}
@@ -19,7 +19,7 @@ use Rattle.store.specs.Space.{diagramsOf}
 use Rattle.regress.specs.declared.Regressed.{Regressed}
 use Rattle.regress.specs.declared.Verdict.{Verdict}
 use Rattle.regress.specs.declared.Verdict.the-variants.{Passed, Refused}
-use Rattle.regress.specs.Calls.{Outcome, ok, refused, pickOutcome}
+use Rattle.refusal.specs.Outcome.{Outcome, ok, refused}
 use Rattle.regress.specs.RegressCall.{truthCount, truthWords, truthsOf, areListings, leafAbove, unboundVariable, checkTruths, regressedAs, writtenAs}
 
 -- the checks 14 and 18 are passed; the checks 7 and 6 keep no step from running, so they are not asked for
@@ -39,7 +39,7 @@ pub record Listable (s : List ℕ) (count root : ℕ) (out : List ℕ) : Type 0 
 
 -- a result above 1,024 rows is also 9
 abbrev pub held : Diagram → Outcome Diagram
-held d = pickOutcome (ltb mostRows (length (rows d))) (refused Space) (ok d)
+held d = cond (ltb mostRows (length (rows d))) (refused Space) (ok d)
 
 -- the answer o, and the result buffer that was `before` and is `after`
 pub record Answered (o : Outcome Diagram) (r : Regressed) (before after : List ℕ) : Type 0 where

@@ -13,7 +13,8 @@ use Rattle.diagram.specs.Sizes.{mostRows}
 use Rattle.diagram.specs.Diagram.{Diagram, leaf, branch}
 use Rattle.diagram.specs.Rows.{rows}
 use Rattle.diagram.specs.Listing.{index}
-use Rattle.regress.specs.Calls.{Outcome, ok, refused, andThen, pickOutcome, Run, pure, bind, form}
+use Rattle.refusal.specs.Outcome.{Outcome, ok, refused, andThen}
+use Rattle.regress.specs.Calls.{Run, pure, bind, form}
 use Rattle.regress.specs.Step.{labelTest, testDiagram, rowStep}
 
 -- the result of the row x: results stand in the order of the rows
@@ -80,4 +81,4 @@ regression ar truths d = overRows (truthAt ar truths) d
 unfoldable pub regressed : List ℕ → Truths → Diagram → Outcome Diagram
 unfolding regression
 regressed ar truths d =
-    andThen (regression ar truths d []) (λ r. pickOutcome (ltb mostRows (length (rows (r .0)))) (refused Space) (ok (r .0)))
+    andThen (regression ar truths d []) (λ r. cond (ltb mostRows (length (rows (r .0)))) (refused Space) (ok (r .0)))

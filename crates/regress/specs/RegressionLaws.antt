@@ -21,8 +21,10 @@ use Rattle.diagram.specs.Listing.{index}
 use Rattle.diagram.specs.RowLists.{rowTree, Earlier, Kept}
 use Rattle.diagram.specs.ListingLaws.{getD-index}
 use Rattle.diagram.specs.RowLaws.{rows-kept, rows-root, rows-some}
-use Rattle.regress.specs.Calls.{Outcome, ok, refused, andThen, pickOutcome, Run, pure, bind, form}
-use Rattle.regress.specs.CallLaws.{Accepted, accepted-ok, accepted-then, accepted-pick, Gives, gives-pure, gives-bind, gives-mono, form-gives, Steady, steady-pure, steady-bind, steady-form}
+use Rattle.refusal.specs.Outcome.{Outcome, ok, refused, andThen, Accepted}
+use Rattle.regress.specs.Calls.{Run, pure, bind, form}
+use Rattle.refusal.specs.OutcomeLaws.{accepted-ok, accepted-then, accepted-cond}
+use Rattle.regress.specs.CallLaws.{Gives, gives-pure, gives-bind, gives-mono, form-gives, Steady, steady-pure, steady-bind, steady-form}
 use Rattle.regress.specs.Step.{labelTest, testDiagram, rowStep}
 use Rattle.regress.specs.StepLaws.{step-gives, steady-step}
 use Rattle.regress.specs.Regression.{resultOf, rowResult, rowResults, lastOf, overRows, argument, replacement, Truths, truthOf, truthFrom, truthAt, regression, regressed}
@@ -168,7 +170,7 @@ pub record IsRegressed (ar : List ℕ) (truths : Truths) (d r : Diagram) : Type 
 pub regressed-is : (ar : List ℕ) (truths : Truths) (d : Diagram) → Accepted (IsRegressed ar truths d) (regressed ar truths d)
 unfolding regressed
 regressed-is ar truths d = accepted-then (regression ar truths d []) (regression-gives ar truths d .given []) (λ r h.
-    accepted-pick (ltb mostRows (length (rows (r .0)))) Space (ok (r .0)) (λ e. accepted-ok (record { is = h; few = ltb-false _ _ e })))
+    accepted-cond (ltb mostRows (length (rows (r .0)))) Space (ok (r .0)) (λ e. accepted-ok (record { is = h; few = ltb-false _ _ e })))
 
 pub regressed-refused : (ar : List ℕ) (truths : Truths) (d : Diagram) (why : Refusal) → regression ar truths d [] ≡ refused why → regressed ar truths d ≡ refused why
 unfolding regressed

@@ -20,7 +20,8 @@ use Rattle.store.specs.declared.Formed.the-variants.{Row as FormedRow}
 use Rattle.store.specs.Space.{diagramsOf, Holds, Formation}
 use Rattle.regress.specs.declared.Stepped.{Stepped}
 use Rattle.regress.specs.declared.Stepped.the-variants.{Row, Refused}
-use Rattle.regress.specs.Calls.{Outcome, ok, refused, Run}
+use Rattle.refusal.specs.Outcome.{Outcome, ok, refused}
+use Rattle.regress.specs.Calls.{Run}
 use Rattle.regress.specs.Step.{exchanged}
 
 -- no leaf among the rows is above 10^18

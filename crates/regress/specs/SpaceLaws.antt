@@ -29,7 +29,8 @@ use Rattle.apply.specs.Formed.{add, formed}
 use Rattle.apply.specs.Snoc.{Begins, mem-begins, snoc-cases}
 use Rattle.apply.specs.RowLaws.{onto-mem}
 use Rattle.apply.specs.FormedLaws.{add-leaf, add-node, formed-visit}
-use Rattle.regress.specs.Calls.{Outcome, ok, refused, andThen, Run, pure, bind, form, combine}
+use Rattle.refusal.specs.Outcome.{Outcome, ok, refused, andThen}
+use Rattle.regress.specs.Calls.{Run, pure, bind, form, combine}
 use Rattle.regress.specs.CallLaws.{Both, both-bind, same-answer, same-rows, form-old, form-forms, combine-combines, kept-closed, Steady, steady-pure}
 use Rattle.regress.specs.Step.{labelTest, testDiagram, exchanged, rowStep}
 use Rattle.regress.specs.StepLaws.{exchanged-apply}

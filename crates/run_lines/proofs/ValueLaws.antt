@@ -21,7 +21,7 @@ use Rattle.state.specs.Lent.{factWords, isState}
 use Rattle.state.specs.declared.Valued.{Valued}
 use Rattle.state.specs.declared.Valued.the-variants.{Value, Refused}
 use Rattle.state.specs.ValueCall.{mostValuations, parameters, valuations, pickValued, valueAnswer}
-use Rattle.regress.specs.Calls.{Outcome, ok, refused}
+use Rattle.refusal.specs.Outcome.{Outcome, ok, refused}
 use Rattle.regress.specs.Parameters.{Within}
 use Rattle.mdp.specs.Model.{scale}
 use Rattle.mdp.specs.CallLaws.{each-within}
