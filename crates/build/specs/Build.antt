@@ -12,9 +12,9 @@ use Rattle.diagram.specs.Diagram.{Diagram, leaf}
 use Rattle.diagram.specs.Rows.{rows}
 use Rattle.diagram.specs.Variables.{closed}
 use Rattle.refusal.specs.Outcome.{Outcome, ok, refused, andThen}
-use Rattle.regress.specs.Calls.{Run, bind, form}
-use Rattle.regress.specs.Result.{asked}
-use Rattle.regress.specs.Step.{testDiagram, rowStep}
+use Rattle.regression.specs.Calls.{Run, bind, form}
+use Rattle.regression.specs.Result.{asked}
+use Rattle.regression.specs.Step.{testDiagram, rowStep}
 use Rattle.reading.specs.Tree.{Reading}
 use Rattle.reading.specs.Tree.Reading.{branch, number}
 

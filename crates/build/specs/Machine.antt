@@ -11,8 +11,8 @@ use Rattle.label.specs.declared.Test.the-variants.{Always, Is}
 use Rattle.diagram.specs.Diagram.{Diagram, leaf}
 use Rattle.diagram.specs.Variables.{closed}
 use Rattle.refusal.specs.Outcome.{Outcome, ok, refused, andThen}
-use Rattle.regress.specs.Calls.{Run, form}
-use Rattle.regress.specs.Step.{testDiagram, rowStep}
+use Rattle.regression.specs.Calls.{Run, form}
+use Rattle.regression.specs.Step.{testDiagram, rowStep}
 use Rattle.build.specs.Build.{held}
 use Rattle.reading.specs.Operations.{Op}
 use Rattle.reading.specs.Operations.Op.{ask, leafOp, step}

@@ -9,8 +9,8 @@ use Rattle.label.specs.declared.Test.{Test}
 use Rattle.diagram.specs.Diagram.{Diagram, leaf}
 use Rattle.diagram.specs.Variables.{closed}
 use Rattle.refusal.specs.Outcome.{Outcome, ok, refused, andThen}
-use Rattle.regress.specs.Calls.{form}
-use Rattle.regress.specs.Step.{testDiagram, rowStep}
+use Rattle.regression.specs.Calls.{form}
+use Rattle.regression.specs.Step.{testDiagram, rowStep}
 use Rattle.build.specs.Build.{readDiagram, held, textDiagram, rewardDiagram}
 use Rattle.build.specs.Machine.{mostTests, mostResults, Machine, given, closing, operation, operations, ending, build, built, builtClosed}
 use Rattle.reading.specs.Operations.{Op}

@@ -21,10 +21,10 @@ use Rattle.apart.specs.Results.{Regular}
 use Rattle.apart.proofs.ResultLaws.{closed-count}
 use Rattle.refusal.specs.Outcome.{ok, refused, Accepted}
 use Rattle.refusal.specs.OutcomeLaws.{accepted-ok, accepted-refused, accepted-then}
-use Rattle.regress.specs.CallLaws.{Gives, gives-bind, gives-mono, form-gives}
-use Rattle.regress.specs.Step.{testDiagram}
-use Rattle.regress.specs.StepLaws.{most-eval, eval-test, ordered-test, step-gives, eval-stepped, from-stepped, reduced-stepped, every-stepped}
-use Rattle.regress.specs.Result.{AtMost, asked, stepped}
+use Rattle.regression.specs.CallLaws.{Gives, gives-bind, gives-mono, form-gives}
+use Rattle.regression.specs.Step.{testDiagram}
+use Rattle.regression.specs.StepLaws.{most-eval, eval-test, ordered-test, step-gives, eval-stepped, from-stepped, reduced-stepped, every-stepped}
+use Rattle.regression.specs.Result.{AtMost, asked, stepped}
 use Rattle.build.specs.Build.{meaning, readDiagram, held, textDiagram, rewardDiagram}
 use Rattle.build.specs.RegularLaws.{fine-made}
 use Rattle.reading.specs.Tree.{Reading}

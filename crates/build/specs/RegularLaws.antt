@@ -16,12 +16,12 @@ use Rattle.diagram.specs.Listing.{Fine}
 use Rattle.apply.specs.GoodLaws.{EveryLabel}
 use Rattle.apart.specs.Results.{Regular}
 use Rattle.refusal.specs.Outcome.{Outcome, ok, refused, Accepted}
-use Rattle.regress.specs.Calls.{form}
+use Rattle.regression.specs.Calls.{form}
 use Rattle.refusal.specs.OutcomeLaws.{accepted-ok, accepted-refused, accepted-then}
-use Rattle.regress.specs.CallLaws.{form-gives}
-use Rattle.regress.specs.Step.{testDiagram, rowStep}
-use Rattle.regress.specs.StepLaws.{eval-most, most-eval, eval-test, ordered-test, step-gives, eval-stepped, from-stepped, reduced-stepped, every-stepped}
-use Rattle.regress.specs.Result.{AtMost, asked, stepped}
+use Rattle.regression.specs.CallLaws.{form-gives}
+use Rattle.regression.specs.Step.{testDiagram, rowStep}
+use Rattle.regression.specs.StepLaws.{eval-most, most-eval, eval-test, ordered-test, step-gives, eval-stepped, from-stepped, reduced-stepped, every-stepped}
+use Rattle.regression.specs.Result.{AtMost, asked, stepped}
 use Rattle.build.specs.Machine.{Machine, given, closing, operation, operations, lone, build, mostTests, mostResults}
 use Rattle.build.specs.Stacks.{Ops, opsFrom, wholeOps}
 use Rattle.build.specs.Writing.{Under}

@@ -16,7 +16,7 @@ use Rattle.diagram.specs.Validity.{tree}
 use Rattle.plan.specs.Plan.{Clean}
 use Rattle.store.specs.Space.{diagramsOf}
 use Rattle.refusal.specs.Outcome.{ok, refused}
-use Rattle.regress.specs.Running.{Space}
+use Rattle.row_steps.specs.Running.{Space}
 use Rattle.build.specs.declared.Moved.{Moved}
 use Rattle.build.specs.declared.Moved.the-variants.{To, Refused}
 use Rattle.build.specs.Machine.{Machine, mostTests, mostResults, operation}

@@ -12,7 +12,7 @@ use Rattle.diagram.specs.Rows.{rows}
 use Rattle.diagram.specs.RowLists.{Written}
 use Rattle.store.specs.Space.{diagramsOf}
 use Rattle.refusal.specs.Outcome.{Outcome, ok, refused}
-use Rattle.regress.specs.RegressCall.{writtenAs}
+use Rattle.regression.specs.RegressCall.{writtenAs}
 use Rattle.build.specs.declared.Built.{Built}
 use Rattle.build.specs.declared.Built.the-variants.{Done, Refused}
 use Rattle.build.specs.Stacks.{Ops}

@@ -16,8 +16,8 @@ use Rattle.diagram.specs.Listing.{diagramOf}
 use Rattle.diagram.specs.Validity.{Valid}
 use Rattle.diagram.specs.ListingOfDiagram.{valid-listing}
 use Rattle.refusal.specs.Outcome.{Outcome, ok, refused, andThen}
-use Rattle.regress.specs.Regression.{Truths}
-use Rattle.regress.specs.RegressCall.{leafAbove}
+use Rattle.regression.specs.Regression.{Truths}
+use Rattle.regression.specs.RegressCall.{leafAbove}
 use Rattle.words.specs.declared.Key.{Key}
 use Rattle.text.specs.declared.Kind.the-variants.{Becomes}
 use Rattle.text.specs.Line.{lineBytes}

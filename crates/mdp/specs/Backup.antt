@@ -17,8 +17,8 @@ use Rattle.apply.specs.declared.Combined.the-variants.{Done, Refused}
 use Rattle.apply.specs.Combination.{combination, diagramAnswer}
 use Rattle.rename.specs.Freeing.{freed}
 use Rattle.refusal.specs.Outcome.{Outcome, ok, refused, andThen}
-use Rattle.regress.specs.Regression.{regressed}
-use Rattle.regress.specs.RegressCall.{anyOccurs}
+use Rattle.regression.specs.Regression.{regressed}
+use Rattle.regression.specs.RegressCall.{anyOccurs}
 use Rattle.mdp.specs.Model.{Variant, Action, Model, scale}
 
 -- a combination that is answered gives its result

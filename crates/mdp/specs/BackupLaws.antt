@@ -26,10 +26,10 @@ use Rattle.state.specs.Highest.{Highest, Bound, start, highest}
 use Rattle.state.specs.HighestLaws.{start-fits, bound-tuple, highest-is}
 use Rattle.refusal.specs.Outcome.{Accepted}
 use Rattle.refusal.specs.OutcomeLaws.{accepted-ok, accepted-then, accepted-cond, accepted-mono}
-use Rattle.regress.specs.Regression.{regressed}
-use Rattle.regress.specs.Parameters.{Allowed, Within, GoodTruths, WithinTruths}
-use Rattle.regress.specs.Next.{meanings}
-use Rattle.regress.specs.NextLaws.{Tells, regressed-tells, regressed-highest, next-good}
+use Rattle.regression.specs.Regression.{regressed}
+use Rattle.regression.specs.Parameters.{Allowed, Within, GoodTruths, WithinTruths}
+use Rattle.regression.specs.Next.{meanings}
+use Rattle.regression.specs.NextLaws.{Tells, regressed-tells, regressed-highest, next-good}
 use Rattle.mdp.specs.Model.{Variant, Action, Model, scale, Every, GoodVariant, GoodAction, GoodModel}
 use Rattle.mdp.specs.Bellman.{weightIn, stateAfter, rewardIn, bellman}
 use Rattle.mdp.specs.Backup.{combined, freedOutcome, variantsSum, actionsBest, highestScale, mostSteps, scaleEnds, backup}

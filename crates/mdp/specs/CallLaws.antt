@@ -44,12 +44,12 @@ use Rattle.state.specs.ValueLaws.{Terms-mono}
 use Rattle.state.specs.Highest.{Highest}
 use Rattle.refusal.specs.Outcome.{Accepted}
 use Rattle.refusal.specs.OutcomeLaws.{accepted-ok, accepted-refused, accepted-cond}
-use Rattle.regress.specs.Parameters.{Allowed, Within}
-use Rattle.regress.specs.ResultLaws.{value-meaning, terms-every, every-terms}
-use Rattle.regress.specs.NextLaws.{terms-occur, occur-terms}
-use Rattle.regress.specs.RegressCall.{anyOccurs}
-use Rattle.regress.specs.RegressCallLaws.{any-quiet}
-use Rattle.regress.specs.FreeCallLaws.{IsFreed, meaning-freed, freed-highest, freed-within}
+use Rattle.regression.specs.Parameters.{Allowed, Within}
+use Rattle.regression.specs.ResultLaws.{value-meaning, terms-every, every-terms}
+use Rattle.regression.specs.NextLaws.{terms-occur, occur-terms}
+use Rattle.regression.specs.RegressCall.{anyOccurs}
+use Rattle.regression.specs.RegressCallLaws.{any-quiet}
+use Rattle.regression.specs.FreeCallLaws.{IsFreed, meaning-freed, freed-highest, freed-within}
 use Rattle.mdp.specs.Backup.{given, combined, freedOutcome}
 
 -- ===== Meanings and parameters =====

@@ -16,8 +16,8 @@ use Rattle.state.specs.State.{atomOf, meaning, State}
 use Rattle.state.specs.Terms.{Each, args}
 use Rattle.refusal.specs.Outcome.{Accepted}
 use Rattle.refusal.specs.OutcomeLaws.{accepted-ok, accepted-refused}
-use Rattle.regress.specs.Parameters.{Allowed, Within}
-use Rattle.regress.specs.ResultLaws.{terms-every, every-terms}
+use Rattle.regression.specs.Parameters.{Allowed, Within}
+use Rattle.regression.specs.ResultLaws.{terms-every, every-terms}
 use Rattle.cut.specs.declared.Cut.the-variants.{Refused}
 use Rattle.cut.specs.Paths.{paths, mostPaths}
 use Rattle.cut.specs.Cut.{MayGo, Choice, pickDiagram, reduced, cutAt, cutDiagram, pickCut, edgeOf, isTrueEdge, chosenAnswer, diagramAnswer}

@@ -26,11 +26,11 @@ use Rattle.apply.specs.Combination.{combination, diagramAnswer}
 use Rattle.rename.specs.Freeing.{freed}
 use Rattle.state.specs.State.{meaning}
 use Rattle.refusal.specs.Outcome.{Outcome, ok, refused, andThen}
-use Rattle.regress.specs.Regression.{regressed}
-use Rattle.regress.specs.Parameters.{Within}
-use Rattle.regress.specs.RegressCall.{anyOccurs, freeOutcome}
-use Rattle.regress.specs.RegressCallLaws.{quiet-any}
-use Rattle.regress.specs.FreeCallLaws.{free-variables, free-ok}
+use Rattle.regression.specs.Regression.{regressed}
+use Rattle.regression.specs.Parameters.{Within}
+use Rattle.regression.specs.RegressCall.{anyOccurs, freeOutcome}
+use Rattle.regression.specs.RegressCallLaws.{quiet-any}
+use Rattle.regression.specs.FreeCallLaws.{free-variables, free-ok}
 use Rattle.cut.specs.declared.Edge.{Edge}
 use Rattle.cut.specs.declared.Cut.the-variants.{Done as CutDone, Refused as CutRefused}
 use Rattle.cut.specs.Cut.{cutDiagram, isTrueEdge, diagramAnswer as cutAnswer}

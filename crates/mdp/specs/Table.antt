@@ -20,8 +20,8 @@ use Rattle.apply.specs.Combination.{rowsFormed, combination, diagramAnswer}
 use Rattle.state.specs.State.{meaning, State}
 use Rattle.state.specs.Highest.{highest}
 use Rattle.refusal.specs.Outcome.{ok, refused, andThen}
-use Rattle.regress.specs.Step.{labelTest}
-use Rattle.regress.specs.Regression.{truthAt}
+use Rattle.regression.specs.Step.{labelTest}
+use Rattle.regression.specs.Regression.{truthAt}
 use Rattle.cut.specs.declared.Edge.the-variants.{False}
 use Rattle.cut.specs.declared.Cut.the-variants.{Done as CutDone, Refused as CutRefused}
 use Rattle.cut.specs.Cut.{diagramAnswer as cutAnswer}

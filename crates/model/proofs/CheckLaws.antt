@@ -35,17 +35,16 @@ use Rattle.apart.specs.Results.{Closable}
 use Rattle.state.specs.State.{meaning}
 use Rattle.state.specs.Terms.{Terms}
 use Rattle.state.specs.ValueLaws.{Terms-mono}
-use Rattle.regress.specs.declared.Verdict.{Verdict}
-use Rattle.regress.specs.declared.Verdict.the-variants.{Passed, Refused}
-use Rattle.regress.specs.Parameters.{Within}
-use Rattle.regress.specs.RegressCall.{truthWords, truthsOf, areListings, leafAbove, anyOccurs, unboundVariable}
-use Rattle.regress.specs.RegressCallLaws.{truths-none, truths-some, above-most, any-quiet, not-false}
-use Rattle.regress.specs.NextLaws.{occur-terms}
-use Rattle.regress.specs.Freeing.{anySet}
-use Rattle.regress.specs.Keeping.{Lent}
-use Rattle.regress.specs.Regressing.{pickVerdict, verdictOn, Between}
-use Rattle.regress.proofs.FreeLaws.{used-any}
-use Rattle.regress.proofs.CheckLaws.{judge-valid}
+use Rattle.truths.specs.declared.Verdict.{Verdict}
+use Rattle.truths.specs.declared.Verdict.the-variants.{Passed, Refused}
+use Rattle.regression.specs.Parameters.{Within}
+use Rattle.regression.specs.RegressCall.{truthWords, truthsOf, areListings, leafAbove, anyOccurs, unboundVariable}
+use Rattle.regression.specs.RegressCallLaws.{truths-none, truths-some, above-most, any-quiet, not-false}
+use Rattle.regression.specs.NextLaws.{occur-terms}
+use Rattle.freeing.specs.FreeTasks.{anySet}
+use Rattle.truths.specs.TruthChecks.{Lent, pickVerdict, verdictOn, Between}
+use Rattle.freeing.specs.MarkLaws.{used-any}
+use Rattle.truths.specs.TruthCheckLaws.{judge-valid}
 use Rattle.mdp.specs.Model.{Every, GoodTruthDiagram, GoodVariant, GoodAction, mostActions, mostVariants}
 use Rattle.mdp.specs.CallLaws.{within-each, closed-count}
 use Rattle.model.specs.declared.Head.{Head}

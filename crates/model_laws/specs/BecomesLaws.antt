@@ -19,9 +19,9 @@ use Rattle.state.specs.State.{meaning}
 use Rattle.state.specs.ValueLaws.{Terms-mono}
 use Rattle.refusal.specs.Outcome.{ok, Accepted}
 use Rattle.refusal.specs.OutcomeLaws.{accepted-ok, accepted-then, accepted-cond, accepted-next}
-use Rattle.regress.specs.Regression.{Truths}
-use Rattle.regress.specs.RegressCall.{leafAbove}
-use Rattle.regress.specs.RegressCallLaws.{above-most}
+use Rattle.regression.specs.Regression.{Truths}
+use Rattle.regression.specs.RegressCall.{leafAbove}
+use Rattle.regression.specs.RegressCallLaws.{above-most}
 use Rattle.events.specs.declared.Event.{Event}
 use Rattle.events.specs.Events.{diagramEvents, wordsEvents}
 use Rattle.reading.specs.declared.Binding.the-variants.{Only}

@@ -14,7 +14,7 @@ use Rattle.words.specs.declared.Key.{Key}
 use Rattle.names.specs.Keys.{isAmong}
 use Rattle.refusal.specs.Outcome.{ok, Accepted}
 use Rattle.refusal.specs.OutcomeLaws.{accepted-ok, accepted-cond}
-use Rattle.regress.specs.RegressCallLaws.{not-false}
+use Rattle.regression.specs.RegressCallLaws.{not-false}
 use Rattle.mdp.specs.Model.{Action, GoodAction, mostTotal, mostDenominator, mostActions}
 use Rattle.session.specs.declared.Part.the-variants.{Model as ModelPart}
 use Rattle.session.specs.Session.{Names, Session}

@@ -14,8 +14,8 @@ use Rattle.label.specs.Limits.{predicateCount}
 use Rattle.state.specs.ValueLaws.{by-low}
 use Rattle.diagram.specs.Diagram.{Diagram}
 use Rattle.diagram.specs.Listing.{diagramOf}
-use Rattle.regress.specs.Regression.{Truths, pickTruth}
-use Rattle.regress.specs.RegressCall.{truthsOf}
+use Rattle.regression.specs.Regression.{Truths, pickTruth}
+use Rattle.regression.specs.RegressCall.{truthsOf}
 use Rattle.mdp.specs.Model.{Variant, Action, mostVariants}
 use Rattle.session.specs.Modelling.{lastVariant, lastTruths, withTruthAt, pickOption, truthsNow, truthsOfLast, isSome}
 use Rattle.model.specs.declared.Head.{Head}

@@ -15,8 +15,8 @@ use Rattle.diagram.specs.Words.{isListing}
 use Rattle.diagram.specs.Listing.{treeAt, diagramOf, Good}
 use Rattle.diagram.specs.Listings.{good-is-listing}
 use Rattle.state.specs.ValueLaws.{by-low}
-use Rattle.regress.specs.RegressCall.{truthCount, truthWords, areListings}
-use Rattle.regress.specs.RegressCallLaws.{listings-none, listings-cons, truths-some}
+use Rattle.regression.specs.RegressCall.{truthCount, truthWords, areListings}
+use Rattle.regression.specs.RegressCallLaws.{listings-none, listings-cons, truths-some}
 use Rattle.mdp.specs.Model.{Every, GoodVariant, GoodAction, GoodModel}
 use Rattle.session.specs.Session.{Session}
 use Rattle.session.specs.Modelling.{withReward, addVariant, withVariant, lastVariant, withTruthAt, withTruth}

@@ -11,9 +11,9 @@ use Rattle.label.specs.Limits.{predicateCount}
 use Rattle.state.specs.ValueLaws.{by-low}
 use Rattle.diagram.specs.Diagram.{Diagram}
 use Rattle.diagram.specs.Listing.{diagramOf}
-use Rattle.regress.specs.Regression.{Truths, pickTruth}
-use Rattle.regress.specs.RegressCall.{truthsOf}
-use Rattle.regress.specs.RegressCallLaws.{truths-none}
+use Rattle.regression.specs.Regression.{Truths, pickTruth}
+use Rattle.regression.specs.RegressCall.{truthsOf}
+use Rattle.regression.specs.RegressCallLaws.{truths-none}
 use Rattle.mdp.specs.Model.{Variant, Action}
 use Rattle.names.specs.Many.{many}
 use Rattle.names.specs.ManyLaws.{many-ext}

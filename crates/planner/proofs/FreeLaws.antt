@@ -20,12 +20,12 @@ use Rattle.diagram.specs.Variables.{closed}
 use Rattle.rename.specs.ClosingLaws.{closed-good}
 use Rattle.write.specs.Renaming.{listedIn}
 use Rattle.apart.specs.Results.{Closable}
-use Rattle.regress.specs.declared.Freed.{Freed}
-use Rattle.regress.specs.declared.Freed.the-variants.{Done as FreedDone, Refused as NotFreed}
+use Rattle.regression.specs.declared.Freed.{Freed}
+use Rattle.regression.specs.declared.Freed.the-variants.{Done as FreedDone, Refused as NotFreed}
 use Rattle.refusal.specs.Outcome.{Outcome, ok, refused, andThen, Accepted}
 use Rattle.refusal.specs.OutcomeLaws.{accepted-mono}
-use Rattle.regress.specs.RegressCall.{writtenAs, freedAs, freeOutcome}
-use Rattle.regress.specs.Freeing.{freeOwn, FreeTask, FreedWith}
+use Rattle.regression.specs.RegressCall.{writtenAs, freedAs, freeOutcome}
+use Rattle.freeing.specs.FreeTasks.{freeOwn, FreeTask, FreedWith}
 use Rattle.mdp.specs.Backup.{freedOutcome}
 use Rattle.mdp.specs.StepLaws.{free-call}
 use Rattle.mdp.specs.CallLaws.{closed-count, freed-to}

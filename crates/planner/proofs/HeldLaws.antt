@@ -24,8 +24,8 @@ use Rattle.rename.specs.ClosingLaws.{closed-good}
 use Rattle.state.specs.State.{meaning}
 use Rattle.refusal.specs.Outcome.{Outcome, ok, refused, Accepted}
 use Rattle.refusal.specs.OutcomeLaws.{accepted-ok, accepted-refused}
-use Rattle.regress.specs.RegressCall.{writtenAs}
-use Rattle.regress.specs.Parameters.{Within}
+use Rattle.regression.specs.RegressCall.{writtenAs}
+use Rattle.regression.specs.Parameters.{Within}
 use Rattle.cut.specs.declared.Edge.{Edge}
 use Rattle.cut.specs.declared.Cut.{Cut}
 use Rattle.cut.specs.declared.Cut.the-variants.{Done as CutDone, Refused as NotCut}

@@ -16,7 +16,7 @@ use Rattle.diagram.specs.Rows.{rows}
 use Rattle.diagram.specs.Listing.{Good}
 use Rattle.refusal.specs.Outcome.{Outcome, ok, refused, Accepted}
 use Rattle.refusal.specs.OutcomeLaws.{accepted-refused}
-use Rattle.regress.specs.RegressCall.{writtenAs}
+use Rattle.regression.specs.RegressCall.{writtenAs}
 use Rattle.mdp.specs.Model.{Model, scale}
 use Rattle.mdp.specs.Backup.{highestScale, mostSteps, scaleEnds, backup}
 use Rattle.mdp.specs.StepLaws.{backup-ends, backup-row, on-scale}

@@ -28,7 +28,7 @@ use Rattle.combine.specs.Calls.{Callable, Answered}
 use Rattle.refusal.specs.declared.Refusal.{Refusal}
 use Rattle.refusal.specs.Outcome.{Outcome, ok, refused, andThen, Accepted}
 use Rattle.refusal.specs.OutcomeLaws.{accepted-mono}
-use Rattle.regress.specs.RegressCall.{writtenAs}
+use Rattle.regression.specs.RegressCall.{writtenAs}
 use Rattle.mdp.specs.Backup.{combined}
 use Rattle.mdp.specs.StepLaws.{combined-done, combined-refused}
 use Rattle.mdp.specs.CallLaws.{leaf-listed, shared-made, apart-added}

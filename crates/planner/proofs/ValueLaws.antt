@@ -13,7 +13,7 @@ use Rattle.apply.specs.declared.Operation.the-variants.{Sum, Product}
 use Rattle.apply.specs.declared.Names.the-variants.{Apart, Shared}
 use Rattle.refusal.specs.Outcome.{Outcome, refused, andThen, Accepted}
 use Rattle.refusal.specs.OutcomeLaws.{accepted-refused}
-use Rattle.regress.specs.RegressCall.{writtenAs}
+use Rattle.regression.specs.RegressCall.{writtenAs}
 use Rattle.mdp.specs.Backup.{combined, actionsBest}
 use Rattle.model.specs.declared.Head.{Head}
 use Rattle.model.specs.Layout.{rewardWords, modelOf, Laid}

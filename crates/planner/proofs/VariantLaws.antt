@@ -12,14 +12,14 @@ use Rattle.diagram.specs.Listing.{listing, diagramOf, Good}
 use Rattle.diagram.specs.Listings.{is-listing-good}
 use Rattle.apply.specs.declared.Operation.the-variants.{Sum, Product}
 use Rattle.apply.specs.declared.Names.the-variants.{Apart, Shared}
-use Rattle.regress.specs.declared.Regressed.{Regressed}
-use Rattle.regress.specs.declared.Regressed.the-variants.{Done as RegressedDone, Refused as NotRegressed}
+use Rattle.regression.specs.declared.Regressed.{Regressed}
+use Rattle.regression.specs.declared.Regressed.the-variants.{Done as RegressedDone, Refused as NotRegressed}
 use Rattle.refusal.specs.Outcome.{Outcome, ok, refused, andThen, Accepted}
 use Rattle.refusal.specs.OutcomeLaws.{accepted-mono}
-use Rattle.regress.specs.Regression.{Truths, regressed}
-use Rattle.regress.specs.RegressCall.{truthsOf, regressedAs, writtenAs}
+use Rattle.regression.specs.Regression.{Truths, regressed}
+use Rattle.regression.specs.RegressCall.{truthsOf, regressedAs, writtenAs}
 use Rattle.regress.specs.Regressing.{Regressable}
-use Rattle.regress.specs.NextLaws.{regressed-tells}
+use Rattle.regression.specs.NextLaws.{regressed-tells}
 use Rattle.mdp.specs.Backup.{combined}
 use Rattle.model.specs.Layout.{weightWords, spansAt, variantAt, rewardWords}
 use Rattle.model.specs.declared.Head.{Head}

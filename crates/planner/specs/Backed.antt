@@ -9,7 +9,7 @@ use Rattle.diagram.specs.Diagram.{Diagram}
 use Rattle.diagram.specs.Rows.{rows}
 use Rattle.diagram.specs.Listing.{Good}
 use Rattle.refusal.specs.Outcome.{Outcome, ok, refused, Accepted}
-use Rattle.regress.specs.RegressCall.{writtenAs}
+use Rattle.regression.specs.RegressCall.{writtenAs}
 use Rattle.mdp.specs.Model.{Model, scale, mostTotal, mostDenominator}
 use Rattle.mdp.specs.Backup.{highestScale, mostSteps, backup}
 use Rattle.model.specs.declared.Head.{Head}

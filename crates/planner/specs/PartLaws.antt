@@ -14,9 +14,9 @@ use Rattle.apply.specs.declared.Names.the-variants.{Apart, Shared}
 use Rattle.state.specs.State.{meaning}
 use Rattle.refusal.specs.Outcome.{Outcome, ok, refused, andThen, Accepted}
 use Rattle.refusal.specs.OutcomeLaws.{accepted-ok, accepted-then}
-use Rattle.regress.specs.Regression.{regressed}
-use Rattle.regress.specs.Parameters.{Within}
-use Rattle.regress.specs.NextLaws.{regressed-tells}
+use Rattle.regression.specs.Regression.{regressed}
+use Rattle.regression.specs.Parameters.{Within}
+use Rattle.regression.specs.NextLaws.{regressed-tells}
 use Rattle.mdp.specs.Model.{Variant, Action, Every, GoodVariant, GoodAction}
 use Rattle.mdp.specs.Backup.{combined, freedOutcome, variantsSum, actionsBest}
 use Rattle.mdp.specs.StepLaws.{sum-none, sum-next, best-none, best-next}

@@ -6,7 +6,7 @@ use Rattle.diagram.specs.Variables.{closed}
 use Rattle.apply.specs.declared.Operation.the-variants.{Sum, Product, Max}
 use Rattle.apply.specs.declared.Names.the-variants.{Apart, Shared}
 use Rattle.refusal.specs.Outcome.{Outcome, ok, andThen}
-use Rattle.regress.specs.Regression.{regressed}
+use Rattle.regression.specs.Regression.{regressed}
 use Rattle.mdp.specs.Model.{Variant, Action, Model}
 use Rattle.mdp.specs.Backup.{combined, freedOutcome, variantsSum, actionsBest}
 

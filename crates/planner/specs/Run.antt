@@ -9,7 +9,7 @@ use Rattle.diagram.specs.Sizes.{resultWords, spaceWords}
 use Rattle.diagram.specs.Words.{isListing}
 use Rattle.diagram.specs.Listing.{diagramOf}
 use Rattle.state.specs.State.{meaning}
-use Rattle.regress.specs.Parameters.{Within}
+use Rattle.regression.specs.Parameters.{Within}
 use Rattle.mdp.specs.Model.{Model, scale}
 use Rattle.mdp.specs.Backup.{mostSteps}
 use Rattle.mdp.specs.Runs.{Call, aBackup, aCut}

@@ -13,7 +13,7 @@ use Rattle.diagram.specs.Listing.{diagramOf, Good}
 use Rattle.apply.specs.declared.Combined.{Combined}
 use Rattle.apply.specs.declared.Combined.the-variants.{Done, Refused as NotCombined}
 use Rattle.refusal.specs.Outcome.{Outcome, ok, refused, Accepted}
-use Rattle.regress.specs.RegressCall.{writtenAs}
+use Rattle.regression.specs.RegressCall.{writtenAs}
 use Rattle.planner.specs.declared.Step.{Step}
 use Rattle.planner.specs.declared.Step.the-variants.{Rows, Refused}
 

@@ -9,7 +9,7 @@ use Rattle.diagram.specs.Sizes.{highestValue, resultWords, spaceWords}
 use Rattle.diagram.specs.Words.{isListing}
 use Rattle.diagram.specs.Listing.{diagramOf}
 use Rattle.state.specs.State.{meaning}
-use Rattle.regress.specs.Parameters.{Within, GoodTruths}
+use Rattle.regression.specs.Parameters.{Within, GoodTruths}
 use Rattle.mdp.specs.Model.{GoodAction}
 use Rattle.model.specs.Layout.{variantWords, actionWords, variantAt, actionAt, rewardWords, LaidVariant, LaidAction}
 use Rattle.model.specs.declared.Head.{Head}

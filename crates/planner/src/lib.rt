@@ -5,8 +5,8 @@ use cut::Cut;
 use label::Label;
 use model::Head;
 use refusal::Refusal;
-use regress::Freed;
-use regress::Regressed;
+use regression::Freed;
+use regression::Regressed;
 ghost use mathlib.Core.Path.{_≡_};
 ghost use Prim.Native.Nat.{_*_, _≤_};
 ghost use lib.ListN.{length, take};
@@ -15,7 +15,7 @@ ghost use Rattle.diagram.specs.Diagram.{leaf};
 ghost use Rattle.diagram.specs.Listing.{diagramOf};
 ghost use Rattle.apply.specs.declared.Operation.the-variants.{Sum, Product, Max};
 ghost use Rattle.apply.specs.declared.Names.the-variants.{Apart, Shared};
-ghost use Rattle.regress.specs.Regression.{regressed};
+ghost use Rattle.regression.specs.Regression.{regressed};
 ghost use Rattle.mdp.specs.Backup.{combined, variantsSum, actionsBest};
 ghost use Rattle.model.specs.Layout.{variantAt, actionAt, rewardWords, modelOf, Laid};
 ghost use Rattle.mdp.specs.Runs.{aBackup, call, run};
@@ -274,7 +274,7 @@ fn free_up(arities: &[u64], words: &[u64], count: u64, out: &mut [u64]) -> Step
     requires { ⌜ FreeUp (now arities) (now words) count (now out) ⌝ }
     ensures { λ r. ⌜ Given (now (arities .entry)) (freedUp (now (arities .entry)) count (diagramOf (now (words .entry)))) r (now (out .exit)) ⌝ }
 {
-    let r = regress::free_checked(arities, words, count, out);
+    let r = freeing::free_checked(arities, words, count, out);
     match r {
         Freed::Done(n) => {
             apart::close_up(arities, out, n);

@@ -19,13 +19,13 @@ use Rattle.diagram.specs.Words.{labelAt, highAt, lowAt, isListing}
 use Rattle.diagram.specs.Validity.{tree}
 use Rattle.store.specs.declared.Formed.{Formed}
 use Rattle.store.specs.declared.Formed.the-variants.{Row as FormedRow, Full}
-use Rattle.regress.specs.declared.Stepped.{Stepped}
-use Rattle.regress.specs.declared.Stepped.the-variants.{Row, Refused}
+use Rattle.row_steps.specs.declared.Stepped.{Stepped}
+use Rattle.row_steps.specs.declared.Stepped.the-variants.{Row, Refused}
 use Rattle.regress.specs.declared.Task.{Task}
 use Rattle.regress.specs.declared.Task.the-variants.{Leaf, Branch}
-use Rattle.regress.specs.Calls.{Run, pure, bind, form}
-use Rattle.regress.specs.Step.{testDiagram, rowStep}
-use Rattle.regress.specs.Regression.{argument}
+use Rattle.regression.specs.Calls.{Run, pure, bind, form}
+use Rattle.regression.specs.Step.{testDiagram, rowStep}
+use Rattle.regression.specs.Regression.{argument}
 
 abbrev pub pickTask : Bool → Task → Task → Task
 pickTask true x y = x

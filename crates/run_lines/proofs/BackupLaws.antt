@@ -11,7 +11,7 @@ use Rattle.diagram.specs.Diagram.{Diagram}
 use Rattle.diagram.specs.Rows.{rows}
 use Rattle.diagram.specs.Listing.{diagramOf}
 use Rattle.refusal.specs.Outcome.{Outcome, ok, refused, andThen}
-use Rattle.regress.specs.RegressCall.{writtenAs}
+use Rattle.regression.specs.RegressCall.{writtenAs}
 use Rattle.mdp.specs.Model.{Model, scale}
 use Rattle.mdp.specs.Backup.{mostSteps, scaleEnds, backup}
 use Rattle.mdp.specs.Runs.{Held as Value, taken}

@@ -14,8 +14,8 @@ use Rattle.diagram.specs.Rows.{rows}
 use Rattle.apply.specs.declared.Operation.the-variants.{Sum}
 use Rattle.apply.specs.declared.Names.the-variants.{Shared}
 use Rattle.refusal.specs.Outcome.{Outcome, ok, refused, andThen}
-use Rattle.regress.specs.Regression.{Truths}
-use Rattle.regress.specs.RegressCall.{leafAbove}
+use Rattle.regression.specs.Regression.{Truths}
+use Rattle.regression.specs.RegressCall.{leafAbove}
 use Rattle.forms.specs.Tree as T
 use Rattle.events.specs.Events.{wordsEvents}
 use Rattle.events.specs.declared.Event.{Event}

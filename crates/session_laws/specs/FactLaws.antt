@@ -15,7 +15,7 @@ use Rattle.names.specs.Keys.{isAmong}
 use Rattle.state.specs.Lent.{factWords, factCount, predicateAt, objectsAt, allBelow, namesBelow, isState}
 use Rattle.refusal.specs.Outcome.{ok, Accepted}
 use Rattle.refusal.specs.OutcomeLaws.{accepted-ok, accepted-cond}
-use Rattle.regress.specs.RegressCallLaws.{not-false}
+use Rattle.regression.specs.RegressCallLaws.{not-false}
 use Rattle.session.specs.declared.Part.the-variants.{Run}
 use Rattle.session.specs.Session.{Live, Session}
 use Rattle.session.specs.Facts.{mostFacts, factRow, withFact, isFact, factLine, predicateOf, trueLine}

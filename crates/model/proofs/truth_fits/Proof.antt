@@ -1,5 +1,5 @@
 use Rattle.model.proofs.CheckLaws.{truth-none, truth-listing, truth-some}
-use Rattle.regress.proofs.CheckLaws.{judge-place, judge-arity}
+use Rattle.truths.specs.TruthCheckLaws.{judge-place, judge-arity}
 use borrow.Author.Needs.{needs}
 use Rattle.model.proofs.truth_fits.Statement.{statement}
 use Rattle.model.proofs.truth_fits.Tie as tie

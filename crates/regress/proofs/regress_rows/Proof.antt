@@ -3,9 +3,9 @@ use Prim.Native.Nat.{_-_}
 use lib.ListN.{length}
 use native.Mathlib.Omega.{arith}
 use borrow.Author.Needs.{needs}
-use Rattle.regress.specs.Running.{Ready}
-use Rattle.regress.specs.RegressCall.{truthsOf}
-use Rattle.regress.specs.Regression.{truthAt, regression}
+use Rattle.row_steps.specs.Running.{Ready}
+use Rattle.regression.specs.RegressCall.{truthsOf}
+use Rattle.regression.specs.Regression.{truthAt, regression}
 use Rattle.regress.specs.Keeping.{Keeps}
 use Rattle.regress.proofs.KeptLaws.{keeps-start}
 use Rattle.regress.proofs.RowsLaws.{Going, going-start, going-taskable, going-few, going-tasked, going-stop, going-small, going-on, going-end, ready-on}

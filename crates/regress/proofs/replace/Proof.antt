@@ -1,12 +1,12 @@
 use Rattle.regress.proofs.RowsLaws.{Going, going-start, going-taskable, going-few, going-tasked, going-stop, going-small, going-on, going-end, ready-on}
 use Rattle.regress.specs.Tasks.{replacedBy}
-use Rattle.regress.specs.Running.{Ready}
+use Rattle.row_steps.specs.Running.{Ready}
 use borrow.Author.Needs.{needs}
 use native.Mathlib.Omega.{arith}
 use lib.ListN.{length}
 use Prim.Native.Nat.{_-_}
 use mathlib.Core.Path.{_≡_, refl, sym, _∙_}
-use Rattle.regress.specs.Regression.{replacement}
+use Rattle.regression.specs.Regression.{replacement}
 use Rattle.regress.proofs.replace.Statement.{statement}
 use Rattle.regress.proofs.replace.Tie as tie
 use Rattle.regress.proofs.replace.Reads as reads

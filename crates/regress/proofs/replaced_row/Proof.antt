@@ -5,7 +5,7 @@ use Rattle.regress.proofs.replaced_row.Tie as tie
 use Rattle.regress.proofs.replaced_row.Reads as reads
 use Rattle.regress.proofs.replaced_row.Lts as lts
 use Rattle.label.proofs.Label.moved.Reads as moved-reads
-use Rattle.regress.proofs.test_step.Reads as test-step-reads
+use Rattle.row_steps.proofs.test_step.Reads as test-step-reads
 use Rattle.regress.proofs.told.Reads as told-reads
 use Rattle.store.proofs.leaf.Reads as leaf-reads
 
