@@ -6,11 +6,12 @@ use Prim.Native.Nat.{ℕ, suc, _+_, _-_, _/_, _≤_, _<_}
 use native.Mathlib.Omega.{arith}
 use lib.ListN.{length, drop, length-map}
 use lib.Dec.{ltb, leb}
-use borrow.Author.Tests.{ltb-true, leb-true, lt-ltb, le-ltb}
-use Rattle.basics.specs.Tests.{Cmp, below, equal, above, cmp, Either, one, other, either, and-left, and-right, or-one, or-other}
-use Rattle.basics.specs.Members.{clash}
+use borrow.Author.Tests.{ltb-true, leb-true, lt-ltb}
 use Rattle.refusal.specs.declared.Refusal.{Refusal}
 use Rattle.refusal.specs.declared.Refusal.the-variants.{Listing, Buffer, Unbound, Range, Variables}
+use Rattle.refusal.specs.Outcome.{ok, refused}
+use Rattle.basics.specs.Tests.{Cmp, below, equal, above, cmp, Either, one, other, either, and-left, and-right, or-one, or-other}
+use Rattle.basics.specs.Members.{clash}
 use Rattle.label.specs.Limits.{firstParameter, parameterCount, firstVariable, termBase}
 use Rattle.label.specs.Terms.{isConstant, isParameter, isVariable, isTerm}
 use Rattle.label.specs.LabelLaws.{term-below}
@@ -37,11 +38,10 @@ use Rattle.rename.specs.VariableLaws.{occurs-term}
 use Rattle.rename.specs.RenamedWords.{freed-words}
 use Rattle.regression.specs.declared.Freed.{Freed}
 use Rattle.regression.specs.declared.Freed.the-variants.{Done, Refused}
-use Rattle.refusal.specs.Outcome.{ok, refused}
-use Rattle.regression.specs.RegressCall.{anyOccurs, writtenAs, freeOutcome, freeAnswer, freeResult}
+use Rattle.regression.specs.RegressCall.{anyOccurs, freedOutcome, writtenAs, freeOutcome, freeAnswer, freeResult, freeOwn}
 use Rattle.regression.specs.RegressCallLaws.{any-quiet, not-false}
-use Rattle.regression.specs.FreeCallLaws.{free-listing, free-buffer, free-range, free-refused, freed-refused}
-use Rattle.freeing.specs.FreeTasks.{anySet, freeOwn, FreeTask, FreedWith}
+use Rattle.regression.specs.FreeCallLaws.{free-own, free-listing, free-buffer, free-range, free-refused, freed-refused}
+use Rattle.freeing.specs.FreeTasks.{anySet, FreeTask, FreedWith}
 
 -- a term below the variables is a constant or a parameter
 low-term : (t : ℕ) → isTerm t ≡ true → t < firstVariable → t < firstParameter + parameterCount
@@ -101,7 +101,7 @@ module _ {ar words : List ℕ} {count : ℕ} {out : List ℕ} (task : FreeTask a
       past = used-any ar (diagramOf words) ms u (64 - count) count (omega (arith, task .few))
 
       pub own-variables : c ≡ true → FreedWith (freeOwn ar words count) (Refused Variables) out out
-      unfolding freeOwn
+      unfolding freeOwn freedOutcome
       own-variables h = let q = sym unbound ∙ sym p ∙ e in let k = sym past ∙ sym r ∙ h in record { answer = rw (q, k); result = rw (q, k) }
 
       pub own-freeable : c ≡ false → Freeable ar count (diagramOf words)
@@ -138,7 +138,7 @@ module _ {ar words : List ℕ} {count : ℕ} {out : List ℕ} (task : FreeTask a
 
       pub own-done : c ≡ false → {out′ : List ℕ} → out′ ≡ writtenAs (ok (freed ar count (diagramOf words))) out
           → FreedWith (freeOwn ar words count) (Done (length words / 3)) out out′
-      unfolding freeOwn freed
+      unfolding freeOwn freedOutcome freed
       own-done h {out′} w =
           let q = sym unbound ∙ sym p ∙ e in
           let k = sym past ∙ sym r ∙ h in
@@ -184,9 +184,5 @@ module _ (ar words : List ℕ) (count : ℕ) (out : List ℕ) (w : ℕ) where
             record { listing = sym p ∙ e; few = l; room = omega (arith, v .whole, v .few) }
 
         pub free-done : count ≤ 4 → {r : Freed} {out′ : List ℕ} → FreedWith (freeOwn ar words count) r out out′ → Says r out′
-        unfolding freeOwn freeOutcome freeAnswer freeResult
-        free-done l {r} {out′} g =
-            let z = (sym p ∙ e) in (
-              rw (z, le-ltb (length out) resultWords h, le-ltb w spaceWords k, le-ltb parameterCount count l) (g .answer),
-              rw (z, le-ltb (length out) resultWords h, le-ltb w spaceWords k, le-ltb parameterCount count l) (g .result),
-            )
+        unfolding freeAnswer freeResult
+        free-done l g = let z = free-own ar words count (length out) w (sym p ∙ e) h k l in (rw z (g .answer), rw z (g .result))

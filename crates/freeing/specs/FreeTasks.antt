@@ -1,32 +1,21 @@
 -- What the inner functions of freeing take and give (document 01, section 'Regression').
 use mathlib.Core.Path.{_≡_}
-use mathlib.Core.Bool.{Bool, true, false, not, _||_, cond}
+use mathlib.Core.Bool.{Bool, true, false, not, _||_}
 use mathlib.Core.List.{List}
-use Prim.Native.Nat.{ℕ, zero, suc, _+_, _-_, _≤_}
+use Prim.Native.Nat.{ℕ, zero, suc, _≤_}
 use lib.ListN.{length, getD}
 use lib.Dec.{eqb}
-use Rattle.refusal.specs.declared.Refusal.the-variants.{Unbound, Variables}
-use Rattle.label.specs.Limits.{firstParameter, parameterCount, termBase}
-use Rattle.label.specs.Renamings.{renamed, freeing}
-use Rattle.diagram.specs.Diagram.{Diagram, relabel}
+use Rattle.refusal.specs.Outcome.{Outcome}
+use Rattle.label.specs.Limits.{parameterCount}
+use Rattle.diagram.specs.Diagram.{Diagram}
 use Rattle.diagram.specs.Words.{isListing}
-use Rattle.diagram.specs.Listing.{diagramOf}
 use Rattle.regression.specs.declared.Freed.{Freed}
-use Rattle.refusal.specs.Outcome.{Outcome, ok, refused}
-use Rattle.regression.specs.RegressCall.{anyOccurs, writtenAs, freedAs}
+use Rattle.regression.specs.RegressCall.{writtenAs, freedAs}
 
 -- one of the n marks from t on is set
 unfoldable pub anySet : List ℕ → ℕ → ℕ → Bool
 anySet ms t zero = false
 anySet ms t (suc n) = not (eqb (getD ms t 0) 0) || anySet ms (suc t) n
-
--- freeing's own checks, 6 and 8, and its result
-unfoldable pub freeOwn : List ℕ → List ℕ → ℕ → Outcome Diagram
-unfolding diagramOf anyOccurs relabel
-freeOwn ar words count =
-    cond (anyOccurs ar (diagramOf words) (firstParameter + count) (parameterCount - count)) (refused Unbound)
-    (cond (anyOccurs ar (diagramOf words) (termBase - count) count) (refused Variables)
-    (ok (relabel (renamed ar (freeing count)) (diagramOf words))))
 
 -- a listing, a parameter count, and room for the result
 pub record FreeTask (ar words : List ℕ) (count : ℕ) (out : List ℕ) : Type 0 where

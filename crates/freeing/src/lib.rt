@@ -8,8 +8,8 @@ ghost use lib.ListN.{length};
 ghost use Rattle.diagram.specs.Listing.{diagramOf};
 ghost use Rattle.rename.specs.Freeing.{freed, Freeable};
 ghost use Rattle.refusal.specs.Outcome.{ok};
-ghost use Rattle.regression.specs.RegressCall.{writtenAs, freeAnswer, freeResult};
-ghost use Rattle.freeing.specs.FreeTasks.{anySet, freeOwn, FreeTask, FreedWith};
+ghost use Rattle.regression.specs.RegressCall.{writtenAs, freeAnswer, freeResult, freeOwn};
+ghost use Rattle.freeing.specs.FreeTasks.{anySet, FreeTask, FreedWith};
 
 // Whether one of the n marks from `first` on is set.
 pub fn any_set(marks: &[u64], first: usize, n: usize) -> bool

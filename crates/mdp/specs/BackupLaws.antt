@@ -8,31 +8,32 @@ use native.Mathlib.Nat.{le-of-eq, zero-add}
 use lib.Dec.{ltb, eqb}
 use borrow.Author.Tests.{ltb-false}
 use Rattle.refusal.specs.declared.Refusal.the-variants.{Scale}
+use Rattle.refusal.specs.Outcome.{Accepted}
+use Rattle.refusal.specs.OutcomeLaws.{accepted-ok, accepted-then, accepted-cond, accepted-mono}
 use Rattle.label.specs.Limits.{firstParameter, parameterCount, firstVariable}
 use Rattle.label.specs.Labels.{areArities}
 use Rattle.diagram.specs.Sizes.{highestValue}
 use Rattle.diagram.specs.Diagram.{Diagram, leaf}
 use Rattle.diagram.specs.Listing.{Good as Listed}
 use Rattle.diagram.specs.Variables.{closed}
+use Rattle.rename.specs.ClosingLaws.{closed-good}
 use Rattle.apply.specs.declared.Operation.the-variants.{Sum, Product, Max}
 use Rattle.apply.specs.declared.Names.the-variants.{Apart, Shared}
 use Rattle.apply.specs.GoodLaws.{fine-every}
-use Rattle.rename.specs.ClosingLaws.{closed-good}
 use Rattle.state.specs.Max.{Tuple, none, maxTuples, maxOf, sumOf}
 use Rattle.state.specs.MaxLaws.{max-scale, max-both}
 use Rattle.state.specs.State.{meaning, State, Good, value, fixed, Fits}
 use Rattle.state.specs.ValueLaws.{low-lt, Terms-mono, value-same}
 use Rattle.state.specs.Highest.{Highest, Bound, start, highest}
 use Rattle.state.specs.HighestLaws.{start-fits, bound-tuple, highest-is}
-use Rattle.refusal.specs.Outcome.{Accepted}
-use Rattle.refusal.specs.OutcomeLaws.{accepted-ok, accepted-then, accepted-cond, accepted-mono}
 use Rattle.regression.specs.Regression.{regressed}
 use Rattle.regression.specs.Parameters.{Allowed, Within, GoodTruths, WithinTruths}
 use Rattle.regression.specs.Next.{meanings}
 use Rattle.regression.specs.NextLaws.{Tells, regressed-tells, regressed-highest, next-good}
+use Rattle.regression.specs.RegressCall.{freedOutcome}
 use Rattle.mdp.specs.Model.{Variant, Action, Model, scale, Every, GoodVariant, GoodAction, GoodModel}
 use Rattle.mdp.specs.Bellman.{weightIn, stateAfter, rewardIn, bellman}
-use Rattle.mdp.specs.Backup.{combined, freedOutcome, variantsSum, actionsBest, highestScale, mostSteps, scaleEnds, backup}
+use Rattle.mdp.specs.Backup.{combined, variantsSum, actionsBest, highestScale, mostSteps, scaleEnds, backup}
 use Rattle.mdp.specs.CallLaws.{within-more, leaf-listed, leaf-within, leaf-value, within-closed, closed-highest, shared-made, apart-added, freed-to}
 
 -- ===== Variants =====

@@ -1,7 +1,7 @@
 -- Laws of the check of a model.
 use mathlib.Core.Path.{_≡_, refl, sym, ap, subst, _∙_}
 use mathlib.Core.Logic.{_⊎_, inl, inr}
-use mathlib.Core.Bool.{Bool, true, false, not}
+use mathlib.Core.Bool.{Bool, true, false, not, cond}
 use mathlib.Core.List.{List, [], _∷_, _++_}
 use mathlib.Core.Option.{some}
 use Prim.Native.Nat.{ℕ, zero, suc, _+_, _*_, _-_, _/_, _≤_, _<_}
@@ -42,7 +42,7 @@ use Rattle.regression.specs.RegressCall.{truthWords, truthsOf, areListings, lea
 use Rattle.regression.specs.RegressCallLaws.{truths-none, truths-some, above-most, any-quiet, not-false}
 use Rattle.regression.specs.NextLaws.{occur-terms}
 use Rattle.freeing.specs.FreeTasks.{anySet}
-use Rattle.truths.specs.TruthChecks.{Lent, pickVerdict, verdictOn, Between}
+use Rattle.truths.specs.TruthChecks.{Lent, verdictOn, Between}
 use Rattle.freeing.specs.MarkLaws.{used-any}
 use Rattle.truths.specs.TruthCheckLaws.{judge-valid}
 use Rattle.mdp.specs.Model.{Every, GoodTruthDiagram, GoodVariant, GoodAction, mostActions, mostVariants}
@@ -108,7 +108,7 @@ module _ (ar : List ℕ) (n : ℕ) (d : Diagram) where
   pass : verdictOn ar n d ≡ Passed → (leafAbove 1 d ≡ false) × (unboundVariable ar n d ≡ false)
   pass e = go (leafAbove 1 d) (unboundVariable ar n d) e
     where
-      go : (a b : Bool) → pickVerdict a (Refused Truth) (pickVerdict b (Refused Unbound) Passed) ≡ Passed → (a ≡ false) × (b ≡ false)
+      go : (a b : Bool) → cond a (Refused Truth) (cond b (Refused Unbound) Passed) ≡ Passed → (a ≡ false) × (b ≡ false)
       go true b q = let z : _≡_ {A = ℕ} 0 1 = cc in absurd (omega arith)
       go false true q = let z : _≡_ {A = ℕ} 0 1 = cc in absurd (omega arith)
       go false false q = (refl, refl)

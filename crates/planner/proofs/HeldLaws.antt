@@ -12,6 +12,8 @@ use lib.Dec.{ltb}
 use borrow.Author.Tests.{ne-eqb, ltb-false}
 use Rattle.refusal.specs.declared.Refusal.{Refusal}
 use Rattle.refusal.specs.declared.Refusal.the-variants.{Paths}
+use Rattle.refusal.specs.Outcome.{Outcome, ok, refused, Accepted}
+use Rattle.refusal.specs.OutcomeLaws.{accepted-ok, accepted-refused}
 use Rattle.diagram.specs.Sizes.{resultWords}
 use Rattle.diagram.specs.Diagram.{Diagram}
 use Rattle.diagram.specs.Rows.{rows}
@@ -22,8 +24,6 @@ use Rattle.diagram.specs.ListingValid.{listing-is-valid}
 use Rattle.diagram.specs.Listings.{is-listing-good}
 use Rattle.rename.specs.ClosingLaws.{closed-good}
 use Rattle.state.specs.State.{meaning}
-use Rattle.refusal.specs.Outcome.{Outcome, ok, refused, Accepted}
-use Rattle.refusal.specs.OutcomeLaws.{accepted-ok, accepted-refused}
 use Rattle.regression.specs.RegressCall.{writtenAs}
 use Rattle.regression.specs.Parameters.{Within}
 use Rattle.cut.specs.declared.Edge.{Edge}
@@ -32,12 +32,12 @@ use Rattle.cut.specs.declared.Cut.the-variants.{Done as CutDone, Refused as Not
 use Rattle.cut.specs.Paths.{paths, mostPaths}
 use Rattle.cut.specs.Cut.{Choice, goes, stays, reduced, cutAt, cutDiagram, pickCut, edgeOf, isTrueEdge, choice, chosenAnswer, diagramAnswer, written, answerBuffer}
 use Rattle.cut.specs.ReduceLaws.{cut-good}
-use Rattle.trim.specs.Calls.{Cuttable}
 use Rattle.mdp.specs.Model.{Model, scale}
 use Rattle.mdp.specs.Backup.{backup}
 use Rattle.mdp.specs.Runs.{Call, aBackup, aCut, Held as Value, leaves, cutOutcome, taken, call, runFrom, begin, run}
 use Rattle.mdp.specs.StepLaws.{cut-done, cut-refused, call-backup, call-cut, run-none, run-next, run-range}
 use Rattle.mdp.specs.RunLaws.{run-right}
+use Rattle.trim.specs.Calls.{Cuttable}
 use Rattle.model.specs.declared.Head.{Head}
 use Rattle.model.specs.Layout.{rewardWords, modelOf, Laid}
 use Rattle.planner.specs.declared.Step.the-variants.{Rows}
@@ -134,9 +134,6 @@ cut-rows ar d k e n h = go (ltb mostPaths (length (paths d))) (choice ar d) h
 module _ {ar : List ℕ} {h : Held} {value work : List ℕ} (t : CutTask ar h value work) where
   pub cut-long : h .rows * 3 ≡ length (take (h .rows * 3) value)
   cut-long = sym (length-take-le (h .rows * 3) value (t .room))
-
-  pub cut-small : h .rows * 3 ≤ resultWords
-  cut-small = let v = listing-is-valid ar (take (h .rows * 3) value) (t .listing) in omega (arith, v .whole, v .few, cut-long)
 
   pub cut-able : (n : ℕ) → resultWords ≤ n → Cuttable ar (take (h .rows * 3) value) (replicate n 0) work
   cut-able n k = record { listing = t .listing; out-room = omega (arith, length-replicate {A = ℕ} n 0); work-room = t .work-room }

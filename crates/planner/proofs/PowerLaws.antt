@@ -1,6 +1,6 @@
 -- Laws of the scale, and of a backup as a whole.
 use mathlib.Core.Path.{_≡_, refl, sym, ap, subst, _∙_}
-use mathlib.Core.Bool.{Bool, true, false, _||_}
+use mathlib.Core.Bool.{Bool, true, false, _||_, cond}
 use mathlib.Core.List.{List}
 use Prim.Native.Nat.{ℕ, suc, _*_, _/_, _^_, _≤_, _<_}
 use native.Mathlib.Omega.{arith}
@@ -10,12 +10,12 @@ use lib.Dec.{eqb, ltb}
 use borrow.Author.Tests.{lt-ltb, le-ltb, eq-eqb, ne-eqb}
 use Rattle.refusal.specs.declared.Refusal.{Refusal}
 use Rattle.refusal.specs.declared.Refusal.the-variants.{Scale}
+use Rattle.refusal.specs.Outcome.{Outcome, ok, refused, Accepted}
+use Rattle.refusal.specs.OutcomeLaws.{accepted-refused}
 use Rattle.diagram.specs.Sizes.{highestValue}
 use Rattle.diagram.specs.Diagram.{Diagram}
 use Rattle.diagram.specs.Rows.{rows}
 use Rattle.diagram.specs.Listing.{Good}
-use Rattle.refusal.specs.Outcome.{Outcome, ok, refused, Accepted}
-use Rattle.refusal.specs.OutcomeLaws.{accepted-refused}
 use Rattle.regression.specs.RegressCall.{writtenAs}
 use Rattle.mdp.specs.Model.{Model, scale}
 use Rattle.mdp.specs.Backup.{highestScale, mostSteps, scaleEnds, backup}
@@ -29,7 +29,7 @@ use Rattle.planner.specs.declared.Power.the-variants.{Next, Ends}
 use Rattle.planner.specs.declared.Backed.the-variants.{Done, Refused}
 use Rattle.planner.specs.Steps.{stepAs, Wrote}
 use Rattle.planner.specs.Parts.{rowOfCalls}
-use Rattle.planner.specs.Backed.{scaleOf, pickPower, powerAs, Numbers, Powered, backedAs, BackedUp}
+use Rattle.planner.specs.Backed.{scaleOf, powerAs, Numbers, Powered, backedAs, BackedUp}
 
 -- ===== The next power =====
 
@@ -48,7 +48,7 @@ module _ {h : Head} (n : Numbers h) where
     unfolding powerAs
     power-steps e = go (ltb highestScale (scaleOf h ^ suc k))
       where
-        go : (b : Bool) → Ends ≡ pickPower (b || eqb k mostSteps) Ends (Next (scaleOf h ^ suc k))
+        go : (b : Bool) → Ends ≡ cond (b || eqb k mostSteps) Ends (Next (scaleOf h ^ suc k))
         go true = refl
         go false = rw (eq-eqb k mostSteps e)
 
@@ -78,7 +78,7 @@ power-ends : (s k : ℕ) → powerAs s k ≡ Ends → (ltb highestScale (s ^ suc
 unfolding powerAs
 power-ends s k e = go (ltb highestScale (s ^ suc k) || eqb k mostSteps) e
   where
-    go : (b : Bool) → pickPower b Ends (Next (s ^ suc k)) ≡ Ends → b ≡ true
+    go : (b : Bool) → cond b Ends (Next (s ^ suc k)) ≡ Ends → b ≡ true
     go true q = refl
     go false q = let z : _≡_ {A = ℕ} 0 1 = cc in absurd (omega arith)
 
@@ -86,7 +86,7 @@ power-goes : (s k x : ℕ) → powerAs s k ≡ Next x → ((ltb highestScale (s 
 unfolding powerAs
 power-goes s k x e = go (ltb highestScale (s ^ suc k) || eqb k mostSteps) e
   where
-    go : (b : Bool) → pickPower b Ends (Next (s ^ suc k)) ≡ Next x → (b ≡ false) × (s ^ suc k ≡ x)
+    go : (b : Bool) → cond b Ends (Next (s ^ suc k)) ≡ Next x → (b ≡ false) × (s ^ suc k ≡ x)
     go true q = let z : _≡_ {A = ℕ} 0 1 = cc in absurd (omega arith)
     go false q = (refl, cc)
 

@@ -6,6 +6,9 @@ use Prim.Native.Nat.{ℕ, _*_, _≤_}
 use native.Mathlib.Omega.{arith}
 use lib.ListN.{length, set, take, drop, length-append}
 use lib.Seq.{take-at, length-take-le}
+use Rattle.refusal.specs.declared.Refusal.{Refusal}
+use Rattle.refusal.specs.Outcome.{Outcome, ok, refused, andThen, Accepted}
+use Rattle.refusal.specs.OutcomeLaws.{accepted-mono}
 use Rattle.label.specs.Limits.{leafMark}
 use Rattle.label.specs.Labels.{areArities}
 use Rattle.diagram.specs.Sizes.{highestValue, resultWords}
@@ -24,11 +27,8 @@ use Rattle.apply.specs.declared.Names.the-variants.{Apart, Shared}
 use Rattle.apply.specs.declared.Combined.{Combined}
 use Rattle.apply.specs.declared.Combined.the-variants.{Done, Refused as NotCombined}
 use Rattle.apply.specs.CombinationLaws.{done-accepted}
-use Rattle.combine.specs.Calls.{Callable, Answered}
-use Rattle.refusal.specs.declared.Refusal.{Refusal}
-use Rattle.refusal.specs.Outcome.{Outcome, ok, refused, andThen, Accepted}
-use Rattle.refusal.specs.OutcomeLaws.{accepted-mono}
 use Rattle.regression.specs.RegressCall.{writtenAs}
+use Rattle.combine.specs.Calls.{Callable, Answered}
 use Rattle.mdp.specs.Backup.{combined}
 use Rattle.mdp.specs.StepLaws.{combined-done, combined-refused}
 use Rattle.mdp.specs.CallLaws.{leaf-listed, shared-made, apart-added}

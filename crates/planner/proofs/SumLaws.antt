@@ -9,7 +9,9 @@ use native.Mathlib.Nat.{eq-or-lt-of-le, le-of-suc-le-suc}
 use native.Mathlib.Numerals.{add-one}
 use lib.ListN.{length, getD, take, replicate, length-replicate}
 use Rattle.refusal.specs.declared.Refusal.{Refusal}
+use Rattle.refusal.specs.Outcome.{Outcome, ok, refused, andThen}
 use Rattle.label.specs.Labels.{areArities}
+use Rattle.names.specs.Many.{many}
 use Rattle.diagram.specs.Sizes.{resultWords}
 use Rattle.diagram.specs.Diagram.{Diagram, leaf}
 use Rattle.diagram.specs.Words.{isListing}
@@ -17,13 +19,11 @@ use Rattle.diagram.specs.Listing.{diagramOf}
 use Rattle.diagram.specs.Listings.{is-listing-good}
 use Rattle.apply.specs.declared.Operation.the-variants.{Max}
 use Rattle.apply.specs.declared.Names.the-variants.{Shared}
-use Rattle.refusal.specs.Outcome.{Outcome, ok, refused, andThen}
 use Rattle.mdp.specs.Model.{Variant, Action, Every, GoodVariant, GoodAction}
 use Rattle.mdp.specs.Backup.{combined, variantsSum, actionsBest}
 use Rattle.mdp.specs.StepLaws.{sum-none, best-none}
 use Rattle.mdp.specs.BackupLaws.{truths-good}
 use Rattle.model.specs.declared.Head.{Head}
-use Rattle.names.specs.Many.{many}
 use Rattle.model.specs.Layout.{actionWords, variantPlace, variantAt, variantsOf, actionAt, modelOf, Laid}
 use Rattle.planner.specs.declared.Step.{Step}
 use Rattle.planner.specs.declared.Step.the-variants.{Rows, Refused}

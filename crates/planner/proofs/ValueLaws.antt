@@ -6,13 +6,13 @@ use native.Mathlib.Omega.{arith}
 use lib.ListN.{length, take, replicate, length-replicate}
 use lib.Seq.{length-take-le}
 use Rattle.refusal.specs.declared.Refusal.{Refusal}
+use Rattle.refusal.specs.Outcome.{Outcome, refused, andThen, Accepted}
+use Rattle.refusal.specs.OutcomeLaws.{accepted-refused}
 use Rattle.diagram.specs.Sizes.{highestValue, resultWords}
 use Rattle.diagram.specs.Diagram.{Diagram, leaf}
 use Rattle.diagram.specs.Listing.{diagramOf, Good}
 use Rattle.apply.specs.declared.Operation.the-variants.{Sum, Product}
 use Rattle.apply.specs.declared.Names.the-variants.{Apart, Shared}
-use Rattle.refusal.specs.Outcome.{Outcome, refused, andThen, Accepted}
-use Rattle.refusal.specs.OutcomeLaws.{accepted-refused}
 use Rattle.regression.specs.RegressCall.{writtenAs}
 use Rattle.mdp.specs.Backup.{combined, actionsBest}
 use Rattle.model.specs.declared.Head.{Head}

@@ -5,6 +5,8 @@ use Prim.Native.Nat.{ℕ, _*_, _≤_}
 use native.Mathlib.Omega.{arith}
 use lib.ListN.{length, take, drop, replicate, length-replicate}
 use Rattle.refusal.specs.declared.Refusal.{Refusal}
+use Rattle.refusal.specs.Outcome.{Outcome, ok, refused, andThen, Accepted}
+use Rattle.refusal.specs.OutcomeLaws.{accepted-mono}
 use Rattle.diagram.specs.Sizes.{highestValue, resultWords}
 use Rattle.diagram.specs.Diagram.{Diagram, leaf}
 use Rattle.diagram.specs.Rows.{rows}
@@ -14,13 +16,11 @@ use Rattle.apply.specs.declared.Operation.the-variants.{Sum, Product}
 use Rattle.apply.specs.declared.Names.the-variants.{Apart, Shared}
 use Rattle.regression.specs.declared.Regressed.{Regressed}
 use Rattle.regression.specs.declared.Regressed.the-variants.{Done as RegressedDone, Refused as NotRegressed}
-use Rattle.refusal.specs.Outcome.{Outcome, ok, refused, andThen, Accepted}
-use Rattle.refusal.specs.OutcomeLaws.{accepted-mono}
 use Rattle.regression.specs.Regression.{Truths, regressed}
 use Rattle.regression.specs.RegressCall.{truthsOf, regressedAs, writtenAs}
-use Rattle.regress.specs.Regressing.{Regressable}
 use Rattle.regression.specs.NextLaws.{regressed-tells}
 use Rattle.mdp.specs.Backup.{combined}
+use Rattle.regress.specs.Regressing.{Regressable}
 use Rattle.model.specs.Layout.{weightWords, spansAt, variantAt, rewardWords}
 use Rattle.model.specs.declared.Head.{Head}
 use Rattle.planner.specs.declared.Step.{Step}

@@ -4,6 +4,8 @@ use mathlib.Core.Bool.{true}
 use mathlib.Core.List.{List, [], _∷_, _++_}
 use Prim.Native.Nat.{ℕ, _≤_}
 use native.Mathlib.Omega.{arith}
+use Rattle.refusal.specs.Outcome.{Outcome, ok, refused, andThen, Accepted}
+use Rattle.refusal.specs.OutcomeLaws.{accepted-ok, accepted-then}
 use Rattle.label.specs.Labels.{areArities}
 use Rattle.diagram.specs.Sizes.{highestValue}
 use Rattle.diagram.specs.Diagram.{Diagram, leaf}
@@ -12,13 +14,12 @@ use Rattle.diagram.specs.Variables.{closed}
 use Rattle.apply.specs.declared.Operation.the-variants.{Sum, Product, Max}
 use Rattle.apply.specs.declared.Names.the-variants.{Apart, Shared}
 use Rattle.state.specs.State.{meaning}
-use Rattle.refusal.specs.Outcome.{Outcome, ok, refused, andThen, Accepted}
-use Rattle.refusal.specs.OutcomeLaws.{accepted-ok, accepted-then}
 use Rattle.regression.specs.Regression.{regressed}
 use Rattle.regression.specs.Parameters.{Within}
 use Rattle.regression.specs.NextLaws.{regressed-tells}
+use Rattle.regression.specs.RegressCall.{freedOutcome}
 use Rattle.mdp.specs.Model.{Variant, Action, Every, GoodVariant, GoodAction}
-use Rattle.mdp.specs.Backup.{combined, freedOutcome, variantsSum, actionsBest}
+use Rattle.mdp.specs.Backup.{combined, variantsSum, actionsBest}
 use Rattle.mdp.specs.StepLaws.{sum-none, sum-next, best-none, best-next}
 use Rattle.mdp.specs.BackupLaws.{truths-good, truths-within, weight-within}
 use Rattle.mdp.specs.CallLaws.{within-more, leaf-listed, leaf-within, shared-made, apart-added}

@@ -1,14 +1,15 @@
 -- The parts of a backup that are functions of their own in the code (document 01, section 'Backup').
 use mathlib.Core.List.{List}
 use Prim.Native.Nat.{ℕ}
+use Rattle.refusal.specs.Outcome.{Outcome, ok, andThen}
 use Rattle.diagram.specs.Diagram.{Diagram, leaf}
 use Rattle.diagram.specs.Variables.{closed}
 use Rattle.apply.specs.declared.Operation.the-variants.{Sum, Product, Max}
 use Rattle.apply.specs.declared.Names.the-variants.{Apart, Shared}
-use Rattle.refusal.specs.Outcome.{Outcome, ok, andThen}
 use Rattle.regression.specs.Regression.{regressed}
+use Rattle.regression.specs.RegressCall.{freedOutcome}
 use Rattle.mdp.specs.Model.{Variant, Action, Model}
-use Rattle.mdp.specs.Backup.{combined, freedOutcome, variantsSum, actionsBest}
+use Rattle.mdp.specs.Backup.{combined, variantsSum, actionsBest}
 
 -- a variant's value regressed; its weight times leaf G, names shared; the product of these two, names shared
 unfoldable pub variantProduct : List ℕ → ℕ → Diagram → Variant → Outcome Diagram

@@ -4,6 +4,7 @@ use mathlib.Core.Bool.{true}
 use mathlib.Core.List.{List, [], _∷_}
 use Prim.Native.Nat.{ℕ, _*_, _≤_}
 use lib.ListN.{length, take}
+use Rattle.refusal.specs.Outcome.{Outcome, ok, refused, Accepted}
 use Rattle.label.specs.Limits.{leafMark}
 use Rattle.diagram.specs.Sizes.{highestValue, resultWords, spaceWords}
 use Rattle.diagram.specs.Diagram.{Diagram}
@@ -12,7 +13,6 @@ use Rattle.diagram.specs.Words.{isListing}
 use Rattle.diagram.specs.Listing.{diagramOf, Good}
 use Rattle.apply.specs.declared.Combined.{Combined}
 use Rattle.apply.specs.declared.Combined.the-variants.{Done, Refused as NotCombined}
-use Rattle.refusal.specs.Outcome.{Outcome, ok, refused, Accepted}
 use Rattle.regression.specs.RegressCall.{writtenAs}
 use Rattle.planner.specs.declared.Step.{Step}
 use Rattle.planner.specs.declared.Step.the-variants.{Rows, Refused}

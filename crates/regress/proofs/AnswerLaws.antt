@@ -7,10 +7,12 @@ use native.Mathlib.Omega.{arith}
 use lib.ListN.{length, drop, replicate, length-replicate, getD-replicate}
 use lib.Dec.{ltb, leb}
 use borrow.Author.Tests.{leb-true, leb-false, lt-ltb, le-ltb}
-use Rattle.basics.specs.Tests.{Flag, isTrue, isFalse, flag, or-one, or-other}
-use Rattle.basics.specs.Members.{mem, clash}
 use Rattle.refusal.specs.declared.Refusal.{Refusal}
 use Rattle.refusal.specs.declared.Refusal.the-variants.{Listing, Buffer, Space as NoSpace}
+use Rattle.refusal.specs.Outcome.{Outcome, ok, refused, andThen}
+use Rattle.basics.specs.Tests.{Flag, isTrue, isFalse, flag, or-one, or-other}
+use Rattle.basics.specs.Members.{mem, clash}
+use Rattle.table.proofs.TableLaws.{clean-made}
 use Rattle.label.specs.Limits.{predicateCount}
 use Rattle.diagram.specs.Sizes.{resultWords, spaceWords, mostRows}
 use Rattle.diagram.specs.Diagram.{Diagram, leaf, same}
@@ -20,26 +22,24 @@ use Rattle.diagram.specs.Listing.{listing, diagramOf}
 use Rattle.diagram.specs.ListingLaws.{length-listing}
 use Rattle.diagram.specs.ListingValid.{listing-is-valid}
 use Rattle.diagram.specs.Validity.{tree}
-use Rattle.table.proofs.TableLaws.{clean-made}
 use Rattle.store.specs.Space.{diagramsOf}
 use Rattle.store.proofs.SpaceLaws.{holds-none, diagrams-none}
+use Rattle.regression.specs.declared.Regressed.{Regressed}
+use Rattle.regression.specs.declared.Regressed.the-variants.{Done, Refused}
+use Rattle.regression.specs.Regression.{regression, regressed}
+use Rattle.regression.specs.RegressCall.{truthsOf, areListings, regressOutcome, regressedAs, writtenAs, regressAnswer, regressResult}
+use Rattle.regression.specs.RegressCallLaws.{regress-value, regress-truths, regress-buffer, regress-checks, regress-refused, result-refused, not-false, not-true}
 use Rattle.write.specs.declared.Listed.{Listed}
 use Rattle.write.specs.declared.Listed.the-variants.{Rows, TooMany}
 use Rattle.write.specs.Writing.{Writable, writeAnswer, writeWords, WritePost}
 use Rattle.row_steps.specs.declared.Stepped.{Stepped}
 use Rattle.row_steps.specs.declared.Stepped.the-variants.{Row, Refused as Stopped}
-use Rattle.regression.specs.declared.Regressed.{Regressed}
-use Rattle.regression.specs.declared.Regressed.the-variants.{Done, Refused}
+use Rattle.row_steps.specs.Running.{Valued, Ready, Ran}
+use Rattle.row_steps.specs.RunLaws.{ran-answer}
 use Rattle.truths.specs.declared.Verdict.{Verdict}
 use Rattle.truths.specs.declared.Verdict.the-variants.{Passed, Refused as Faulty}
-use Rattle.refusal.specs.Outcome.{Outcome, ok, refused, andThen}
-use Rattle.regression.specs.Regression.{regression, regressed}
-use Rattle.regression.specs.RegressCall.{truthsOf, areListings, regressOutcome, regressedAs, writtenAs, regressAnswer, regressResult}
-use Rattle.regression.specs.RegressCallLaws.{regress-value, regress-truths, regress-buffer, regress-checks, regress-refused, result-refused, not-false, not-true}
-use Rattle.row_steps.specs.Running.{Valued, Ready, Ran}
 use Rattle.truths.specs.TruthChecks.{Lent, Judged, afterVerdict}
 use Rattle.regress.specs.Regressing.{Regressable, Listable, held, Answered}
-use Rattle.row_steps.specs.RunLaws.{ran-answer}
 
 -- `list_result`
 pub list-writable : {s out : List ℕ} {count root : ℕ} → Listable s count root out → (n m : ℕ) → 2048 ≤ n → 2048 ≤ m → Writable s count root (replicate n 0) (replicate m 0) out

@@ -6,38 +6,38 @@ use Prim.Native.Nat.{ℕ, _+_, _*_, _/_, _%_, _≤_, _<_}
 use native.Mathlib.Omega.{arith}
 use lib.ListN.{length, getD, set, length-set, replicate, length-replicate, getD-replicate}
 use lib.Seq.{getD-set-same, getD-set-other}
+use Rattle.refusal.specs.declared.Refusal.{Refusal}
+use Rattle.refusal.specs.Outcome.{Outcome, ok, refused, andThen}
 use Rattle.basics.specs.Members.{clash}
 use Rattle.basics.specs.Tests.{Cmp, below, equal, above, cmp}
-use Rattle.refusal.specs.declared.Refusal.{Refusal}
 use Rattle.label.specs.Labels.{isLabel, unpacked, inOrder}
 use Rattle.label.specs.LabelLaws.{label-fits, label-below}
 use Rattle.diagram.specs.Diagram.{Diagram, leaf, same}
 use Rattle.diagram.specs.Validity.{tree}
+use Rattle.diagram.specs.Sizes.{spaceRows}
+use Rattle.diagram.specs.DiagramLaws.{diagram-test}
 use Rattle.apply.specs.Formed.{add}
 use Rattle.apply.specs.RowLaws.{onto-mem}
+use Rattle.apply.specs.Snoc.{Begins, mem-begins}
 use Rattle.store.specs.declared.Formed.{Formed}
 use Rattle.store.specs.Space.{diagramsOf, Formation}
-use Rattle.row_steps.specs.declared.Stepped.{Stepped}
-use Rattle.row_steps.specs.declared.Stepped.the-variants.{Row, Refused}
-use Rattle.regress.specs.declared.Task.{Task}
-use Rattle.regress.specs.declared.Task.the-variants.{Leaf, Branch}
-use Rattle.refusal.specs.Outcome.{Outcome, ok, refused, andThen}
 use Rattle.regression.specs.Calls.{Run, bind, form}
 use Rattle.regression.specs.CallLaws.{Steady, steady-bind, steady-form, form-forms, form-old}
-use Rattle.regress.specs.Keeping.{Known, formedTruth, Asking, slotLabel, slotRow, Stands, Keeps, KeptRan}
 use Rattle.regression.specs.Step.{rowStep}
 use Rattle.regression.specs.StepLaws.{steady-step}
 use Rattle.regression.specs.Regression.{Truths, truthAt}
 use Rattle.regression.specs.RegressionLaws.{steady-truth}
 use Rattle.regression.specs.RegressCall.{truthsOf}
+use Rattle.row_steps.specs.declared.Stepped.{Stepped}
+use Rattle.row_steps.specs.declared.Stepped.the-variants.{Row, Refused}
 use Rattle.row_steps.specs.Running.{Ready, Three, Gave, Ran}
-use Rattle.regress.specs.Tasks.{taskRun, Tasked, toldAs}
-use Rattle.truths.specs.TruthChecks.{Lent}
 use Rattle.row_steps.specs.RunLaws.{in-room, ran-bind, ran-stop, ran-cast, ran-answer}
+use Rattle.truths.specs.TruthChecks.{Lent}
+use Rattle.regress.specs.declared.Task.{Task}
+use Rattle.regress.specs.declared.Task.the-variants.{Leaf, Branch}
+use Rattle.regress.specs.Keeping.{Known, formedTruth, Asking, slotLabel, slotRow, Stands, Keeps, KeptRan}
+use Rattle.regress.specs.Tasks.{taskRun, Tasked, toldAs}
 use Rattle.regress.proofs.RowsLaws.{leaf-told, ready-on}
-use Rattle.diagram.specs.Sizes.{spaceRows}
-use Rattle.diagram.specs.DiagramLaws.{diagram-test}
-use Rattle.apply.specs.Snoc.{Begins, mem-begins}
 
 pub known-now : {A : Type 0} (m : Run A) (a : A) (rs qs : List Diagram) → m rs ≡ ok (a, qs) → Known m a qs
 known-now m a rs qs e = record { before = rs; after = qs; ran = e; there = λ x h. h }

@@ -10,8 +10,9 @@ use lib.ListN.{length, getD, set, drop, length-set, length-map, replicate, lengt
 use lib.Seq.{getD-set-same, getD-set-other, drop-cons}
 use lib.Dec.{eqb}
 use borrow.Author.Tests.{eq-eqb, ne-eqb, eqb-true, eqb-false}
-use Rattle.basics.specs.Tests.{Flag, isTrue, isFalse, flag, Cmp, below, equal, above, cmp}
 use Rattle.refusal.specs.declared.Refusal.{Refusal}
+use Rattle.refusal.specs.Outcome.{ok}
+use Rattle.basics.specs.Tests.{Flag, isTrue, isFalse, flag, Cmp, below, equal, above, cmp}
 use Rattle.label.specs.Limits.{leafMark}
 use Rattle.label.specs.LabelLaws.{label-below}
 use Rattle.label.specs.Labels.{isLabel}
@@ -30,24 +31,23 @@ use Rattle.diagram.specs.ListingValid.{listing-is-valid}
 use Rattle.diagram.specs.DiagramOfListing.{shown-rows, rows-are}
 use Rattle.diagram.specs.RowLists.{rowTree}
 use Rattle.diagram.specs.RowLaws.{rows-kept, kept-index-is}
-use Rattle.apply.specs.Formed.{add}
 use Rattle.plan.specs.Plan.{Clean}
+use Rattle.apply.specs.Formed.{add}
 use Rattle.store.specs.declared.Formed.{Formed}
 use Rattle.store.specs.declared.Formed.the-variants.{Row as FormedRow, Full}
 use Rattle.store.specs.Space.{diagramsOf, Formation}
-use Rattle.row_steps.specs.declared.Stepped.{Stepped}
-use Rattle.row_steps.specs.declared.Stepped.the-variants.{Row, Refused}
-use Rattle.regress.specs.declared.Task.{Task}
-use Rattle.regress.specs.declared.Task.the-variants.{Leaf, Branch}
-use Rattle.refusal.specs.Outcome.{ok}
 use Rattle.regression.specs.Calls.{Run, bind, form}
 use Rattle.regression.specs.Step.{testDiagram, rowStep}
 use Rattle.regression.specs.Regression.{resultOf, rowResult, rowResults, lastOf, overRows}
 use Rattle.regression.specs.RegressionLaws.{row-leaf, row-branch, results-none, results-cons, over-rows}
 use Rattle.regression.specs.MovedLaws.{moved-to, moved-label}
+use Rattle.row_steps.specs.declared.Stepped.{Stepped}
+use Rattle.row_steps.specs.declared.Stepped.the-variants.{Row, Refused}
 use Rattle.row_steps.specs.Running.{Space, Ready, Two, Gave, countThen, Ran, Testable}
-use Rattle.regress.specs.Tasks.{taskAt, Taskable, taskRun, Tasked, replacedBy, Mapping, toldAs}
 use Rattle.row_steps.specs.RunLaws.{formed-ran, full-ran, leaf-onto, row-known, full-known}
+use Rattle.regress.specs.declared.Task.{Task}
+use Rattle.regress.specs.declared.Task.the-variants.{Leaf, Branch}
+use Rattle.regress.specs.Tasks.{taskAt, Taskable, taskRun, Tasked, replacedBy, Mapping, toldAs}
 
 -- `task_at`
 task-leaf : (ws numbers : List ℕ) (k : ℕ) → labelAt ws k ≡ leafMark → taskAt ws numbers k ≡ Leaf (highAt ws k)

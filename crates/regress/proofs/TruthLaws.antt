@@ -1,6 +1,6 @@
 -- Laws of T at a label: the map of its arguments, and what the code forms.
 use mathlib.Core.Path.{_≡_, refl, sym, ap, subst, _∙_, fun-ext}
-use mathlib.Core.Bool.{Bool, true, false, not}
+use mathlib.Core.Bool.{Bool, true, false, not, cond}
 use mathlib.Core.List.{List, [], _∷_}
 use mathlib.Core.Option.{Option, some, none}
 use Prim.Native.Nat.{ℕ, zero, suc, _+_, _-_, _≤_, _<_}
@@ -30,21 +30,21 @@ use Rattle.state.specs.ValueLaws.{Each-mono}
 use Rattle.store.specs.declared.Formed.{Formed}
 use Rattle.store.specs.declared.Formed.the-variants.{Row as FormedRow, Full}
 use Rattle.store.specs.Space.{diagramsOf, Formation}
-use Rattle.row_steps.specs.declared.Stepped.{Stepped}
 use Rattle.regression.specs.Calls.{Run, bind, form}
 use Rattle.regression.specs.CallLaws.{form-old, bind-refused}
 use Rattle.regression.specs.Step.{labelTest, testDiagram}
 use Rattle.regression.specs.StepLaws.{most-test}
-use Rattle.regression.specs.Regression.{argument, replacement, pickTruth, truthOf, truthFrom, truthAt}
+use Rattle.regression.specs.Regression.{argument, replacement, truthOf, truthFrom, truthAt}
 use Rattle.regression.specs.ResultLaws.{label-terms, argument-low, argument-high, argument-in, argument-terms}
 use Rattle.regression.specs.RegressCall.{truthCount, truthWords, truthsOf}
 use Rattle.regression.specs.RegressCallLaws.{truths-none, truths-some, listings-at, not-true}
-use Rattle.row_steps.specs.Running.{Ready, Ran, Testable}
 use Rattle.regression.specs.Result.{AtMost}
-use Rattle.regress.specs.Tasks.{Mapping, toldAs, usedPlaces, Usable, Arguable, Argued}
-use Rattle.truths.specs.TruthChecks.{hasTruth}
-use Rattle.regress.specs.Keeping.{formedTruth, Asking}
+use Rattle.row_steps.specs.declared.Stepped.{Stepped}
+use Rattle.row_steps.specs.Running.{Ready, Ran, Testable}
 use Rattle.row_steps.specs.RunLaws.{there-mem, in-room, formed-ran, full-ran, row-known, full-known, one-most, ran-cast, ran-answer}
+use Rattle.truths.specs.TruthChecks.{hasTruth}
+use Rattle.regress.specs.Tasks.{Mapping, toldAs, usedPlaces, Usable, Arguable, Argued}
+use Rattle.regress.specs.Keeping.{formedTruth, Asking}
 
 -- `argument_term`
 pub argument-is-low : (ts : List ℕ) {t : ℕ} → t < 32 → t ≡ argument ts t
@@ -210,7 +210,7 @@ module _ {ar truths spans : List ℕ} {l : ℕ} (q : Asking ar truths spans l) w
     unfolding hasTruth truthOf
     has-no h = go (flag (eqb p 0)) (flag (eqb (truthCount spans p) 0))
       where
-        go : Flag (eqb p 0) → Flag (eqb (truthCount spans p) 0) → pickTruth (eqb p 0) none (truthsOf truths spans p) ≡ none
+        go : Flag (eqb p 0) → Flag (eqb (truthCount spans p) 0) → cond (eqb p 0) none (truthsOf truths spans p) ≡ none
         go (isTrue x) y = rw x
         go (isFalse x) (isTrue y) = rw x (truths-none truths spans p (eqb-true _ _ y))
         go (isFalse x) (isFalse y) = clash (rw (x, y) refl) h

@@ -8,10 +8,10 @@ use Rattle.label.specs.Labels.{isLabel}
 use Rattle.diagram.specs.Diagram.{Diagram}
 use Rattle.diagram.specs.Validity.{tree}
 use Rattle.store.specs.Space.{diagramsOf}
-use Rattle.row_steps.specs.declared.Stepped.{Stepped}
-use Rattle.row_steps.specs.declared.Stepped.the-variants.{Row}
 use Rattle.regression.specs.Calls.{Run, bind, form}
 use Rattle.regression.specs.Regression.{Truths, truthAt}
+use Rattle.row_steps.specs.declared.Stepped.{Stepped}
+use Rattle.row_steps.specs.declared.Stepped.the-variants.{Row}
 use Rattle.row_steps.specs.Running.{Ran}
 
 -- T for the label l, its rows formed

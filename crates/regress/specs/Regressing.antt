@@ -6,6 +6,7 @@ use Prim.Native.Nat.{ℕ, _-_, _*_, _≤_, _<_}
 use lib.ListN.{length}
 use lib.Dec.{ltb}
 use Rattle.refusal.specs.declared.Refusal.the-variants.{Space}
+use Rattle.refusal.specs.Outcome.{Outcome, ok, refused}
 use Rattle.label.specs.Limits.{predicateCount}
 use Rattle.diagram.specs.Sizes.{resultWords, spaceWords, spaceRows, mostRows}
 use Rattle.diagram.specs.Diagram.{Diagram}
@@ -14,7 +15,6 @@ use Rattle.diagram.specs.RowLists.{Written}
 use Rattle.diagram.specs.Words.{isListing}
 use Rattle.store.specs.Space.{diagramsOf}
 use Rattle.regression.specs.declared.Regressed.{Regressed}
-use Rattle.refusal.specs.Outcome.{Outcome, ok, refused}
 use Rattle.regression.specs.RegressCall.{areListings, regressedAs, writtenAs}
 
 -- the checks 14 and 18 are passed; the checks 7 and 6 keep no step from running, so they are not asked for

@@ -7,9 +7,11 @@ use native.Mathlib.Omega.{arith}
 use lib.ListN.{length}
 use lib.Dec.{ltb}
 use borrow.Author.Tests.{ltb-false, le-ltb, lt-ltb}
-use Rattle.basics.specs.Members.{mem, Within}
 use Rattle.refusal.specs.declared.Refusal.{Refusal}
 use Rattle.refusal.specs.declared.Refusal.the-variants.{Pairs, Value, Space}
+use Rattle.refusal.specs.Outcome.{Accepted, Outcome, ok, refused, andThen}
+use Rattle.refusal.specs.OutcomeLaws.{accepted-ok, accepted-then}
+use Rattle.basics.specs.Members.{mem, Within}
 use Rattle.diagram.specs.Sizes.{spaceRows, mostPairs}
 use Rattle.diagram.specs.Diagram.{Diagram, same}
 use Rattle.diagram.specs.DiagramLaws.{diagram-test, onto-old}
@@ -23,8 +25,6 @@ use Rattle.apply.specs.Formed.{formed, ClosedRows}
 use Rattle.apply.specs.Snoc.{Begins, begins-refl, begins-trans, mem-begins}
 use Rattle.apply.specs.RowLaws.{onto-begins, onto-mem}
 use Rattle.apply.specs.FormedLaws.{formed-visit, formed-count}
-use Rattle.refusal.specs.Outcome.{Accepted, Outcome, ok, refused, andThen}
-use Rattle.refusal.specs.OutcomeLaws.{accepted-ok, accepted-then}
 use Rattle.regression.specs.Calls.{Run, pure, bind, form, combine}
 
 -- what a step of a call gives, in whatever space, has P

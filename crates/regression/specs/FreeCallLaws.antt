@@ -2,16 +2,18 @@
 use mathlib.Core.Path.{_≡_, refl, ap, ap₂}
 use mathlib.Core.Logic.{_⊎_, inl, inr}
 use mathlib.Core.Bool.{true, false, not, _&&_, _||_}
-use mathlib.Core.List.{List, [], _∷_, _++_}
+use mathlib.Core.List.{List, [], _∷_}
 use Prim.Native.Nat.{ℕ, zero, suc, _+_, _-_, _≤_, _<_}
 use native.Mathlib.Omega.{arith}
-use lib.ListN.{length, getD, take, drop}
+use lib.ListN.{length, getD, take}
 use lib.Dec.{ltb, leb}
 use borrow.Author.Tests.{ltb-true, ltb-false, leb-true, le-ltb, lt-ltb}
-use Rattle.basics.specs.Tests.{and-left, and-right, Either, one, other, either, Cmp, below, equal, above, cmp}
-use Rattle.basics.specs.Members.{clash}
 use Rattle.refusal.specs.declared.Refusal.{Refusal}
 use Rattle.refusal.specs.declared.Refusal.the-variants.{Listing, Buffer, Unbound, Range, Variables}
+use Rattle.refusal.specs.Outcome.{refused, Accepted}
+use Rattle.refusal.specs.OutcomeLaws.{accepted-cond, accepted-ok}
+use Rattle.basics.specs.Tests.{and-left, and-right, Either, one, other, either, Cmp, below, equal, above, cmp}
+use Rattle.basics.specs.Members.{clash}
 use Rattle.label.specs.Limits.{firstParameter, parameterCount, firstVariable, termBase}
 use Rattle.label.specs.Terms.{isConstant, isParameter, isVariable, isTerm}
 use Rattle.label.specs.Labels.{areArities, predicateOf, unpacked, isLabel, termsOf}
@@ -20,24 +22,22 @@ use Rattle.label.specs.RenamingLaws.{Freed as Freeable, freeing-increasing, ren
 use Rattle.label.specs.declared.Atom.{Atom}
 use Rattle.diagram.specs.Sizes.{resultWords, spaceWords}
 use Rattle.diagram.specs.Diagram.{Tree, Diagram, leaf, branch, relabel}
-use Rattle.diagram.specs.Rows.{rows}
 use Rattle.diagram.specs.Words.{isListing}
-use Rattle.diagram.specs.Listing.{listing, diagramOf}
+use Rattle.diagram.specs.Listing.{diagramOf}
 use Rattle.diagram.specs.Listings.{is-listing-good}
 use Rattle.diagram.specs.Variables.{occurs}
+use Rattle.rename.specs.Freeing.{freed}
 use Rattle.apply.specs.GoodLaws.{fine-every}
 use Rattle.state.specs.Max.{Tuple, maxTuples}
 use Rattle.state.specs.State.{Atomic, atom, atomOf, meaning, State, Good}
 use Rattle.state.specs.Terms.{Each, args, Terms, renameAtom, rename}
 use Rattle.state.specs.Highest.{Highest}
-use Rattle.regression.specs.declared.Freed.the-variants.{Done, Refused}
-use Rattle.refusal.specs.Outcome.{ok, refused, Accepted}
-use Rattle.refusal.specs.OutcomeLaws.{accepted-cond, accepted-ok}
+use Rattle.regression.specs.declared.Freed.the-variants.{Refused}
 use Rattle.regression.specs.Parameters.{Within, Labels}
 use Rattle.regression.specs.ResultLaws.{label-terms}
 use Rattle.regression.specs.NextLaws.{occur-terms}
-use Rattle.regression.specs.FreeingLaws.{freed, within-freed}
-use Rattle.regression.specs.RegressCall.{anyOccurs, freeOutcome, freeAnswer, freeResult}
+use Rattle.regression.specs.FreeingLaws.{highest-freed, within-freed}
+use Rattle.regression.specs.RegressCall.{anyOccurs, freedOutcome, freeOwn, freeOutcome, freeAnswer, freeResult}
 use Rattle.regression.specs.RegressCallLaws.{any-quiet, not-false}
 
 -- the terms of a label, place by place
@@ -87,21 +87,15 @@ module _ (ar words : List ℕ) (count outLength workLength : ℕ) where
     unfolding freeOutcome
     free-range h = rw (e, le-ltb outLength resultWords room, le-ltb workLength spaceWords space, lt-ltb parameterCount count h)
 
-    pub free-unbound : count ≤ parameterCount → anyOccurs ar (diagramOf words) (firstParameter + count) (parameterCount - count) ≡ true
-        → freeOutcome ar words count outLength workLength ≡ refused Unbound
+    pub free-own : count ≤ parameterCount → freeOutcome ar words count outLength workLength ≡ freeOwn ar words count
     unfolding freeOutcome
-    free-unbound h k = rw (e, le-ltb outLength resultWords room, le-ltb workLength spaceWords space, le-ltb parameterCount count h, k)
+    free-own h = rw (e, le-ltb outLength resultWords room, le-ltb workLength spaceWords space, le-ltb parameterCount count h)
 
-    pub free-variables : count ≤ parameterCount → anyOccurs ar (diagramOf words) (firstParameter + count) (parameterCount - count) ≡ false
-        → anyOccurs ar (diagramOf words) (termBase - count) count ≡ true → freeOutcome ar words count outLength workLength ≡ refused Variables
-    unfolding freeOutcome
-    free-variables h k v = rw (e, le-ltb outLength resultWords room, le-ltb workLength spaceWords space, le-ltb parameterCount count h, k, v)
-
-    pub free-ok : count ≤ parameterCount → anyOccurs ar (diagramOf words) (firstParameter + count) (parameterCount - count) ≡ false
-        → anyOccurs ar (diagramOf words) (termBase - count) count ≡ false
-        → freeOutcome ar words count outLength workLength ≡ ok (relabel (renamed ar (freeing count)) (diagramOf words))
-    unfolding freeOutcome
-    free-ok h k v = rw (e, le-ltb outLength resultWords room, le-ltb workLength spaceWords space, le-ltb parameterCount count h, k, v)
+-- without a parameter past the count 8 is left
+pub own-freed : (ar words : List ℕ) (count : ℕ) → anyOccurs ar (diagramOf words) (firstParameter + count) (parameterCount - count) ≡ false
+    → freeOwn ar words count ≡ freedOutcome ar count (diagramOf words)
+unfolding freeOwn
+own-freed ar words count e = rw e
 
 -- what an accepted call frees: no parameter past the count occurs, and no variable would pass 63
 pub record IsFreed (ar : List ℕ) (count : ℕ) (d r : Diagram) : Type 0 where
@@ -163,7 +157,7 @@ module _ (ar : List ℕ) (count : ℕ) (d : Diagram) (few : count ≤ parameterC
       (terms-two (λ t. isTerm t ≡ true) (λ t. occurs ar t d ≡ true) (Freeable count) freeable (meaning ar d) (terms-isTerm ar d w) (occur-terms ar d))
 
 pub free-is : (ar words : List ℕ) (count outLength workLength : ℕ) → Accepted (IsFreed ar count (diagramOf words)) (freeOutcome ar words count outLength workLength)
-unfolding freeOutcome
+unfolding freeOutcome freeOwn freedOutcome freed
 free-is ar words count outLength workLength =
     accepted-cond (not (isListing ar words)) Listing _ (λ l.
     accepted-cond (ltb outLength resultWords || ltb workLength spaceWords) Buffer _ (λ b.
@@ -187,26 +181,15 @@ free-is ar words count outLength workLength =
 -- the highest leaf after freeing is the highest over all tuples of the highest leaf before it
 pub freed-highest : (ar : List ℕ) (count : ℕ) (d r : Diagram) → IsFreed ar count d r → (s : State) → Good s
     → (x : List ℕ → ℕ) → ((os : List ℕ) → Tuple (s .size) count os → Highest s os (meaning ar d) (x os)) → Highest s [] (meaning ar r) (maxTuples (s .size) count x)
-freed-highest ar count d r f s g x m = rw (f .means) (freed s g count (let h = f .few in omega arith) (meaning ar d) x m)
+freed-highest ar count d r f s g x m = rw (f .means) (highest-freed s g count (let h = f .few in omega arith) (meaning ar d) x m)
 
 pub freed-within : (ar : List ℕ) (count : ℕ) (d r : Diagram) → IsFreed ar count d r → Within count (meaning ar d) → Within 0 (meaning ar r)
 freed-within ar count d r f w = rw (f .means) (within-freed count (let h = f .few in omega arith) (meaning ar d) w)
-
--- answer and result buffer
-pub free-done : (ar words : List ℕ) (count outLength workLength : ℕ) (d : Diagram) → freeOutcome ar words count outLength workLength ≡ ok d
-    → freeAnswer ar words count outLength workLength ≡ Done (length (rows d))
-unfolding freeAnswer
-free-done ar words count outLength workLength d e = rw e
 
 pub free-refused : (ar words : List ℕ) (count outLength workLength : ℕ) (r : Refusal) → freeOutcome ar words count outLength workLength ≡ refused r
     → freeAnswer ar words count outLength workLength ≡ Refused r
 unfolding freeAnswer
 free-refused ar words count outLength workLength r e = rw e
-
-pub freed-done : (ar words : List ℕ) (count workLength : ℕ) (out : List ℕ) (d : Diagram) → freeOutcome ar words count (length out) workLength ≡ ok d
-    → freeResult ar words count workLength out ≡ listing d ++ drop (length (listing d)) out
-unfolding freeResult
-freed-done ar words count workLength out d e = rw e
 
 pub freed-refused : (ar words : List ℕ) (count workLength : ℕ) (out : List ℕ) (r : Refusal) → freeOutcome ar words count (length out) workLength ≡ refused r
     → freeResult ar words count workLength out ≡ out

@@ -119,10 +119,10 @@ module _ (s : State) (good : Good s) (c : ℕ) (few : firstParameter + c ≤ fir
   }
 
   -- freeing takes the maximum over the tuples
-  pub freed : (d : Tree Atomic) (x : List ℕ → ℕ) → ((os : List ℕ) → Tuple (s .size) c os → Highest s os d (x os))
+  pub highest-freed : (d : Tree Atomic) (x : List ℕ → ℕ) → ((os : List ℕ) → Tuple (s .size) c os → Highest s os d (x os))
       → Highest s [] (rename (freeing c) d) (maxTuples (s .size) c x)
   unfolding taken
-  freed d x m =
+  highest-freed d x m =
       let top = maxTuples-is (s .size) c x (good .some) in
       let best = m (top .point) (top .inside) in
       record {

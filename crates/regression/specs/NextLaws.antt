@@ -9,6 +9,8 @@ use lib.ListN.{length, getD, List·getD-map}
 use lib.Dec.{eqb}
 use native.Mathlib.Nat.{le-of-eq}
 use borrow.Author.Tests.{eqb-true, eq-eqb, ne-eqb}
+use Rattle.refusal.specs.Outcome.{Accepted}
+use Rattle.refusal.specs.OutcomeLaws.{accepted-mono}
 use Rattle.basics.specs.Tests.{Either, one, other, either, or-one, or-other}
 use Rattle.basics.specs.Members.{mem, clash}
 use Rattle.label.specs.Limits.{firstParameter, firstVariable}
@@ -28,8 +30,6 @@ use Rattle.state.specs.ValueLaws.{low-lt, low-ge, by-low, Each-mono, Terms-mono
 use Rattle.regression.specs.StepLaws.{eval-most}
 use Rattle.regression.specs.Regression.{argument, Truths, truthOf, regressed}
 use Rattle.regression.specs.RegressionLaws.{regressed-is}
-use Rattle.refusal.specs.Outcome.{Accepted}
-use Rattle.refusal.specs.OutcomeLaws.{accepted-mono}
 use Rattle.regression.specs.Result.{replaced, truthGiven, truthDiagram, regressedDiagram}
 use Rattle.regression.specs.Parameters.{Allowed, Within, Labels, GoodTruth, GoodTruths, WithinTruths}
 use Rattle.regression.specs.ResultLaws.{value-meaning, eval-rebuilt, value-replaced, label-terms, argument-low, argument-high, argument-terms, bit, terms-regressed, good-regressed, label-predicate}

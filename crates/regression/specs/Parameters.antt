@@ -8,9 +8,9 @@ use Prim.Native.Nat.{ℕ, _+_, _≤_, _<_}
 use Rattle.label.specs.Limits.{firstParameter, firstVariable, predicateCount}
 use Rattle.label.specs.Labels.{isLabel}
 use Rattle.diagram.specs.Diagram.{Tree, Diagram}
+use Rattle.apply.specs.GoodLaws.{EveryLabel}
 use Rattle.state.specs.State.{Atomic, meaning}
 use Rattle.state.specs.Terms.{Terms}
-use Rattle.apply.specs.GoodLaws.{EveryLabel}
 use Rattle.regression.specs.Regression.{Truths}
 use Rattle.regression.specs.Result.{AtMost}
 

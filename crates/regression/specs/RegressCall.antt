@@ -6,20 +6,20 @@ use Prim.Native.Nat.{ℕ, zero, suc, _+_, _*_, _-_}
 use lib.ListN.{length, getD, take, drop}
 use lib.Dec.{ltb, eqb}
 use Rattle.refusal.specs.declared.Refusal.the-variants.{Listing, Buffer, Truth, Unbound, Range, Variables}
+use Rattle.refusal.specs.Outcome.{Outcome, ok, refused}
 use Rattle.label.specs.Limits.{firstParameter, parameterCount, firstVariable, variableCount, termBase, predicateCount}
-use Rattle.label.specs.Renamings.{renamed, freeing}
 use Rattle.diagram.specs.Sizes.{resultWords, spaceWords}
-use Rattle.diagram.specs.Diagram.{Diagram, leaf, branch, relabel}
+use Rattle.diagram.specs.Diagram.{Diagram, leaf, branch}
 use Rattle.diagram.specs.Rows.{rows}
 use Rattle.diagram.specs.Words.{isListing}
 use Rattle.diagram.specs.Listing.{listing, diagramOf}
 use Rattle.diagram.specs.Variables.{occurs}
+use Rattle.rename.specs.Freeing.{freed}
 use Rattle.regression.specs.declared.Regressed.{Regressed}
 use Rattle.regression.specs.declared.Regressed.the-variants.{Done, Refused}
 use Rattle.regression.specs.declared.Freed.{Freed}
 use Rattle.regression.specs.declared.Freed.the-variants.{Done as FreedDone, Refused as FreedRefused}
-use Rattle.refusal.specs.Outcome.{Outcome, ok, refused}
-use Rattle.regression.specs.Regression.{Truths, pickTruth, regressed}
+use Rattle.regression.specs.Regression.{Truths, regressed}
 
 -- the lent truth diagrams: their words one after the other, and for predicate p two words of `spans`, where its listing begins and how many words it has.
 -- No words: no truth diagram. Equality stays, so the words for predicate 0 are not read.
@@ -31,7 +31,7 @@ truthWords truths spans p = take (truthCount spans p) (drop (getD spans (p * 2) 
 
 unfoldable pub truthsOf : List ℕ → List ℕ → Truths
 unfolding diagramOf
-truthsOf truths spans p = pickTruth (eqb (truthCount spans p) 0) none (some (diagramOf (truthWords truths spans p)))
+truthsOf truths spans p = cond (eqb (truthCount spans p) 0) none (some (diagramOf (truthWords truths spans p)))
 
 -- the truth diagrams of the n predicates from p on are listings
 unfoldable pub areListings : List ℕ → List ℕ → List ℕ → ℕ → ℕ → Bool
@@ -95,17 +95,26 @@ unfoldable pub regressResult : List ℕ → List ℕ → List ℕ → List ℕ �
 unfolding regressOutcome listing
 regressResult ar value truths spans workLength out = writtenAs (regressOutcome ar value truths spans (length out) workLength) out
 
--- freeing turns parameter 16 + i into variable 32 + i and moves the other variables up by the parameter count; a variable that would pass 63 is 8.
--- A parameter count above 4 is 4, a parameter past it 6.
+-- freeing turns parameter 16 + i into variable 32 + i and moves the other variables up by the parameter count; a variable that would pass 63 is 8
+unfoldable pub freedOutcome : List ℕ → ℕ → Diagram → Outcome Diagram
+unfolding anyOccurs freed
+freedOutcome ar c d = cond (anyOccurs ar d (termBase - c) c) (refused Variables) (ok (freed ar c d))
+
+-- a parameter past the count is 6
+unfoldable pub freeOwn : List ℕ → List ℕ → ℕ → Outcome Diagram
+unfolding diagramOf anyOccurs freedOutcome
+freeOwn ar words count =
+    cond (anyOccurs ar (diagramOf words) (firstParameter + count) (parameterCount - count)) (refused Unbound)
+    (freedOutcome ar count (diagramOf words))
+
+-- a library call checks 14 and 18, and a parameter count above 4 is 4; then freeing's own, 6 and 8
 unfoldable pub freeOutcome : List ℕ → List ℕ → ℕ → ℕ → ℕ → Outcome Diagram
-unfolding isListing diagramOf anyOccurs relabel
+unfolding isListing freeOwn
 freeOutcome ar words count outLength workLength =
     cond (not (isListing ar words)) (refused Listing)
     (cond (ltb outLength resultWords || ltb workLength spaceWords) (refused Buffer)
     (cond (ltb parameterCount count) (refused Range)
-    (cond (anyOccurs ar (diagramOf words) (firstParameter + count) (parameterCount - count)) (refused Unbound)
-    (cond (anyOccurs ar (diagramOf words) (termBase - count) count) (refused Variables)
-    (ok (relabel (renamed ar (freeing count)) (diagramOf words)))))))
+    (freeOwn ar words count)))
 
 abbrev pub freedAs : Outcome Diagram → Freed
 freedAs (ok d) = FreedDone (length (rows d))

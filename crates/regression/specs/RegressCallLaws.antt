@@ -1,30 +1,29 @@
 -- Laws of what the calls answer: one for each check, and what an accepted call is.
 use mathlib.Core.Path.{_≡_, refl, sym, _∙_, subst}
 use mathlib.Core.Bool.{Bool, true, false, not, _&&_, _||_}
-use mathlib.Core.List.{List, _++_}
+use mathlib.Core.List.{List}
 use mathlib.Core.Option.{Option, some, none}
 use Prim.Native.Nat.{ℕ, zero, suc, _+_, _-_, _≤_, _<_}
 use native.Mathlib.Omega.{arith}
-use lib.ListN.{length, getD, drop}
+use lib.ListN.{length, getD}
 use lib.Dec.{ltb, eqb}
 use borrow.Author.Tests.{ltb-false, le-ltb, eqb-true, eq-eqb, ne-eqb}
-use Rattle.basics.specs.Tests.{and-left, and-right, Flag, isTrue, isFalse, flag, Either, one, other, either, Cmp, below, equal, above, cmp}
-use Rattle.basics.specs.Members.{clash}
 use Rattle.refusal.specs.declared.Refusal.{Refusal}
 use Rattle.refusal.specs.declared.Refusal.the-variants.{Listing, Buffer, Truth, Unbound}
+use Rattle.refusal.specs.Outcome.{Outcome, refused, Accepted}
+use Rattle.refusal.specs.OutcomeLaws.{accepted-cond}
+use Rattle.basics.specs.Tests.{and-left, and-right, Flag, isTrue, isFalse, flag, Either, one, other, either, Cmp, below, equal, above, cmp}
+use Rattle.basics.specs.Members.{clash}
 use Rattle.label.specs.Limits.{predicateCount}
 use Rattle.label.specs.Labels.{isLabel}
 use Rattle.diagram.specs.Sizes.{resultWords, spaceWords}
 use Rattle.diagram.specs.Diagram.{Diagram, leaf, branch}
-use Rattle.diagram.specs.Rows.{rows}
 use Rattle.diagram.specs.Words.{isListing}
-use Rattle.diagram.specs.Listing.{listing, diagramOf}
+use Rattle.diagram.specs.Listing.{diagramOf}
 use Rattle.diagram.specs.Listings.{is-listing-good}
 use Rattle.diagram.specs.Variables.{occurs}
 use Rattle.apply.specs.GoodLaws.{EveryLabel, fine-every}
-use Rattle.regression.specs.declared.Regressed.the-variants.{Done, Refused}
-use Rattle.refusal.specs.Outcome.{Outcome, ok, refused, Accepted}
-use Rattle.refusal.specs.OutcomeLaws.{accepted-cond}
+use Rattle.regression.specs.declared.Regressed.the-variants.{Refused}
 use Rattle.regression.specs.Regression.{Truths, regressed}
 use Rattle.regression.specs.Result.{AtMost}
 use Rattle.regression.specs.Parameters.{GoodTruth, GoodTruths}
@@ -107,10 +106,6 @@ above-most m (branch l t f) h =
     let x = or-false (leafAbove m t) (leafAbove m f) (rw (above-branch m l t f) at h) in
     (above-most m t (x .0), above-most m f (x .1))
 
-pub most-above : (m : ℕ) (d : Diagram) → AtMost m d → leafAbove m d ≡ false
-most-above m (leaf v) h = rw (above-leaf m v) (le-ltb m v h)
-most-above m (branch l t f) h = rw (above-branch m l t f, most-above m t (h .0), most-above m f (h .1))
-
 pub any-quiet : (ar : List ℕ) (d : Diagram) (t n : ℕ) → anyOccurs ar d t n ≡ false → (u : ℕ) → t ≤ u → u < t + n → occurs ar u d ≡ false
 any-quiet ar d t zero h u i j = absurd (omega arith)
 any-quiet ar d t (suc n) h u i j = go (cmp t u) (or-false (occurs ar t d) (anyOccurs ar d (suc t) n) (rw (any-cons ar d t n) at h)) (any-quiet ar d (suc t) n)
@@ -126,44 +121,14 @@ quiet-any ar d t zero h = any-none ar d t
 quiet-any ar d t (suc n) h =
     rw (any-cons ar d t n, h t (omega arith) (omega arith), quiet-any ar d (suc t) n (λ u i j. h u (omega arith) (omega arith)))
 
-pub any-some : (ar : List ℕ) (d : Diagram) (t n u : ℕ) → t ≤ u → u < t + n → occurs ar u d ≡ true → anyOccurs ar d t n ≡ true
-any-some ar d t n u i j e = go (flag (anyOccurs ar d t n))
-  where
-    go : Flag (anyOccurs ar d t n) → anyOccurs ar d t n ≡ true
-    go (isTrue k) = k
-    go (isFalse k) = clash e (any-quiet ar d t n k u i j)
-
 -- a truth diagram that passes 7 and 6: no leaf above 1, no variable but the arguments
 pub record Passes (ar : List ℕ) (n : ℕ) (d : Diagram) : Type 0 where
   pub bits : leafAbove 1 d ≡ false
   pub bound : unboundVariable ar n d ≡ false
 
-pub check-none : {A : Type 0} (ar : List ℕ) (n : ℕ) (after : Outcome A) → checkTruth ar n none after ≡ after
-check-none ar n after = refl
-
-pub check-truth : {A : Type 0} (ar : List ℕ) (n : ℕ) (d : Diagram) (after : Outcome A) → leafAbove 1 d ≡ true → checkTruth ar n (some d) after ≡ refused Truth
-check-truth ar n d after e = rw e
-
-pub check-unbound : {A : Type 0} (ar : List ℕ) (n : ℕ) (d : Diagram) (after : Outcome A) → leafAbove 1 d ≡ false → unboundVariable ar n d ≡ true
-    → checkTruth ar n (some d) after ≡ refused Unbound
-check-unbound ar n d after e h = rw (e, h)
-
-pub check-passes : {A : Type 0} (ar : List ℕ) (n : ℕ) (d : Diagram) (after : Outcome A) → Passes ar n d → checkTruth ar n (some d) after ≡ after
-check-passes ar n d after p = rw (p .bits, p .bound)
-
 -- the truth diagrams of the n predicates from p on pass
 pub record PassAll (ar : List ℕ) (truths : Truths) (p n : ℕ) : Type 0 where
   pub each : (q : ℕ) (d : Diagram) → p ≤ q → q < p + n → truths q ≡ some d → Passes ar (getD ar q 0) d
-
-pub checks-pass : {A : Type 0} (ar : List ℕ) (truths : Truths) (p n : ℕ) (after : Outcome A) → PassAll ar truths p n → checkTruths ar truths p n after ≡ after
-checks-pass ar truths p zero after h = checks-none ar truths p after
-checks-pass ar truths p (suc n) after h =
-    rw (checks-cons ar truths p n after, checks-pass ar truths (suc p) n after (record { each = λ q d i j e. h .each q d (omega arith) (omega arith) e }))
-    (go (truths p) (λ d e. h .each p d (omega arith) (omega arith) e))
-  where
-    go : (o : Option Diagram) → ((d : Diagram) → o ≡ some d → Passes ar (getD ar p 0) d) → checkTruth ar (getD ar p 0) o after ≡ after
-    go none k = refl
-    go (some d) k = check-passes ar (getD ar p 0) d after (k d refl)
 
 -- an accepted answer has P where the checks are passed and what comes after has it
 pub accepted-checks : {A : Type 0} {P : A → Type 0} (ar : List ℕ) (truths : Truths) (p n : ℕ) (after : Outcome A) → (PassAll ar truths p n → Accepted P after)
@@ -248,21 +213,10 @@ module _ (ar value truths spans : List ℕ) (outLength workLength : ℕ) where
       accepted-checks ar (truthsOf truths spans) 1 (predicateCount - 1) _ (λ pass.
       regressed-tells ar (truthsOf truths spans) (diagramOf value) (truths-good (not-false _ l) pass) (is-listing-good ar value (not-false _ v))))))
 
--- answer and result buffer
-pub regress-done : (ar value truths spans : List ℕ) (outLength workLength : ℕ) (d : Diagram) → regressOutcome ar value truths spans outLength workLength ≡ ok d
-    → regressAnswer ar value truths spans outLength workLength ≡ Done (length (rows d))
-unfolding regressAnswer
-regress-done ar value truths spans outLength workLength d e = rw e
-
 pub regress-refused : (ar value truths spans : List ℕ) (outLength workLength : ℕ) (r : Refusal) → regressOutcome ar value truths spans outLength workLength ≡ refused r
     → regressAnswer ar value truths spans outLength workLength ≡ Refused r
 unfolding regressAnswer
 regress-refused ar value truths spans outLength workLength r e = rw e
-
-pub result-done : (ar value truths spans : List ℕ) (workLength : ℕ) (out : List ℕ) (d : Diagram) → regressOutcome ar value truths spans (length out) workLength ≡ ok d
-    → regressResult ar value truths spans workLength out ≡ listing d ++ drop (length (listing d)) out
-unfolding regressResult
-result-done ar value truths spans workLength out d e = rw e
 
 pub result-refused : (ar value truths spans : List ℕ) (workLength : ℕ) (out : List ℕ) (r : Refusal)
     → regressOutcome ar value truths spans (length out) workLength ≡ refused r → regressResult ar value truths spans workLength out ≡ out

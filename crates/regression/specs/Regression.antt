@@ -1,11 +1,12 @@
 -- Replacement and regression, row by row (document 01, section 'Regression').
-use mathlib.Core.Bool.{Bool, true, false, cond}
+use mathlib.Core.Bool.{cond}
 use mathlib.Core.List.{List, [], _∷_, _++_}
 use mathlib.Core.Option.{Option, some, none}
 use Prim.Native.Nat.{ℕ, pred, _-_}
 use lib.ListN.{length, getD}
 use lib.Dec.{eqb, ltb}
 use Rattle.refusal.specs.declared.Refusal.the-variants.{Space}
+use Rattle.refusal.specs.Outcome.{Outcome, ok, refused, andThen}
 use Rattle.label.specs.Limits.{firstVariable, equality}
 use Rattle.label.specs.Labels.{predicateOf, unpacked, termsOf}
 use Rattle.label.specs.Renamings.{moved}
@@ -13,7 +14,6 @@ use Rattle.diagram.specs.Sizes.{mostRows}
 use Rattle.diagram.specs.Diagram.{Diagram, leaf, branch}
 use Rattle.diagram.specs.Rows.{rows}
 use Rattle.diagram.specs.Listing.{index}
-use Rattle.refusal.specs.Outcome.{Outcome, ok, refused, andThen}
 use Rattle.regression.specs.Calls.{Run, pure, bind, form}
 use Rattle.regression.specs.Step.{labelTest, testDiagram, rowStep}
 
@@ -54,13 +54,9 @@ replacement ar σ d = overRows (λ l. pure (testDiagram (moved ar σ l))) d
 abbrev pub Truths : Type 0
 Truths = ℕ → Option Diagram
 
-abbrev pub pickTruth : Bool → Option Diagram → Option Diagram → Option Diagram
-pickTruth true x y = x
-pickTruth false x y = y
-
 -- equality has none
 unfoldable pub truthOf : Truths → ℕ → Option Diagram
-truthOf truths p = pickTruth (eqb p equality) none (truths p)
+truthOf truths p = cond (eqb p equality) none (truths p)
 
 -- T for the label l: the truth diagram with its arguments replaced; a predicate without one, and equality, stay
 unfoldable pub truthFrom : List ℕ → Option Diagram → ℕ → Run Diagram

@@ -2,27 +2,25 @@
 use mathlib.Core.Path.{_≡_, refl, ap, sym, _∙_, subst}
 use mathlib.Core.List.{List, [], _∷_, _++_, append-nil, append-assoc, map}
 use mathlib.Core.Option.{Option, some, none}
-use Prim.Native.Nat.{ℕ, pred, _≤_, _<_}
+use Prim.Native.Nat.{ℕ, pred, _≤_}
 use native.Mathlib.Omega.{arith}
 use lib.ListN.{length, getD, length-append, length-map, List·getD-map, List·getD-append}
 use lib.Seq.{getD-append-seam}
 use lib.Dec.{ltb}
-use borrow.Author.Tests.{ltb-false, le-ltb, lt-ltb}
-use Rattle.basics.specs.Members.{Within}
-use Rattle.refusal.specs.declared.Refusal.{Refusal}
+use borrow.Author.Tests.{ltb-false}
 use Rattle.refusal.specs.declared.Refusal.the-variants.{Space}
+use Rattle.refusal.specs.Outcome.{ok, Accepted}
+use Rattle.refusal.specs.OutcomeLaws.{accepted-ok, accepted-then, accepted-cond}
 use Rattle.label.specs.Labels.{predicateOf, unpacked, termsOf}
 use Rattle.label.specs.Renamings.{moved}
-use Rattle.diagram.specs.Sizes.{mostRows, spaceRows}
-use Rattle.diagram.specs.Diagram.{Diagram, leaf, branch, same}
+use Rattle.diagram.specs.Sizes.{mostRows}
+use Rattle.diagram.specs.Diagram.{Diagram, leaf, branch}
 use Rattle.diagram.specs.Rows.{rows}
 use Rattle.diagram.specs.Listing.{index}
 use Rattle.diagram.specs.RowLists.{Earlier, Kept}
 use Rattle.diagram.specs.ListingLaws.{getD-index}
 use Rattle.diagram.specs.RowLaws.{rows-kept, rows-root}
-use Rattle.refusal.specs.Outcome.{ok, refused, Accepted}
 use Rattle.regression.specs.Calls.{Run, pure, bind, form}
-use Rattle.refusal.specs.OutcomeLaws.{accepted-ok, accepted-then, accepted-cond}
 use Rattle.regression.specs.CallLaws.{Gives, gives-pure, gives-bind, gives-mono, form-gives, Steady, steady-pure, steady-bind, steady-form}
 use Rattle.regression.specs.Step.{labelTest, testDiagram, rowStep}
 use Rattle.regression.specs.StepLaws.{step-gives, steady-step}
@@ -147,19 +145,10 @@ pub steady-truth : (ar : List ℕ) (truths : Truths) (l : ℕ) → Steady (truth
 unfolding truthAt
 steady-truth ar truths l = steady-from ar (truthOf truths (predicateOf l)) l
 
--- T may be kept for a label that occurs again: with its rows in the space, the same diagram comes out and nothing is added
-pub truth-again : (ar : List ℕ) (truths : Truths) (l : ℕ) (rs : List Diagram) (T : Diagram) (qs us : List Diagram)
-    → truthAt ar truths l rs ≡ ok (T, qs) → Within same qs us → length us ≤ spaceRows → truthAt ar truths l us ≡ ok (T, us)
-truth-again ar truths l rs T qs us = steady-truth ar truths l .again rs T qs us
-
 -- regression
 pub regression-gives : (ar : List ℕ) (truths : Truths) (d : Diagram) → Gives (λ x. x ≡ regressedDiagram ar truths d) (regression ar truths d)
 unfolding regression regressedDiagram
 regression-gives ar truths d = over-gives (truthAt ar truths) (truthDiagram ar truths) (truth-gives ar truths) d
-
-pub steady-regression : (ar : List ℕ) (truths : Truths) (d : Diagram) → Steady (regression ar truths d)
-unfolding regression
-steady-regression ar truths d = steady-over (truthAt ar truths) (steady-truth ar truths) d
 
 -- an accepted regression is the diagram of `Result`, of at most 1,024 rows
 pub record IsRegressed (ar : List ℕ) (truths : Truths) (d r : Diagram) : Type 0 where
@@ -170,17 +159,3 @@ pub regressed-is : (ar : List ℕ) (truths : Truths) (d : Diagram) → Accepted 
 unfolding regressed
 regressed-is ar truths d = accepted-then (regression ar truths d []) (regression-gives ar truths d .given []) (λ r h.
     accepted-cond (ltb mostRows (length (rows (r .0)))) Space (ok (r .0)) (λ e. accepted-ok (record { is = h; few = ltb-false _ _ e })))
-
-pub regressed-refused : (ar : List ℕ) (truths : Truths) (d : Diagram) (why : Refusal) → regression ar truths d [] ≡ refused why → regressed ar truths d ≡ refused why
-unfolding regressed
-regressed-refused ar truths d why e = rw e
-
-pub regressed-large : (ar : List ℕ) (truths : Truths) (d r : Diagram) (rs : List Diagram) → regression ar truths d [] ≡ ok (r, rs) → mostRows < length (rows r)
-    → regressed ar truths d ≡ refused Space
-unfolding regressed
-regressed-large ar truths d r rs e h = rw (e, lt-ltb mostRows (length (rows r)) h)
-
-pub regressed-ok : (ar : List ℕ) (truths : Truths) (d r : Diagram) (rs : List Diagram) → regression ar truths d [] ≡ ok (r, rs) → length (rows r) ≤ mostRows
-    → regressed ar truths d ≡ ok r
-unfolding regressed
-regressed-ok ar truths d r rs e h = rw (e, le-ltb mostRows (length (rows r)) h)

@@ -102,10 +102,6 @@ pub ordered-replaced : (ar : List ℕ) (σ : ℕ → ℕ) (d : Diagram) → Orde
 unfolding replaced
 ordered-replaced ar σ d = ordered-rebuilt (λ l. testDiagram (moved ar σ l)) (λ l. ordered-test (moved ar σ l)) d
 
-pub reduced-replaced : (ar : List ℕ) (σ : ℕ → ℕ) (d : Diagram) → Reduced (replaced ar σ d)
-unfolding replaced
-reduced-replaced ar σ d = reduced-rebuilt (λ l. testDiagram (moved ar σ l)) d
-
 pub most-replaced : (b : ℕ) (ar : List ℕ) (σ : ℕ → ℕ) (d : Diagram) → AtMost b d → AtMost b (replaced ar σ d)
 most-replaced b ar σ d h = most-eval b 0 (replaced ar σ d) (ordered-replaced ar σ d) (λ c. rw (eval-replaced c ar σ d) (eval-most b _ d h))
 
@@ -221,11 +217,6 @@ module _ (ar : List ℕ) (l : ℕ) where
   given-ordered none = (omega arith, tt, tt)
   given-ordered (some d) = ordered-replaced ar (argument (termsOf ar (unpacked l))) d
 
-  given-reduced : (o : Option Diagram) → Reduced (truthGiven ar o l)
-  unfolding truthGiven
-  given-reduced none = ((λ e. let z : _≡_ {A = ℕ} 1 0 = cc in omega arith), tt, tt)
-  given-reduced (some d) = reduced-replaced ar (argument (termsOf ar (unpacked l))) d
-
   given-bits : (o : Option Diagram) → ((d : Diagram) → o ≡ some d → GoodTruth ar d) → AtMost 1 (truthGiven ar o l)
   unfolding truthGiven
   given-bits none g = (omega arith, omega arith)
@@ -251,10 +242,6 @@ module _ (ar : List ℕ) (truths : Truths) where
   pub ordered-truth : (l : ℕ) → Ordered (truthDiagram ar truths l)
   unfolding truthDiagram
   ordered-truth l = given-ordered ar l (truthOf truths (predicateOf l))
-
-  pub reduced-truth : (l : ℕ) → Reduced (truthDiagram ar truths l)
-  unfolding truthDiagram
-  reduced-truth l = given-reduced ar l (truthOf truths (predicateOf l))
 
   pub most-truth : GoodTruths ar truths → (l : ℕ) → isLabel ar l ≡ true → AtMost 1 (truthDiagram ar truths l)
   unfolding truthDiagram

@@ -1,16 +1,14 @@
 -- Laws of tests, of 1 - T and of the row step: meaning, order, reduction, labels, leaves.
-use mathlib.Core.Path.{_≡_, refl, ap, ap₂, sym, _∙_}
+use mathlib.Core.Path.{_≡_, refl, _∙_}
 use mathlib.Core.Bool.{Bool, true, false, cond}
 use Prim.Native.Nat.{ℕ, suc, _+_, _*_, _-_, _≤_}
 use native.Mathlib.Omega.{arith}
-use Rattle.basics.specs.Tests.{Flag, isTrue, isFalse, flag}
 use Rattle.label.specs.declared.Test.{Test}
 use Rattle.label.specs.declared.Test.the-variants.{Always, Is}
-use Rattle.diagram.specs.Diagram.{Diagram, leaf, branch, same, eval, From, Ordered, Reduced}
-use Rattle.diagram.specs.DiagramLaws.{same-eq}
+use Rattle.diagram.specs.Diagram.{Diagram, leaf, branch, eval, From, Ordered, Reduced}
 use Rattle.diagram.specs.Canonicity.{choosing, eval-true, eval-false}
-use Rattle.apply.specs.Apply.{node, apply}
-use Rattle.apply.specs.ApplyLaws.{node-differ, apply-leaves, apply-left, eval-apply, from-apply, reduced-apply}
+use Rattle.apply.specs.Apply.{apply}
+use Rattle.apply.specs.ApplyLaws.{eval-apply, from-apply, reduced-apply}
 use Rattle.apply.specs.GoodLaws.{EveryLabel, every-apply}
 use Rattle.regression.specs.CallLaws.{Gives, gives-bind, gives-mono, form-gives, combine-gives, Steady, steady-bind, steady-form, steady-combine}
 use Rattle.regression.specs.Step.{labelTest, testDiagram, exchanged, rowStep}
@@ -46,11 +44,6 @@ unfolding testDiagram
 ordered-test Always = tt
 ordered-test (Is l) = (omega arith, tt, tt)
 
-pub reduced-test : (x : Test) → Reduced (testDiagram x)
-unfolding testDiagram
-reduced-test Always = tt
-reduced-test (Is l) = ((λ e. let z : _≡_ {A = ℕ} 1 0 = cc in omega arith), tt, tt)
-
 pub most-test : (x : Test) → AtMost 1 (testDiagram x)
 unfolding testDiagram
 most-test Always = omega arith
@@ -85,34 +78,6 @@ pub most-exchanged : (d : Diagram) → AtMost 1 (exchanged d)
 unfolding exchanged
 most-exchanged (leaf v) = omega arith
 most-exchanged (branch l t f) = (most-exchanged t, most-exchanged f)
-
-pub exchanged-twice : (d : Diagram) → AtMost 1 d → exchanged (exchanged d) ≡ d
-unfolding exchanged
-exchanged-twice (leaf v) h = ap leaf (omega arith)
-exchanged-twice (branch l t f) h = ap₂ (branch l) (exchanged-twice t (h .0)) (exchanged-twice f (h .1))
-
-pub reduced-exchanged : (d : Diagram) → AtMost 1 d → Reduced d → Reduced (exchanged d)
-unfolding exchanged
-reduced-exchanged (leaf v) h r = tt
-reduced-exchanged (branch l t f) h r = (
-  (λ e. r .0 (sym (exchanged-twice t (h .0)) ∙ ap exchanged e ∙ exchanged-twice f (h .1))),
-  reduced-exchanged t (h .0) (r .1),
-  reduced-exchanged f (h .1) (r .2),
-)
-
--- 1 - T as a combination of T with leaf 1
-pub exchanged-apply : (d : Diagram) → AtMost 1 d → Reduced d → exchanged d ≡ apply (λ v w. w - v) d (leaf 1)
-unfolding exchanged
-exchanged-apply (leaf v) h r = sym (apply-leaves (λ v w. w - v) v 1)
-exchanged-apply (branch l t f) h r =
-    rw (apply-left (λ v w. w - v) l t f (leaf 1) tt, ← exchanged-apply t (h .0) (r .1), ← exchanged-apply f (h .1) (r .2))
-    (go (flag (same (exchanged t) (exchanged f))))
-  where
-    go : Flag (same (exchanged t) (exchanged f)) → branch l (exchanged t) (exchanged f) ≡ node l (exchanged t) (exchanged f)
-    go (isTrue e) =
-        let q = same-eq (exchanged t) (exchanged f) e in
-        absurd (r .0 (sym (exchanged-twice t (h .0)) ∙ ap exchanged q ∙ exchanged-twice f (h .1)))
-    go (isFalse e) = sym (node-differ l (exchanged t) (exchanged f) e)
 
 -- the row step
 pub step-gives : (T t f : Diagram) → Gives (λ x. x ≡ stepped T t f) (rowStep T t f)

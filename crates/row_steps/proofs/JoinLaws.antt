@@ -7,8 +7,8 @@ use native.Mathlib.Omega.{arith}
 use lib.ListN.{length, take}
 use lib.Dec.{ltb}
 use borrow.Author.Tests.{ltb-true, ltb-false}
-use Rattle.basics.specs.Tests.{Flag, isTrue, isFalse, flag}
 use Rattle.refusal.specs.declared.Refusal.the-variants.{Space as NoSpace, Pairs as ManyPairs, Value as HighValue}
+use Rattle.basics.specs.Tests.{Flag, isTrue, isFalse, flag}
 use Rattle.diagram.specs.Sizes.{highestValue, spaceRows, mostPairs}
 use Rattle.diagram.specs.Diagram.{Diagram, same}
 use Rattle.diagram.specs.Listing.{index}
@@ -22,13 +22,13 @@ use Rattle.apply.specs.Walk.{Walk, ends, on, walk}
 use Rattle.apply.specs.OverflowLaws.{calm-true, calm-false, calm-ends}
 use Rattle.store.specs.Space.{diagramsOf, Holds}
 use Rattle.store.proofs.SpaceLaws.{formed-room}
+use Rattle.regression.specs.Calls.{combine}
+use Rattle.regression.specs.CallLaws.{form-space, combine-pairs, combine-value, combine-calm}
+use Rattle.regression.specs.Result.{AtMost}
 use Rattle.combine.specs.Joining.{rowsAfter, joinAnswer, countAfter, diagramsAfter, Joint}
 use Rattle.combine.specs.declared.Joined.{Joined}
 use Rattle.combine.specs.declared.Joined.the-variants.{At, TooManyPairs, TooHighValue, NoRoom}
 use Rattle.row_steps.specs.declared.Stepped.the-variants.{Row, Refused}
-use Rattle.regression.specs.Calls.{combine}
-use Rattle.regression.specs.CallLaws.{form-space, combine-pairs, combine-value, combine-calm}
-use Rattle.regression.specs.Result.{AtMost}
 use Rattle.row_steps.specs.Running.{Valued, Ran}
 use Rattle.row_steps.specs.RunLaws.{formed-ran, valued-onto, valued-take}
 

@@ -6,10 +6,11 @@ use Prim.Native.Nat.{ℕ, suc, _+_, _*_, _-_, _≤_, _<_}
 use native.Mathlib.Omega.{arith}
 use lib.ListN.{length, getD, set, replicate, length-set, length-replicate, getD-replicate}
 use lib.Seq.{getD-set-same, getD-set-other}
-use Rattle.basics.specs.Tests.{Cmp, below, equal, above, cmp}
-use Rattle.basics.specs.Members.{mem}
 use Rattle.refusal.specs.declared.Refusal.{Refusal}
 use Rattle.refusal.specs.declared.Refusal.the-variants.{Space as NoSpace}
+use Rattle.refusal.specs.Outcome.{ok}
+use Rattle.basics.specs.Tests.{Cmp, below, equal, above, cmp}
+use Rattle.basics.specs.Members.{mem}
 use Rattle.label.specs.Limits.{leafMark}
 use Rattle.label.specs.declared.Label.{Label}
 use Rattle.label.specs.declared.Test.{Test}
@@ -32,14 +33,13 @@ use Rattle.store.specs.declared.Formed.the-variants.{Row as FormedRow, Full}
 use Rattle.store.specs.Space.{diagramsOf, Holds, standsFor, Formable, a-branch, Formation}
 use Rattle.store.specs.AddLaws.{add-branch}
 use Rattle.store.proofs.SpaceLaws.{length-diagrams, diagram-at, stands-branch, formed-room, formation-row, formation-tree, formation-old, full-more, holds-closed}
-use Rattle.row_steps.specs.declared.Stepped.{Stepped}
-use Rattle.row_steps.specs.declared.Stepped.the-variants.{Row, Refused}
-use Rattle.refusal.specs.Outcome.{ok}
 use Rattle.regression.specs.Calls.{Run, bind, form, combine}
 use Rattle.regression.specs.CallLaws.{form-old}
 use Rattle.regression.specs.Step.{testDiagram, exchanged, rowStep}
 use Rattle.regression.specs.StepLaws.{most-test, most-exchanged}
 use Rattle.regression.specs.Result.{AtMost}
+use Rattle.row_steps.specs.declared.Stepped.{Stepped}
+use Rattle.row_steps.specs.declared.Stepped.the-variants.{Row, Refused}
 use Rattle.row_steps.specs.Running.{Ready, Two, Three, Gave, Ran, Noted, Exchangeable, Exchanged, Testable}
 use Rattle.row_steps.specs.RunLaws.{row-label, row-leaf, row-kids, row-branch, there-mem, in-room, formed-gave, formed-space, full-ran, ran-bind, ran-stop, gave-old}
 

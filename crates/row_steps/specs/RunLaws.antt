@@ -7,10 +7,11 @@ use Prim.Native.Nat.{ℕ, zero, suc, _≤_, _<_}
 use native.Mathlib.Omega.{arith}
 use lib.ListN.{length, take}
 use lib.Dec.{lit≤}
-use Rattle.basics.specs.Tests.{Either, one, other, either, or-one, or-other, below}
-use Rattle.basics.specs.Members.{mem, clash}
 use Rattle.refusal.specs.declared.Refusal.{Refusal}
 use Rattle.refusal.specs.declared.Refusal.the-variants.{Space as NoSpace}
+use Rattle.refusal.specs.Outcome.{ok, refused}
+use Rattle.basics.specs.Tests.{Either, one, other, either, or-one, or-other, below}
+use Rattle.basics.specs.Members.{mem, clash}
 use Rattle.label.specs.Limits.{leafMark}
 use Rattle.diagram.specs.Sizes.{highestValue, spaceRows}
 use Rattle.diagram.specs.Diagram.{Diagram, leaf, branch, same}
@@ -22,25 +23,24 @@ use Rattle.diagram.specs.RowLists.{rowTree, Encoded, isPart}
 use Rattle.diagram.specs.RowLaws.{row-mem, onto-from, part-leaf, part-branch, PartOf, it-is, of-high, of-low}
 use Rattle.diagram.specs.Shown.{Shown}
 use Rattle.diagram.specs.WrittenRows.{written-shown}
-use Rattle.apply.specs.RowLaws.{onto-begins, onto-mem}
 use Rattle.plan.specs.Walk.{Leads}
 use Rattle.plan.specs.Plan.{Clean}
 use Rattle.plan.specs.PlanLaws.{plan-empty}
+use Rattle.apply.specs.RowLaws.{onto-begins, onto-mem}
+use Rattle.apply.specs.Formed.{add}
+use Rattle.apply.specs.FormedLaws.{add-leaf}
 use Rattle.store.specs.declared.Formed.{Formed}
 use Rattle.store.specs.declared.Formed.the-variants.{Row as FormedRow, Full}
 use Rattle.store.specs.Space.{diagramsOf, Holds, Formation}
 use Rattle.store.proofs.SpaceLaws.{length-diagrams, tree-row, formation-row, formation-full, formation-tree, formation-old}
+use Rattle.regression.specs.Calls.{Run, bind, form}
+use Rattle.regression.specs.CallLaws.{form-room, form-space, form-old, bind-refused}
+use Rattle.regression.specs.Result.{AtMost}
 use Rattle.combine.specs.RowPairs.{Operand}
 use Rattle.combine.specs.Paired.{Pairable}
 use Rattle.row_steps.specs.declared.Stepped.{Stepped}
 use Rattle.row_steps.specs.declared.Stepped.the-variants.{Row, Refused}
-use Rattle.refusal.specs.Outcome.{ok, refused}
-use Rattle.regression.specs.Calls.{Run, bind, form}
-use Rattle.regression.specs.CallLaws.{form-room, form-space, form-old, bind-refused}
-use Rattle.regression.specs.Result.{AtMost}
 use Rattle.row_steps.specs.Running.{Valued, Space, Ready, Two, Gave, Ran}
-use Rattle.apply.specs.Formed.{add}
-use Rattle.apply.specs.FormedLaws.{add-leaf}
 use Rattle.row_steps.specs.RunLaws.{row-label, row-leaf, row-kids, row-branch, there-mem, in-room, formed-gave, formed-space, formed-ran, full-ran, ran-bind, ran-stop, gave-old}
 
 -- leaves in their range

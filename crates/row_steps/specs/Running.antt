@@ -4,8 +4,9 @@ use mathlib.Core.Bool.{true}
 use mathlib.Core.List.{List}
 use Prim.Native.Nat.{ℕ, suc, _*_, _≤_, _<_}
 use lib.ListN.{length, getD}
-use Rattle.basics.specs.Members.{mem}
 use Rattle.refusal.specs.declared.Refusal.{Refusal}
+use Rattle.refusal.specs.Outcome.{ok, refused}
+use Rattle.basics.specs.Members.{mem}
 use Rattle.label.specs.Limits.{leafMark}
 use Rattle.label.specs.declared.Label.{Label}
 use Rattle.label.specs.declared.Test.{Test}
@@ -18,11 +19,10 @@ use Rattle.plan.specs.Plan.{Clean}
 use Rattle.store.specs.declared.Formed.{Formed}
 use Rattle.store.specs.declared.Formed.the-variants.{Row as FormedRow}
 use Rattle.store.specs.Space.{diagramsOf, Holds, Formation}
-use Rattle.row_steps.specs.declared.Stepped.{Stepped}
-use Rattle.row_steps.specs.declared.Stepped.the-variants.{Row, Refused}
-use Rattle.refusal.specs.Outcome.{ok, refused}
 use Rattle.regression.specs.Calls.{Run}
 use Rattle.regression.specs.Step.{exchanged}
+use Rattle.row_steps.specs.declared.Stepped.{Stepped}
+use Rattle.row_steps.specs.declared.Stepped.the-variants.{Row, Refused}
 
 -- no leaf among the rows is above 10^18
 pub record Valued (rs : List Diagram) : Type 0 where

@@ -9,10 +9,11 @@ use native.Mathlib.Numerals.{add-one}
 use lib.ListN.{length, getD, length-map}
 use lib.Dec.{eqb, ltb, leb}
 use borrow.Author.Tests.{eq-eqb, ne-eqb, eqb-true, eqb-false, leb-true, ltb-true, ltb-false, lt-ltb, le-ltb}
-use Rattle.basics.specs.Tests.{and-left, and-right, Flag, isTrue, isFalse, flag, Cmp, below, equal, above, cmp, or-one, or-other}
-use Rattle.basics.specs.Members.{mem, clash}
 use Rattle.refusal.specs.declared.Refusal.{Refusal}
 use Rattle.refusal.specs.declared.Refusal.the-variants.{Truth, Unbound}
+use Rattle.refusal.specs.Outcome.{Outcome, refused}
+use Rattle.basics.specs.Tests.{and-left, and-right, Flag, isTrue, isFalse, flag, Cmp, below, equal, above, cmp, or-one, or-other}
+use Rattle.basics.specs.Members.{mem, clash}
 use Rattle.label.specs.Limits.{leafMark}
 use Rattle.label.specs.Labels.{areArities, allAtMost}
 use Rattle.label.proofs.CodeLaws.{under-all}
@@ -28,14 +29,13 @@ use Rattle.diagram.specs.DiagramOfListing.{shown-rows, rows-are}
 use Rattle.diagram.specs.RowLists.{rowTree, isPart}
 use Rattle.diagram.specs.RowLaws.{row-mem, mem-rows, part-self, part-high, part-low, part-leaf, part-branch, PartOf, it-is, of-high, of-low}
 use Rattle.listing.specs.Used.{Used}
-use Rattle.truths.specs.declared.Verdict.{Verdict}
-use Rattle.truths.specs.declared.Verdict.the-variants.{Passed, Refused}
-use Rattle.refusal.specs.Outcome.{Outcome, refused}
 use Rattle.regression.specs.RegressCall.{truthCount, truthWords, truthsOf, areListings, leafAbove, unboundVariable, checkTruth, checkTruths}
 use Rattle.regression.specs.RegressCallLaws.{truths-none, truths-some, listings-none, listings-cons, listings-at, checks-none, checks-cons, above-leaf, above-branch}
 use Rattle.freeing.specs.FreeTasks.{anySet}
-use Rattle.truths.specs.TruthChecks.{Lent, isListedAt, isHighLeaf, pickVerdict, verdictOn, verdictOf, afterVerdict, Between, Judged}
 use Rattle.freeing.specs.MarkLaws.{used-any}
+use Rattle.truths.specs.declared.Verdict.{Verdict}
+use Rattle.truths.specs.declared.Verdict.the-variants.{Passed, Refused}
+use Rattle.truths.specs.TruthChecks.{Lent, isListedAt, isHighLeaf, verdictOn, verdictOf, afterVerdict, Between, Judged}
 
 -- a leaf above m, and a term that occurs, by the rows of the diagram
 above-part : (m v : ℕ) → m < v → (d : Diagram) → isPart (leaf v) d ≡ true → leafAbove m d ≡ true
@@ -229,7 +229,7 @@ check-verdict : (ar : List ℕ) (n : ℕ) (o : Option Diagram) (after : Outcome 
 check-verdict ar n none after = refl
 check-verdict ar n (some d) after = go (leafAbove 1 d) (unboundVariable ar n d)
   where
-    go : (a b : Bool) → cond a (refused Truth) (cond b (refused Unbound) after) ≡ afterVerdict (pickVerdict a (Refused Truth) (pickVerdict b (Refused Unbound) Passed)) after
+    go : (a b : Bool) → cond a (refused Truth) (cond b (refused Unbound) after) ≡ afterVerdict (cond a (Refused Truth) (cond b (Refused Unbound) Passed)) after
     go true b = refl
     go false true = refl
     go false false = refl

@@ -1,19 +1,19 @@
 -- The checks of lent truth diagrams as the code makes them (document 01, sections 'Regression' and 'Refusals by trade word').
 use mathlib.Core.Path.{_≡_}
-use mathlib.Core.Bool.{Bool, true, false, not, _&&_, _||_}
+use mathlib.Core.Bool.{Bool, true, not, _&&_, _||_, cond}
 use mathlib.Core.List.{List}
 use Prim.Native.Nat.{ℕ, _-_, _≤_, _<_}
 use lib.Dec.{eqb, ltb}
+use mathlib.Core.Option.{Option, some, none}
+use Rattle.refusal.specs.declared.Refusal.the-variants.{Truth, Unbound}
+use Rattle.refusal.specs.Outcome.{Outcome, refused}
 use Rattle.label.specs.Limits.{predicateCount, equality, leafMark}
 use Rattle.label.specs.Labels.{areArities}
 use Rattle.diagram.specs.Diagram.{Diagram}
-use Rattle.regression.specs.RegressCall.{truthCount, areListings, truthWords, truthsOf, leafAbove, unboundVariable, checkTruths}
-use mathlib.Core.Option.{Option, some, none}
-use Rattle.refusal.specs.declared.Refusal.the-variants.{Truth, Unbound}
 use Rattle.diagram.specs.Words.{labelAt, highAt, isListing}
+use Rattle.regression.specs.RegressCall.{truthCount, areListings, truthWords, truthsOf, leafAbove, unboundVariable, checkTruths}
 use Rattle.truths.specs.declared.Verdict.{Verdict}
 use Rattle.truths.specs.declared.Verdict.the-variants.{Passed, Refused}
-use Rattle.refusal.specs.Outcome.{Outcome, refused}
 
 -- predicate p has a truth diagram: it is not equality, and words are lent for it
 unfoldable pub hasTruth : List ℕ → ℕ → Bool
@@ -32,13 +32,9 @@ isListedAt ar truths spans p = eqb (truthCount spans p) 0 || isListing ar (truth
 unfoldable pub isHighLeaf : List ℕ → ℕ → Bool
 isHighLeaf ws k = eqb (labelAt ws k) leafMark && ltb 1 (highAt ws k)
 
-abbrev pub pickVerdict : Bool → Verdict → Verdict → Verdict
-pickVerdict true x y = x
-pickVerdict false x y = y
-
 -- 7, then 6, for the truth diagram of a predicate of arity n
 abbrev pub verdictOn : List ℕ → ℕ → Diagram → Verdict
-verdictOn ar n d = pickVerdict (leafAbove 1 d) (Refused Truth) (pickVerdict (unboundVariable ar n d) (Refused Unbound) Passed)
+verdictOn ar n d = cond (leafAbove 1 d) (Refused Truth) (cond (unboundVariable ar n d) (Refused Unbound) Passed)
 
 abbrev pub verdictOf : List ℕ → ℕ → Option Diagram → Verdict
 verdictOf ar n none = Passed
