@@ -31,7 +31,7 @@ use Rattle.session.specs.Modelling.{mostModelRows, rowsWith, outcomeOf, namesFo
 use Rattle.session.specs.Replies.{done, quietly, wordsOf}
 use Rattle.declare.specs.Tables.{namesOf, GoodVocabulary}
 use Rattle.facts.specs.Words.{liveOf}
-use Rattle.planner.specs.PartLaws.{then-then, then-same}
+use Rattle.steps.specs.GivenLaws.{then-then, then-same}
 use Rattle.planner.specs.Run.{heldIn}
 use Rattle.model.specs.declared.Head.{Head as ModelHead}
 use Rattle.model.specs.Layout.{modelOf}

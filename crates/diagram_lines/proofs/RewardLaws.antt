@@ -32,7 +32,7 @@ use Rattle.session.specs.Modelling.{mostModelRows, namesFor, outcomeOf, rewardR
 use Rattle.session.specs.Replies.{done, quietly, wordsOf}
 use Rattle.declare.specs.Tables.{namesOf}
 use Rattle.facts.specs.Words.{liveOf}
-use Rattle.planner.specs.PartLaws.{then-then}
+use Rattle.steps.specs.GivenLaws.{then-then}
 use Rattle.planner.specs.Run.{heldIn}
 use Rattle.model.specs.declared.Head.{Head}
 use Rattle.model.specs.Layout.{modelOf}

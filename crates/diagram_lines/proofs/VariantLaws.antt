@@ -42,7 +42,7 @@ use Rattle.declare.specs.declared.Counts.{Counts}
 use Rattle.declare.specs.Tables.{namesOf, GoodNames}
 use Rattle.declare.proofs.TableLaws.{names-ext}
 use Rattle.facts.specs.Words.{liveOf}
-use Rattle.planner.specs.PartLaws.{then-then}
+use Rattle.steps.specs.GivenLaws.{then-then}
 use Rattle.planner.specs.Run.{heldIn}
 use Rattle.model.specs.declared.Head.{Head}
 use Rattle.model.specs.Layout.{modelOf}

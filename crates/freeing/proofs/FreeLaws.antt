@@ -6,7 +6,7 @@ use Prim.Native.Nat.{ℕ, suc, _+_, _-_, _/_, _≤_, _<_}
 use native.Mathlib.Omega.{arith}
 use lib.ListN.{length, drop, length-map}
 use lib.Dec.{ltb, leb}
-use borrow.Author.Tests.{ltb-true, leb-true, lt-ltb}
+use borrow.Author.Tests.{ltb-true, leb-true, lt-ltb, not-false, not-true}
 use Rattle.refusal.specs.declared.Refusal.{Refusal}
 use Rattle.refusal.specs.declared.Refusal.the-variants.{Listing, Buffer, Unbound, Range, Variables}
 use Rattle.refusal.specs.Outcome.{ok, refused}
@@ -39,9 +39,10 @@ use Rattle.rename.specs.RenamedWords.{freed-words}
 use Rattle.regression.specs.declared.Freed.{Freed}
 use Rattle.regression.specs.declared.Freed.the-variants.{Done, Refused}
 use Rattle.regression.specs.RegressCall.{anyOccurs, freedOutcome, writtenAs, freeOutcome, freeAnswer, freeResult, freeOwn}
-use Rattle.regression.specs.RegressCallLaws.{any-quiet, not-false}
+use Rattle.regression.specs.RegressCallLaws.{any-quiet}
 use Rattle.regression.specs.FreeCallLaws.{free-own, free-listing, free-buffer, free-range, free-refused, freed-refused}
 use Rattle.freeing.specs.FreeTasks.{anySet, FreeTask, FreedWith}
+use Rattle.freeing.specs.MarkLaws.{used-any}
 
 -- a term below the variables is a constant or a parameter
 low-term : (t : ℕ) → isTerm t ≡ true → t < firstVariable → t < firstParameter + parameterCount

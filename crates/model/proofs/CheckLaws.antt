@@ -11,7 +11,7 @@ use native.Mathlib.Numerals.{add-one}
 use lib.ListN.{length, getD, take, drop, replicate, length-append}
 use lib.Seq.{take-at, take-all, ext-getD, getD-take, length-take-le}
 use lib.Dec.{ltb, leb}
-use borrow.Author.Tests.{ltb-true, ltb-false, leb-true}
+use borrow.Author.Tests.{ltb-true, ltb-false, leb-true, not-false}
 use Rattle.basics.specs.Tests.{Flag, isTrue, isFalse, flag}
 use Rattle.basics.specs.Members.{clash}
 use Rattle.refusal.specs.declared.Refusal.the-variants.{Truth, Unbound}
@@ -39,7 +39,7 @@ use Rattle.truths.specs.declared.Verdict.{Verdict}
 use Rattle.truths.specs.declared.Verdict.the-variants.{Passed, Refused}
 use Rattle.regression.specs.Parameters.{Within}
 use Rattle.regression.specs.RegressCall.{truthWords, truthsOf, areListings, leafAbove, anyOccurs, unboundVariable}
-use Rattle.regression.specs.RegressCallLaws.{truths-none, truths-some, above-most, any-quiet, not-false}
+use Rattle.regression.specs.RegressCallLaws.{truths-none, truths-some, above-most, any-quiet}
 use Rattle.regression.specs.NextLaws.{occur-terms}
 use Rattle.freeing.specs.FreeTasks.{anySet}
 use Rattle.truths.specs.TruthChecks.{Lent, verdictOn, Between}

@@ -6,7 +6,7 @@ use Prim.Native.Nat.{ℕ}
 use native.Mathlib.Omega.{arith}
 use lib.ListN.{length}
 use lib.Dec.{ltb, leb}
-use borrow.Author.Tests.{leb-true, leb-false, ltb-false}
+use borrow.Author.Tests.{leb-true, leb-false, ltb-false, not-false}
 use Rattle.basics.specs.Tests.{and-left, and-right}
 use Rattle.refusal.specs.declared.Refusal.the-variants.{Name, Range, Space}
 use Rattle.label.specs.Limits.{constantCount, parameterCount}
@@ -14,7 +14,6 @@ use Rattle.words.specs.declared.Key.{Key}
 use Rattle.names.specs.Keys.{isAmong}
 use Rattle.refusal.specs.Outcome.{ok, Accepted}
 use Rattle.refusal.specs.OutcomeLaws.{accepted-ok, accepted-cond}
-use Rattle.regression.specs.RegressCallLaws.{not-false}
 use Rattle.mdp.specs.Model.{Action, GoodAction, mostTotal, mostDenominator, mostActions}
 use Rattle.session.specs.declared.Part.the-variants.{Model as ModelPart}
 use Rattle.session.specs.Session.{Names, Session}

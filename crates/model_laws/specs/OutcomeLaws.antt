@@ -1,8 +1,8 @@
 -- Steps that may be refused: what holds of the answer.
 use mathlib.Core.Path.{_≡_, refl}
 use mathlib.Core.Bool.{Bool, true, false, _||_, true≢false}
-use Rattle.refusal.specs.Outcome.{Outcome, ok, andThen, Accepted}
-use Rattle.refusal.specs.OutcomeLaws.{accepted-refused, accepted-then}
+use Rattle.refusal.specs.Outcome.{Outcome, andThen, Accepted}
+use Rattle.refusal.specs.OutcomeLaws.{accepted-refused}
 use Rattle.reading.specs.Reading.{Judged}
 use Rattle.reading.specs.Reading.Judged.{fine, refused}
 use Rattle.session.specs.Modelling.{outcomeOf}

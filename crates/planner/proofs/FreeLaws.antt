@@ -22,11 +22,11 @@ use Rattle.apart.specs.Results.{Closable}
 use Rattle.freeing.specs.FreeTasks.{FreeTask, FreedWith}
 use Rattle.mdp.specs.StepLaws.{own-within}
 use Rattle.mdp.specs.CallLaws.{closed-count, freed-to}
-use Rattle.planner.specs.declared.Step.the-variants.{Rows, Refused}
-use Rattle.planner.specs.Steps.{Result, Given}
+use Rattle.steps.specs.declared.Step.the-variants.{Rows, Refused}
+use Rattle.steps.specs.Steps.{Result, Given}
 use Rattle.planner.specs.Parts.{freedUp}
 use Rattle.planner.specs.Tasks.{FreeUp}
-use Rattle.planner.proofs.StepLaws.{result-count, listing-result, given-refused, given-ok}
+use Rattle.steps.specs.GivenLaws.{result-count, listing-result, given-refused, given-ok}
 
 module _ {ar words : List ℕ} {c : ℕ} {out : List ℕ} (t : FreeUp ar words c out) where
   pub free-task : FreeTask ar words c out

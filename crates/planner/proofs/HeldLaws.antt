@@ -40,15 +40,15 @@ use Rattle.mdp.specs.RunLaws.{run-right}
 use Rattle.trim.specs.Calls.{Cuttable}
 use Rattle.model.specs.declared.Head.{Head}
 use Rattle.model.specs.Layout.{rewardWords, modelOf, Laid}
-use Rattle.planner.specs.declared.Step.the-variants.{Rows}
+use Rattle.steps.specs.declared.Step.the-variants.{Rows}
 use Rattle.planner.specs.declared.Backed.{Backed}
 use Rattle.planner.specs.declared.Backed.the-variants.{Done, Refused as NotBacked}
 use Rattle.planner.specs.declared.Held.{Held}
-use Rattle.planner.specs.Steps.{stepAs, Result, Wrote}
+use Rattle.steps.specs.Steps.{stepAs, Result, Wrote}
 use Rattle.planner.specs.Backed.{Powered, backedAs, BackedUp}
 use Rattle.planner.specs.Tasks.{Standing}
 use Rattle.planner.specs.Run.{callOf, callsOf, heldIn, Holds, Room, Callable, CutTask, CutTo, Takeable, Taken}
-use Rattle.planner.proofs.StepLaws.{listing-result, wrote-given, result-few, fold-there, fold-given}
+use Rattle.steps.specs.GivenLaws.{listing-result, wrote-given, result-few, fold-there, fold-given}
 
 -- two held values are equal by their parts
 same-held : {d e : Diagram} {j k : ℕ} → d ≡ e → j ≡ k → _≡_ {A = Value} (record { diagram = d; steps = j }) (record { diagram = e; steps = k })

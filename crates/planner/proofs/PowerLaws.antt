@@ -22,12 +22,12 @@ use Rattle.mdp.specs.Backup.{highestScale, mostSteps, scaleEnds, backup}
 use Rattle.mdp.specs.StepLaws.{backup-ends, backup-row, on-scale}
 use Rattle.model.specs.declared.Head.{Head}
 use Rattle.model.specs.Layout.{modelOf, Laid}
-use Rattle.planner.specs.declared.Step.{Step}
-use Rattle.planner.specs.declared.Step.the-variants.{Rows, Refused as Stopped}
+use Rattle.steps.specs.declared.Step.{Step}
+use Rattle.steps.specs.declared.Step.the-variants.{Rows, Refused as Stopped}
 use Rattle.planner.specs.declared.Power.{Power}
 use Rattle.planner.specs.declared.Power.the-variants.{Next, Ends}
 use Rattle.planner.specs.declared.Backed.the-variants.{Done, Refused}
-use Rattle.planner.specs.Steps.{stepAs, Wrote}
+use Rattle.steps.specs.Steps.{stepAs, Wrote}
 use Rattle.planner.specs.Parts.{rowOfCalls}
 use Rattle.planner.specs.Backed.{scaleOf, powerAs, Numbers, Powered, backedAs, BackedUp}
 

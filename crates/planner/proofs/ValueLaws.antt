@@ -17,12 +17,12 @@ use Rattle.regression.specs.RegressCall.{writtenAs}
 use Rattle.mdp.specs.Backup.{combined, actionsBest}
 use Rattle.model.specs.declared.Head.{Head}
 use Rattle.model.specs.Layout.{rewardWords, modelOf, Laid}
-use Rattle.planner.specs.declared.Step.{Step}
-use Rattle.planner.specs.declared.Step.the-variants.{Rows, Refused}
-use Rattle.planner.specs.Steps.{stepAs, Given, Wrote, Operands}
+use Rattle.steps.specs.declared.Step.{Step}
+use Rattle.steps.specs.declared.Step.the-variants.{Rows, Refused}
+use Rattle.steps.specs.Steps.{stepAs, Given, Wrote, Operands}
 use Rattle.planner.specs.Parts.{rowOfCalls}
 use Rattle.planner.specs.Tasks.{ValueTask, RewardTask, Standing}
-use Rattle.planner.proofs.StepLaws.{step-refused, done-then}
+use Rattle.steps.specs.GivenLaws.{step-refused, done-then}
 
 pub wrote-refused : {ar : List ℕ} {o : Outcome Diagram} {e : Refusal} {out : List ℕ} → o ≡ refused e → Wrote ar o (Refused e) out out
 wrote-refused {ar} {o} {e} {out} h = record {

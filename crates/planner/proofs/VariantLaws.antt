@@ -23,12 +23,12 @@ use Rattle.mdp.specs.Backup.{combined}
 use Rattle.regress.specs.Regressing.{Regressable}
 use Rattle.model.specs.Layout.{weightWords, spansAt, variantAt, rewardWords}
 use Rattle.model.specs.declared.Head.{Head}
-use Rattle.planner.specs.declared.Step.{Step}
-use Rattle.planner.specs.declared.Step.the-variants.{Rows, Refused}
-use Rattle.planner.specs.Steps.{Result, Given, Wrote, Begins, Operands, Scalable}
+use Rattle.steps.specs.declared.Step.{Step}
+use Rattle.steps.specs.declared.Step.the-variants.{Rows, Refused}
+use Rattle.steps.specs.Steps.{Result, Given, Wrote, Begins, Operands, Scalable, Folding}
 use Rattle.planner.specs.Parts.{variantProduct, variantAdded}
-use Rattle.planner.specs.Tasks.{VariantTask, WeightTask, RewardTask, Folding}
-use Rattle.planner.proofs.StepLaws.{listing-result, given-ok, given-refused, wrote-given, refused-then, done-then, given-same}
+use Rattle.planner.specs.Tasks.{VariantTask, WeightTask, RewardTask}
+use Rattle.steps.specs.GivenLaws.{listing-result, given-ok, given-refused, wrote-given, refused-then, done-then, given-same}
 
 -- ===== A variant regressed =====
 

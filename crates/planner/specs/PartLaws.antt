@@ -24,16 +24,7 @@ use Rattle.mdp.specs.StepLaws.{sum-none, sum-next, best-none, best-next}
 use Rattle.mdp.specs.BackupLaws.{truths-good, truths-within, weight-within}
 use Rattle.mdp.specs.CallLaws.{within-more, leaf-listed, leaf-within, shared-made, apart-added}
 use Rattle.planner.specs.Parts.{variantProduct, variantAdded, freedUp, actionValue, actionTried}
-
--- ===== Steps one after another =====
-
-pub then-then : {A B C : Type 0} (o : Outcome A) (f : A → Outcome B) (g : B → Outcome C) → andThen (andThen o f) g ≡ andThen o (λ a. andThen (f a) g)
-then-then (ok a) f g = refl
-then-then (refused r) f g = refl
-
-pub then-same : {A B : Type 0} (o : Outcome A) (f g : A → Outcome B) → ((a : A) → f a ≡ g a) → andThen o f ≡ andThen o g
-then-same (ok a) f g h = h a
-then-same (refused r) f g h = refl
+use Rattle.steps.specs.GivenLaws.{then-then, then-same}
 
 module _ (ar : List ℕ) (g : ℕ) (d : Diagram) where
   sum-added : (sum : Diagram) (v : Variant) (vs : List Variant) → variantsSum ar g d sum (v ∷ vs) ≡ andThen (variantAdded ar g d sum v) (λ s. variantsSum ar g d s vs)

@@ -31,14 +31,6 @@ pub record WeightTask (ar listings table : List ℕ) (place g : ℕ) (out work :
   pub out-room : resultWords ≤ length out
   pub work-room : spaceWords ≤ length work
 
--- the first n rows of a buffer are a listing, and so is y
-pub record Folding (ar buffer : List ℕ) (n : ℕ) (y work : List ℕ) : Type 0 where
-  pub first : isListing ar (take (n * 3) buffer) ≡ true
-  pub second : isListing ar y ≡ true
-  pub inside : n * 3 ≤ length buffer
-  pub buffer-room : resultWords ≤ length buffer
-  pub work-room : spaceWords ≤ length work
-
 -- a listing without parameters past the count
 pub record FreeUp (ar words : List ℕ) (c : ℕ) (out : List ℕ) : Type 0 where
   pub listing : isListing ar words ≡ true

@@ -6,7 +6,7 @@ use Prim.Native.Nat.{ℕ, _*_, _-_, _≤_, _<_}
 use native.Mathlib.Omega.{arith}
 use lib.ListN.{length, drop, replicate, length-replicate, getD-replicate}
 use lib.Dec.{ltb, leb}
-use borrow.Author.Tests.{leb-true, leb-false, lt-ltb, le-ltb}
+use borrow.Author.Tests.{leb-true, leb-false, lt-ltb, le-ltb, not-true, not-false}
 use Rattle.refusal.specs.declared.Refusal.{Refusal}
 use Rattle.refusal.specs.declared.Refusal.the-variants.{Listing, Buffer, Space as NoSpace}
 use Rattle.refusal.specs.Outcome.{Outcome, ok, refused, andThen}
@@ -28,7 +28,7 @@ use Rattle.regression.specs.declared.Regressed.{Regressed}
 use Rattle.regression.specs.declared.Regressed.the-variants.{Done, Refused}
 use Rattle.regression.specs.Regression.{regression, regressed}
 use Rattle.regression.specs.RegressCall.{truthsOf, areListings, regressOutcome, regressedAs, writtenAs, regressAnswer, regressResult}
-use Rattle.regression.specs.RegressCallLaws.{regress-value, regress-truths, regress-buffer, regress-checks, regress-refused, result-refused, not-false, not-true}
+use Rattle.regression.specs.RegressCallLaws.{regress-value, regress-truths, regress-buffer, regress-checks, regress-refused, result-refused}
 use Rattle.write.specs.declared.Listed.{Listed}
 use Rattle.write.specs.declared.Listed.the-variants.{Rows, TooMany}
 use Rattle.write.specs.Writing.{Writable, writeAnswer, writeWords, WritePost}

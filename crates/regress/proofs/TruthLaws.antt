@@ -8,7 +8,7 @@ use native.Mathlib.Omega.{arith}
 use lib.ListN.{length, getD, set, take, length-set, List·getD-eq-default}
 use lib.Seq.{getD-take, getD-set-same, getD-set-other}
 use lib.Dec.{eqb}
-use borrow.Author.Tests.{eqb-true, eqb-false}
+use borrow.Author.Tests.{eqb-true, eqb-false, not-true}
 use Rattle.basics.specs.Members.{clash}
 use Rattle.basics.specs.Tests.{and-left, and-right, Flag, isTrue, isFalse, flag, Cmp, below, equal, above, cmp}
 use Rattle.label.specs.Limits.{termBase}
@@ -37,7 +37,7 @@ use Rattle.regression.specs.StepLaws.{most-test}
 use Rattle.regression.specs.Regression.{argument, replacement, truthOf, truthFrom, truthAt}
 use Rattle.regression.specs.ResultLaws.{label-terms, argument-low, argument-high, argument-in, argument-terms}
 use Rattle.regression.specs.RegressCall.{truthCount, truthWords, truthsOf}
-use Rattle.regression.specs.RegressCallLaws.{truths-none, truths-some, listings-at, not-true}
+use Rattle.regression.specs.RegressCallLaws.{truths-none, truths-some, listings-at}
 use Rattle.regression.specs.Result.{AtMost}
 use Rattle.row_steps.specs.declared.Stepped.{Stepped}
 use Rattle.row_steps.specs.Running.{Ready, Ran, Testable}

@@ -4,8 +4,9 @@ use mathlib.Core.Bool.{true}
 use mathlib.Core.List.{List}
 use Prim.Native.Nat.{ℕ, _/_, _%_, _<_}
 use lib.ListN.{length, getD}
+use Rattle.basics.specs.Members.{Within}
 use Rattle.label.specs.Labels.{isLabel}
-use Rattle.diagram.specs.Diagram.{Diagram}
+use Rattle.diagram.specs.Diagram.{Diagram, same}
 use Rattle.diagram.specs.Validity.{tree}
 use Rattle.store.specs.Space.{diagramsOf}
 use Rattle.regression.specs.Calls.{Run, bind, form}
@@ -13,12 +14,13 @@ use Rattle.regression.specs.Regression.{Truths, truthAt}
 use Rattle.row_steps.specs.declared.Stepped.{Stepped}
 use Rattle.row_steps.specs.declared.Stepped.the-variants.{Row}
 use Rattle.row_steps.specs.Running.{Ran}
+use Rattle.truths.specs.TruthChecks.{Lent}
 
 -- T for the label l, its rows formed
 abbrev pub formedTruth : List ℕ → Truths → ℕ → Run Diagram
 formedTruth ar truths l = bind (truthAt ar truths l) form
 
--- the same, and a label whose T is asked for
+-- truth diagrams lent as listings, and a label whose T is asked for
 pub record Asking (ar truths spans : List ℕ) (l : ℕ) : Type 0 where
   pub lent : Lent ar truths spans
   pub label : isLabel ar l ≡ true

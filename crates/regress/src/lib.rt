@@ -11,6 +11,7 @@ use truths::Verdict;
 use write::Listed;
 ghost use mathlib.Core.Path.{_≡_};
 ghost use mathlib.Core.Bool.{true};
+ghost use Prim.Native.Nat.{_<_};
 ghost use lib.ListN.{length};
 ghost use Rattle.diagram.specs.Listing.{diagramOf};
 ghost use Rattle.regression.specs.RegressCall.{writtenAs, truthsOf, regressedAs, regressAnswer, regressResult};

@@ -7,7 +7,7 @@ use Prim.Native.Nat.{ℕ, zero, suc, _+_, _-_, _≤_, _<_}
 use native.Mathlib.Omega.{arith}
 use lib.ListN.{length, getD, take}
 use lib.Dec.{ltb, leb}
-use borrow.Author.Tests.{ltb-true, ltb-false, leb-true, le-ltb, lt-ltb}
+use borrow.Author.Tests.{ltb-true, ltb-false, leb-true, le-ltb, lt-ltb, not-false}
 use Rattle.refusal.specs.declared.Refusal.{Refusal}
 use Rattle.refusal.specs.declared.Refusal.the-variants.{Listing, Buffer, Unbound, Range, Variables}
 use Rattle.refusal.specs.Outcome.{refused, Accepted}
@@ -38,7 +38,7 @@ use Rattle.regression.specs.ResultLaws.{label-terms}
 use Rattle.regression.specs.NextLaws.{occur-terms}
 use Rattle.regression.specs.FreeingLaws.{highest-freed, within-freed}
 use Rattle.regression.specs.RegressCall.{anyOccurs, freedOutcome, freeOwn, freeOutcome, freeAnswer, freeResult}
-use Rattle.regression.specs.RegressCallLaws.{any-quiet, not-false}
+use Rattle.regression.specs.RegressCallLaws.{any-quiet}
 
 -- the terms of a label, place by place
 each-term : (P : ℕ → Type 0) (n : ℕ) (a : Atom) → Each P (take n (a .first ∷ a .second ∷ a .third ∷ a .fourth ∷ [])) → EachTerm P n a

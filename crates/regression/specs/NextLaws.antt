@@ -5,9 +5,9 @@ use mathlib.Core.List.{List, [], _∷_, map}
 use mathlib.Core.Option.{Option, some, none, Option·map}
 use Prim.Native.Nat.{ℕ, zero, suc, _-_, _≤_, _<_}
 use native.Mathlib.Omega.{arith}
+use native.Mathlib.Nat.{le-of-eq}
 use lib.ListN.{length, getD, List·getD-map}
 use lib.Dec.{eqb}
-use native.Mathlib.Nat.{le-of-eq}
 use borrow.Author.Tests.{eqb-true, eq-eqb, ne-eqb}
 use Rattle.refusal.specs.Outcome.{Accepted}
 use Rattle.refusal.specs.OutcomeLaws.{accepted-mono}

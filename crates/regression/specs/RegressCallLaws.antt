@@ -7,7 +7,7 @@ use Prim.Native.Nat.{ℕ, zero, suc, _+_, _-_, _≤_, _<_}
 use native.Mathlib.Omega.{arith}
 use lib.ListN.{length, getD}
 use lib.Dec.{ltb, eqb}
-use borrow.Author.Tests.{ltb-false, le-ltb, eqb-true, eq-eqb, ne-eqb}
+use borrow.Author.Tests.{ltb-false, le-ltb, eqb-true, eq-eqb, ne-eqb, not-false}
 use Rattle.refusal.specs.declared.Refusal.{Refusal}
 use Rattle.refusal.specs.declared.Refusal.the-variants.{Listing, Buffer, Truth, Unbound}
 use Rattle.refusal.specs.Outcome.{Outcome, refused, Accepted}
@@ -153,14 +153,6 @@ accepted-checks {A} {P} ar truths p (suc n) after h = rw (checks-cons ar truths 
     go none e ih = ih (λ y. h (all (λ d k. let z : none ≡ some d = sym e ∙ k in let w : _≡_ {A = ℕ} 0 1 = cc in absurd (omega arith)) y))
     go (some t) e ih = accepted-cond (leafAbove 1 t) Truth _ (λ b. accepted-cond (unboundVariable ar (getD ar p 0) t) Unbound _ (λ u.
         ih (λ y. h (all (λ d k. let z : some t ≡ some d = sym e ∙ k in let q : t ≡ d = cc in subst (Passes ar (getD ar p 0)) q (record { bits = b; bound = u })) y))))
-
-pub not-true : (b : Bool) → not b ≡ true → b ≡ false
-not-true true e = clash refl (sym e)
-not-true false e = refl
-
-pub not-false : (b : Bool) → not b ≡ false → b ≡ true
-not-false true e = refl
-not-false false e = clash refl e
 
 -- the checks of a regression, in order
 module _ (ar value truths spans : List ℕ) (outLength workLength : ℕ) where

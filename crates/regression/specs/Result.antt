@@ -1,6 +1,6 @@
 -- The diagrams that the steps of a regression give where none is refused, without the working space (document 01, section 'Regression').
-use mathlib.Core.List.{List}
 use mathlib.Core.Bool.{Bool, true}
+use mathlib.Core.List.{List}
 use mathlib.Core.Option.{Option, some, none}
 use Prim.Native.Nat.{ℕ, _+_, _*_, _≤_}
 use Rattle.label.specs.Labels.{predicateOf, unpacked, termsOf}

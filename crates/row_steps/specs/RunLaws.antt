@@ -41,7 +41,6 @@ use Rattle.combine.specs.Paired.{Pairable}
 use Rattle.row_steps.specs.declared.Stepped.{Stepped}
 use Rattle.row_steps.specs.declared.Stepped.the-variants.{Row, Refused}
 use Rattle.row_steps.specs.Running.{Valued, Space, Ready, Two, Gave, Ran}
-use Rattle.row_steps.specs.RunLaws.{row-label, row-leaf, row-kids, row-branch, there-mem, in-room, formed-gave, formed-space, formed-ran, full-ran, ran-bind, ran-stop, gave-old}
 
 -- leaves in their range
 most-part : (b v : ℕ) (d : Diagram) → AtMost b d → isPart (leaf v) d ≡ true → v ≤ b

@@ -7,7 +7,7 @@ use refusal::Refusal;
 use store::Formed;
 use table::Row;
 ghost use mathlib.Core.Path.{_≡_};
-ghost use Prim.Native.Nat.{_-_};
+ghost use Prim.Native.Nat.{_-_, _<_};
 ghost use Rattle.label.specs.Limits.{leafMark};
 ghost use Rattle.diagram.specs.Diagram.{leaf, branch};
 ghost use Rattle.diagram.specs.Rows.{onto};

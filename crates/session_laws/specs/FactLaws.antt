@@ -7,7 +7,7 @@ use native.Mathlib.Omega.{arith}
 use lib.ListN.{length, getD, take, length-append, List·getD-append}
 use lib.Seq.{getD-append-add}
 use lib.Dec.{ltb, leb, eqb}
-use borrow.Author.Tests.{lt-ltb}
+use borrow.Author.Tests.{lt-ltb, not-false}
 use Rattle.basics.specs.Tests.{and-left, and-right, Cmp, below, equal, above, cmp, Flag, isTrue, isFalse, flag}
 use Rattle.refusal.specs.declared.Refusal.the-variants.{Name, Arity, Range, Space}
 use Rattle.words.specs.declared.Key.{Key}
@@ -15,7 +15,6 @@ use Rattle.names.specs.Keys.{isAmong}
 use Rattle.state.specs.Lent.{factWords, factCount, predicateAt, objectsAt, allBelow, namesBelow, isState}
 use Rattle.refusal.specs.Outcome.{ok, Accepted}
 use Rattle.refusal.specs.OutcomeLaws.{accepted-ok, accepted-cond}
-use Rattle.regression.specs.RegressCallLaws.{not-false}
 use Rattle.session.specs.declared.Part.the-variants.{Run}
 use Rattle.session.specs.Session.{Live, Session}
 use Rattle.session.specs.Facts.{mostFacts, factRow, withFact, isFact, factLine, predicateOf, trueLine}

@@ -2,9 +2,9 @@
 use mathlib.Core.Path.{_≡_}
 use mathlib.Core.Bool.{Bool, true, not, _&&_, _||_, cond}
 use mathlib.Core.List.{List}
+use mathlib.Core.Option.{Option, some, none}
 use Prim.Native.Nat.{ℕ, _-_, _≤_, _<_}
 use lib.Dec.{eqb, ltb}
-use mathlib.Core.Option.{Option, some, none}
 use Rattle.refusal.specs.declared.Refusal.the-variants.{Truth, Unbound}
 use Rattle.refusal.specs.Outcome.{Outcome, refused}
 use Rattle.label.specs.Limits.{predicateCount, equality, leafMark}

@@ -3,7 +3,7 @@ use label::Label;
 use label::Term;
 use refusal::Refusal;
 ghost use mathlib.Core.Path.{_≡_};
-ghost use Prim.Native.Nat.{_+_, _*_, _-_, _≤_};
+ghost use Prim.Native.Nat.{_+_, _*_, _-_, _≤_, _<_};
 ghost use lib.ListN.{length, getD, take, drop};
 ghost use Rattle.diagram.specs.Listing.{diagramOf};
 ghost use Rattle.regression.specs.RegressCall.{truthsOf, truthWords, areListings, leafAbove, unboundVariable};

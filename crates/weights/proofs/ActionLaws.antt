@@ -21,12 +21,11 @@ use Rattle.mdp.specs.Model.{Action}
 use Rattle.model.specs.declared.Head.{Head}
 use Rattle.names.specs.Many.{many}
 use Rattle.model.specs.Layout.{actionAt, modelOf}
-use Rattle.planner.specs.declared.Step.{Step}
-use Rattle.planner.specs.declared.Step.the-variants.{Rows, Refused as Stopped}
-use Rattle.planner.specs.Steps.{Given}
-use Rattle.planner.specs.PartLaws.{then-then, then-same}
-use Rattle.planner.proofs.StepLaws.{step-refused, result-long}
-use Rattle.planner.proofs.SumLaws.{many-more, refused-stays}
+use Rattle.steps.specs.declared.Step.{Step}
+use Rattle.steps.specs.declared.Step.the-variants.{Rows, Refused as Stopped}
+use Rattle.steps.specs.Steps.{Given}
+use Rattle.steps.specs.GivenLaws.{then-then, then-same, step-refused, result-long}
+use Rattle.steps.specs.FoldLaws.{many-more, refused-stays}
 use Rattle.session.specs.Modelling.{weightsSum, weighed}
 use Rattle.weights.specs.declared.Weighed.{Weighed}
 use Rattle.weights.specs.declared.Weighed.the-variants.{Done, Refused}

@@ -138,4 +138,6 @@ returns-2 c = going-end (c .before .loop .inv .6) (c .loop-test .left) (c .befor
 pub regress-rows-spec : {M : Type 1} → statement M
 regress-rows-spec =
     tie.close
-    (tie.spec Inv-loop μ-loop loop-holds slice-aggregate-task-at task-at-requires slice-aggregate-regressed-row regressed-row-requires (λ c. search needs) (λ c. search needs) same-length same-length-2 same-length-3 same-length-4 same-length-5 returns cast-numbers mul-numbers array-write-numbers add-k (λ c. search needs) loop-again same-length-6 same-length-7 same-length-8 same-length-9 same-length-10 returns-2)
+    (tie.spec Inv-loop μ-loop loop-holds slice-aggregate-task-at task-at-requires slice-aggregate-regressed-row regressed-row-requires (λ c. search needs) (λ c. search needs)
+    same-length same-length-2 same-length-3 same-length-4 same-length-5 returns cast-numbers mul-numbers array-write-numbers add-k (λ c. search needs) loop-again same-length-6
+    same-length-7 same-length-8 same-length-9 same-length-10 returns-2)

@@ -26,7 +26,6 @@ abbrev exchange-below : ℕ → In 4 exchange-kinds.ps
 exchange-below t =
     and 4 exchange-kinds.ps (falls 4 exchange-kinds.ps _<_ μ-exchange t) exchange.Pre
 
--- src/lib.rt:202:30
 exchange-mul-wide : (t : ℕ) → exchange-lts.Need-mul-wide (
   wide-reads.Asked,
   wide-reads.Learnt,
@@ -41,7 +40,6 @@ exchange-mul-wide : (t : ℕ) → exchange-lts.Need-mul-wide (
 ) (exchange-at t) exchange.Post
 exchange-mul-wide t c = let p = memo-room (c .before .before .before .before .pre .1) in search needs
 
--- src/lib.rt:202:30
 exchange-slice-read-wide : (t : ℕ) → exchange-lts.Need-slice-read-wide (
   wide-reads.Asked,
   wide-reads.Learnt,
@@ -56,7 +54,6 @@ exchange-slice-read-wide : (t : ℕ) → exchange-lts.Need-slice-read-wide (
 ) (exchange-at t) exchange.Post
 exchange-slice-read-wide t c = memo-room (c .before .before .before .before .before .pre .1)
 
--- src/lib.rt:202:9
 exchange-wide-requires : (t : ℕ) → exchange-lts.Need-wide-requires (
   wide-reads.Asked,
   wide-reads.Learnt,
@@ -71,7 +68,6 @@ exchange-wide-requires : (t : ℕ) → exchange-lts.Need-wide-requires (
 ) (exchange-at t) exchange.Post
 exchange-wide-requires t c κs = search needs
 
--- src/lib.rt:204:28
 exchange-sub-t23 : (t : ℕ) → exchange-lts.Need-sub-t23 (
   wide-reads.Asked,
   wide-reads.Learnt,
@@ -86,7 +82,6 @@ exchange-sub-t23 : (t : ℕ) → exchange-lts.Need-sub-t23 (
 ) (exchange-at t) exchange.Post
 exchange-sub-t23 t c = search needs
 
--- src/lib.rt:204:9
 exchange-returns : (t : ℕ) → exchange-lts.Need-returns (
   wide-reads.Asked,
   wide-reads.Learnt,
@@ -101,7 +96,6 @@ exchange-returns : (t : ℕ) → exchange-lts.Need-returns (
 ) (exchange-at t) exchange.Post
 exchange-returns t c = exchange-known (c .before .before .before .before .before .before .before .pre .1) (c .before .wide .ensures) (c .if1 .taken)
 
--- src/lib.rt:206:19
 exchange-mul-l : (t : ℕ) → exchange-lts.Need-mul-l (
   wide-reads.Asked,
   wide-reads.Learnt,
@@ -116,7 +110,6 @@ exchange-mul-l : (t : ℕ) → exchange-lts.Need-mul-l (
 ) (exchange-at t) exchange.Post
 exchange-mul-l t c = let p = row-room (c .before .before .before .before .before .before .before .pre .1) in search needs
 
--- src/lib.rt:206:13
 exchange-mul-l-2 : (t : ℕ) → exchange-lts.Need-mul-l-2 (
   wide-reads.Asked,
   wide-reads.Learnt,
@@ -131,7 +124,6 @@ exchange-mul-l-2 : (t : ℕ) → exchange-lts.Need-mul-l-2 (
 ) (exchange-at t) exchange.Post
 exchange-mul-l-2 t c = let p = row-room (c .before .before .before .before .before .before .before .pre .1) in search needs
 
--- src/lib.rt:206:13
 exchange-slice-read-l : (t : ℕ) → exchange-lts.Need-slice-read-l (
   wide-reads.Asked,
   wide-reads.Learnt,
@@ -146,7 +138,6 @@ exchange-slice-read-l : (t : ℕ) → exchange-lts.Need-slice-read-l (
 ) (exchange-at t) exchange.Post
 exchange-slice-read-l t c = let p = row-room (c .before .before .before .before .before .before .before .before .pre .1) in search needs
 
--- src/lib.rt:207:19
 exchange-mul-t : (t : ℕ) → exchange-lts.Need-mul-t (
   wide-reads.Asked,
   wide-reads.Learnt,
@@ -161,7 +152,6 @@ exchange-mul-t : (t : ℕ) → exchange-lts.Need-mul-t (
 ) (exchange-at t) exchange.Post
 exchange-mul-t t c = let p = row-room (c .before .before .before .before .before .before .before .before .pre .1) in search needs
 
--- src/lib.rt:207:19
 exchange-add-t : (t : ℕ) → exchange-lts.Need-add-t (
   wide-reads.Asked,
   wide-reads.Learnt,
@@ -176,7 +166,6 @@ exchange-add-t : (t : ℕ) → exchange-lts.Need-add-t (
 ) (exchange-at t) exchange.Post
 exchange-add-t t c = let p = row-room (c .before .before .before .before .before .before .before .before .pre .1) in search needs
 
--- src/lib.rt:207:13
 exchange-mul-t-2 : (t : ℕ) → exchange-lts.Need-mul-t-2 (
   wide-reads.Asked,
   wide-reads.Learnt,
@@ -191,7 +180,6 @@ exchange-mul-t-2 : (t : ℕ) → exchange-lts.Need-mul-t-2 (
 ) (exchange-at t) exchange.Post
 exchange-mul-t-2 t c = let p = row-room (c .before .before .before .before .before .before .before .before .pre .1) in search needs
 
--- src/lib.rt:207:13
 exchange-slice-read-t : (t : ℕ) → exchange-lts.Need-slice-read-t (
   wide-reads.Asked,
   wide-reads.Learnt,
@@ -206,7 +194,6 @@ exchange-slice-read-t : (t : ℕ) → exchange-lts.Need-slice-read-t (
 ) (exchange-at t) exchange.Post
 exchange-slice-read-t t c = let p = row-room (c .before .before .before .before .before .before .before .before .before .pre .1) in search needs
 
--- src/lib.rt:208:19
 exchange-mul-f : (t : ℕ) → exchange-lts.Need-mul-f (
   wide-reads.Asked,
   wide-reads.Learnt,
@@ -221,7 +208,6 @@ exchange-mul-f : (t : ℕ) → exchange-lts.Need-mul-f (
 ) (exchange-at t) exchange.Post
 exchange-mul-f t c = let p = row-room (c .before .before .before .before .before .before .before .before .before .pre .1) in search needs
 
--- src/lib.rt:208:19
 exchange-add-f : (t : ℕ) → exchange-lts.Need-add-f (
   wide-reads.Asked,
   wide-reads.Learnt,
@@ -236,7 +222,6 @@ exchange-add-f : (t : ℕ) → exchange-lts.Need-add-f (
 ) (exchange-at t) exchange.Post
 exchange-add-f t c = let p = row-room (c .before .before .before .before .before .before .before .before .before .pre .1) in search needs
 
--- src/lib.rt:208:13
 exchange-mul-f-2 : (t : ℕ) → exchange-lts.Need-mul-f-2 (
   wide-reads.Asked,
   wide-reads.Learnt,
@@ -251,7 +236,6 @@ exchange-mul-f-2 : (t : ℕ) → exchange-lts.Need-mul-f-2 (
 ) (exchange-at t) exchange.Post
 exchange-mul-f-2 t c = let p = row-room (c .before .before .before .before .before .before .before .before .before .pre .1) in search needs
 
--- src/lib.rt:208:13
 exchange-slice-read-f : (t : ℕ) → exchange-lts.Need-slice-read-f (
   wide-reads.Asked,
   wide-reads.Learnt,
@@ -266,7 +250,6 @@ exchange-slice-read-f : (t : ℕ) → exchange-lts.Need-slice-read-f (
 ) (exchange-at t) exchange.Post
 exchange-slice-read-f t c = let p = row-room (c .before .before .before .before .before .before .before .before .before .before .pre .1) in search needs
 
--- src/lib.rt:210:73
 exchange-flipped-requires : (t : ℕ) → exchange-lts.Need-flipped-requires (
   wide-reads.Asked,
   wide-reads.Learnt,
@@ -281,7 +264,6 @@ exchange-flipped-requires : (t : ℕ) → exchange-lts.Need-flipped-requires (
 ) (exchange-at t) exchange.Post
 exchange-flipped-requires t c κs = search needs
 
--- src/lib.rt:210:33
 exchange-leaf-requires : (t : ℕ) → exchange-lts.Need-leaf-requires (
   wide-reads.Asked,
   wide-reads.Learnt,
@@ -296,7 +278,6 @@ exchange-leaf-requires : (t : ℕ) → exchange-lts.Need-leaf-requires (
 ) (exchange-at t) exchange.Post
 exchange-leaf-requires t c κs = c .before .before .before .before .before .before .before .before .before .before .before .before .before .before .before .pre .1 .holds
 
--- src/lib.rt:210:25
 exchange-enum-known-j : (t : ℕ) → exchange-lts.Need-enum-known-j (
   wide-reads.Asked,
   wide-reads.Learnt,
@@ -311,7 +292,6 @@ exchange-enum-known-j : (t : ℕ) → exchange-lts.Need-enum-known-j (
 ) (exchange-at t) exchange.Post
 exchange-enum-known-j t c = search needs
 
--- src/lib.rt:211:13
 exchange-enum-told : (t : ℕ) → exchange-lts.Need-enum-told (
   wide-reads.Asked,
   wide-reads.Learnt,
@@ -326,7 +306,6 @@ exchange-enum-told : (t : ℕ) → exchange-lts.Need-enum-told (
 ) (exchange-at t) exchange.Post
 exchange-enum-told t c = search needs
 
--- src/lib.rt:211:13
 exchange-same-length : (t : ℕ) → exchange-lts.Need-same-length (
   wide-reads.Asked,
   wide-reads.Learnt,
@@ -341,7 +320,6 @@ exchange-same-length : (t : ℕ) → exchange-lts.Need-same-length (
 ) (exchange-at t) exchange.Post
 exchange-same-length t c = c .before .before .before .before .before .before .before .before .leaf .kept .0
 
--- src/lib.rt:211:13
 exchange-same-length-2 : (t : ℕ) → exchange-lts.Need-same-length-2 (
   wide-reads.Asked,
   wide-reads.Learnt,
@@ -356,7 +334,6 @@ exchange-same-length-2 : (t : ℕ) → exchange-lts.Need-same-length-2 (
 ) (exchange-at t) exchange.Post
 exchange-same-length-2 t c = c .before .before .before .before .before .before .before .before .leaf .kept .1 .0
 
--- src/lib.rt:211:13
 exchange-same-length-3 : (t : ℕ) → exchange-lts.Need-same-length-3 (
   wide-reads.Asked,
   wide-reads.Learnt,
@@ -371,7 +348,6 @@ exchange-same-length-3 : (t : ℕ) → exchange-lts.Need-same-length-3 (
 ) (exchange-at t) exchange.Post
 exchange-same-length-3 t c = c .before .before .before .before .before .before .before .before .leaf .kept .1 .1 .0
 
--- src/lib.rt:211:13
 exchange-returns-2 : (t : ℕ) → exchange-lts.Need-returns-2 (
   wide-reads.Asked,
   wide-reads.Learnt,
@@ -384,9 +360,13 @@ exchange-returns-2 : (t : ℕ) → exchange-lts.Need-returns-2 (
   form-reads.Asked,
   form-reads.Learnt,
 ) (exchange-at t) exchange.Post
-exchange-returns-2 t c = exchange-leaf-full (c .before .before .before .before .before .before .before .before .before .before .before .before .before .before .before .before .before .before .before .before .before .before .before .before .pre .1) (c .before .before .before .before .before .before .before .before .before .before .before .before .before .if2 .taken) (c .before .before .before .before .before .before .before .before .before .flipped .ensures) (c .before .before .before .before .before .before .before .before .leaf .ensures) (c .enum-told .given .1)
+exchange-returns-2 t c =
+    let at-leaf = c .before .before .before .before .before .before .before .before in
+    let at-flipped = at-leaf .before in
+    let at-if2 = at-flipped .before .before .before .before in
+    let entry = at-if2 .before .before .before .before .before .before .before .before .before .before .before in
+    exchange-leaf-full (entry .pre .1) (at-if2 .if2 .taken) (at-flipped .flipped .ensures) (at-leaf .leaf .ensures) (c .enum-told .given .1)
 
--- src/lib.rt:213:20
 exchange-add-memo : (t : ℕ) → exchange-lts.Need-add-memo (
   wide-reads.Asked,
   wide-reads.Learnt,
@@ -399,9 +379,13 @@ exchange-add-memo : (t : ℕ) → exchange-lts.Need-add-memo (
   form-reads.Asked,
   form-reads.Learnt,
 ) (exchange-at t) exchange.Post
-exchange-add-memo t c = let p = exchange-leaf-small (c .before .before .before .before .before .before .before .before .before .before .before .before .before .before .before .before .before .before .before .before .before .before .before .before .before .pre .1) (c .before .before .before .before .before .before .before .before .before .before .before .before .before .before .if2 .taken) (c .before .before .before .before .before .before .before .before .before .before .flipped .ensures) (c .before .before .before .before .before .before .before .before .before .leaf .ensures) (c .before .j .given .1) in search needs
+exchange-add-memo t c =
+    let at-leaf = c .before .before .before .before .before .before .before .before .before in
+    let at-flipped = at-leaf .before in
+    let at-if2 = at-flipped .before .before .before .before in
+    let entry = at-if2 .before .before .before .before .before .before .before .before .before .before .before in
+    let p = exchange-leaf-small (entry .pre .1) (at-if2 .if2 .taken) (at-flipped .flipped .ensures) (at-leaf .leaf .ensures) (c .before .j .given .1) in search needs
 
--- src/lib.rt:213:19
 exchange-cast-memo : (t : ℕ) → exchange-lts.Need-cast-memo (
   wide-reads.Asked,
   wide-reads.Learnt,
@@ -414,9 +398,13 @@ exchange-cast-memo : (t : ℕ) → exchange-lts.Need-cast-memo (
   form-reads.Asked,
   form-reads.Learnt,
 ) (exchange-at t) exchange.Post
-exchange-cast-memo t c = let p = exchange-leaf-small (c .before .before .before .before .before .before .before .before .before .before .before .before .before .before .before .before .before .before .before .before .before .before .before .before .before .pre .1) (c .before .before .before .before .before .before .before .before .before .before .before .before .before .before .if2 .taken) (c .before .before .before .before .before .before .before .before .before .before .flipped .ensures) (c .before .before .before .before .before .before .before .before .before .leaf .ensures) (c .before .j .given .1) in search needs
+exchange-cast-memo t c =
+    let at-leaf = c .before .before .before .before .before .before .before .before .before in
+    let at-flipped = at-leaf .before in
+    let at-if2 = at-flipped .before .before .before .before in
+    let entry = at-if2 .before .before .before .before .before .before .before .before .before .before .before in
+    let p = exchange-leaf-small (entry .pre .1) (at-if2 .if2 .taken) (at-flipped .flipped .ensures) (at-leaf .leaf .ensures) (c .before .j .given .1) in search needs
 
--- src/lib.rt:213:9
 exchange-mul-memo : (t : ℕ) → exchange-lts.Need-mul-memo (
   wide-reads.Asked,
   wide-reads.Learnt,
@@ -429,9 +417,11 @@ exchange-mul-memo : (t : ℕ) → exchange-lts.Need-mul-memo (
   form-reads.Asked,
   form-reads.Learnt,
 ) (exchange-at t) exchange.Post
-exchange-mul-memo t c = let p = memo-room (c .before .before .before .before .before .before .before .before .before .before .before .before .before .before .before .before .before .before .before .before .before .before .before .before .before .pre .1) in search needs
+exchange-mul-memo t c =
+    let entry = c .before .before .before .before .before .before .before .before .before .before .before .before .before .before .before .before .before .before .before .before
+    .before .before .before .before .before in
+    let p = memo-room (entry .pre .1) in search needs
 
--- src/lib.rt:213:9
 exchange-slice-write-memo : (t : ℕ) → exchange-lts.Need-slice-write-memo (
   wide-reads.Asked,
   wide-reads.Learnt,
@@ -444,9 +434,11 @@ exchange-slice-write-memo : (t : ℕ) → exchange-lts.Need-slice-write-memo (
   form-reads.Asked,
   form-reads.Learnt,
 ) (exchange-at t) exchange.Post
-exchange-slice-write-memo t c = memo-room (c .before .before .before .before .before .before .before .before .before .before .before .before .before .before .before .before .before .before .before .before .before .before .before .before .before .pre .1)
+exchange-slice-write-memo t c =
+    let entry = c .before .before .before .before .before .before .before .before .before .before .before .before .before .before .before .before .before .before .before .before
+    .before .before .before .before .before in
+    memo-room (entry .pre .1)
 
--- src/lib.rt:214:9
 exchange-same-length-4 : (t : ℕ) → exchange-lts.Need-same-length-4 (
   wide-reads.Asked,
   wide-reads.Learnt,
@@ -461,7 +453,6 @@ exchange-same-length-4 : (t : ℕ) → exchange-lts.Need-same-length-4 (
 ) (exchange-at t) exchange.Post
 exchange-same-length-4 t c = c .before .before .before .before .before .before .before .before .before .leaf .kept .0
 
--- src/lib.rt:214:9
 exchange-same-length-5 : (t : ℕ) → exchange-lts.Need-same-length-5 (
   wide-reads.Asked,
   wide-reads.Learnt,
@@ -476,7 +467,6 @@ exchange-same-length-5 : (t : ℕ) → exchange-lts.Need-same-length-5 (
 ) (exchange-at t) exchange.Post
 exchange-same-length-5 t c = c .before .before .before .before .before .before .before .before .before .leaf .kept .1 .0
 
--- src/lib.rt:214:9
 exchange-same-length-6 : (t : ℕ) → exchange-lts.Need-same-length-6 (
   wide-reads.Asked,
   wide-reads.Learnt,
@@ -491,7 +481,6 @@ exchange-same-length-6 : (t : ℕ) → exchange-lts.Need-same-length-6 (
 ) (exchange-at t) exchange.Post
 exchange-same-length-6 t c = c .before .before .before .before .before .before .before .before .before .leaf .kept .1 .1 .0
 
--- src/lib.rt:214:9
 exchange-same-length-7 : (t : ℕ) → exchange-lts.Need-same-length-7 (
   wide-reads.Asked,
   wide-reads.Learnt,
@@ -506,7 +495,6 @@ exchange-same-length-7 : (t : ℕ) → exchange-lts.Need-same-length-7 (
 ) (exchange-at t) exchange.Post
 exchange-same-length-7 t c = search needs
 
--- src/lib.rt:214:9
 exchange-returns-3 : (t : ℕ) → exchange-lts.Need-returns-3 (
   wide-reads.Asked,
   wide-reads.Learnt,
@@ -519,9 +507,13 @@ exchange-returns-3 : (t : ℕ) → exchange-lts.Need-returns-3 (
   form-reads.Asked,
   form-reads.Learnt,
 ) (exchange-at t) exchange.Post
-exchange-returns-3 t c = exchange-leaf (c .before .before .before .before .before .before .before .before .before .before .before .before .before .before .before .before .before .before .before .before .before .before .before .before .before .pre .1) (c .before .before .before .before .before .before .before .before .before .before .before .before .before .before .if2 .taken) (c .before .before .before .before .before .before .before .before .before .before .flipped .ensures) (c .before .before .before .before .before .before .before .before .before .leaf .ensures) (c .before .j .given .1)
+exchange-returns-3 t c =
+    let at-leaf = c .before .before .before .before .before .before .before .before .before in
+    let at-flipped = at-leaf .before in
+    let at-if2 = at-flipped .before .before .before .before in
+    let entry = at-if2 .before .before .before .before .before .before .before .before .before .before .before in
+    exchange-leaf (entry .pre .1) (at-if2 .if2 .taken) (at-flipped .flipped .ensures) (at-leaf .leaf .ensures) (c .before .j .given .1)
 
--- src/lib.rt:216:32
 exchange-exchange-requires : (t : ℕ) → exchange-lts.Need-exchange-requires (
   wide-reads.Asked,
   wide-reads.Learnt,
@@ -534,9 +526,11 @@ exchange-exchange-requires : (t : ℕ) → exchange-lts.Need-exchange-requires (
   form-reads.Asked,
   form-reads.Learnt,
 ) (exchange-at t) exchange.Post
-exchange-exchange-requires t c κs = let h = c .before .before .before .before .before .before .before .before .before .before .before .before .before .before .before .pre in (omega (arith, h .0, exchange-less (h .1) (c .before .before .before .before .if2 .left)), exchange-high (h .1) (c .before .before .before .before .if2 .left))
+exchange-exchange-requires t c κs =
+    let at-if2 = c .before .before .before .before in
+    let entry = at-if2 .before .before .before .before .before .before .before .before .before .before .before in
+    let h = entry .pre in (omega (arith, h .0, exchange-less (h .1) (at-if2 .if2 .left)), exchange-high (h .1) (at-if2 .if2 .left))
 
--- src/lib.rt:216:21
 exchange-enum-known-high : (t : ℕ) → exchange-lts.Need-enum-known-high (
   wide-reads.Asked,
   wide-reads.Learnt,
@@ -551,7 +545,6 @@ exchange-enum-known-high : (t : ℕ) → exchange-lts.Need-enum-known-high (
 ) (exchange-at t) exchange.Post
 exchange-enum-known-high t c = search needs
 
--- src/lib.rt:217:9
 exchange-enum-told-2 : (t : ℕ) → exchange-lts.Need-enum-told-2 (
   wide-reads.Asked,
   wide-reads.Learnt,
@@ -566,7 +559,6 @@ exchange-enum-told-2 : (t : ℕ) → exchange-lts.Need-enum-told-2 (
 ) (exchange-at t) exchange.Post
 exchange-enum-told-2 t c = search needs
 
--- src/lib.rt:217:9
 exchange-same-length-8 : (t : ℕ) → exchange-lts.Need-same-length-8 (
   wide-reads.Asked,
   wide-reads.Learnt,
@@ -581,7 +573,6 @@ exchange-same-length-8 : (t : ℕ) → exchange-lts.Need-same-length-8 (
 ) (exchange-at t) exchange.Post
 exchange-same-length-8 t c = c .before .before .before .before .before .before .before .before .before .before .exchange .kept .0
 
--- src/lib.rt:217:9
 exchange-same-length-9 : (t : ℕ) → exchange-lts.Need-same-length-9 (
   wide-reads.Asked,
   wide-reads.Learnt,
@@ -596,7 +587,6 @@ exchange-same-length-9 : (t : ℕ) → exchange-lts.Need-same-length-9 (
 ) (exchange-at t) exchange.Post
 exchange-same-length-9 t c = c .before .before .before .before .before .before .before .before .before .before .exchange .kept .1 .0
 
--- src/lib.rt:217:9
 exchange-same-length-10 : (t : ℕ) → exchange-lts.Need-same-length-10 (
   wide-reads.Asked,
   wide-reads.Learnt,
@@ -611,7 +601,6 @@ exchange-same-length-10 : (t : ℕ) → exchange-lts.Need-same-length-10 (
 ) (exchange-at t) exchange.Post
 exchange-same-length-10 t c = c .before .before .before .before .before .before .before .before .before .before .exchange .kept .1 .1 .0
 
--- src/lib.rt:217:9
 exchange-same-length-11 : (t : ℕ) → exchange-lts.Need-same-length-11 (
   wide-reads.Asked,
   wide-reads.Learnt,
@@ -626,7 +615,6 @@ exchange-same-length-11 : (t : ℕ) → exchange-lts.Need-same-length-11 (
 ) (exchange-at t) exchange.Post
 exchange-same-length-11 t c = c .before .before .before .before .before .before .before .before .before .before .exchange .kept .1 .1 .1 .0
 
--- src/lib.rt:217:9
 exchange-returns-4 : (t : ℕ) → exchange-lts.Need-returns-4 (
   wide-reads.Asked,
   wide-reads.Learnt,
@@ -639,9 +627,12 @@ exchange-returns-4 : (t : ℕ) → exchange-lts.Need-returns-4 (
   form-reads.Asked,
   form-reads.Learnt,
 ) (exchange-at t) exchange.Post
-exchange-returns-4 t c = exchange-high-full (c .before .before .before .before .before .before .before .before .before .before .before .before .before .before .before .before .before .before .before .before .before .before .before .before .before .before .pre .1) (c .before .before .before .before .before .before .before .before .before .before .before .before .before .before .before .if2 .left) (c .before .before .before .before .before .before .before .before .before .before .exchange .ensures) (c .enum-told2 .given .1)
+exchange-returns-4 t c =
+    let at-exchange = c .before .before .before .before .before .before .before .before .before .before in
+    let at-if2 = at-exchange .before .before .before .before .before in
+    let entry = at-if2 .before .before .before .before .before .before .before .before .before .before .before in
+    exchange-high-full (entry .pre .1) (at-if2 .if2 .left) (at-exchange .exchange .ensures) (c .enum-told2 .given .1)
 
--- src/lib.rt:219:31
 exchange-exchange-requires-2 : (t : ℕ) → exchange-lts.Need-exchange-requires-2 (
   wide-reads.Asked,
   wide-reads.Learnt,
@@ -654,9 +645,14 @@ exchange-exchange-requires-2 : (t : ℕ) → exchange-lts.Need-exchange-requires
   form-reads.Asked,
   form-reads.Learnt,
 ) (exchange-at t) exchange.Post
-exchange-exchange-requires-2 t c κs = let h = c .before .before .before .before .before .before .before .before .before .before .before .before .before .before .before .before .before .before .before .before .before .before .before .before .before .before .before .before .before .before .before .pre in (omega (arith, h .0, exchange-less-2 (h .1) (c .before .before .before .before .before .before .before .before .before .before .before .before .before .before .before .before .before .before .before .before .if2 .left)), exchange-low (h .1) (c .before .before .before .before .before .before .before .before .before .before .before .before .before .before .before .before .before .before .before .before .if2 .left) (c .before .before .before .before .before .before .before .before .before .before .before .before .before .before .before .exchange .ensures) (c .before .before .before .before .before .high .given .1))
+exchange-exchange-requires-2 t c κs =
+    let at-high = c .before .before .before .before .before in
+    let at-exchange = at-high .before .before .before .before .before .before .before .before .before .before in
+    let at-if2 = at-exchange .before .before .before .before .before in
+    let entry = at-if2 .before .before .before .before .before .before .before .before .before .before .before in
+    let h = entry .pre in
+    (omega (arith, h .0, exchange-less-2 (h .1) (at-if2 .if2 .left)), exchange-low (h .1) (at-if2 .if2 .left) (at-exchange .exchange .ensures) (at-high .high .given .1))
 
--- src/lib.rt:219:21
 exchange-enum-known-low : (t : ℕ) → exchange-lts.Need-enum-known-low (
   wide-reads.Asked,
   wide-reads.Learnt,
@@ -671,7 +667,6 @@ exchange-enum-known-low : (t : ℕ) → exchange-lts.Need-enum-known-low (
 ) (exchange-at t) exchange.Post
 exchange-enum-known-low t c = search needs
 
--- src/lib.rt:220:9
 exchange-enum-told-3 : (t : ℕ) → exchange-lts.Need-enum-told-3 (
   wide-reads.Asked,
   wide-reads.Learnt,
@@ -686,7 +681,6 @@ exchange-enum-told-3 : (t : ℕ) → exchange-lts.Need-enum-told-3 (
 ) (exchange-at t) exchange.Post
 exchange-enum-told-3 t c = search needs
 
--- src/lib.rt:220:9
 exchange-same-length-12 : (t : ℕ) → exchange-lts.Need-same-length-12 (
   wide-reads.Asked,
   wide-reads.Learnt,
@@ -699,9 +693,11 @@ exchange-same-length-12 : (t : ℕ) → exchange-lts.Need-same-length-12 (
   form-reads.Asked,
   form-reads.Learnt,
 ) (exchange-at t) exchange.Post
-exchange-same-length-12 t c = c .before .before .before .before .before .before .before .before .before .before .exchange2 .kept .0 ∙ c .before .before .before .before .before .before .before .before .before .before .before .before .before .before .before .before .before .before .before .before .before .before .before .before .before .before .exchange .kept .0
+exchange-same-length-12 t c =
+    let at-exchange2 = c .before .before .before .before .before .before .before .before .before .before in
+    let at-exchange = at-exchange2 .before .before .before .before .before .before .before .before .before .before .before .before .before .before .before .before in
+    at-exchange2 .exchange2 .kept .0 ∙ at-exchange .exchange .kept .0
 
--- src/lib.rt:220:9
 exchange-same-length-13 : (t : ℕ) → exchange-lts.Need-same-length-13 (
   wide-reads.Asked,
   wide-reads.Learnt,
@@ -714,9 +710,11 @@ exchange-same-length-13 : (t : ℕ) → exchange-lts.Need-same-length-13 (
   form-reads.Asked,
   form-reads.Learnt,
 ) (exchange-at t) exchange.Post
-exchange-same-length-13 t c = c .before .before .before .before .before .before .before .before .before .before .exchange2 .kept .1 .0 ∙ c .before .before .before .before .before .before .before .before .before .before .before .before .before .before .before .before .before .before .before .before .before .before .before .before .before .before .exchange .kept .1 .0
+exchange-same-length-13 t c =
+    let at-exchange2 = c .before .before .before .before .before .before .before .before .before .before in
+    let at-exchange = at-exchange2 .before .before .before .before .before .before .before .before .before .before .before .before .before .before .before .before in
+    at-exchange2 .exchange2 .kept .1 .0 ∙ at-exchange .exchange .kept .1 .0
 
--- src/lib.rt:220:9
 exchange-same-length-14 : (t : ℕ) → exchange-lts.Need-same-length-14 (
   wide-reads.Asked,
   wide-reads.Learnt,
@@ -729,9 +727,11 @@ exchange-same-length-14 : (t : ℕ) → exchange-lts.Need-same-length-14 (
   form-reads.Asked,
   form-reads.Learnt,
 ) (exchange-at t) exchange.Post
-exchange-same-length-14 t c = c .before .before .before .before .before .before .before .before .before .before .exchange2 .kept .1 .1 .0 ∙ c .before .before .before .before .before .before .before .before .before .before .before .before .before .before .before .before .before .before .before .before .before .before .before .before .before .before .exchange .kept .1 .1 .0
+exchange-same-length-14 t c =
+    let at-exchange2 = c .before .before .before .before .before .before .before .before .before .before in
+    let at-exchange = at-exchange2 .before .before .before .before .before .before .before .before .before .before .before .before .before .before .before .before in
+    at-exchange2 .exchange2 .kept .1 .1 .0 ∙ at-exchange .exchange .kept .1 .1 .0
 
--- src/lib.rt:220:9
 exchange-same-length-15 : (t : ℕ) → exchange-lts.Need-same-length-15 (
   wide-reads.Asked,
   wide-reads.Learnt,
@@ -744,9 +744,11 @@ exchange-same-length-15 : (t : ℕ) → exchange-lts.Need-same-length-15 (
   form-reads.Asked,
   form-reads.Learnt,
 ) (exchange-at t) exchange.Post
-exchange-same-length-15 t c = c .before .before .before .before .before .before .before .before .before .before .exchange2 .kept .1 .1 .1 .0 ∙ c .before .before .before .before .before .before .before .before .before .before .before .before .before .before .before .before .before .before .before .before .before .before .before .before .before .before .exchange .kept .1 .1 .1 .0
+exchange-same-length-15 t c =
+    let at-exchange2 = c .before .before .before .before .before .before .before .before .before .before in
+    let at-exchange = at-exchange2 .before .before .before .before .before .before .before .before .before .before .before .before .before .before .before .before in
+    at-exchange2 .exchange2 .kept .1 .1 .1 .0 ∙ at-exchange .exchange .kept .1 .1 .1 .0
 
--- src/lib.rt:220:9
 exchange-returns-5 : (t : ℕ) → exchange-lts.Need-returns-5 (
   wide-reads.Asked,
   wide-reads.Learnt,
@@ -759,9 +761,14 @@ exchange-returns-5 : (t : ℕ) → exchange-lts.Need-returns-5 (
   form-reads.Asked,
   form-reads.Learnt,
 ) (exchange-at t) exchange.Post
-exchange-returns-5 t c = exchange-low-full (c .before .before .before .before .before .before .before .before .before .before .before .before .before .before .before .before .before .before .before .before .before .before .before .before .before .before .before .before .before .before .before .before .before .before .before .before .before .before .before .before .before .before .pre .1) (c .before .before .before .before .before .before .before .before .before .before .before .before .before .before .before .before .before .before .before .before .before .before .before .before .before .before .before .before .before .before .before .if2 .left) (c .before .before .before .before .before .before .before .before .before .before .before .before .before .before .before .before .before .before .before .before .before .before .before .before .before .before .exchange .ensures) (c .before .before .before .before .before .before .before .before .before .before .before .before .before .before .before .before .high .given .1) (c .before .before .before .before .before .before .before .before .before .before .exchange2 .ensures) (c .enum-told3 .given .1)
+exchange-returns-5 t c =
+    let at-exchange2 = c .before .before .before .before .before .before .before .before .before .before in
+    let at-high = at-exchange2 .before .before .before .before .before .before in
+    let at-exchange = at-high .before .before .before .before .before .before .before .before .before .before in
+    let at-if2 = at-exchange .before .before .before .before .before in
+    let entry = at-if2 .before .before .before .before .before .before .before .before .before .before .before in
+    exchange-low-full (entry .pre .1) (at-if2 .if2 .left) (at-exchange .exchange .ensures) (at-high .high .given .1) (at-exchange2 .exchange2 .ensures) (c .enum-told3 .given .1)
 
--- src/lib.rt:222:29
 exchange-form-requires : (t : ℕ) → exchange-lts.Need-form-requires (
   wide-reads.Asked,
   wide-reads.Learnt,
@@ -774,9 +781,17 @@ exchange-form-requires : (t : ℕ) → exchange-lts.Need-form-requires (
   form-reads.Asked,
   form-reads.Learnt,
 ) (exchange-at t) exchange.Post
-exchange-form-requires t c κs = (exchange-holds (c .before .before .before .before .before .before .before .before .before .before .before .before .before .before .before .before .before .before .before .before .before .before .before .before .before .before .before .before .before .before .before .before .before .before .before .before .before .before .before .before .before .before .before .before .before .before .pre .1) (c .before .before .before .before .before .before .before .before .before .before .before .before .before .before .before .before .before .before .before .before .before .before .before .before .before .before .before .before .before .before .before .before .before .before .before .if2 .left) (c .before .before .before .before .before .before .before .before .before .before .before .before .before .before .before .before .before .before .before .before .before .before .before .before .before .before .before .before .before .before .exchange .ensures) (c .before .before .before .before .before .before .before .before .before .before .before .before .before .before .before .before .before .before .before .before .high .given .1) (c .before .before .before .before .before .before .before .before .before .before .before .before .before .before .exchange2 .ensures) (c .before .before .before .before .low .given .1), exchange-formable (c .before .before .before .before .before .before .before .before .before .before .before .before .before .before .before .before .before .before .before .before .before .before .before .before .before .before .before .before .before .before .before .before .before .before .before .before .before .before .before .before .before .before .before .before .before .before .pre .1) (c .before .before .before .before .before .before .before .before .before .before .before .before .before .before .before .before .before .before .before .before .before .before .before .before .before .before .before .before .before .before .before .before .before .before .before .if2 .left) (c .before .before .before .before .before .before .before .before .before .before .before .before .before .before .before .before .before .before .before .before .before .before .before .before .before .before .before .before .before .before .exchange .ensures) (c .before .before .before .before .before .before .before .before .before .before .before .before .before .before .before .before .before .before .before .before .high .given .1) (c .before .before .before .before .before .before .before .before .before .before .before .before .before .before .exchange2 .ensures) (c .before .before .before .before .low .given .1))
+exchange-form-requires t c κs =
+    let at-low = c .before .before .before .before in
+    let at-exchange2 = at-low .before .before .before .before .before .before .before .before .before .before in
+    let at-high = at-exchange2 .before .before .before .before .before .before in
+    let at-exchange = at-high .before .before .before .before .before .before .before .before .before .before in
+    let at-if2 = at-exchange .before .before .before .before .before in
+    let entry = at-if2 .before .before .before .before .before .before .before .before .before .before .before in (
+      exchange-holds (entry .pre .1) (at-if2 .if2 .left) (at-exchange .exchange .ensures) (at-high .high .given .1) (at-exchange2 .exchange2 .ensures) (at-low .low .given .1),
+      exchange-formable (entry .pre .1) (at-if2 .if2 .left) (at-exchange .exchange .ensures) (at-high .high .given .1) (at-exchange2 .exchange2 .ensures) (at-low .low .given .1),
+    )
 
--- src/lib.rt:222:21
 exchange-enum-known-j-2 : (t : ℕ) → exchange-lts.Need-enum-known-j-2 (
   wide-reads.Asked,
   wide-reads.Learnt,
@@ -791,7 +806,6 @@ exchange-enum-known-j-2 : (t : ℕ) → exchange-lts.Need-enum-known-j-2 (
 ) (exchange-at t) exchange.Post
 exchange-enum-known-j-2 t c = search needs
 
--- src/lib.rt:233:9
 exchange-enum-told-4 : (t : ℕ) → exchange-lts.Need-enum-told-4 (
   wide-reads.Asked,
   wide-reads.Learnt,
@@ -806,7 +820,6 @@ exchange-enum-told-4 : (t : ℕ) → exchange-lts.Need-enum-told-4 (
 ) (exchange-at t) exchange.Post
 exchange-enum-told-4 t c = search needs
 
--- src/lib.rt:233:9
 exchange-same-length-16 : (t : ℕ) → exchange-lts.Need-same-length-16 (
   wide-reads.Asked,
   wide-reads.Learnt,
@@ -819,9 +832,12 @@ exchange-same-length-16 : (t : ℕ) → exchange-lts.Need-same-length-16 (
   form-reads.Asked,
   form-reads.Learnt,
 ) (exchange-at t) exchange.Post
-exchange-same-length-16 t c = c .before .before .before .before .before .before .before .before .form .kept .0 ∙ c .before .before .before .before .before .before .before .before .before .before .before .before .before .before .before .before .before .before .before .before .before .before .before .exchange2 .kept .0 ∙ c .before .before .before .before .before .before .before .before .before .before .before .before .before .before .before .before .before .before .before .before .before .before .before .before .before .before .before .before .before .before .before .before .before .before .before .before .before .before .before .exchange .kept .0
+exchange-same-length-16 t c =
+    let at-form = c .before .before .before .before .before .before .before .before in
+    let at-exchange2 = at-form .before .before .before .before .before .before .before .before .before .before .before .before .before .before .before in
+    let at-exchange = at-exchange2 .before .before .before .before .before .before .before .before .before .before .before .before .before .before .before .before in
+    at-form .form .kept .0 ∙ at-exchange2 .exchange2 .kept .0 ∙ at-exchange .exchange .kept .0
 
--- src/lib.rt:233:9
 exchange-same-length-17 : (t : ℕ) → exchange-lts.Need-same-length-17 (
   wide-reads.Asked,
   wide-reads.Learnt,
@@ -834,9 +850,12 @@ exchange-same-length-17 : (t : ℕ) → exchange-lts.Need-same-length-17 (
   form-reads.Asked,
   form-reads.Learnt,
 ) (exchange-at t) exchange.Post
-exchange-same-length-17 t c = c .before .before .before .before .before .before .before .before .form .kept .1 .0 ∙ c .before .before .before .before .before .before .before .before .before .before .before .before .before .before .before .before .before .before .before .before .before .before .before .exchange2 .kept .1 .0 ∙ c .before .before .before .before .before .before .before .before .before .before .before .before .before .before .before .before .before .before .before .before .before .before .before .before .before .before .before .before .before .before .before .before .before .before .before .before .before .before .before .exchange .kept .1 .0
+exchange-same-length-17 t c =
+    let at-form = c .before .before .before .before .before .before .before .before in
+    let at-exchange2 = at-form .before .before .before .before .before .before .before .before .before .before .before .before .before .before .before in
+    let at-exchange = at-exchange2 .before .before .before .before .before .before .before .before .before .before .before .before .before .before .before .before in
+    at-form .form .kept .1 .0 ∙ at-exchange2 .exchange2 .kept .1 .0 ∙ at-exchange .exchange .kept .1 .0
 
--- src/lib.rt:233:9
 exchange-same-length-18 : (t : ℕ) → exchange-lts.Need-same-length-18 (
   wide-reads.Asked,
   wide-reads.Learnt,
@@ -849,9 +868,12 @@ exchange-same-length-18 : (t : ℕ) → exchange-lts.Need-same-length-18 (
   form-reads.Asked,
   form-reads.Learnt,
 ) (exchange-at t) exchange.Post
-exchange-same-length-18 t c = c .before .before .before .before .before .before .before .before .form .kept .1 .1 .0 ∙ c .before .before .before .before .before .before .before .before .before .before .before .before .before .before .before .before .before .before .before .before .before .before .before .exchange2 .kept .1 .1 .0 ∙ c .before .before .before .before .before .before .before .before .before .before .before .before .before .before .before .before .before .before .before .before .before .before .before .before .before .before .before .before .before .before .before .before .before .before .before .before .before .before .before .exchange .kept .1 .1 .0
+exchange-same-length-18 t c =
+    let at-form = c .before .before .before .before .before .before .before .before in
+    let at-exchange2 = at-form .before .before .before .before .before .before .before .before .before .before .before .before .before .before .before in
+    let at-exchange = at-exchange2 .before .before .before .before .before .before .before .before .before .before .before .before .before .before .before .before in
+    at-form .form .kept .1 .1 .0 ∙ at-exchange2 .exchange2 .kept .1 .1 .0 ∙ at-exchange .exchange .kept .1 .1 .0
 
--- src/lib.rt:233:9
 exchange-same-length-19 : (t : ℕ) → exchange-lts.Need-same-length-19 (
   wide-reads.Asked,
   wide-reads.Learnt,
@@ -864,9 +886,12 @@ exchange-same-length-19 : (t : ℕ) → exchange-lts.Need-same-length-19 (
   form-reads.Asked,
   form-reads.Learnt,
 ) (exchange-at t) exchange.Post
-exchange-same-length-19 t c = c .before .before .before .before .before .before .before .before .before .before .before .before .before .before .before .before .before .before .before .before .before .before .before .exchange2 .kept .1 .1 .1 .0 ∙ c .before .before .before .before .before .before .before .before .before .before .before .before .before .before .before .before .before .before .before .before .before .before .before .before .before .before .before .before .before .before .before .before .before .before .before .before .before .before .before .exchange .kept .1 .1 .1 .0
+exchange-same-length-19 t c =
+    let at-exchange2 = c .before .before .before .before .before .before .before .before .before .before .before .before .before .before .before .before .before .before .before
+    .before .before .before .before in
+    let at-exchange = at-exchange2 .before .before .before .before .before .before .before .before .before .before .before .before .before .before .before .before in
+    at-exchange2 .exchange2 .kept .1 .1 .1 .0 ∙ at-exchange .exchange .kept .1 .1 .1 .0
 
--- src/lib.rt:233:9
 exchange-returns-6 : (t : ℕ) → exchange-lts.Need-returns-6 (
   wide-reads.Asked,
   wide-reads.Learnt,
@@ -879,9 +904,17 @@ exchange-returns-6 : (t : ℕ) → exchange-lts.Need-returns-6 (
   form-reads.Asked,
   form-reads.Learnt,
 ) (exchange-at t) exchange.Post
-exchange-returns-6 t c = exchange-branch-full (c .before .before .before .before .before .before .before .before .before .before .before .before .before .before .before .before .before .before .before .before .before .before .before .before .before .before .before .before .before .before .before .before .before .before .before .before .before .before .before .before .before .before .before .before .before .before .before .before .before .before .before .before .before .before .before .pre .1) (c .before .before .before .before .before .before .before .before .before .before .before .before .before .before .before .before .before .before .before .before .before .before .before .before .before .before .before .before .before .before .before .before .before .before .before .before .before .before .before .before .before .before .before .before .if2 .left) (c .before .before .before .before .before .before .before .before .before .before .before .before .before .before .before .before .before .before .before .before .before .before .before .before .before .before .before .before .before .before .before .before .before .before .before .before .before .before .before .exchange .ensures) (c .before .before .before .before .before .before .before .before .before .before .before .before .before .before .before .before .before .before .before .before .before .before .before .before .before .before .before .before .before .high .given .1) (c .before .before .before .before .before .before .before .before .before .before .before .before .before .before .before .before .before .before .before .before .before .before .before .exchange2 .ensures) (c .before .before .before .before .before .before .before .before .before .before .before .before .before .low .given .1) (c .before .before .before .before .before .before .before .before .form .ensures) (c .enum-told4 .given .1)
+exchange-returns-6 t c =
+    let at-form = c .before .before .before .before .before .before .before .before in
+    let at-low = at-form .before .before .before .before .before in
+    let at-exchange2 = at-low .before .before .before .before .before .before .before .before .before .before in
+    let at-high = at-exchange2 .before .before .before .before .before .before in
+    let at-exchange = at-high .before .before .before .before .before .before .before .before .before .before in
+    let at-if2 = at-exchange .before .before .before .before .before in
+    let entry = at-if2 .before .before .before .before .before .before .before .before .before .before .before in
+    exchange-branch-full (entry .pre .1) (at-if2 .if2 .left) (at-exchange .exchange .ensures) (at-high .high .given .1) (at-exchange2 .exchange2 .ensures) (at-low .low .given .1)
+    (at-form .form .ensures) (c .enum-told4 .given .1)
 
--- src/lib.rt:235:16
 exchange-add-memo-2 : (t : ℕ) → exchange-lts.Need-add-memo-2 (
   wide-reads.Asked,
   wide-reads.Learnt,
@@ -894,9 +927,18 @@ exchange-add-memo-2 : (t : ℕ) → exchange-lts.Need-add-memo-2 (
   form-reads.Asked,
   form-reads.Learnt,
 ) (exchange-at t) exchange.Post
-exchange-add-memo-2 t c = let p = exchange-branch-small (c .before .before .before .before .before .before .before .before .before .before .before .before .before .before .before .before .before .before .before .before .before .before .before .before .before .before .before .before .before .before .before .before .before .before .before .before .before .before .before .before .before .before .before .before .before .before .before .before .before .before .before .before .before .before .before .before .pre .1) (c .before .before .before .before .before .before .before .before .before .before .before .before .before .before .before .before .before .before .before .before .before .before .before .before .before .before .before .before .before .before .before .before .before .before .before .before .before .before .before .before .before .before .before .before .before .if2 .left) (c .before .before .before .before .before .before .before .before .before .before .before .before .before .before .before .before .before .before .before .before .before .before .before .before .before .before .before .before .before .before .before .before .before .before .before .before .before .before .before .before .exchange .ensures) (c .before .before .before .before .before .before .before .before .before .before .before .before .before .before .before .before .before .before .before .before .before .before .before .before .before .before .before .before .before .before .high .given .1) (c .before .before .before .before .before .before .before .before .before .before .before .before .before .before .before .before .before .before .before .before .before .before .before .before .exchange2 .ensures) (c .before .before .before .before .before .before .before .before .before .before .before .before .before .before .low .given .1) (c .before .before .before .before .before .before .before .before .before .form .ensures) (c .before .j2 .given .1) in search needs
+exchange-add-memo-2 t c =
+    let at-form = c .before .before .before .before .before .before .before .before .before in
+    let at-low = at-form .before .before .before .before .before in
+    let at-exchange2 = at-low .before .before .before .before .before .before .before .before .before .before in
+    let at-high = at-exchange2 .before .before .before .before .before .before in
+    let at-exchange = at-high .before .before .before .before .before .before .before .before .before .before in
+    let at-if2 = at-exchange .before .before .before .before .before in
+    let entry = at-if2 .before .before .before .before .before .before .before .before .before .before .before in
+    let p = exchange-branch-small (entry .pre .1) (at-if2 .if2 .left) (at-exchange .exchange .ensures) (at-high .high .given .1) (at-exchange2 .exchange2 .ensures)
+    (at-low .low .given .1) (at-form .form .ensures) (c .before .j2 .given .1) in
+    search needs
 
--- src/lib.rt:235:15
 exchange-cast-memo-2 : (t : ℕ) → exchange-lts.Need-cast-memo-2 (
   wide-reads.Asked,
   wide-reads.Learnt,
@@ -909,9 +951,18 @@ exchange-cast-memo-2 : (t : ℕ) → exchange-lts.Need-cast-memo-2 (
   form-reads.Asked,
   form-reads.Learnt,
 ) (exchange-at t) exchange.Post
-exchange-cast-memo-2 t c = let p = exchange-branch-small (c .before .before .before .before .before .before .before .before .before .before .before .before .before .before .before .before .before .before .before .before .before .before .before .before .before .before .before .before .before .before .before .before .before .before .before .before .before .before .before .before .before .before .before .before .before .before .before .before .before .before .before .before .before .before .before .before .pre .1) (c .before .before .before .before .before .before .before .before .before .before .before .before .before .before .before .before .before .before .before .before .before .before .before .before .before .before .before .before .before .before .before .before .before .before .before .before .before .before .before .before .before .before .before .before .before .if2 .left) (c .before .before .before .before .before .before .before .before .before .before .before .before .before .before .before .before .before .before .before .before .before .before .before .before .before .before .before .before .before .before .before .before .before .before .before .before .before .before .before .before .exchange .ensures) (c .before .before .before .before .before .before .before .before .before .before .before .before .before .before .before .before .before .before .before .before .before .before .before .before .before .before .before .before .before .before .high .given .1) (c .before .before .before .before .before .before .before .before .before .before .before .before .before .before .before .before .before .before .before .before .before .before .before .before .exchange2 .ensures) (c .before .before .before .before .before .before .before .before .before .before .before .before .before .before .low .given .1) (c .before .before .before .before .before .before .before .before .before .form .ensures) (c .before .j2 .given .1) in search needs
+exchange-cast-memo-2 t c =
+    let at-form = c .before .before .before .before .before .before .before .before .before in
+    let at-low = at-form .before .before .before .before .before in
+    let at-exchange2 = at-low .before .before .before .before .before .before .before .before .before .before in
+    let at-high = at-exchange2 .before .before .before .before .before .before in
+    let at-exchange = at-high .before .before .before .before .before .before .before .before .before .before in
+    let at-if2 = at-exchange .before .before .before .before .before in
+    let entry = at-if2 .before .before .before .before .before .before .before .before .before .before .before in
+    let p = exchange-branch-small (entry .pre .1) (at-if2 .if2 .left) (at-exchange .exchange .ensures) (at-high .high .given .1) (at-exchange2 .exchange2 .ensures)
+    (at-low .low .given .1) (at-form .form .ensures) (c .before .j2 .given .1) in
+    search needs
 
--- src/lib.rt:235:5
 exchange-mul-memo-2 : (t : ℕ) → exchange-lts.Need-mul-memo-2 (
   wide-reads.Asked,
   wide-reads.Learnt,
@@ -924,9 +975,12 @@ exchange-mul-memo-2 : (t : ℕ) → exchange-lts.Need-mul-memo-2 (
   form-reads.Asked,
   form-reads.Learnt,
 ) (exchange-at t) exchange.Post
-exchange-mul-memo-2 t c = let p = small-row (c .before .before .before .before .before .before .before .before .before .before .before .before .before .before .before .before .before .before .before .before .before .before .before .before .before .before .before .before .before .before .before .before .before .before .before .before .before .before .before .before .before .before .before .before .before .before .before .before .before .before .before .before .before .before .before .before .pre .1) in search needs
+exchange-mul-memo-2 t c =
+    let entry = c .before .before .before .before .before .before .before .before .before .before .before .before .before .before .before .before .before .before .before .before
+    .before .before .before .before .before .before .before .before .before .before .before .before .before .before .before .before .before .before .before .before .before .before
+    .before .before .before .before .before .before .before .before .before .before .before .before .before .before in
+    let p = small-row (entry .pre .1) in search needs
 
--- src/lib.rt:235:5
 exchange-slice-write-memo-2 : (t : ℕ) → exchange-lts.Need-slice-write-memo-2 (
   wide-reads.Asked,
   wide-reads.Learnt,
@@ -939,9 +993,13 @@ exchange-slice-write-memo-2 : (t : ℕ) → exchange-lts.Need-slice-write-memo-2
   form-reads.Asked,
   form-reads.Learnt,
 ) (exchange-at t) exchange.Post
-exchange-slice-write-memo-2 t c = let p = memo-room (c .before .before .before .before .before .before .before .before .before .before .before .before .before .before .before .before .before .before .before .before .before .before .before .before .before .before .before .before .before .before .before .before .before .before .before .before .before .before .before .before .before .before .before .before .before .before .before .before .before .before .before .before .before .before .before .before .pre .1) in let q = c .before .before .before .before .before .before .before .before .before .before .before .before .before .before .before .before .before .before .before .before .before .before .before .before .exchange2 .kept .1 .1 .1 .0 in let r = c .before .before .before .before .before .before .before .before .before .before .before .before .before .before .before .before .before .before .before .before .before .before .before .before .before .before .before .before .before .before .before .before .before .before .before .before .before .before .before .before .exchange .kept .1 .1 .1 .0 in omega arith
+exchange-slice-write-memo-2 t c =
+    let at-exchange2 = c .before .before .before .before .before .before .before .before .before .before .before .before .before .before .before .before .before .before .before
+    .before .before .before .before .before in
+    let at-exchange = at-exchange2 .before .before .before .before .before .before .before .before .before .before .before .before .before .before .before .before in
+    let entry = at-exchange .before .before .before .before .before .before .before .before .before .before .before .before .before .before .before .before in
+    let p = memo-room (entry .pre .1) in let q = at-exchange2 .exchange2 .kept .1 .1 .1 .0 in let r = at-exchange .exchange .kept .1 .1 .1 .0 in omega arith
 
--- src/lib.rt:191:1
 exchange-same-length-20 : (t : ℕ) → exchange-lts.Need-same-length-20 (
   wide-reads.Asked,
   wide-reads.Learnt,
@@ -954,9 +1012,12 @@ exchange-same-length-20 : (t : ℕ) → exchange-lts.Need-same-length-20 (
   form-reads.Asked,
   form-reads.Learnt,
 ) (exchange-at t) exchange.Post
-exchange-same-length-20 t c = c .before .before .before .before .before .before .before .before .before .form .kept .0 ∙ c .before .before .before .before .before .before .before .before .before .before .before .before .before .before .before .before .before .before .before .before .before .before .before .before .exchange2 .kept .0 ∙ c .before .before .before .before .before .before .before .before .before .before .before .before .before .before .before .before .before .before .before .before .before .before .before .before .before .before .before .before .before .before .before .before .before .before .before .before .before .before .before .before .exchange .kept .0
+exchange-same-length-20 t c =
+    let at-form = c .before .before .before .before .before .before .before .before .before in
+    let at-exchange2 = at-form .before .before .before .before .before .before .before .before .before .before .before .before .before .before .before in
+    let at-exchange = at-exchange2 .before .before .before .before .before .before .before .before .before .before .before .before .before .before .before .before in
+    at-form .form .kept .0 ∙ at-exchange2 .exchange2 .kept .0 ∙ at-exchange .exchange .kept .0
 
--- src/lib.rt:191:1
 exchange-same-length-21 : (t : ℕ) → exchange-lts.Need-same-length-21 (
   wide-reads.Asked,
   wide-reads.Learnt,
@@ -969,9 +1030,12 @@ exchange-same-length-21 : (t : ℕ) → exchange-lts.Need-same-length-21 (
   form-reads.Asked,
   form-reads.Learnt,
 ) (exchange-at t) exchange.Post
-exchange-same-length-21 t c = c .before .before .before .before .before .before .before .before .before .form .kept .1 .0 ∙ c .before .before .before .before .before .before .before .before .before .before .before .before .before .before .before .before .before .before .before .before .before .before .before .before .exchange2 .kept .1 .0 ∙ c .before .before .before .before .before .before .before .before .before .before .before .before .before .before .before .before .before .before .before .before .before .before .before .before .before .before .before .before .before .before .before .before .before .before .before .before .before .before .before .before .exchange .kept .1 .0
+exchange-same-length-21 t c =
+    let at-form = c .before .before .before .before .before .before .before .before .before in
+    let at-exchange2 = at-form .before .before .before .before .before .before .before .before .before .before .before .before .before .before .before in
+    let at-exchange = at-exchange2 .before .before .before .before .before .before .before .before .before .before .before .before .before .before .before .before in
+    at-form .form .kept .1 .0 ∙ at-exchange2 .exchange2 .kept .1 .0 ∙ at-exchange .exchange .kept .1 .0
 
--- src/lib.rt:191:1
 exchange-same-length-22 : (t : ℕ) → exchange-lts.Need-same-length-22 (
   wide-reads.Asked,
   wide-reads.Learnt,
@@ -984,9 +1048,12 @@ exchange-same-length-22 : (t : ℕ) → exchange-lts.Need-same-length-22 (
   form-reads.Asked,
   form-reads.Learnt,
 ) (exchange-at t) exchange.Post
-exchange-same-length-22 t c = c .before .before .before .before .before .before .before .before .before .form .kept .1 .1 .0 ∙ c .before .before .before .before .before .before .before .before .before .before .before .before .before .before .before .before .before .before .before .before .before .before .before .before .exchange2 .kept .1 .1 .0 ∙ c .before .before .before .before .before .before .before .before .before .before .before .before .before .before .before .before .before .before .before .before .before .before .before .before .before .before .before .before .before .before .before .before .before .before .before .before .before .before .before .before .exchange .kept .1 .1 .0
+exchange-same-length-22 t c =
+    let at-form = c .before .before .before .before .before .before .before .before .before in
+    let at-exchange2 = at-form .before .before .before .before .before .before .before .before .before .before .before .before .before .before .before in
+    let at-exchange = at-exchange2 .before .before .before .before .before .before .before .before .before .before .before .before .before .before .before .before in
+    at-form .form .kept .1 .1 .0 ∙ at-exchange2 .exchange2 .kept .1 .1 .0 ∙ at-exchange .exchange .kept .1 .1 .0
 
--- src/lib.rt:191:1
 exchange-same-length-23 : (t : ℕ) → exchange-lts.Need-same-length-23 (
   wide-reads.Asked,
   wide-reads.Learnt,
@@ -999,9 +1066,12 @@ exchange-same-length-23 : (t : ℕ) → exchange-lts.Need-same-length-23 (
   form-reads.Asked,
   form-reads.Learnt,
 ) (exchange-at t) exchange.Post
-exchange-same-length-23 t c = rw length-set (c .before .before .before .before .before .before .before .before .before .before .before .before .before .before .before .before .before .before .before .before .before .before .before .before .exchange2 .kept .1 .1 .1 .0 ∙ c .before .before .before .before .before .before .before .before .before .before .before .before .before .before .before .before .before .before .before .before .before .before .before .before .before .before .before .before .before .before .before .before .before .before .before .before .before .before .before .before .exchange .kept .1 .1 .1 .0)
+exchange-same-length-23 t c =
+    let at-exchange2 = c .before .before .before .before .before .before .before .before .before .before .before .before .before .before .before .before .before .before .before
+    .before .before .before .before .before in
+    let at-exchange = at-exchange2 .before .before .before .before .before .before .before .before .before .before .before .before .before .before .before .before in
+    rw length-set (at-exchange2 .exchange2 .kept .1 .1 .1 .0 ∙ at-exchange .exchange .kept .1 .1 .1 .0)
 
--- src/lib.rt:191:1
 exchange-returns-7 : (t : ℕ) → exchange-lts.Need-returns-7 (
   wide-reads.Asked,
   wide-reads.Learnt,
@@ -1014,7 +1084,16 @@ exchange-returns-7 : (t : ℕ) → exchange-lts.Need-returns-7 (
   form-reads.Asked,
   form-reads.Learnt,
 ) (exchange-at t) exchange.Post
-exchange-returns-7 t c = exchange-branch (c .before .before .before .before .before .before .before .before .before .before .before .before .before .before .before .before .before .before .before .before .before .before .before .before .before .before .before .before .before .before .before .before .before .before .before .before .before .before .before .before .before .before .before .before .before .before .before .before .before .before .before .before .before .before .before .before .pre .1) (c .before .before .before .before .before .before .before .before .before .before .before .before .before .before .before .before .before .before .before .before .before .before .before .before .before .before .before .before .before .before .before .before .before .before .before .before .before .before .before .before .before .before .before .before .before .if2 .left) (c .before .before .before .before .before .before .before .before .before .before .before .before .before .before .before .before .before .before .before .before .before .before .before .before .before .before .before .before .before .before .before .before .before .before .before .before .before .before .before .before .exchange .ensures) (c .before .before .before .before .before .before .before .before .before .before .before .before .before .before .before .before .before .before .before .before .before .before .before .before .before .before .before .before .before .before .high .given .1) (c .before .before .before .before .before .before .before .before .before .before .before .before .before .before .before .before .before .before .before .before .before .before .before .before .exchange2 .ensures) (c .before .before .before .before .before .before .before .before .before .before .before .before .before .before .low .given .1) (c .before .before .before .before .before .before .before .before .before .form .ensures) (c .before .j2 .given .1)
+exchange-returns-7 t c =
+    let at-form = c .before .before .before .before .before .before .before .before .before in
+    let at-low = at-form .before .before .before .before .before in
+    let at-exchange2 = at-low .before .before .before .before .before .before .before .before .before .before in
+    let at-high = at-exchange2 .before .before .before .before .before .before in
+    let at-exchange = at-high .before .before .before .before .before .before .before .before .before .before in
+    let at-if2 = at-exchange .before .before .before .before .before in
+    let entry = at-if2 .before .before .before .before .before .before .before .before .before .before .before in
+    exchange-branch (entry .pre .1) (at-if2 .if2 .left) (at-exchange .exchange .ensures) (at-high .high .given .1) (at-exchange2 .exchange2 .ensures) (at-low .low .given .1)
+    (at-form .form .ensures) (c .before .j2 .given .1)
 
 pub +exchange-spec : {M : Type 1} → statement M
 +exchange-spec = close μ-exchange λ t. exchange-lts.spec (

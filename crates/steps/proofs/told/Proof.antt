@@ -1,8 +1,8 @@
-use Rattle.planner.specs.Steps.{toldAs}
+use Rattle.steps.specs.Steps.{toldAs}
 use mathlib.Core.Path.{sym, ap}
 use borrow.Author.Needs.{needs}
-use Rattle.planner.proofs.told.Statement.{statement}
-use Rattle.planner.proofs.told.Tie as tie
+use Rattle.steps.proofs.told.Statement.{statement}
+use Rattle.steps.proofs.told.Tie as tie
 
 returns : tie.Need-returns
 returns c = ap toldAs (sym (c .before .r .given .1))

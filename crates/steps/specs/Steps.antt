@@ -14,8 +14,8 @@ use Rattle.diagram.specs.Listing.{diagramOf, Good}
 use Rattle.apply.specs.declared.Combined.{Combined}
 use Rattle.apply.specs.declared.Combined.the-variants.{Done, Refused as NotCombined}
 use Rattle.regression.specs.RegressCall.{writtenAs}
-use Rattle.planner.specs.declared.Step.{Step}
-use Rattle.planner.specs.declared.Step.the-variants.{Rows, Refused}
+use Rattle.steps.specs.declared.Step.{Step}
+use Rattle.steps.specs.declared.Step.the-variants.{Rows, Refused}
 
 -- the rows of the result, or the refusal
 abbrev pub stepAs : Outcome Diagram → Step
@@ -67,4 +67,12 @@ pub record Scalable (ar x : List ℕ) (v : ℕ) (out work : List ℕ) : Type 0 w
   pub first : isListing ar x ≡ true
   pub few : v ≤ highestValue
   pub out-room : resultWords ≤ length out
+  pub work-room : spaceWords ≤ length work
+
+-- the first n rows of a buffer are a listing, and so is y
+pub record Folding (ar buffer : List ℕ) (n : ℕ) (y work : List ℕ) : Type 0 where
+  pub first : isListing ar (take (n * 3) buffer) ≡ true
+  pub second : isListing ar y ≡ true
+  pub inside : n * 3 ≤ length buffer
+  pub buffer-room : resultWords ≤ length buffer
   pub work-room : spaceWords ≤ length work

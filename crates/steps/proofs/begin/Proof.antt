@@ -1,9 +1,9 @@
-use Rattle.planner.proofs.StepLaws.{begun}
+use Rattle.steps.specs.GivenLaws.{begun}
 use native.Mathlib.Omega.{arith}
 use lib.ListN.{length-set}
 use borrow.Author.Needs.{needs}
-use Rattle.planner.proofs.begin.Statement.{statement}
-use Rattle.planner.proofs.begin.Tie as tie
+use Rattle.steps.proofs.begin.Statement.{statement}
+use Rattle.steps.proofs.begin.Tie as tie
 
 slice-write-out-2 : tie.Need-slice-write-out-2
 slice-write-out-2 c = simp length-set (omega arith)

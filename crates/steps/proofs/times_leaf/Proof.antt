@@ -1,7 +1,7 @@
-use Rattle.planner.proofs.StepLaws.{leaf-operands, leaf-wrote}
+use Rattle.steps.specs.GivenLaws.{leaf-operands, leaf-wrote}
 use borrow.Author.Needs.{needs}
-use Rattle.planner.proofs.times_leaf.Statement.{statement}
-use Rattle.planner.proofs.times_leaf.Tie as tie
+use Rattle.steps.proofs.times_leaf.Statement.{statement}
+use Rattle.steps.proofs.times_leaf.Tie as tie
 
 shared-requires : tie.Need-shared-requires
 shared-requires c κs = leaf-operands (c .before .before .before .before .before .before .before .pre)

@@ -1,4 +1,4 @@
--- Laws of the steps that make up a backup.
+-- Laws of the steps that backups and sums of weights are made of.
 use mathlib.Core.Path.{_≡_, refl, sym, ap, subst, _∙_}
 use mathlib.Core.Bool.{true}
 use mathlib.Core.List.{List, [], _∷_, _++_}
@@ -32,10 +32,19 @@ use Rattle.combine.specs.Calls.{Callable, Answered}
 use Rattle.mdp.specs.Backup.{combined}
 use Rattle.mdp.specs.StepLaws.{combined-done, combined-refused}
 use Rattle.mdp.specs.CallLaws.{leaf-listed, shared-made, apart-added}
-use Rattle.planner.specs.declared.Step.{Step}
-use Rattle.planner.specs.declared.Step.the-variants.{Rows, Refused}
-use Rattle.planner.specs.Steps.{stepAs, toldAs, Result, Given, Wrote, Begun, Operands, Scalable}
-use Rattle.planner.specs.Tasks.{Folding}
+use Rattle.steps.specs.declared.Step.{Step}
+use Rattle.steps.specs.declared.Step.the-variants.{Rows, Refused}
+use Rattle.steps.specs.Steps.{stepAs, toldAs, Result, Given, Wrote, Begun, Operands, Scalable, Folding}
+
+-- ===== Steps one after another =====
+
+pub then-then : {A B C : Type 0} (o : Outcome A) (f : A → Outcome B) (g : B → Outcome C) → andThen (andThen o f) g ≡ andThen o (λ a. andThen (f a) g)
+then-then (ok a) f g = refl
+then-then (refused r) f g = refl
+
+pub then-same : {A B : Type 0} (o : Outcome A) (f g : A → Outcome B) → ((a : A) → f a ≡ g a) → andThen o f ≡ andThen o g
+then-same (ok a) f g h = h a
+then-same (refused r) f g h = refl
 
 -- ===== Combination =====
 
