@@ -62,11 +62,15 @@ unfoldable pub scaleEnds : Model → ℕ → Bool
 unfolding scale
 scaleEnds m k = ltb highestScale (scale m ^ suc k) || eqb k mostSteps
 
--- refuse 12 first; the best starts as leaf 0; at the end the reward times leaf S^(k+1), names shared, then the best plus that, apart
+-- the best starts as leaf 0; at the end the reward times the leaf S^(k+1), names shared, then the best plus that, apart
+unfoldable pub rowOfCalls : Model → ℕ → Diagram → Outcome Diagram
+unfolding actionsBest combined
+rowOfCalls m power d =
+    andThen (actionsBest (m .arities) (m .numerator) d (leaf 0) (m .actions)) (λ best.
+    andThen (combined Product Shared (m .arities) (m .reward) (leaf power)) (λ r.
+    combined Sum Apart (m .arities) best r))
+
+-- refuse 12 first
 unfoldable pub backup : Model → ℕ → Diagram → Outcome Diagram
-unfolding scaleEnds actionsBest combined scale
-backup m k d =
-    cond (scaleEnds m k) (refused Scale)
-    (andThen (actionsBest (m .arities) (m .numerator) d (leaf 0) (m .actions)) (λ best.
-    andThen (combined Product Shared (m .arities) (m .reward) (leaf (scale m ^ suc k))) (λ r.
-    combined Sum Apart (m .arities) best r)))
+unfolding scaleEnds scale rowOfCalls
+backup m k d = cond (scaleEnds m k) (refused Scale) (rowOfCalls m (scale m ^ suc k) d)

@@ -33,7 +33,7 @@ use Rattle.regression.specs.NextLaws.{Tells, regressed-tells, regressed-highest
 use Rattle.regression.specs.RegressCall.{freedOutcome}
 use Rattle.mdp.specs.Model.{Variant, Action, Model, scale, Every, GoodVariant, GoodAction, GoodModel}
 use Rattle.mdp.specs.Bellman.{weightIn, stateAfter, rewardIn, bellman}
-use Rattle.mdp.specs.Backup.{combined, variantsSum, actionsBest, highestScale, mostSteps, scaleEnds, backup}
+use Rattle.mdp.specs.Backup.{combined, variantsSum, actionsBest, highestScale, mostSteps, scaleEnds, backup, rowOfCalls}
 use Rattle.mdp.specs.CallLaws.{within-more, leaf-listed, leaf-within, leaf-value, within-closed, closed-highest, shared-made, apart-added, freed-to}
 
 -- ===== Variants =====
@@ -176,7 +176,7 @@ pub bound-none : (s : State) → Good s → Bound s []
 bound-none s g = record { each = λ i. g .placed 0 }
 
 pub backup-is : (m : Model) → GoodModel m → (k : ℕ) (d : Diagram) → Values (m .arities) (bellman m k) d → Accepted (Values (m .arities) (bellman m (suc k))) (backup m k d)
-unfolding backup bellman rewardIn
+unfolding backup rowOfCalls bellman rewardIn
 backup-is m gm k d vals =
     let ar = m .arities in
     let p = scale m ^ suc k in

@@ -32,7 +32,7 @@ use Rattle.cut.specs.declared.Edge.{Edge}
 use Rattle.cut.specs.declared.Cut.the-variants.{Done as CutDone, Refused as CutRefused}
 use Rattle.cut.specs.Cut.{cutDiagram, isTrueEdge, diagramAnswer as cutAnswer}
 use Rattle.mdp.specs.Model.{Variant, Action, Model, scale}
-use Rattle.mdp.specs.Backup.{combined, variantsSum, actionsBest, highestScale, mostSteps, scaleEnds, backup}
+use Rattle.mdp.specs.Backup.{combined, variantsSum, actionsBest, rowOfCalls, highestScale, mostSteps, scaleEnds, backup}
 use Rattle.mdp.specs.Runs.{Call, aBackup, aCut, Held, cutOutcome, taken, call, runFrom, begin, run}
 use Rattle.mdp.specs.CallLaws.{each-within}
 
@@ -92,20 +92,13 @@ module _ (m : Model) (k : ℕ) where
       go true q z = clash refl z
       go false q z = (ltb-false highestScale (scale m ^ suc k) q, eqb-false k mostSteps z)
 
-  -- the calls, once 12 is judged
-  abbrev pub rowOfCalls : Diagram → Outcome Diagram
-  rowOfCalls d =
-      andThen (actionsBest (m .arities) (m .numerator) d (leaf 0) (m .actions)) (λ best.
-      andThen (combined Product Shared (m .arities) (m .reward) (leaf (scale m ^ suc k))) (λ r.
-      combined Sum Apart (m .arities) best r))
-
   pub backup-ends : (d : Diagram) → scaleEnds m k ≡ true → backup m k d ≡ refused Scale
   unfolding backup
-  backup-ends d e = ap (λ (b : Bool). cond b (refused Scale) (rowOfCalls d)) e
+  backup-ends d e = ap (λ (b : Bool). cond b (refused Scale) (rowOfCalls m (scale m ^ suc k) d)) e
 
-  pub backup-row : (d : Diagram) → scaleEnds m k ≡ false → backup m k d ≡ rowOfCalls d
+  pub backup-row : (d : Diagram) → scaleEnds m k ≡ false → backup m k d ≡ rowOfCalls m (scale m ^ suc k) d
   unfolding backup
-  backup-row d e = ap (λ (b : Bool). cond b (refused Scale) (rowOfCalls d)) e
+  backup-row d e = ap (λ (b : Bool). cond b (refused Scale) (rowOfCalls m (scale m ^ suc k) d)) e
 
 -- ===== Runs =====
 

@@ -122,7 +122,9 @@ truth-says ar words c n e few small v q {b} h = record {
         listed = is-listing-good ar words e;
         bits = above-most 1 (diagramOf words) (p .0);
         parameters = within-lacks ar words c few (sym h ∙ y);
-        arguments = terms-below ar words (firstVariable + n) e (omega arith) (let z : variableCount - n ≡ termBase - (firstVariable + n) = omega arith in subst (λ (k : ℕ). not (anyOccurs ar (diagramOf words) (firstVariable + n) k) ≡ true) z (ap not (p .1)));
+        arguments = terms-below ar words (firstVariable + n) e (omega arith) (
+            let z : variableCount - n ≡ termBase - (firstVariable + n) = omega arith in
+            subst (λ (k : ℕ). not (anyOccurs ar (diagramOf words) (firstVariable + n) k) ≡ true) z (ap not (p .1)));
       };
 }
 
@@ -158,7 +160,8 @@ truths-end t l = record { each = λ q d h k e. t .each q d h (omega arith) e }
 
 -- ===== A weight =====
 
-pub weight-says : (ar words : List ℕ) (c : ℕ) → c ≤ parameterCount → isListing ar words ≡ true → {b : Bool} → b ≡ not (anyOccurs ar (diagramOf words) (16 + c) (64 - (16 + c))) → Says b (IsWeight ar words c)
+pub weight-says : (ar words : List ℕ) (c : ℕ) → c ≤ parameterCount → isListing ar words ≡ true → {b : Bool}
+    → b ≡ not (anyOccurs ar (diagramOf words) (16 + c) (64 - (16 + c))) → Says b (IsWeight ar words c)
 weight-says ar words c few e {b} h = record {
   given = λ y. record {
     listing = e;
@@ -237,8 +240,8 @@ looked-on {ar} {listings} {table} {a} {c} {v} x f = record { each = λ w l. go w
 pub looked-place : (table : List ℕ) (a v n : ℕ) → a * actionWords + actionWords ≤ length table → v < n → n ≤ mostVariants → a * 530 + 2 + v * 66 + variantWords ≤ length table
 looked-place table a v n h l k = omega arith
 
-pub action-says : {ar listings table : List ℕ} {a c v : ℕ} → Looked ar listings table a c v → c ≡ getD table (a * actionWords) 0 → c ≤ parameterCount → variantsOf table a ≤ mostVariants → variantsOf table a ≤ v
-    → ActionFits ar listings table a
+pub action-says : {ar listings table : List ℕ} {a c v : ℕ} → Looked ar listings table a c v → c ≡ getD table (a * actionWords) 0 → c ≤ parameterCount
+    → variantsOf table a ≤ mostVariants → variantsOf table a ≤ v → ActionFits ar listings table a
 unfolding actionAt
 action-says {ar} {listings} {table} {a} {c} {v} x e few most l = record {
   laid = record { few = most; variants = λ w k. x .each w (omega arith) .laid };

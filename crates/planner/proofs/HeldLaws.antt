@@ -60,7 +60,8 @@ module _ {ar : List ℕ} {m : Model} {h : Held} {value : List ℕ} (c : Callable
   pub callable-standing : {work : List ℕ} → Room value work → Standing ar value (h .rows) work
   callable-standing r = record { listing = c .listing; within = c .within; inside = c .room; value-room = r .value-room; work-room = r .work-room }
 
-pub callable-powered : {ar listings table : List ℕ} {n : Head} → Laid ar listings table n → {h : Held} {value : List ℕ} → Callable ar (modelOf ar listings table n) h value → Powered n (h .steps) (h .power)
+pub callable-powered : {ar listings table : List ℕ} {n : Head} → Laid ar listings table n → {h : Held} {value : List ℕ}
+    → Callable ar (modelOf ar listings table n) h value → Powered n (h .steps) (h .power)
 unfolding modelOf scale
 callable-powered t c = record { steps = c .steps; is = c .power }
 
@@ -187,7 +188,8 @@ called-backup {ar} {m} v {h} {value} x e c = subst (λ (y : ℕ). Holds ar m (ca
 call-is : (x : ℕ) → (x ≡ 0 → ⊥) → callOf x ≡ aCut
 call-is x e = rw (ne-eqb x 0 e)
 
-pub called-cut : {ar listings table : List ℕ} {n : Head} → Laid ar listings table n → {h : Held} {value : List ℕ} → Callable ar (modelOf ar listings table n) h value → (x : ℕ) → (x ≡ 0 → ⊥) → {h′ : Held} {value′ : List ℕ}
+pub called-cut : {ar listings table : List ℕ} {n : Head} → Laid ar listings table n → {h : Held} {value : List ℕ}
+    → Callable ar (modelOf ar listings table n) h value → (x : ℕ) → (x ≡ 0 → ⊥) → {h′ : Held} {value′ : List ℕ}
     → CutTo ar h value h′ value′ → Holds ar (modelOf ar listings table n) (call (modelOf ar listings table n) (callOf x) (heldIn h value)) h′ value′
 unfolding modelOf
 called-cut {ar} {listings} {table} {n} l {h} {value} c x e {h′} {value′} t =

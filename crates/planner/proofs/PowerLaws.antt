@@ -18,7 +18,7 @@ use Rattle.diagram.specs.Rows.{rows}
 use Rattle.diagram.specs.Listing.{Good}
 use Rattle.regression.specs.RegressCall.{writtenAs}
 use Rattle.mdp.specs.Model.{Model, scale}
-use Rattle.mdp.specs.Backup.{highestScale, mostSteps, scaleEnds, backup}
+use Rattle.mdp.specs.Backup.{highestScale, mostSteps, scaleEnds, backup, rowOfCalls}
 use Rattle.mdp.specs.StepLaws.{backup-ends, backup-row, on-scale}
 use Rattle.model.specs.declared.Head.{Head}
 use Rattle.model.specs.Layout.{modelOf, Laid}
@@ -28,7 +28,6 @@ use Rattle.planner.specs.declared.Power.{Power}
 use Rattle.planner.specs.declared.Power.the-variants.{Next, Ends}
 use Rattle.planner.specs.declared.Backed.the-variants.{Done, Refused}
 use Rattle.steps.specs.Steps.{stepAs, Wrote}
-use Rattle.planner.specs.Parts.{rowOfCalls}
 use Rattle.planner.specs.Backed.{scaleOf, powerAs, Numbers, Powered, backedAs, BackedUp}
 
 -- ===== The next power =====
@@ -122,7 +121,6 @@ module _ {ar listings table : List ℕ} {h : Head} (t : Laid ar listings table h
     next-few = subst (λ (x : ℕ). x ≤ highestValue) power-is (on-scale M k goes .0)
 
     backup-is : (d : Diagram) → backup M k d ≡ rowOfCalls M s d
-    unfolding rowOfCalls
     backup-is d = backup-row M k d goes ∙ ap (λ (x : ℕ). rowOfCalls M x d) power-is
 
     module _ (d : Diagram) {r : Step} {value value′ : List ℕ} (w : Wrote ar (rowOfCalls M s d) r value value′) where
@@ -133,7 +131,12 @@ module _ {ar listings table : List ℕ} {h : Head} (t : Laid ar listings table h
       good-are = subst (Accepted (Good ar)) (sym (backup-is d)) (w .good)
 
       pub backed-done : {n : ℕ} → r ≡ Rows n → BackedUp ar M k d (Done n s) value value′
-      backed-done {n} x = record { answer = go (rowOfCalls M s d) (sym (w .answer) ∙ x) ∙ ap (λ (z : ℕ). backedAs z (rowOfCalls M s d)) (sym power-is) ∙ ap (backedAs (scale M ^ suc k)) (sym (backup-is d)); words = words-are; good = good-are }
+      backed-done {n} x = record {
+        answer = go (rowOfCalls M s d) (sym (w .answer) ∙ x) ∙ ap (λ (z : ℕ). backedAs z (rowOfCalls M s d)) (sym power-is)
+            ∙ ap (backedAs (scale M ^ suc k)) (sym (backup-is d));
+        words = words-are;
+        good = good-are;
+      }
         where
           go : (o : Outcome Diagram) → stepAs o ≡ Rows n → Done n s ≡ backedAs s o
           go (ok c) y = let z : length (rows c) ≡ n = cc in ap (λ (m : ℕ). Done m s) (sym z)

@@ -14,13 +14,12 @@ use Rattle.diagram.specs.Listing.{diagramOf, Good}
 use Rattle.apply.specs.declared.Operation.the-variants.{Sum, Product}
 use Rattle.apply.specs.declared.Names.the-variants.{Apart, Shared}
 use Rattle.regression.specs.RegressCall.{writtenAs}
-use Rattle.mdp.specs.Backup.{combined, actionsBest}
+use Rattle.mdp.specs.Backup.{combined, actionsBest, rowOfCalls}
 use Rattle.model.specs.declared.Head.{Head}
 use Rattle.model.specs.Layout.{rewardWords, modelOf, Laid}
 use Rattle.steps.specs.declared.Step.{Step}
 use Rattle.steps.specs.declared.Step.the-variants.{Rows, Refused}
 use Rattle.steps.specs.Steps.{stepAs, Given, Wrote, Operands}
-use Rattle.planner.specs.Parts.{rowOfCalls}
 use Rattle.planner.specs.Tasks.{ValueTask, RewardTask, Standing}
 use Rattle.steps.specs.GivenLaws.{step-refused, done-then}
 

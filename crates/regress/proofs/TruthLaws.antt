@@ -148,7 +148,8 @@ module _ {ar ws : List ℕ} {l : ℕ} (u : Usable ar ws l) where
     unfolding termsOf
     past t h =
         List·getD-eq-default map 0 (omega (arith, g .whole))
-        ∙ sym (argument-high Ts t (omega arith) ∙ take-past (getD ar (unpacked l .predicate) 0) (unpacked l .first ∷ unpacked l .second ∷ unpacked l .third ∷ unpacked l .fourth ∷ []) (t - 32) (omega arith))
+        ∙ sym (argument-high Ts t (omega arith)
+        ∙ take-past (getD ar (unpacked l .predicate) 0) (unpacked l .first ∷ unpacked l .second ∷ unpacked l .third ∷ unpacked l .fourth ∷ []) (t - 32) (omega arith))
 
     same-map : (t : ℕ) → Cmp t termBase → mapOf map t ≡ argument Ts t
     same-map t (below h) = g .each t h

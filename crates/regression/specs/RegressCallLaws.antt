@@ -190,8 +190,9 @@ module _ (ar value truths spans : List ℕ) (outLength workLength : ℕ) where
           let z : some (diagramOf (truthWords truths spans p)) ≡ some d = sym (truths-some truths spans p n) ∙ e in
           let q : diagramOf (truthWords truths spans p) ≡ d = cc in
           let l = listings-at ar truths spans 1 (predicateCount - 1) h p (omega arith) (omega arith) n in
+          let g = is-listing-good ar (truthWords truths spans p) l in
           record {
-            labels = subst (λ (x : Diagram). EveryLabel (λ l. isLabel ar l ≡ true) x) q (fine-every ar (diagramOf (truthWords truths spans p)) (is-listing-good ar (truthWords truths spans p) l .fine));
+            labels = subst (λ (x : Diagram). EveryLabel (λ l. isLabel ar l ≡ true) x) q (fine-every ar (diagramOf (truthWords truths spans p)) (g .fine));
             bits = above-most 1 d (pass .each p d (omega arith) (omega arith) e .bits);
           }
 

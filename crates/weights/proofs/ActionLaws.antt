@@ -128,7 +128,9 @@ module _ {ar listings table : List ℕ} {a : ℕ} {work : List ℕ} (t : ActionT
             record { some = omega (arith, v .whole, v .some, result-long (x .result n h)); inside = x .result n h .room }
 
         judged-is : {b : Bool} → b ≡ same (diagramOf (take (n * 3) sum)) (leaf total) → A ≡ cond (not b) (refused Weights) (ok tt)
-        judged-is e = action-is ∙ ap (λ (o : Outcome Diagram). andThen o (judged ar total (ok tt))) (x .result n h .is) ∙ ap (λ (q : Bool). cond {A = Outcome (Unit {0})} (not q) (refused Weights) (ok tt)) (sym e)
+        judged-is e =
+            action-is ∙ ap (λ (o : Outcome Diagram). andThen o (judged ar total (ok tt))) (x .result n h .is)
+            ∙ ap (λ (q : Bool). cond {A = Outcome (Unit {0})} (not q) (refused Weights) (ok tt)) (sym e)
 
         pub action-fails : {b : Bool} → b ≡ same (diagramOf (take (n * 3) sum)) (leaf total) → not b ≡ true → Refused Weights ≡ weighedAs A
         action-fails e k = sym (ap weighedAs (judged-is e ∙ ap (λ (q : Bool). cond {A = Outcome (Unit {0})} q (refused Weights) (ok tt)) k))

@@ -20,7 +20,8 @@ returns-2 c =
 
 mul-kept : tie.Need-mul-kept
 mul-kept c =
-    let c1 = c .before .before .before .before .before .before .before .before .before .before .before .before .before .before .before .before .before .before .before .before .before .before .before .before .before .before .before .before .before .before .before in
+    let c1 = c .before .before .before .before .before .before .before .before .before .before .before .before .before .before .before .before .before .before .before .before
+    .before .before .before .before .before .before .before .before .before .before .before in
     let p = asking-below (c1 .pre .0) in search needs
 
 add-kept : tie.Need-add-kept

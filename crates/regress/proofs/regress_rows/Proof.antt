@@ -92,19 +92,22 @@ cast-numbers c =
 
 mul-numbers : tie.Need-mul-numbers Inv-loop μ-loop
 mul-numbers c =
-    let c1 = c .before .before .before .before .before .before .before .before .before .before .before .before .before .before .before .before .before .before .before .before .before .before .before in
+    let c1 = c .before .before .before .before .before .before .before .before .before .before .before .before .before .before .before .before .before .before .before .before
+    .before .before .before in
     let c2 = c1 .before in
     let p = going-few (c2 .loop .inv .6) (c1 .loop-test .taken) in search needs
 
 array-write-numbers : tie.Need-array-write-numbers Inv-loop μ-loop
 array-write-numbers c =
-    let c1 = c .before .before .before .before .before .before .before .before .before .before .before .before .before .before .before .before .before .before .before .before .before .before .before in
+    let c1 = c .before .before .before .before .before .before .before .before .before .before .before .before .before .before .before .before .before .before .before .before
+    .before .before .before in
     let c2 = c1 .before in
     going-few (c2 .loop .inv .6) (c1 .loop-test .taken)
 
 add-k : tie.Need-add-k Inv-loop μ-loop
 add-k c =
-    let c1 = c .before .before .before .before .before .before .before .before .before .before .before .before .before .before .before .before .before .before .before .before .before .before .before in
+    let c1 = c .before .before .before .before .before .before .before .before .before .before .before .before .before .before .before .before .before .before .before .before
+    .before .before .before in
     let c2 = c1 .before in
     let p = going-few (c2 .loop .inv .6) (c1 .loop-test .taken) in search needs
 
@@ -113,8 +116,16 @@ loop-again c =
     let c1 = c .before .before .before .before .before .before .before .before .before .before .before .before .before .before in
     let c2 = c1 .before .before .before .before .before .before .before in
     let c3 = c2 .before .before in
-    let c4 = c3 .before in
-    (c1 .regressed-row .kept .1 .1 .1 .1 .1 .0 ∙ c4 .loop .inv .0, c1 .regressed-row .kept .1 .1 .1 .1 .1 .1 .0 ∙ c4 .loop .inv .1, c1 .regressed-row .kept .1 .1 .1 .1 .1 .1 .1 .0 ∙ c4 .loop .inv .2, c1 .regressed-row .kept .1 .1 .1 .1 .1 .1 .1 .1 .0 ∙ c4 .loop .inv .3, c1 .regressed-row .kept .1 .1 .1 .1 .1 .1 .1 .1 .1 .0 ∙ c4 .loop .inv .4, ready-on (c4 .loop .inv .5) (c1 .regressed-row .ensures .ran) (c1 .regressed-row .kept .1 .1 .1 .1 .1 .0) (c .before .r .given .1), going-on (c4 .loop .inv .6) (c3 .loop-test .taken) (c2 .task-at .ensures) (c1 .regressed-row .ensures .ran) (c .before .r .given .1), c1 .regressed-row .ensures .keeps _ _ (c .before .r .given .1))
+    let c4 = c3 .before in (
+      c1 .regressed-row .kept .1 .1 .1 .1 .1 .0 ∙ c4 .loop .inv .0,
+      c1 .regressed-row .kept .1 .1 .1 .1 .1 .1 .0 ∙ c4 .loop .inv .1,
+      c1 .regressed-row .kept .1 .1 .1 .1 .1 .1 .1 .0 ∙ c4 .loop .inv .2,
+      c1 .regressed-row .kept .1 .1 .1 .1 .1 .1 .1 .1 .0 ∙ c4 .loop .inv .3,
+      c1 .regressed-row .kept .1 .1 .1 .1 .1 .1 .1 .1 .1 .0 ∙ c4 .loop .inv .4,
+      ready-on (c4 .loop .inv .5) (c1 .regressed-row .ensures .ran) (c1 .regressed-row .kept .1 .1 .1 .1 .1 .0) (c .before .r .given .1),
+      going-on (c4 .loop .inv .6) (c3 .loop-test .taken) (c2 .task-at .ensures) (c1 .regressed-row .ensures .ran) (c .before .r .given .1),
+      c1 .regressed-row .ensures .keeps _ _ (c .before .r .given .1),
+    )
 
 same-length-6 : tie.Need-same-length-6 Inv-loop μ-loop
 same-length-6 c = c .before .loop .inv .0
