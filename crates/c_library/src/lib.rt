@@ -304,7 +304,7 @@ pub extern "C" fn yindolve_value(
 ) -> u64
     ensures { λ r. ⌜ Values (now (arities .entry)) (now (words .entry)) objects (now (constants .entry)) (now (facts .entry)) (now (value .entry)) r (now (value .exit)) ⌝ }
 {
-    let answer = state::value(arities, words, objects, constants, facts);
+    let answer = valuing::value(arities, words, objects, constants, facts);
     match answer {
         Valued::Value(v) => {
             *value = v;

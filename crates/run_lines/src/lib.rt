@@ -76,7 +76,7 @@ pub fn value(number: u64, n: Numbers, arities: &[u64], state: &[u64], value: &[u
     let live = n.live;
     let rows = held.rows;
     let end = facts::FACTS_BASE + live.facts * facts::FACT_WORDS;
-    let v = state::value(
+    let v = valuing::value(
         arities,
         &value[..rows * 3],
         live.objects,

@@ -10,9 +10,9 @@ use lib.Dec.{ltb, eqb}
 use borrow.Author.Tests.{ltb-true, ltb-false, eqb-true, eqb-false, eq-eqb, ne-eqb}
 use Rattle.label.specs.Limits.{firstParameter, firstVariable}
 use Rattle.diagram.specs.Diagram.{Tree, leaf, branch}
-use Rattle.state.specs.Max.{IsMax, maxTo, Tuple, none, more}
+use Rattle.state.specs.Max.{Tuple, none, more}
 use Rattle.state.specs.MaxLaws.{maxTo-is}
-use Rattle.state.specs.State.{Atomic, atom, State, Good, value, low, fixed, Fits}
+use Rattle.state.specs.State.{Atomic, State, Good, value, low, fixed, Fits}
 use Rattle.state.specs.Terms.{Each, args, Terms}
 use Rattle.state.specs.ValueLaws.{low-lt, low-ge, by-low, Each-mono, value-same, Terms-mono}
 use Rattle.state.specs.Highest.{Highest, put, maxVals, insert, varsOf, varsIn, vars, start, highest, Bound}

@@ -1,14 +1,11 @@
 -- Laws of lent states: neither order nor repetition of the facts matters.
-use mathlib.Core.Path.{_≡_, refl, ap, sym, _∙_, fun-ext}
+use mathlib.Core.Path.{_≡_, refl, sym, fun-ext}
 use mathlib.Core.List.{List}
-use mathlib.Core.Bool.{Bool, true, false, _&&_, _||_}
-use Prim.Native.Nat.{ℕ, zero, suc, _≤_, _<_}
+use mathlib.Core.Bool.{Bool, true, false, _||_}
+use Prim.Native.Nat.{ℕ, zero, suc, _<_}
 use native.Mathlib.Omega.{arith}
-use lib.ListN.{getD, take}
-use lib.Dec.{eqb}
-use Rattle.basics.specs.Tests.{Cmp, below, equal, above, cmp, Flag, isTrue, isFalse, flag, Either, one, other, either, or-one, or-other}
+use Rattle.basics.specs.Tests.{Cmp, below, equal, above, cmp, Either, one, other, either, or-one, or-other}
 use Rattle.basics.specs.Members.{clash}
-use Rattle.state.specs.State.{State}
 use Rattle.state.specs.Lent.{factCount, saysFact, someBelow, saidBy, stateOf}
 
 -- `someBelow`, made and taken apart

@@ -5,9 +5,6 @@ pub mod Terms
 pub mod Highest
 pub mod Lent
 pub mod ValueCall
-pub mod Index
-pub mod Search
-pub mod Marks
 pub mod MaxLaws
 pub mod ValueLaws
 pub mod HighestLaws

@@ -2,15 +2,15 @@
 use mathlib.Core.Path.{_≡_, refl, ap, ap₂, sym, _∙_}
 use mathlib.Core.List.{List, [], _∷_, map}
 use mathlib.Core.Bool.{Bool, true, false, cond}
-use Prim.Native.Nat.{ℕ, zero, suc, _+_, _≤_, _<_}
+use Prim.Native.Nat.{ℕ, _+_, _≤_, _<_}
 use native.Mathlib.Omega.{arith}
 use native.Mathlib.Nat.{le-of-eq}
 use lib.Dec.{ltb}
 use borrow.Author.Tests.{ltb-true, ltb-false, lt-ltb, le-ltb}
 use Rattle.label.specs.Limits.{firstVariable}
-use Rattle.diagram.specs.Diagram.{Tree, leaf, branch, eval, relabel}
-use Rattle.state.specs.State.{Atomic, atom, State, truth, holds, value, low, fixed, Fits}
-use Rattle.state.specs.Terms.{Each, args, Terms, renameAtom, rename, Renaming}
+use Rattle.diagram.specs.Diagram.{Tree, leaf, branch, eval}
+use Rattle.state.specs.State.{Atomic, atom, State, truth, holds, value, low, Fits}
+use Rattle.state.specs.Terms.{Each, args, Terms, rename, Renaming}
 use Rattle.state.specs.Highest.{Highest}
 use Rattle.state.specs.MaxLaws.{max-by}
 
