@@ -54,7 +54,13 @@ used-below n (suc zero) o h = rw (lt-ltb 0 n h)
 used-below n (suc (suc zero)) o h = rw (lt-ltb 0 n h)
 used-below n (suc (suc (suc zero))) o h = rw (lt-ltb 0 n h)
 used-below n (suc (suc (suc (suc k)))) o h =
-    rw (lt-ltb 0 (suc (suc (suc (suc k)))) (omega arith), lt-ltb 1 (suc (suc (suc (suc k)))) (omega arith), lt-ltb 2 (suc (suc (suc (suc k)))) (omega arith), lt-ltb 3 (suc (suc (suc (suc k)))) (omega arith), take-nil {A = ℕ} k)
+    rw (
+      lt-ltb 0 (suc (suc (suc (suc k)))) (omega arith),
+      lt-ltb 1 (suc (suc (suc (suc k)))) (omega arith),
+      lt-ltb 2 (suc (suc (suc (suc k)))) (omega arith),
+      lt-ltb 3 (suc (suc (suc (suc k)))) (omega arith),
+      take-nil {A = ℕ} k,
+    )
 
 pub row-below : (ar facts : List ℕ) (n i : ℕ) {k : ℕ} {o u : Objects} {b : Bool} → 0 < n → k ≡ getD ar (getD facts (i * factWords) 0) 0 → o ≡ rowObjects facts i
     → u ≡ used k 0 o → b ≡ allBelow n (listed u) → b ≡ namesBelow ar n facts i
@@ -187,7 +193,8 @@ pub unmarked-start : (marks : List ℕ) → Unmarked marks 0
 unmarked-start marks = record { most = omega arith; rest = refl }
 
 module _ {marks : List ℕ} {k : ℕ} (s : Unmarked marks k) where
-  mark-next : k < parameterCount → setFrom marks firstParameter parameterCount ≡ cond (eqb (getD marks (firstParameter + k) 0) 0) 0 1 + setFrom marks (suc (firstParameter + k)) (parameterCount - (k + 1))
+  mark-next : k < parameterCount
+      → setFrom marks firstParameter parameterCount ≡ cond (eqb (getD marks (firstParameter + k) 0) 0) 0 1 + setFrom marks (suc (firstParameter + k)) (parameterCount - (k + 1))
   unfolding setFrom
   mark-next l = let e : parameterCount - k ≡ suc (parameterCount - (k + 1)) = omega arith in s .rest ∙ ap (setFrom marks (firstParameter + k)) e
 

@@ -3,7 +3,30 @@ use lib.ListN.{length}
 use borrow.Author.Needs.{needs}
 use native.Mathlib.Omega.{arith}
 use Rattle.valuing.specs.Search.{freeCount}
-use Rattle.valuing.proofs.SearchLaws.{Giving, giving-start, giving-room, giving-ready, giving-on, giving-cut, giving-end, go-falls, Going, going-start, going-cut, going-value, going-leaf, going-bind, going-kept, going-telling, going-placed, going-term, going-free, going-falls, going-on, going-less}
+use Rattle.valuing.proofs.SearchLaws.{
+  Giving,
+  giving-start,
+  giving-room,
+  giving-ready,
+  giving-on,
+  giving-cut,
+  giving-end,
+  go-falls,
+  Going,
+  going-start,
+  going-cut,
+  going-value,
+  going-leaf,
+  going-bind,
+  going-kept,
+  going-telling,
+  going-placed,
+  going-term,
+  going-free,
+  going-falls,
+  going-on,
+  going-less,
+}
 use Prim.Native.Nat.{ℕ, _*_, _-_, _<_}
 use borrow.Fn.Kinds.{In}
 use borrow.Fn.PlainCycle.{Measures, is, falls, and}
@@ -117,7 +140,11 @@ bind-go-requires :
     bind.Post
     bind-Inv-loop
     bind-μ-loop
-bind-go-requires t c κs = (go-falls (c .before .before .before .before .loop .inv) (c .before .before .before .loop-test .taken) (c .before .before .before .before .before .before .before .before .before .before .before .pre .0), (giving-ready (c .before .before .before .before .loop .inv) (c .before .before .before .loop-test .taken), c .before .before .before .before .before .before .before .before .before .before .before .pre .1 .1 .0))
+bind-go-requires t c κs =
+    let loop-test = c .before .before .before .loop-test in
+    let loop = c .before .before .before .before .loop in
+    let entry = c .before .before .before .before .before .before .before .before .before .before .before .pre in
+    (go-falls (loop .inv) (loop-test .taken) (entry .0), (giving-ready (loop .inv) (loop-test .taken), entry .1 .1 .0))
 
 bind-add-v :
     (t : ℕ) →
@@ -170,55 +197,241 @@ go-Inv-loop words high arities facts index env₀ n r0 best r₀ env r = Going w
 abbrev go-μ-loop : go-lts.MeasureT-loop
 go-μ-loop words high arities facts index env₀ n r0 best r₀ env r = r
 
-go-loop-holds : (t : ℕ) → go-lts.Need-loop-holds (unpack-reads.Asked, unpack-reads.Learnt, unbound-reads.Asked, unbound-reads.Learnt, bind-below t, bind.Post, truth-reads.Asked, truth-reads.Learnt, follow-reads.Asked, follow-reads.Learnt) (go-at t) go.Post go-Inv-loop go-μ-loop
+go-loop-holds : (t : ℕ)
+    → go-lts.Need-loop-holds (
+      unpack-reads.Asked,
+      unpack-reads.Learnt,
+      unbound-reads.Asked,
+      unbound-reads.Learnt,
+      bind-below t,
+      bind.Post,
+      truth-reads.Asked,
+      truth-reads.Learnt,
+      follow-reads.Asked,
+      follow-reads.Learnt,
+    )
+    (go-at t) go.Post go-Inv-loop go-μ-loop
 go-loop-holds t c = search going-start
 
-go-add-result-2 : (t : ℕ) → go-lts.Need-add-result-2 (unpack-reads.Asked, unpack-reads.Learnt, unbound-reads.Asked, unbound-reads.Learnt, bind-below t, bind.Post, truth-reads.Asked, truth-reads.Learnt, follow-reads.Asked, follow-reads.Learnt) (go-at t) go.Post go-Inv-loop go-μ-loop
+go-add-result-2 : (t : ℕ)
+    → go-lts.Need-add-result-2 (
+      unpack-reads.Asked,
+      unpack-reads.Learnt,
+      unbound-reads.Asked,
+      unbound-reads.Learnt,
+      bind-below t,
+      bind.Post,
+      truth-reads.Asked,
+      truth-reads.Learnt,
+      follow-reads.Asked,
+      follow-reads.Learnt,
+    )
+    (go-at t) go.Post go-Inv-loop go-μ-loop
 go-add-result-2 t c = omega (arith, going-value (c .before .before .before .before .before .loop .inv) (c .before .if2 .taken))
 
-go-same-length : (t : ℕ) → go-lts.Need-same-length (unpack-reads.Asked, unpack-reads.Learnt, unbound-reads.Asked, unbound-reads.Learnt, bind-below t, bind.Post, truth-reads.Asked, truth-reads.Learnt, follow-reads.Asked, follow-reads.Learnt) (go-at t) go.Post go-Inv-loop go-μ-loop
+go-same-length : (t : ℕ)
+    → go-lts.Need-same-length (
+      unpack-reads.Asked,
+      unpack-reads.Learnt,
+      unbound-reads.Asked,
+      unbound-reads.Learnt,
+      bind-below t,
+      bind.Post,
+      truth-reads.Asked,
+      truth-reads.Learnt,
+      follow-reads.Asked,
+      follow-reads.Learnt,
+    )
+    (go-at t) go.Post go-Inv-loop go-μ-loop
 go-same-length t c = ap length (c .before .before .before .before .before .loop .inv .still)
 
-go-returns : (t : ℕ) → go-lts.Need-returns (unpack-reads.Asked, unpack-reads.Learnt, unbound-reads.Asked, unbound-reads.Learnt, bind-below t, bind.Post, truth-reads.Asked, truth-reads.Learnt, follow-reads.Asked, follow-reads.Learnt) (go-at t) go.Post go-Inv-loop go-μ-loop
+go-returns : (t : ℕ)
+    → go-lts.Need-returns (
+      unpack-reads.Asked,
+      unpack-reads.Learnt,
+      unbound-reads.Asked,
+      unbound-reads.Learnt,
+      bind-below t,
+      bind.Post,
+      truth-reads.Asked,
+      truth-reads.Learnt,
+      follow-reads.Asked,
+      follow-reads.Learnt,
+    )
+    (go-at t) go.Post go-Inv-loop go-μ-loop
 go-returns t c = search going-leaf
 
-go-unbound-requires : (t : ℕ) → go-lts.Need-unbound-requires (unpack-reads.Asked, unpack-reads.Learnt, unbound-reads.Asked, unbound-reads.Learnt, bind-below t, bind.Post, truth-reads.Asked, truth-reads.Learnt, follow-reads.Asked, follow-reads.Learnt) (go-at t) go.Post go-Inv-loop go-μ-loop
+go-unbound-requires : (t : ℕ)
+    → go-lts.Need-unbound-requires (
+      unpack-reads.Asked,
+      unpack-reads.Learnt,
+      unbound-reads.Asked,
+      unbound-reads.Learnt,
+      bind-below t,
+      bind.Post,
+      truth-reads.Asked,
+      truth-reads.Learnt,
+      follow-reads.Asked,
+      follow-reads.Learnt,
+    )
+    (go-at t) go.Post go-Inv-loop go-μ-loop
 go-unbound-requires t c κs = search going-placed
 
-go-bind-requires : (t : ℕ) → go-lts.Need-bind-requires (unpack-reads.Asked, unpack-reads.Learnt, unbound-reads.Asked, unbound-reads.Learnt, bind-below t, bind.Post, truth-reads.Asked, truth-reads.Learnt, follow-reads.Asked, follow-reads.Learnt) (go-at t) go.Post go-Inv-loop go-μ-loop
+go-bind-requires : (t : ℕ)
+    → go-lts.Need-bind-requires (
+      unpack-reads.Asked,
+      unpack-reads.Learnt,
+      unbound-reads.Asked,
+      unbound-reads.Learnt,
+      bind-below t,
+      bind.Post,
+      truth-reads.Asked,
+      truth-reads.Learnt,
+      follow-reads.Asked,
+      follow-reads.Learnt,
+    )
+    (go-at t) go.Post go-Inv-loop go-μ-loop
 go-bind-requires t c κs =
     let g = c .before .before .before .before .before .before .before .before .before .loop .inv in
     let ea = c .before .before .before .before .unpack .ensures in
     let nl = c .before .before .before .before .before .if2 .left in
     let et = c .before .before .unbound .ensures in
     let h = c .before .if3 .taken in
-    (going-falls g ea nl et (c .before .before .before .before .before .before .before .before .before .before .before .before .before .before .before .before .pre .0) h, (g .along .ready, (g .along .within, (going-term g ea nl et h, going-free g ea nl et h))))
+    let past-12 = c .before .before .before .before .before .before .before .before .before .before .before .before in
+    let entry = past-12 .before .before .before .before .pre in
+    (going-falls g ea nl et (entry .0) h, (g .along .ready, (g .along .within, (going-term g ea nl et h, going-free g ea nl et h))))
 
-go-same-length-2 : (t : ℕ) → go-lts.Need-same-length-2 (unpack-reads.Asked, unpack-reads.Learnt, unbound-reads.Asked, unbound-reads.Learnt, bind-below t, bind.Post, truth-reads.Asked, truth-reads.Learnt, follow-reads.Asked, follow-reads.Learnt) (go-at t) go.Post go-Inv-loop go-μ-loop
+go-same-length-2 : (t : ℕ)
+    → go-lts.Need-same-length-2 (
+      unpack-reads.Asked,
+      unpack-reads.Learnt,
+      unbound-reads.Asked,
+      unbound-reads.Learnt,
+      bind-below t,
+      bind.Post,
+      truth-reads.Asked,
+      truth-reads.Learnt,
+      follow-reads.Asked,
+      follow-reads.Learnt,
+    )
+    (go-at t) go.Post go-Inv-loop go-μ-loop
 go-same-length-2 t c = going-kept (c .before .before .before .before .before .before .before .before .before .before .before .before .loop .inv) (c .before .before .bind .ensures)
 
-go-returns-2 : (t : ℕ) → go-lts.Need-returns-2 (unpack-reads.Asked, unpack-reads.Learnt, unbound-reads.Asked, unbound-reads.Learnt, bind-below t, bind.Post, truth-reads.Asked, truth-reads.Learnt, follow-reads.Asked, follow-reads.Learnt) (go-at t) go.Post go-Inv-loop go-μ-loop
+go-returns-2 : (t : ℕ)
+    → go-lts.Need-returns-2 (
+      unpack-reads.Asked,
+      unpack-reads.Learnt,
+      unbound-reads.Asked,
+      unbound-reads.Learnt,
+      bind-below t,
+      bind.Post,
+      truth-reads.Asked,
+      truth-reads.Learnt,
+      follow-reads.Asked,
+      follow-reads.Learnt,
+    )
+    (go-at t) go.Post go-Inv-loop go-μ-loop
 go-returns-2 t c = search going-bind
 
-go-truth-requires : (t : ℕ) → go-lts.Need-truth-requires (unpack-reads.Asked, unpack-reads.Learnt, unbound-reads.Asked, unbound-reads.Learnt, bind-below t, bind.Post, truth-reads.Asked, truth-reads.Learnt, follow-reads.Asked, follow-reads.Learnt) (go-at t) go.Post go-Inv-loop go-μ-loop
+go-truth-requires : (t : ℕ)
+    → go-lts.Need-truth-requires (
+      unpack-reads.Asked,
+      unpack-reads.Learnt,
+      unbound-reads.Asked,
+      unbound-reads.Learnt,
+      bind-below t,
+      bind.Post,
+      truth-reads.Asked,
+      truth-reads.Learnt,
+      follow-reads.Asked,
+      follow-reads.Learnt,
+    )
+    (go-at t) go.Post go-Inv-loop go-μ-loop
 go-truth-requires t c κs = search going-telling
 
-go-loop-less : (t : ℕ) → go-lts.Need-loop-less (unpack-reads.Asked, unpack-reads.Learnt, unbound-reads.Asked, unbound-reads.Learnt, bind-below t, bind.Post, truth-reads.Asked, truth-reads.Learnt, follow-reads.Asked, follow-reads.Learnt) (go-at t) go.Post go-Inv-loop go-μ-loop
-go-loop-less t c = going-less (c .before .before .before .before .before .before .before .before .before .before .before .loop .inv) (c .before .before .before .before .before .before .unpack .ensures) (c .before .before .before .before .before .before .before .if2 .left) (c .before .before .before .before .unbound .ensures) (c .before .before .before .if3 .left) (c .before .truth .ensures) (c .follow .ensures)
+go-loop-less : (t : ℕ)
+    → go-lts.Need-loop-less (
+      unpack-reads.Asked,
+      unpack-reads.Learnt,
+      unbound-reads.Asked,
+      unbound-reads.Learnt,
+      bind-below t,
+      bind.Post,
+      truth-reads.Asked,
+      truth-reads.Learnt,
+      follow-reads.Asked,
+      follow-reads.Learnt,
+    )
+    (go-at t) go.Post go-Inv-loop go-μ-loop
+go-loop-less t c =
+    let if3 = c .before .before .before .if3 in
+    let unbound = c .before .before .before .before .unbound in
+    let unpack = c .before .before .before .before .before .before .unpack in
+    let if2 = c .before .before .before .before .before .before .before .if2 in
+    let loop = c .before .before .before .before .before .before .before .before .before .before .before .loop in
+    going-less (loop .inv) (unpack .ensures) (if2 .left) (unbound .ensures) (if3 .left) (c .before .truth .ensures) (c .follow .ensures)
 
-go-loop-again : (t : ℕ) → go-lts.Need-loop-again (unpack-reads.Asked, unpack-reads.Learnt, unbound-reads.Asked, unbound-reads.Learnt, bind-below t, bind.Post, truth-reads.Asked, truth-reads.Learnt, follow-reads.Asked, follow-reads.Learnt) (go-at t) go.Post go-Inv-loop go-μ-loop
-go-loop-again t c = going-on (c .before .before .before .before .before .before .before .before .before .before .before .loop .inv) (c .before .before .before .before .before .before .unpack .ensures) (c .before .before .before .before .before .before .before .if2 .left) (c .before .before .before .before .unbound .ensures) (c .before .before .before .if3 .left) (c .before .truth .ensures) (c .follow .ensures)
+go-loop-again : (t : ℕ)
+    → go-lts.Need-loop-again (
+      unpack-reads.Asked,
+      unpack-reads.Learnt,
+      unbound-reads.Asked,
+      unbound-reads.Learnt,
+      bind-below t,
+      bind.Post,
+      truth-reads.Asked,
+      truth-reads.Learnt,
+      follow-reads.Asked,
+      follow-reads.Learnt,
+    )
+    (go-at t) go.Post go-Inv-loop go-μ-loop
+go-loop-again t c =
+    let if3 = c .before .before .before .if3 in
+    let unbound = c .before .before .before .before .unbound in
+    let unpack = c .before .before .before .before .before .before .unpack in
+    let if2 = c .before .before .before .before .before .before .before .if2 in
+    let loop = c .before .before .before .before .before .before .before .before .before .before .before .loop in
+    going-on (loop .inv) (unpack .ensures) (if2 .left) (unbound .ensures) (if3 .left) (c .before .truth .ensures) (c .follow .ensures)
 
-go-same-length-3 : (t : ℕ) → go-lts.Need-same-length-3 (unpack-reads.Asked, unpack-reads.Learnt, unbound-reads.Asked, unbound-reads.Learnt, bind-below t, bind.Post, truth-reads.Asked, truth-reads.Learnt, follow-reads.Asked, follow-reads.Learnt) (go-at t) go.Post go-Inv-loop go-μ-loop
+go-same-length-3 : (t : ℕ)
+    → go-lts.Need-same-length-3 (
+      unpack-reads.Asked,
+      unpack-reads.Learnt,
+      unbound-reads.Asked,
+      unbound-reads.Learnt,
+      bind-below t,
+      bind.Post,
+      truth-reads.Asked,
+      truth-reads.Learnt,
+      follow-reads.Asked,
+      follow-reads.Learnt,
+    )
+    (go-at t) go.Post go-Inv-loop go-μ-loop
 go-same-length-3 t c = ap length (c .before .before .loop .inv .still)
 
-go-returns-3 : (t : ℕ) → go-lts.Need-returns-3 (unpack-reads.Asked, unpack-reads.Learnt, unbound-reads.Asked, unbound-reads.Learnt, bind-below t, bind.Post, truth-reads.Asked, truth-reads.Learnt, follow-reads.Asked, follow-reads.Learnt) (go-at t) go.Post go-Inv-loop go-μ-loop
+go-returns-3 : (t : ℕ)
+    → go-lts.Need-returns-3 (
+      unpack-reads.Asked,
+      unpack-reads.Learnt,
+      unbound-reads.Asked,
+      unbound-reads.Learnt,
+      bind-below t,
+      bind.Post,
+      truth-reads.Asked,
+      truth-reads.Learnt,
+      follow-reads.Asked,
+      follow-reads.Learnt,
+    )
+    (go-at t) go.Post go-Inv-loop go-μ-loop
 go-returns-3 t c = search going-cut
 
 pub +bind+go-spec : {M : Type 1} → statement M
 +bind+go-spec =
     close μ-bind μ-go
-    (λ t. bind-lts.spec (go-below t, go.Post) (bind-at t) bind.Post bind-Inv-loop bind-μ-loop (bind-loop-holds t) (bind-mul-if1 t) (bind-shared-slice-read-if1 t) (bind-mul-env t) (bind-slice-write-env t) (bind-same-length t) (bind-returns t) (bind-mul-env-2 t) (bind-slice-write-env-2 t) (bind-go-requires t) (bind-add-v t) (bind-loop-less t) (bind-loop-again t) (bind-mul-env-3 t) (bind-slice-write-env-3 t) (bind-same-length-2 t) (bind-returns-2 t))
+    (λ t.
+    bind-lts.spec (go-below t, go.Post) (bind-at t) bind.Post bind-Inv-loop bind-μ-loop (bind-loop-holds t) (bind-mul-if1 t) (bind-shared-slice-read-if1 t)
+    (bind-mul-env t) (bind-slice-write-env t) (bind-same-length t) (bind-returns t) (bind-mul-env-2 t) (bind-slice-write-env-2 t) (bind-go-requires t)
+    (bind-add-v t) (bind-loop-less t) (bind-loop-again t) (bind-mul-env-3 t) (bind-slice-write-env-3 t) (bind-same-length-2 t) (bind-returns-2 t))
     λ t. go-lts.spec
     (unpack-reads.Asked, unpack-reads.Learnt, unbound-reads.Asked, unbound-reads.Learnt, bind-below t, bind.Post, truth-reads.Asked, truth-reads.Learnt, follow-reads.Asked, follow-reads.Learnt)
     (go-at t) go.Post go-Inv-loop go-μ-loop (go-loop-holds t) (λ c. search needs) (λ c. search needs) (λ c. search needs) (λ c. search needs)

@@ -18,15 +18,38 @@ sub-root : tie.Need-sub-root
 sub-root c = listing-some _ _ (c .before .before .before .before .before .before .before .before .before .before .before .before .before .pre .0)
 
 go-requires : tie.Need-go-requires
-go-requires c κs = ((start-ready (c .before .before .before .before .before .before .before .before .before .before .before .before .before .before .before .before .pre .0) (c .before .before .before .before .before .before .before .before .before .before .before .before .before .before .before .before .pre .1) (omega arith) (c .before .before .before .before .before .before .before .start .ensures) (c .before .before .before .before .before .before .before .before .before .before .tops .ensures) (c .before .before .before .before .before .before .before .before .before .before .tops .kept .1 .0) (c .before .before .before .before .index-facts .ensures)), omega (arith, listing-some _ _ (c .before .before .before .before .before .before .before .before .before .before .before .before .before .before .before .before .pre .0)))
+go-requires c κs =
+    let index-facts = c .before .before .before .before .index-facts in
+    let start = c .before .before .before .before .before .before .before .start in
+    let tops = c .before .before .before .before .before .before .before .before .before .before .tops in
+    let past-12 = c .before .before .before .before .before .before .before .before .before .before .before .before in
+    let entry = past-12 .before .before .before .before .pre in (
+      (start-ready (entry .0) (entry .1) (omega arith) (start .ensures) (tops .ensures) (tops .kept .1 .0) (index-facts .ensures)),
+      omega (arith, listing-some _ _ (entry .0)),
+    )
 
 sub-result : tie.Need-sub-result
-sub-result c = found-some (c .before .before .before .before .before .before .before .before .before .before .before .before .before .before .before .before .before .before .pre .0) (c .before .before .before .before .before .before .before .before .before .before .before .before .before .before .before .before .before .before .pre .1) (c .before .before .before .before .before .before .before .before .before .start .ensures) (start-ready (c .before .before .before .before .before .before .before .before .before .before .before .before .before .before .before .before .before .before .pre .0) (c .before .before .before .before .before .before .before .before .before .before .before .before .before .before .before .before .before .before .pre .1) (omega arith) (c .before .before .before .before .before .before .before .before .before .start .ensures) (c .before .before .before .before .before .before .before .before .before .before .before .before .tops .ensures) (c .before .before .before .before .before .before .before .before .before .before .before .before .tops .kept .1 .0) (c .before .before .before .before .before .before .index-facts .ensures)) (c .before .go .ensures)
+sub-result c =
+    let index-facts = c .before .before .before .before .before .before .index-facts in
+    let start = c .before .before .before .before .before .before .before .before .before .start in
+    let tops = c .before .before .before .before .before .before .before .before .before .before .before .before .tops in
+    let past-12 = c .before .before .before .before .before .before .before .before .before .before .before .before in
+    let entry = past-12 .before .before .before .before .before .before .pre in
+    found-some (entry .0) (entry .1) (start .ensures)
+    (start-ready (entry .0) (entry .1) (omega arith) (start .ensures) (tops .ensures) (tops .kept .1 .0) (index-facts .ensures)) (c .before .go .ensures)
 
 returns : tie.Need-returns
-returns c = found-highest (c .before .before .before .before .before .before .before .before .before .before .before .before .before .before .before .before .before .before .pre .0) (c .before .before .before .before .before .before .before .before .before .before .before .before .before .before .before .before .before .before .pre .1) (c .before .before .before .before .before .before .before .before .before .start .ensures) (start-ready (c .before .before .before .before .before .before .before .before .before .before .before .before .before .before .before .before .before .before .pre .0) (c .before .before .before .before .before .before .before .before .before .before .before .before .before .before .before .before .before .before .pre .1) (omega arith) (c .before .before .before .before .before .before .before .before .before .start .ensures) (c .before .before .before .before .before .before .before .before .before .before .before .before .tops .ensures) (c .before .before .before .before .before .before .before .before .before .before .before .before .tops .kept .1 .0) (c .before .before .before .before .before .before .index-facts .ensures)) (c .before .go .ensures)
+returns c =
+    let index-facts = c .before .before .before .before .before .before .index-facts in
+    let start = c .before .before .before .before .before .before .before .before .before .start in
+    let tops = c .before .before .before .before .before .before .before .before .before .before .before .before .tops in
+    let past-12 = c .before .before .before .before .before .before .before .before .before .before .before .before in
+    let entry = past-12 .before .before .before .before .before .before .pre in
+    found-highest (entry .0) (entry .1) (start .ensures)
+    (start-ready (entry .0) (entry .1) (omega arith) (start .ensures) (tops .ensures) (tops .kept .1 .0) (index-facts .ensures)) (c .before .go .ensures)
 
 pub highest-leaf-spec : {M : Type 1} → statement M
 highest-leaf-spec =
     tie.close
-    (tie.spec (λ c. search needs) tops-requires (λ c. search needs) start-requires (λ c. search needs) (λ c. search needs) index-facts-requires sub-root (λ c. search needs) (λ c. search needs) (λ c. search needs) go-requires sub-result returns)
+    (tie.spec (λ c. search needs) tops-requires (λ c. search needs) start-requires (λ c. search needs) (λ c. search needs) index-facts-requires sub-root
+    (λ c. search needs) (λ c. search needs) (λ c. search needs) go-requires sub-result returns)

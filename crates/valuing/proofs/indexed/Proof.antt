@@ -33,4 +33,5 @@ returns-2 c = search chain-none
 pub indexed-spec : {M : Type 1} → statement M
 indexed-spec =
     tie.close
-    (tie.spec Inv-loop μ-loop (λ c κs. search needs) (λ c. search needs) (λ c. search needs) (λ c κs. search needs) loop-holds (λ c. search needs) row-says-requires returns (λ c. search needs) (λ c. search needs) shared-slice-read-wide-2 (λ c κs. search needs) loop-less loop-again returns-2)
+    (tie.spec Inv-loop μ-loop (λ c κs. search needs) (λ c. search needs) (λ c. search needs) (λ c κs. search needs) loop-holds (λ c. search needs)
+    row-says-requires returns (λ c. search needs) (λ c. search needs) shared-slice-read-wide-2 (λ c κs. search needs) loop-less loop-again returns-2)

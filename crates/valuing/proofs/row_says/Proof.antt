@@ -33,4 +33,7 @@ returns-9 c = search says-9
 pub row-says-spec : {M : Type 1} → statement M
 row-says-spec =
     tie.close
-    (tie.spec (λ c. search needs) (λ c. search needs) (λ c. search needs) returns returns-2 (λ c. search needs) (λ c. search needs) (λ c. search needs) (λ c. search needs) returns-3 returns-4 (λ c. search needs) (λ c. search needs) (λ c. search needs) (λ c. search needs) returns-5 returns-6 (λ c. search needs) (λ c. search needs) (λ c. search needs) (λ c. search needs) returns-7 returns-8 (λ c. search needs) (λ c. search needs) (λ c. search needs) (λ c. search needs) returns-9)
+    (tie.spec (λ c. search needs) (λ c. search needs) (λ c. search needs) returns returns-2 (λ c. search needs) (λ c. search needs) (λ c. search needs)
+    (λ c. search needs) returns-3 returns-4 (λ c. search needs) (λ c. search needs) (λ c. search needs) (λ c. search needs) returns-5 returns-6
+    (λ c. search needs) (λ c. search needs) (λ c. search needs) (λ c. search needs) returns-7 returns-8 (λ c. search needs) (λ c. search needs)
+    (λ c. search needs) (λ c. search needs) returns-9)
