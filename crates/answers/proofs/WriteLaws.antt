@@ -8,8 +8,8 @@ use lib.ListN.{length, getD, set, take, drop, length-append, take-append-drop}
 use lib.Seq.{set-split, set-at, drop-cons, length-take-le, append-snoc, take-suc, take-all, take-at, drop-append-add, drop-drop}
 use Rattle.answers.specs.Digits.{digits}
 use Rattle.answers.specs.DigitLaws.{digits-one, digits-more, digits-some, digits-short}
-use Rattle.cut.specs.declared.Edge.{Edge}
-use Rattle.cut.specs.declared.Edge.the-variants.{True, False}
+use Rattle.cutting.specs.declared.Edge.{Edge}
+use Rattle.cutting.specs.declared.Edge.the-variants.{True, False}
 use Rattle.answers.specs.Answers.{field, edgeField, lineEnd}
 use Rattle.answers.specs.Writing.{Wrote, WroteWithin, lineBytes}
 

@@ -1,5 +1,5 @@
 // The answers of a text as bytes. What they are stands in specs/.
-use cut::Edge;
+use cutting::Edge;
 use label::Label;
 use refusal::Refusal;
 ghost use mathlib.Core.Path.{_≡_};

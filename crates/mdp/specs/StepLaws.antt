@@ -31,9 +31,9 @@ use Rattle.regress.specs.Parameters.{Within}
 use Rattle.regress.specs.RegressCall.{anyOccurs, freeOutcome}
 use Rattle.regress.specs.RegressCallLaws.{quiet-any}
 use Rattle.regress.specs.FreeCallLaws.{free-variables, free-ok}
-use Rattle.cut.specs.declared.Edge.{Edge}
-use Rattle.cut.specs.declared.Cut.the-variants.{Done as CutDone, Refused as CutRefused}
-use Rattle.cut.specs.Cut.{cutDiagram, isTrueEdge, diagramAnswer as cutAnswer}
+use Rattle.cutting.specs.declared.Edge.{Edge}
+use Rattle.cutting.specs.declared.Cut.the-variants.{Done as CutDone, Refused as CutRefused}
+use Rattle.cutting.specs.Cut.{cutDiagram, isTrueEdge, diagramAnswer as cutAnswer}
 use Rattle.mdp.specs.Model.{Variant, Action, Model, scale}
 use Rattle.mdp.specs.Backup.{combined, freedOutcome, variantsSum, actionsBest, highestScale, mostSteps, scaleEnds, backup}
 use Rattle.mdp.specs.Runs.{Call, aBackup, aCut, Held, cutOutcome, taken, call, runFrom, begin, run}
