@@ -1,5 +1,5 @@
 -- How many bytes an answer has at most, so that a buffer has room for it.
-use Prim.Native.Nat.{ℕ, zero, suc, _+_, _*_, _≤_, _<_}
+use Prim.Native.Nat.{ℕ, zero, suc, _+_, _*_, _≤_}
 use mathlib.Core.Path.{_≡_}
 use mathlib.Core.Bool.{Bool, true, false, cond}
 use mathlib.Core.List.{List, _++_}
@@ -8,32 +8,37 @@ use borrow.Author.Tests.{le-leb}
 use lib.Dec.{eqb}
 use lib.ListN.{length, getD, length-append}
 use Rattle.refusal.specs.declared.Refusal.{Refusal}
-use Rattle.refusal.specs.declared.Refusal.the-variants.{Form, Name, Arity, Range, Place, Unbound, Truth, Variables, Space, Pairs, Value as AboveValue, Scale, Weights, Listing, Valuations, Nothing as NothingToCut, Paths, Buffer}
+use Rattle.refusal.specs.declared.Refusal.the-variants.{
+  Form,
+  Name,
+  Arity,
+  Range,
+  Place,
+  Unbound,
+  Truth,
+  Variables,
+  Space,
+  Pairs,
+  Value as AboveValue,
+  Scale,
+  Weights,
+  Listing,
+  Valuations,
+  Nothing as NothingToCut,
+  Paths,
+  Buffer,
+}
 use Rattle.refusal.specs.Numbers.{numberOf}
 use Rattle.label.specs.Limits.{leafMark}
-use Rattle.diagram.specs.Sizes.{mostRows}
 use Rattle.diagram.specs.Words.{labelAt, highAt, lowAt}
-use Rattle.cut.specs.declared.Edge.{Edge}
-use Rattle.cut.specs.declared.Edge.the-variants.{True, False}
+use Rattle.cutting.specs.declared.Edge.{Edge}
+use Rattle.cutting.specs.declared.Edge.the-variants.{True, False}
 use Rattle.answers.specs.declared.Answer.{Answer}
 use Rattle.answers.specs.declared.Answer.the-variants.{Value, Backup, Cut, Refused, Show, Nothing}
 use Rattle.answers.specs.declared.Put.the-variants.{At}
 use Rattle.answers.specs.DigitLaws.{digits-short}
 use Rattle.answers.specs.Answers.{field, edgeField, leafField, lineEnd, valueHead, backupHead, cutHead, refusedHead, rowHead, answerLine, rowLine, rowLineAt, rowLines, answerBytes}
-use Rattle.answers.specs.Writing.{lineBytes, mostBytes, putAnswer}
-
--- a machine word
-abbrev pub IsWord : ℕ → Type 0
-IsWord v = v < 18446744073709551616
-
--- an answer of machine words, with at most 1,024 rows to show
-abbrev pub OfWords : Answer → Type 0
-OfWords (Value v k s) = IsWord v × IsWord k × IsWord s
-OfWords (Backup k n) = IsWord k × IsWord n
-OfWords (Cut i e n) = IsWord i × IsWord n
-OfWords (Refused r line) = IsWord line
-OfWords (Show n) = n ≤ mostRows
-OfWords Nothing = Unit {0}
+use Rattle.answers.specs.Writing.{IsWord, OfWords, lineBytes, mostBytes, putAnswer}
 
 field-short : (v : ℕ) → IsWord v → length (field v) ≤ 21
 unfolding field

@@ -1,24 +1,15 @@
 -- Bytes written into a lent buffer at a place: an answer that has no room is not written (document 01, section 'A run, whole').
-use Prim.Native.Nat.{ℕ, _+_, _*_, _≤_}
+use Prim.Native.Nat.{ℕ, _+_, _*_, _≤_, _<_}
 use mathlib.Core.Path.{_≡_}
-use mathlib.Core.Bool.{Bool, true, false, cond}
+use mathlib.Core.Bool.{cond}
 use mathlib.Core.List.{List, _++_}
 use lib.Dec.{leb}
 use lib.ListN.{length, take, drop}
+use Rattle.diagram.specs.Sizes.{mostRows}
 use Rattle.answers.specs.declared.Put.{Put}
 use Rattle.answers.specs.declared.Put.the-variants.{At, Full}
 use Rattle.answers.specs.declared.Answer.{Answer}
 use Rattle.answers.specs.declared.Answer.the-variants.{Value, Backup, Cut, Refused, Show, Nothing}
-
--- the bytes w stand at the place, all else is as before, and the answer is the place behind them
-pub record Wrote (s : List ℕ) (place : ℕ) (w : List ℕ) (r : ℕ) (s′ : List ℕ) : Type 0 where
-  pub behind : r ≡ place + length w
-  pub bytes : s′ ≡ take place s ++ w ++ drop r s
-
--- and they are at most so many
-pub record WroteWithin (s : List ℕ) (place : ℕ) (w : List ℕ) (most r : ℕ) (s′ : List ℕ) : Type 0 where
-  pub wrote : Wrote s place w r s′
-  pub within : length w ≤ most
 
 -- the bytes of a line at most: a word, four numbers and the signs between them
 abbrev pub lineBytes : ℕ
@@ -28,13 +19,9 @@ lineBytes = 90
 abbrev pub mostBytes : ℕ
 mostBytes = 92160
 
-abbrev pub pickPut : Bool → Put → Put → Put
-pickPut true x y = x
-pickPut false x y = y
-
 -- the bytes w put at a place of a buffer of so many bytes: the place behind them, or that there is no room
 unfoldable pub putAnswer : ℕ → ℕ → List ℕ → Put
-putAnswer room place w = pickPut (leb (place + length w) room) (At (place + length w)) Full
+putAnswer room place w = cond (leb (place + length w) room) (At (place + length w)) Full
 
 -- the buffer then: all other bytes stay, and all stay where there is no room
 unfoldable pub putResult : List ℕ → ℕ → List ℕ → List ℕ
@@ -52,3 +39,16 @@ Showable ws (Cut i e n) = Unit {0}
 Showable ws (Refused r line) = Unit {0}
 Showable ws (Show n) = n * 3 ≤ length ws
 Showable ws Nothing = Unit {0}
+
+-- a machine word
+abbrev pub IsWord : ℕ → Type 0
+IsWord v = v < 18446744073709551616
+
+-- an answer of machine words, with at most 1,024 rows to show
+abbrev pub OfWords : Answer → Type 0
+OfWords (Value v k s) = IsWord v × IsWord k × IsWord s
+OfWords (Backup k n) = IsWord k × IsWord n
+OfWords (Cut i e n) = IsWord i × IsWord n
+OfWords (Refused r line) = IsWord line
+OfWords (Show n) = n ≤ mostRows
+OfWords Nothing = Unit {0}

@@ -17,10 +17,10 @@ use Rattle.regression.specs.declared.Regressed.the-variants.{Done as RegressedD
 use Rattle.regression.specs.declared.Freed.{Freed}
 use Rattle.regression.specs.declared.Freed.the-variants.{Done as FreedDone, Refused as FreedRefused}
 use Rattle.regression.specs.RegressCall.{regressAnswer, regressResult, freeAnswer, freeResult}
-use Rattle.cut.specs.declared.Edge.{Edge}
-use Rattle.cut.specs.declared.Cut.{Cut}
-use Rattle.cut.specs.declared.Cut.the-variants.{Done as CutDone, Refused as CutRefused}
-use Rattle.cut.specs.Cut.{cutAnswer, cutBuffer}
+use Rattle.cutting.specs.declared.Edge.{Edge}
+use Rattle.cutting.specs.declared.Cut.{Cut}
+use Rattle.cutting.specs.declared.Cut.the-variants.{Done as CutDone, Refused as CutRefused}
+use Rattle.cutting.specs.Cut.{cutAnswer, cutBuffer}
 use Rattle.state.specs.declared.Valued.{Valued}
 use Rattle.state.specs.declared.Valued.the-variants.{Value, Refused as ValuedRefused}
 use Rattle.state.specs.ValueCall.{valueAnswer}

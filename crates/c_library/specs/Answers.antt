@@ -10,10 +10,10 @@ use Rattle.regression.specs.declared.Regressed.{Regressed}
 use Rattle.regression.specs.declared.Regressed.the-variants.{Done as RegressedDone, Refused as RegressedRefused}
 use Rattle.regression.specs.declared.Freed.{Freed}
 use Rattle.regression.specs.declared.Freed.the-variants.{Done as FreedDone, Refused as FreedRefused}
-use Rattle.cut.specs.declared.Edge.{Edge}
-use Rattle.cut.specs.declared.Edge.the-variants.{True, False}
-use Rattle.cut.specs.declared.Cut.{Cut}
-use Rattle.cut.specs.declared.Cut.the-variants.{Done as CutDone, Refused as CutRefused}
+use Rattle.cutting.specs.declared.Edge.{Edge}
+use Rattle.cutting.specs.declared.Edge.the-variants.{True, False}
+use Rattle.cutting.specs.declared.Cut.{Cut}
+use Rattle.cutting.specs.declared.Cut.the-variants.{Done as CutDone, Refused as CutRefused}
 use Rattle.state.specs.declared.Valued.{Valued}
 use Rattle.state.specs.declared.Valued.the-variants.{Value, Refused as ValuedRefused}
 use Rattle.answers.specs.declared.Put.{Put}

@@ -3,8 +3,8 @@ use answers::Put;
 use apply::Combined;
 use apply::Names;
 use apply::Operation;
-use cut::Cut;
-use cut::Edge;
+use cutting::Cut;
+use cutting::Edge;
 use label::Label;
 use refusal::Refusal;
 use regression::Freed;
@@ -280,7 +280,7 @@ pub extern "C" fn yindolve_cut(
 ) -> u64
     ensures { λ r. ⌜ Cuts (now (arities .entry)) (now (words .entry)) (now (result .entry)) (now (work .entry)) (now (row .entry)) (now (edge .entry)) (now (rows .entry)) r (now (result .exit)) (now (row .exit)) (now (edge .exit)) (now (rows .exit)) ⌝ }
 {
-    let answer = trim::cut(arities, words, result, work);
+    let answer = cut::cut(arities, words, result, work);
     match answer {
         Cut::Done(k, e, n) => {
             *row = k as u64;
@@ -304,7 +304,7 @@ pub extern "C" fn yindolve_value(
 ) -> u64
     ensures { λ r. ⌜ Values (now (arities .entry)) (now (words .entry)) objects (now (constants .entry)) (now (facts .entry)) (now (value .entry)) r (now (value .exit)) ⌝ }
 {
-    let answer = state::value(arities, words, objects, constants, facts);
+    let answer = valuing::value(arities, words, objects, constants, facts);
     match answer {
         Valued::Value(v) => {
             *value = v;

@@ -1,884 +1,433 @@
-// Cuts: an edge whose paths are all covered elsewhere goes to leaf 0.
+// The public call of a cut: the edge that goes is chosen, what is left is formed row by row, written and closed up.
+use cutting::Cut;
+use cutting::Edge;
 use label::Label;
-use label::Term;
+use paths::PATHS;
 use refusal::Refusal;
+use store::Formed;
+use write::Listed;
 ghost use mathlib.Core.Path.{_≡_};
-ghost use mathlib.Core.Bool.{false};
-ghost use Prim.Native.Nat.{ℕ, _+_, _-_, _*_, _/_, _%_, _<_, _≤_, min};
-ghost use lib.ListN.{length, getD};
-ghost use Rattle.label.specs.Limits.{termBase, leafMark};
-ghost use Rattle.diagram.specs.Words.{labelAt};
+ghost use mathlib.Core.Bool.{true};
+ghost use Prim.Native.Nat.{_-_, _/_, _≤_, _<_};
+ghost use lib.ListN.{length};
+ghost use lib.Dec.{eqb};
+ghost use Rattle.diagram.specs.Diagram.{leaf, same};
+ghost use Rattle.diagram.specs.Words.{rowCount, isListing};
+ghost use Rattle.diagram.specs.Listing.{diagramOf};
 ghost use Rattle.diagram.specs.Validity.{tree};
-ghost use Rattle.label.specs.Limits.{firstVariable};
-ghost use Rattle.listing.specs.Used.{marked};
-ghost use Rattle.cut.specs.Paths.{paths};
-ghost use Rattle.cut.specs.Cut.{covers};
-ghost use Rattle.cut.specs.Covering.{Coverable};
-ghost use Rattle.cut.specs.Parts.{isSeen, shares, Ranked, Best, Takable, Taken, Separable, PartTaken, PartsPost, kindOf, Kinds, WayPost, WaysPost};
-ghost use Rattle.cut.specs.Stored.{termsOfCode, Markable, Unmarked, Marking, Enterable, Stored, Ready, PartPost, BothStored, Answers};
-ghost use Rattle.cut.specs.Routes.{Rows, Counted, At, Stepped, pathAt, Sided, Entered};
-ghost use Rattle.cut.specs.Search.{fourOf, slotFits, slotAfter, Slots, Replacing, BindPost, alike, plainWay, equalWay, wayAt, wayCount, TryPost, allKnown, Sorted, Finds, Images, Digits, Met, numberOf, Tabled, SolvePost, termAt, Unplaced, Placing};
+ghost use Rattle.apply.specs.Formed.{add};
+ghost use Rattle.store.specs.Space.{diagramsOf, Formation};
+ghost use Rattle.cutting.specs.Cut.{covers, mayGo, choice, diagramAnswer, answerBuffer, cutAnswer, cutBuffer};
+ghost use Rattle.paths.specs.Routes.{Rows};
+ghost use Rattle.matcher.specs.Covering.{Coverable};
+ghost use Rattle.cut.specs.Choosing.{pathOf, Routed, Leaves, Sides, Known, Asking, Charted, Edged, Tested, EdgeFound, isCoverOn, coverBelow, isFreeOn, chosenAs};
+ghost use Rattle.cut.specs.Calls.{Cuttable, Writable, Trimmed};
+ghost use Rattle.cut.specs.Leaving.{leftOf, Leaving, Leavable, Left};
 
-// A word for each term.
-const TERMS: usize = 64;
+// A place for each pair of paths.
+const MEMO: usize = 65536;
 
-const FIRST_VARIABLE: usize = 32;
-
-// What the predicate of a literal's number is multiplied by; below it are the equalities.
-const LITERAL_WEIGHT: u64 = 33554432;
-
-// The words of a path: a mark for each term, and behind them at most 255 literals.
-const PATH_WORDS: usize = 320;
-
-// The words of the table: for each term its first place, and behind them a mark for each term.
-const TABLE_WORDS: usize = 128;
-
-// The first place of a variable that has none yet: behind all places.
-const LATE: u32 = 2000;
-
-// The ranks of literals that share no seen variable begin here, and all ranks are below the second.
-const STRANGE: u64 = 100;
-
-const WORST: u64 = 200;
-
-// The side of a row on which an edge leaves it.
-pub enum Edge {
-    True,
-    False,
-}
-
-// What a cut answers: the row and edge that went and how many rows are left, or why none did.
-pub enum Cut {
-    Done(usize, Edge, usize),
-    Refused(Refusal),
-}
-
-// What the four places of a literal may become.
-enum Way {
-    Terms(u64, u64, u64, u64),
+// Which edge goes: the row and whether it is the true edge; or that none may.
+enum Chosen {
+    Edge(usize, bool),
     Nothing,
 }
 
-// An entry of a table as a number.
-fn wide(x: u32) -> u64
-    ensures { λ r. ⌜ r ≡ x ⌝ }
-    ensures { λ r. ⌜ r < 4294967296 ⌝ }
+// Finds the leaves of the m paths.
+fn find_leaves(words: &[u64], counts: &[u64], n: usize, m: usize, leaves: &mut [u64])
+    requires { ⌜ Routed (now words) (now counts) n m ⌝ }
+    requires { ⌜ m ≤ length (now leaves) ⌝ }
+    ensures { λ _. ⌜ Leaves (now (words .entry)) (now (leaves .exit)) n m ⌝ }
 {
-    x as u64
-}
-
-// The term t, met at place m, is to become u: it is written where it comes first, else compared.
-fn place(tab: &[u32], theta: &mut [u64], m: u64, t: usize, u: u64) -> bool
-    requires { ⌜ t < length (now tab) ⌝ }
-    requires { ⌜ t < length (now theta) ⌝ }
-    requires { ⌜ m < 4096 ⌝ }
-    ensures { λ r. ⌜ r ≡ slotFits (now (tab .entry)) (now (theta .entry)) m t u ⌝ }
-    ensures { λ _. ⌜ now (theta .exit) ≡ slotAfter (now (tab .entry)) (now (theta .entry)) m t u ⌝ }
-{
-    if wide(tab[t]) == m + 1 {
-        theta[t] = u;
-        return true;
-    }
-    theta[t] == u
-}
-
-// The four places of the label l, from place m on, are to become a, b, c, d.
-fn bind(tab: &[u32], theta: &mut [u64], m: u64, l: u64, a: u64, b: u64, c: u64, d: u64) -> bool
-    requires { ⌜ Slots (now tab) m l ⌝ }
-    requires { ⌜ termBase ≤ length (now theta) ⌝ }
-    requires { ⌜ m + 4 < 4096 ⌝ }
-    ensures { λ r. ⌜ BindPost (now (tab .entry)) (now (theta .entry)) m l a b c d r (now (theta .exit)) ⌝ }
-{
-    if !place(
-        tab,
-        theta,
-        m,
-        (l / Label::FIRST_WEIGHT % Term::BASE) as usize,
-        a,
-    ) {
-        return false;
-    }
-    if !place(
-        tab,
-        theta,
-        m + 1,
-        (l / Label::SECOND_WEIGHT % Term::BASE) as usize,
-        b,
-    ) {
-        return false;
-    }
-    if !place(
-        tab,
-        theta,
-        m + 2,
-        (l / Label::THIRD_WEIGHT % Term::BASE) as usize,
-        c,
-    ) {
-        return false;
-    }
-    place(tab, theta, m + 3, (l % Term::BASE) as usize, d)
-}
-
-// Whether two literals have one predicate and one sign.
-fn alike(x: u64, y: u64) -> bool
-    ensures { λ r. ⌜ r ≡ alike x y ⌝ }
-{
-    if x / LITERAL_WEIGHT != y / LITERAL_WEIGHT {
-        return false;
-    }
-    x % 2 == y % 2
-}
-
-// Way j of the literal x of another predicate than equality.
-fn plain_way(into: &[u32], x: u64, j: usize) -> Way
-    requires { ⌜ termBase + j < length (now into) ⌝ }
-    ensures { λ r. ⌜ r ≡ plainWay (now (into .entry)) x j ⌝ }
-{
-    let y = wide(into[TERMS + j]);
-    if !alike(x, y) {
-        return Way::Nothing;
-    }
-    let c = y / 2;
-    Way::Terms(
-        c / Label::FIRST_WEIGHT % Term::BASE,
-        c / Label::SECOND_WEIGHT % Term::BASE,
-        c / Label::THIRD_WEIGHT % Term::BASE,
-        c % Term::BASE,
-    )
-}
-
-// Way j of an equality: literal j / 2, turned round for odd j; behind these t = t for each term.
-fn equal_way(into: &[u32], tab: &[u32], x: u64, j: usize) -> Way
-    requires { ⌜ termBase ≤ length (now into) ⌝ }
-    requires { ⌜ termBase + termBase ≤ length (now tab) ⌝ }
-    requires { ⌜ j < (length (now into) - termBase) * 2 + termBase ⌝ }
-    ensures { λ r. ⌜ r ≡ equalWay (now (into .entry)) (now (tab .entry)) x j ⌝ }
-{
-    let n = into.len() - TERMS;
-    if j < n * 2 {
-        let y = wide(into[TERMS + j / 2]);
-        if !alike(x, y) {
-            return Way::Nothing;
-        }
-        let c = y / 2;
-        if j % 2 == 0 {
-            return Way::Terms(
-                c / Label::FIRST_WEIGHT % Term::BASE,
-                c / Label::SECOND_WEIGHT % Term::BASE,
-                c / Label::THIRD_WEIGHT % Term::BASE,
-                c % Term::BASE,
-            );
-        }
-        return Way::Terms(
-            c / Label::SECOND_WEIGHT % Term::BASE,
-            c / Label::FIRST_WEIGHT % Term::BASE,
-            c / Label::THIRD_WEIGHT % Term::BASE,
-            c % Term::BASE,
-        );
-    }
-    let t = j - n * 2;
-    if x % 2 != 1 {
-        return Way::Nothing;
-    }
-    if wide(into[t]) != 0 {
-        return Way::Terms(t as u64, t as u64, 0, 0);
-    }
-    if wide(tab[TERMS + t]) != 0 {
-        return Way::Terms(t as u64, t as u64, 0, 0);
-    }
-    Way::Nothing
-}
-
-// Way j of the literal x.
-fn way_at(into: &[u32], tab: &[u32], x: u64, j: usize) -> Way
-    requires { ⌜ termBase ≤ length (now into) ⌝ }
-    requires { ⌜ termBase + termBase ≤ length (now tab) ⌝ }
-    requires { ⌜ j < wayCount (now into) x ⌝ }
-    ensures { λ r. ⌜ r ≡ wayAt (now (into .entry)) (now (tab .entry)) x j ⌝ }
-{
-    if x < LITERAL_WEIGHT {
-        return equal_way(into, tab, x, j);
-    }
-    plain_way(into, x, j)
-}
-
-// How many ways there are for the literal x.
-fn way_count(into: &[u32], x: u64) -> usize
-    requires { ⌜ termBase ≤ length (now into) ⌝ }
-    ensures { λ r. ⌜ r ≡ wayCount (now (into .entry)) x ⌝ }
-{
-    if x < LITERAL_WEIGHT {
-        return (into.len() - TERMS) * 2 + TERMS;
-    }
-    into.len() - TERMS
-}
-
-// Tries way j for the literal x, whose places stand from m on.
-fn attempt(into: &[u32], tab: &[u32], theta: &mut [u64], m: u64, x: u64, j: usize) -> bool
-    requires { ⌜ termBase ≤ length (now into) ⌝ }
-    requires { ⌜ termBase + termBase ≤ length (now tab) ⌝ }
-    requires { ⌜ j < wayCount (now into) x ⌝ }
-    requires { ⌜ Slots (now tab) m (x / 2) ⌝ }
-    requires { ⌜ termBase ≤ length (now theta) ⌝ }
-    requires { ⌜ m + 4 < 4096 ⌝ }
-    ensures { λ r. ⌜ TryPost (now (tab .entry)) (now (theta .entry)) m x r (now (theta .exit)) (wayAt (now (into .entry)) (now (tab .entry)) x j) ⌝ }
-{
-    let Way::Terms(a, b, c, d) = way_at(into, tab, x, j) else {
-        return false;
-    };
-    bind(tab, theta, m, x / 2, a, b, c, d)
-}
-
-// Whether the terms of the label l are all known before place m.
-fn all_known(tab: &[u32], m: u64, l: u64) -> bool
-    requires { ⌜ termBase ≤ length (now tab) ⌝ }
-    ensures { λ r. ⌜ r ≡ allKnown (now (tab .entry)) m l ⌝ }
-{
-    if wide(tab[(l / Label::FIRST_WEIGHT % Term::BASE) as usize]) > m {
-        return false;
-    }
-    if wide(tab[(l / Label::SECOND_WEIGHT % Term::BASE) as usize]) > m {
-        return false;
-    }
-    if wide(tab[(l / Label::THIRD_WEIGHT % Term::BASE) as usize]) > m {
-        return false;
-    }
-    wide(tab[(l % Term::BASE) as usize]) <= m
-}
-
-// Whether y is one of the literals in order behind the first 64 entries.
-fn find(into: &[u32], y: u64) -> bool
-    requires { ⌜ Sorted (now into) ⌝ }
-    ensures { λ r. ⌜ Finds (now (into .entry)) y r ⌝ }
-{
-    let mut low = TERMS;
-    let mut high = into.len();
-    while low < high {
-        let mid = low + (high - low) / 2;
-        let x = wide(into[mid]);
-        if x == y {
-            return true;
-        }
-        if x < y {
-            low = mid + 1;
-        } else {
-            high = mid;
-        }
-    }
-    false
-}
-
-// Whether the literal x, all of whose terms are known, becomes one of the literals or t = t true.
-fn is_met(into: &[u32], theta: &[u64], x: u64) -> bool
-    requires { ⌜ Sorted (now into) ⌝ }
-    requires { ⌜ Images (now theta) x ⌝ }
-    ensures { λ r. ⌜ Met (now (into .entry)) (now (theta .entry)) x r ⌝ }
-{
-    let l = x / 2;
-    let a = theta[(l / Label::FIRST_WEIGHT % Term::BASE) as usize];
-    let b = theta[(l / Label::SECOND_WEIGHT % Term::BASE) as usize];
-    if x >= LITERAL_WEIGHT {
-        let c = theta[(l / Label::THIRD_WEIGHT % Term::BASE) as usize];
-        let d = theta[(l % Term::BASE) as usize];
-        return find(into, number(x / LITERAL_WEIGHT, a, b, c, d, x % 2));
-    }
-    if a == b {
-        return x % 2 == 1;
-    }
-    if a < b {
-        return find(into, number(0, a, b, 0, 0, x % 2));
-    }
-    find(into, number(0, b, a, 0, 0, x % 2))
-}
-
-// The number of a literal.
-fn number(p: u64, a: u64, b: u64, c: u64, d: u64, s: u64) -> u64
-    requires { ⌜ Digits p a b c d s ⌝ }
-    ensures { λ r. ⌜ r ≡ numberOf p a b c d s ⌝ }
-{
-    (p * Label::PREDICATE_WEIGHT
-        + a * Label::FIRST_WEIGHT
-        + b * Label::SECOND_WEIGHT
-        + c * Label::THIRD_WEIGHT
-        + d)
-        * 2
-        + s
-}
-
-// Whether a replacement beyond theta takes the literals from k to n to those of the first path, or to t = t true. Tries each literal in turn, and
-// goes back when one has no match.
-fn solve(ord: &[u32], into: &[u32], tab: &[u32], theta: &mut [u64], n: usize, k: usize) -> bool
-    requires { ⌜ Tabled (now ord) (now tab) n ⌝ }
-    requires { ⌜ Sorted (now into) ⌝ }
-    requires { ⌜ Replacing (now tab) (now theta) (k * 4) ⌝ }
-    requires { ⌜ k ≤ n ⌝ }
-    ensures { λ r. ⌜ SolvePost (now (ord .entry)) (now (into .entry)) (now (tab .entry)) (now (theta .entry)) n k r (now (theta .exit)) ⌝ }
-{
-    if k == n {
-        return true;
-    }
-    let x = wide(ord[k]);
-    if all_known(tab, (k * 4) as u64, x / 2) {
-        if !is_met(into, theta, x) {
-            return false;
-        }
-        return solve(ord, into, tab, theta, n, k + 1);
-    }
-    let total = way_count(into, x);
-    let mut j = 0;
-    while j < total {
-        if attempt(into, tab, theta, (k * 4) as u64, x, j) {
-            if solve(ord, into, tab, theta, n, k + 1) {
-                return true;
-            }
-            j += 1;
-        } else {
-            j += 1;
-        }
-    }
-    false
-}
-
-// A place on a path: a row, which of its paths, and the literal that led to it.
-struct Here {
-    row: usize,
-    rest: u64,
-    code: u64,
-}
-
-// How many paths row i has, as far as 256; 257 if more.
-fn count_row(words: &[u64], counts: &[u64], n: usize, i: usize) -> u64
-    requires { ⌜ Rows (now words) n ⌝ }
-    requires { ⌜ Counted (now words) (now counts) i ⌝ }
-    requires { ⌜ i < n ⌝ }
-    ensures { λ r. ⌜ r ≡ min 257 (length (paths (tree (now (words .entry)) i))) ⌝ }
-{
-    if words[i * 3] == Label::LEAF {
-        return 1;
-    }
-    let a = counts[words[i * 3 + 1] as usize];
-    let b = counts[words[i * 3 + 2] as usize];
-    if a + b > 256 {
-        return 257;
-    }
-    a + b
-}
-
-// Counts the paths of each of the n rows.
-pub fn count_paths(words: &[u64], counts: &mut [u64], n: usize)
-    requires { ⌜ Rows (now words) n ⌝ }
-    requires { ⌜ n ≤ length (now counts) ⌝ }
-    ensures { λ _. ⌜ Counted (now (words .entry)) (now (counts .exit)) n ⌝ }
-{
-    let mut i = 0;
-    while i < n {
-        counts[i] = count_row(words, counts, n, i);
-        i += 1;
+    let mut p = 0;
+    while p < m {
+        leaves[p] = paths::leaf_of(words, counts, n, p as u64);
+        p += 1;
     }
 }
 
-// One step on from the branch row i on its path k.
-fn step_on(words: &[u64], counts: &[u64], n: usize, i: usize, k: u64) -> Here
-    requires { ⌜ Rows (now words) n ⌝ }
-    requires { ⌜ Counted (now words) (now counts) n ⌝ }
-    requires { ⌜ At (now words) n i k ⌝ }
-    requires { ⌜ (labelAt (now words) i ≡ leafMark → ⊥) ⌝ }
-    ensures { λ r. ⌜ Stepped (now (words .entry)) n i k r ⌝ }
-{
-    let l = words[i * 3];
-    let t = words[i * 3 + 1] as usize;
-    let c = counts[t];
-    if k < c {
-        return Here {
-            row: t,
-            rest: k,
-            code: l * 2 + 1,
-        };
-    }
-    Here {
-        row: words[i * 3 + 2] as usize,
-        rest: k - c,
-        code: l * 2,
-    }
-}
-
-// The leaf of path k.
-pub fn leaf_of(words: &[u64], counts: &[u64], n: usize, k: u64) -> u64
-    requires { ⌜ Rows (now words) n ⌝ }
-    requires { ⌜ Counted (now words) (now counts) n ⌝ }
-    requires { ⌜ At (now words) n (n - 1) k ⌝ }
-    ensures { λ r. ⌜ r ≡ pathAt (tree (now (words .entry)) (n - 1)) k .end ⌝ }
-{
-    let mut i = n - 1;
-    let mut m = k;
-    while words[i * 3] != Label::LEAF {
-        let s = step_on(words, counts, n, i, m);
-        i = s.row;
-        m = s.rest;
-    }
-    words[i * 3 + 1]
-}
-
-// Where path k goes through row r: 1 by its true edge, 2 by its false edge, 0 not at all.
-pub fn side_of(words: &[u64], counts: &[u64], n: usize, k: u64, r: usize) -> u64
-    requires { ⌜ Rows (now words) n ⌝ }
-    requires { ⌜ Counted (now words) (now counts) n ⌝ }
-    requires { ⌜ At (now words) n (n - 1) k ⌝ }
+// Finds where each of the m paths goes through row r.
+fn find_sides(words: &[u64], counts: &[u64], n: usize, m: usize, r: usize, sides: &mut [u64])
+    requires { ⌜ Routed (now words) (now counts) n m ⌝ }
     requires { ⌜ r < n ⌝ }
-    ensures { λ s. ⌜ Sided (tree (now (words .entry)) r) (pathAt (tree (now (words .entry)) (n - 1)) k) s ⌝ }
+    requires { ⌜ m ≤ length (now sides) ⌝ }
+    ensures { λ _. ⌜ Sides (now (words .entry)) (now (sides .exit)) n m r ⌝ }
 {
-    let mut i = n - 1;
-    let mut m = k;
-    while i > r {
-        if words[i * 3] == Label::LEAF {
-            return 0;
-        }
-        let s = step_on(words, counts, n, i, m);
-        i = s.row;
-        m = s.rest;
-    }
-    if i < r {
-        return 0;
-    }
-    if words[i * 3] == Label::LEAF {
-        return 0;
-    }
-    if m < counts[words[i * 3 + 1] as usize] {
-        return 1;
-    }
-    2
-}
-
-// Writes the literals of path k behind the first 64 entries, and answers how many they are.
-fn path_into(words: &[u64], counts: &[u64], n: usize, k: u64, out: &mut [u32]) -> usize
-    requires { ⌜ Rows (now words) n ⌝ }
-    requires { ⌜ Counted (now words) (now counts) n ⌝ }
-    requires { ⌜ At (now words) n (n - 1) k ⌝ }
-    requires { ⌜ 320 ≤ length (now out) ⌝ }
-    ensures { λ j. ⌜ Entered (now (words .entry)) (n - 1) k (now (out .entry)) (now (out .exit)) j ⌝ }
-{
-    let mut i = n - 1;
-    let mut m = k;
-    let mut j = 0;
-    while words[i * 3] != Label::LEAF {
-        let s = step_on(words, counts, n, i, m);
-        out[TERMS + j] = s.code as u32;
-        i = s.row;
-        m = s.rest;
-        j += 1;
-    }
-    j
-}
-
-// Place m of literals one after the other, four to a literal.
-fn term_at(ord: &[u32], m: usize) -> usize
-    requires { ⌜ m < length (now ord) * 4 ⌝ }
-    ensures { λ r. ⌜ (r ≡ termAt (now (ord .entry)) m) × (r < termBase) ⌝ }
-{
-    let l = wide(ord[m / 4]) / 2;
-    let j = m % 4;
-    if j == 0 {
-        return (l / Label::FIRST_WEIGHT % Term::BASE) as usize;
-    }
-    if j == 1 {
-        return (l / Label::SECOND_WEIGHT % Term::BASE) as usize;
-    }
-    if j == 2 {
-        return (l / Label::THIRD_WEIGHT % Term::BASE) as usize;
-    }
-    (l % Term::BASE) as usize
-}
-
-// Writes the places, counted from 1, where the terms of the first n literals come first.
-fn first_places(ord: &[u32], n: usize, tab: &mut [u32])
-    requires { ⌜ n ≤ length (now ord) ⌝ }
-    requires { ⌜ n < 256 ⌝ }
-    requires { ⌜ Unplaced (now tab) ⌝ }
-    ensures { λ _. ⌜ Placing (now (ord .entry)) (now (tab .entry)) (now (tab .exit)) (n * 4) ⌝ }
-{
-    let mut m = 0;
-    while m < n * 4 {
-        let t = term_at(ord, m);
-        if wide(tab[t]) > (m + 1) as u64 {
-            tab[t] = (m + 1) as u32;
-            m += 1;
-        } else {
-            m += 1;
-        }
+    let mut p = 0;
+    while p < m {
+        sides[p] = paths::side_of(words, counts, n, p as u64, r);
+        p += 1;
     }
 }
 
-// Marks the terms of the literal x.
-fn mark_literal(arities: &[u64], marks: &mut [u32], x: u64)
-    requires { ⌜ Markable (now arities) (now marks) x ⌝ }
-    ensures { λ _. ⌜ now (marks .exit) ≡ marked (termsOfCode (now (arities .entry)) x) (now (marks .entry)) ⌝ }
-{
-    let l = x / 2;
-    let n = arities[(l / Label::PREDICATE_WEIGHT) as usize];
-    if n == 0 {
-        return;
-    }
-    marks[(l / Label::FIRST_WEIGHT % Term::BASE) as usize] = 1;
-    if n == 1 {
-        return;
-    }
-    marks[(l / Label::SECOND_WEIGHT % Term::BASE) as usize] = 1;
-    if n == 2 {
-        return;
-    }
-    marks[(l / Label::THIRD_WEIGHT % Term::BASE) as usize] = 1;
-    if n == 3 {
-        return;
-    }
-    marks[(l % Term::BASE) as usize] = 1;
-}
-
-// Marks the terms of the n literals behind the marks.
-fn mark_path(arities: &[u64], out: &mut [u32], n: usize)
-    requires { ⌜ Unmarked (now arities) (now out) n ⌝ }
-    ensures { λ _. ⌜ Marking (now (arities .entry)) (now (out .entry)) (now (out .exit)) n ⌝ }
-{
-    let mut i = 0;
-    while i < n {
-        let x = wide(out[TERMS + i]);
-        mark_literal(arities, out, x);
-        i += 1;
-    }
-}
-
-// Writes the literals of path k in order behind the marks of their terms, and answers how many they are.
-fn enter_path(
+// Whether path q covers path p. It is asked once for each pair of paths: the memo has 1 for yes, 2 for no, and 0 before.
+fn is_covered(
     arities: &[u64],
     words: &[u64],
     counts: &[u64],
     n: usize,
-    k: u64,
-    out: &mut [u32],
-) -> usize
-    requires { ⌜ Enterable (now arities) (now words) (now counts) n k (now out) ⌝ }
-    ensures { λ j. ⌜ Stored (now (arities .entry)) (pathAt (tree (now (words .entry)) (n - 1)) k) (now (out .exit)) j ⌝ }
+    memo: &mut [u16],
+    p: usize,
+    q: usize,
+) -> bool
+    requires { ⌜ Coverable (now arities) (now words) (now counts) n p q ⌝ }
+    requires { ⌜ Known (now arities) (now words) (now memo) n ⌝ }
+    ensures { λ r. ⌜ Tested (now (arities .entry)) (now (words .entry)) n (covers (now (arities .entry)) (pathOf (now (words .entry)) n p) (pathOf (now (words .entry)) n q)) r (now (memo .exit)) ⌝ }
 {
-    let j = path_into(words, counts, n, k, out);
-    mark_path(arities, out, j);
-    j
-}
-
-// Copies the marks of 64 terms behind the table.
-fn copy_marks(marks: &[u32], tab: &mut [u32])
-    requires { ⌜ termBase ≤ length (now marks) ⌝ }
-    requires { ⌜ termBase + termBase ≤ length (now tab) ⌝ }
-    ensures { λ _. ⌜ ((t : ℕ) → t < termBase → getD (now (tab .exit)) (termBase + t) 0 ≡ getD (now (marks .entry)) t 0) ⌝ }
-{
-    let mut t = 0;
-    while t < TERMS {
-        tab[TERMS + t] = marks[t];
-        t += 1;
+    let at = p * PATHS + q;
+    let known = basics::wide(memo[at]);
+    if known == 1 {
+        return true;
     }
-}
-
-// Each term becomes itself.
-fn keep_terms(theta: &mut [u64])
-    requires { ⌜ termBase ≤ length (now theta) ⌝ }
-    ensures { λ _. ⌜ ((v : ℕ) → v < termBase → getD (now (theta .exit)) v 0 ≡ v) ⌝ }
-{
-    let mut v = 0;
-    while v < TERMS {
-        theta[v] = v as u64;
-        v += 1;
-    }
-}
-
-// No variable has a place yet.
-fn unplace(tab: &mut [u32])
-    requires { ⌜ termBase + termBase ≤ length (now tab) ⌝ }
-    ensures { λ _. ⌜ Unplaced (now (tab .exit)) ⌝ }
-    ensures { λ _. ⌜ ((v : ℕ) → termBase ≤ v → getD (now (tab .exit)) v 0 ≡ getD (now (tab .entry)) v 0) ⌝ }
-{
-    let mut v = 0;
-    while v < FIRST_VARIABLE {
-        tab[v] = 0;
-        tab[FIRST_VARIABLE + v] = LATE;
-        v += 1;
-    }
-}
-
-// Whether a replacement takes the literals of ord to those of the first path, or to t = t true.
-fn match_part(ord: &[u32], into: &[u32], tab: &mut [u32], theta: &mut [u64]) -> bool
-    requires { ⌜ Ready (now ord) (now into) (now tab) (now theta) ⌝ }
-    ensures { λ r. ⌜ PartPost (now (ord .entry)) (now (into .entry)) (now (tab .entry)) r (now (tab .exit)) (now (theta .exit)) ⌝ }
-{
-    unplace(tab);
-    first_places(ord, ord.len(), tab);
-    solve(ord, into, tab, theta, ord.len(), 0)
-}
-
-// The literal to be taken next, and its rank.
-struct Pick {
-    at: usize,
-    rank: u64,
-}
-
-// Whether the term t is a variable that was seen.
-fn is_seen(seen: &[u32], t: usize) -> bool
-    requires { ⌜ t < length (now seen) ⌝ }
-    ensures { λ r. ⌜ r ≡ isSeen (now (seen .entry)) t ⌝ }
-{
-    if t < FIRST_VARIABLE {
+    if known != 0 {
         return false;
     }
-    wide(seen[t]) > 0
-}
-
-// Whether the literal x has a variable that was seen.
-fn shares(seen: &[u32], x: u64) -> bool
-    requires { ⌜ termBase ≤ length (now seen) ⌝ }
-    ensures { λ r. ⌜ r ≡ shares (now (seen .entry)) x ⌝ }
-{
-    let l = x / 2;
-    if is_seen(seen, (l / Label::FIRST_WEIGHT % Term::BASE) as usize) {
+    if matcher::covers(arities, words, counts, n, p as u64, q as u64) {
+        memo[at] = 1;
         return true;
     }
-    if is_seen(seen, (l / Label::SECOND_WEIGHT % Term::BASE) as usize) {
+    memo[at] = 2;
+    false
+}
+
+// Whether path q avoids the edge that paths of that side go through, with a leaf at least that of path p, and covers it.
+fn is_cover(
+    arities: &[u64],
+    words: &[u64],
+    counts: &[u64],
+    n: usize,
+    m: usize,
+    leaves: &[u64],
+    sides: &[u64],
+    memo: &mut [u16],
+    side: u64,
+    p: usize,
+    q: usize,
+) -> bool
+    requires { ⌜ Asking (now arities) (now words) (now counts) (now leaves) (now sides) (now memo) n m ⌝ }
+    requires { ⌜ p < m ⌝ }
+    requires { ⌜ q < m ⌝ }
+    ensures { λ r. ⌜ Tested (now (arities .entry)) (now (words .entry)) n (isCoverOn (now (arities .entry)) (now (words .entry)) n (now (sides .entry)) side p q) r (now (memo .exit)) ⌝ }
+{
+    if sides[q] == side {
+        return false;
+    }
+    if leaves[q] < leaves[p] {
+        return false;
+    }
+    is_covered(arities, words, counts, n, memo, p, q)
+}
+
+// Whether one of the m paths is such a cover of path p.
+fn has_cover(
+    arities: &[u64],
+    words: &[u64],
+    counts: &[u64],
+    n: usize,
+    m: usize,
+    leaves: &[u64],
+    sides: &[u64],
+    memo: &mut [u16],
+    side: u64,
+    p: usize,
+) -> bool
+    requires { ⌜ Asking (now arities) (now words) (now counts) (now leaves) (now sides) (now memo) n m ⌝ }
+    requires { ⌜ p < m ⌝ }
+    ensures { λ r. ⌜ Tested (now (arities .entry)) (now (words .entry)) n (coverBelow (now (arities .entry)) (now (words .entry)) n (now (sides .entry)) side p m) r (now (memo .exit)) ⌝ }
+{
+    let mut q = 0;
+    while q < m {
+        if is_cover(
+            arities,
+            words,
+            counts,
+            n,
+            m,
+            leaves,
+            sides,
+            memo,
+            side,
+            p,
+            q,
+        ) {
+            return true;
+        }
+        q += 1;
+    }
+    false
+}
+
+// Whether path p is not in the way of the edge that paths of that side go through.
+fn is_free(
+    arities: &[u64],
+    words: &[u64],
+    counts: &[u64],
+    n: usize,
+    m: usize,
+    leaves: &[u64],
+    sides: &[u64],
+    memo: &mut [u16],
+    side: u64,
+    p: usize,
+) -> bool
+    requires { ⌜ Asking (now arities) (now words) (now counts) (now leaves) (now sides) (now memo) n m ⌝ }
+    requires { ⌜ p < m ⌝ }
+    ensures { λ r. ⌜ Tested (now (arities .entry)) (now (words .entry)) n (isFreeOn (now (arities .entry)) (now (words .entry)) n (now (sides .entry)) side m p) r (now (memo .exit)) ⌝ }
+{
+    if sides[p] != side {
         return true;
     }
-    if is_seen(seen, (l / Label::THIRD_WEIGHT % Term::BASE) as usize) {
+    if leaves[p] == 0 {
         return true;
     }
-    is_seen(seen, (l % Term::BASE) as usize)
+    has_cover(arities, words, counts, n, m, leaves, sides, memo, side, p)
 }
 
-// 1 if the term t is a variable that was not seen, else 0.
-fn is_new(seen: &[u32], t: usize) -> u64
-    requires { ⌜ t < length (now seen) ⌝ }
-    ensures { λ r. ⌜ r ≤ 1 ⌝ }
+// Whether row i is leaf 0.
+fn is_zero(words: &[u64], n: usize, i: usize) -> bool
+    requires { ⌜ Rows (now words) n ⌝ }
+    requires { ⌜ i < n ⌝ }
+    ensures { λ r. ⌜ r ≡ same (tree (now (words .entry)) i) (leaf 0) ⌝ }
 {
-    if t < FIRST_VARIABLE {
-        return 0;
+    if words[i * 3] != Label::LEAF {
+        return false;
     }
-    if wide(seen[t]) > 0 {
-        return 0;
-    }
-    1
-}
-
-// How many places of the literal x have variables that were not seen.
-fn new_places(seen: &[u32], x: u64) -> u64
-    requires { ⌜ termBase ≤ length (now seen) ⌝ }
-    ensures { λ r. ⌜ r ≤ 4 ⌝ }
-{
-    let l = x / 2;
-    let a = is_new(seen, (l / Label::FIRST_WEIGHT % Term::BASE) as usize);
-    let b = is_new(seen, (l / Label::SECOND_WEIGHT % Term::BASE) as usize);
-    let c = is_new(seen, (l / Label::THIRD_WEIGHT % Term::BASE) as usize);
-    let d = is_new(seen, (l % Term::BASE) as usize);
-    a + b + c + d
-}
-
-// The rank of the literal x: without a new variable it comes at once. Fewer new variables come first, equalities behind others, and behind all the
-// literals that share no variable.
-fn rank(seen: &[u32], x: u64) -> u64
-    requires { ⌜ termBase ≤ length (now seen) ⌝ }
-    ensures { λ r. ⌜ Ranked (now (seen .entry)) x r ⌝ }
-{
-    let n = new_places(seen, x) * 2;
-    if n == 0 {
-        return 0;
-    }
-    if !shares(seen, x) {
-        return STRANGE + n;
-    }
-    if x < LITERAL_WEIGHT {
-        return n + 1;
-    }
-    n
-}
-
-// The literal of lowest rank from k on.
-fn best(ord: &[u32], seen: &[u32], k: usize) -> Pick
-    requires { ⌜ k < length (now ord) ⌝ }
-    requires { ⌜ termBase ≤ length (now seen) ⌝ }
-    ensures { λ r. ⌜ Best (now (ord .entry)) (now (seen .entry)) k r ⌝ }
-{
-    let mut i = k;
-    let mut at = k;
-    let mut low = WORST;
-    while i < ord.len() {
-        let r = rank(seen, wide(ord[i]));
-        if r == 0 {
-            return Pick { at: i, rank: 0 };
-        }
-        if r < low {
-            low = r;
-            at = i;
-            i += 1;
-        } else {
-            i += 1;
-        }
-    }
-    Pick { at: at, rank: low }
-}
-
-// The terms of the literal x are seen.
-fn see(seen: &mut [u32], x: u64)
-    requires { ⌜ termBase ≤ length (now seen) ⌝ }
-    ensures { λ _. ⌜ now (seen .exit) ≡ marked (fourOf (x / 2)) (now (seen .entry)) ⌝ }
-{
-    let l = x / 2;
-    seen[(l / Label::FIRST_WEIGHT % Term::BASE) as usize] = 1;
-    seen[(l / Label::SECOND_WEIGHT % Term::BASE) as usize] = 1;
-    seen[(l / Label::THIRD_WEIGHT % Term::BASE) as usize] = 1;
-    seen[(l % Term::BASE) as usize] = 1;
-}
-
-// Takes the literal `at` as the one at place k; that one goes to its place.
-fn take_literal(ord: &mut [u32], seen: &mut [u32], k: usize, at: usize)
-    requires { ⌜ Takable (now ord) (now seen) k at ⌝ }
-    ensures { λ _. ⌜ Taken (now (ord .entry)) k (now (ord .exit)) (now (seen .exit)) ⌝ }
-{
-    let x = ord[at];
-    ord[at] = ord[k];
-    ord[k] = x;
-    see(seen, wide(x));
-}
-
-// Puts a part at place k: literals, one after the other, that share a variable with one before or have no new one. Answers where it ends; what is
-// behind it shares none.
-fn next_part(ord: &mut [u32], seen: &mut [u32], k: usize) -> usize
-    requires { ⌜ Separable (now ord) (now seen) k ⌝ }
-    ensures { λ e. ⌜ PartTaken (now (ord .entry)) k e (now (ord .exit)) (now (seen .exit)) ⌝ }
-{
-    let first = best(ord, seen, k);
-    take_literal(ord, seen, k, first.at);
-    let mut e = k + 1;
-    while e < ord.len() {
-        let b = best(ord, seen, e);
-        if b.rank >= STRANGE {
-            return e;
-        }
-        take_literal(ord, seen, e, b.at);
-        e += 1;
-    }
-    e
-}
-
-// Whether a replacement takes the literals of ord to those of the first path, or to t = t true: each part is searched by itself.
-fn search_parts(ord: &mut [u32], into: &[u32], tab: &mut [u32], theta: &mut [u64]) -> bool
-    requires { ⌜ Ready (now ord) (now into) (now tab) (now theta) ⌝ }
-    ensures { λ r. ⌜ PartsPost (now (ord .entry)) (now (into .entry)) (now (tab .entry)) r ⌝ }
-{
-    let mut seen = [0u32; TERMS];
-    let mut k = 0;
-    while k < ord.len() {
-        let e = next_part(ord, &mut seen, k);
-        if !match_part(&ord[k..e], into, tab, theta) {
-            return false;
-        }
-        k = e;
+    if words[i * 3 + 1] != 0 {
+        return false;
     }
     true
 }
 
-// Whether the literal x is an equality that is true.
-fn is_equal(x: u64) -> bool
-    ensures { λ r. ⌜ (r ≡ false → x < 33554432 → x % 2 ≡ 1 → ⊥) ⌝ }
+// Whether the edge of row r may go to leaf 0: the true edge for side 1, the false edge for side 2.
+fn may_go(
+    arities: &[u64],
+    words: &[u64],
+    counts: &[u64],
+    n: usize,
+    m: usize,
+    leaves: &[u64],
+    sides: &[u64],
+    memo: &mut [u16],
+    r: usize,
+    side: u64,
+) -> bool
+    requires { ⌜ Asking (now arities) (now words) (now counts) (now leaves) (now sides) (now memo) n m ⌝ }
+    requires { ⌜ Edged (now words) (now sides) n m r side ⌝ }
+    ensures { λ x. ⌜ Tested (now (arities .entry)) (now (words .entry)) n (mayGo (now (arities .entry)) (tree (now (words .entry)) (n - 1)) (eqb side 1) (tree (now (words .entry)) r)) x (now (memo .exit)) ⌝ }
 {
-    if x >= LITERAL_WEIGHT {
+    if is_zero(words, n, words[r * 3 + (side as usize)] as usize) {
         return false;
     }
-    x % 2 == 1
-}
-
-// The kind of a literal: its predicate and sign.
-fn kind(x: u64) -> usize
-    ensures { λ r. ⌜ r ≡ kindOf x ⌝ }
-{
-    (x / LITERAL_WEIGHT * 2 + x % 2) as usize
-}
-
-// Marks the kinds of the literals of the first path.
-fn mark_kinds(into: &[u32], kinds: &mut [u32])
-    requires { ⌜ termBase ≤ length (now kinds) ⌝ }
-    ensures { λ _. ⌜ Kinds (now (into .entry)) (now (kinds .exit)) (length (now (into .entry))) ⌝ }
-{
-    let mut j = TERMS;
-    while j < into.len() {
-        let k = kind(wide(into[j]));
-        if k < TERMS {
-            kinds[k] = 1;
-            j += 1;
-        } else {
-            j += 1;
-        }
-    }
-}
-
-// Whether the literal x has a way: one of the first path has its kind, or it may become t = t.
-fn has_way(kinds: &[u32], x: u64) -> bool
-    requires { ⌜ termBase ≤ length (now kinds) ⌝ }
-    ensures { λ r. ⌜ WayPost (now (kinds .entry)) x r ⌝ }
-{
-    if is_equal(x) {
-        return true;
-    }
-    let k = kind(x);
-    if k >= TERMS {
-        return true;
-    }
-    wide(kinds[k]) > 0
-}
-
-// Whether each literal of ord has a way.
-fn have_ways(ord: &[u32], into: &[u32]) -> bool
-    ensures { λ r. ⌜ WaysPost (now (ord .entry)) (now (into .entry)) r ⌝ }
-{
-    let mut kinds = [0u32; TERMS];
-    mark_kinds(into, &mut kinds);
-    let mut i = 0;
-    while i < ord.len() {
-        if !has_way(&kinds, wide(ord[i])) {
+    let mut p = 0;
+    while p < m {
+        if !is_free(arities, words, counts, n, m, leaves, sides, memo, side, p) {
             return false;
         }
+        p += 1;
+    }
+    true
+}
+
+// Which edge of row r may go, true edge first: 1, 2, or 0 for none.
+fn edge_of(
+    arities: &[u64],
+    words: &[u64],
+    counts: &[u64],
+    n: usize,
+    m: usize,
+    leaves: &[u64],
+    memo: &mut [u16],
+    r: usize,
+) -> u64
+    requires { ⌜ Charted (now arities) (now words) (now counts) (now leaves) n m ⌝ }
+    requires { ⌜ Known (now arities) (now words) (now memo) n ⌝ }
+    requires { ⌜ r < n ⌝ }
+    ensures { λ e. ⌜ EdgeFound (now (arities .entry)) (now (words .entry)) n r e (now (memo .exit)) ⌝ }
+{
+    if words[r * 3] == Label::LEAF {
+        return 0;
+    }
+    let mut sides = [0u64; PATHS];
+    find_sides(words, counts, n, m, r, &mut sides);
+    if may_go(arities, words, counts, n, m, leaves, &sides, memo, r, 1) {
+        return 1;
+    }
+    if may_go(arities, words, counts, n, m, leaves, &sides, memo, r, 2) {
+        return 2;
+    }
+    0
+}
+
+// The highest row, true edge first, whose edge may go.
+fn choose(arities: &[u64], words: &[u64], counts: &[u64], n: usize, m: usize) -> Chosen
+    requires { ⌜ isListing (now arities) (now words) ≡ true ⌝ }
+    requires { ⌜ n ≡ rowCount (now words) ⌝ }
+    requires { ⌜ Routed (now words) (now counts) n m ⌝ }
+    ensures { λ r. ⌜ r ≡ chosenAs (choice (now (arities .entry)) (diagramOf (now (words .entry)))) ⌝ }
+{
+    let mut leaves = [0u64; PATHS];
+    find_leaves(words, counts, n, m, &mut leaves);
+    let mut memo = [0u16; MEMO];
+    let mut i = n;
+    while i > 0 {
+        let e = edge_of(arities, words, counts, n, m, &leaves, &mut memo, i - 1);
+        if e == 1 {
+            return Chosen::Edge(i - 1, true);
+        }
+        if e == 2 {
+            return Chosen::Edge(i - 1, false);
+        }
+        i -= 1;
+    }
+    Chosen::Nothing
+}
+
+// Forms what is left of row i; `numbers` has the places of what is left of the rows before it, and row 0 of the space is leaf 0.
+fn leave_row(
+    words: &[u64],
+    numbers: &[u16],
+    k: usize,
+    side: bool,
+    space: &mut [u64],
+    heads: &mut [u16],
+    links: &mut [u16],
+    count: usize,
+    i: usize,
+) -> Formed
+    requires { ⌜ Leaving (now words) k side (now space) (now heads) (now links) (now numbers) count i ⌝ }
+    requires { ⌜ i < length (now words) / 3 ⌝ }
+    ensures { λ r. ⌜ Formation (leftOf (tree (now (words .entry)) k) side (tree (now (words .entry)) i)) (add (leftOf (tree (now (words .entry)) k) side (tree (now (words .entry)) i)) (diagramsOf (now (space .entry)) count)) r (now (space .exit)) (now (heads .exit)) (now (links .exit)) ⌝ }
+{
+    let l = words[i * 3];
+    let t = words[i * 3 + 1];
+    let f = words[i * 3 + 2];
+    if l == Label::LEAF {
+        return store::leaf(space, heads, links, count, t);
+    }
+    let high = basics::wide(numbers[t as usize]);
+    let low = basics::wide(numbers[f as usize]);
+    if i != k {
+        return store::branch(space, heads, links, count, l, high, low);
+    }
+    if side {
+        return store::branch(space, heads, links, count, l, 0, low);
+    }
+    store::branch(space, heads, links, count, l, high, 0)
+}
+
+// Forms what is left of the rows in number order.
+fn leave_rows(
+    words: &[u64],
+    k: usize,
+    side: bool,
+    space: &mut [u64],
+    heads: &mut [u16],
+    links: &mut [u16],
+    numbers: &mut [u16],
+    first: usize,
+) -> Formed
+    requires { ⌜ Leaving (now words) k side (now space) (now heads) (now links) (now numbers) first 0 ⌝ }
+    requires { ⌜ 1 ≤ length (now words) / 3 ⌝ }
+    ensures { λ r. ⌜ Left (now (words .entry)) k side r (now (space .exit)) ⌝ }
+{
+    let n = words.len() / 3;
+    let mut count = first;
+    let mut i = 0;
+    while i < n {
+        let r = leave_row(words, numbers, k, side, space, heads, links, count, i);
+        let Formed::Row(j, m) = r else {
+            return Formed::Full;
+        };
+        numbers[i] = j as u16;
+        count = m;
         i += 1;
     }
-    true
+    Formed::Row(basics::wide(numbers[n - 1]), count)
 }
 
-// The same, after a quick look whether each literal has a way at all.
-fn match_parts(ord: &mut [u32], into: &[u32], tab: &mut [u32], theta: &mut [u64]) -> bool
-    requires { ⌜ Ready (now ord) (now into) (now tab) (now theta) ⌝ }
-    ensures { λ r. ⌜ PartsPost (now (ord .entry)) (now (into .entry)) (now (tab .entry)) r ⌝ }
+// Forms what is left once the edge of row k goes to leaf 0.
+fn leave(words: &[u64], k: usize, side: bool, work: &mut [u64]) -> Formed
+    requires { ⌜ Leavable (now words) k (now work) ⌝ }
+    ensures { λ r. ⌜ Left (now (words .entry)) k side r (now (work .exit)) ⌝ }
 {
-    if !have_ways(ord, into) {
-        return false;
-    }
-    search_parts(ord, into, tab, theta)
-}
-
-// Whether a replacement takes the b literals behind the marks of `from` to the a literals behind those of `into`, or to t = t true.
-fn search(into: &[u32], a: usize, from: &mut [u32], b: usize) -> bool
-    requires { ⌜ BothStored (now into) a (now from) b ⌝ }
-    ensures { λ r. ⌜ Answers (now (into .entry)) a (now (from .entry)) b r ⌝ }
-{
-    let mut tab = [0u32; TABLE_WORDS];
-    let mut theta = [0u64; TERMS];
-    copy_marks(from, &mut tab);
-    keep_terms(&mut theta);
-    match_parts(
-        &mut from[TERMS..TERMS + b],
-        &into[..TERMS + a],
-        &mut tab,
-        &mut theta,
+    let mut heads = [0u16; table::BUCKETS];
+    let mut links = [0u16; diagram::SPACE_ROWS];
+    let mut numbers = [0u16; diagram::ROWS];
+    let Formed::Row(_, first) = store::leaf(work, &mut heads, &mut links, 0, 0) else {
+        return Formed::Full;
+    };
+    leave_rows(
+        words,
+        k,
+        side,
+        work,
+        &mut heads,
+        &mut links,
+        &mut numbers,
+        first,
     )
 }
 
-// Whether a replacement of the variables of path q, by terms of paths p and q, takes each of its literals to one of path p, or to t = t true.
-pub fn covers(arities: &[u64], words: &[u64], counts: &[u64], n: usize, p: u64, q: u64) -> bool
-    requires { ⌜ Coverable (now arities) (now words) (now counts) n p q ⌝ }
-    ensures { λ r. ⌜ r ≡ covers (now (arities .entry)) (pathAt (tree (now (words .entry)) (n - 1)) p) (pathAt (tree (now (words .entry)) (n - 1)) q) ⌝ }
+// Writes what is left once the edge of row k goes to leaf 0, closed up, and answers its rows.
+fn write_left(
+    arities: &[u64],
+    words: &[u64],
+    k: usize,
+    side: bool,
+    out: &mut [u64],
+    work: &mut [u64],
+) -> usize
+    requires { ⌜ Writable (now arities) (now words) (now out) (now work) k ⌝ }
+    ensures { λ r. ⌜ Trimmed (now (arities .entry)) (now (words .entry)) k side (now (out .entry)) r (now (out .exit)) ⌝ }
 {
-    let mut into = [0u32; PATH_WORDS];
-    let mut from = [0u32; PATH_WORDS];
-    let a = enter_path(arities, words, counts, n, p, &mut into);
-    let b = enter_path(arities, words, counts, n, q, &mut from);
-    search(&into, a, &mut from, b)
+    let Formed::Row(root, count) = leave(words, k, side, work) else {
+        return 0;
+    };
+    let mut marks = [0u16; diagram::SPACE_ROWS];
+    let mut order = [0u16; diagram::SPACE_ROWS];
+    let Listed::Rows(m) = write::write(work, count, root, &mut marks, &mut order, out) else {
+        return 0;
+    };
+    apart::close_up(arities, out, m);
+    m
+}
+
+// Cuts a listing that is one: 17 over 256 paths, 16 if no edge may go, else the edge and the rows left.
+pub fn cut_checked(arities: &[u64], words: &[u64], out: &mut [u64], work: &mut [u64]) -> Cut
+    requires { ⌜ Cuttable (now arities) (now words) (now out) (now work) ⌝ }
+    ensures { λ r. ⌜ r ≡ diagramAnswer (now (arities .entry)) (diagramOf (now (words .entry))) ⌝ }
+    ensures { λ r. ⌜ now (out .exit) ≡ answerBuffer (now (arities .entry)) (now (words .entry)) (now (out .entry)) r ⌝ }
+{
+    let n = words.len() / 3;
+    let mut counts = [0u64; diagram::ROWS];
+    paths::count_paths(words, &mut counts, n);
+    let m = counts[n - 1] as usize;
+    if m > PATHS {
+        return Cut::Refused(Refusal::Paths);
+    }
+    let Chosen::Edge(k, side) = choose(arities, words, &counts, n, m) else {
+        return Cut::Refused(Refusal::Nothing);
+    };
+    let left = write_left(arities, words, k, side, out, work);
+    if side {
+        return Cut::Done(k, Edge::True, left);
+    }
+    Cut::Done(k, Edge::False, left)
+}
+
+// Cuts a lent listing: the result is written to `out`, `work` is the working space. Refused: 14, 18, then 17, 16.
+pub fn cut(arities: &[u64], words: &[u64], out: &mut [u64], work: &mut [u64]) -> Cut
+    ensures { λ r. ⌜ r ≡ cutAnswer (now (arities .entry)) (now (words .entry)) (length (now (out .entry))) (length (now (work .entry))) ⌝ }
+    ensures { λ _. ⌜ now (out .exit) ≡ cutBuffer (now (arities .entry)) (now (words .entry)) (now (out .entry)) (length (now (work .entry))) ⌝ }
+{
+    if !listing::check(arities, words) {
+        return Cut::Refused(Refusal::Listing);
+    }
+    if out.len() < diagram::RESULT_WORDS {
+        return Cut::Refused(Refusal::Buffer);
+    }
+    if work.len() < diagram::SPACE_WORDS {
+        return Cut::Refused(Refusal::Buffer);
+    }
+    cut_checked(arities, words, out, work)
 }

@@ -1,6 +1,6 @@
 -- A cut leaves a value diagram one of the same values.
 use mathlib.Core.Path.{_≡_, refl, sym, subst}
-use mathlib.Core.Bool.{Bool, true, false, not, _&&_}
+use mathlib.Core.Bool.{Bool, true, false, not, _&&_, cond}
 use mathlib.Core.List.{List, []}
 use Prim.Native.Nat.{ℕ, _≤_}
 use lib.ListN.{length}
@@ -18,18 +18,18 @@ use Rattle.state.specs.State.{atomOf, meaning, State}
 use Rattle.state.specs.Terms.{Each, args}
 use Rattle.regression.specs.Parameters.{Allowed, Within}
 use Rattle.regression.specs.ResultLaws.{terms-every, every-terms}
-use Rattle.cut.specs.declared.Cut.the-variants.{Refused}
-use Rattle.cut.specs.Paths.{paths, mostPaths}
-use Rattle.cut.specs.Cut.{MayGo, Choice, pickDiagram, reduced, cutAt, cutDiagram, pickCut, edgeOf, isTrueEdge, chosenAnswer, diagramAnswer}
-use Rattle.cut.specs.CoverLaws.{Chosen, highest, nothing, chosen}
-use Rattle.cut.specs.TruthLaws.{cut-keeps}
-use Rattle.cut.specs.ReduceLaws.{cut-good}
+use Rattle.cutting.specs.declared.Cut.the-variants.{Refused}
+use Rattle.paths.specs.Paths.{paths, mostPaths}
+use Rattle.cutting.specs.Cut.{MayGo, Choice, reduced, cutAt, cutDiagram, edgeOf, isTrueEdge, chosenAnswer, diagramAnswer}
+use Rattle.cutting.specs.CoverLaws.{Chosen, highest, nothing, chosen}
+use Rattle.cutting.specs.TruthLaws.{cut-keeps}
+use Rattle.cutting.specs.ReduceLaws.{cut-good}
 use Rattle.mdp.specs.Runs.{leaves, cutOutcome}
 use Rattle.mdp.specs.CallLaws.{within-closed, closed-highest}
 use Rattle.mdp.specs.BackupLaws.{Values}
 
 -- the labels that are left are labels of the diagram
-every-pick : (P : ℕ → Type 0) (b : Bool) (x y : Diagram) → EveryLabel P x → EveryLabel P y → EveryLabel P (pickDiagram b x y)
+every-pick : (P : ℕ → Type 0) (b : Bool) (x y : Diagram) → EveryLabel P x → EveryLabel P y → EveryLabel P (cond b x y)
 every-pick P true x y u v = u
 every-pick P false x y u v = v
 
@@ -75,7 +75,7 @@ unfolding cutOutcome diagramAnswer chosenAnswer
 cut-is ar y d v = go (ltb mostPaths (length (paths d))) refl (chosen ar d (v .listed .arities) (v .listed .fine))
   where
     go : (x : Bool) → ltb mostPaths (length (paths d)) ≡ x → {c : Choice} → Chosen ar d (v .listed .arities) (v .listed .fine) (rows d) (length (rows d)) c
-        → Accepted (Values ar y) (leaves ar d (pickCut x (Refused Paths) (chosenAnswer ar d c)))
+        → Accepted (Values ar y) (leaves ar d (cond x (Refused Paths) (chosenAnswer ar d c)))
     go true e c = accepted-refused
     go false e (nothing n) = accepted-refused
     go false e (highest k b h mg t a) =

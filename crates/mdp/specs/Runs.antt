@@ -3,9 +3,9 @@ use mathlib.Core.List.{List, [], _∷_}
 use Prim.Native.Nat.{ℕ, suc}
 use Rattle.refusal.specs.Outcome.{Outcome, ok, refused}
 use Rattle.diagram.specs.Diagram.{Diagram}
-use Rattle.cut.specs.declared.Cut.{Cut}
-use Rattle.cut.specs.declared.Cut.the-variants.{Done, Refused}
-use Rattle.cut.specs.Cut.{diagramAnswer, cutDiagram, isTrueEdge}
+use Rattle.cutting.specs.declared.Cut.{Cut}
+use Rattle.cutting.specs.declared.Cut.the-variants.{Done, Refused}
+use Rattle.cutting.specs.Cut.{diagramAnswer, cutDiagram, isTrueEdge}
 use Rattle.mdp.specs.Model.{Model}
 use Rattle.mdp.specs.Backup.{backup}
 

@@ -28,9 +28,9 @@ use Rattle.regression.specs.Parameters.{Within}
 use Rattle.regression.specs.RegressCall.{freedOutcome, freeOwn}
 use Rattle.regression.specs.RegressCallLaws.{quiet-any}
 use Rattle.regression.specs.FreeCallLaws.{own-freed}
-use Rattle.cut.specs.declared.Edge.{Edge}
-use Rattle.cut.specs.declared.Cut.the-variants.{Done as CutDone, Refused as CutRefused}
-use Rattle.cut.specs.Cut.{cutDiagram, isTrueEdge, diagramAnswer as cutAnswer}
+use Rattle.cutting.specs.declared.Edge.{Edge}
+use Rattle.cutting.specs.declared.Cut.the-variants.{Done as CutDone, Refused as CutRefused}
+use Rattle.cutting.specs.Cut.{cutDiagram, isTrueEdge, diagramAnswer as cutAnswer}
 use Rattle.mdp.specs.Model.{Variant, Action, Model, scale}
 use Rattle.mdp.specs.Backup.{combined, variantsSum, actionsBest, rowOfCalls, highestScale, mostSteps, scaleEnds, backup}
 use Rattle.mdp.specs.Runs.{Call, aBackup, aCut, Held, cutOutcome, taken, call, runFrom, begin, run}

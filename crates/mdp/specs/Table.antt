@@ -22,9 +22,9 @@ use Rattle.state.specs.State.{meaning, State}
 use Rattle.state.specs.Highest.{highest}
 use Rattle.regression.specs.Step.{labelTest}
 use Rattle.regression.specs.Regression.{truthAt}
-use Rattle.cut.specs.declared.Edge.the-variants.{False}
-use Rattle.cut.specs.declared.Cut.the-variants.{Done as CutDone, Refused as CutRefused}
-use Rattle.cut.specs.Cut.{diagramAnswer as cutAnswer}
+use Rattle.cutting.specs.declared.Edge.the-variants.{False}
+use Rattle.cutting.specs.declared.Cut.the-variants.{Done as CutDone, Refused as CutRefused}
+use Rattle.cutting.specs.Cut.{diagramAnswer as cutAnswer}
 use Rattle.mdp.specs.Model.{Model, scale}
 use Rattle.mdp.specs.Example.{forFirst, noTruths, runModel, nothingTrue, stockAtHub}
 use Rattle.mdp.specs.Backup.{backup}

@@ -1,6 +1,6 @@
 -- The number that valuing answers after a run is Mk of the lent state.
 use mathlib.Core.Path.{_≡_, refl, ap, _∙_}
-use mathlib.Core.Bool.{Bool, true, false, not}
+use mathlib.Core.Bool.{Bool, true, false, not, cond}
 use mathlib.Core.List.{List, []}
 use Prim.Native.Nat.{ℕ, zero, suc, _+_, _≤_, _<_}
 use native.Mathlib.Omega.{arith}
@@ -23,7 +23,7 @@ use Rattle.state.specs.Highest.{highest}
 use Rattle.state.specs.Lent.{stateOf, isState}
 use Rattle.state.specs.declared.Valued.{Valued}
 use Rattle.state.specs.declared.Valued.the-variants.{Value, Refused}
-use Rattle.state.specs.ValueCall.{mostValuations, parameters, valuations, pickValued, valueAnswer}
+use Rattle.state.specs.ValueCall.{mostValuations, parameters, valuations, valueAnswer}
 use Rattle.regression.specs.Parameters.{Within}
 use Rattle.mdp.specs.Model.{Model, GoodModel}
 use Rattle.mdp.specs.Bellman.{bellman}
@@ -55,7 +55,7 @@ no-parameters ar d w = none-occurring ar d firstParameter parameterCount (λ t h
     quiet t h k (isTrue e) = let z = each-within 0 ar d w t e h in absurd (omega arith)
 
 passes : (a b c d : Bool) (w x y z v : Valued) → a ≡ true → b ≡ true → c ≡ true → d ≡ false
-    → pickValued (not a) w (pickValued (not b) x (pickValued (not c) y (pickValued d z v))) ≡ v
+    → cond (not a) w (cond (not b) x (cond (not c) y (cond d z v))) ≡ v
 passes a b c d w x y z v h i j k = rw (h, i, j, k)
 
 answer : (ar ws : List ℕ) (d : Diagram) (n : ℕ) (constants facts : List ℕ) → isListing ar ws ≡ true → diagramOf ws ≡ d

@@ -1,6 +1,6 @@
 -- Laws of the calls of a run.
 use mathlib.Core.Path.{_≡_, refl, sym, ap, subst, _∙_}
-use mathlib.Core.Bool.{Bool, true, false}
+use mathlib.Core.Bool.{Bool, true, false, cond}
 use mathlib.Core.List.{List, [], _∷_, _++_}
 use Prim.Native.Nat.{ℕ, suc, _+_, _*_, _/_, _^_, _≤_, _<_}
 use native.Mathlib.Omega.{arith}
@@ -26,12 +26,13 @@ use Rattle.rename.specs.ClosingLaws.{closed-good}
 use Rattle.state.specs.State.{meaning}
 use Rattle.regression.specs.RegressCall.{writtenAs}
 use Rattle.regression.specs.Parameters.{Within}
-use Rattle.cut.specs.declared.Edge.{Edge}
-use Rattle.cut.specs.declared.Cut.{Cut}
-use Rattle.cut.specs.declared.Cut.the-variants.{Done as CutDone, Refused as NotCut}
-use Rattle.cut.specs.Paths.{paths, mostPaths}
-use Rattle.cut.specs.Cut.{Choice, goes, stays, reduced, cutAt, cutDiagram, pickCut, edgeOf, isTrueEdge, choice, chosenAnswer, diagramAnswer, written, answerBuffer}
-use Rattle.cut.specs.ReduceLaws.{cut-good}
+use Rattle.cutting.specs.declared.Edge.{Edge}
+use Rattle.cutting.specs.declared.Cut.{Cut}
+use Rattle.cutting.specs.declared.Cut.the-variants.{Done as CutDone, Refused as NotCut}
+use Rattle.paths.specs.Paths.{paths, mostPaths}
+use Rattle.cutting.specs.Cut.{Choice, goes, stays, reduced, cutAt, cutDiagram, edgeOf, isTrueEdge, choice, chosenAnswer, diagramAnswer, written, answerBuffer}
+use Rattle.cutting.specs.ReduceLaws.{cut-good}
+use Rattle.cut.specs.Calls.{Cuttable}
 use Rattle.mdp.specs.Model.{Model, scale}
 use Rattle.mdp.specs.Backup.{backup}
 use Rattle.mdp.specs.Runs.{Call, aBackup, aCut, Held as Value, leaves, cutOutcome, taken, call, runFrom, begin, run}
@@ -108,7 +109,7 @@ cut-fits : (ar : List ℕ) (d : Diagram) → Good ar d → Accepted (Good ar) (c
 unfolding cutOutcome diagramAnswer chosenAnswer cutDiagram
 cut-fits ar d g = go (ltb mostPaths (length (paths d))) refl (choice ar d)
   where
-    go : (b : Bool) → ltb mostPaths (length (paths d)) ≡ b → (c : Choice) → Accepted (Good ar) (leaves ar d (pickCut b (NotCut Paths) (chosenAnswer ar d c)))
+    go : (b : Bool) → ltb mostPaths (length (paths d)) ≡ b → (c : Choice) → Accepted (Good ar) (leaves ar d (cond b (NotCut Paths) (chosenAnswer ar d c)))
     go true e c = accepted-refused
     go false e stays = accepted-refused
     go false e (goes k b) = accepted-ok (closed-good ar (reduced (cutAt (rowTree (rows d) k) (isTrueEdge (edgeOf b)) d))
@@ -122,7 +123,7 @@ cut-rows : (ar : List ℕ) (d : Diagram) (k : ℕ) (e : Edge) (n : ℕ) → diag
 unfolding diagramAnswer chosenAnswer
 cut-rows ar d k e n h = go (ltb mostPaths (length (paths d))) (choice ar d) h
   where
-    go : (b : Bool) (c : Choice) → pickCut b (NotCut Paths) (chosenAnswer ar d c) ≡ CutDone k e n → length (rows (cutDiagram ar d k (isTrueEdge e))) ≡ n
+    go : (b : Bool) (c : Choice) → cond b (NotCut Paths) (chosenAnswer ar d c) ≡ CutDone k e n → length (rows (cutDiagram ar d k (isTrueEdge e))) ≡ n
     go true c q = let z : _≡_ {A = ℕ} 0 1 = cc in absurd (omega arith)
     go false stays q = let z : _≡_ {A = ℕ} 0 1 = cc in absurd (omega arith)
     go false (goes j b) q =

@@ -1,6 +1,6 @@
 // Backups, and runs of backups and cuts, on models in lent words. What they are stands in crate mdp and in specs/.
 use apply::Operation;
-use cut::Cut;
+use cutting::Cut;
 use model::Head;
 use refusal::Refusal;
 use regression::Freed;
@@ -443,7 +443,7 @@ fn call_cut(arities: &[u64], held: Held, value: &mut [u64], work: &mut [u64]) ->
     let rows = held.rows;
     let steps = held.steps;
     let power = held.power;
-    let r = trim::cut_checked(arities, &value[..rows * 3], &mut left, work);
+    let r = cut::cut_checked(arities, &value[..rows * 3], &mut left, work);
     let Cut::Done(_, _, n) = r else {
         return held;
     };

@@ -6,10 +6,10 @@ use native.Mathlib.Omega.{arith}
 use lib.ListN.{length, take}
 use Rattle.refusal.specs.declared.Refusal.{Refusal}
 use Rattle.diagram.specs.Listing.{diagramOf}
-use Rattle.cut.specs.declared.Edge.{Edge}
-use Rattle.cut.specs.declared.Cut.{Cut}
-use Rattle.cut.specs.declared.Cut.the-variants.{Done, Refused}
-use Rattle.cut.specs.Cut.{diagramAnswer}
+use Rattle.cutting.specs.declared.Edge.{Edge}
+use Rattle.cutting.specs.declared.Cut.{Cut}
+use Rattle.cutting.specs.declared.Cut.the-variants.{Done, Refused}
+use Rattle.cutting.specs.Cut.{diagramAnswer}
 use Rattle.mdp.specs.Model.{scale}
 use Rattle.mdp.specs.Runs.{Held as Value, leaves, cutOutcome, taken}
 use Rattle.answers.specs.declared.Answer.the-variants as A

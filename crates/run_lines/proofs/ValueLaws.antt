@@ -1,6 +1,6 @@
 -- Laws of (value).
 use mathlib.Core.Path.{_≡_, refl, sym, ap, ap₂, _∙_}
-use mathlib.Core.Bool.{Bool, true, false, not}
+use mathlib.Core.Bool.{Bool, true, false, not, cond}
 use mathlib.Core.List.{List, []}
 use Prim.Native.Nat.{ℕ, zero, suc, _+_, _*_, _^_, _≤_, _<_}
 use native.Mathlib.Omega.{arith}
@@ -20,7 +20,7 @@ use Rattle.state.specs.Highest.{highest}
 use Rattle.state.specs.Lent.{factWords, isState}
 use Rattle.state.specs.declared.Valued.{Valued}
 use Rattle.state.specs.declared.Valued.the-variants.{Value, Refused}
-use Rattle.state.specs.ValueCall.{mostValuations, parameters, valuations, pickValued, valueAnswer}
+use Rattle.state.specs.ValueCall.{mostValuations, parameters, valuations, valueAnswer}
 use Rattle.refusal.specs.Outcome.{Outcome, ok, refused}
 use Rattle.regression.specs.Parameters.{Within}
 use Rattle.mdp.specs.Model.{scale}
@@ -75,12 +75,12 @@ value-reads ar ws l i s p =
     (ltb mostValuations (valuations ar (l .objects) (diagramOf ws))) (highest (stateIn ar l) [] (meaning ar (diagramOf ws))) i s
     (ap (λ (ps : List ℕ). eqb (length ps) 0) (no-parameters ar (diagramOf ws) p))
   where
-    last : (d : Bool) (v : ℕ) → pickValued d (Refused Valuations) (Value v) ≡ valuedAs (refuseIf d Valuations (ok v))
+    last : (d : Bool) (v : ℕ) → cond d (Refused Valuations) (Value v) ≡ valuedAs (refuseIf d Valuations (ok v))
     last true v = refl
     last false v = refl
 
     go : (a b c d : Bool) (v : ℕ) → a ≡ true → b ≡ true → c ≡ true
-        → pickValued (not a) (Refused Listing) (pickValued (not b) (Refused Range) (pickValued (not c) (Refused Unbound) (pickValued d (Refused Valuations) (Value v))))
+        → cond (not a) (Refused Listing) (cond (not b) (Refused Range) (cond (not c) (Refused Unbound) (cond d (Refused Valuations) (Value v))))
         ≡ valuedAs (refuseIf d Valuations (ok v))
     go a b c d v h j k = rw (h, j, k) (last d v)
 

@@ -1,7 +1,7 @@
 // (start), (value), (backup), (cut) and (show): from a line that stands where it may to the session behind it and its answer. What they are stands in
 // crate session, specs/Running and specs/Replies.
 use answers::Answer;
-use cut::Cut;
+use cutting::Cut;
 use memory::Numbers;
 use memory::Said;
 use planner::Backed;
@@ -76,7 +76,7 @@ pub fn value(number: u64, n: Numbers, arities: &[u64], state: &[u64], value: &[u
     let live = n.live;
     let rows = held.rows;
     let end = facts::FACTS_BASE + live.facts * facts::FACT_WORDS;
-    let v = state::value(
+    let v = valuing::value(
         arities,
         &value[..rows * 3],
         live.objects,
@@ -144,7 +144,7 @@ pub fn cut(number: u64, n: Numbers, arities: &[u64], value: &mut [u64], work: &m
     let rows = held.rows;
     let steps = held.steps;
     let power = held.power;
-    let r = trim::cut_checked(arities, &value[..rows * 3], &mut left, work);
+    let r = cut::cut_checked(arities, &value[..rows * 3], &mut left, work);
     match r {
         Cut::Done(k, edge, m) => {
             write::copy(&left, m, value);

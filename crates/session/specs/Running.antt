@@ -13,9 +13,9 @@ use Rattle.state.specs.Highest.{highest}
 use Rattle.state.specs.Lent.{stateOf}
 use Rattle.state.specs.ValueCall.{valuations, mostValuations}
 use Rattle.refusal.specs.Outcome.{Outcome, ok, andThen}
-use Rattle.cut.specs.declared.Cut.{Cut}
-use Rattle.cut.specs.declared.Cut.the-variants as C
-use Rattle.cut.specs.Cut.{diagramAnswer, cutDiagram, isTrueEdge}
+use Rattle.cutting.specs.declared.Cut.{Cut}
+use Rattle.cutting.specs.declared.Cut.the-variants as C
+use Rattle.cutting.specs.Cut.{diagramAnswer, cutDiagram, isTrueEdge}
 use Rattle.mdp.specs.Model.{Model, scale}
 use Rattle.mdp.specs.Backup.{backup}
 use Rattle.mdp.specs.Runs.{Held, begin}

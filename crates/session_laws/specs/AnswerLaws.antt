@@ -8,9 +8,9 @@ use lib.ListN.{length}
 use Rattle.refusal.specs.declared.Refusal.{Refusal}
 use Rattle.diagram.specs.Rows.{rows}
 use Rattle.refusal.specs.Outcome.{ok}
-use Rattle.cut.specs.declared.Edge.{Edge}
-use Rattle.cut.specs.declared.Cut.the-variants as C
-use Rattle.cut.specs.Cut.{diagramAnswer}
+use Rattle.cutting.specs.declared.Edge.{Edge}
+use Rattle.cutting.specs.declared.Cut.the-variants as C
+use Rattle.cutting.specs.Cut.{diagramAnswer}
 use Rattle.mdp.specs.Model.{scale}
 use Rattle.mdp.specs.Runs.{Held}
 use Rattle.text.specs.declared.Kind.{Kind}

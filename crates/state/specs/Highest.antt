@@ -1,8 +1,8 @@
 -- The value of a diagram in a state: the highest leaf over all valuations, as a relation and as a number that computes
 -- (document 01, section 'States and value').
 use mathlib.Core.List.{List, [], _∷_}
-use mathlib.Core.Bool.{Bool, true, false, cond}
-use Prim.Native.Nat.{ℕ, zero, suc, _<_}
+use mathlib.Core.Bool.{cond}
+use Prim.Native.Nat.{ℕ, _<_}
 use lib.ListN.{getD}
 use lib.Dec.{ltb, eqb}
 use Rattle.label.specs.Limits.{firstVariable}

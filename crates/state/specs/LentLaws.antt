@@ -1,14 +1,12 @@
 -- Laws of lent states: neither order nor repetition of the facts matters.
-use mathlib.Core.Path.{_≡_, refl, ap, sym, _∙_, fun-ext}
+use mathlib.Core.Path.{_≡_, refl, fun-ext}
 use mathlib.Core.List.{List}
-use mathlib.Core.Bool.{Bool, true, false, _&&_, _||_}
-use Prim.Native.Nat.{ℕ, zero, suc, _≤_, _<_}
+use mathlib.Core.Bool.{Bool, true, false, _||_}
+use Prim.Native.Nat.{ℕ, zero, suc, _<_}
 use native.Mathlib.Omega.{arith}
-use lib.ListN.{getD, take}
-use lib.Dec.{eqb}
-use Rattle.basics.specs.Tests.{Cmp, below, equal, above, cmp, Flag, isTrue, isFalse, flag, Either, one, other, either, or-one, or-other}
+use Rattle.basics.specs.Tests.{Cmp, below, equal, above, cmp, Either, one, other, either, or-one, or-other}
 use Rattle.basics.specs.Members.{clash}
-use Rattle.state.specs.State.{State}
+use Rattle.diagram.specs.RowLaws.{same-tests}
 use Rattle.state.specs.Lent.{factCount, saysFact, someBelow, saidBy, stateOf}
 
 -- `someBelow`, made and taken apart
@@ -33,12 +31,6 @@ pub some-none : (n : ℕ) (q : ℕ → Bool) → ((i : ℕ) → i < n → q i �
 some-none zero q h = refl
 some-none (suc n) q h = rw (some-none n q (λ i l. h i (omega arith)), h n (omega arith))
 
--- two tests, of which each holds where the other does
-pub both-ways : (a b : Bool) → (a ≡ true → b ≡ true) → (b ≡ true → a ≡ true) → a ≡ b
-both-ways true b f g = sym (f refl)
-both-ways false true f g = g refl
-both-ways false false f g = refl
-
 -- what each row of `facts` says, some row of `others` says too
 pub record Among (ar facts others : List ℕ) : Type 0 where
   pub each : (i : ℕ) → i < factCount facts → (j : ℕ) × (j < factCount others)
@@ -50,7 +42,7 @@ pub same-facts : (ar : List ℕ) (n : ℕ) (constants facts others : List ℕ) �
 unfolding stateOf saidBy
 same-facts ar n constants facts others a b =
     let e : stateOf ar n constants facts .fact ≡ stateOf ar n constants others .fact
-    = fun-ext (λ p. fun-ext (λ os. both-ways _ _ (there facts others a p os) (there others facts b p os))) in
+    = fun-ext (λ p. fun-ext (λ os. same-tests _ _ (there facts others a p os) (there others facts b p os))) in
     λ i. record { size = n; constant = stateOf ar n constants facts .constant; fact = e i }
   where
     there : (fs gs : List ℕ) → Among ar fs gs → (p : ℕ) (os : List ℕ) → someBelow (factCount fs) (saysFact ar fs p os) ≡ true

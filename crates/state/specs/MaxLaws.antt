@@ -2,9 +2,9 @@
 use mathlib.Core.Path.{_≡_, refl, ap, sym, _∙_}
 use mathlib.Core.List.{List, [], _∷_}
 use mathlib.Core.Bool.{Bool, true, false}
-use Prim.Native.Nat.{ℕ, zero, suc, _+_, _*_, _≤_, _<_, max}
+use Prim.Native.Nat.{ℕ, zero, suc, _*_, _≤_, _<_, max}
 use native.Mathlib.Omega.{arith}
-use native.Mathlib.Nat.{le-trans, le-antisymm, le-refl, le-of-eq, mul-le-mul-right}
+use native.Mathlib.Nat.{le-trans, le-refl, le-of-eq, mul-le-mul-right}
 use lib.Dec.{leb}
 use borrow.Author.Tests.{leb-true, leb-false}
 use Rattle.state.specs.Max.{IsMax, Below, maxTo, Tuple, none, more, maxTuples}

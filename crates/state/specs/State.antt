@@ -7,7 +7,7 @@ use lib.ListN.{getD}
 use lib.Dec.{ltb, eqb}
 use Rattle.label.specs.Limits.{firstParameter, firstVariable}
 use Rattle.label.specs.Labels.{predicateOf, unpacked, termsOf}
-use Rattle.diagram.specs.Diagram.{Tree, leaf, branch, Diagram, eval, relabel}
+use Rattle.diagram.specs.Diagram.{Tree, leaf, Diagram, eval, relabel}
 
 -- an atomic formula: a predicate and its terms. A term is its number: constants are below 16, variables from 32 on, parameters between.
 pub data Atomic : Type 0 where

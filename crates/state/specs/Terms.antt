@@ -1,8 +1,6 @@
 -- The terms of a diagram over atomic formulas, and their renaming.
-use mathlib.Core.Path.{_≡_}
 use mathlib.Core.List.{List, [], _∷_, map}
-use Prim.Native.Nat.{ℕ, _≤_, _<_}
-use Rattle.label.specs.Limits.{firstVariable}
+use Prim.Native.Nat.{ℕ}
 use Rattle.diagram.specs.Diagram.{Tree, leaf, branch, relabel}
 use Rattle.state.specs.State.{Atomic, atom}
 
@@ -26,11 +24,3 @@ renameAtom ρ (atom p ts) = atom p (map ρ ts)
 unfoldable pub rename : (ℕ → ℕ) → Tree Atomic → Tree Atomic
 unfolding relabel
 rename ρ d = relabel (renameAtom ρ) d
-
--- ρ leaves what is no variable and can be undone on the terms of d
-pub record Renaming (ρ : ℕ → ℕ) (d : Tree Atomic) : Type 0 where
-  pub keeps : (t : ℕ) → t < firstVariable → ρ t ≡ t
-  pub stays : (t : ℕ) → firstVariable ≤ t → firstVariable ≤ ρ t
-  pub back : ℕ → ℕ
-  pub back-keeps : (t : ℕ) → t < firstVariable → back t ≡ t
-  pub undone : Terms (λ t. back (ρ t) ≡ t) d

@@ -1,5 +1,5 @@
 -- What the value call answers (document 01, sections 'States and value' and 'Refusals by trade word').
-use mathlib.Core.Bool.{Bool, true, false, not}
+use mathlib.Core.Bool.{not, cond}
 use mathlib.Core.List.{List, []}
 use Prim.Native.Nat.{ℕ, _^_}
 use lib.ListN.{length}
@@ -30,15 +30,11 @@ unfoldable pub valuations : List ℕ → ℕ → Diagram → ℕ
 unfolding variables
 valuations ar n d = n ^ length (variables ar d)
 
-abbrev pub pickValued : Bool → Valued → Valued → Valued
-pickValued true x y = x
-pickValued false x y = y
-
 -- the checks in their order, then the highest leaf
 unfoldable pub valueAnswer : List ℕ → List ℕ → ℕ → List ℕ → List ℕ → Valued
 valueAnswer ar ws n constants facts =
-    pickValued (not (isListing ar ws)) (Refused Listing)
-    (pickValued (not (isState ar n constants facts)) (Refused Range)
-    (pickValued (not (eqb (length (parameters ar (diagramOf ws))) 0)) (Refused Unbound)
-    (pickValued (ltb mostValuations (valuations ar n (diagramOf ws))) (Refused Valuations)
+    cond (not (isListing ar ws)) (Refused Listing)
+    (cond (not (isState ar n constants facts)) (Refused Range)
+    (cond (not (eqb (length (parameters ar (diagramOf ws))) 0)) (Refused Unbound)
+    (cond (ltb mostValuations (valuations ar n (diagramOf ws))) (Refused Valuations)
     (Value (highest (stateOf ar n constants facts) [] (meaning ar (diagramOf ws)))))))

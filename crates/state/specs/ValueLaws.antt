@@ -1,18 +1,14 @@
--- Laws of valuations: a diagram's value sees only its terms, renaming is composition, and a sum over disjoint variables.
-use mathlib.Core.Path.{_≡_, refl, ap, ap₂, sym, _∙_}
+-- Laws of valuations: a diagram's value sees only its terms, and renaming is composition.
+use mathlib.Core.Path.{_≡_, refl, ap, ap₂, _∙_}
 use mathlib.Core.List.{List, [], _∷_, map}
 use mathlib.Core.Bool.{Bool, true, false, cond}
-use Prim.Native.Nat.{ℕ, zero, suc, _+_, _≤_, _<_}
-use native.Mathlib.Omega.{arith}
-use native.Mathlib.Nat.{le-of-eq}
+use Prim.Native.Nat.{ℕ, _≤_, _<_}
 use lib.Dec.{ltb}
 use borrow.Author.Tests.{ltb-true, ltb-false, lt-ltb, le-ltb}
 use Rattle.label.specs.Limits.{firstVariable}
-use Rattle.diagram.specs.Diagram.{Tree, leaf, branch, eval, relabel}
-use Rattle.state.specs.State.{Atomic, atom, State, truth, holds, value, low, fixed, Fits}
-use Rattle.state.specs.Terms.{Each, args, Terms, renameAtom, rename, Renaming}
-use Rattle.state.specs.Highest.{Highest}
-use Rattle.state.specs.MaxLaws.{max-by}
+use Rattle.diagram.specs.Diagram.{Tree, leaf, branch, eval}
+use Rattle.state.specs.State.{Atomic, atom, State, truth, holds, value, low, Fits}
+use Rattle.state.specs.Terms.{Each, args, Terms, rename}
 
 pub low-lt : (m t x y : ℕ) → t < m → low m t x y ≡ x
 low-lt m t x y h = ap (λ b. cond b x y) (lt-ltb t m h)
@@ -73,60 +69,9 @@ pub Terms-mono : (P Q : ℕ → Type 0) → ((t : ℕ) → P t → Q t) → (d :
 Terms-mono P Q e (leaf x) w = tt
 Terms-mono P Q e (branch (atom p ts) t g) w = (Each-mono P Q e ts (w .0), Terms-mono P Q e t (w .1), Terms-mono P Q e g (w .2))
 
--- renaming keeps the highest leaf
-
+-- a valuation after a renaming that leaves what is no variable
 pub fits-after : {s : State} {os : List ℕ} {θ ρ : ℕ → ℕ} → Fits s os θ → ((t : ℕ) → t < firstVariable → ρ t ≡ t) → Fits s os (λ t. θ (ρ t))
 fits-after {θ = θ} {ρ = ρ} f k = record {
   low = λ t h. ap θ (k t h) ∙ f .low t h;
   range = λ t. f .range (ρ t);
 }
-
-pub renamed : {s : State} {os : List ℕ} {d : Tree Atomic} {ρ : ℕ → ℕ} {x : ℕ} → Renaming ρ d → Highest s os d x → Highest s os (rename ρ d) x
-renamed {s} {os} {d} {ρ} {x} r m = max-by m
-    (λ θ f. (
-      (λ t. θ (r .back t)),
-      fits-after f (r .back-keeps),
-      le-of-eq (value-same _ s d θ (λ t. θ (r .back (ρ t))) (r .undone) (λ t e. ap θ (sym e)) ∙ sym (rename-value s ρ d _)),
-    ))
-    (λ θ f. ((λ t. θ (ρ t)), fits-after f (r .keeps), le-of-eq (rename-value s ρ d θ)))
-
--- a sum over disjoint variables
-abbrev mix : ℕ → (ℕ → ℕ) → (ℕ → ℕ) → ℕ → ℕ
-mix m θ η t = low m t (θ t) (η t)
-
-module _ (s : State) (os : List ℕ) (a b c : Tree Atomic) (m : ℕ) (m-low : firstVariable ≤ m)
-    (in-a : Terms (λ t. t < m) a) (in-b : Terms (λ t. firstVariable ≤ t → m ≤ t) b)
-    (sum : (θ : ℕ → ℕ) → value s c θ ≡ value s a θ + value s b θ) where
-  pub apart-sum : {x y : ℕ} → Highest s os a x → Highest s os b y → Highest s os c (x + y)
-  apart-sum {x} {y} p q = record {
-    point = μ;
-    inside = record {
-      low = λ t h. low-lt m t (θ t) (η t) (omega arith) ∙ p .inside .low t h;
-      range = λ t. by-low (μ t < s .size) m t
-          (λ h. rw (low-lt m t (θ t) (η t) h) (p .inside .range t))
-          (λ h. rw (low-ge m t (θ t) (η t) h) (q .inside .range t));
-    };
-    value = sum μ ∙ ap₂ _+_ (at-a ∙ p .value) (at-b ∙ q .value);
-    bound = λ κ f.
-        let u = p .bound κ f in
-        let v = q .bound κ f in
-        let w = sum κ in
-        omega arith;
-  }
-    where
-      θ : ℕ → ℕ
-      θ = p .point
-
-      η : ℕ → ℕ
-      η = q .point
-
-      μ : ℕ → ℕ
-      μ = mix m θ η
-
-      at-a : value s a μ ≡ value s a θ
-      at-a = value-same _ s a μ θ in-a (λ t h. low-lt m t (θ t) (η t) h)
-
-      at-b : value s b μ ≡ value s b η
-      at-b = value-same _ s b μ η in-b (λ t h. by-low (μ t ≡ η t) firstVariable t
-          (λ l. low-lt m t (θ t) (η t) (omega arith) ∙ p .inside .low t l ∙ sym (q .inside .low t l))
-          (λ l. low-ge m t (θ t) (η t) (h l)))

@@ -79,7 +79,7 @@ fn show(number: u64, answer: Valued) {
 
 fn valued(number: u64, words: &[u64], n: u64, constants: &[u64], facts: &[u64]) {
     let arities = ARITIES;
-    show(number, state::value(&arities, words, n, constants, facts));
+    show(number, valuing::value(&arities, words, n, constants, facts));
 }
 
 // A test of one label, with a leaf for true and one for false, in a state of two constants and one fact.
@@ -235,7 +235,7 @@ fn empty() {
     // a leaf; no words; no arity list
     valued(41, &leaf, 1, &none, &none);
     valued(42, &none, 1, &none, &none);
-    show(43, state::value(&none, &leaf, 1, &none, &none));
+    show(43, valuing::value(&none, &leaf, 1, &none, &none));
 }
 
 fn facts_in_turn() {

@@ -14,7 +14,7 @@ use Rattle.answers.specs.declared.Answer.the-variants.{Refused}
 use Rattle.answers.specs.declared.Put.{Put}
 use Rattle.answers.specs.declared.Put.the-variants as P
 use Rattle.answers.specs.Answers.{answerLine, answerBytes}
-use Rattle.answers.specs.Writing.{Placed, pickPut, putAnswer, putResult}
+use Rattle.answers.specs.Writing.{Placed, putAnswer, putResult}
 use Rattle.session.specs.declared.Part.the-variants.{Model, Run}
 use Rattle.session.specs.Replies.{reply}
 use Rattle.session.specs.Texts.{Progress, replyBytes, afterLine, afterRest, closing}
@@ -57,7 +57,7 @@ module _ {out : List ℕ} {place : ℕ} {w : List ℕ} {r : Put} {out′ : List 
   unfolding putAnswer putResult
   placed-at e q = go (leb (place + length w) (length out)) refl (sym q ∙ x .answer) (x .result)
     where
-      go : (b : Bool) → leb (place + length w) (length out) ≡ b → P.At e ≡ pickPut b (P.At (place + length w)) P.Full
+      go : (b : Bool) → leb (place + length w) (length out) ≡ b → P.At e ≡ cond b (P.At (place + length w)) P.Full
           → out′ ≡ cond b (take place out ++ w ++ drop (place + length w) out) out → Appended out place w e out′
       go true t a g =
           let k : e ≡ place + length w = cc in
@@ -68,7 +68,7 @@ module _ {out : List ℕ} {place : ℕ} {w : List ℕ} {r : Put} {out′ : List 
   unfolding putAnswer putResult
   placed-full q = go (leb (place + length w) (length out)) refl (sym q ∙ x .answer) (x .result)
     where
-      go : (b : Bool) → leb (place + length w) (length out) ≡ b → P.Full ≡ pickPut b (P.At (place + length w)) P.Full
+      go : (b : Bool) → leb (place + length w) (length out) ≡ b → P.Full ≡ cond b (P.At (place + length w)) P.Full
           → out′ ≡ cond b (take place out ++ w ++ drop (place + length w) out) out → (length out < place + length w) × (out′ ≡ out)
       go true t a g = absurd (let z : _≡_ {A = ℕ} 0 1 = cc in omega arith)
       go false t a g = (leb-false (place + length w) (length out) t, g)

@@ -12,9 +12,9 @@ use Rattle.diagram.specs.Listing.{diagramOf}
 use Rattle.diagram.specs.ListingLaws.{length-listing}
 use Rattle.diagram.specs.Listings.{is-listing-diagram}
 use Rattle.refusal.specs.Outcome.{Outcome, ok, refused}
-use Rattle.cut.specs.declared.Cut.{Cut}
-use Rattle.cut.specs.declared.Cut.the-variants as C
-use Rattle.cut.specs.Cut.{diagramAnswer}
+use Rattle.cutting.specs.declared.Cut.{Cut}
+use Rattle.cutting.specs.declared.Cut.the-variants as C
+use Rattle.cutting.specs.Cut.{diagramAnswer}
 use Rattle.mdp.specs.Runs.{Held}
 use Rattle.text.specs.declared.Kind.{Kind}
 use Rattle.text.specs.declared.Kind.the-variants as K

@@ -113,7 +113,7 @@ pub fn reply_line(
     );
     let answer = said.answer;
     let numbers = said.numbers;
-    let put = answers::put_answer(out, at, value, answer);
+    let put = answering::put_answer(out, at, value, answer);
     Sent {
         numbers: numbers,
         put: put,
@@ -170,7 +170,7 @@ fn put_refusal(out: &mut [u8], at: usize, why: Refusal, number: u64) -> Put
     ensures { λ r. ⌜ Placed (now (out .entry)) at (answerLine (Refused why number)) r (now (out .exit)) ⌝ }
 {
     let none = [0u64; 1];
-    answers::put_answer(out, at, &none, Answer::Refused(why, number))
+    answering::put_answer(out, at, &none, Answer::Refused(why, number))
 }
 
 // The end of a text behind its last line: without an accepted (start) it is refused.

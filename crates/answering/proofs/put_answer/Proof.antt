@@ -1,0 +1,32 @@
+use Rattle.answering.proofs.LineLaws.{put-value, put-backup, put-cut, put-refused, put-none, put-show, shown-there}
+use borrow.Author.Needs.{needs}
+use Rattle.answering.proofs.put_answer.Statement.{statement}
+use Rattle.answering.proofs.put_answer.Tie as tie
+
+put-rows-requires : tie.Need-put-rows-requires
+put-rows-requires c κs = search shown-there
+
+returns : tie.Need-returns
+returns c = search put-value
+
+returns-2 : tie.Need-returns-2
+returns-2 c = search put-backup
+
+returns-3 : tie.Need-returns-3
+returns-3 c = search put-cut
+
+returns-4 : tie.Need-returns-4
+returns-4 c = search put-refused
+
+returns-5 : tie.Need-returns-5
+returns-5 c = search put-show
+
+returns-6 : tie.Need-returns-6
+returns-6 c = search put-none
+
+pub put-answer-spec : {M : Type 1} → statement M
+put-answer-spec =
+    tie.close
+    (tie.spec (λ c. search needs) (λ c κs. search needs) (λ c. search needs) (λ c κs. search needs) (λ c. search needs) (λ c κs. search needs)
+    (λ c. search needs) (λ c κs. search needs) (λ c. search needs) put-rows-requires (λ c. search needs) (λ c κs. search needs) (λ c. search needs) returns
+    (λ c. search needs) returns-2 (λ c. search needs) returns-3 (λ c. search needs) returns-4 (λ c. search needs) returns-5 (λ c. search needs) returns-6)

@@ -1,0 +1,15 @@
+use Rattle.answering.proofs.LineLaws.{line-taken, placed-line}
+use borrow.Author.Needs.{needs}
+use Rattle.answering.proofs.put_one.Statement.{statement}
+use Rattle.answering.proofs.put_one.Tie as tie
+
+slice-aggregate-put-line : tie.Need-slice-aggregate-put-line
+slice-aggregate-put-line c = let a = c .before .before .before .answer-line in line-taken (a .kept .0) (a .ensures)
+
+returns : tie.Need-returns
+returns c = search placed-line
+
+pub put-one-spec : {M : Type 1} → statement M
+put-one-spec =
+    tie.close
+    (tie.spec (λ c. search needs) (λ c κs. search needs) (λ c. search needs) slice-aggregate-put-line (λ c κs. search needs) (λ c. search needs) returns)

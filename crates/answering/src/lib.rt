@@ -1,0 +1,243 @@
+// The answers of a text written as bytes into a lent buffer.
+use answers::Answer;
+use answers::Put;
+use cutting::Edge;
+use label::Label;
+ghost use mathlib.Core.Path.{_≡_};
+ghost use Prim.Native.Nat.{_+_, _*_, _≤_};
+ghost use mathlib.Core.List.{_++_};
+ghost use lib.ListN.{length};
+ghost use Rattle.answers.specs.Digits.{digits};
+ghost use Rattle.answers.specs.Answers.{field, edgeField, leafField, valueHead, cutHead, rowHead, lineEnd, rowLineAt, rowLines, answerLine, answerBytes};
+ghost use Rattle.answers.specs.Writing.{lineBytes, putAnswer, Placed, Showable};
+ghost use Rattle.answering.specs.Wrote.{Wrote, WroteWithin};
+
+// The bytes of a line at most: a word, four numbers and the signs between them.
+const LINE_BYTES: usize = 90;
+
+// Writes bytes at a place, and answers the place behind them.
+fn put_bytes(out: &mut [u8], at: usize, word: &[u8]) -> usize
+    requires { ⌜ at + length (now word) ≤ length (now out) ⌝ }
+    ensures { λ r. ⌜ Wrote (now (out .entry)) at (now (word .entry)) r (now (out .exit)) ⌝ }
+{
+    let mut i = 0;
+    while i < word.len() {
+        out[at + i] = word[i];
+        i += 1;
+    }
+    at + word.len()
+}
+
+// Writes the digits of a number, the highest first.
+fn put_number(out: &mut [u8], at: usize, v: u64) -> usize
+    requires { ⌜ at + length (digits v) ≤ length (now out) ⌝ }
+    ensures { λ r. ⌜ Wrote (now (out .entry)) at (digits v) r (now (out .exit)) ⌝ }
+{
+    if v <= 9 {
+        out[at] = v as u8 + 48;
+        return at + 1;
+    }
+    let i = put_number(out, at, v / 10);
+    out[i] = (v % 10) as u8 + 48;
+    i + 1
+}
+
+// Writes a number behind a space.
+fn put_field(out: &mut [u8], at: usize, v: u64) -> usize
+    requires { ⌜ at + 21 ≤ length (now out) ⌝ }
+    ensures { λ r. ⌜ WroteWithin (now (out .entry)) at (field v) 21 r (now (out .exit)) ⌝ }
+{
+    let n = put_bytes(out, at, b" ");
+    put_number(out, n, v)
+}
+
+// Writes the side of an edge.
+fn put_edge(out: &mut [u8], at: usize, edge: Edge) -> usize
+    requires { ⌜ at + 6 ≤ length (now out) ⌝ }
+    ensures { λ r. ⌜ WroteWithin (now (out .entry)) at (edgeField edge) 6 r (now (out .exit)) ⌝ }
+{
+    match edge {
+        Edge::True => put_bytes(out, at, b" true"),
+        Edge::False => put_bytes(out, at, b" false"),
+    }
+}
+
+// A line of two numbers.
+fn pair_line(line: &mut [u8], head: &[u8], a: u64, b: u64) -> usize
+    requires { ⌜ lineBytes ≤ length (now line) ⌝ }
+    requires { ⌜ length (now head) ≤ 8 ⌝ }
+    ensures { λ r. ⌜ WroteWithin (now (line .entry)) 0 (now (head .entry) ++ field a ++ field b ++ lineEnd) lineBytes r (now (line .exit)) ⌝ }
+{
+    let i = put_bytes(line, 0, head);
+    let j = put_field(line, i, a);
+    let k = put_field(line, j, b);
+    put_bytes(line, k, b")\n")
+}
+
+// The line of a value.
+fn value_line(line: &mut [u8], v: u64, k: u64, scale: u64) -> usize
+    requires { ⌜ lineBytes ≤ length (now line) ⌝ }
+    ensures { λ r. ⌜ WroteWithin (now (line .entry)) 0 (valueHead ++ field v ++ field k ++ field scale ++ lineEnd) lineBytes r (now (line .exit)) ⌝ }
+{
+    let a = put_bytes(line, 0, b"(value");
+    let b = put_field(line, a, v);
+    let c = put_field(line, b, k);
+    let d = put_field(line, c, scale);
+    put_bytes(line, d, b")\n")
+}
+
+// The line of a cut.
+fn cut_line(line: &mut [u8], row: usize, edge: Edge, rows: usize) -> usize
+    requires { ⌜ lineBytes ≤ length (now line) ⌝ }
+    ensures { λ r. ⌜ WroteWithin (now (line .entry)) 0 (cutHead ++ field row ++ edgeField edge ++ field rows ++ lineEnd) lineBytes r (now (line .exit)) ⌝ }
+{
+    let a = put_bytes(line, 0, b"(cut");
+    let b = put_field(line, a, row as u64);
+    let c = put_edge(line, b, edge);
+    let d = put_field(line, c, rows as u64);
+    put_bytes(line, d, b")\n")
+}
+
+// The line of row k, a leaf.
+fn leaf_line(line: &mut [u8], k: usize, v: u64) -> usize
+    requires { ⌜ lineBytes ≤ length (now line) ⌝ }
+    ensures { λ r. ⌜ WroteWithin (now (line .entry)) 0 (rowHead ++ field k ++ leafField ++ field v ++ lineEnd) lineBytes r (now (line .exit)) ⌝ }
+{
+    let a = put_bytes(line, 0, b"(row");
+    let b = put_field(line, a, k as u64);
+    let c = put_bytes(line, b, b" leaf");
+    let d = put_field(line, c, v);
+    put_bytes(line, d, b")\n")
+}
+
+// The line of row k, a branch.
+fn branch_line(line: &mut [u8], k: usize, label: u64, high: u64, low: u64) -> usize
+    requires { ⌜ lineBytes ≤ length (now line) ⌝ }
+    ensures { λ r. ⌜ WroteWithin (now (line .entry)) 0 (rowHead ++ field k ++ field label ++ field high ++ field low ++ lineEnd) lineBytes r (now (line .exit)) ⌝ }
+{
+    let a = put_bytes(line, 0, b"(row");
+    let b = put_field(line, a, k as u64);
+    let c = put_field(line, b, label);
+    let d = put_field(line, c, high);
+    let e = put_field(line, d, low);
+    put_bytes(line, e, b")\n")
+}
+
+// The line of row k of a listing.
+fn row_line(line: &mut [u8], words: &[u64], k: usize) -> usize
+    requires { ⌜ lineBytes ≤ length (now line) ⌝ }
+    requires { ⌜ k * 3 + 3 ≤ length (now words) ⌝ }
+    ensures { λ r. ⌜ WroteWithin (now (line .entry)) 0 (rowLineAt (now (words .entry)) k) lineBytes r (now (line .exit)) ⌝ }
+{
+    let label = words[k * 3];
+    let high = words[k * 3 + 1];
+    let low = words[k * 3 + 2];
+    if label == Label::LEAF {
+        return leaf_line(line, k, high);
+    }
+    branch_line(line, k, label, high, low)
+}
+
+// The line of an answer.
+fn answer_line(line: &mut [u8], answer: Answer) -> usize
+    requires { ⌜ lineBytes ≤ length (now line) ⌝ }
+    ensures { λ r. ⌜ WroteWithin (now (line .entry)) 0 (answerLine answer) lineBytes r (now (line .exit)) ⌝ }
+{
+    match answer {
+        Answer::Value(v, k, scale) => value_line(line, v, k, scale),
+        Answer::Backup(k, rows) => pair_line(line, b"(backup", k, rows as u64),
+        Answer::Cut(row, edge, rows) => cut_line(line, row, edge, rows),
+        Answer::Refused(why, number) => pair_line(line, b"(refused", why.number(), number),
+        Answer::Show(_) => 0,
+        Answer::Nothing => 0,
+    }
+}
+
+// Puts bytes at a place, if there is room.
+fn put_line(out: &mut [u8], at: usize, line: &[u8]) -> Put
+    ensures { λ r. ⌜ Placed (now (out .entry)) at (now (line .entry)) r (now (out .exit)) ⌝ }
+{
+    if out.len() < at {
+        return Put::Full;
+    }
+    if out.len() - at < line.len() {
+        return Put::Full;
+    }
+    let end = put_bytes(out, at, line);
+    Put::At(end)
+}
+
+// The place behind the lines of the first n rows, if they have room below the limit.
+fn rows_end(words: &[u64], n: usize, at: usize, limit: usize) -> Put
+    requires { ⌜ n * 3 ≤ length (now words) ⌝ }
+    ensures { λ r. ⌜ r ≡ putAnswer limit at (rowLines (now (words .entry)) n) ⌝ }
+{
+    if limit < at {
+        return Put::Full;
+    }
+    let mut line = [0u8; LINE_BYTES];
+    let mut end = at;
+    let mut k = 0;
+    while k < n {
+        let m = row_line(&mut line, words, k);
+        if limit - end < m {
+            return Put::Full;
+        }
+        end += m;
+        k += 1;
+    }
+    Put::At(end)
+}
+
+// Writes the lines of the first n rows of a listing.
+fn write_rows(out: &mut [u8], at: usize, words: &[u64], n: usize) -> usize
+    requires { ⌜ n * 3 ≤ length (now words) ⌝ }
+    requires { ⌜ at + length (rowLines (now words) n) ≤ length (now out) ⌝ }
+    ensures { λ r. ⌜ Wrote (now (out .entry)) at (rowLines (now (words .entry)) n) r (now (out .exit)) ⌝ }
+{
+    let mut line = [0u8; LINE_BYTES];
+    let mut end = at;
+    let mut k = 0;
+    while k < n {
+        let m = row_line(&mut line, words, k);
+        end = put_bytes(out, end, &line[..m]);
+        k += 1;
+    }
+    end
+}
+
+// Puts the lines of the first n rows of a listing, if there is room for all.
+pub fn put_rows(out: &mut [u8], at: usize, words: &[u64], n: usize) -> Put
+    requires { ⌜ n * 3 ≤ length (now words) ⌝ }
+    ensures { λ r. ⌜ Placed (now (out .entry)) at (rowLines (now (words .entry)) n) r (now (out .exit)) ⌝ }
+{
+    let Put::At(_) = rows_end(words, n, at, out.len()) else {
+        return Put::Full;
+    };
+    let end = write_rows(out, at, words, n);
+    Put::At(end)
+}
+
+// Puts the line of an answer, if there is room.
+fn put_one(out: &mut [u8], at: usize, answer: Answer) -> Put
+    ensures { λ r. ⌜ Placed (now (out .entry)) at (answerLine answer) r (now (out .exit)) ⌝ }
+{
+    let mut line = [0u8; LINE_BYTES];
+    let n = answer_line(&mut line, answer);
+    put_line(out, at, &line[..n])
+}
+
+// Puts an answer's bytes at a place, if there is room; the value's listing begins the words.
+pub fn put_answer(out: &mut [u8], at: usize, words: &[u64], answer: Answer) -> Put
+    requires { ⌜ Showable (now words) answer ⌝ }
+    ensures { λ r. ⌜ Placed (now (out .entry)) at (answerBytes (now (words .entry)) answer) r (now (out .exit)) ⌝ }
+{
+    match answer {
+        Answer::Value(_, _, _) => put_one(out, at, answer),
+        Answer::Backup(_, _) => put_one(out, at, answer),
+        Answer::Cut(_, _, _) => put_one(out, at, answer),
+        Answer::Refused(_, _) => put_one(out, at, answer),
+        Answer::Show(n) => put_rows(out, at, words, n),
+        Answer::Nothing => put_one(out, at, answer),
+    }
+}

@@ -1,0 +1,109 @@
+-- The search over two stored paths answers whether one covers the other.
+use mathlib.Core.Path.{_≡_, sym, ap, subst, _∙_}
+use mathlib.Core.Bool.{Bool, true}
+use mathlib.Core.List.{List, List·Memᴰ}
+use Prim.Native.Nat.{ℕ, _+_, _-_, _≤_, _<_}
+use native.Mathlib.Omega.{arith}
+use lib.ListN.{length, getD, take, drop, replicate, length-take, length-replicate, getD-replicate}
+use lib.Seq.{length-take-le, take-add, drop-at, getD-take}
+use Rattle.label.specs.Labels.{areArities}
+use Rattle.diagram.specs.Validity.{tree}
+use Rattle.diagram.specs.ListingValid.{listing-is-valid}
+use Rattle.paths.specs.Paths.{Literal, Path, literals, termsIn}
+use Rattle.cutting.specs.Match.{start, matches}
+use Rattle.cutting.specs.Cut.{covers}
+use Rattle.cutting.specs.Searchable.{PathLabels}
+use Rattle.cutting.specs.CoverLaws.{in-small}
+use Rattle.matcher.specs.Search.{literalsIn}
+use Rattle.paths.specs.Routes.{pathAt}
+use Rattle.matcher.specs.Covering.{Coverable}
+use Rattle.matcher.specs.Stored.{Marks, Enterable, Stored, Ready, BothStored, Answers}
+use Rattle.matcher.specs.Parts.{PartsPost}
+use Rattle.matcher.proofs.StoreLaws.{listed-labels}
+use Rattle.matcher.proofs.CoversLaws.{bothTerms, covers-setting, covers-order}
+
+-- ===== search =====
+module _ {into from : List ℕ} {a b : ℕ} (g : BothStored into a from b) where
+  pub into-long : 64 + a ≡ length (take (64 + a) into)
+  into-long = sym (length-take-le (64 + a) into (g .into-room))
+
+  pub search-ready : {tab theta : List ℕ} → length tab ≡ 128 → length theta ≡ 64 → ((v : ℕ) → v < 64 → getD theta v 0 ≡ v)
+      → Ready (take (64 + b - 64) (drop 64 from)) (take (64 + a) into) tab theta
+  search-ready x y same = record {
+    few = omega (arith, length-take (64 + b - 64) (drop 64 from), g .few);
+    sorted = g .sorted;
+    tab-room = omega arith;
+    theta-room = omega arith;
+    stays = λ v h. same v (omega arith);
+  }
+
+  -- the literals behind the marks
+  into-literals : literalsIn (drop 64 (take (64 + a) into)) ≡ literalsIn (take a (drop 64 into))
+  into-literals =
+      ap literalsIn (ap (drop 64) (take-add 64 a into) ∙ drop-at (take 64 into) (take a (drop 64 into)) 64 (length-take-le 64 into (omega (arith, g .into-room))))
+
+  module _ (ar : List ℕ) (p : Path) (sp : Stored ar p into a) where
+    into-marks : Marks ar (λ t. getD (take (64 + a) into) t 0) (literals p)
+    into-marks = record { has = has; of = of }
+      where
+        same : (t : ℕ) → t < 64 → getD (take (64 + a) into) t 0 ≡ getD into t 0
+        same t h = getD-take (64 + a) into t 0 (omega arith)
+
+        has : (t : ℕ) → List·Memᴰ t (termsIn ar (literals p)) → 0 < getD (take (64 + a) into) t 0
+        has t m = omega (arith, same t (in-small ar (literals p) t m), sp .marks .has t m)
+
+        of : (t : ℕ) → t < 64 → 0 < getD (take (64 + a) into) t 0 → List·Memᴰ t (termsIn ar (literals p))
+        of t h m = sp .marks .of t h (omega (arith, same t h))
+
+  tab-marks : (tab : List ℕ) → ((t : ℕ) → t < 64 → getD tab (64 + t) 0 ≡ getD from t 0) → (ar : List ℕ) (q : Path) → Stored ar q from b
+      → Marks ar (λ t. getD tab (64 + t) 0) (literals q)
+  tab-marks tab copied ar q sq = record {
+    has = λ t m. omega (arith, copied t (in-small ar (literals q) t m), sq .marks .has t m);
+    of = λ t h m. sq .marks .of t h (omega (arith, copied t h));
+  }
+
+  module _ {tab : List ℕ} (copied : (t : ℕ) → t < 64 → getD tab (64 + t) 0 ≡ getD from t 0) where
+    pub search-answers : {r : Bool} → PartsPost (take (64 + b - 64) (drop 64 from)) (take (64 + a) into) tab r → Answers into a from b r
+    search-answers {r} s = record { each = each }
+      where
+        each : (ar : List ℕ) → areArities ar ≡ true → (p q : Path) → PathLabels ar p → PathLabels ar q → Stored ar p into a → Stored ar q from b → r ≡ covers ar p q
+        each ar good p q np nq sp sq =
+            s .answer ar (bothTerms ar good p q np nq) (covers-setting ar good p q np nq first (λ l m. subst (List·Memᴰ l) second m) (into-marks ar p sp) (tab-marks tab copied ar q sq))
+            ∙ ap (λ (ls : List Literal). matches ar ls (bothTerms ar good p q np nq) (literalsIn (take (64 + b - 64) (drop 64 from))) start) first
+            ∙ covers-order ar good p q np nq (literalsIn (take (64 + b - 64) (drop 64 from))) (λ l m. subst (List·Memᴰ l) second m) (λ l m. subst (List·Memᴰ l) (sym second) m)
+          where
+            first : literalsIn (drop 64 (take (64 + a) into)) ≡ literals p
+            first = into-literals ∙ sp .are
+
+            second : literalsIn (take (64 + b - 64) (drop 64 from)) ≡ literals q
+            second = let e : 64 + b - 64 ≡ b = omega arith in ap (λ (i : ℕ). literalsIn (take i (drop 64 from))) e ∙ sq .are
+
+-- ===== covers =====
+module _ {ar ws counts : List ℕ} {n p q : ℕ} (g : Coverable ar ws counts n p q) where
+  pub covers-first : (m : ℕ) → 320 ≤ m → Enterable ar ws counts n p (replicate m 0)
+  covers-first m h = record {
+    listed = g .listed;
+    whole = g .whole;
+    rows = g .rows;
+    counted = g .counted;
+    path = g .first;
+    room = omega (arith, length-replicate {A = ℕ} m 0);
+    clear = λ t k. getD-replicate m t 0 0 (omega arith);
+  }
+
+  pub covers-second : (m : ℕ) → 320 ≤ m → Enterable ar ws counts n q (replicate m 0)
+  covers-second m h = record {
+    listed = g .listed;
+    whole = g .whole;
+    rows = g .rows;
+    counted = g .counted;
+    path = g .second;
+    room = omega (arith, length-replicate {A = ℕ} m 0);
+    clear = λ t k. getD-replicate m t 0 0 (omega arith);
+  }
+
+  pub covers-answer : {into from : List ℕ} {a b : ℕ} {r : Bool} → Stored ar (pathAt (tree ws (n - 1)) p) into a → Stored ar (pathAt (tree ws (n - 1)) q) from b
+      → Answers into a from b r → r ≡ covers ar (pathAt (tree ws (n - 1)) p) (pathAt (tree ws (n - 1)) q)
+  covers-answer sp sq s =
+      s .each ar (listing-is-valid ar ws (g .listed) .arities) (pathAt (tree ws (n - 1)) p) (pathAt (tree ws (n - 1)) q)
+      (listed-labels (g .listed) (g .whole) (g .first)) (listed-labels (g .listed) (g .whole) (g .second)) sp sq

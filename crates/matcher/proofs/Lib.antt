@@ -1,0 +1,12 @@
+pub mod WayLaws
+pub mod TargetLaws
+pub mod SolveLaws
+pub mod PlaceLaws
+pub mod CoversLaws
+pub mod MarkLaws
+pub mod StoreLaws
+pub mod AnswerLaws
+pub mod OrderLaws
+pub mod JoinLaws
+pub mod PartLaws
+pub mod SomeWayLaws

@@ -1,0 +1,5 @@
+-- Whether one path covers another, as the code finds it: what its parts keep.
+pub mod Covering
+pub mod Search
+pub mod Stored
+pub mod Parts

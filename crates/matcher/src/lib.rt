@@ -1,0 +1,739 @@
+// Whether one path covers another: a search for a replacement of variables, part by part.
+use label::Label;
+use label::Term;
+ghost use mathlib.Core.Path.{_≡_};
+ghost use mathlib.Core.Bool.{false};
+ghost use Prim.Native.Nat.{ℕ, _+_, _-_, _*_, _/_, _%_, _<_, _≤_};
+ghost use lib.ListN.{length, getD};
+ghost use Rattle.label.specs.Limits.{termBase};
+ghost use Rattle.diagram.specs.Validity.{tree};
+ghost use Rattle.listing.specs.Used.{marked};
+ghost use Rattle.paths.specs.Paths.{paths};
+ghost use Rattle.cutting.specs.Cut.{covers};
+ghost use Rattle.matcher.specs.Covering.{Coverable};
+ghost use Rattle.matcher.specs.Parts.{isSeen, shares, Ranked, Best, Takable, Taken, Separable, PartTaken, PartsPost, kindOf, Kinds, WayPost, WaysPost};
+ghost use Rattle.matcher.specs.Stored.{termsOfCode, Markable, Unmarked, Marking, Enterable, Stored, Ready, PartPost, BothStored, Answers};
+ghost use Rattle.paths.specs.Routes.{pathAt};
+ghost use Rattle.matcher.specs.Search.{fourOf, slotFits, slotAfter, Slots, Replacing, BindPost, alike, plainWay, equalWay, wayAt, wayCount, TryPost, allKnown};
+ghost use Rattle.matcher.specs.Search.{Sorted, Finds, Images, Digits, Met, numberOf, Tabled, SolvePost, termAt, Unplaced, Placing};
+
+// A word for each term.
+const TERMS: usize = 64;
+
+const FIRST_VARIABLE: usize = 32;
+
+// What the predicate of a literal's number is multiplied by; below it are the equalities.
+const LITERAL_WEIGHT: u64 = 33554432;
+
+// The words of a path: a mark for each term, and behind them at most 255 literals.
+const PATH_WORDS: usize = 320;
+
+// The words of the table: for each term its first place, and behind them a mark for each term.
+const TABLE_WORDS: usize = 128;
+
+// The first place of a variable that has none yet: behind all places.
+const LATE: u32 = 2000;
+
+// The ranks of literals that share no seen variable begin here, and all ranks are below the second.
+const STRANGE: u64 = 100;
+
+const WORST: u64 = 200;
+
+// What the four places of a literal may become.
+enum Way {
+    Terms(u64, u64, u64, u64),
+    Nothing,
+}
+
+// An entry of a table as a number.
+fn wide(x: u32) -> u64
+    ensures { λ r. ⌜ r ≡ x ⌝ }
+    ensures { λ r. ⌜ r < 4294967296 ⌝ }
+{
+    x as u64
+}
+
+// The term t, met at place m, is to become u: it is written where it comes first, else compared.
+fn place(tab: &[u32], theta: &mut [u64], m: u64, t: usize, u: u64) -> bool
+    requires { ⌜ t < length (now tab) ⌝ }
+    requires { ⌜ t < length (now theta) ⌝ }
+    requires { ⌜ m < 4096 ⌝ }
+    ensures { λ r. ⌜ r ≡ slotFits (now (tab .entry)) (now (theta .entry)) m t u ⌝ }
+    ensures { λ _. ⌜ now (theta .exit) ≡ slotAfter (now (tab .entry)) (now (theta .entry)) m t u ⌝ }
+{
+    if wide(tab[t]) == m + 1 {
+        theta[t] = u;
+        return true;
+    }
+    theta[t] == u
+}
+
+// The four places of the label l, from place m on, are to become a, b, c, d.
+fn bind(tab: &[u32], theta: &mut [u64], m: u64, l: u64, a: u64, b: u64, c: u64, d: u64) -> bool
+    requires { ⌜ Slots (now tab) m l ⌝ }
+    requires { ⌜ termBase ≤ length (now theta) ⌝ }
+    requires { ⌜ m + 4 < 4096 ⌝ }
+    ensures { λ r. ⌜ BindPost (now (tab .entry)) (now (theta .entry)) m l a b c d r (now (theta .exit)) ⌝ }
+{
+    if !place(
+        tab,
+        theta,
+        m,
+        (l / Label::FIRST_WEIGHT % Term::BASE) as usize,
+        a,
+    ) {
+        return false;
+    }
+    if !place(
+        tab,
+        theta,
+        m + 1,
+        (l / Label::SECOND_WEIGHT % Term::BASE) as usize,
+        b,
+    ) {
+        return false;
+    }
+    if !place(
+        tab,
+        theta,
+        m + 2,
+        (l / Label::THIRD_WEIGHT % Term::BASE) as usize,
+        c,
+    ) {
+        return false;
+    }
+    place(tab, theta, m + 3, (l % Term::BASE) as usize, d)
+}
+
+// Whether two literals have one predicate and one sign.
+fn alike(x: u64, y: u64) -> bool
+    ensures { λ r. ⌜ r ≡ alike x y ⌝ }
+{
+    if x / LITERAL_WEIGHT != y / LITERAL_WEIGHT {
+        return false;
+    }
+    x % 2 == y % 2
+}
+
+// Way j of the literal x of another predicate than equality.
+fn plain_way(into: &[u32], x: u64, j: usize) -> Way
+    requires { ⌜ termBase + j < length (now into) ⌝ }
+    ensures { λ r. ⌜ r ≡ plainWay (now (into .entry)) x j ⌝ }
+{
+    let y = wide(into[TERMS + j]);
+    if !alike(x, y) {
+        return Way::Nothing;
+    }
+    let c = y / 2;
+    Way::Terms(
+        c / Label::FIRST_WEIGHT % Term::BASE,
+        c / Label::SECOND_WEIGHT % Term::BASE,
+        c / Label::THIRD_WEIGHT % Term::BASE,
+        c % Term::BASE,
+    )
+}
+
+// Way j of an equality: literal j / 2, turned round for odd j; behind these t = t for each term.
+fn equal_way(into: &[u32], tab: &[u32], x: u64, j: usize) -> Way
+    requires { ⌜ termBase ≤ length (now into) ⌝ }
+    requires { ⌜ termBase + termBase ≤ length (now tab) ⌝ }
+    requires { ⌜ j < (length (now into) - termBase) * 2 + termBase ⌝ }
+    ensures { λ r. ⌜ r ≡ equalWay (now (into .entry)) (now (tab .entry)) x j ⌝ }
+{
+    let n = into.len() - TERMS;
+    if j < n * 2 {
+        let y = wide(into[TERMS + j / 2]);
+        if !alike(x, y) {
+            return Way::Nothing;
+        }
+        let c = y / 2;
+        if j % 2 == 0 {
+            return Way::Terms(
+                c / Label::FIRST_WEIGHT % Term::BASE,
+                c / Label::SECOND_WEIGHT % Term::BASE,
+                c / Label::THIRD_WEIGHT % Term::BASE,
+                c % Term::BASE,
+            );
+        }
+        return Way::Terms(
+            c / Label::SECOND_WEIGHT % Term::BASE,
+            c / Label::FIRST_WEIGHT % Term::BASE,
+            c / Label::THIRD_WEIGHT % Term::BASE,
+            c % Term::BASE,
+        );
+    }
+    let t = j - n * 2;
+    if x % 2 != 1 {
+        return Way::Nothing;
+    }
+    if wide(into[t]) != 0 {
+        return Way::Terms(t as u64, t as u64, 0, 0);
+    }
+    if wide(tab[TERMS + t]) != 0 {
+        return Way::Terms(t as u64, t as u64, 0, 0);
+    }
+    Way::Nothing
+}
+
+// Way j of the literal x.
+fn way_at(into: &[u32], tab: &[u32], x: u64, j: usize) -> Way
+    requires { ⌜ termBase ≤ length (now into) ⌝ }
+    requires { ⌜ termBase + termBase ≤ length (now tab) ⌝ }
+    requires { ⌜ j < wayCount (now into) x ⌝ }
+    ensures { λ r. ⌜ r ≡ wayAt (now (into .entry)) (now (tab .entry)) x j ⌝ }
+{
+    if x < LITERAL_WEIGHT {
+        return equal_way(into, tab, x, j);
+    }
+    plain_way(into, x, j)
+}
+
+// How many ways there are for the literal x.
+fn way_count(into: &[u32], x: u64) -> usize
+    requires { ⌜ termBase ≤ length (now into) ⌝ }
+    ensures { λ r. ⌜ r ≡ wayCount (now (into .entry)) x ⌝ }
+{
+    if x < LITERAL_WEIGHT {
+        return (into.len() - TERMS) * 2 + TERMS;
+    }
+    into.len() - TERMS
+}
+
+// Tries way j for the literal x, whose places stand from m on.
+fn attempt(into: &[u32], tab: &[u32], theta: &mut [u64], m: u64, x: u64, j: usize) -> bool
+    requires { ⌜ termBase ≤ length (now into) ⌝ }
+    requires { ⌜ termBase + termBase ≤ length (now tab) ⌝ }
+    requires { ⌜ j < wayCount (now into) x ⌝ }
+    requires { ⌜ Slots (now tab) m (x / 2) ⌝ }
+    requires { ⌜ termBase ≤ length (now theta) ⌝ }
+    requires { ⌜ m + 4 < 4096 ⌝ }
+    ensures { λ r. ⌜ TryPost (now (tab .entry)) (now (theta .entry)) m x r (now (theta .exit)) (wayAt (now (into .entry)) (now (tab .entry)) x j) ⌝ }
+{
+    let Way::Terms(a, b, c, d) = way_at(into, tab, x, j) else {
+        return false;
+    };
+    bind(tab, theta, m, x / 2, a, b, c, d)
+}
+
+// Whether the terms of the label l are all known before place m.
+fn all_known(tab: &[u32], m: u64, l: u64) -> bool
+    requires { ⌜ termBase ≤ length (now tab) ⌝ }
+    ensures { λ r. ⌜ r ≡ allKnown (now (tab .entry)) m l ⌝ }
+{
+    if wide(tab[(l / Label::FIRST_WEIGHT % Term::BASE) as usize]) > m {
+        return false;
+    }
+    if wide(tab[(l / Label::SECOND_WEIGHT % Term::BASE) as usize]) > m {
+        return false;
+    }
+    if wide(tab[(l / Label::THIRD_WEIGHT % Term::BASE) as usize]) > m {
+        return false;
+    }
+    wide(tab[(l % Term::BASE) as usize]) <= m
+}
+
+// Whether y is one of the literals in order behind the first 64 entries.
+fn find(into: &[u32], y: u64) -> bool
+    requires { ⌜ Sorted (now into) ⌝ }
+    ensures { λ r. ⌜ Finds (now (into .entry)) y r ⌝ }
+{
+    let mut low = TERMS;
+    let mut high = into.len();
+    while low < high {
+        let mid = low + (high - low) / 2;
+        let x = wide(into[mid]);
+        if x == y {
+            return true;
+        }
+        if x < y {
+            low = mid + 1;
+        } else {
+            high = mid;
+        }
+    }
+    false
+}
+
+// Whether the literal x, all of whose terms are known, becomes one of the literals or t = t true.
+fn is_met(into: &[u32], theta: &[u64], x: u64) -> bool
+    requires { ⌜ Sorted (now into) ⌝ }
+    requires { ⌜ Images (now theta) x ⌝ }
+    ensures { λ r. ⌜ Met (now (into .entry)) (now (theta .entry)) x r ⌝ }
+{
+    let l = x / 2;
+    let a = theta[(l / Label::FIRST_WEIGHT % Term::BASE) as usize];
+    let b = theta[(l / Label::SECOND_WEIGHT % Term::BASE) as usize];
+    if x >= LITERAL_WEIGHT {
+        let c = theta[(l / Label::THIRD_WEIGHT % Term::BASE) as usize];
+        let d = theta[(l % Term::BASE) as usize];
+        return find(into, number(x / LITERAL_WEIGHT, a, b, c, d, x % 2));
+    }
+    if a == b {
+        return x % 2 == 1;
+    }
+    if a < b {
+        return find(into, number(0, a, b, 0, 0, x % 2));
+    }
+    find(into, number(0, b, a, 0, 0, x % 2))
+}
+
+// The number of a literal.
+fn number(p: u64, a: u64, b: u64, c: u64, d: u64, s: u64) -> u64
+    requires { ⌜ Digits p a b c d s ⌝ }
+    ensures { λ r. ⌜ r ≡ numberOf p a b c d s ⌝ }
+{
+    (p * Label::PREDICATE_WEIGHT
+        + a * Label::FIRST_WEIGHT
+        + b * Label::SECOND_WEIGHT
+        + c * Label::THIRD_WEIGHT
+        + d)
+        * 2
+        + s
+}
+
+// Whether a replacement beyond theta takes the literals from k to n to those of the first path, or to t = t true. Tries each literal in turn, and
+// goes back when one has no match.
+fn solve(ord: &[u32], into: &[u32], tab: &[u32], theta: &mut [u64], n: usize, k: usize) -> bool
+    requires { ⌜ Tabled (now ord) (now tab) n ⌝ }
+    requires { ⌜ Sorted (now into) ⌝ }
+    requires { ⌜ Replacing (now tab) (now theta) (k * 4) ⌝ }
+    requires { ⌜ k ≤ n ⌝ }
+    ensures { λ r. ⌜ SolvePost (now (ord .entry)) (now (into .entry)) (now (tab .entry)) (now (theta .entry)) n k r (now (theta .exit)) ⌝ }
+{
+    if k == n {
+        return true;
+    }
+    let x = wide(ord[k]);
+    if all_known(tab, (k * 4) as u64, x / 2) {
+        if !is_met(into, theta, x) {
+            return false;
+        }
+        return solve(ord, into, tab, theta, n, k + 1);
+    }
+    let total = way_count(into, x);
+    let mut j = 0;
+    while j < total {
+        if attempt(into, tab, theta, (k * 4) as u64, x, j) {
+            if solve(ord, into, tab, theta, n, k + 1) {
+                return true;
+            }
+            j += 1;
+        } else {
+            j += 1;
+        }
+    }
+    false
+}
+
+// Place m of literals one after the other, four to a literal.
+fn term_at(ord: &[u32], m: usize) -> usize
+    requires { ⌜ m < length (now ord) * 4 ⌝ }
+    ensures { λ r. ⌜ (r ≡ termAt (now (ord .entry)) m) × (r < termBase) ⌝ }
+{
+    let l = wide(ord[m / 4]) / 2;
+    let j = m % 4;
+    if j == 0 {
+        return (l / Label::FIRST_WEIGHT % Term::BASE) as usize;
+    }
+    if j == 1 {
+        return (l / Label::SECOND_WEIGHT % Term::BASE) as usize;
+    }
+    if j == 2 {
+        return (l / Label::THIRD_WEIGHT % Term::BASE) as usize;
+    }
+    (l % Term::BASE) as usize
+}
+
+// Writes the places, counted from 1, where the terms of the first n literals come first.
+fn first_places(ord: &[u32], n: usize, tab: &mut [u32])
+    requires { ⌜ n ≤ length (now ord) ⌝ }
+    requires { ⌜ n < 256 ⌝ }
+    requires { ⌜ Unplaced (now tab) ⌝ }
+    ensures { λ _. ⌜ Placing (now (ord .entry)) (now (tab .entry)) (now (tab .exit)) (n * 4) ⌝ }
+{
+    let mut m = 0;
+    while m < n * 4 {
+        let t = term_at(ord, m);
+        if wide(tab[t]) > (m + 1) as u64 {
+            tab[t] = (m + 1) as u32;
+            m += 1;
+        } else {
+            m += 1;
+        }
+    }
+}
+
+// Marks the terms of the literal x.
+fn mark_literal(arities: &[u64], marks: &mut [u32], x: u64)
+    requires { ⌜ Markable (now arities) (now marks) x ⌝ }
+    ensures { λ _. ⌜ now (marks .exit) ≡ marked (termsOfCode (now (arities .entry)) x) (now (marks .entry)) ⌝ }
+{
+    let l = x / 2;
+    let n = arities[(l / Label::PREDICATE_WEIGHT) as usize];
+    if n == 0 {
+        return;
+    }
+    marks[(l / Label::FIRST_WEIGHT % Term::BASE) as usize] = 1;
+    if n == 1 {
+        return;
+    }
+    marks[(l / Label::SECOND_WEIGHT % Term::BASE) as usize] = 1;
+    if n == 2 {
+        return;
+    }
+    marks[(l / Label::THIRD_WEIGHT % Term::BASE) as usize] = 1;
+    if n == 3 {
+        return;
+    }
+    marks[(l % Term::BASE) as usize] = 1;
+}
+
+// Marks the terms of the n literals behind the marks.
+fn mark_path(arities: &[u64], out: &mut [u32], n: usize)
+    requires { ⌜ Unmarked (now arities) (now out) n ⌝ }
+    ensures { λ _. ⌜ Marking (now (arities .entry)) (now (out .entry)) (now (out .exit)) n ⌝ }
+{
+    let mut i = 0;
+    while i < n {
+        let x = wide(out[TERMS + i]);
+        mark_literal(arities, out, x);
+        i += 1;
+    }
+}
+
+// Writes the literals of path k in order behind the marks of their terms, and answers how many they are.
+fn enter_path(
+    arities: &[u64],
+    words: &[u64],
+    counts: &[u64],
+    n: usize,
+    k: u64,
+    out: &mut [u32],
+) -> usize
+    requires { ⌜ Enterable (now arities) (now words) (now counts) n k (now out) ⌝ }
+    ensures { λ j. ⌜ Stored (now (arities .entry)) (pathAt (tree (now (words .entry)) (n - 1)) k) (now (out .exit)) j ⌝ }
+{
+    let j = paths::path_into(words, counts, n, k, out);
+    mark_path(arities, out, j);
+    j
+}
+
+// Copies the marks of 64 terms behind the table.
+fn copy_marks(marks: &[u32], tab: &mut [u32])
+    requires { ⌜ termBase ≤ length (now marks) ⌝ }
+    requires { ⌜ termBase + termBase ≤ length (now tab) ⌝ }
+    ensures { λ _. ⌜ ((t : ℕ) → t < termBase → getD (now (tab .exit)) (termBase + t) 0 ≡ getD (now (marks .entry)) t 0) ⌝ }
+{
+    let mut t = 0;
+    while t < TERMS {
+        tab[TERMS + t] = marks[t];
+        t += 1;
+    }
+}
+
+// Each term becomes itself.
+fn keep_terms(theta: &mut [u64])
+    requires { ⌜ termBase ≤ length (now theta) ⌝ }
+    ensures { λ _. ⌜ ((v : ℕ) → v < termBase → getD (now (theta .exit)) v 0 ≡ v) ⌝ }
+{
+    let mut v = 0;
+    while v < TERMS {
+        theta[v] = v as u64;
+        v += 1;
+    }
+}
+
+// No variable has a place yet.
+fn unplace(tab: &mut [u32])
+    requires { ⌜ termBase + termBase ≤ length (now tab) ⌝ }
+    ensures { λ _. ⌜ Unplaced (now (tab .exit)) ⌝ }
+    ensures { λ _. ⌜ ((v : ℕ) → termBase ≤ v → getD (now (tab .exit)) v 0 ≡ getD (now (tab .entry)) v 0) ⌝ }
+{
+    let mut v = 0;
+    while v < FIRST_VARIABLE {
+        tab[v] = 0;
+        tab[FIRST_VARIABLE + v] = LATE;
+        v += 1;
+    }
+}
+
+// Whether a replacement takes the literals of ord to those of the first path, or to t = t true.
+fn match_part(ord: &[u32], into: &[u32], tab: &mut [u32], theta: &mut [u64]) -> bool
+    requires { ⌜ Ready (now ord) (now into) (now tab) (now theta) ⌝ }
+    ensures { λ r. ⌜ PartPost (now (ord .entry)) (now (into .entry)) (now (tab .entry)) r (now (tab .exit)) (now (theta .exit)) ⌝ }
+{
+    unplace(tab);
+    first_places(ord, ord.len(), tab);
+    solve(ord, into, tab, theta, ord.len(), 0)
+}
+
+// The literal to be taken next, and its rank.
+struct Pick {
+    at: usize,
+    rank: u64,
+}
+
+// Whether the term t is a variable that was seen.
+fn is_seen(seen: &[u32], t: usize) -> bool
+    requires { ⌜ t < length (now seen) ⌝ }
+    ensures { λ r. ⌜ r ≡ isSeen (now (seen .entry)) t ⌝ }
+{
+    if t < FIRST_VARIABLE {
+        return false;
+    }
+    wide(seen[t]) > 0
+}
+
+// Whether the literal x has a variable that was seen.
+fn shares(seen: &[u32], x: u64) -> bool
+    requires { ⌜ termBase ≤ length (now seen) ⌝ }
+    ensures { λ r. ⌜ r ≡ shares (now (seen .entry)) x ⌝ }
+{
+    let l = x / 2;
+    if is_seen(seen, (l / Label::FIRST_WEIGHT % Term::BASE) as usize) {
+        return true;
+    }
+    if is_seen(seen, (l / Label::SECOND_WEIGHT % Term::BASE) as usize) {
+        return true;
+    }
+    if is_seen(seen, (l / Label::THIRD_WEIGHT % Term::BASE) as usize) {
+        return true;
+    }
+    is_seen(seen, (l % Term::BASE) as usize)
+}
+
+// 1 if the term t is a variable that was not seen, else 0.
+fn is_new(seen: &[u32], t: usize) -> u64
+    requires { ⌜ t < length (now seen) ⌝ }
+    ensures { λ r. ⌜ r ≤ 1 ⌝ }
+{
+    if t < FIRST_VARIABLE {
+        return 0;
+    }
+    if wide(seen[t]) > 0 {
+        return 0;
+    }
+    1
+}
+
+// How many places of the literal x have variables that were not seen.
+fn new_places(seen: &[u32], x: u64) -> u64
+    requires { ⌜ termBase ≤ length (now seen) ⌝ }
+    ensures { λ r. ⌜ r ≤ 4 ⌝ }
+{
+    let l = x / 2;
+    let a = is_new(seen, (l / Label::FIRST_WEIGHT % Term::BASE) as usize);
+    let b = is_new(seen, (l / Label::SECOND_WEIGHT % Term::BASE) as usize);
+    let c = is_new(seen, (l / Label::THIRD_WEIGHT % Term::BASE) as usize);
+    let d = is_new(seen, (l % Term::BASE) as usize);
+    a + b + c + d
+}
+
+// The rank of the literal x: without a new variable it comes at once. Fewer new variables come first, equalities behind others, and behind all the
+// literals that share no variable.
+fn rank(seen: &[u32], x: u64) -> u64
+    requires { ⌜ termBase ≤ length (now seen) ⌝ }
+    ensures { λ r. ⌜ Ranked (now (seen .entry)) x r ⌝ }
+{
+    let n = new_places(seen, x) * 2;
+    if n == 0 {
+        return 0;
+    }
+    if !shares(seen, x) {
+        return STRANGE + n;
+    }
+    if x < LITERAL_WEIGHT {
+        return n + 1;
+    }
+    n
+}
+
+// The literal of lowest rank from k on.
+fn best(ord: &[u32], seen: &[u32], k: usize) -> Pick
+    requires { ⌜ k < length (now ord) ⌝ }
+    requires { ⌜ termBase ≤ length (now seen) ⌝ }
+    ensures { λ r. ⌜ Best (now (ord .entry)) (now (seen .entry)) k r ⌝ }
+{
+    let mut i = k;
+    let mut at = k;
+    let mut low = WORST;
+    while i < ord.len() {
+        let r = rank(seen, wide(ord[i]));
+        if r == 0 {
+            return Pick { at: i, rank: 0 };
+        }
+        if r < low {
+            low = r;
+            at = i;
+            i += 1;
+        } else {
+            i += 1;
+        }
+    }
+    Pick { at: at, rank: low }
+}
+
+// The terms of the literal x are seen.
+fn see(seen: &mut [u32], x: u64)
+    requires { ⌜ termBase ≤ length (now seen) ⌝ }
+    ensures { λ _. ⌜ now (seen .exit) ≡ marked (fourOf (x / 2)) (now (seen .entry)) ⌝ }
+{
+    let l = x / 2;
+    seen[(l / Label::FIRST_WEIGHT % Term::BASE) as usize] = 1;
+    seen[(l / Label::SECOND_WEIGHT % Term::BASE) as usize] = 1;
+    seen[(l / Label::THIRD_WEIGHT % Term::BASE) as usize] = 1;
+    seen[(l % Term::BASE) as usize] = 1;
+}
+
+// Takes the literal `at` as the one at place k; that one goes to its place.
+fn take_literal(ord: &mut [u32], seen: &mut [u32], k: usize, at: usize)
+    requires { ⌜ Takable (now ord) (now seen) k at ⌝ }
+    ensures { λ _. ⌜ Taken (now (ord .entry)) k (now (ord .exit)) (now (seen .exit)) ⌝ }
+{
+    let x = ord[at];
+    ord[at] = ord[k];
+    ord[k] = x;
+    see(seen, wide(x));
+}
+
+// Puts a part at place k: literals, one after the other, that share a variable with one before or have no new one. Answers where it ends; what is
+// behind it shares none.
+fn next_part(ord: &mut [u32], seen: &mut [u32], k: usize) -> usize
+    requires { ⌜ Separable (now ord) (now seen) k ⌝ }
+    ensures { λ e. ⌜ PartTaken (now (ord .entry)) k e (now (ord .exit)) (now (seen .exit)) ⌝ }
+{
+    let first = best(ord, seen, k);
+    take_literal(ord, seen, k, first.at);
+    let mut e = k + 1;
+    while e < ord.len() {
+        let b = best(ord, seen, e);
+        if b.rank >= STRANGE {
+            return e;
+        }
+        take_literal(ord, seen, e, b.at);
+        e += 1;
+    }
+    e
+}
+
+// Whether a replacement takes the literals of ord to those of the first path, or to t = t true: each part is searched by itself.
+fn search_parts(ord: &mut [u32], into: &[u32], tab: &mut [u32], theta: &mut [u64]) -> bool
+    requires { ⌜ Ready (now ord) (now into) (now tab) (now theta) ⌝ }
+    ensures { λ r. ⌜ PartsPost (now (ord .entry)) (now (into .entry)) (now (tab .entry)) r ⌝ }
+{
+    let mut seen = [0u32; TERMS];
+    let mut k = 0;
+    while k < ord.len() {
+        let e = next_part(ord, &mut seen, k);
+        if !match_part(&ord[k..e], into, tab, theta) {
+            return false;
+        }
+        k = e;
+    }
+    true
+}
+
+// Whether the literal x is an equality that is true.
+fn is_equal(x: u64) -> bool
+    ensures { λ r. ⌜ (r ≡ false → x < 33554432 → x % 2 ≡ 1 → ⊥) ⌝ }
+{
+    if x >= LITERAL_WEIGHT {
+        return false;
+    }
+    x % 2 == 1
+}
+
+// The kind of a literal: its predicate and sign.
+fn kind(x: u64) -> usize
+    ensures { λ r. ⌜ r ≡ kindOf x ⌝ }
+{
+    (x / LITERAL_WEIGHT * 2 + x % 2) as usize
+}
+
+// Marks the kinds of the literals of the first path.
+fn mark_kinds(into: &[u32], kinds: &mut [u32])
+    requires { ⌜ termBase ≤ length (now kinds) ⌝ }
+    ensures { λ _. ⌜ Kinds (now (into .entry)) (now (kinds .exit)) (length (now (into .entry))) ⌝ }
+{
+    let mut j = TERMS;
+    while j < into.len() {
+        let k = kind(wide(into[j]));
+        if k < TERMS {
+            kinds[k] = 1;
+            j += 1;
+        } else {
+            j += 1;
+        }
+    }
+}
+
+// Whether the literal x has a way: one of the first path has its kind, or it may become t = t.
+fn has_way(kinds: &[u32], x: u64) -> bool
+    requires { ⌜ termBase ≤ length (now kinds) ⌝ }
+    ensures { λ r. ⌜ WayPost (now (kinds .entry)) x r ⌝ }
+{
+    if is_equal(x) {
+        return true;
+    }
+    let k = kind(x);
+    if k >= TERMS {
+        return true;
+    }
+    wide(kinds[k]) > 0
+}
+
+// Whether each literal of ord has a way.
+fn have_ways(ord: &[u32], into: &[u32]) -> bool
+    ensures { λ r. ⌜ WaysPost (now (ord .entry)) (now (into .entry)) r ⌝ }
+{
+    let mut kinds = [0u32; TERMS];
+    mark_kinds(into, &mut kinds);
+    let mut i = 0;
+    while i < ord.len() {
+        if !has_way(&kinds, wide(ord[i])) {
+            return false;
+        }
+        i += 1;
+    }
+    true
+}
+
+// The same, after a quick look whether each literal has a way at all.
+fn match_parts(ord: &mut [u32], into: &[u32], tab: &mut [u32], theta: &mut [u64]) -> bool
+    requires { ⌜ Ready (now ord) (now into) (now tab) (now theta) ⌝ }
+    ensures { λ r. ⌜ PartsPost (now (ord .entry)) (now (into .entry)) (now (tab .entry)) r ⌝ }
+{
+    if !have_ways(ord, into) {
+        return false;
+    }
+    search_parts(ord, into, tab, theta)
+}
+
+// Whether a replacement takes the b literals behind the marks of `from` to the a literals behind those of `into`, or to t = t true.
+fn search(into: &[u32], a: usize, from: &mut [u32], b: usize) -> bool
+    requires { ⌜ BothStored (now into) a (now from) b ⌝ }
+    ensures { λ r. ⌜ Answers (now (into .entry)) a (now (from .entry)) b r ⌝ }
+{
+    let mut tab = [0u32; TABLE_WORDS];
+    let mut theta = [0u64; TERMS];
+    copy_marks(from, &mut tab);
+    keep_terms(&mut theta);
+    match_parts(
+        &mut from[TERMS..TERMS + b],
+        &into[..TERMS + a],
+        &mut tab,
+        &mut theta,
+    )
+}
+
+// Whether a replacement of the variables of path q, by terms of paths p and q, takes each of its literals to one of path p, or to t = t true.
+pub fn covers(arities: &[u64], words: &[u64], counts: &[u64], n: usize, p: u64, q: u64) -> bool
+    requires { ⌜ Coverable (now arities) (now words) (now counts) n p q ⌝ }
+    ensures { λ r. ⌜ r ≡ covers (now (arities .entry)) (pathAt (tree (now (words .entry)) (n - 1)) p) (pathAt (tree (now (words .entry)) (n - 1)) q) ⌝ }
+{
+    let mut into = [0u32; PATH_WORDS];
+    let mut from = [0u32; PATH_WORDS];
+    let a = enter_path(arities, words, counts, n, p, &mut into);
+    let b = enter_path(arities, words, counts, n, q, &mut from);
+    search(&into, a, &mut from, b)
+}

@@ -1,0 +1,65 @@
+-- Paths by number, as the code walks them: by the counts of paths of each row.
+use mathlib.Core.Path.{_≡_}
+use mathlib.Core.Bool.{Bool, true, false, cond}
+use mathlib.Core.List.{List, [], map}
+use Prim.Native.Nat.{ℕ, _+_, _-_, _*_, _≤_, _<_, min}
+use lib.ListN.{length, getD, take, drop}
+use lib.Dec.{ltb, eqb}
+use Rattle.label.specs.Limits.{leafMark}
+use Rattle.diagram.specs.Diagram.{Diagram, leaf, branch}
+use Rattle.diagram.specs.Words.{labelAt}
+use Rattle.diagram.specs.Validity.{tree}
+use Rattle.diagram.specs.Shown.{Shown}
+use Rattle.paths.specs.Paths.{Literal, Step, Path, stepBefore, paths, literals, through}
+
+-- a literal as a number: its label twice, and one more where it is true
+abbrev pub bit : Bool → ℕ
+bit true = 1
+bit false = 0
+
+unfoldable pub codeOf : Literal → ℕ
+codeOf l = l .label * 2 + bit (l .sign)
+
+unfoldable pub codes : Path → List ℕ
+unfolding codeOf literals
+codes p = map codeOf (literals p)
+
+-- the branch row's step to one side
+abbrev pub stepOn : Bool → ℕ → Diagram → Diagram → Step
+stepOn b l t f = record { from = branch l t f; label = l; side = b }
+
+-- path k of a diagram, true branch first
+unfoldable pub pathAt : Diagram → ℕ → Path
+unfolding paths stepBefore
+pathAt (leaf v) k = record { steps = []; end = v }
+pathAt (branch l t f) k =
+    cond (ltb k (length (paths t))) (stepBefore (stepOn true l t f) (pathAt t k)) (stepBefore (stepOn false l t f) (pathAt f (k - length (paths t))))
+
+-- the n rows of words, and the diagram of each
+pub record Rows (ws : List ℕ) (n : ℕ) : Type 0 where
+  pub room : n * 3 ≤ length ws
+  pub few : n ≤ 1024
+  pub shown : Shown ws n (tree ws)
+  pub labels : (i : ℕ) → i < n → (labelAt ws i ≡ leafMark → ⊥) → labelAt ws i < 536870912
+
+-- how many paths each of the first m rows has, as far as 256
+pub record Counted (ws counts : List ℕ) (m : ℕ) : Type 0 where
+  pub room : m ≤ length counts
+  pub each : (i : ℕ) → i < m → getD counts i 0 ≡ min 257 (length (paths (tree ws i)))
+
+-- row i has at most 256 paths, and k is one of them
+pub record At (ws : List ℕ) (n i k : ℕ) : Type 0 where
+  pub row : i < n
+  pub path : k < length (paths (tree ws i))
+  pub few : length (paths (tree ws i)) ≤ 256
+
+-- where a path goes through the row r: 1 by its true edge, 2 by its false edge, 0 not at all
+pub record Sided (r : Diagram) (p : Path) (s : ℕ) : Type 0 where
+  pub on-true : through r true p ≡ eqb s 1
+  pub on-false : through r false p ≡ eqb s 2
+
+-- the literals of path k of row r stand behind the 64 entries
+pub record Entered (ws : List ℕ) (r k : ℕ) (out₀ out : List ℕ) (j : ℕ) : Type 0 where
+  pub are : take j (drop 64 out) ≡ codes (pathAt (tree ws r) k)
+  pub few : j < 256
+  pub kept : (t : ℕ) → t < 64 → getD out t 0 ≡ getD out₀ t 0

@@ -1,5 +1,0 @@
-pub mod LeavingLaws
-pub mod WritingLaws
-pub mod ChoosingLaws
-pub mod ChoiceLaws
-pub mod CallLaws

@@ -1,0 +1,440 @@
+use mathlib.Core.Path.{ap}
+use lib.ListN.{length}
+use borrow.Author.Needs.{needs}
+use native.Mathlib.Omega.{arith}
+use Rattle.valuing.specs.Search.{freeCount}
+use Rattle.valuing.proofs.SearchLaws.{
+  Giving,
+  giving-start,
+  giving-room,
+  giving-ready,
+  giving-on,
+  giving-cut,
+  giving-end,
+  go-falls,
+  Going,
+  going-start,
+  going-cut,
+  going-value,
+  going-leaf,
+  going-bind,
+  going-kept,
+  going-telling,
+  going-placed,
+  going-term,
+  going-free,
+  going-falls,
+  going-on,
+  going-less,
+}
+use Prim.Native.Nat.{ℕ, _*_, _-_, _<_}
+use borrow.Fn.Kinds.{In}
+use borrow.Fn.PlainCycle.{Measures, is, falls, and}
+use Rattle.valuing.proofs.bind.Reads as bind
+use Rattle.valuing.proofs.bind.Kinds as bind-kinds
+use Rattle.valuing.proofs.+bind+go.Lts-bind as bind-lts
+use Rattle.valuing.proofs.go.Reads as go
+use Rattle.valuing.proofs.go.Kinds as go-kinds
+use Rattle.valuing.proofs.+bind+go.Lts-go as go-lts
+use Rattle.label.proofs.Label.unpack.Reads as unpack-reads
+use Rattle.valuing.proofs.follow.Reads as follow-reads
+use Rattle.valuing.proofs.truth.Reads as truth-reads
+use Rattle.valuing.proofs.unbound.Reads as unbound-reads
+use Rattle.valuing.proofs.+bind+go.{statement}
+use Rattle.valuing.proofs.+bind+go.Tie.{close}
+
+abbrev μ-bind : Measures 6 bind-kinds.ps ℕ
+μ-bind κs a = freeCount (a .1 .1 .1 .1 .1 .0 .now) * 2 - 1
+
+abbrev μ-go : Measures 6 go-kinds.ps ℕ
+μ-go κs a = freeCount (a .1 .1 .1 .1 .1 .0 .now) * 2
+
+abbrev bind-at : ℕ → In 6 bind-kinds.ps
+bind-at t = and 6 bind-kinds.ps (is 6 bind-kinds.ps μ-bind t) bind.Pre
+
+abbrev bind-below : ℕ → In 6 bind-kinds.ps
+bind-below t = and 6 bind-kinds.ps (falls 6 bind-kinds.ps _<_ μ-bind t) bind.Pre
+
+abbrev go-at : ℕ → In 6 go-kinds.ps
+go-at t = and 6 go-kinds.ps (is 6 go-kinds.ps μ-go t) go.Pre
+
+abbrev go-below : ℕ → In 6 go-kinds.ps
+go-below t = and 6 go-kinds.ps (falls 6 go-kinds.ps _<_ μ-go t) go.Pre
+
+abbrev bind-Inv-loop : bind-lts.InvT-loop
+bind-Inv-loop words high arities facts index env₀ n r t best b₀ v₀ env b v = Giving words high arities facts index env₀ env n r t best v b
+
+abbrev bind-μ-loop : bind-lts.MeasureT-loop
+bind-μ-loop words high arities facts index env₀ n r t best b₀ v₀ env b v = n - v
+
+bind-loop-holds :
+    (t : ℕ) →
+    bind-lts.Need-loop-holds (go-below t, go.Post) (bind-at t) bind.Post bind-Inv-loop bind-μ-loop
+bind-loop-holds t c = search giving-start
+
+bind-mul-if1 :
+    (t : ℕ) →
+    bind-lts.Need-mul-if1 (go-below t, go.Post) (bind-at t) bind.Post bind-Inv-loop bind-μ-loop
+bind-mul-if1 t c = search needs
+
+bind-shared-slice-read-if1 :
+    (t : ℕ) →
+    bind-lts.Need-shared-slice-read-if1
+    (go-below t, go.Post)
+    (bind-at t)
+    bind.Post
+    bind-Inv-loop
+    bind-μ-loop
+bind-shared-slice-read-if1 t c = search needs
+
+bind-mul-env :
+    (t : ℕ) →
+    bind-lts.Need-mul-env (go-below t, go.Post) (bind-at t) bind.Post bind-Inv-loop bind-μ-loop
+bind-mul-env t c = search needs
+
+bind-slice-write-env :
+    (t : ℕ) →
+    bind-lts.Need-slice-write-env
+    (go-below t, go.Post)
+    (bind-at t)
+    bind.Post
+    bind-Inv-loop
+    bind-μ-loop
+bind-slice-write-env t c = search giving-room
+
+bind-same-length :
+    (t : ℕ) →
+    bind-lts.Need-same-length
+    (go-below t, go.Post)
+    (bind-at t)
+    bind.Post
+    bind-Inv-loop
+    bind-μ-loop
+bind-same-length t c = ap length (c .before .before .before .loop .inv .word)
+
+bind-returns :
+    (t : ℕ) →
+    bind-lts.Need-returns (go-below t, go.Post) (bind-at t) bind.Post bind-Inv-loop bind-μ-loop
+bind-returns t c = search giving-cut
+
+bind-mul-env-2 :
+    (t : ℕ) →
+    bind-lts.Need-mul-env-2 (go-below t, go.Post) (bind-at t) bind.Post bind-Inv-loop bind-μ-loop
+bind-mul-env-2 t c = search needs
+
+bind-slice-write-env-2 :
+    (t : ℕ) →
+    bind-lts.Need-slice-write-env-2
+    (go-below t, go.Post)
+    (bind-at t)
+    bind.Post
+    bind-Inv-loop
+    bind-μ-loop
+bind-slice-write-env-2 t c = search giving-room
+
+bind-go-requires :
+    (t : ℕ) →
+    bind-lts.Need-go-requires
+    (go-below t, go.Post)
+    (bind-at t)
+    bind.Post
+    bind-Inv-loop
+    bind-μ-loop
+bind-go-requires t c κs =
+    let loop-test = c .before .before .before .loop-test in
+    let loop = c .before .before .before .before .loop in
+    let entry = c .before .before .before .before .before .before .before .before .before .before .before .pre in
+    (go-falls (loop .inv) (loop-test .taken) (entry .0), (giving-ready (loop .inv) (loop-test .taken), entry .1 .1 .0))
+
+bind-add-v :
+    (t : ℕ) →
+    bind-lts.Need-add-v (go-below t, go.Post) (bind-at t) bind.Post bind-Inv-loop bind-μ-loop
+bind-add-v t c = search needs
+
+bind-loop-less :
+    (t : ℕ) →
+    bind-lts.Need-loop-less (go-below t, go.Post) (bind-at t) bind.Post bind-Inv-loop bind-μ-loop
+bind-loop-less t c = search needs
+
+bind-loop-again :
+    (t : ℕ) →
+    bind-lts.Need-loop-again (go-below t, go.Post) (bind-at t) bind.Post bind-Inv-loop bind-μ-loop
+bind-loop-again t c = search giving-on
+
+bind-mul-env-3 :
+    (t : ℕ) →
+    bind-lts.Need-mul-env-3 (go-below t, go.Post) (bind-at t) bind.Post bind-Inv-loop bind-μ-loop
+bind-mul-env-3 t c = search needs
+
+bind-slice-write-env-3 :
+    (t : ℕ) →
+    bind-lts.Need-slice-write-env-3
+    (go-below t, go.Post)
+    (bind-at t)
+    bind.Post
+    bind-Inv-loop
+    bind-μ-loop
+bind-slice-write-env-3 t c = search giving-room
+
+bind-same-length-2 :
+    (t : ℕ) →
+    bind-lts.Need-same-length-2
+    (go-below t, go.Post)
+    (bind-at t)
+    bind.Post
+    bind-Inv-loop
+    bind-μ-loop
+bind-same-length-2 t c = ap length (c .before .loop .inv .word)
+
+bind-returns-2 :
+    (t : ℕ) →
+    bind-lts.Need-returns-2 (go-below t, go.Post) (bind-at t) bind.Post bind-Inv-loop bind-μ-loop
+bind-returns-2 t c = search giving-end
+
+abbrev go-Inv-loop : go-lts.InvT-loop
+go-Inv-loop words high arities facts index env₀ n r0 best r₀ env r = Going words high arities facts index env₀ env n r0 r
+
+abbrev go-μ-loop : go-lts.MeasureT-loop
+go-μ-loop words high arities facts index env₀ n r0 best r₀ env r = r
+
+go-loop-holds : (t : ℕ)
+    → go-lts.Need-loop-holds (
+      unpack-reads.Asked,
+      unpack-reads.Learnt,
+      unbound-reads.Asked,
+      unbound-reads.Learnt,
+      bind-below t,
+      bind.Post,
+      truth-reads.Asked,
+      truth-reads.Learnt,
+      follow-reads.Asked,
+      follow-reads.Learnt,
+    )
+    (go-at t) go.Post go-Inv-loop go-μ-loop
+go-loop-holds t c = search going-start
+
+go-add-result-2 : (t : ℕ)
+    → go-lts.Need-add-result-2 (
+      unpack-reads.Asked,
+      unpack-reads.Learnt,
+      unbound-reads.Asked,
+      unbound-reads.Learnt,
+      bind-below t,
+      bind.Post,
+      truth-reads.Asked,
+      truth-reads.Learnt,
+      follow-reads.Asked,
+      follow-reads.Learnt,
+    )
+    (go-at t) go.Post go-Inv-loop go-μ-loop
+go-add-result-2 t c = omega (arith, going-value (c .before .before .before .before .before .loop .inv) (c .before .if2 .taken))
+
+go-same-length : (t : ℕ)
+    → go-lts.Need-same-length (
+      unpack-reads.Asked,
+      unpack-reads.Learnt,
+      unbound-reads.Asked,
+      unbound-reads.Learnt,
+      bind-below t,
+      bind.Post,
+      truth-reads.Asked,
+      truth-reads.Learnt,
+      follow-reads.Asked,
+      follow-reads.Learnt,
+    )
+    (go-at t) go.Post go-Inv-loop go-μ-loop
+go-same-length t c = ap length (c .before .before .before .before .before .loop .inv .still)
+
+go-returns : (t : ℕ)
+    → go-lts.Need-returns (
+      unpack-reads.Asked,
+      unpack-reads.Learnt,
+      unbound-reads.Asked,
+      unbound-reads.Learnt,
+      bind-below t,
+      bind.Post,
+      truth-reads.Asked,
+      truth-reads.Learnt,
+      follow-reads.Asked,
+      follow-reads.Learnt,
+    )
+    (go-at t) go.Post go-Inv-loop go-μ-loop
+go-returns t c = search going-leaf
+
+go-unbound-requires : (t : ℕ)
+    → go-lts.Need-unbound-requires (
+      unpack-reads.Asked,
+      unpack-reads.Learnt,
+      unbound-reads.Asked,
+      unbound-reads.Learnt,
+      bind-below t,
+      bind.Post,
+      truth-reads.Asked,
+      truth-reads.Learnt,
+      follow-reads.Asked,
+      follow-reads.Learnt,
+    )
+    (go-at t) go.Post go-Inv-loop go-μ-loop
+go-unbound-requires t c κs = search going-placed
+
+go-bind-requires : (t : ℕ)
+    → go-lts.Need-bind-requires (
+      unpack-reads.Asked,
+      unpack-reads.Learnt,
+      unbound-reads.Asked,
+      unbound-reads.Learnt,
+      bind-below t,
+      bind.Post,
+      truth-reads.Asked,
+      truth-reads.Learnt,
+      follow-reads.Asked,
+      follow-reads.Learnt,
+    )
+    (go-at t) go.Post go-Inv-loop go-μ-loop
+go-bind-requires t c κs =
+    let g = c .before .before .before .before .before .before .before .before .before .loop .inv in
+    let ea = c .before .before .before .before .unpack .ensures in
+    let nl = c .before .before .before .before .before .if2 .left in
+    let et = c .before .before .unbound .ensures in
+    let h = c .before .if3 .taken in
+    let past-12 = c .before .before .before .before .before .before .before .before .before .before .before .before in
+    let entry = past-12 .before .before .before .before .pre in
+    (going-falls g ea nl et (entry .0) h, (g .along .ready, (g .along .within, (going-term g ea nl et h, going-free g ea nl et h))))
+
+go-same-length-2 : (t : ℕ)
+    → go-lts.Need-same-length-2 (
+      unpack-reads.Asked,
+      unpack-reads.Learnt,
+      unbound-reads.Asked,
+      unbound-reads.Learnt,
+      bind-below t,
+      bind.Post,
+      truth-reads.Asked,
+      truth-reads.Learnt,
+      follow-reads.Asked,
+      follow-reads.Learnt,
+    )
+    (go-at t) go.Post go-Inv-loop go-μ-loop
+go-same-length-2 t c = going-kept (c .before .before .before .before .before .before .before .before .before .before .before .before .loop .inv) (c .before .before .bind .ensures)
+
+go-returns-2 : (t : ℕ)
+    → go-lts.Need-returns-2 (
+      unpack-reads.Asked,
+      unpack-reads.Learnt,
+      unbound-reads.Asked,
+      unbound-reads.Learnt,
+      bind-below t,
+      bind.Post,
+      truth-reads.Asked,
+      truth-reads.Learnt,
+      follow-reads.Asked,
+      follow-reads.Learnt,
+    )
+    (go-at t) go.Post go-Inv-loop go-μ-loop
+go-returns-2 t c = search going-bind
+
+go-truth-requires : (t : ℕ)
+    → go-lts.Need-truth-requires (
+      unpack-reads.Asked,
+      unpack-reads.Learnt,
+      unbound-reads.Asked,
+      unbound-reads.Learnt,
+      bind-below t,
+      bind.Post,
+      truth-reads.Asked,
+      truth-reads.Learnt,
+      follow-reads.Asked,
+      follow-reads.Learnt,
+    )
+    (go-at t) go.Post go-Inv-loop go-μ-loop
+go-truth-requires t c κs = search going-telling
+
+go-loop-less : (t : ℕ)
+    → go-lts.Need-loop-less (
+      unpack-reads.Asked,
+      unpack-reads.Learnt,
+      unbound-reads.Asked,
+      unbound-reads.Learnt,
+      bind-below t,
+      bind.Post,
+      truth-reads.Asked,
+      truth-reads.Learnt,
+      follow-reads.Asked,
+      follow-reads.Learnt,
+    )
+    (go-at t) go.Post go-Inv-loop go-μ-loop
+go-loop-less t c =
+    let if3 = c .before .before .before .if3 in
+    let unbound = c .before .before .before .before .unbound in
+    let unpack = c .before .before .before .before .before .before .unpack in
+    let if2 = c .before .before .before .before .before .before .before .if2 in
+    let loop = c .before .before .before .before .before .before .before .before .before .before .before .loop in
+    going-less (loop .inv) (unpack .ensures) (if2 .left) (unbound .ensures) (if3 .left) (c .before .truth .ensures) (c .follow .ensures)
+
+go-loop-again : (t : ℕ)
+    → go-lts.Need-loop-again (
+      unpack-reads.Asked,
+      unpack-reads.Learnt,
+      unbound-reads.Asked,
+      unbound-reads.Learnt,
+      bind-below t,
+      bind.Post,
+      truth-reads.Asked,
+      truth-reads.Learnt,
+      follow-reads.Asked,
+      follow-reads.Learnt,
+    )
+    (go-at t) go.Post go-Inv-loop go-μ-loop
+go-loop-again t c =
+    let if3 = c .before .before .before .if3 in
+    let unbound = c .before .before .before .before .unbound in
+    let unpack = c .before .before .before .before .before .before .unpack in
+    let if2 = c .before .before .before .before .before .before .before .if2 in
+    let loop = c .before .before .before .before .before .before .before .before .before .before .before .loop in
+    going-on (loop .inv) (unpack .ensures) (if2 .left) (unbound .ensures) (if3 .left) (c .before .truth .ensures) (c .follow .ensures)
+
+go-same-length-3 : (t : ℕ)
+    → go-lts.Need-same-length-3 (
+      unpack-reads.Asked,
+      unpack-reads.Learnt,
+      unbound-reads.Asked,
+      unbound-reads.Learnt,
+      bind-below t,
+      bind.Post,
+      truth-reads.Asked,
+      truth-reads.Learnt,
+      follow-reads.Asked,
+      follow-reads.Learnt,
+    )
+    (go-at t) go.Post go-Inv-loop go-μ-loop
+go-same-length-3 t c = ap length (c .before .before .loop .inv .still)
+
+go-returns-3 : (t : ℕ)
+    → go-lts.Need-returns-3 (
+      unpack-reads.Asked,
+      unpack-reads.Learnt,
+      unbound-reads.Asked,
+      unbound-reads.Learnt,
+      bind-below t,
+      bind.Post,
+      truth-reads.Asked,
+      truth-reads.Learnt,
+      follow-reads.Asked,
+      follow-reads.Learnt,
+    )
+    (go-at t) go.Post go-Inv-loop go-μ-loop
+go-returns-3 t c = search going-cut
+
+pub +bind+go-spec : {M : Type 1} → statement M
++bind+go-spec =
+    close μ-bind μ-go
+    (λ t.
+    bind-lts.spec (go-below t, go.Post) (bind-at t) bind.Post bind-Inv-loop bind-μ-loop (bind-loop-holds t) (bind-mul-if1 t) (bind-shared-slice-read-if1 t)
+    (bind-mul-env t) (bind-slice-write-env t) (bind-same-length t) (bind-returns t) (bind-mul-env-2 t) (bind-slice-write-env-2 t) (bind-go-requires t)
+    (bind-add-v t) (bind-loop-less t) (bind-loop-again t) (bind-mul-env-3 t) (bind-slice-write-env-3 t) (bind-same-length-2 t) (bind-returns-2 t))
+    λ t. go-lts.spec
+    (unpack-reads.Asked, unpack-reads.Learnt, unbound-reads.Asked, unbound-reads.Learnt, bind-below t, bind.Post, truth-reads.Asked, truth-reads.Learnt, follow-reads.Asked, follow-reads.Learnt)
+    (go-at t) go.Post go-Inv-loop go-μ-loop (go-loop-holds t) (λ c. search needs) (λ c. search needs) (λ c. search needs) (λ c. search needs)
+    (λ c. search needs) (λ c. search needs) (λ c. search needs) (λ c. search needs) (λ c. search needs) (go-add-result-2 t) (go-same-length t)
+    (go-returns t) (λ c κs. search needs) (go-unbound-requires t) (go-bind-requires t) (go-same-length-2 t) (go-returns-2 t) (go-truth-requires t)
+    (λ c κs. search needs) (go-loop-less t) (go-loop-again t) (go-same-length-3 t) (go-returns-3 t)

@@ -1,0 +1,279 @@
+-- Laws of the checks before valuing: objects within range, terms counted, valuations within the limit.
+use mathlib.Core.Path.{_≡_, refl, sym, ap, ap₂, subst, _∙_}
+use mathlib.Core.Bool.{Bool, true, false, not, _&&_, cond}
+use mathlib.Core.List.{List, []}
+use Prim.Native.Nat.{ℕ, zero, suc, _+_, _-_, _*_, _/_, _^_, _≤_, _<_}
+use native.Mathlib.Nat.{pow-zero, pow-suc, pow-le-pow-right, mul-le-mul}
+use native.Mathlib.Numerals.{add-one}
+use native.Mathlib.Omega.{arith}
+use borrow.Author.Tests.{leb-true, leb-false, eq-eqb, ne-eqb, lt-ltb, le-ltb, le-leb, lt-leb, not-true, not-false}
+use lib.ListN.{length, getD, take}
+use lib.Seq.{take-nil}
+use lib.Dec.{eqb, ltb, leb}
+use Rattle.basics.specs.Tests.{Cmp, below, equal, above, cmp, and-left, one}
+use Rattle.label.specs.Limits.{constantCount, firstParameter, parameterCount}
+use Rattle.diagram.specs.Words.{everyBelow, isListing}
+use Rattle.diagram.specs.WordLaws.{every-below}
+use Rattle.diagram.specs.Listing.{diagramOf}
+use Rattle.diagram.specs.Validity.{Valid}
+use Rattle.diagram.specs.ListingValid.{listing-is-valid}
+use Rattle.valuing.specs.declared.Objects.{Objects}
+use Rattle.state.specs.Lent.{factCount, factWords, predicateAt, objectsAt, allBelow, namesBelow, constantsBelow, stateOf, isState}
+use Rattle.refusal.specs.declared.Refusal.the-variants.{Range, Unbound, Listing, Valuations}
+use Rattle.listing.specs.Used.{Used, setFrom, markedVariables}
+use Rattle.listing.specs.UsedLaws.{set-occurring, marked-variables}
+use Rattle.state.specs.declared.Valued.the-variants.{Value, Refused}
+use Rattle.state.specs.State.{meaning}
+use Rattle.state.specs.Highest.{highest}
+use Rattle.state.specs.ValueCall.{mostValuations, parameters, valuations, valueAnswer}
+use Rattle.valuing.specs.Index.{listed, rowObjects, used}
+
+-- objects below n, test by test
+module _ (o : Objects) (n : ℕ) where
+  pub below-1 : n ≤ o .first → false ≡ allBelow n (listed o)
+  below-1 h = rw (le-ltb (o .first) n h)
+
+  pub below-2 : o .first < n → n ≤ o .second → false ≡ allBelow n (listed o)
+  below-2 a h = rw (lt-ltb (o .first) n a, le-ltb (o .second) n h)
+
+  pub below-3 : o .first < n → o .second < n → n ≤ o .third → false ≡ allBelow n (listed o)
+  below-3 a b h = rw (lt-ltb (o .first) n a, lt-ltb (o .second) n b, le-ltb (o .third) n h)
+
+  pub below-4 : o .first < n → o .second < n → o .third < n → ltb (o .fourth) n ≡ allBelow n (listed o)
+  below-4 a b c = rw (lt-ltb (o .first) n a, lt-ltb (o .second) n b, lt-ltb (o .third) n c) (last (ltb (o .fourth) n))
+    where
+      last : (b : Bool) → b ≡ (b && true)
+      last true = refl
+      last false = refl
+
+-- unused places hold object 0, which is below n
+used-below : (n k : ℕ) (o : Objects) → 0 < n → allBelow n (listed (used k 0 o)) ≡ allBelow n (take k (listed o))
+unfolding used
+used-below n zero o h = rw (lt-ltb 0 n h)
+used-below n (suc zero) o h = rw (lt-ltb 0 n h)
+used-below n (suc (suc zero)) o h = rw (lt-ltb 0 n h)
+used-below n (suc (suc (suc zero))) o h = rw (lt-ltb 0 n h)
+used-below n (suc (suc (suc (suc k)))) o h =
+    rw (
+      lt-ltb 0 (suc (suc (suc (suc k)))) (omega arith),
+      lt-ltb 1 (suc (suc (suc (suc k)))) (omega arith),
+      lt-ltb 2 (suc (suc (suc (suc k)))) (omega arith),
+      lt-ltb 3 (suc (suc (suc (suc k)))) (omega arith),
+      take-nil {A = ℕ} k,
+    )
+
+pub row-below : (ar facts : List ℕ) (n i : ℕ) {k : ℕ} {o u : Objects} {b : Bool} → 0 < n → k ≡ getD ar (getD facts (i * factWords) 0) 0 → o ≡ rowObjects facts i
+    → u ≡ used k 0 o → b ≡ allBelow n (listed u) → b ≡ namesBelow ar n facts i
+unfolding namesBelow predicateAt rowObjects objectsAt
+row-below ar facts n i {k} {o} {u} {b} h ek eo eu eb =
+    eb ∙ ap (λ x. allBelow n (listed x)) eu ∙ used-below n k o h ∙ ap₂ (λ k o. allBelow n (take k (listed o))) ek eo
+
+-- a test of every number, one by one
+pub record Passed (p : ℕ → Bool) (i : ℕ) : Type 0 where
+  pub each : (k : ℕ) → k < i → p k ≡ true
+
+pub passed-start : {p : ℕ → Bool} → Passed p 0
+passed-start = record { each = λ k l. absurd (omega arith) }
+
+pub passed-on : {p : ℕ → Bool} {i : ℕ} {b : Bool} → Passed p i → b ≡ p i → b ≡ true → Passed p (i + 1)
+passed-on {p} {i} s e t = record { each = λ k l. step k l (cmp k i) }
+  where
+    step : (k : ℕ) → k < i + 1 → Cmp k i → p k ≡ true
+    step k l (below q) = s .each k q
+    step k l (equal q) = subst (λ (y : ℕ). p y ≡ true) (sym q) (sym e ∙ t)
+    step k l (above q) = absurd (omega arith)
+
+every-not : (n : ℕ) (p : ℕ → Bool) (k : ℕ) → k < n → p k ≡ false → everyBelow n p ≡ false
+every-not zero p k l e = absurd (omega arith)
+every-not (suc n) p k l e = go (cmp k n) (every-not n p k)
+  where
+    no-right : (a b : Bool) → b ≡ false → (a && b) ≡ false
+    no-right true b q = q
+    no-right false b q = refl
+
+    go : Cmp k n → (k < n → p k ≡ false → everyBelow n p ≡ false) → (everyBelow n p && p n) ≡ false
+    go (below q) ih = rw (ih q e)
+    go (equal q) ih = no-right (everyBelow n p) (p n) (subst (λ (y : ℕ). p y ≡ false) q e)
+    go (above q) ih = absurd (omega arith)
+
+pub passed-no : (n : ℕ) (p : ℕ → Bool) (i : ℕ) {b : Bool} → i < n → b ≡ p i → b ≡ false → false ≡ everyBelow n p
+passed-no n p i l e t = sym (every-not n p i l (sym e ∙ t))
+
+pub passed-all : (n : ℕ) (p : ℕ → Bool) (i : ℕ) → Passed p i → n ≤ i → true ≡ everyBelow n p
+passed-all n p i s l = sym (every-below n p (λ k h. s .each k (omega arith)))
+
+-- the constants one by one
+pub record Placing (n : ℕ) (constants : List ℕ) (c : ℕ) : Type 0 where
+  pub most : c ≤ constantCount
+  pub passed : Passed (λ k. ltb (getD constants k 0) n) c
+
+pub placing-start : (n : ℕ) (constants : List ℕ) → Placing n constants 0
+placing-start n constants = record { most = omega arith; passed = passed-start }
+
+pub placing-on : {n : ℕ} {constants : List ℕ} {c x : ℕ} → Placing n constants c → c < constantCount → x ≡ getD constants c 0 → x < n → Placing n constants (c + 1)
+placing-on {n} {constants} {c} {x} s h e l = record { most = omega arith; passed = passed-on (s .passed) (ap (λ y. ltb y n) e) (lt-ltb x n l) }
+
+module _ (n : ℕ) (constants : List ℕ) where
+  pub constants-no : (c : ℕ) {x : ℕ} → c < constantCount → x ≡ getD constants c 0 → n ≤ x → false ≡ constantsBelow n constants
+  unfolding constantsBelow
+  constants-no c {x} h e l = passed-no constantCount (λ c. ltb (getD constants c 0) n) c h (ap (λ y. ltb y n) e) (le-ltb x n l)
+
+  pub constants-all : {c : ℕ} → Placing n constants c → constantCount ≤ c → true ≡ constantsBelow n constants
+  unfolding constantsBelow
+  constants-all {c} s l = passed-all constantCount (λ c. ltb (getD constants c 0) n) c (s .passed) l
+
+-- the facts one by one
+pub record Naming (ar : List ℕ) (n : ℕ) (facts : List ℕ) (i : ℕ) : Type 0 where
+  pub most : i ≤ factCount facts
+  pub passed : Passed (namesBelow ar n facts) i
+
+pub naming-start : (ar : List ℕ) (n : ℕ) (facts : List ℕ) → Naming ar n facts 0
+naming-start ar n facts = record { most = omega arith; passed = passed-start }
+
+pub naming-on : {ar : List ℕ} {n : ℕ} {facts : List ℕ} {i : ℕ} {b : Bool} → Naming ar n facts i → i < length facts / factWords → b ≡ namesBelow ar n facts i → not b ≡ false
+    → Naming ar n facts (i + 1)
+naming-on {b = b} s h e t = record { most = omega arith; passed = passed-on (s .passed) e (not-false b t) }
+
+pub naming-no : (ar : List ℕ) (n : ℕ) (facts : List ℕ) (i : ℕ) {b : Bool} → i < length facts / factWords → b ≡ namesBelow ar n facts i → not b ≡ true
+    → false ≡ everyBelow (factCount facts) (namesBelow ar n facts)
+naming-no ar n facts i {b} h e t = passed-no (factCount facts) (namesBelow ar n facts) i h e (not-true b t)
+
+pub naming-all : {ar : List ℕ} {n : ℕ} {facts : List ℕ} {i : ℕ} → Naming ar n facts i → length facts / factWords ≤ i → true ≡ everyBelow (factCount facts) (namesBelow ar n facts)
+naming-all {ar} {n} {facts} {i} s h = passed-all (factCount facts) (namesBelow ar n facts) i (s .passed) h
+
+-- a lent state
+module _ (ar : List ℕ) (n : ℕ) (constants facts : List ℕ) where
+  pub state-1 : n ≡ 0 → false ≡ isState ar n constants facts
+  unfolding isState
+  state-1 e = rw e
+
+  pub state-2 : {b : Bool} → (n ≡ 0 → ⊥) → b ≡ constantsBelow n constants → not b ≡ true → false ≡ isState ar n constants facts
+  unfolding isState
+  state-2 {b} z e f = rw (le-leb 1 n (omega arith), sym e ∙ not-true b f)
+
+  pub state-3 : {b r : Bool} → (n ≡ 0 → ⊥) → b ≡ constantsBelow n constants → not b ≡ false
+      → r ≡ everyBelow (factCount facts) (namesBelow ar n facts) → r ≡ isState ar n constants facts
+  unfolding isState
+  state-3 {b} z e f q = rw (le-leb 1 n (omega arith), sym e ∙ not-false b f) q
+
+-- the power
+module _ (n : ℕ) where
+  pub few-none : (v : ℕ) → v ≡ 0 → true ≡ leb (n ^ v) mostValuations
+  few-none v e = rw (e, pow-zero)
+
+  pub few-large : (v : ℕ) → (v ≡ 0 → ⊥) → mostValuations < n → false ≡ leb (n ^ v) mostValuations
+  few-large v z h =
+      let l : n ^ suc 0 ≤ n ^ v = pow-le-pow-right (omega arith) (omega arith) in
+      let e : n ^ suc 0 ≡ 1 * n = pow-suc n 0 ∙ ap (λ x. x * n) (pow-zero n) in
+      sym (lt-leb (n ^ v) mostValuations (omega arith))
+
+  pub few-past : (v i p : ℕ) → 0 < n → p ≡ n ^ i → i < v → mostValuations < p * n → false ≡ leb (n ^ v) mostValuations
+  few-past v i p h e l m =
+      let k : n ^ suc i ≤ n ^ v = pow-le-pow-right h l in
+      let q : n ^ suc i ≡ p * n = pow-suc n i ∙ ap (λ x. x * n) (sym e) in
+      sym (lt-leb (n ^ v) mostValuations (omega arith))
+
+  pub few-all : (v i p : ℕ) → p ≡ n ^ i → p ≤ mostValuations → i ≤ v → v ≤ i → true ≡ leb (n ^ v) mostValuations
+  few-all v i p e h l m =
+      let q : i ≡ v = omega arith in
+      sym (le-leb (n ^ v) mostValuations (rw (← q, ← e) h))
+
+  pub few-fits : (p : ℕ) → p ≤ mostValuations → n ≤ mostValuations → p * n ≤ mostValuations * mostValuations
+  few-fits p h k = mul-le-mul h k
+
+  pub few-on : (i p : ℕ) → p ≡ n ^ i → p * n ≡ n ^ (i + 1)
+  few-on i p e = rw add-one (ap (λ x. x * n) e ∙ sym (pow-suc n i))
+
+-- parameters one by one: none of the first k is marked
+pub record Unmarked (marks : List ℕ) (k : ℕ) : Type 0 where
+  pub most : k ≤ parameterCount
+  pub rest : setFrom marks firstParameter parameterCount ≡ setFrom marks (firstParameter + k) (parameterCount - k)
+
+pub unmarked-start : (marks : List ℕ) → Unmarked marks 0
+unmarked-start marks = record { most = omega arith; rest = refl }
+
+module _ {marks : List ℕ} {k : ℕ} (s : Unmarked marks k) where
+  mark-next : k < parameterCount
+      → setFrom marks firstParameter parameterCount ≡ cond (eqb (getD marks (firstParameter + k) 0) 0) 0 1 + setFrom marks (suc (firstParameter + k)) (parameterCount - (k + 1))
+  unfolding setFrom
+  mark-next l = let e : parameterCount - k ≡ suc (parameterCount - (k + 1)) = omega arith in s .rest ∙ ap (setFrom marks (firstParameter + k)) e
+
+  pub unmarked-on : k < parameterCount → getD marks (firstParameter + k) 0 ≡ 0 → Unmarked marks (k + 1)
+  unmarked-on l e = record {
+    most = omega arith;
+    rest =
+        let n : suc (firstParameter + k) ≡ firstParameter + (k + 1) = omega arith in
+        let w : setFrom marks (suc (firstParameter + k)) (parameterCount - (k + 1)) ≡ setFrom marks (firstParameter + (k + 1)) (parameterCount - (k + 1))
+        = ap (λ t. setFrom marks t (parameterCount - (k + 1))) n in
+        let q : setFrom marks firstParameter parameterCount ≡ 0 + setFrom marks (suc (firstParameter + k)) (parameterCount - (k + 1))
+        = mark-next l ∙ rw (eq-eqb (getD marks (firstParameter + k) 0) 0 e) refl in
+        omega arith;
+  }
+
+  pub unmarked-no : k < parameterCount → (getD marks (firstParameter + k) 0 ≡ 0 → ⊥) → true ≡ not (eqb (setFrom marks firstParameter parameterCount) 0)
+  unmarked-no l h =
+      let e : setFrom marks firstParameter parameterCount ≡ 1 + setFrom marks (suc (firstParameter + k)) (parameterCount - (k + 1))
+      = mark-next l ∙ rw (ne-eqb (getD marks (firstParameter + k) 0) 0 h) refl in
+      rw (ne-eqb (setFrom marks firstParameter parameterCount) 0 (λ z. omega arith))
+
+  pub unmarked-all : parameterCount ≤ k → false ≡ not (eqb (setFrom marks firstParameter parameterCount) 0)
+  unfolding setFrom
+  unmarked-all l =
+      let z : parameterCount - k ≡ 0 = omega arith in
+      let e : setFrom marks firstParameter parameterCount ≡ 0 = s .rest ∙ ap (setFrom marks (firstParameter + k)) z in
+      rw (eq-eqb (setFrom marks firstParameter parameterCount) 0 e)
+
+-- the answers of the value call, check by check
+module _ (ar ws : List ℕ) (n : ℕ) (constants facts : List ℕ) where
+  pub value-1 : {b : Bool} → b ≡ isListing ar ws → not b ≡ true → Refused Listing ≡ valueAnswer ar ws n constants facts
+  unfolding valueAnswer
+  value-1 {b} e f = rw (sym e ∙ not-true b f)
+
+  module _ {b c : Bool} (e : b ≡ isListing ar ws) (f : not b ≡ false) (g : c ≡ isState ar n constants facts) where
+    pub value-2 : not c ≡ true → Refused Range ≡ valueAnswer ar ws n constants facts
+    unfolding valueAnswer
+    value-2 h = rw (sym e ∙ not-false b f, sym g ∙ not-true c h)
+
+    module _ (h : not c ≡ false) {marks : List ℕ} (u : Used ar (diagramOf ws) marks) {p : Bool} (k : p ≡ not (eqb (setFrom marks firstParameter parameterCount) 0)) where
+      has-parameters : not (eqb (length (parameters ar (diagramOf ws))) 0) ≡ p
+      unfolding parameters
+      has-parameters = ap (λ x. not (eqb x 0)) (sym (set-occurring ar (diagramOf ws) marks u firstParameter parameterCount (omega arith))) ∙ sym k
+
+      pub value-3 : p ≡ true → Refused Unbound ≡ valueAnswer ar ws n constants facts
+      unfolding valueAnswer
+      value-3 z = rw (sym e ∙ not-false b f, sym g ∙ not-false c h, has-parameters ∙ z)
+
+      module _ (z : p ≡ false) {v : ℕ} (j : v ≡ markedVariables marks) {q : Bool} (w : q ≡ leb (n ^ v) mostValuations) where
+        count-valuations : n ^ v ≡ valuations ar n (diagramOf ws)
+        unfolding valuations
+        count-valuations = ap (λ x. n ^ x) (j ∙ marked-variables ar (diagramOf ws) marks u)
+
+        pub value-4 : not q ≡ true → Refused Valuations ≡ valueAnswer ar ws n constants facts
+        unfolding valueAnswer
+        value-4 y =
+            let x = leb-false (n ^ v) mostValuations (sym w ∙ not-true q y) in
+            let k = count-valuations in
+            rw (sym e ∙ not-false b f, sym g ∙ not-false c h, has-parameters ∙ z, lt-ltb mostValuations (valuations ar n (diagramOf ws)) (omega arith))
+
+        pub value-5 : not q ≡ false → {x : ℕ} → x ≡ highest (stateOf ar n constants facts) [] (meaning ar (diagramOf ws)) → Value x ≡ valueAnswer ar ws n constants facts
+        unfolding valueAnswer
+        value-5 y {x} o =
+            let l = leb-true (n ^ v) mostValuations (sym w ∙ not-false q y) in
+            let k = count-valuations in
+            rw (sym e ∙ not-false b f, sym g ∙ not-false c h, has-parameters ∙ z, le-ltb mostValuations (valuations ar n (diagramOf ws)) (omega arith))
+            (ap Value o)
+
+-- what the checks passed say
+module _ (ar ws : List ℕ) {b : Bool} (e : b ≡ isListing ar ws) (f : not b ≡ false) where
+  pub fits-listing : isListing ar ws ≡ true
+  fits-listing = sym e ∙ not-false b f
+
+  pub fits-valid : Valid ar ws
+  fits-valid = listing-is-valid ar ws fits-listing
+
+pub fits-state : (ar : List ℕ) (n : ℕ) (constants facts : List ℕ) {c : Bool} → c ≡ isState ar n constants facts → not c ≡ false → isState ar n constants facts ≡ true
+fits-state ar n constants facts {c} g h = sym g ∙ not-false c h
+
+pub state-some : (ar : List ℕ) (n : ℕ) (constants facts : List ℕ) {c : Bool} → c ≡ isState ar n constants facts → not c ≡ false → 0 < n
+unfolding isState
+state-some ar n constants facts {c} g h = leb-true 1 n (and-left (leb 1 n) _ (sym g ∙ not-false c h))

@@ -1,0 +1,278 @@
+-- Laws of what stands before the search: each row's highest leaf, the terms' first objects; and what the search's end says of the state.
+use mathlib.Core.Path.{_≡_, refl, sym, ap, subst, _∙_}
+use mathlib.Core.Bool.{Bool, true, false, cond}
+use mathlib.Core.List.{List, [], map}
+use Prim.Native.Nat.{ℕ, zero, suc, _+_, _-_, _*_, _≤_, _<_, max}
+use native.Mathlib.Omega.{arith}
+use borrow.Author.Tests.{ltb-true, leb-true, eqb-true, eqb-false, eq-eqb, ne-eqb}
+use lib.ListN.{length, getD, set, replicate, length-set, length-replicate, getD-replicate}
+use lib.Seq.{getD-set-same, getD-set-other}
+use lib.Dec.{eqb, ltb, leb}
+use Rattle.basics.specs.Tests.{Cmp, below, equal, above, cmp, Flag, isTrue, isFalse, flag, and-left, and-right}
+use Rattle.label.specs.Limits.{leafMark, firstParameter, firstVariable, constantCount}
+use Rattle.label.specs.Labels.{predicateOf, unpacked, termsOf}
+use Rattle.diagram.specs.Sizes.{mostRows}
+use Rattle.diagram.specs.Diagram.{Diagram, leaf, branch, eval, relabel}
+use Rattle.diagram.specs.Words.{labelAt, highAt, lowAt, rowCount, isListing}
+use Rattle.diagram.specs.WordLaws.{below-every}
+use Rattle.diagram.specs.Listing.{diagramOf}
+use Rattle.diagram.specs.Validity.{Valid, tree}
+use Rattle.diagram.specs.RowDiagrams.{branch-row}
+use Rattle.diagram.specs.DiagramOfListing.{valid-rows, shown-rows, diagram-is}
+use Rattle.diagram.specs.ListingValid.{listing-is-valid}
+use Rattle.state.specs.MaxLaws.{max-one}
+use Rattle.state.specs.State.{atomOf, meaning, State, Good, truth, holds, value, low, fixed, Fits}
+use Rattle.state.specs.ValueLaws.{low-lt, low-ge, by-low}
+use Rattle.state.specs.Highest.{Highest, highest, Bound}
+use Rattle.state.specs.HighestLaws.{highest-is}
+use Rattle.state.specs.Lent.{constantsBelow, stateOf, isState}
+use Rattle.valuing.specs.Index.{Indexed, indexedCount}
+use Rattle.valuing.specs.Search.{free, Topping, Tops, topAt, fixedIn, Started, lentTruth, lentHolds, leafFrom, Extends, Hit, old, new, Best, Ready}
+use Rattle.valuing.proofs.SearchLaws.{filled, filled-extends}
+
+-- a row's number, test by test
+module _ (ws high : List ℕ) (i : ℕ) where
+  pub top-leaf : getD ws (i * 3) 0 ≡ leafMark → getD ws (i * 3 + 1) 0 ≡ topAt ws high i
+  unfolding topAt labelAt highAt
+  top-leaf e = rw (eq-eqb _ leafMark e)
+
+  module _ (n : getD ws (i * 3) 0 ≡ leafMark → ⊥) where
+    pub top-low : getD high (getD ws (i * 3 + 1) 0) 0 < getD high (getD ws (i * 3 + 2) 0) 0 → getD high (getD ws (i * 3 + 2) 0) 0 ≡ topAt ws high i
+    unfolding topAt labelAt highAt lowAt
+    top-low l = rw (ne-eqb _ leafMark n) (omega arith)
+
+    pub top-high : getD high (getD ws (i * 3 + 2) 0) 0 ≤ getD high (getD ws (i * 3 + 1) 0) 0 → getD high (getD ws (i * 3 + 1) 0) 0 ≡ topAt ws high i
+    unfolding topAt labelAt highAt lowAt
+    top-high l = rw (ne-eqb _ leafMark n) (omega arith)
+
+-- a branch's children have numbers
+module _ {ws high : List ℕ} (t : Topping ws high) {i : ℕ} (h : i < rowCount ws) (n : getD ws (i * 3) 0 ≡ leafMark → ⊥) where
+  pub top-true : getD ws (i * 3 + 1) 0 < length high
+  unfolding labelAt highAt
+  top-true = omega (arith, branch-row (t .arities) ws (rowCount ws) (valid-rows (t .arities) ws (t .valid)) i h n .high-before, t .places)
+
+  pub top-false : getD ws (i * 3 + 2) 0 < length high
+  unfolding labelAt lowAt
+  top-false = omega (arith, branch-row (t .arities) ws (rowCount ws) (valid-rows (t .arities) ws (t .valid)) i h n .low-before, t .places)
+
+-- rows numbered one by one
+pub record Topped (ws high : List ℕ) (i : ℕ) : Type 0 where
+  pub topping : Topping ws high
+  pub most : i ≤ rowCount ws
+  pub done : Tops ws high i
+
+pub topped-start : {ws high : List ℕ} → Topping ws high → Topped ws high 0
+topped-start t = record { topping = t; most = omega arith; done = record { bound = λ r l c. absurd (omega arith); leaves = λ r l e. absurd (omega arith) } }
+
+cond-most : (b : Bool) (x y m k : ℕ) → x ≤ m → y ≤ k → cond b x y ≤ max m k
+cond-most true x y m k p q = omega arith
+cond-most false x y m k p q = omega arith
+
+pub topped-on : {ws high : List ℕ} {i x : ℕ} → Topped ws high i → i < rowCount ws → x ≡ topAt ws high i → Topped ws (set high i x) (i + 1)
+unfolding topAt eval
+topped-on {ws} {high} {i} {x} t l e = record {
+  topping = record { arities = t .topping .arities; valid = t .topping .valid; places = rw length-set (t .topping .places) };
+  most = omega arith;
+  done = record {
+    bound = λ r h c. bounded r c (cmp r i) h;
+    leaves = λ r h m. leafy r m (cmp r i) h;
+  };
+}
+  where
+    here : getD (set high i x) i 0 ≡ x
+    here = getD-set-same high i x 0 (omega (arith, t .topping .places))
+
+    v : Valid (t .topping .arities) ws
+    v = t .topping .valid
+
+    at-leaf : labelAt ws i ≡ leafMark → x ≡ highAt ws i
+    at-leaf q = e ∙ ap (λ b. cond b (highAt ws i) (max (getD high (highAt ws i) 0) (getD high (lowAt ws i) 0))) (eq-eqb _ leafMark q)
+
+    top : (c : ℕ → Bool) → Flag (eqb (labelAt ws i) leafMark) → eval c (tree ws i) ≤ x
+    top c (isTrue q) =
+        let z = shown-rows (t .topping .arities) ws v .leaves i l (eqb-true _ _ q) in
+        omega (arith, ap (eval c) z, at-leaf (eqb-true _ _ q))
+    top c (isFalse q) =
+        let n = eqb-false _ _ q in
+        let z = shown-rows (t .topping .arities) ws v .branches i l n in
+        let row = branch-row (t .topping .arities) ws (rowCount ws) (valid-rows (t .topping .arities) ws v) i l n in
+        let k = e ∙ ap (λ b. cond b (highAt ws i) (max (getD high (highAt ws i) 0) (getD high (lowAt ws i) 0))) q in
+        omega (
+          arith,
+          k,
+          ap (eval c) z,
+          cond-most (c (labelAt ws i)) (eval c (tree ws (highAt ws i))) (eval c (tree ws (lowAt ws i))) (getD high (highAt ws i) 0) (getD high (lowAt ws i) 0)
+              (t .done .bound (highAt ws i) (row .high-before) c) (t .done .bound (lowAt ws i) (row .low-before) c),
+        )
+
+    bounded : (r : ℕ) (c : ℕ → Bool) → Cmp r i → r < i + 1 → eval c (tree ws r) ≤ getD (set high i x) r 0
+    bounded r c (below q) h = rw (getD-set-other high i r x 0 (omega arith)) (t .done .bound r q c)
+    bounded r c (equal q) h = subst (λ (y : ℕ). eval c (tree ws y) ≤ getD (set high i x) y 0) (sym q) (rw here (top c (flag (eqb (labelAt ws i) leafMark))))
+    bounded r c (above q) h = absurd (omega arith)
+
+    leafy : (r : ℕ) → labelAt ws r ≡ leafMark → Cmp r i → r < i + 1 → getD (set high i x) r 0 ≡ highAt ws r
+    leafy r m (below q) h = getD-set-other high i r x 0 (omega arith) ∙ t .done .leaves r q m
+    leafy r m (equal q) h =
+        let m′ : labelAt ws i ≡ leafMark = sym (ap (labelAt ws) q) ∙ m in
+        subst (λ (y : ℕ). getD (set high i x) y 0 ≡ highAt ws y) (sym q) (here ∙ at-leaf m′)
+    leafy r m (above q) h = absurd (omega arith)
+
+pub topped-end : {ws high : List ℕ} {i : ℕ} → Topped ws high i → rowCount ws ≤ i → Tops ws high (rowCount ws)
+topped-end {ws} {high} t h = subst (Tops ws high) (omega (arith, t .most)) (t .done)
+
+-- the terms' first objects
+pub fixed-constant : (constants : List ℕ) (t : ℕ) {x : ℕ} → t < firstParameter → x ≡ getD constants t 0 → x ≡ fixedIn constants t
+unfolding fixedIn
+fixed-constant constants t h e = e ∙ sym (low-lt firstParameter t (getD constants t 0) (getD constants 0 0) h)
+
+pub fixed-parameter : (constants : List ℕ) (t : ℕ) {x : ℕ} → firstParameter ≤ t → x ≡ getD constants 0 0 → x ≡ fixedIn constants t
+unfolding fixedIn
+fixed-parameter constants t h e = e ∙ sym (low-ge firstParameter t (getD constants t 0) (getD constants 0 0) h)
+
+pub started-none : (constants : List ℕ) → Started constants (replicate 64 free) 0
+started-none constants = record {
+  places = length-replicate 64 free;
+  bound = λ t l. absurd (omega arith);
+  unbound = λ t l m. getD-replicate 64 t free 0 m;
+}
+
+pub started-on : {constants env : List ℕ} {t o : ℕ} → Started constants env t → t < firstVariable → o ≡ fixedIn constants t → Started constants (set env t o) (t + 1)
+started-on {constants} {env} {t} {o} s l e = record {
+  places = length-set env t o ∙ s .places;
+  bound = λ u m. given u m (cmp u t);
+  unbound = λ u m k. getD-set-other env t u o 0 (omega arith) ∙ s .unbound u (omega arith) k;
+}
+  where
+    given : (u : ℕ) → u < t + 1 → Cmp u t → getD (set env t o) u 0 ≡ fixedIn constants u
+    given u m (below q) = getD-set-other env t u o 0 (omega arith) ∙ s .bound u q
+    given u m (equal q) = subst (λ (y : ℕ). getD (set env t o) y 0 ≡ fixedIn constants y) (sym q) (getD-set-same env t o 0 (omega (arith, s .places)) ∙ e)
+    given u m (above q) = absurd (omega arith)
+
+pub started-end : {constants env : List ℕ} {t : ℕ} → Started constants env t → t ≤ firstVariable → firstVariable ≤ t → Started constants env firstVariable
+started-end {constants} {env} s l m = subst (Started constants env) (omega arith) s
+
+-- what a lent state is
+pub record Lendable (n : ℕ) (constants : List ℕ) : Type 0 where
+  pub some : 0 < n
+  pub placed : (c : ℕ) → c < constantCount → getD constants c 0 < n
+
+pub state-lendable : (ar : List ℕ) (n : ℕ) (constants facts : List ℕ) → isState ar n constants facts ≡ true → Lendable n constants
+unfolding isState constantsBelow
+state-lendable ar n constants facts e = record {
+  some = leb-true 1 n (and-left (leb 1 n) _ e);
+  placed = λ c h. ltb-true _ _ (below-every constantCount (λ c. ltb (getD constants c 0) n) c (and-left (constantsBelow n constants) _ (and-right (leb 1 n) _ e)) h);
+}
+
+module _ (ar : List ℕ) (n : ℕ) (constants facts : List ℕ) (f : Lendable n constants) where
+  lent-good : Good (stateOf ar n constants facts)
+  unfolding stateOf
+  lent-good = record {
+    some = f .some;
+    placed = λ c. by-low (low constantCount c (getD constants c 0) 0 < n) constantCount c
+        (λ h. rw (low-lt constantCount c (getD constants c 0) 0 h) (f .placed c h))
+        (λ h. rw (low-ge constantCount c (getD constants c 0) 0 h) (f .some));
+  }
+
+  lent-bound : Bound (stateOf ar n constants facts) []
+  unfolding stateOf
+  lent-bound = record { each = λ i. lent-good .placed 0 }
+
+  lent-fixed : (t : ℕ) → fixed (stateOf ar n constants facts) [] t ≡ fixedIn constants t
+  unfolding stateOf fixed fixedIn
+  lent-fixed t = by-low (fixed (stateOf ar n constants facts) [] t ≡ fixedIn constants t) firstParameter t
+      (λ h. low-lt firstParameter t _ (getD constants 0 0) h ∙ low-lt constantCount t (getD constants t 0) 0 h ∙ sym (low-lt firstParameter t (getD constants t 0) (getD constants 0 0) h))
+      (λ h. low-ge firstParameter t (low constantCount t (getD constants t 0) 0) (getD constants 0 0) h ∙ sym (low-ge firstParameter t (getD constants t 0) (getD constants 0 0) h))
+
+  fixed-below : (t : ℕ) → fixedIn constants t < n
+  unfolding fixedIn
+  fixed-below t = by-low (fixedIn constants t < n) firstParameter t
+      (λ h. rw (low-lt firstParameter t (getD constants t 0) (getD constants 0 0) h) (f .placed t h))
+      (λ h. rw (low-ge firstParameter t (getD constants t 0) (getD constants 0 0) h) (f .placed 0 (omega arith)))
+
+  module _ (env : List ℕ) (s : Started constants env firstVariable) (θ : ℕ → ℕ) where
+    fits-extends : Fits (stateOf ar n constants facts) [] θ → Extends n env θ
+    unfolding stateOf
+    fits-extends x = record {
+      agrees = λ t l h. by-low (θ t ≡ getD env t 0) firstVariable t
+          (λ k. x .low t k ∙ lent-fixed t ∙ sym (s .bound t k))
+          (λ k. absurd (h (s .unbound t k l)));
+      range = x .range;
+    }
+
+    extends-fits : n ≤ free → Extends n env θ → Fits (stateOf ar n constants facts) [] θ
+    unfolding stateOf
+    extends-fits m x = record {
+      low = λ t k. x .agrees t (omega arith) (λ z. omega (arith, s .bound t k, fixed-below t)) ∙ s .bound t k ∙ sym (lent-fixed t);
+      range = x .range;
+    }
+
+  lent-truth : (p : ℕ) (os : List ℕ) → truth (stateOf ar n constants facts) p os ≡ lentTruth ar facts p os
+  unfolding stateOf
+  lent-truth zero os = refl
+  lent-truth (suc p) os = refl
+
+  lent-value : (θ : ℕ → ℕ) (d : Diagram) → value (stateOf ar n constants facts) (meaning ar d) θ ≡ eval (lentHolds ar facts θ) d
+  unfolding value meaning relabel eval holds atomOf lentHolds
+  lent-value θ (leaf v) = refl
+  lent-value θ (branch l t g) = rw (lent-truth (predicateOf l) (map θ (termsOf ar (unpacked l))), lent-value θ t, lent-value θ g)
+
+pub topping-start : (ar ws : List ℕ) (m : ℕ) → isListing ar ws ≡ true → mostRows ≤ m → Topping ws (replicate m 0)
+topping-start ar ws m e h =
+    let v = listing-is-valid ar ws e in
+    record { arities = ar; valid = v; places = omega (arith, v .few, length-replicate {A = ℕ} m 0) }
+
+pub listing-some : (ar ws : List ℕ) → isListing ar ws ≡ true → 1 ≤ rowCount ws
+listing-some ar ws e = listing-is-valid ar ws e .some
+
+-- the search may begin
+pub start-ready : {ar ws high : List ℕ} {n : ℕ} {constants facts env index : List ℕ} → isListing ar ws ≡ true → isState ar n constants facts ≡ true → n ≤ free
+    → Started constants env firstVariable → Tops ws high (rowCount ws) → length high ≡ length {A = ℕ} (replicate mostRows 0) → Indexed ar facts (getD env 0 0) index (indexedCount facts)
+    → Ready ws high ar facts index env n
+start-ready {ar} {ws} {high} {n} {constants} {facts} {env} {index} a b m s t h i =
+    let v = listing-is-valid ar ws a in
+    let f = state-lendable ar n constants facts b in
+    record {
+      valid = v;
+      places = omega (arith, v .few, length-replicate {A = ℕ} mostRows 0);
+      tops = t;
+      indexed = i;
+      env-fits = record {
+        places = s .places;
+        some = f .some;
+        most = m;
+        first-bound = λ z. omega (arith, s .bound 0 (omega arith), fixed-below ar n constants facts f 0);
+        range = λ t l z. by-low (getD env t 0 < n) firstVariable t
+            (λ k. rw (s .bound t k) (fixed-below ar n constants facts f t))
+            (λ k. absurd (z (s .unbound t k l)));
+      };
+    }
+
+-- and its end is the value
+module _ {ar ws high : List ℕ} {n : ℕ} {constants facts env index : List ℕ} {b : ℕ} {env′ : List ℕ} (a : isListing ar ws ≡ true) (e : isState ar n constants facts ≡ true)
+    (s : Started constants env firstVariable) (q : Ready ws high ar facts index env n) (t : Best ar facts ws env n (rowCount ws - 1) 0 b env′) where
+  pub found-some : 0 < b
+  found-some = let h = t .above (filled env) (filled-extends (q .env-fits)) in omega arith
+
+  leaf-value : (θ : ℕ → ℕ) → value (stateOf ar n constants facts) (meaning ar (diagramOf ws)) θ ≡ leafFrom ar facts ws θ (rowCount ws - 1)
+  unfolding leafFrom
+  leaf-value θ =
+      lent-value ar n constants facts (state-lendable ar n constants facts e) θ (diagramOf ws)
+      ∙ ap (eval (lentHolds ar facts θ)) (diagram-is ar ws (q .valid) ∙ ap (tree ws) (omega arith))
+
+  pub found-highest : b - 1 ≡ highest (stateOf ar n constants facts) [] (meaning ar (diagramOf ws))
+  found-highest = max-one (top (t .hit)) (highest-is st [] (lent-good ar n constants facts f) (lent-bound ar n constants facts f) (meaning ar (diagramOf ws)))
+    where
+      f : Lendable n constants
+      f = state-lendable ar n constants facts e
+
+      st : State
+      st = stateOf ar n constants facts
+
+      top : Hit ar facts ws env n (rowCount ws - 1) 0 b → Highest st [] (meaning ar (diagramOf ws)) (b - 1)
+      top (old z) = absurd (omega (arith, found-some))
+      top (new θ x z) = record {
+        point = θ;
+        inside = extends-fits ar n constants facts f env s θ (q .env-fits .most) x;
+        value = omega (arith, leaf-value θ);
+        bound = λ η y. omega (arith, leaf-value η, t .above η (fits-extends ar n constants facts f env s η y));
+      }

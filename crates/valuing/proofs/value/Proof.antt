@@ -1,0 +1,40 @@
+use Prim.Native.Nat.{ℕ}
+use lib.ListN.{length-replicate}
+use borrow.Author.Needs.{needs}
+use Rattle.valuing.proofs.CheckLaws.{value-1, value-2, value-3, value-4, value-5, state-some, fits-listing, fits-valid, fits-state}
+use Rattle.valuing.proofs.value.Statement.{statement}
+use Rattle.valuing.proofs.value.Tie as tie
+
+returns : tie.Need-returns
+returns c = search value-1
+
+returns-2 : tie.Need-returns-2
+returns-2 c = search value-2
+
+used-requires : tie.Need-used-requires
+used-requires c κs = (fits-valid _ _ (c .before .before .before .before .check .ensures) (c .before .before .before .if1 .left), length-replicate {A = ℕ} 64 0)
+
+returns-3 : tie.Need-returns-3
+returns-3 c = search value-3
+
+few-requires : tie.Need-few-requires
+few-requires c κs = let checked = c .before .before .before .before .before .before .before .before in state-some _ _ _ _ (checked .before .state-fits .ensures) (checked .if2 .left)
+
+returns-4 : tie.Need-returns-4
+returns-4 c = search value-4
+
+highest-leaf-requires : tie.Need-highest-leaf-requires
+highest-leaf-requires c κs =
+    let checked = c .before .before .before .before .before .before .before .before .before .before in (
+      fits-listing _ _ (checked .before .before .before .check .ensures) (checked .before .before .if1 .left),
+      fits-state _ _ _ _ (checked .before .state-fits .ensures) (checked .if2 .left),
+    )
+
+returns-5 : tie.Need-returns-5
+returns-5 c = search value-5
+
+pub value-spec : {M : Type 1} → statement M
+value-spec =
+    tie.close
+    (tie.spec (λ c κs. search needs) returns (λ c κs. search needs) returns-2 (λ c. search needs) used-requires (λ c. search needs) (λ c κs. search needs)
+    returns-3 (λ c. search needs) (λ c κs. search needs) few-requires returns-4 highest-leaf-requires returns-5)
