@@ -1,19 +1,18 @@
 -- The ways through the functions on atoms and labels, in the words of their tests and callees.
-use mathlib.Core.Path.{_≡_, refl, sym, ap, ap₂, _∙_}
+use mathlib.Core.Path.{_≡_, refl, sym, ap, _∙_}
 use mathlib.Core.Bool.{Bool, true, false, not, _&&_, _||_, cond}
 use mathlib.Core.List.{List, [], _∷_}
-use Prim.Native.Nat.{ℕ, zero, suc, _+_, _*_, _/_, _%_, _≤_, _<_}
+use Prim.Native.Nat.{ℕ, zero, suc, _+_, _*_, _≤_, _<_}
 use native.Mathlib.Omega.{arith}
 use lib.ListN.{length, getD}
 use lib.Dec.{eqb, ltb, leb}
 use borrow.Author.Tests.{lt-ltb, le-ltb, le-leb, lt-leb, eqb-true, eq-eqb, ne-eqb}
 use Rattle.basics.specs.Tests.{and-left, Flag, isTrue, isFalse, flag, Cmp, below, equal, above, cmp}
-use Rattle.label.specs.Limits.{termBase, predicateCount}
 use Rattle.label.specs.Terms.{isConstant, isParameter, isVariable, isTerm}
-use Rattle.label.specs.Labels.{areArities, allAtMost, packed, predicateOf, unpacked, placeFits, inOrder, isAtom, isLabel, isLabelUnder, before, equates, testOf, labelOf}
+use Rattle.label.specs.Labels.{areArities, allAtMost, packed, predicateOf, unpacked, placeFits, inOrder, isAtom, isLabel, isLabelUnder, equates, testOf}
 use Rattle.label.specs.Renamings.{mapOf, placed, mapped, moved, renamed}
-use Rattle.label.specs.Callers.{Places, Packable, TermMap, Mappable, Movable, Replaced}
-use Rattle.label.specs.LabelLaws.{before-packed, packed-unpacked, label-fits, label-places}
+use Rattle.label.specs.Callers.{Packable, TermMap, Mappable, Movable, Replaced}
+use Rattle.label.specs.LabelLaws.{label-fits, label-places}
 use Rattle.label.specs.declared.Atom.{Atom}
 use Rattle.label.specs.declared.Label.{Label}
 use Rattle.label.specs.declared.Test.{Test}
@@ -53,14 +52,6 @@ placed-used map n k t h = rw (lt-ltb k n h)
 pub placed-unused : (map : List ℕ) (n k t : ℕ) → n ≤ k → 0 ≡ placed (mapOf map) n k t
 unfolding placed
 placed-unused map n k t h = rw (le-ltb k n h)
-
--- before
-places-of : (x : ℕ) → Places (unpacked x)
-unfolding unpacked
-places-of x = record { first-below = omega arith; second-below = omega arith; third-below = omega arith; fourth-below = omega arith }
-
-pub before-is : (l k : ℕ) → ltb l k ≡ before (unpacked l) (unpacked k)
-before-is l k = ap₂ ltb (sym (packed-unpacked l)) (sym (packed-unpacked k)) ∙ before-packed (unpacked l) (unpacked k) (places-of l) (places-of k)
 
 -- equate
 pub equate-same : {t u : ℕ} → t ≡ u → Always ≡ equates t u

@@ -1,16 +1,16 @@
--- Laws of atoms and labels: packing and unpacking are inverse, and the order of labels is that of their numbers.
-use mathlib.Core.Path.{_≡_, refl, sym, ap, ap₂, _∙_}
-use mathlib.Core.Bool.{Bool, true, false, not, _&&_, _||_, cond}
+-- Laws of atoms and labels: packing and unpacking are inverse.
+use mathlib.Core.Path.{_≡_, ap}
+use mathlib.Core.Bool.{true, _&&_, _||_}
 use mathlib.Core.List.{List}
-use Prim.Native.Nat.{ℕ, zero, suc, _+_, _*_, _/_, _%_, _≤_, _<_}
+use Prim.Native.Nat.{ℕ, _+_, _*_, _/_, _%_, _≤_, _<_}
 use native.Mathlib.Omega.{arith}
 use lib.ListN.{getD}
 use lib.Dec.{eqb, ltb, leb}
-use borrow.Author.Tests.{ltb-true, ltb-false, leb-true, eqb-true, eqb-false, lt-ltb, le-ltb, eq-eqb, ne-eqb}
-use Rattle.basics.specs.Tests.{and-left, and-right, Flag, isTrue, isFalse, flag, Either, one, other, either, Cmp, below, equal, above, cmp}
+use borrow.Author.Tests.{ltb-true, eqb-true, lt-ltb, le-ltb}
+use Rattle.basics.specs.Tests.{and-left, and-right, Flag, isTrue, isFalse, flag, Either, one, other, either, below, above}
 use Rattle.label.specs.Limits.{termBase, predicateCount, leafMark}
 use Rattle.label.specs.Terms.{isConstant, isParameter, isVariable, isTerm}
-use Rattle.label.specs.Labels.{packed, predicateOf, unpacked, placeFits, inOrder, isAtom, isLabel, before, firstDiffers}
+use Rattle.label.specs.Labels.{packed, unpacked, placeFits, inOrder, isAtom, isLabel}
 use Rattle.label.specs.Callers.{Places}
 use Rattle.label.specs.declared.Atom.{Atom}
 
@@ -27,13 +27,21 @@ term-below t e = go (either (ltb t 16) _ e)
     go (one q) = omega (arith, ltb-true t 16 q)
     go (other q) = rest (either (leb 16 t && ltb t 20) _ q)
 
-place-below : (n k t : ℕ) → placeFits n k t ≡ true → t < termBase
+pub place-below : (n k t : ℕ) → placeFits n k t ≡ true → t < termBase
 unfolding placeFits
 place-below n k t e = go (flag (ltb k n))
   where
     go : Flag (ltb k n) → t < termBase
     go (isTrue q) = term-below t (rw q at e)
     go (isFalse q) = let z : eqb t 0 ≡ true = rw q at e in omega (arith, eqb-true t 0 z)
+
+pub used-term : (n k t : ℕ) → k < n → placeFits n k t ≡ true → isTerm t ≡ true
+unfolding placeFits
+used-term n k t h e = rw (lt-ltb k n h) at e
+
+pub unused-zero : (n k t : ℕ) → n ≤ k → placeFits n k t ≡ true → t ≡ 0
+unfolding placeFits
+unused-zero n k t h e = eqb-true t 0 (rw (le-ltb k n h) at e)
 
 -- the tests of an atom, one by one: its places under the arity n, then all of them
 pub record PlacesFit (n : ℕ) (a : Atom) : Type 0 where
@@ -125,47 +133,3 @@ unfolding unpacked
 label-below ar l e =
     let h : l / 16777216 < 32 = label-fits ar l e .predicate-fits in
     omega arith
-
--- one more place, last: the numbers are compared by the first difference
-lex-flat : (a e l t r : Bool) → ((a || (e && l)) || ((e && t) && r)) ≡ (a || (e && (l || (t && r))))
-lex-flat true e l t r = refl
-lex-flat false true l t r = refl
-lex-flat false false l t r = refl
-
-step-less : (x y r s : ℕ) → r < 64 → s < 64 → ltb (x * 64 + r) (y * 64 + s) ≡ firstDiffers x y (ltb r s)
-step-less x y r s h k = go (cmp x y)
-  where
-    go : Cmp x y → ltb (x * 64 + r) (y * 64 + s) ≡ firstDiffers x y (ltb r s)
-    go (below q) = rw (lt-ltb x y q, lt-ltb (x * 64 + r) (y * 64 + s) (omega arith))
-    go (equal q) = rw (q, le-ltb y y (omega arith), eq-eqb y y refl) (last (cmp r s))
-      where
-        last : Cmp r s → ltb (y * 64 + r) (y * 64 + s) ≡ ltb r s
-        last (below p) = rw (lt-ltb r s p, lt-ltb (y * 64 + r) (y * 64 + s) (omega arith))
-        last (equal p) = rw (le-ltb r s (omega arith), le-ltb (y * 64 + r) (y * 64 + s) (omega arith))
-        last (above p) = rw (le-ltb r s (omega arith), le-ltb (y * 64 + r) (y * 64 + s) (omega arith))
-    go (above q) = rw (le-ltb x y (omega arith), ne-eqb x y (omega arith), le-ltb (x * 64 + r) (y * 64 + s) (omega arith))
-
-step-same : (x y r s : ℕ) → r < 64 → s < 64 → eqb (x * 64 + r) (y * 64 + s) ≡ (eqb x y && eqb r s)
-step-same x y r s h k = go (flag (eqb x y)) (flag (eqb r s))
-  where
-    go : Flag (eqb x y) → Flag (eqb r s) → eqb (x * 64 + r) (y * 64 + s) ≡ (eqb x y && eqb r s)
-    go (isTrue p) (isTrue q) = rw (p, q) (eq-eqb (x * 64 + r) (y * 64 + s) (omega (arith, eqb-true x y p, eqb-true r s q)))
-    go (isTrue p) (isFalse q) = rw (p, q) (ne-eqb (x * 64 + r) (y * 64 + s) (λ z. eqb-false r s q (omega (arith, eqb-true x y p))))
-    go (isFalse p) q = rw p (ne-eqb (x * 64 + r) (y * 64 + s) (λ z. eqb-false x y p (omega arith)))
-
-step : (x y r s : ℕ) (rest : Bool) → r < 64 → s < 64 → firstDiffers (x * 64 + r) (y * 64 + s) rest ≡ firstDiffers x y (firstDiffers r s rest)
-step x y r s rest h k = rw (step-less x y r s h k, step-same x y r s h k) (lex-flat (ltb x y) (eqb x y) (ltb r s) (eqb r s) rest)
-
--- a label's number place by place
-horner : (a : Atom) → packed a ≡ (((a .predicate * 64 + a .first) * 64 + a .second) * 64 + a .third) * 64 + a .fourth
-unfolding packed
-horner a = omega arith
-
-pub before-packed : (a b : Atom) → Places a → Places b → ltb (packed a) (packed b) ≡ before a b
-unfolding before
-before-packed a b p q =
-    ap₂ ltb (horner a) (horner b)
-    ∙ step-less _ _ (a .fourth) (b .fourth) (p .fourth-below) (q .fourth-below)
-    ∙ step _ _ (a .third) (b .third) _ (p .third-below) (q .third-below)
-    ∙ step _ _ (a .second) (b .second) _ (p .second-below) (q .second-below)
-    ∙ step _ _ (a .first) (b .first) _ (p .first-below) (q .first-below)

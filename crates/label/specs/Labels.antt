@@ -1,13 +1,12 @@
 -- Atoms, labels and arity lists (document 01, section 'Terms, labels, listings').
-use mathlib.Core.Bool.{Bool, true, false, not, _&&_, _||_, cond}
+use mathlib.Core.Bool.{Bool, true, not, _&&_, _||_, cond}
 use mathlib.Core.List.{List, [], _∷_}
-use Prim.Native.Nat.{ℕ, zero, suc, _+_, _*_, _/_, _%_}
+use Prim.Native.Nat.{ℕ, _+_, _*_, _/_, _%_}
 use lib.ListN.{length, getD, take}
 use lib.Dec.{eqb, ltb, leb}
 use Rattle.label.specs.Limits.{predicateCount, mostPlaces, equality, equalityArity, termBase, predicateWeight, firstWeight, secondWeight, thirdWeight}
 use Rattle.label.specs.Terms.{isTerm}
 use Rattle.label.specs.declared.Atom.{Atom}
-use Rattle.label.specs.declared.Label.{Label}
 use Rattle.label.specs.declared.Test.{Test}
 use Rattle.label.specs.declared.Test.the-variants.{Always, Is}
 
@@ -65,31 +64,18 @@ isLabelUnder ar l = areArities ar && isLabel ar l
 unfoldable pub termsOf : List ℕ → Atom → List ℕ
 termsOf ar a = take (getD ar (a .predicate) 0) (a .first ∷ a .second ∷ a .third ∷ a .fourth ∷ [])
 
--- labels are ordered as their numbers: that is by predicate, then by the first place that differs
-abbrev pub firstDiffers : ℕ → ℕ → Bool → Bool
-firstDiffers x y rest = ltb x y || (eqb x y && rest)
-
-unfoldable pub before : Atom → Atom → Bool
-before a b =
-    firstDiffers (a .predicate) (b .predicate)
-    (firstDiffers (a .first) (b .first)
-    (firstDiffers (a .second) (b .second)
-    (firstDiffers (a .third) (b .third)
-    (ltb (a .fourth) (b .fourth)))))
-
 -- what an atom asks, after its terms were replaced: t = t is plain truth, an equality has its smaller term first
 abbrev pub pickTest : Bool → Test → Test → Test
-pickTest true x y = x
-pickTest false x y = y
+pickTest b x y = cond b x y
 
 abbrev pub labelOf : Atom → Test
 labelOf a = Is (record { packed = packed a })
 
 unfoldable pub equates : ℕ → ℕ → Test
 equates t u =
-    pickTest (eqb t u) Always
-    (pickTest (ltb t u) (labelOf (record { predicate = equality; first = t; second = u; third = 0; fourth = 0 }))
+    cond (eqb t u) Always
+    (cond (ltb t u) (labelOf (record { predicate = equality; first = t; second = u; third = 0; fourth = 0 }))
     (labelOf (record { predicate = equality; first = u; second = t; third = 0; fourth = 0 })))
 
 unfoldable pub testOf : Atom → Test
-testOf a = pickTest (eqb (a .predicate) equality) (equates (a .first) (a .second)) (labelOf a)
+testOf a = cond (eqb (a .predicate) equality) (equates (a .first) (a .second)) (labelOf a)

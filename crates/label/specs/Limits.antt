@@ -1,5 +1,5 @@
 -- The limits of terms and labels, and how a label is packed: each number of document 01, section 'Terms, labels, listings', stands here once.
-use Prim.Native.Nat.{ℕ, _+_}
+use Prim.Native.Nat.{ℕ}
 
 -- a term is a constant (numbers 0 to 15), an action parameter (16 to 19) or a variable (32 to 63)
 abbrev pub constantCount : ℕ

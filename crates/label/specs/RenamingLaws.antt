@@ -1,24 +1,25 @@
 -- Laws of renamed labels: a map that keeps the order of terms keeps labels normal and in order. Closing up, moving apart and freeing are such maps.
-use mathlib.Core.Path.{_≡_, refl, sym, ap, subst, _∙_}
+use mathlib.Core.Path.{_≡_, refl, sym, ap, ap₂, subst, _∙_}
 use mathlib.Core.Logic.{_⊎_, inl, inr}
-use mathlib.Core.Bool.{Bool, true, false, not, _&&_, _||_, cond}
+use mathlib.Core.Bool.{true, not, _||_, cond}
 use mathlib.Core.List.{List, [], _∷_, map}
 use Prim.Native.Nat.{ℕ, zero, suc, _+_, _-_, _/_, _≤_, _<_}
 use native.Mathlib.Omega.{arith}
 use lib.ListN.{length, getD, take}
 use lib.Seq.{take-nil}
-use lib.Dec.{eqb, ltb, leb}
-use borrow.Author.Tests.{ltb-true, ltb-false, leb-true, eqb-true, eqb-false, lt-ltb, le-ltb, le-leb, lt-leb, eq-eqb, ne-eqb}
-use Rattle.basics.specs.Tests.{and-left, and-right, Flag, isTrue, isFalse, flag, Either, one, other, either, or-one, or-other, Cmp, below, equal, above, cmp}
+use lib.Dec.{eqb, ltb}
+use borrow.Author.Tests.{ltb-true, ltb-false, eqb-true, lt-ltb, le-ltb, le-leb, eq-eqb, ne-eqb}
+use Rattle.basics.specs.Tests.{and-left, and-right, Flag, isTrue, isFalse, flag, one, Cmp, below, equal, above, cmp}
 use Rattle.basics.specs.Members.{mem, clash}
 use Rattle.label.specs.Limits.{termBase, firstVariable, firstParameter, parameterCount}
 use Rattle.label.specs.Terms.{isConstant, isParameter, isVariable, isTerm}
-use Rattle.label.specs.Labels.{areArities, packed, predicateOf, unpacked, placeFits, inOrder, isAtom, isLabel, termsOf, before, firstDiffers, equates, testOf, labelOf}
+use Rattle.label.specs.Labels.{areArities, packed, predicateOf, unpacked, placeFits, inOrder, isAtom, isLabel, termsOf, equates, testOf, labelOf}
 use Rattle.label.specs.Renamings.{placed, mapped, moved, renamed, rank, numbering, freeing, Increasing, EachTerm, EachIn}
-use Rattle.label.specs.Callers.{Places}
-use Rattle.label.specs.LabelLaws.{Fitting, PlacesFit, atom-fits, fits-atom, atom-places, label-fits, label-places, label-packed, packed-unpacked, unpacked-packed, before-packed}
+use Rattle.label.specs.LabelLaws.{Fitting, PlacesFit, atom-fits, fits-atom, atom-places, label-fits, label-packed, unpacked-packed, unused-zero, used-term}
+use Rattle.label.specs.Order.{termBefore, placesBefore, atomBefore, labelBefore}
+use Rattle.label.specs.OrderLaws.{Fits, placesOf, places-fit, term-numbers, order-numbers}
 use Rattle.label.specs.declared.Atom.{Atom}
-use Rattle.label.specs.declared.Test.the-variants.{Always, Is}
+use Rattle.label.specs.declared.Test.the-variants.{Is}
 
 pub placed-used : (ρ : ℕ → ℕ) (n k t : ℕ) → k < n → placed ρ n k t ≡ ρ t
 unfolding placed
@@ -27,10 +28,6 @@ placed-used ρ n k t h = rw (lt-ltb k n h)
 pub placed-unused : (ρ : ℕ → ℕ) (n k t : ℕ) → n ≤ k → placed ρ n k t ≡ 0
 unfolding placed
 placed-unused ρ n k t h = rw (le-ltb k n h)
-
-unused-zero : (n k t : ℕ) → n ≤ k → placeFits n k t ≡ true → t ≡ 0
-unfolding placeFits
-unused-zero n k t h e = eqb-true t 0 (rw (le-ltb k n h) at e)
 
 equality-arity : (ar : List ℕ) → areArities ar ≡ true → getD ar 0 0 ≡ 2
 unfolding areArities
@@ -53,9 +50,6 @@ mapped-terms ρ (suc (suc (suc (suc n)))) x y z w =
       placed-used ρ (suc (suc (suc (suc n)))) 3 w (omega arith),
       take-nil n,
     )
-
-packed-less : (l k : ℕ) → l < k → ltb (packed (unpacked l)) (packed (unpacked k)) ≡ true
-packed-less l k h = rw (packed-unpacked l, packed-unpacked k) (lt-ltb l k h)
 
 -- an atom in order asks its own label
 in-order-test : (ar : List ℕ) → getD ar 0 0 ≡ 2 → (a : Atom) → Fitting ar a → testOf a ≡ labelOf a
@@ -86,59 +80,60 @@ module _ (P : ℕ → Type 0) (ρ : ℕ → ℕ) (inc : Increasing P ρ) where
       go (equal q) = rw (le-ltb k n (omega arith), placed-unused ρ n k t (omega arith))
       go (above q) = rw (le-ltb k n (omega arith), placed-unused ρ n k t (omega arith))
 
+  -- P names the terms in the used places from place k on
+  abbrev Known : ℕ → ℕ → List ℕ → Type 0
+  Known n k [] = Unit {0}
+  Known n k (t ∷ ts) = (k < n → P t) × Known n (suc k) ts
+
   -- and the first difference of two atoms stays where it is
-  place-differs : (n k t u : ℕ) (r r′ : Bool) → placeFits n k t ≡ true → placeFits n k u ≡ true → (k < n → P t) → (k < n → P u)
-      → (r ≡ true → r′ ≡ true) → firstDiffers t u r ≡ true → firstDiffers (placed ρ n k t) (placed ρ n k u) r′ ≡ true
-  place-differs n k t u r r′ ft fu pt pu rest e = go (either (ltb t u) _ e)
+  places-before : (n k m : ℕ) → m ≡ n - k → (ts us : List ℕ) → Fits n k ts → Fits n k us → Known n k ts → Known n k us
+      → placesBefore (take m ts) (take m us) ≡ true → placesBefore (map ρ (take m ts)) (map ρ (take m us)) ≡ true
+  unfolding placesBefore
+  places-before n k zero z ts us f g p q e = clash e refl
+  places-before n k (suc m) z [] us f g p q e = clash e refl
+  places-before n k (suc m) z (t ∷ ts) [] f g p q e = clash e refl
+  places-before n k (suc m) z (t ∷ ts) (u ∷ us) f g p q e = go (cmp t u) (places-before n (suc k) m (omega arith) ts us (f .1) (g .1) (p .1) (q .1))
     where
-      less : t < u → Cmp k n → firstDiffers (placed ρ n k t) (placed ρ n k u) r′ ≡ true
-      less h (below q) = rw (placed-used ρ n k t q, placed-used ρ n k u q, lt-ltb (ρ t) (ρ u) (inc .order t u (pt q) (pu q) h))
-      less h (equal q) = absurd (omega (arith, unused-zero n k u (omega arith) fu))
-      less h (above q) = absurd (omega (arith, unused-zero n k u (omega arith) fu))
+      pt : P t
+      pt = p .0 (omega arith)
 
-      go : Either (ltb t u) (eqb t u && r) → firstDiffers (placed ρ n k t) (placed ρ n k u) r′ ≡ true
-      go (one q) = less (ltb-true t u q) (cmp k n)
-      go (other q) =
-          let x = eqb-true t u (and-left _ _ q) in
-          or-other (ltb (placed ρ n k t) (placed ρ n k u)) _
-          (rw (eq-eqb (placed ρ n k t) (placed ρ n k u) (ap (placed ρ n k) x), rest (and-right (eqb t u) _ q)))
+      pu : P u
+      pu = q .0 (omega arith)
 
-  last-differs : (n k t u : ℕ) → placeFits n k t ≡ true → placeFits n k u ≡ true → (k < n → P t) → (k < n → P u)
-      → ltb t u ≡ true → ltb (placed ρ n k t) (placed ρ n k u) ≡ true
-  last-differs n k t u ft fu pt pu e =
-      go (either (ltb (placed ρ n k t) (placed ρ n k u)) _ (place-differs n k t u false false ft fu pt pu (λ z. z) (or-one _ _ e)))
-    where
-      go : Either (ltb (placed ρ n k t) (placed ρ n k u)) (eqb (placed ρ n k t) (placed ρ n k u) && false) → ltb (placed ρ n k t) (placed ρ n k u) ≡ true
-      go (one q) = q
-      go (other q) = clash (and-right (eqb (placed ρ n k t) (placed ρ n k u)) false q) refl
+      go : Cmp t u → (placesBefore (take m ts) (take m us) ≡ true → placesBefore (map ρ (take m ts)) (map ρ (take m us)) ≡ true)
+          → cond (eqb (ρ t) (ρ u)) (placesBefore (map ρ (take m ts)) (map ρ (take m us))) (termBefore (ρ t) (ρ u)) ≡ true
+      go (below h) ih =
+          let l = inc .order t u pt pu h in
+          rw (ne-eqb (ρ t) (ρ u) (omega arith), term-numbers (ρ t) (ρ u) (inc .terms t pt) (inc .terms u pu)) (lt-ltb (ρ t) (ρ u) l)
+      go (equal h) ih = rw (eq-eqb (ρ t) (ρ u) (ap ρ h)) (ih (rw (eq-eqb t u h) at e))
+      go (above h) ih =
+          let d : termBefore t u ≡ true = rw (ne-eqb t u (omega arith)) at e in
+          clash d (term-numbers t u (used-term n k t (omega arith) (f .0)) (used-term n k u (omega arith) (g .0)) ∙ le-ltb t u (omega arith))
 
-  places-before : (n : ℕ) (a b : Atom) → PlacesFit n a → PlacesFit n b → EachTerm P n a → EachTerm P n b
-      → firstDiffers (a .first) (b .first) (firstDiffers (a .second) (b .second) (firstDiffers (a .third) (b .third) (ltb (a .fourth) (b .fourth)))) ≡ true
-      → firstDiffers (placed ρ n 0 (a .first)) (placed ρ n 0 (b .first)) (firstDiffers (placed ρ n 1 (a .second)) (placed ρ n 1 (b .second))
-      (firstDiffers (placed ρ n 2 (a .third)) (placed ρ n 2 (b .third)) (ltb (placed ρ n 3 (a .fourth)) (placed ρ n 3 (b .fourth))))) ≡ true
-  places-before n a b fa fb pa pb =
-      place-differs n 0 _ _ _ _ (fa .first-fits) (fb .first-fits) (pa .on-first) (pb .on-first)
-      (place-differs n 1 _ _ _ _ (fa .second-fits) (fb .second-fits) (pa .on-second) (pb .on-second)
-      (place-differs n 2 _ _ _ _ (fa .third-fits) (fb .third-fits) (pa .on-third) (pb .on-third)
-      (last-differs n 3 _ _ (fa .fourth-fits) (fb .fourth-fits) (pa .on-fourth) (pb .on-fourth))))
+  known : {n : ℕ} {a : Atom} → EachTerm P n a → Known n 0 (placesOf a)
+  known p = (p .on-first, (p .on-second, (p .on-third, (p .on-fourth, tt))))
 
   mapped-before : (ar : List ℕ) (a b : Atom) → Fitting ar a → Fitting ar b → EachTerm P (getD ar (a .predicate) 0) a → EachTerm P (getD ar (b .predicate) 0) b
-      → before a b ≡ true → before (mapped ρ (getD ar (a .predicate) 0) a) (mapped ρ (getD ar (b .predicate) 0) b) ≡ true
-  unfolding before mapped
-  mapped-before ar a b fa fb pa pb e = go (either (ltb (a .predicate) (b .predicate)) _ e)
+      → atomBefore ar a b ≡ true → atomBefore ar (mapped ρ (getD ar (a .predicate) 0) a) (mapped ρ (getD ar (b .predicate) 0) b) ≡ true
+  unfolding atomBefore termsOf mapped
+  mapped-before ar a b fa fb pa pb e = go (cmp (a .predicate) (b .predicate))
     where
-      rest : Bool
-      rest = firstDiffers (a .first) (b .first) (firstDiffers (a .second) (b .second) (firstDiffers (a .third) (b .third) (ltb (a .fourth) (b .fourth))))
+      same : (n : ℕ) → PlacesFit n a → PlacesFit n b → EachTerm P n a → EachTerm P n b → placesBefore (take n (placesOf a)) (take n (placesOf b)) ≡ true
+          → placesBefore (take n (placesOf (mapped ρ n a))) (take n (placesOf (mapped ρ n b))) ≡ true
+      same n f g p q d =
+          rw (mapped-terms ρ n (a .first) (a .second) (a .third) (a .fourth), mapped-terms ρ n (b .first) (b .second) (b .third) (b .fourth))
+          (places-before n 0 n (omega arith) (placesOf a) (placesOf b) (places-fit f) (places-fit g) (known p) (known q) d)
 
-      go : Either (ltb (a .predicate) (b .predicate)) (eqb (a .predicate) (b .predicate) && rest)
-          → before (mapped ρ (getD ar (a .predicate) 0) a) (mapped ρ (getD ar (b .predicate) 0) b) ≡ true
-      go (one q) = or-one _ _ q
-      go (other q) =
-          let z = eqb-true _ _ (and-left _ _ q) in
-          let n : getD ar (b .predicate) 0 ≡ getD ar (a .predicate) 0 = ap (λ (p : ℕ). getD ar p 0) (sym z) in
-          let r = places-before (getD ar (a .predicate) 0) a b (fa .places-fit) (subst (λ (m : ℕ). PlacesFit m b) n (fb .places-fit)) pa
-          (subst (λ (m : ℕ). EachTerm P m b) n pb) (and-right (eqb (a .predicate) (b .predicate)) rest q) in
-          or-other (ltb (a .predicate) (b .predicate)) _ (rw (eq-eqb (a .predicate) (b .predicate) z, n) r)
+      go : Cmp (a .predicate) (b .predicate) → atomBefore ar (mapped ρ (getD ar (a .predicate) 0) a) (mapped ρ (getD ar (b .predicate) 0) b) ≡ true
+      go (below h) = rw (ne-eqb (a .predicate) (b .predicate) (omega arith)) (lt-ltb (a .predicate) (b .predicate) h)
+      go (equal h) =
+          let n : getD ar (b .predicate) 0 ≡ getD ar (a .predicate) 0 = ap (λ (p : ℕ). getD ar p 0) (sym h) in
+          rw (eq-eqb (a .predicate) (b .predicate) h, n)
+          (same (getD ar (a .predicate) 0) (fa .places-fit) (subst (λ (m : ℕ). PlacesFit m b) n (fb .places-fit)) pa (subst (λ (m : ℕ). EachTerm P m b) n pb)
+          (rw (eq-eqb (a .predicate) (b .predicate) h, n) at e))
+      go (above h) =
+          let d : ltb (a .predicate) (b .predicate) ≡ true = rw (ne-eqb (a .predicate) (b .predicate) (omega arith)) at e in
+          clash d (le-ltb (a .predicate) (b .predicate) (omega arith))
 
   -- an equality keeps its smaller term first
   mapped-order : (n : ℕ) (a : Atom) → (a .predicate ≡ 0 → n ≡ 2) → EachTerm P n a → inOrder a ≡ true → inOrder (mapped ρ n a) ≡ true
@@ -193,20 +188,18 @@ module _ (P : ℕ → Type 0) (ρ : ℕ → ℕ) (inc : Increasing P ρ) where
     unfolding moved renamed
     moved-renamed l e p = in-order-test ar (equality-arity ar good) _ (atom-fits ar _ (label-atom l e p))
 
-    before-labels : (l k : ℕ) → Fitting ar (unpacked l) → Fitting ar (unpacked k) → EachIn ar P l → EachIn ar P k → before (unpacked l) (unpacked k) ≡ true
-        → before (mapped ρ (getD ar (predicateOf l) 0) (unpacked l)) (mapped ρ (getD ar (predicateOf k) 0) (unpacked k)) ≡ true
+    labels-before : (l k : ℕ) → Fitting ar (unpacked l) → Fitting ar (unpacked k) → EachIn ar P l → EachIn ar P k → labelBefore ar l k ≡ true
+        → atomBefore ar (mapped ρ (getD ar (predicateOf l) 0) (unpacked l)) (mapped ρ (getD ar (predicateOf k) 0) (unpacked k)) ≡ true
     unfolding unpacked predicateOf
-    before-labels l k fl fk pl pk e = mapped-before ar (unpacked l) (unpacked k) fl fk pl pk e
+    labels-before l k fl fk pl pk e = mapped-before ar (unpacked l) (unpacked k) fl fk pl pk e
 
     -- labels keep their order
     pub renamed-less : (l k : ℕ) → isLabel ar l ≡ true → isLabel ar k ≡ true → EachIn ar P l → EachIn ar P k → l < k → renamed ar ρ l < renamed ar ρ k
-    unfolding renamed
     renamed-less l k el ek pl pk h =
-        let b : before (unpacked l) (unpacked k) ≡ true =
-        sym (before-packed (unpacked l) (unpacked k) (label-places ar l el) (label-places ar k ek)) ∙ packed-less l k h in
-        let al = label-atom l el pl in
-        let ak = label-atom k ek pk in
-        ltb-true _ _ (before-packed _ _ (atom-places ar _ al) (atom-places ar _ ak) ∙ before-labels l k (label-fits ar l el) (label-fits ar k ek) pl pk b)
+        let b : labelBefore ar l k ≡ true = order-numbers ar l k el ek ∙ lt-ltb l k h in
+        ltb-true _ _ (sym (order-numbers ar _ _ (renamed-label l el pl) (renamed-label k ek pk))
+        ∙ ap₂ (atomBefore ar) (renamed-atom l el pl) (renamed-atom k ek pk)
+        ∙ labels-before l k (label-fits ar l el) (label-fits ar k ek) pl pk b)
 
     -- the terms are those that ρ gives
     pub renamed-terms : (l : ℕ) → isLabel ar l ≡ true → EachIn ar P l → termsOf ar (unpacked (renamed ar ρ l)) ≡ map ρ (termsOf ar (unpacked l))

@@ -1,9 +1,8 @@
 -- Kinds of terms (document 01, section 'Terms, labels, listings').
-use mathlib.Core.Bool.{Bool, true, false, _&&_, _||_}
-use mathlib.Core.Path.{_≡_}
-use Prim.Native.Nat.{ℕ, _+_, _-_, _≤_, _<_}
+use mathlib.Core.Bool.{Bool, _&&_, _||_, cond}
+use Prim.Native.Nat.{ℕ, _+_}
 use lib.Dec.{ltb, leb}
-use Rattle.label.specs.Limits.{constantCount, firstParameter, parameterCount, firstVariable, variableCount, termBase}
+use Rattle.label.specs.Limits.{constantCount, firstParameter, parameterCount, firstVariable, variableCount}
 use Rattle.label.specs.declared.Kind.{Kind}
 use Rattle.label.specs.declared.Kind.the-variants.{Constant, Parameter, Variable, None}
 
@@ -19,13 +18,9 @@ isVariable t = leb firstVariable t && ltb t (firstVariable + variableCount)
 unfoldable pub isTerm : ℕ → Bool
 isTerm t = isConstant t || (isParameter t || isVariable t)
 
-abbrev pub pickKind : Bool → Kind → Kind → Kind
-pickKind true x y = x
-pickKind false x y = y
-
 -- the kind of the term with number t, or that no term has it
 unfoldable pub kindOf : ℕ → Kind
-kindOf t = pickKind (isConstant t) Constant (pickKind (isParameter t) Parameter (pickKind (isVariable t) Variable None))
+kindOf t = cond (isConstant t) Constant (cond (isParameter t) Parameter (cond (isVariable t) Variable None))
 
 -- constant, parameter and variable i
 abbrev pub constantTerm : ℕ → ℕ

@@ -1,11 +1,11 @@
 // Terms, atoms and labels: kinds, packing, order, and renaming.
 ghost use mathlib.Core.Path.{_≡_};
-ghost use Prim.Native.Nat.{ℕ, _+_, _*_, _<_, _≤_};
-ghost use lib.ListN.{length, getD};
-ghost use lib.Dec.{ltb};
+ghost use Prim.Native.Nat.{_+_, _*_, _<_, _≤_};
+ghost use lib.ListN.{length};
 ghost use Rattle.label.specs.Limits.{constantCount, parameterCount, variableCount, termBase, predicateCount};
 ghost use Rattle.label.specs.Terms.{isTerm, kindOf, constantTerm, parameterTerm, variableTerm};
-ghost use Rattle.label.specs.Labels.{areArities, packed, predicateOf, unpacked, placeFits, isLabel, isLabelUnder, before, equates, testOf};
+ghost use Rattle.label.specs.Labels.{areArities, packed, predicateOf, unpacked, placeFits, isLabel, isLabelUnder, equates, testOf};
+ghost use Rattle.label.specs.Order.{Compared};
 ghost use Rattle.label.specs.Renamings.{mapOf, placed, mapped, moved, renamed};
 ghost use Rattle.label.specs.Callers.{Packable, Mappable, Movable, Replaced};
 
@@ -184,13 +184,6 @@ impl Label {
         }
     }
 
-    // Whether this label comes before the other one.
-    pub fn before(self, other: Label) -> bool
-        ensures { λ r. ⌜ r ≡ before (unpacked (self .packed)) (unpacked (other .packed)) ⌝ }
-    {
-        self.packed < other.packed
-    }
-
     // Whether the number is a label under the arity list, which is known to be one.
     pub fn fits(self, arities: &[u64]) -> bool
         requires { ⌜ predicateCount ≤ length (now arities) ⌝ }
@@ -261,6 +254,13 @@ impl Label {
         let a = self.replaced(arities, map);
         a.pack()
     }
+}
+
+// Whether a row whose first word is w comes before one whose first word is v: a label by the order of labels, a leaf after every label.
+pub fn before(w: u64, v: u64) -> bool
+    ensures { λ r. ⌜ Compared w v r ⌝ }
+{
+    w < v
 }
 
 // What the equality of two terms asks.

@@ -10,6 +10,8 @@ use Rattle.basics.specs.Tests.{Cmp, cmp, below, equal, above}
 use Rattle.label.specs.Limits.{leafMark}
 use Rattle.label.specs.Labels.{isLabel}
 use Rattle.label.specs.LabelLaws.{label-below}
+use Rattle.label.specs.Order.{Compared}
+use Rattle.label.specs.OrderLaws.{compared-less, compared-not}
 use Rattle.table.specs.declared.Row.{Row}
 use Rattle.table.specs.declared.Found.{Found}
 use Rattle.table.specs.declared.Found.the-variants.{At, Nothing}
@@ -81,21 +83,28 @@ module _ {ar ws : List ℕ} {i : ℕ} where
     unfolding highAt lowAt
     bad-same h = deny (λ v. must-branch e v .differ h)
 
-    pub bad-above-high : getD ws (getD ws (i * 3 + 1) 0 * 3) 0 ≤ getD ws (i * 3) 0 → Decides false (ValidRow ar ws i)
+    pub bad-above-high : {b : Bool} → Compared (getD ws (i * 3) 0) (getD ws (getD ws (i * 3 + 1) 0 * 3) 0) b → not b ≡ true → Decides false (ValidRow ar ws i)
     unfolding labelAt highAt
-    bad-above-high h = deny (λ v. let r = must-branch e v .high-above in omega arith)
+    bad-above-high {b} q n = deny (λ v. let r = must-branch e v .high-above in omega (arith, compared-not (labelAt ws i) (labelAt ws (highAt ws i)) q (not-taken b n)))
 
-    pub bad-above-low : getD ws (getD ws (i * 3 + 2) 0 * 3) 0 ≤ getD ws (i * 3) 0 → Decides false (ValidRow ar ws i)
+    pub bad-above-low : {b : Bool} → Compared (getD ws (i * 3) 0) (getD ws (getD ws (i * 3 + 2) 0 * 3) 0) b → not b ≡ true → Decides false (ValidRow ar ws i)
     unfolding labelAt lowAt
-    bad-above-low h = deny (λ v. let r = must-branch e v .low-above in omega arith)
+    bad-above-low {b} q n = deny (λ v. let r = must-branch e v .low-above in omega (arith, compared-not (labelAt ws i) (labelAt ws (lowAt ws i)) q (not-taken b n)))
 
-    pub good-branch : {b : Bool} → b ≡ isLabel ar (getD ws (i * 3) 0) → not b ≡ false → getD ws (i * 3 + 1) 0 < i → getD ws (i * 3 + 2) 0 < i
+    pub good-branch : {b c d : Bool} → b ≡ isLabel ar (getD ws (i * 3) 0) → not b ≡ false → getD ws (i * 3 + 1) 0 < i → getD ws (i * 3 + 2) 0 < i
         → (getD ws (i * 3 + 1) 0 ≡ getD ws (i * 3 + 2) 0 → ⊥)
-        → getD ws (i * 3) 0 < getD ws (getD ws (i * 3 + 1) 0 * 3) 0 → getD ws (i * 3) 0 < getD ws (getD ws (i * 3 + 2) 0 * 3) 0
+        → Compared (getD ws (i * 3) 0) (getD ws (getD ws (i * 3 + 1) 0 * 3) 0) c → not c ≡ false
+        → Compared (getD ws (i * 3) 0) (getD ws (getD ws (i * 3 + 2) 0 * 3) 0) d → not d ≡ false
         → Decides true (ValidRow ar ws i)
     unfolding labelAt highAt lowAt
-    good-branch {b} p n q r s t u =
-        allow (a-branch (record { label = sym p ∙ not-left b n; high-before = q; low-before = r; high-above = t; low-above = u; differ = s }))
+    good-branch {b} {c} {d} p n q r s t m u k = allow (a-branch (record {
+      label = sym p ∙ not-left b n;
+      high-before = q;
+      low-before = r;
+      high-above = compared-less _ _ t (not-left c m);
+      low-above = compared-less _ _ u (not-left d k);
+      differ = s;
+    }))
 
 -- rows are equal as records where they are by their words
 module _ (ws : List ℕ) (i j : ℕ) where

@@ -45,10 +45,10 @@ fn is_valid_row(arities: &[u64], words: &[u64], i: usize) -> bool
     if t == f {
         return false;
     }
-    if words[t * 3] <= l {
+    if !label::before(l, words[t * 3]) {
         return false;
     }
-    if words[f * 3] <= l {
+    if !label::before(l, words[f * 3]) {
         return false;
     }
     true

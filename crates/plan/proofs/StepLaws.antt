@@ -1,6 +1,7 @@
 -- The ways through the functions of the walk, each in the words of what its callees ensure.
 use mathlib.Core.Path.{_≡_, refl, sym, ap, subst, _∙_}
 use mathlib.Core.Logic.{⊎-elim}
+use mathlib.Core.Bool.{Bool, true, false}
 use mathlib.Core.List.{List}
 use Prim.Native.Nat.{ℕ, zero, suc, _+_, _-_, _*_, _/_, _%_, _<_, _≤_, zero-le}
 use native.Mathlib.Omega.{arith}
@@ -8,6 +9,8 @@ use lib.ListN.{length, getD, set, length-set}
 use borrow.Author.Tests.{ne-eqb}
 use lib.Seq.{getD-set-same, getD-set-other}
 use Rattle.basics.specs.Tests.{Cmp, below, equal, above, cmp}
+use Rattle.label.specs.Order.{Compared}
+use Rattle.label.specs.OrderLaws.{compared-less, compared-not}
 use Rattle.table.specs.Chains.{prev}
 use Rattle.table.specs.ChainLaws.{test, prev-same, prev-other, prev-le, prev-gap, prev-hits, prev-none}
 use Rattle.diagram.specs.Words.{labelAt, highAt, lowAt}
@@ -158,24 +161,27 @@ module _ {ws heads : List ℕ} {limit count k label first second : ℕ} where
       (set heads b (count + 1))) (sym e) (add-to t f h d)
 
 -- the ways out of `lower`
-pub lower-le : {a b : ℕ} → a ≤ b → a ≡ lesser a b
-lower-le {a} {b} h = sym (lesser-le a b h)
+pub lower-second : {a b : ℕ} {r : Bool} → Compared b a r → r ≡ true → b ≡ lesser a b
+lower-second {a} {b} q e = sym (lesser-gt a b (compared-less b a q e))
 
-pub lower-gt : {a b : ℕ} → b < a → b ≡ lesser a b
-lower-gt {a} {b} h = sym (lesser-gt a b h)
+pub lower-first : {a b : ℕ} {r : Bool} → Compared b a r → r ≡ false → a ≡ lesser a b
+lower-first {a} {b} q e = sym (lesser-le a b (compared-not b a q e))
 
 -- the ways out of `successors`
 module _ (x y : List ℕ) (i j : ℕ) where
-  pub ways-first : getD x (i * 3) 0 < getD y (j * 3) 0 → ((getD x (i * 3 + 1) 0, j) ≡ onHigh x y (i, j)) × ((getD x (i * 3 + 2) 0, j) ≡ onLow x y (i, j))
+  pub ways-first : {r : Bool} → Compared (getD x (i * 3) 0) (getD y (j * 3) 0) r → r ≡ true
+      → ((getD x (i * 3 + 1) 0, j) ≡ onHigh x y (i, j)) × ((getD x (i * 3 + 2) 0, j) ≡ onLow x y (i, j))
   unfolding labelAt highAt lowAt
-  ways-first h = (sym (descend-first highAt x y (i, j) h), sym (descend-first lowAt x y (i, j) h))
+  ways-first q e = let h = compared-less (labelAt x i) (labelAt y j) q e in (sym (descend-first highAt x y (i, j) h), sym (descend-first lowAt x y (i, j) h))
 
-  pub ways-second : getD y (j * 3) 0 < getD x (i * 3) 0 → ((i, getD y (j * 3 + 1) 0) ≡ onHigh x y (i, j)) × ((i, getD y (j * 3 + 2) 0) ≡ onLow x y (i, j))
+  pub ways-second : {r : Bool} → Compared (getD y (j * 3) 0) (getD x (i * 3) 0) r → r ≡ true
+      → ((i, getD y (j * 3 + 1) 0) ≡ onHigh x y (i, j)) × ((i, getD y (j * 3 + 2) 0) ≡ onLow x y (i, j))
   unfolding labelAt highAt lowAt
-  ways-second h = (sym (descend-second highAt x y (i, j) h), sym (descend-second lowAt x y (i, j) h))
+  ways-second q e = let h = compared-less (labelAt y j) (labelAt x i) q e in (sym (descend-second highAt x y (i, j) h), sym (descend-second lowAt x y (i, j) h))
 
-  pub ways-both : getD y (j * 3) 0 ≤ getD x (i * 3) 0 → getD x (i * 3) 0 ≤ getD y (j * 3) 0
+  pub ways-both : {r s : Bool} → Compared (getD x (i * 3) 0) (getD y (j * 3) 0) r → r ≡ false → Compared (getD y (j * 3) 0) (getD x (i * 3) 0) s → s ≡ false
       → ((getD x (i * 3 + 1) 0, getD y (j * 3 + 1) 0) ≡ onHigh x y (i, j)) × ((getD x (i * 3 + 2) 0, getD y (j * 3 + 2) 0) ≡ onLow x y (i, j))
   unfolding labelAt highAt lowAt
-  ways-both h g = let e : labelAt x i ≡ labelAt y j = omega arith in
-      (sym (descend-both highAt x y (i, j) e), sym (descend-both lowAt x y (i, j) e))
+  ways-both q e q′ e′ =
+      let z : labelAt x i ≡ labelAt y j = omega (arith, compared-not (labelAt x i) (labelAt y j) q e, compared-not (labelAt y j) (labelAt x i) q′ e′) in
+      (sym (descend-both highAt x y (i, j) z), sym (descend-both lowAt x y (i, j) z))

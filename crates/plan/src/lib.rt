@@ -55,10 +55,10 @@ fn hash(k: u64) -> usize
 fn lower(a: u64, b: u64) -> u64
     ensures { λ r. ⌜ r ≡ lesser a b ⌝ }
 {
-    if a <= b {
-        return a;
+    if label::before(b, a) {
+        return b;
     }
-    b
+    a
 }
 
 // One more than the number of the entry with the key, or 0.
@@ -86,7 +86,7 @@ fn successors(x: &[u64], y: &[u64], i: usize, j: usize) -> Ways
 {
     let a = x[i * 3];
     let b = y[j * 3];
-    if a < b {
+    if label::before(a, b) {
         return Ways {
             hi: x[i * 3 + 1] as usize,
             hj: j,
@@ -94,7 +94,7 @@ fn successors(x: &[u64], y: &[u64], i: usize, j: usize) -> Ways
             lj: j,
         };
     }
-    if b < a {
+    if label::before(b, a) {
         return Ways {
             hi: i,
             hj: y[j * 3 + 1] as usize,

@@ -38,7 +38,6 @@ use Rattle.mdp.specs.Backup.{backup}
 use Rattle.mdp.specs.Runs.{Call, aBackup, aCut, Held as Value, leaves, cutOutcome, taken, call, runFrom, begin, run}
 use Rattle.mdp.specs.StepLaws.{cut-done, cut-refused, call-backup, call-cut, run-none, run-next, run-range}
 use Rattle.mdp.specs.RunLaws.{run-right}
-use Rattle.trim.specs.Calls.{Cuttable}
 use Rattle.model.specs.declared.Head.{Head}
 use Rattle.model.specs.Layout.{rewardWords, modelOf, Laid}
 use Rattle.steps.specs.declared.Step.the-variants.{Rows}

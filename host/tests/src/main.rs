@@ -21,6 +21,7 @@ mod limits;
 mod listings;
 mod meaning;
 mod models;
+mod order;
 mod program;
 mod random;
 #[cfg(feature = "library")]
@@ -85,6 +86,7 @@ fn self_tests(bound: &Bound) -> Result<(), String> {
         values_and_meanings(seed, Slips::NONE, &mut tally)?;
         meaning::check_combination(seed, &mut tally).map_err(|message| format!("seed {seed}, combination: {message}"))?;
         listings::check(seed, &mut tally).map_err(|message| format!("seed {seed}, listing: {message}"))?;
+        order::check(seed).map_err(|message| format!("seed {seed}, order of labels: {message}"))?;
         for answer in answers(&texts::text(seed), Slips::NONE) {
             if let Answer::Refused { refusal, .. } = answer {
                 tally.meet(refusal);
