@@ -2,6 +2,7 @@
 
 use crate::files::{read_code, read_specs, CodeFile, CodeType, Contract, Declaration, File, Kind, Use};
 use crate::names::{Pattern, Scope, Used, Walk};
+use crate::pages::listed;
 use crate::roots::{Root, Roots};
 use std::collections::{BTreeMap, BTreeSet};
 use std::path::Path;
@@ -18,6 +19,8 @@ pub enum Thing {
 pub struct Repository {
     pub specs: BTreeMap<(String, String), File>,
     pub code: BTreeMap<String, CodeFile>,
+    /// The names on the first page of a crate that has a table there.
+    pub pages: BTreeMap<String, Vec<(String, usize)>>,
     pub roots: Roots,
 }
 
@@ -78,6 +81,10 @@ impl Repository {
     /// Adds a file of a crate: of specs or of code, as its name says.
     pub fn add(&mut self, krate: &str, file: &str, text: &str) -> Result<(), String> {
         if let Some(name) = file.strip_suffix(".antt") {
+            let page = if name == "Lib" { listed(text) } else { Vec::new() };
+            if !page.is_empty() {
+                self.pages.insert(krate.to_string(), page);
+            }
             self.specs.insert((krate.to_string(), name.to_string()), read_specs(text)?);
         } else if file.ends_with(".rt") {
             let read = read_code(file, text)?;
@@ -92,6 +99,12 @@ impl Repository {
 
     pub fn declaration(&self, krate: &str, file: &str, name: &str) -> Option<&Declaration> {
         self.specs.get(&(krate.to_string(), file.to_string()))?.declarations.iter().find(|found| found.name == name)
+    }
+
+    /// Whether a crate declares this name.
+    pub fn has(&self, krate: &str, name: &str) -> bool {
+        let mut files = self.specs.iter().filter(|((of, _), _)| of == krate).map(|(_, file)| file);
+        files.any(|file| file.declarations.iter().any(|found| found.name == name)) || self.code_type(krate, name).is_some()
     }
 
     /// The declaration of a file that `name` is, or whose constructor it is.

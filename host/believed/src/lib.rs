@@ -4,6 +4,7 @@
 pub mod files;
 pub mod follow;
 pub mod names;
+pub mod pages;
 pub mod report;
 pub mod roots;
 pub mod tokens;

@@ -1,9 +1,11 @@
 //! believed: prints what has to be believed, file by file, with lines.
 //! believed --check: whether docs/BELIEVED.md and the table in docs/PROOFS.md say so, and no definition among them stands in a file of laws.
 //! believed --write: writes both anew.
+//! believed --pages: which of them are missing on the first page of their crate, where that has a table.
 //! believed --from NAME | CRATE FILE NAME | CRATE::FUNCTION: the same for one definition, theorem or public function alone.
 
 use believed::follow::{follow, Repository};
+use believed::pages::missing;
 use believed::report::{faults, listing, page, table, with_table};
 use believed::roots::{Root, Roots};
 
@@ -60,7 +62,8 @@ fn run() -> Result<bool, String> {
                 }
             }
         }
-        Some(word) => return Err(format!("{word} is not known: --check, --write, --from NAME")),
+        Some("--pages") => wrong.extend(missing(&repository, &reached)),
+        Some(word) => return Err(format!("{word} is not known: --check, --write, --pages, --from NAME")),
     }
     wrong.iter().for_each(|fault| eprintln!("{fault}"));
     Ok(wrong.is_empty())

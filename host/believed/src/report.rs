@@ -2,6 +2,7 @@
 
 use crate::files::Kind;
 use crate::follow::{follow, Reached, Repository, Thing};
+use crate::pages::stale;
 use crate::roots::Root;
 use std::collections::{BTreeMap, BTreeSet};
 use std::fmt::Write;
@@ -169,9 +170,9 @@ pub fn page(repository: &Repository, reached: &Reached) -> String {
     text
 }
 
-/// What is wrong apart from the page: definitions in files of laws that are not known to be, and those that are no more; plain declarations whose body was followed.
+/// What is wrong apart from the pages: names on first pages that are not there; definitions in files of laws that are not known to be, and those that are no more; plain declarations whose body was followed.
 pub fn faults(repository: &Repository, reached: &Reached) -> Vec<String> {
-    let mut found: Vec<String> = reached.faults.iter().cloned().collect();
+    let mut found: Vec<String> = reached.faults.iter().cloned().chain(stale(repository)).collect();
     let misplaced = misplaced(reached);
     for (krate, file, name) in &misplaced {
         if !repository.roots.to_move.contains(&(krate.clone(), file.clone(), name.clone())) {

@@ -2,6 +2,7 @@
 
 use believed::files::{read_specs, Kind};
 use believed::follow::{follow, Reached, Repository, Thing};
+use believed::pages::missing;
 use believed::report::{by_file, faults, total, with_table};
 use believed::roots::{Root, Roots};
 
@@ -232,4 +233,21 @@ fn the_table_has_its_place() {
     let page = "a\n<!-- written by host/believed -->\nold\n<!-- up to here -->\nb\n";
     assert_eq!(with_table(page, "new\n").unwrap(), page.replace("old", "new"));
     assert!(with_table("a\n", "new\n").is_err());
+}
+
+#[test]
+fn first_pages() {
+    let mut found = repository();
+    found.add("a", "Lib.antt", "-- A crate.\n--\n-- Definitions\n--   Tree, Answer == a tree\n--   sizes == its size\n--\n-- Theorems\n--   law: it is small; axiom: it is not\npub mod Base\n").unwrap();
+    let reached = follow(&found, &[Root::Theorem("a".into(), "Base".into(), "law".into())]);
+    assert_eq!(
+        faults(&found, &reached),
+        ["sizes", "axiom"]
+            .iter()
+            .zip([5, 8])
+            .map(|(name, line)| format!("crates/a/specs/Lib.antt: line {line}: there is no {name} in this crate"))
+            .collect::<Vec<_>>()
+    );
+    let names = ["extra", "size"].map(|name| format!("crates/a/specs/Lib.antt: {name} is not on the first page"));
+    assert_eq!(missing(&found, &reached), names);
 }
