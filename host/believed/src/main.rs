@@ -4,9 +4,10 @@
 //! believed --pages: which of them are missing on the first page of their crate, where that has a table.
 //! believed --from NAME | CRATE FILE NAME | CRATE::FUNCTION: the same for one definition, theorem or public function alone.
 
-use believed::follow::{follow, Repository};
+use believed::follow::follow;
 use believed::pages::missing;
 use believed::report::{faults, listing, page, table, with_table};
+use believed::repository::Repository;
 use believed::roots::{Root, Roots};
 
 /// The data file, from the repository's root.

@@ -12,14 +12,9 @@ pub enum Used {
     Record(Vec<String>, usize),
 }
 
-/// What a name in a pattern is.
-pub enum Pattern {
-    Constructor,
-    Variable,
-}
-
 pub trait Scope {
-    fn in_pattern(&self, name: &str) -> Pattern;
+    /// In a pattern every other name is a variable.
+    fn is_constructor(&self, name: &str) -> bool;
 }
 
 pub struct Walk<'a> {
@@ -120,10 +115,8 @@ impl<'a> Walk<'a> {
                     }
                 }
                 Node::Name(name, _) if RESERVED.contains(&name.as_str()) || is_numeral(name) => {}
-                Node::Name(name, line) => match self.scope.in_pattern(name) {
-                    Pattern::Constructor => self.used.push(Used::Name(vec![name.clone()], *line)),
-                    Pattern::Variable => self.bound.push(name.clone()),
-                },
+                Node::Name(name, line) if self.scope.is_constructor(name) => self.used.push(Used::Name(vec![name.clone()], *line)),
+                Node::Name(name, _) => self.bound.push(name.clone()),
                 Node::Path(path, line) => self.used.push(Used::Name(path.clone(), *line)),
                 Node::Group('{', inner, _) if inner.len() > 1 && is_name(&inner[1], "=") => self.pattern(&inner[2..]),
                 Node::Group(_, inner, _) => self.pattern(inner),

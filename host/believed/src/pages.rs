@@ -1,6 +1,7 @@
 //! First pages: a crate's `specs/Lib.antt` opens with a table of its definitions (`name, name == meaning`) and of its theorems (`name: statement`).
 
-use crate::follow::{Reached, Repository, Thing};
+use crate::follow::Reached;
+use crate::repository::{Repository, Thing};
 
 /// The names in the table, with their lines.
 pub fn listed(text: &str) -> Vec<(String, usize)> {

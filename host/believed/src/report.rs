@@ -1,9 +1,10 @@
 //! What is printed, and the page docs/BELIEVED.md.
 
-use crate::files::Kind;
-use crate::follow::{follow, Reached, Repository, Thing};
+use crate::follow::{follow, Reached};
 use crate::pages::stale;
+use crate::repository::{Repository, Thing};
 use crate::roots::Root;
+use crate::specs::Kind;
 use std::collections::{BTreeMap, BTreeSet};
 use std::fmt::Write;
 

@@ -1,10 +1,11 @@
 //! The reader on small pieces of specs and code.
 
-use believed::files::{read_specs, Kind};
-use believed::follow::{follow, Reached, Repository, Thing};
+use believed::follow::{follow, Reached};
 use believed::pages::missing;
 use believed::report::{by_file, faults, total, with_table};
+use believed::repository::{Repository, Thing};
 use believed::roots::{Root, Roots};
+use believed::specs::{read_specs, Kind};
 
 const DATA: &str = "libraries lib\nprelude Unit tt\nconstructors true false zero suc\nkit-fields entry exit\ncontract-words ⌜ ⌝ now\nstatement a Base decided\n";
 
