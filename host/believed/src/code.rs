@@ -1,7 +1,7 @@
 //! The types and the contracts of a file of code.
 
 use crate::specs::{read_use, Use};
-use crate::tokens::{tokens, tree, Node};
+use crate::tokens::{tokens, tree, Node, Token};
 use std::collections::BTreeSet;
 
 /// A struct or enum of code: its fields or variants, and the types that they hold.
@@ -26,7 +26,6 @@ pub struct Contract {
     /// Each clause, between its braces.
     pub clauses: Vec<Vec<Node>>,
     pub lines: BTreeSet<usize>,
-    pub first: usize,
 }
 
 #[derive(Clone, Debug, Default)]
@@ -128,30 +127,20 @@ fn read_contract(all: &[&str], i: usize) -> Result<Option<Contract>, String> {
             parameters.push(pair[0].clone());
         }
     }
+    let all_tokens: Vec<Token> = (split..end).flat_map(|j| tokens(all[j], j + 1)).collect();
     let mut clauses = Vec::new();
     let mut requires = false;
-    for (j, line) in all.iter().enumerate().take(end).skip(split) {
-        if !clause(line) {
-            return Err(format!("line {}: a clause over several lines is not read", j + 1));
-        }
-        requires |= line.trim_start().starts_with("requires");
-        let nodes = tree(&tokens(line, j + 1))?;
-        match nodes.as_slice() {
-            [_, Node::Group('{', inner, _)] => clauses.push(inner.clone()),
-            _ => return Err(format!("line {}: this clause is not read", j + 1)),
+    for pair in tree(&all_tokens)?.chunks(2) {
+        match pair {
+            [Node::Name(word, _), Node::Group('{', inner, _)] if word == "requires" || word == "ensures" => {
+                requires |= word == "requires";
+                clauses.push(inner.clone());
+            }
+            _ => return Err(format!("line {}: this contract is not read", i + 1)),
         }
     }
     let exported = i > 0 && all[i - 1].trim() == "#[no_mangle]";
-    Ok(Some(Contract {
-        name,
-        exported,
-        parameters,
-        types: type_names(&head[at + 2..]),
-        requires,
-        clauses,
-        lines: (i + 1..=end).collect(),
-        first: i + 1,
-    }))
+    Ok(Some(Contract { name, exported, parameters, types: type_names(&head[at + 2..]), requires, clauses, lines: (i + 1..=end).collect() }))
 }
 
 /// A file of code.

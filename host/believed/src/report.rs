@@ -65,11 +65,19 @@ fn libraries(reached: &Reached) -> BTreeMap<String, BTreeSet<String>> {
     found
 }
 
-pub fn title(root: &Root) -> String {
-    match root {
-        Root::Theorem(krate, file, name) => format!("`{name}` ({krate} {file})"),
-        Root::Function(krate, Some(name)) => format!("`{krate}::{name}`"),
-        Root::Function(krate, None) => format!("the functions that `{krate}` exports to C"),
+/// A root's name; of a contract also which functions ask something of their callers.
+fn title(repository: &Repository, root: &Root) -> String {
+    let (title, krate, name) = match root {
+        Root::Theorem(krate, file, name) => return format!("`{name}` ({krate} {file})"),
+        Root::Function(krate, Some(name)) => (format!("`{krate}::{name}`"), krate, Some(name.as_str())),
+        Root::Function(krate, None) => (format!("the functions that `{krate}` exports to C"), krate, None),
+    };
+    let asking: Vec<String> =
+        repository.contracts(krate, name).iter().filter(|found| found.requires).map(|found| format!("`{}`", found.name)).collect();
+    if asking.is_empty() {
+        title
+    } else {
+        format!("{title}; {} has a `requires`", asking.join(", "))
     }
 }
 
@@ -110,7 +118,7 @@ pub fn table(repository: &Repository) -> String {
     let _ = writeln!(text, "| Contract or theorem | What it says | Own lines | Definitions | Their lines |\n|---|---|---|---|---|");
     for (root, says) in &repository.roots.roots {
         let (names, lines) = total(&by_file(repository, &follow(repository, std::slice::from_ref(root))));
-        let _ = writeln!(text, "| {} | {says} | {} | {names} | {lines} |", title(root), repository.own_lines(root));
+        let _ = writeln!(text, "| {} | {says} | {} | {names} | {lines} |", title(repository, root), repository.own_lines(root));
     }
     text
 }

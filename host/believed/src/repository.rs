@@ -36,7 +36,7 @@ pub enum Module {
     Library(String),
 }
 
-pub fn named(uses: &[Use], name: &str) -> Option<(Vec<String>, String)> {
+pub fn named<'a>(uses: impl IntoIterator<Item = &'a Use>, name: &str) -> Option<(Vec<String>, String)> {
     for line in uses {
         for (item, alias) in line.items.iter().flatten() {
             if alias == name {
@@ -107,12 +107,16 @@ impl Repository {
         files.any(|file| file.declarations.iter().any(|found| found.name == name)) || self.code_type(krate, name).is_some()
     }
 
-    /// The declaration of a file that `name` is, or whose constructor it is.
+    /// The declaration of a file that `name` is, or whose constructor it is, or that the file hands on.
     pub fn item(&self, krate: &str, file: &str, name: &str) -> Option<Thing> {
-        let all = &self.specs.get(&(krate.to_string(), file.to_string()))?.declarations;
+        let File { uses, declarations: all } = self.specs.get(&(krate.to_string(), file.to_string()))?;
         let found = all.iter().find(|found| found.name == name);
         let owner = || all.iter().find(|found| found.kind == Kind::Data && found.members.iter().any(|member| member.name == name));
-        found.or_else(owner).map(|found| Thing::Spec(krate.to_string(), file.to_string(), found.name.clone()))
+        let here = found.or_else(owner).map(|found| Thing::Spec(krate.to_string(), file.to_string(), found.name.clone()));
+        here.or_else(|| {
+            let (path, item) = named(uses.iter().filter(|line| line.public), name)?;
+            self.in_module(&self.at(&path)?, &item)
+        })
     }
 
     /// The module below `module` that is named `name`.

@@ -41,6 +41,8 @@ pub struct Use {
     /// `{name as other, ..}`; a module's own line has none.
     pub items: Option<Vec<(String, String)>>,
     pub alias: Option<String>,
+    /// `pub use`: what it brings is handed on.
+    pub public: bool,
 }
 
 #[derive(Clone, Debug, Default)]
@@ -97,7 +99,7 @@ pub fn read_use(tokens: &[Token]) -> Result<Use, String> {
     let Some(open) = words.iter().position(|word| *word == "{") else {
         let at = words.iter().position(|word| *word == "as");
         let path = words[1..at.unwrap_or(words.len())].iter().map(|word| word.to_string()).collect();
-        return Ok(Use { path, items: None, alias: at.map(|at| words[at + 1].to_string()) });
+        return Ok(Use { path, items: None, alias: at.map(|at| words[at + 1].to_string()), public: false });
     };
     let path = words[1..open].iter().map(|word| word.to_string()).collect();
     let mut names = Vec::new();
@@ -109,7 +111,7 @@ pub fn read_use(tokens: &[Token]) -> Result<Use, String> {
             _ => return Err(format!("line {}: this use is not read", tokens[0].line)),
         }
     }
-    Ok(Use { path, items: Some(names), alias: None })
+    Ok(Use { path, items: Some(names), alias: None, public: false })
 }
 
 /// The names before a colon, and what is behind it.
@@ -131,9 +133,12 @@ fn members(lines: &[Line]) -> Result<Vec<Member>, String> {
     Ok(found)
 }
 
+#[derive(Clone, Default)]
 struct Section {
     parameters: Vec<Node>,
     lines: BTreeSet<usize>,
+    /// The marks of a `mutual` block are its members'.
+    open: bool,
 }
 
 fn read_block(block: &[Line], around: &Section, file: &mut File) -> Result<(), String> {
@@ -149,11 +154,17 @@ fn read_block(block: &[Line], around: &Section, file: &mut File) -> Result<(), S
         let header =
             item.iter().position(|line| line.tokens.last().is_some_and(|token| token.text == "where")).map_or(item.len(), |at| at + 1);
         match word {
-            "use" if marks == 0 => file.uses.push(read_use(rest)?),
-            "mod" | "infix" | "infixl" | "infixr" => {}
-            "use" | "axiom" | "mutual" | "open" | "ruleset" | "deriving" => return Err(format!("line {first}: {word} is not read here")),
+            "use" => file.uses.push(Use { public: marks > 0, ..read_use(rest)? }),
+            // What these bring is not found where it is used.
+            "mod" | "infix" | "infixl" | "infixr" | "open" | "ruleset" => {}
+            "axiom" => return Err(format!("line {first}: an axiom")),
+            "mutual" => {
+                let inner = Section { open: all[..marks].iter().any(|token| token.text != "pub"), ..around.clone() };
+                read_block(&item[1..], &inner, file)?;
+                open = false;
+            }
             "module" => {
-                let mut inner = Section { parameters: around.parameters.clone(), lines: around.lines.clone() };
+                let mut inner = around.clone();
                 let head = flat(&item[..header]);
                 inner.parameters.extend(tree(&head[2..head.len() - 1])?);
                 inner.lines.extend(numbers(&item[..header]));
@@ -191,7 +202,7 @@ fn read_block(block: &[Line], around: &Section, file: &mut File) -> Result<(), S
                 if rest.get(after).is_some_and(|token| token.text == ":") {
                     let mut lines = around.lines.clone();
                     lines.extend(numbers(item));
-                    let marked = all[..marks].iter().any(|token| token.text != "pub");
+                    let marked = around.open || all[..marks].iter().any(|token| token.text != "pub");
                     let mut parameters = around.parameters.clone();
                     parameters.extend(tree(&rest[1..after])?);
                     file.declarations.push(Declaration {
@@ -225,6 +236,6 @@ pub fn read_specs(text: &str) -> Result<File, String> {
         return Err("comments in {- -} are not read".to_string());
     }
     let mut file = File::default();
-    read_block(&lines(text), &Section { parameters: Vec::new(), lines: BTreeSet::new() }, &mut file)?;
+    read_block(&lines(text), &Section::default(), &mut file)?;
     Ok(file)
 }

@@ -64,7 +64,9 @@ pub enum Answer {
 #[no_mangle]
 pub extern \"C\" fn measure(words: &[u64], size: usize) -> Answer
     requires { ⌜ size ≡ extra ⌝ }
-    ensures { λ r. ⌜ now (words .exit) ≡ extra ⌝ }
+    ensures { λ r. ⌜
+        now (words .exit) ≡ extra
+    ⌝ }
 {
     Answer::Nothing
 }
@@ -145,6 +147,17 @@ fn files_in_folders() {
     let reached = follow(&found, &[Root::Theorem("a".into(), "Top".into(), "top".into())]);
     assert_eq!(names(&reached), ["a.Base/Inner.inner", "a.Top.top", "Prim.Unit", "Prim.tt"]);
     assert!(reached.faults.is_empty(), "{:?}", reached.faults);
+}
+
+#[test]
+fn names_handed_on_and_mutual_blocks() {
+    let mut found = repository();
+    found.add("a", "Front.antt", "pub use Rattle.a.specs.Base.{extra as more}\n").unwrap();
+    let text = "use Rattle.a.specs.Front.{more}\nuse lib.Nat.{ℕ}\nunfoldable mutual\n  pub top : ℕ\n  top = other\n\n  other : ℕ\n  other = more\n";
+    found.add("a", "Top.antt", text).unwrap();
+    let reached = follow(&found, &[Root::Theorem("a".into(), "Top".into(), "top".into())]);
+    assert_eq!(names(&reached), ["a.Base.extra", "a.Top.other", "a.Top.top", "lib.Nat.ℕ"]);
+    assert_eq!(faults(&found, &reached), Vec::<String>::new());
 }
 
 #[test]
