@@ -49,6 +49,7 @@ rust_example() {
 step cargo fmt --check
 step quiet cargo test --quiet --release --offline
 step quiet cargo build --quiet --release --offline
+step target/release/believed --check
 step target/release/tests self seconds "$seconds"
 step target/release/tests stored corpus
 step target/release/tests stored ../examples
