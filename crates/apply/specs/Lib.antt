@@ -9,6 +9,7 @@ pub mod Combination
 pub mod Snoc
 pub mod Walk
 pub mod ApplyLaws
+pub mod Course
 pub mod PairLaws
 pub mod VisitLaws
 pub mod OverflowLaws

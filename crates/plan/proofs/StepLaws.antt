@@ -1,18 +1,22 @@
 -- The ways through the functions of the walk, each in the words of what its callees ensure.
+use mathlib.Core.Bool.{Bool, true, false}
 use mathlib.Core.Path.{_≡_, refl, sym, ap, subst, _∙_}
 use mathlib.Core.Logic.{⊎-elim}
 use mathlib.Core.List.{List}
 use Prim.Native.Nat.{ℕ, zero, suc, _+_, _-_, _*_, _/_, _%_, _<_, _≤_, zero-le}
 use native.Mathlib.Omega.{arith}
 use lib.ListN.{length, getD, set, length-set}
-use borrow.Author.Tests.{ne-eqb}
+use lib.Dec.{eqb}
+use borrow.Author.Tests.{eq-eqb, ne-eqb}
 use lib.Seq.{getD-set-same, getD-set-other}
 use Rattle.basics.specs.Tests.{Cmp, below, equal, above, cmp}
+use Rattle.label.specs.Limits.{leafMark}
 use Rattle.table.specs.Chains.{prev}
 use Rattle.table.specs.ChainLaws.{test, prev-same, prev-other, prev-le, prev-gap, prev-hits, prev-none}
 use Rattle.diagram.specs.Words.{labelAt, highAt, lowAt}
-use Rattle.plan.specs.Walk.{lesser, onHigh, onLow}
-use Rattle.plan.specs.WalkLaws.{lesser-le, lesser-gt, descend-first, descend-second, descend-both}
+use Rattle.apply.specs.declared.Operation.{Operation}
+use Rattle.plan.specs.Walk.{isEnd, lesser, pairLabel, onHigh, onLow}
+use Rattle.plan.specs.WalkLaws.{lesser-le, lesser-gt, end-label, lower-label, descend-first, descend-second, descend-both}
 use Rattle.plan.specs.Plan.{buckets, keyCount, hashOf, keyAt, linkAt, hashAt, putEntry, Index, Clean, Touched, packBase, wentOf, Entered}
 use Rattle.plan.specs.declared.Went.{Went}
 use Rattle.plan.specs.declared.Went.the-variants.{To, Full}
@@ -163,6 +167,23 @@ lower-le {a} {b} h = sym (lesser-le a b h)
 
 pub lower-gt : {a b : ℕ} → b < a → b ≡ lesser a b
 lower-gt {a} {b} h = sym (lesser-gt a b h)
+
+-- the ways out of `ends` and `pair_label`
+module _ (op : Operation) (x y : List ℕ) (i j : ℕ) where
+  pub ends-not : (getD x (i * 3) 0 ≡ leafMark → ⊥) → false ≡ isEnd op x y (i, j)
+  unfolding isEnd labelAt
+  ends-not f = rw (ne-eqb (getD x (i * 3) 0) leafMark f)
+
+  pub ends-second : getD x (i * 3) 0 ≡ leafMark → eqb (getD y (j * 3) 0) leafMark ≡ isEnd op x y (i, j)
+  unfolding isEnd labelAt
+  ends-second e = rw (eq-eqb (getD x (i * 3) 0) leafMark e)
+
+  pub label-end : {b : Bool} → b ≡ isEnd op x y (i, j) → b ≡ true → leafMark ≡ pairLabel op x y (i, j)
+  label-end e t = sym (end-label op x y (i, j) (sym e ∙ t))
+
+  pub label-lower : {b : Bool} {l : ℕ} → b ≡ isEnd op x y (i, j) → b ≡ false → l ≡ lesser (getD x (i * 3) 0) (getD y (j * 3) 0) → l ≡ pairLabel op x y (i, j)
+  unfolding labelAt
+  label-lower e t l = l ∙ sym (lower-label op x y (i, j) (sym e ∙ t))
 
 -- the ways out of `successors`
 module _ (x y : List ℕ) (i j : ℕ) where
