@@ -29,10 +29,10 @@ use Rattle.apply.specs.declared.Combined.the-variants.{Done as CombinedDone, Re
 use Rattle.apply.specs.Combination.{pickCombined, written}
 use Rattle.apart.specs.Results.{Writable, resultAnswer, ResultWritten}
 use Rattle.apart.proofs.ResultLaws.{unmarked-made}
-use Rattle.regress.specs.declared.Stepped.{Stepped}
-use Rattle.regress.specs.declared.Stepped.the-variants.{Row, Refused as StepRefused}
-use Rattle.regress.specs.Calls.{Outcome, ok, refused, andThen}
-use Rattle.regress.specs.Running.{Valued, Ready, Gave, Ran, countThen}
+use Rattle.row_steps.specs.declared.Stepped.{Stepped}
+use Rattle.row_steps.specs.declared.Stepped.the-variants.{Row, Refused as StepRefused}
+use Rattle.refusal.specs.Outcome.{Outcome, ok, refused, andThen}
+use Rattle.row_steps.specs.Running.{Valued, Ready, Gave, Ran, countThen}
 use Rattle.build.specs.declared.Built.{Built}
 use Rattle.build.specs.declared.Built.the-variants.{Done, Refused}
 use Rattle.build.specs.Build.{held}

@@ -11,9 +11,10 @@ use Rattle.diagram.specs.Diagram.{Diagram}
 use Rattle.diagram.specs.Validity.{tree}
 use Rattle.plan.specs.Plan.{Clean}
 use Rattle.store.specs.Space.{diagramsOf}
-use Rattle.regress.specs.declared.Stepped.the-variants.{Row, Refused as StepRefused}
-use Rattle.regress.specs.Calls.{Outcome, ok, refused, andThen, Run}
-use Rattle.regress.specs.Running.{Space, Ready, Gave, Ran}
+use Rattle.row_steps.specs.declared.Stepped.the-variants.{Row, Refused as StepRefused}
+use Rattle.refusal.specs.Outcome.{Outcome, ok, refused, andThen}
+use Rattle.regression.specs.Calls.{Run}
+use Rattle.row_steps.specs.Running.{Space, Ready, Gave, Ran}
 use Rattle.build.specs.declared.Moved.{Moved}
 use Rattle.build.specs.declared.Moved.the-variants.{To, Refused}
 use Rattle.build.specs.Machine.{Machine, mostTests, operation, operations, ending, build}

@@ -23,13 +23,13 @@ use Rattle.apply.specs.Formed.{add}
 use Rattle.store.specs.declared.Formed.{Formed}
 use Rattle.store.specs.declared.Formed.the-variants.{Row as FormedRow, Full}
 use Rattle.store.specs.Space.{diagramsOf, Formation}
-use Rattle.regress.proofs.RunLaws.{formed-ran, full-ran}
-use Rattle.regress.proofs.StepRunLaws.{leaf-onto, row-known, full-known}
-use Rattle.regress.specs.declared.Stepped.{Stepped}
-use Rattle.regress.specs.declared.Stepped.the-variants.{Row, Refused as StepRefused}
-use Rattle.regress.specs.Calls.{ok, refused, Run, form}
-use Rattle.regress.specs.Step.{testDiagram, rowStep}
-use Rattle.regress.specs.Running.{Space, Ready, Two, Testable, Gave, Ran, countThen}
+use Rattle.row_steps.specs.RunLaws.{formed-ran, full-ran, leaf-onto, row-known, full-known}
+use Rattle.row_steps.specs.declared.Stepped.{Stepped}
+use Rattle.row_steps.specs.declared.Stepped.the-variants.{Row, Refused as StepRefused}
+use Rattle.refusal.specs.Outcome.{ok, refused}
+use Rattle.regression.specs.Calls.{Run, form}
+use Rattle.regression.specs.Step.{testDiagram, rowStep}
+use Rattle.row_steps.specs.Running.{Space, Ready, Two, Testable, Gave, Ran, countThen}
 use Rattle.build.specs.declared.Moved.{Moved}
 use Rattle.build.specs.declared.Moved.the-variants.{To, Refused}
 use Rattle.build.specs.Machine.{Machine, mostTests, mostResults, given, closing, operation}

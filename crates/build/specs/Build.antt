@@ -11,9 +11,10 @@ use Rattle.diagram.specs.Sizes.{mostRows}
 use Rattle.diagram.specs.Diagram.{Diagram, leaf}
 use Rattle.diagram.specs.Rows.{rows}
 use Rattle.diagram.specs.Variables.{closed}
-use Rattle.regress.specs.Calls.{Outcome, ok, refused, andThen, pickOutcome, Run, bind, form}
-use Rattle.regress.specs.Result.{asked}
-use Rattle.regress.specs.Step.{testDiagram, rowStep}
+use Rattle.refusal.specs.Outcome.{Outcome, ok, refused, andThen}
+use Rattle.regression.specs.Calls.{Run, bind, form}
+use Rattle.regression.specs.Result.{asked}
+use Rattle.regression.specs.Step.{testDiagram, rowStep}
 use Rattle.reading.specs.Tree.{Reading}
 use Rattle.reading.specs.Tree.Reading.{branch, number}
 
@@ -30,7 +31,7 @@ readDiagram (branch t h f) = bind (readDiagram h) (λ x. bind (readDiagram f) (�
 
 -- the whole diagram of a line is one call, its working space empty at first; the line's result is held to 1,024 rows (9)
 abbrev pub held : Diagram → Outcome Diagram
-held d = pickOutcome (ltb mostRows (length (rows d))) (refused Space) (ok d)
+held d = cond (ltb mostRows (length (rows d))) (refused Space) (ok d)
 
 unfoldable pub textDiagram : Reading → Outcome Diagram
 unfolding readDiagram

@@ -1,6 +1,6 @@
 -- The operations that a diagram's words are turned into, in the order of the words, and a machine with two stacks that runs them (document 01, section
 -- 'Text': 'read as the row step above when it closes'). It builds what `readDiagram` reads (`build-reading`).
-use mathlib.Core.Bool.{true, false}
+use mathlib.Core.Bool.{true, false, cond}
 use mathlib.Core.List.{List, [], _∷_, _++_}
 use Prim.Native.Nat.{ℕ, zero, suc, _+_, _*_}
 use lib.ListN.{length, getD}
@@ -10,8 +10,9 @@ use Rattle.label.specs.declared.Test.{Test}
 use Rattle.label.specs.declared.Test.the-variants.{Always, Is}
 use Rattle.diagram.specs.Diagram.{Diagram, leaf}
 use Rattle.diagram.specs.Variables.{closed}
-use Rattle.regress.specs.Calls.{Outcome, ok, refused, andThen, pickOutcome, Run, form}
-use Rattle.regress.specs.Step.{testDiagram, rowStep}
+use Rattle.refusal.specs.Outcome.{Outcome, ok, refused, andThen}
+use Rattle.regression.specs.Calls.{Run, form}
+use Rattle.regression.specs.Step.{testDiagram, rowStep}
 use Rattle.build.specs.Build.{held}
 use Rattle.reading.specs.Operations.{Op}
 use Rattle.reading.specs.Operations.Op.{ask, leafOp, step}
@@ -45,9 +46,9 @@ closing (t ∷ ts) (y ∷ x ∷ ds) rs = given ts ds (rowStep (testDiagram t) x 
 -- one operation; 1 for operations that write no diagram, or one with too many brackets open
 unfoldable pub operation : Op → Machine → Outcome Machine
 unfolding form closing
-operation (leafOp v) m = pickOutcome (ltb (length (m .results)) mostResults) (given (m .tests) (m .results) (form (leaf v) (m .formed))) (refused Form)
+operation (leafOp v) m = cond (ltb (length (m .results)) mostResults) (given (m .tests) (m .results) (form (leaf v) (m .formed))) (refused Form)
 operation (ask t) m =
-    pickOutcome (ltb (length (m .tests)) mostTests) (ok (record { tests = t ∷ m .tests; results = m .results; formed = m .formed })) (refused Form)
+    cond (ltb (length (m .tests)) mostTests) (ok (record { tests = t ∷ m .tests; results = m .results; formed = m .formed })) (refused Form)
 operation step m = closing (m .tests) (m .results) (m .formed)
 
 unfoldable pub operations : List Op → Machine → Outcome Machine

@@ -8,8 +8,9 @@ use borrow.Author.Tests.{lt-ltb}
 use Rattle.label.specs.declared.Test.{Test}
 use Rattle.diagram.specs.Diagram.{Diagram, leaf}
 use Rattle.diagram.specs.Variables.{closed}
-use Rattle.regress.specs.Calls.{Outcome, ok, refused, andThen, form}
-use Rattle.regress.specs.Step.{testDiagram, rowStep}
+use Rattle.refusal.specs.Outcome.{Outcome, ok, refused, andThen}
+use Rattle.regression.specs.Calls.{form}
+use Rattle.regression.specs.Step.{testDiagram, rowStep}
 use Rattle.build.specs.Build.{readDiagram, held, textDiagram, rewardDiagram}
 use Rattle.build.specs.Machine.{mostTests, mostResults, Machine, given, closing, operation, operations, ending, build, built, builtClosed}
 use Rattle.reading.specs.Operations.{Op}

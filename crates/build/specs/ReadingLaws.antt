@@ -19,11 +19,12 @@ use Rattle.apply.specs.GoodLaws.{EveryLabel}
 use Rattle.rename.specs.ClosingLaws.{closed-good}
 use Rattle.apart.specs.Results.{Regular}
 use Rattle.apart.proofs.ResultLaws.{closed-count}
-use Rattle.regress.specs.Calls.{ok, refused, pickOutcome}
-use Rattle.regress.specs.CallLaws.{Accepted, accepted-ok, accepted-refused, accepted-then, Gives, gives-bind, gives-mono, form-gives}
-use Rattle.regress.specs.Step.{testDiagram}
-use Rattle.regress.specs.StepLaws.{most-eval, eval-test, ordered-test, step-gives, eval-stepped, from-stepped, reduced-stepped, every-stepped}
-use Rattle.regress.specs.Result.{AtMost, asked, stepped}
+use Rattle.refusal.specs.Outcome.{ok, refused, Accepted}
+use Rattle.refusal.specs.OutcomeLaws.{accepted-ok, accepted-refused, accepted-then}
+use Rattle.regression.specs.CallLaws.{Gives, gives-bind, gives-mono, form-gives}
+use Rattle.regression.specs.Step.{testDiagram}
+use Rattle.regression.specs.StepLaws.{most-eval, eval-test, ordered-test, step-gives, eval-stepped, from-stepped, reduced-stepped, every-stepped}
+use Rattle.regression.specs.Result.{AtMost, asked, stepped}
 use Rattle.build.specs.Build.{meaning, readDiagram, held, textDiagram, rewardDiagram}
 use Rattle.build.specs.RegularLaws.{fine-made}
 use Rattle.reading.specs.Tree.{Reading}
@@ -99,7 +100,7 @@ pub record Held (d x : Diagram) : Type 0 where
 held-is : (d : Diagram) → Accepted (Held d) (held d)
 held-is d = go (ltb mostRows (length (rows d))) refl
   where
-    go : (b : Bool) → ltb mostRows (length (rows d)) ≡ b → Accepted (Held d) (pickOutcome b (refused Space) (ok d))
+    go : (b : Bool) → ltb mostRows (length (rows d)) ≡ b → Accepted (Held d) (cond b (refused Space) (ok d))
     go true e = accepted-refused
     go false e = accepted-ok (record { is = refl; few = ltb-false mostRows (length (rows d)) e })
 

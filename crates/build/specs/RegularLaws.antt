@@ -15,11 +15,13 @@ use Rattle.diagram.specs.Diagram.{Diagram, leaf, branch, eval, Ordered, Reduced
 use Rattle.diagram.specs.Listing.{Fine}
 use Rattle.apply.specs.GoodLaws.{EveryLabel}
 use Rattle.apart.specs.Results.{Regular}
-use Rattle.regress.specs.Calls.{Outcome, ok, refused, pickOutcome, form}
-use Rattle.regress.specs.CallLaws.{Accepted, accepted-ok, accepted-refused, accepted-then, form-gives}
-use Rattle.regress.specs.Step.{testDiagram, rowStep}
-use Rattle.regress.specs.StepLaws.{eval-most, most-eval, eval-test, ordered-test, step-gives, eval-stepped, from-stepped, reduced-stepped, every-stepped}
-use Rattle.regress.specs.Result.{AtMost, asked, stepped}
+use Rattle.refusal.specs.Outcome.{Outcome, ok, refused, Accepted}
+use Rattle.regression.specs.Calls.{form}
+use Rattle.refusal.specs.OutcomeLaws.{accepted-ok, accepted-refused, accepted-then}
+use Rattle.regression.specs.CallLaws.{form-gives}
+use Rattle.regression.specs.Step.{testDiagram, rowStep}
+use Rattle.regression.specs.StepLaws.{eval-most, most-eval, eval-test, ordered-test, step-gives, eval-stepped, from-stepped, reduced-stepped, every-stepped}
+use Rattle.regression.specs.Result.{AtMost, asked, stepped}
 use Rattle.build.specs.Machine.{Machine, given, closing, operation, operations, lone, build, mostTests, mostResults}
 use Rattle.build.specs.Stacks.{Ops, opsFrom, wholeOps}
 use Rattle.build.specs.Writing.{Under}
@@ -84,7 +86,7 @@ given-sound : (ar : List ℕ) (ts : List Test) (ds : List Diagram) (o : Outcome 
 given-sound ar ts ds (ok p) h g a = accepted-ok (record { tests-under = h; results-plain = (a .given p refl, g) })
 given-sound ar ts ds (refused w) h g a = accepted-refused
 
-pick-sound : (ar : List ℕ) (b : Bool) (w : Refusal) (o : Outcome Machine) → Accepted (Sound ar) o → Accepted (Sound ar) (pickOutcome b o (refused w))
+pick-sound : (ar : List ℕ) (b : Bool) (w : Refusal) (o : Outcome Machine) → Accepted (Sound ar) o → Accepted (Sound ar) (cond b o (refused w))
 pick-sound ar true w o a = a
 pick-sound ar false w o a = accepted-refused
 

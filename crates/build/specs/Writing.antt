@@ -11,8 +11,8 @@ use Rattle.diagram.specs.Diagram.{Diagram}
 use Rattle.diagram.specs.Rows.{rows}
 use Rattle.diagram.specs.RowLists.{Written}
 use Rattle.store.specs.Space.{diagramsOf}
-use Rattle.regress.specs.Calls.{Outcome, ok, refused}
-use Rattle.regress.specs.RegressCall.{writtenAs}
+use Rattle.refusal.specs.Outcome.{Outcome, ok, refused}
+use Rattle.regression.specs.RegressCall.{writtenAs}
 use Rattle.build.specs.declared.Built.{Built}
 use Rattle.build.specs.declared.Built.the-variants.{Done, Refused}
 use Rattle.build.specs.Stacks.{Ops}

@@ -3,13 +3,13 @@ use apply::Combined;
 use label::Label;
 use label::Test;
 use refusal::Refusal;
-use regress::Stepped;
+use row_steps::Stepped;
 use store::Formed;
 use write::Listed;
 ghost use mathlib.Core.Path.{_≡_};
 ghost use Prim.Native.Nat.{_+_, _*_, _≤_};
 ghost use lib.ListN.{length};
-ghost use Rattle.regress.specs.Running.{Ready, Ran};
+ghost use Rattle.row_steps.specs.Running.{Ready, Ran};
 ghost use Rattle.diagram.specs.Validity.{tree};
 ghost use Rattle.diagram.specs.Variables.{closed};
 ghost use Rattle.apart.specs.Results.{Writable};
@@ -85,7 +85,7 @@ fn close(
     let at = TESTS + (results - 2);
     let high = stack[at] as usize;
     let low = stack[at + 1] as usize;
-    let r = regress::test_step(plan, index, space, heads, links, count, test, high, low);
+    let r = row_steps::test_step(plan, index, space, heads, links, count, test, high, low);
     match r {
         Stepped::Row(i, n) => {
             stack[at] = i as u64;

@@ -12,11 +12,11 @@ use Rattle.apply.specs.declared.Names.{Names}
 use Rattle.apply.specs.declared.Combined.{Combined}
 use Rattle.apply.specs.declared.Combined.the-variants.{Done as CombinedDone, Refused as CombinedRefused}
 use Rattle.apply.specs.Combination.{combineAnswer, combineResult}
-use Rattle.regress.specs.declared.Regressed.{Regressed}
-use Rattle.regress.specs.declared.Regressed.the-variants.{Done as RegressedDone, Refused as RegressedRefused}
-use Rattle.regress.specs.declared.Freed.{Freed}
-use Rattle.regress.specs.declared.Freed.the-variants.{Done as FreedDone, Refused as FreedRefused}
-use Rattle.regress.specs.RegressCall.{regressAnswer, regressResult, freeAnswer, freeResult}
+use Rattle.regression.specs.declared.Regressed.{Regressed}
+use Rattle.regression.specs.declared.Regressed.the-variants.{Done as RegressedDone, Refused as RegressedRefused}
+use Rattle.regression.specs.declared.Freed.{Freed}
+use Rattle.regression.specs.declared.Freed.the-variants.{Done as FreedDone, Refused as FreedRefused}
+use Rattle.regression.specs.RegressCall.{regressAnswer, regressResult, freeAnswer, freeResult}
 use Rattle.cut.specs.declared.Edge.{Edge}
 use Rattle.cut.specs.declared.Cut.{Cut}
 use Rattle.cut.specs.declared.Cut.the-variants.{Done as CutDone, Refused as CutRefused}

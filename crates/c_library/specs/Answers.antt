@@ -6,10 +6,10 @@ use Rattle.refusal.specs.Numbers.{numberOf}
 use Rattle.refusal.specs.declared.Refusal.the-variants.{Listing, Buffer}
 use Rattle.apply.specs.declared.Combined.{Combined}
 use Rattle.apply.specs.declared.Combined.the-variants.{Done as CombinedDone, Refused as CombinedRefused}
-use Rattle.regress.specs.declared.Regressed.{Regressed}
-use Rattle.regress.specs.declared.Regressed.the-variants.{Done as RegressedDone, Refused as RegressedRefused}
-use Rattle.regress.specs.declared.Freed.{Freed}
-use Rattle.regress.specs.declared.Freed.the-variants.{Done as FreedDone, Refused as FreedRefused}
+use Rattle.regression.specs.declared.Regressed.{Regressed}
+use Rattle.regression.specs.declared.Regressed.the-variants.{Done as RegressedDone, Refused as RegressedRefused}
+use Rattle.regression.specs.declared.Freed.{Freed}
+use Rattle.regression.specs.declared.Freed.the-variants.{Done as FreedDone, Refused as FreedRefused}
 use Rattle.cut.specs.declared.Edge.{Edge}
 use Rattle.cut.specs.declared.Edge.the-variants.{True, False}
 use Rattle.cut.specs.declared.Cut.{Cut}

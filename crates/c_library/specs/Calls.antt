@@ -6,7 +6,7 @@ use lib.ListN.{length}
 use Rattle.apply.specs.declared.Operation.{Operation}
 use Rattle.apply.specs.declared.Names.{Names}
 use Rattle.apply.specs.Combination.{combineAnswer, combineResult}
-use Rattle.regress.specs.RegressCall.{regressAnswer, regressResult, freeAnswer, freeResult}
+use Rattle.regression.specs.RegressCall.{regressAnswer, regressResult, freeAnswer, freeResult}
 use Rattle.cut.specs.Cut.{cutAnswer, cutBuffer}
 use Rattle.state.specs.ValueCall.{valueAnswer}
 use Rattle.texts.specs.Running.{filled, inFront}

@@ -7,8 +7,8 @@ use cut::Cut;
 use cut::Edge;
 use label::Label;
 use refusal::Refusal;
-use regress::Freed;
-use regress::Regressed;
+use regression::Freed;
+use regression::Regressed;
 use state::Valued;
 use texts::Ran;
 ghost use mathlib.Core.Path.{_≡_};
@@ -247,7 +247,7 @@ pub extern "C" fn yindolve_free(
 ) -> u64
     ensures { λ r. ⌜ Frees (now (arities .entry)) (now (words .entry)) count (now (result .entry)) (now (work .entry)) (now (rows .entry)) r (now (result .exit)) (now (rows .exit)) ⌝ }
 {
-    let answer = regress::free(arities, words, count, result, work);
+    let answer = freeing::free(arities, words, count, result, work);
     match answer {
         Freed::Done(n) => {
             *rows = n as u64;

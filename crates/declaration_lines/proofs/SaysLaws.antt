@@ -14,7 +14,7 @@ use Rattle.words.specs.declared.Key.{Key}
 use Rattle.names.specs.Keys.{isAmong}
 use Rattle.names.specs.Layout.{actionsAt, parametersAt}
 use Rattle.names.specs.KeyLaws.{length-keys}
-use Rattle.regress.specs.Calls.{Outcome, ok}
+use Rattle.refusal.specs.Outcome.{Outcome, ok}
 use Rattle.mdp.specs.Model.{mostActions}
 use Rattle.text.specs.declared.Kind.the-variants.{Constant, Predicate, Total, Discount, Action}
 use Rattle.events.specs.declared.Next.{Next}

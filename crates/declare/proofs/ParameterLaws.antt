@@ -19,7 +19,7 @@ use Rattle.events.specs.Front.{isEnd, nextAt, eventsOf}
 use Rattle.events.specs.FrontLaws.{next-end, next-more, next-moves, events-short}
 use Rattle.events.specs.Contents.{keyIn, keysIn}
 use Rattle.refusal.specs.declared.Refusal.the-variants.{Name, Space}
-use Rattle.regress.specs.Calls.{ok}
+use Rattle.refusal.specs.Outcome.{ok}
 use Rattle.mdp.specs.Model.{mostActions}
 use Rattle.session.specs.Declaring.{repeated, actionLine}
 use Rattle.declare.specs.declared.Counts.{Counts}

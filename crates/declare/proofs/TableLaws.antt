@@ -16,7 +16,7 @@ use Rattle.words.specs.declared.Key.{Key}
 use Rattle.names.specs.Keys.{keysAt, placeOf, putKey}
 use Rattle.names.specs.Layout.{constantsAt, declaredAt, actionsAt, parametersAt, variantsAt}
 use Rattle.names.specs.KeyLaws.{among-at, among-none, length-keys, keys-same, length-put, put-before, put-behind, keys-more}
-use Rattle.regress.specs.Calls.{ok}
+use Rattle.refusal.specs.Outcome.{ok}
 use Rattle.mdp.specs.Model.{mostTotal, mostDenominator}
 use Rattle.session.specs.Session.{Names}
 use Rattle.session.specs.Declaring.{isDeclared, constantLine, Vocabulary, predicateLine, isTotal, isDiscount}

@@ -10,7 +10,7 @@ use Rattle.words.specs.declared.Key.{Key}
 use Rattle.names.specs.Keys.{keysAt}
 use Rattle.names.specs.KeyLaws.{Same}
 use Rattle.names.specs.Layout.{constantsAt, declaredAt, actionsAt, parametersAt, variantsAt, nameWords}
-use Rattle.regress.specs.Calls.{Outcome, ok, refused}
+use Rattle.refusal.specs.Outcome.{Outcome, ok, refused}
 use Rattle.mdp.specs.Model.{mostActions, mostVariants}
 use Rattle.session.specs.Session.{Names}
 use Rattle.session.specs.Declaring.{Vocabulary, repeated}

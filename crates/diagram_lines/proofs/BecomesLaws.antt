@@ -1,6 +1,6 @@
 -- Laws of (becomes (p ?a ..) DIAGRAM): the session behind it.
 use mathlib.Core.Path.{_≡_, refl, sym, ap, subst, _∙_}
-use mathlib.Core.Bool.{Bool, true, false}
+use mathlib.Core.Bool.{Bool, true, false, cond}
 use mathlib.Core.List.{List}
 use Prim.Native.Nat.{ℕ, _+_, _*_, _/_, _≤_, _<_}
 use native.Mathlib.Omega.{arith}
@@ -11,9 +11,9 @@ use Rattle.refusal.specs.declared.Refusal.the-variants.{Name, Truth, Space}
 use Rattle.label.specs.Limits.{predicateCount}
 use Rattle.diagram.specs.Diagram.{Diagram}
 use Rattle.diagram.specs.Rows.{rows}
-use Rattle.regress.specs.Calls.{Outcome, ok, refused, andThen, pickOutcome}
-use Rattle.regress.specs.Regression.{Truths}
-use Rattle.regress.specs.RegressCall.{leafAbove}
+use Rattle.refusal.specs.Outcome.{Outcome, ok, refused, andThen}
+use Rattle.regression.specs.Regression.{Truths}
+use Rattle.regression.specs.RegressCall.{leafAbove}
 use Rattle.text.specs.declared.Kind.the-variants.{Becomes}
 use Rattle.events.specs.declared.Event.{Event}
 use Rattle.reading.specs.declared.Binding.the-variants.{Only}
@@ -31,7 +31,7 @@ use Rattle.session.specs.Modelling.{mostModelRows, rowsWith, outcomeOf, namesFo
 use Rattle.session.specs.Replies.{done, quietly, wordsOf}
 use Rattle.declare.specs.Tables.{namesOf, GoodVocabulary}
 use Rattle.facts.specs.Words.{liveOf}
-use Rattle.planner.specs.PartLaws.{then-then, then-same}
+use Rattle.steps.specs.GivenLaws.{then-then, then-same}
 use Rattle.planner.specs.Run.{heldIn}
 use Rattle.model.specs.declared.Head.{Head as ModelHead}
 use Rattle.model.specs.Layout.{modelOf}
@@ -51,23 +51,23 @@ told p d = ok (p, d)
 
 -- 7, then 9
 checked : (p r : ℕ) (o : Outcome Diagram)
-    → andThen o (λ d. pickOutcome (leafAbove 1 d) (refused Truth) (pickOutcome (ltb mostModelRows (rowsWith r d)) (refused Space) (told p d)))
+    → andThen o (λ d. cond (leafAbove 1 d) (refused Truth) (cond (ltb mostModelRows (rowsWith r d)) (refused Space) (told p d)))
     ≡ andThen (roomed false r (lowered o)) (told p)
 checked p r (ok d) = go (leafAbove 1 d)
   where
-    inner : (t : Bool) → pickOutcome t (refused Space) (told p d) ≡ andThen (pickOutcome t (refused Space) (ok d)) (told p)
+    inner : (t : Bool) → cond t (refused Space) (told p d) ≡ andThen (cond t (refused Space) (ok d)) (told p)
     inner true = refl
     inner false = refl
 
-    go : (b : Bool) → pickOutcome b (refused Truth) (pickOutcome (ltb mostModelRows (rowsWith r d)) (refused Space) (told p d))
-        ≡ andThen (roomed false r (pickOutcome b (refused Truth) (ok d))) (told p)
+    go : (b : Bool) → cond b (refused Truth) (cond (ltb mostModelRows (rowsWith r d)) (refused Space) (told p d))
+        ≡ andThen (roomed false r (cond b (refused Truth) (ok d))) (told p)
     go true = refl
     go false = inner (ltb mostModelRows (rowsWith r d))
 checked p r (refused w) = refl
 
 module _ (n : Names) (ar : List ℕ) (truths : Truths) (r : ℕ) (es : List Event) where
   abbrev checks : ℕ → Diagram → Outcome (ℕ × Diagram)
-  checks p d = pickOutcome (leafAbove 1 d) (refused Truth) (pickOutcome (ltb mostModelRows (rowsWith r d)) (refused Space) (told p d))
+  checks p d = cond (leafAbove 1 d) (refused Truth) (cond (ltb mostModelRows (rowsWith r d)) (refused Space) (told p d))
 
   abbrev words : Head → Outcome Written
   words h = outcomeOf (reading (namesFor n ar Only (n .parameters)) (h .rest) (h .variables))
@@ -81,8 +81,8 @@ module _ (n : Names) (ar : List ℕ) (truths : Truths) (r : ℕ) (es : List Even
       (λ (h : Head). sym (then-then (words h) (λ (w : Written). built (w .operations)) (checks p)) ∙ checked p r (andThen (words h) (λ w. built (w .operations))))
       ∙ sym (then-then (outcomeOf (headArguments (getD ar p 0) es)) (λ (h : Head). roomed false r (lowered (andThen (words h) (λ w. built (w .operations))))) (told p))
 
-  pick-then : (b : Bool) (p : ℕ) → pickOutcome b (refused Name) (andThen (truthOf n ar p r es) (told p))
-      ≡ andThen (pickOutcome b (refused Name) (ok p)) (λ q. andThen (truthOf n ar q r es) (told q))
+  pick-then : (b : Bool) (p : ℕ) → cond b (refused Name) (andThen (truthOf n ar p r es) (told p))
+      ≡ andThen (cond b (refused Name) (ok p)) (λ q. andThen (truthOf n ar q r es) (told q))
   pick-then true p = refl
   pick-then false p = refl
 
@@ -90,11 +90,11 @@ module _ (n : Names) (ar : List ℕ) (truths : Truths) (r : ℕ) (es : List Even
   unfolding truthRead truthNumber
   truth-read =
       then-same (outcomeOf (headNumber (n .predicates) es))
-      (λ (p : ℕ). pickOutcome (isSome (truths p)) (refused Name)
+      (λ (p : ℕ). cond (isSome (truths p)) (refused Name)
       (andThen (outcomeOf (headArguments (getD ar p 0) es)) (λ h. andThen (words h) (λ w. andThen (built (w .operations)) (checks p)))))
-      (λ (p : ℕ). andThen (pickOutcome (isSome (truths p)) (refused Name) (ok p)) (λ q. andThen (truthOf n ar q r es) (told q)))
-      (λ (p : ℕ). ap (pickOutcome (isSome (truths p)) (refused Name)) (behind p) ∙ pick-then (isSome (truths p)) p)
-      ∙ sym (then-then (outcomeOf (headNumber (n .predicates) es)) (λ (p : ℕ). pickOutcome (isSome (truths p)) (refused Name) (ok p))
+      (λ (p : ℕ). andThen (cond (isSome (truths p)) (refused Name) (ok p)) (λ q. andThen (truthOf n ar q r es) (told q)))
+      (λ (p : ℕ). ap (cond (isSome (truths p)) (refused Name)) (behind p) ∙ pick-then (isSome (truths p)) p)
+      ∙ sym (then-then (outcomeOf (headNumber (n .predicates) es)) (λ (p : ℕ). cond (isSome (truths p)) (refused Name) (ok p))
       (λ (p : ℕ). andThen (truthOf n ar p r es) (told p)))
 
 truth-few : (n : Names) (ar : List ℕ) (p r : ℕ) (es : List Event) {d : Diagram} → truthOf n ar p r es ≡ ok d → r + length (rows d) ≤ mostModelRows

@@ -8,7 +8,7 @@ use lib.ListN.{length, replicate, length-append, length-replicate}
 use Rattle.refusal.specs.declared.Refusal.{Refusal}
 use Rattle.refusal.specs.declared.Refusal.the-variants.{Place}
 use Rattle.label.specs.Limits.{variableCount}
-use Rattle.regress.specs.Calls.{Outcome, ok, refused}
+use Rattle.refusal.specs.Outcome.{Outcome, ok, refused}
 use Rattle.text.specs.declared.Kind.{Kind}
 use Rattle.text.specs.Line.{keyword, wordsBytes}
 use Rattle.events.specs.Events.{firstWord}

@@ -10,7 +10,7 @@ use Rattle.label.specs.Limits.{variableCount}
 use Rattle.diagram.specs.Sizes.{resultWords}
 use Rattle.diagram.specs.Diagram.{Diagram}
 use Rattle.diagram.specs.Rows.{rows}
-use Rattle.regress.specs.Calls.{Outcome, ok, andThen}
+use Rattle.refusal.specs.Outcome.{Outcome, ok, andThen}
 use Rattle.words.specs.declared.Key.{Key}
 use Rattle.text.specs.declared.Kind.the-variants.{Reward}
 use Rattle.events.specs.declared.Event.{Event}
@@ -32,7 +32,7 @@ use Rattle.session.specs.Modelling.{mostModelRows, namesFor, outcomeOf, rewardR
 use Rattle.session.specs.Replies.{done, quietly, wordsOf}
 use Rattle.declare.specs.Tables.{namesOf}
 use Rattle.facts.specs.Words.{liveOf}
-use Rattle.planner.specs.PartLaws.{then-then}
+use Rattle.steps.specs.GivenLaws.{then-then}
 use Rattle.planner.specs.Run.{heldIn}
 use Rattle.model.specs.declared.Head.{Head}
 use Rattle.model.specs.Layout.{modelOf}

@@ -1,6 +1,6 @@
 -- Laws of a diagram that is built: room for its rows, and the words that it leaves in the result buffer.
 use mathlib.Core.Path.{_≡_, refl, sym, ap, subst, _∙_}
-use mathlib.Core.Bool.{Bool, true, false, _||_}
+use mathlib.Core.Bool.{Bool, true, false, _||_, cond}
 use mathlib.Core.List.{List}
 use Prim.Native.Nat.{ℕ, _+_, _*_, _-_, _/_, _≤_, _<_}
 use native.Mathlib.Omega.{arith}
@@ -12,7 +12,7 @@ use Rattle.refusal.specs.declared.Refusal.the-variants.{Space}
 use Rattle.diagram.specs.Diagram.{Diagram}
 use Rattle.diagram.specs.Rows.{rows}
 use Rattle.diagram.specs.Listing.{listing, diagramOf}
-use Rattle.regress.specs.Calls.{Outcome, ok, refused, pickOutcome}
+use Rattle.refusal.specs.Outcome.{Outcome, ok, refused}
 use Rattle.build.specs.declared.Built.{Built}
 use Rattle.build.specs.declared.Built.the-variants.{Done, Refused}
 use Rattle.build.specs.Writing.{builtAs}
@@ -40,7 +40,7 @@ module _ {words n : ℕ} {b : Built} {full : Bool} (h : words ≤ listingWords) 
 roomed-answer : (f : Bool) (r : ℕ) (o : Outcome Diagram) → roomedAs f r (builtAs o) ≡ builtAs (roomed f r o)
 roomed-answer f r (ok d) = go (f || ltb mostModelRows (r + length (rows d)))
   where
-    go : (b : Bool) → pickBuilt b (Refused Space) (Done (length (rows d))) ≡ builtAs (pickOutcome b (refused Space) (ok d))
+    go : (b : Bool) → pickBuilt b (Refused Space) (Done (length (rows d))) ≡ builtAs (cond b (refused Space) (ok d))
     go true = refl
     go false = refl
 roomed-answer f r (refused w) = refl
@@ -58,7 +58,7 @@ pub roomed-ok : (f : Bool) (r : ℕ) (o : Outcome Diagram) (d : Diagram) → roo
 roomed-ok true r (ok x) d e = unlike e
 roomed-ok false r (ok x) d e = go (ltb mostModelRows (r + length (rows x))) refl e
   where
-    go : (b : Bool) → ltb mostModelRows (r + length (rows x)) ≡ b → pickOutcome b (refused Space) (ok x) ≡ ok d → Roomed false r (ok x) d
+    go : (b : Bool) → ltb mostModelRows (r + length (rows x)) ≡ b → cond b (refused Space) (ok x) ≡ ok d → Roomed false r (ok x) d
     go true q e = unlike e
     go false q e = record {
       drawn = e;

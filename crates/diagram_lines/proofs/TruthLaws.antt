@@ -1,6 +1,6 @@
 -- Laws of what stands on a (becomes (p ?a ..) DIAGRAM): its head, and its diagram.
 use mathlib.Core.Path.{_≡_, refl, sym, ap, subst, _∙_}
-use mathlib.Core.Bool.{Bool, true, false}
+use mathlib.Core.Bool.{Bool, true, false, cond}
 use mathlib.Core.List.{List}
 use Prim.Native.Nat.{ℕ, _+_, _*_, _/_, _≤_, _<_}
 use native.Mathlib.Omega.{arith}
@@ -15,9 +15,9 @@ use Rattle.diagram.specs.Rows.{rows}
 use Rattle.diagram.specs.Listing.{diagramOf}
 use Rattle.diagram.specs.Validity.{Valid}
 use Rattle.diagram.specs.ListingOfDiagram.{valid-listing}
-use Rattle.regress.specs.Calls.{Outcome, ok, refused, andThen, pickOutcome}
-use Rattle.regress.specs.Regression.{Truths}
-use Rattle.regress.specs.RegressCall.{leafAbove}
+use Rattle.refusal.specs.Outcome.{Outcome, ok, refused, andThen}
+use Rattle.regression.specs.Regression.{Truths}
+use Rattle.regression.specs.RegressCall.{leafAbove}
 use Rattle.words.specs.declared.Key.{Key}
 use Rattle.text.specs.declared.Kind.the-variants.{Becomes}
 use Rattle.text.specs.Line.{lineBytes}
@@ -77,7 +77,7 @@ module _ (out : List ℕ) {b : Built} {n : ℕ} (e : b ≡ Done n) {c : Bool} (f
 lowered-ok : (o : Outcome Diagram) (d : Diagram) → lowered o ≡ ok d → o ≡ ok d
 lowered-ok (ok x) d e = go (leafAbove 1 x) e
   where
-    go : (b : Bool) → pickOutcome b (refused Truth) (ok x) ≡ ok d → ok x ≡ ok d
+    go : (b : Bool) → cond b (refused Truth) (ok x) ≡ ok d → ok x ≡ ok d
     go true e = unlike e
     go false e = e
 lowered-ok (refused w) d e = unlike e
@@ -92,7 +92,7 @@ module _ {ar out : List ℕ} {o : Outcome Diagram} {b : Built} (x : Draws ar o b
   pub draws-low : {c : Built} → c ≡ loweredAs out b → Draws ar (lowered o) c out
   draws-low {c} e = record { answer = e ∙ go b refl; result = λ d q. x .result d (lowered-ok o d q) }
     where
-      pick : (t : Bool) (d : Diagram) → pickBuilt t (Refused Truth) (Done (length (rows d))) ≡ builtAs (pickOutcome t (refused Truth) (ok d))
+      pick : (t : Bool) (d : Diagram) → pickBuilt t (Refused Truth) (Done (length (rows d))) ≡ builtAs (cond t (refused Truth) (ok d))
       pick true d = refl
       pick false d = refl
 
@@ -184,9 +184,9 @@ module _ {s : List ℕ} {n : Numbers} {names ar work : List ℕ} (x : Lent Becom
 module _ (s : List ℕ) (n : Numbers) (names table : List ℕ) {first : ℕ} (f : first ≡ firstWord Becomes) {t : Opened}
     (o : Opens (n .counts .predicates) (headNumber (keysAt names declaredAt (n .counts .predicates)) (eventsOf (drop first s))) t) where
   number-is : (truths : Truths) → truthNumber (namesOf names (n .counts)) truths (wordsOf Becomes s)
-      ≡ andThen (outcomeOf (judgedPredicate t)) (λ p. pickOutcome (isSome (truths p)) (refused Name) (ok p))
+      ≡ andThen (outcomeOf (judgedPredicate t)) (λ p. cond (isSome (truths p)) (refused Name) (ok p))
   unfolding truthNumber namesOf
-  number-is truths = ap (λ (j : Judged ℕ). andThen (outcomeOf j) (λ p. pickOutcome (isSome (truths p)) (refused Name) (ok p)))
+  number-is truths = ap (λ (j : Judged ℕ). andThen (outcomeOf j) (λ p. cond (isSome (truths p)) (refused Name) (ok p)))
       (sym (o .answer ∙ ap (λ (i : ℕ). headNumber (keysAt names declaredAt (n .counts .predicates)) (eventsOf (drop i s))) f))
 
   pub open-refused : {w : Refusal} → t ≡ P.Refused w → TruthOpens n names table (wordsOf Becomes s) t
@@ -194,7 +194,7 @@ module _ (s : List ℕ) (n : Numbers) (names table : List ℕ) {first : ℕ} (f 
       subst (TruthOpens n names table (wordsOf Becomes s)) (sym e) (record {
         answer = λ ar listings.
             let truths : Truths = truthsNow (modelOf ar listings table (n .head) .actions) in
-            sym (number-is truths ∙ ap (λ (y : Opened). andThen (outcomeOf (judgedPredicate y)) (λ p. pickOutcome (isSome (truths p)) (refused Name) (ok p))) e);
+            sym (number-is truths ∙ ap (λ (y : Opened). andThen (outcomeOf (judgedPredicate y)) (λ p. cond (isSome (truths p)) (refused Name) (ok p))) e);
         within = tt;
       })
 
@@ -212,14 +212,14 @@ module _ (s : List ℕ) (n : Numbers) (names table : List ℕ) {first : ℕ} (f 
 
     module _ {b : Bool} (h : HasTruth table (n .head) p b) where
       there-is : (ar listings : List ℕ) → truthNumber (namesOf names (n .counts)) (truthsNow (modelOf ar listings table (n .head) .actions)) (wordsOf Becomes s)
-          ≡ pickOutcome b (refused Name) (ok p)
+          ≡ cond b (refused Name) (ok p)
       there-is ar listings =
           let truths : Truths = truthsNow (modelOf ar listings table (n .head) .actions) in
-          number-is truths ∙ ap (λ (y : Opened). andThen (outcomeOf (judgedPredicate y)) (λ q. pickOutcome (isSome (truths q)) (refused Name) (ok q))) e
-          ∙ ap (λ (c : Bool). pickOutcome c (refused Name) (ok p)) (sym (h .answer ar listings))
+          number-is truths ∙ ap (λ (y : Opened). andThen (outcomeOf (judgedPredicate y)) (λ q. cond (isSome (truths q)) (refused Name) (ok q))) e
+          ∙ ap (λ (c : Bool). cond c (refused Name) (ok p)) (sym (h .answer ar listings))
 
       pub open-twice : b ≡ true → TruthOpens n names table (wordsOf Becomes s) (P.Refused Name)
-      open-twice g = record { answer = λ ar listings. sym (there-is ar listings ∙ ap (λ (c : Bool). pickOutcome c (refused Name) (ok p)) g); within = tt }
+      open-twice g = record { answer = λ ar listings. sym (there-is ar listings ∙ ap (λ (c : Bool). cond c (refused Name) (ok p)) g); within = tt }
 
       pub open-found : b ≡ false → TruthOpens n names table (wordsOf Becomes s) (P.Predicate p)
-      open-found g = record { answer = λ ar listings. sym (there-is ar listings ∙ ap (λ (c : Bool). pickOutcome c (refused Name) (ok p)) g); within = declared-is }
+      open-found g = record { answer = λ ar listings. sym (there-is ar listings ∙ ap (λ (c : Bool). cond c (refused Name) (ok p)) g); within = declared-is }

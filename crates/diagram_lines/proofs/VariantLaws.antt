@@ -1,6 +1,6 @@
 -- Laws of (variant n WEIGHT).
 use mathlib.Core.Path.{_≡_, refl, sym, ap, ap₂, subst, _∙_}
-use mathlib.Core.Bool.{Bool, true, false}
+use mathlib.Core.Bool.{Bool, true, false, cond}
 use mathlib.Core.List.{List, [], _∷_, _++_}
 use Prim.Native.Nat.{ℕ, _+_, _*_, _/_, _≤_, _<_}
 use native.Mathlib.Omega.{arith}
@@ -13,7 +13,7 @@ use Rattle.label.specs.Limits.{variableCount}
 use Rattle.diagram.specs.Sizes.{resultWords}
 use Rattle.diagram.specs.Diagram.{Diagram}
 use Rattle.diagram.specs.Rows.{rows}
-use Rattle.regress.specs.Calls.{Outcome, ok, refused, andThen, pickOutcome}
+use Rattle.refusal.specs.Outcome.{Outcome, ok, refused, andThen}
 use Rattle.mdp.specs.Model.{mostVariants}
 use Rattle.words.specs.declared.Key.{Key}
 use Rattle.text.specs.declared.Kind.the-variants.{Variant}
@@ -42,7 +42,7 @@ use Rattle.declare.specs.declared.Counts.{Counts}
 use Rattle.declare.specs.Tables.{namesOf, GoodNames}
 use Rattle.declare.proofs.TableLaws.{names-ext}
 use Rattle.facts.specs.Words.{liveOf}
-use Rattle.planner.specs.PartLaws.{then-then}
+use Rattle.steps.specs.GivenLaws.{then-then}
 use Rattle.planner.specs.Run.{heldIn}
 use Rattle.model.specs.declared.Head.{Head}
 use Rattle.model.specs.Layout.{modelOf}
@@ -83,10 +83,10 @@ module _ {s : List ℕ} (l : LineOf Variant s) where
 
 weight-drawn : (n : Names) (ar : List ℕ) (r : ℕ) (k : Key) (es : List Event)
     → weightRead n ar r k es
-    ≡ pickOutcome (isAmong k (n .variants)) (refused Name) (roomed (leb mostVariants (length (n .variants))) r (drawn (namesFor n ar None (n .parameters)) es []))
+    ≡ cond (isAmong k (n .variants)) (refused Name) (roomed (leb mostVariants (length (n .variants))) r (drawn (namesFor n ar None (n .parameters)) es []))
 unfolding weightRead drawn
 weight-drawn n ar r k es =
-    ap (pickOutcome (isAmong k (n .variants)) (refused Name))
+    ap (cond (isAmong k (n .variants)) (refused Name))
     (sym (then-then (outcomeOf (reading (namesFor n ar None (n .parameters)) es [])) (λ (w : Written). built (w .operations))
     (λ (d : Diagram). roomed (leb mostVariants (length (n .variants))) r (ok d))))
 
@@ -115,7 +115,7 @@ module _ {s : List ℕ} {n : Numbers} {names ar work : List ℕ} (x : Lent Varia
     unfolding namesOf
     weight-known h =
         draws-none (weight-drawn (namesOf names (n .counts)) ar (n .head .words / 3) k (eventsOf (drop at s))
-        ∙ ap (λ (b : Bool). pickOutcome b (refused Name) (roomed (leb mostVariants (length (namesOf names (n .counts) .variants))) (n .head .words / 3) (drawn (namesFor (namesOf names (n .counts)) ar None (namesOf names (n .counts) .parameters)) (eventsOf (drop at s)) []))) (among-at names variantsAt (n .counts .variants) k p h))
+        ∙ ap (λ (b : Bool). cond b (refused Name) (roomed (leb mostVariants (length (namesOf names (n .counts) .variants))) (n .head .words / 3) (drawn (namesFor (namesOf names (n .counts)) ar None (namesOf names (n .counts) .parameters)) (eventsOf (drop at s)) []))) (among-at names variantsAt (n .counts .variants) k p h))
 
     pub weight-reads : (vs : List ℕ) {out : List ℕ} {b r : Built} → n .counts .variants ≤ i
         → Draws ar (drawn (tableNames names ar (actionScope n None)) (eventsOf (drop at s)) (keysAt vs 0 0)) b out
@@ -126,7 +126,7 @@ module _ {s : List ℕ} {n : Numbers} {names ar work : List ℕ} (x : Lent Varia
         let o : List Key → Outcome Diagram = λ ks. drawn (namesFor σ ar None (σ .parameters)) (eventsOf (drop at s)) ks in
         let y : read ≡ roomed (leb mostVariants (n .counts .variants)) (n .head .words / 3) (o [])
         = weight-drawn σ ar (n .head .words / 3) k (eventsOf (drop at s))
-        ∙ ap (λ (c : Bool). pickOutcome c (refused Name) (roomed (leb mostVariants (length (σ .variants))) (n .head .words / 3) (o [])))
+        ∙ ap (λ (c : Bool). cond c (refused Name) (roomed (leb mostVariants (length (σ .variants))) (n .head .words / 3) (o [])))
         (among-none names variantsAt (n .counts .variants) k p h)
         ∙ ap (λ (v : ℕ). roomed (leb mostVariants v) (n .head .words / 3) (o [])) (length-keys names variantsAt (n .counts .variants)) in
         subst (λ (z : Outcome Diagram). Draws ar z r out) (sym y)
@@ -140,7 +140,7 @@ pub record WeightFits (n : Names) (r : ℕ) (d : Diagram) : Type 0 where
 weight-fits : (n : Names) (ar : List ℕ) (r : ℕ) (k : Key) (es : List Event) {d : Diagram} → weightRead n ar r k es ≡ ok d → WeightFits n r d
 weight-fits n ar r k es {d} e = go (isAmong k (n .variants)) (sym (weight-drawn n ar r k es) ∙ e)
   where
-    go : (b : Bool) → pickOutcome b (refused Name) (roomed (leb mostVariants (length (n .variants))) r (drawn (namesFor n ar None (n .parameters)) es [])) ≡ ok d
+    go : (b : Bool) → cond b (refused Name) (roomed (leb mostVariants (length (n .variants))) r (drawn (namesFor n ar None (n .parameters)) es [])) ≡ ok d
         → WeightFits n r d
     go true f = unlike f
     go false f =

@@ -11,9 +11,9 @@ use Rattle.diagram.specs.Sizes.{spaceWords}
 use Rattle.diagram.specs.Diagram.{Diagram}
 use Rattle.diagram.specs.Listing.{diagramOf}
 use Rattle.diagram.specs.Validity.{Valid}
-use Rattle.regress.specs.Calls.{Outcome, ok, andThen}
-use Rattle.regress.specs.Regression.{Truths}
-use Rattle.regress.specs.RegressCall.{leafAbove}
+use Rattle.refusal.specs.Outcome.{Outcome, ok, andThen}
+use Rattle.regression.specs.Regression.{Truths}
+use Rattle.regression.specs.RegressCall.{leafAbove}
 use Rattle.words.specs.declared.Key.{Key}
 use Rattle.text.specs.declared.Kind.{Kind}
 use Rattle.text.specs.declared.Kind.the-variants.{Reward, Variant, Becomes}

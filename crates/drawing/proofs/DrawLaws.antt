@@ -13,8 +13,8 @@ use Rattle.diagram.specs.Diagram.{Diagram}
 use Rattle.diagram.specs.Rows.{rows}
 use Rattle.diagram.specs.Listing.{listing, Good}
 use Rattle.diagram.specs.ListingLaws.{length-listing}
-use Rattle.regress.specs.Calls.{Outcome, ok, refused, andThen}
-use Rattle.regress.specs.RegressCall.{writtenAs}
+use Rattle.refusal.specs.Outcome.{Outcome, ok, refused, andThen}
+use Rattle.regression.specs.RegressCall.{writtenAs}
 use Rattle.words.specs.declared.Key.{Key}
 use Rattle.events.specs.declared.Event.{Event}
 use Rattle.events.specs.Front.{eventsOf}

@@ -8,7 +8,7 @@ use Rattle.diagram.specs.Sizes.{resultWords, spaceWords}
 use Rattle.diagram.specs.Diagram.{Diagram}
 use Rattle.diagram.specs.Rows.{rows}
 use Rattle.diagram.specs.Listing.{listing, Good}
-use Rattle.regress.specs.Calls.{Outcome, ok, andThen}
+use Rattle.refusal.specs.Outcome.{Outcome, ok, andThen}
 use Rattle.words.specs.declared.Key.{Key}
 use Rattle.forms.specs.Tree as T
 use Rattle.events.specs.declared.Event.{Event}

@@ -2,7 +2,7 @@
 use Prim.Native.Nat.{ℕ}
 use mathlib.Core.List.{List}
 use Rattle.diagram.specs.Diagram.{Diagram}
-use Rattle.regress.specs.Calls.{Outcome}
+use Rattle.refusal.specs.Outcome.{Outcome}
 use Rattle.words.specs.declared.Key.{Key}
 use Rattle.events.specs.declared.Event.{Event}
 use Rattle.reading.specs.Operations.{Op}

@@ -26,7 +26,7 @@ use Rattle.declare.specs.Tables.{namesOf, GoodVocabulary}
 use Rattle.label.specs.Limits.{constantCount, predicateCount}
 use Rattle.label.specs.Labels.{areArities}
 use Rattle.refusal.specs.declared.Refusal.the-variants.{Name, Arity, Range, Space}
-use Rattle.regress.specs.Calls.{ok}
+use Rattle.refusal.specs.Outcome.{ok}
 use Rattle.facts.specs.Words.{part, rowOf, rowIs, liveOf, GoodLive, Living, Putting, TupleOf, Telling, placedBase, factsBase}
 use Rattle.facts.proofs.StateLaws.{live-ext}
 

@@ -14,7 +14,7 @@ use Rattle.words.specs.declared.Key.{Key}
 use Rattle.names.specs.Keys.{keysAt, placeOf}
 use Rattle.names.specs.Layout.{constantsAt}
 use Rattle.names.specs.KeyLaws.{among-at, among-none}
-use Rattle.regress.specs.Calls.{ok}
+use Rattle.refusal.specs.Outcome.{ok}
 use Rattle.state.specs.Lent.{factWords}
 use Rattle.session.specs.Session.{Live as SessionLive}
 use Rattle.session.specs.Facts.{objectsLine, isLine, cleared, placed, mostObjects}

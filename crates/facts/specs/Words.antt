@@ -6,7 +6,7 @@ use mathlib.Core.List.{List, [], _∷_}
 use Prim.Native.Nat.{ℕ, _+_, _*_, _<_, _≤_}
 use lib.ListN.{length, getD, take, drop}
 use Rattle.label.specs.Limits.{constantCount}
-use Rattle.regress.specs.Calls.{Outcome, ok, refused}
+use Rattle.refusal.specs.Outcome.{Outcome, ok, refused}
 use Rattle.state.specs.Lent.{factWords, allBelow}
 use Rattle.session.specs.Session.{Live as SessionLive}
 use Rattle.session.specs.Facts.{mostObjects, mostFacts, sameWord, withFact, trueLine}

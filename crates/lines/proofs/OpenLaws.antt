@@ -9,7 +9,7 @@ use Rattle.basics.specs.Tests.{Cmp, below, equal, above, cmp}
 use Rattle.label.specs.Limits.{predicateCount, equality, equalityArity}
 use Rattle.diagram.specs.Diagram.{leaf}
 use Rattle.diagram.specs.Listing.{treeAt, diagramOf}
-use Rattle.regress.specs.Calls.{ok}
+use Rattle.refusal.specs.Outcome.{ok}
 use Rattle.names.specs.Many.{many}
 use Rattle.names.specs.Keys.{keysAt}
 use Rattle.session.specs.Session.{Session, opening}

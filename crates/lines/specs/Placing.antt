@@ -5,7 +5,7 @@ use mathlib.Core.List.{List}
 use Prim.Native.Nat.{ℕ, _≤_}
 use lib.ListN.{length}
 use Rattle.label.specs.Limits.{constantCount}
-use Rattle.regress.specs.Calls.{Outcome, ok, refused}
+use Rattle.refusal.specs.Outcome.{Outcome, ok, refused}
 use Rattle.mdp.specs.Model.{mostActions}
 use Rattle.session.specs.declared.Rule.{Rule}
 use Rattle.session.specs.Replies.{eachVaried, isWhole, isPlaced, allowed}

@@ -1,10 +1,10 @@
 -- A backup is a row of calls; the first refusal met is the answer (document 01, section 'Backup').
-use mathlib.Core.Bool.{Bool, _||_}
+use mathlib.Core.Bool.{Bool, _||_, cond}
 use mathlib.Core.List.{List, [], _∷_}
-use Prim.Native.Nat.{ℕ, suc, _-_, _^_}
+use Prim.Native.Nat.{ℕ, suc, _^_}
 use lib.Dec.{eqb, ltb}
-use Rattle.refusal.specs.declared.Refusal.the-variants.{Variables, Scale}
-use Rattle.label.specs.Limits.{termBase}
+use Rattle.refusal.specs.declared.Refusal.the-variants.{Scale}
+use Rattle.refusal.specs.Outcome.{Outcome, ok, refused, andThen}
 use Rattle.diagram.specs.Sizes.{highestValue}
 use Rattle.diagram.specs.Diagram.{Diagram, leaf}
 use Rattle.diagram.specs.Variables.{closed}
@@ -15,10 +15,8 @@ use Rattle.apply.specs.declared.Names.the-variants.{Apart, Shared}
 use Rattle.apply.specs.declared.Combined.{Combined}
 use Rattle.apply.specs.declared.Combined.the-variants.{Done, Refused}
 use Rattle.apply.specs.Combination.{combination, diagramAnswer}
-use Rattle.rename.specs.Freeing.{freed}
-use Rattle.regress.specs.Calls.{Outcome, ok, refused, andThen, pickOutcome}
-use Rattle.regress.specs.Regression.{regressed}
-use Rattle.regress.specs.RegressCall.{anyOccurs}
+use Rattle.regression.specs.Regression.{regressed}
+use Rattle.regression.specs.RegressCall.{freedOutcome}
 use Rattle.mdp.specs.Model.{Variant, Action, Model, scale}
 
 -- a combination that is answered gives its result
@@ -29,11 +27,6 @@ given (Refused r) d = refused r
 unfoldable pub combined : Operation → Names → List ℕ → Diagram → Diagram → Outcome Diagram
 unfolding diagramAnswer combination
 combined op names ar a b = given (diagramAnswer op names ar a b) (combination op names ar a b)
-
--- freeing c parameters: a variable that would pass 63 is 8
-unfoldable pub freedOutcome : List ℕ → ℕ → Diagram → Outcome Diagram
-unfolding anyOccurs freed
-freedOutcome ar c d = pickOutcome (anyOccurs ar d (termBase - c) c) (refused Variables) (ok (freed ar c d))
 
 -- for each variant come four calls: its value regressed; its weight times leaf G, names shared; the product of these two, names shared; the sum so far
 -- plus that product, apart
@@ -69,11 +62,15 @@ unfoldable pub scaleEnds : Model → ℕ → Bool
 unfolding scale
 scaleEnds m k = ltb highestScale (scale m ^ suc k) || eqb k mostSteps
 
--- refuse 12 first; the best starts as leaf 0; at the end the reward times leaf S^(k+1), names shared, then the best plus that, apart
+-- the best starts as leaf 0; at the end the reward times the leaf S^(k+1), names shared, then the best plus that, apart
+unfoldable pub rowOfCalls : Model → ℕ → Diagram → Outcome Diagram
+unfolding actionsBest combined
+rowOfCalls m power d =
+    andThen (actionsBest (m .arities) (m .numerator) d (leaf 0) (m .actions)) (λ best.
+    andThen (combined Product Shared (m .arities) (m .reward) (leaf power)) (λ r.
+    combined Sum Apart (m .arities) best r))
+
+-- refuse 12 first
 unfoldable pub backup : Model → ℕ → Diagram → Outcome Diagram
-unfolding scaleEnds actionsBest combined scale
-backup m k d =
-    pickOutcome (scaleEnds m k) (refused Scale)
-    (andThen (actionsBest (m .arities) (m .numerator) d (leaf 0) (m .actions)) (λ best.
-    andThen (combined Product Shared (m .arities) (m .reward) (leaf (scale m ^ suc k))) (λ r.
-    combined Sum Apart (m .arities) best r)))
+unfolding scaleEnds scale rowOfCalls
+backup m k d = cond (scaleEnds m k) (refused Scale) (rowOfCalls m (scale m ^ suc k) d)

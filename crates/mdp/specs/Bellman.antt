@@ -4,7 +4,7 @@ use Prim.Native.Nat.{ℕ, zero, suc, _+_, _*_, _^_}
 use Rattle.state.specs.State.{State, meaning, value}
 use Rattle.state.specs.Max.{maxTuples, maxOf, sumOf}
 use Rattle.state.specs.Highest.{start, highest}
-use Rattle.regress.specs.Next.{next, meanings}
+use Rattle.regression.specs.Next.{next, meanings}
 use Rattle.mdp.specs.Model.{Variant, Model, scale}
 
 -- the weight of a variant, read in s with the tuple os for the parameters

@@ -7,9 +7,11 @@ use native.Mathlib.Omega.{arith}
 use native.Mathlib.Nat.{le-of-eq}
 use lib.ListN.{length}
 use borrow.Author.Tests.{ltb-false}
+use Rattle.refusal.specs.declared.Refusal.the-variants.{Variables}
+use Rattle.refusal.specs.Outcome.{Accepted}
+use Rattle.refusal.specs.OutcomeLaws.{accepted-ok, accepted-refused, accepted-cond}
 use Rattle.basics.specs.Tests.{Cmp, below, equal, above, cmp, Flag, isTrue, isFalse, flag}
 use Rattle.basics.specs.Members.{clash}
-use Rattle.refusal.specs.declared.Refusal.the-variants.{Variables}
 use Rattle.label.specs.Limits.{firstParameter, parameterCount, firstVariable, variableCount, termBase}
 use Rattle.label.specs.LabelLaws.{term-below}
 use Rattle.label.specs.Labels.{areArities}
@@ -20,6 +22,12 @@ use Rattle.diagram.specs.Diagram.{Diagram, leaf, eval, relabel}
 use Rattle.diagram.specs.Rows.{rows, onto}
 use Rattle.diagram.specs.Listing.{Fine, Good as Listed}
 use Rattle.diagram.specs.Variables.{occurs, variables, closedFrom, closed, after}
+use Rattle.rename.specs.Valuations.{holds as chooses, leafOf, ClosedFree, ApartFree}
+use Rattle.rename.specs.Freeing.{freed, Freeable}
+use Rattle.rename.specs.VariableLaws.{variables-few, terms-numbered, occurs-term, renaming-rows}
+use Rattle.rename.specs.ClosingLaws.{occurs-closedFrom, closed-good, closed-twice, after-good}
+use Rattle.rename.specs.ApartLaws.{closed-free, apart-free}
+use Rattle.rename.specs.FreeingLaws.{freed-good}
 use Rattle.apply.specs.declared.Operation.{Operation}
 use Rattle.apply.specs.declared.Operation.the-variants.{Sum}
 use Rattle.apply.specs.declared.Names.the-variants.{Apart, Shared}
@@ -30,26 +38,19 @@ use Rattle.apply.specs.ApplyLaws.{eval-apply}
 use Rattle.apply.specs.GoodLaws.{every-apply, fine-apply, good-apply, fine-every}
 use Rattle.apply.specs.Combination.{operate, combination, diagramAnswer}
 use Rattle.apply.specs.CombinationLaws.{done-accepted, good-shared}
-use Rattle.rename.specs.Valuations.{holds as chooses, leafOf, ClosedFree, ApartFree}
-use Rattle.rename.specs.Freeing.{freed, Freeable}
-use Rattle.rename.specs.VariableLaws.{variables-few, terms-numbered, occurs-term, renaming-rows}
-use Rattle.rename.specs.ClosingLaws.{occurs-closedFrom, closed-good, closed-twice, after-good}
-use Rattle.rename.specs.ApartLaws.{closed-free, apart-free}
-use Rattle.rename.specs.FreeingLaws.{freed-good}
 use Rattle.state.specs.Max.{Tuple, maxTuples}
 use Rattle.state.specs.MaxLaws.{max-by}
 use Rattle.state.specs.State.{atomOf, meaning, State, Good, truth, holds, value}
 use Rattle.state.specs.Terms.{Each, args}
 use Rattle.state.specs.ValueLaws.{Terms-mono}
 use Rattle.state.specs.Highest.{Highest}
-use Rattle.regress.specs.CallLaws.{Accepted, accepted-ok, accepted-refused, accepted-pick}
-use Rattle.regress.specs.Parameters.{Allowed, Within}
-use Rattle.regress.specs.ResultLaws.{value-meaning, terms-every, every-terms}
-use Rattle.regress.specs.NextLaws.{terms-occur, occur-terms}
-use Rattle.regress.specs.RegressCall.{anyOccurs}
-use Rattle.regress.specs.RegressCallLaws.{any-quiet}
-use Rattle.regress.specs.FreeCallLaws.{IsFreed, meaning-freed, freed-highest, freed-within}
-use Rattle.mdp.specs.Backup.{given, combined, freedOutcome}
+use Rattle.regression.specs.Parameters.{Allowed, Within}
+use Rattle.regression.specs.ResultLaws.{value-meaning, terms-every, every-terms}
+use Rattle.regression.specs.NextLaws.{terms-occur, occur-terms}
+use Rattle.regression.specs.RegressCall.{anyOccurs, freedOutcome}
+use Rattle.regression.specs.RegressCallLaws.{any-quiet}
+use Rattle.regression.specs.FreeCallLaws.{IsFreed, meaning-freed, freed-highest, freed-within}
+use Rattle.mdp.specs.Backup.{given, combined}
 
 -- ===== Meanings and parameters =====
 
@@ -225,7 +226,7 @@ pub record FreedTo (ar : List ℕ) (c : ℕ) (d r : Diagram) : Type 0 where
 
 pub freed-to : (ar : List ℕ) (c : ℕ) (d : Diagram) → Listed ar d → c ≤ parameterCount → Within c (meaning ar d) → Accepted (FreedTo ar c d) (freedOutcome ar c d)
 unfolding freedOutcome
-freed-to ar c d good few w = accepted-pick (anyOccurs ar d (termBase - c) c) Variables _ (λ q. accepted-ok (record {
+freed-to ar c d good few w = accepted-cond (anyOccurs ar d (termBase - c) c) Variables _ (λ q. accepted-ok (record {
   listed = freed-good ar c d good (freeable q);
   within = freed-within ar c d (freed ar c d) (is-freed q) w;
   high = λ s g x h. freed-highest ar c d (freed ar c d) (is-freed q) s g x h;

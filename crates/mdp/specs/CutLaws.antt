@@ -7,16 +7,17 @@ use lib.ListN.{length}
 use lib.Dec.{ltb}
 use borrow.Author.Tests.{ltb-false}
 use Rattle.refusal.specs.declared.Refusal.the-variants.{Paths}
+use Rattle.refusal.specs.Outcome.{Accepted}
+use Rattle.refusal.specs.OutcomeLaws.{accepted-ok, accepted-refused}
 use Rattle.diagram.specs.Diagram.{Diagram, leaf, branch, same}
 use Rattle.diagram.specs.Rows.{rows}
 use Rattle.diagram.specs.RowLists.{rowTree}
-use Rattle.apply.specs.GoodLaws.{EveryLabel, every-node}
 use Rattle.rename.specs.ClosingLaws.{closed-good, closed-twice}
+use Rattle.apply.specs.GoodLaws.{EveryLabel, every-node}
 use Rattle.state.specs.State.{atomOf, meaning, State}
 use Rattle.state.specs.Terms.{Each, args}
-use Rattle.regress.specs.CallLaws.{Accepted, accepted-ok, accepted-refused}
-use Rattle.regress.specs.Parameters.{Allowed, Within}
-use Rattle.regress.specs.ResultLaws.{terms-every, every-terms}
+use Rattle.regression.specs.Parameters.{Allowed, Within}
+use Rattle.regression.specs.ResultLaws.{terms-every, every-terms}
 use Rattle.cut.specs.declared.Cut.the-variants.{Refused}
 use Rattle.cut.specs.Paths.{paths, mostPaths}
 use Rattle.cut.specs.Cut.{MayGo, Choice, pickDiagram, reduced, cutAt, cutDiagram, pickCut, edgeOf, isTrueEdge, chosenAnswer, diagramAnswer}

@@ -7,7 +7,7 @@ use lib.ListN.{replicate}
 use lib.Dec.{eqb}
 use Rattle.diagram.specs.Diagram.{Diagram, leaf, branch}
 use Rattle.state.specs.State.{State}
-use Rattle.regress.specs.Regression.{Truths}
+use Rattle.regression.specs.Regression.{Truths}
 use Rattle.mdp.specs.Model.{Model}
 
 -- a truth diagram for predicate 1 alone, or none

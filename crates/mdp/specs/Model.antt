@@ -12,9 +12,9 @@ use Rattle.diagram.specs.Listing.{Good}
 use Rattle.diagram.specs.Variables.{closed}
 use Rattle.state.specs.State.{meaning}
 use Rattle.state.specs.Terms.{Terms}
-use Rattle.regress.specs.Regression.{Truths}
-use Rattle.regress.specs.Result.{AtMost}
-use Rattle.regress.specs.Parameters.{Within}
+use Rattle.regression.specs.Regression.{Truths}
+use Rattle.regression.specs.Result.{AtMost}
+use Rattle.regression.specs.Parameters.{Within}
 
 -- (total W) 1 to 1,000,000; (discount G D), D 1 to 1,000,000, G 0 to D; 8 actions; 8 variants each
 abbrev pub mostTotal : ℕ

@@ -2,13 +2,12 @@
 use mathlib.Core.Path.{_≡_, refl}
 use mathlib.Core.List.{List, [], _∷_}
 use Prim.Native.Nat.{ℕ, suc}
+use Rattle.refusal.specs.Outcome.{Outcome, ok, refused, Accepted}
 use Rattle.diagram.specs.Diagram.{Diagram}
 use Rattle.state.specs.MaxLaws.{max-one}
 use Rattle.state.specs.State.{meaning, State, Good}
 use Rattle.state.specs.Highest.{highest}
 use Rattle.state.specs.HighestLaws.{highest-is}
-use Rattle.regress.specs.Calls.{Outcome, ok, refused}
-use Rattle.regress.specs.CallLaws.{Accepted}
 use Rattle.mdp.specs.Model.{Model, GoodModel}
 use Rattle.mdp.specs.Bellman.{rewardIn, bellman}
 use Rattle.mdp.specs.Backup.{backup}

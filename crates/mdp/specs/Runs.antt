@@ -1,8 +1,8 @@
 -- Runs of backups and cuts on one model (document 01, sections 'Backup' and 'Cut').
 use mathlib.Core.List.{List, [], _∷_}
 use Prim.Native.Nat.{ℕ, suc}
+use Rattle.refusal.specs.Outcome.{Outcome, ok, refused}
 use Rattle.diagram.specs.Diagram.{Diagram}
-use Rattle.regress.specs.Calls.{Outcome, ok, refused}
 use Rattle.cut.specs.declared.Cut.{Cut}
 use Rattle.cut.specs.declared.Cut.the-variants.{Done, Refused}
 use Rattle.cut.specs.Cut.{diagramAnswer, cutDiagram, isTrueEdge}

@@ -1,21 +1,20 @@
 -- The laws of the definitions, one for each case, as code meets them.
 use mathlib.Core.Path.{_≡_, refl, ap, sym, _∙_}
-use mathlib.Core.Bool.{Bool, true, false, _||_}
+use mathlib.Core.Bool.{Bool, true, false, _||_, cond}
 use mathlib.Core.List.{List, [], _∷_}
-use Prim.Native.Nat.{ℕ, suc, _+_, _*_, _-_, _^_, _≤_, _<_}
+use Prim.Native.Nat.{ℕ, suc, _+_, _-_, _^_, _≤_, _<_}
 use native.Mathlib.Omega.{arith}
-use native.Mathlib.Nat.{pow-suc, pow-zero}
+use native.Mathlib.Nat.{pow-zero}
 use lib.Dec.{ltb, eqb}
-use borrow.Author.Tests.{lt-ltb, le-ltb, ltb-false, eq-eqb, ne-eqb, eqb-false}
+use borrow.Author.Tests.{ltb-false, eqb-false}
+use Rattle.refusal.specs.declared.Refusal.{Refusal}
+use Rattle.refusal.specs.declared.Refusal.the-variants.{Scale}
+use Rattle.refusal.specs.Outcome.{Outcome, ok, refused, andThen}
 use Rattle.basics.specs.Tests.{Flag, isTrue, isFalse, flag}
 use Rattle.basics.specs.Members.{clash}
-use Rattle.refusal.specs.declared.Refusal.{Refusal}
-use Rattle.refusal.specs.declared.Refusal.the-variants.{Variables, Scale}
-use Rattle.label.specs.Limits.{firstParameter, parameterCount, termBase}
-use Rattle.diagram.specs.Sizes.{resultWords, spaceWords}
+use Rattle.label.specs.Limits.{firstParameter, parameterCount}
 use Rattle.diagram.specs.Diagram.{Diagram, leaf}
 use Rattle.diagram.specs.Variables.{occurs, closed}
-use Rattle.diagram.specs.Words.{isListing}
 use Rattle.diagram.specs.Listing.{diagramOf}
 use Rattle.apply.specs.declared.Operation.{Operation}
 use Rattle.apply.specs.declared.Operation.the-variants.{Sum, Product, Max}
@@ -23,19 +22,17 @@ use Rattle.apply.specs.declared.Names.{Names}
 use Rattle.apply.specs.declared.Names.the-variants.{Apart, Shared}
 use Rattle.apply.specs.declared.Combined.the-variants.{Done, Refused}
 use Rattle.apply.specs.Combination.{combination, diagramAnswer}
-use Rattle.rename.specs.Freeing.{freed}
 use Rattle.state.specs.State.{meaning}
-use Rattle.regress.specs.Calls.{Outcome, ok, refused, andThen, pickOutcome}
-use Rattle.regress.specs.Regression.{regressed}
-use Rattle.regress.specs.Parameters.{Within}
-use Rattle.regress.specs.RegressCall.{anyOccurs, freeOutcome}
-use Rattle.regress.specs.RegressCallLaws.{quiet-any}
-use Rattle.regress.specs.FreeCallLaws.{free-variables, free-ok}
+use Rattle.regression.specs.Regression.{regressed}
+use Rattle.regression.specs.Parameters.{Within}
+use Rattle.regression.specs.RegressCall.{freedOutcome, freeOwn}
+use Rattle.regression.specs.RegressCallLaws.{quiet-any}
+use Rattle.regression.specs.FreeCallLaws.{own-freed}
 use Rattle.cut.specs.declared.Edge.{Edge}
 use Rattle.cut.specs.declared.Cut.the-variants.{Done as CutDone, Refused as CutRefused}
 use Rattle.cut.specs.Cut.{cutDiagram, isTrueEdge, diagramAnswer as cutAnswer}
 use Rattle.mdp.specs.Model.{Variant, Action, Model, scale}
-use Rattle.mdp.specs.Backup.{combined, freedOutcome, variantsSum, actionsBest, highestScale, mostSteps, scaleEnds, backup}
+use Rattle.mdp.specs.Backup.{combined, variantsSum, actionsBest, rowOfCalls, highestScale, mostSteps, scaleEnds, backup}
 use Rattle.mdp.specs.Runs.{Call, aBackup, aCut, Held, cutOutcome, taken, call, runFrom, begin, run}
 use Rattle.mdp.specs.CallLaws.{each-within}
 
@@ -50,31 +47,14 @@ module _ (op : Operation) (names : Names) (ar : List ℕ) (a b : Diagram) where
   unfolding combined
   combined-refused r e = rw e
 
-module _ (ar : List ℕ) (c : ℕ) (d : Diagram) where
-  pub freed-variables : anyOccurs ar d (termBase - c) c ≡ true → freedOutcome ar c d ≡ refused Variables
-  unfolding freedOutcome
-  freed-variables e = rw e
-
-  pub freed-ok : anyOccurs ar d (termBase - c) c ≡ false → freedOutcome ar c d ≡ ok (freed ar c d)
-  unfolding freedOutcome
-  freed-ok e = rw e
-
--- the library's freeing of a listing without a parameter past the count answers the same
-pub free-call : (ar words : List ℕ) (c outLength workLength : ℕ) → isListing ar words ≡ true → resultWords ≤ outLength → spaceWords ≤ workLength → c ≤ parameterCount
-    → Within c (meaning ar (diagramOf words)) → freeOutcome ar words c outLength workLength ≡ freedOutcome ar c (diagramOf words)
-unfolding freed
-free-call ar words c outLength workLength e room space few w = go (flag (anyOccurs ar (diagramOf words) (termBase - c) c))
+-- freeing's own checks of a listing without a parameter past the count
+pub own-within : (ar words : List ℕ) (c : ℕ) → Within c (meaning ar (diagramOf words)) → freeOwn ar words c ≡ freedOutcome ar c (diagramOf words)
+own-within ar words c w =
+    own-freed ar words c (quiet-any ar (diagramOf words) (firstParameter + c) (parameterCount - c) (λ t h k. quiet t h k (flag (occurs ar t (diagramOf words)))))
   where
-    past : anyOccurs ar (diagramOf words) (firstParameter + c) (parameterCount - c) ≡ false
-    past = quiet-any ar (diagramOf words) (firstParameter + c) (parameterCount - c) (λ t h k. quiet t h k (flag (occurs ar t (diagramOf words))))
-      where
-        quiet : (t : ℕ) → firstParameter + c ≤ t → t < firstParameter + c + (parameterCount - c) → Flag (occurs ar t (diagramOf words)) → occurs ar t (diagramOf words) ≡ false
-        quiet t h k (isFalse q) = q
-        quiet t h k (isTrue q) = let z = each-within c ar (diagramOf words) w t q h in absurd (omega arith)
-
-    go : Flag (anyOccurs ar (diagramOf words) (termBase - c) c) → freeOutcome ar words c outLength workLength ≡ freedOutcome ar c (diagramOf words)
-    go (isTrue q) = free-variables ar words c outLength workLength e room space few past q ∙ sym (freed-variables ar c (diagramOf words) q)
-    go (isFalse q) = free-ok ar words c outLength workLength e room space few past q ∙ sym (freed-ok ar c (diagramOf words) q)
+    quiet : (t : ℕ) → firstParameter + c ≤ t → t < firstParameter + c + (parameterCount - c) → Flag (occurs ar t (diagramOf words)) → occurs ar t (diagramOf words) ≡ false
+    quiet t h k (isFalse q) = q
+    quiet t h k (isTrue q) = let z = each-within c ar (diagramOf words) w t q h in absurd (omega arith)
 
 -- ===== Backup =====
 
@@ -103,27 +83,7 @@ module _ (ar : List ℕ) (g : ℕ) (d best : Diagram) where
   unfolding actionsBest
   best-next a l = refl
 
--- S^(k+1) from S^k
-pub scale-next : (m : Model) (k : ℕ) → scale m ^ suc k ≡ scale m ^ k * scale m
-scale-next m k = pow-suc (scale m) k
-
 module _ (m : Model) (k : ℕ) where
-  pub ends-scale : highestScale < scale m ^ suc k → scaleEnds m k ≡ true
-  unfolding scaleEnds
-  ends-scale h = rw (lt-ltb highestScale (scale m ^ suc k) h)
-
-  pub ends-steps : k ≡ mostSteps → scaleEnds m k ≡ true
-  unfolding scaleEnds
-  ends-steps e = go (ltb highestScale (scale m ^ suc k))
-    where
-      go : (b : Bool) → (b || eqb k mostSteps) ≡ true
-      go true = refl
-      go false = eq-eqb k mostSteps e
-
-  pub goes-on : scale m ^ suc k ≤ highestScale → (k ≡ mostSteps → ⊥) → scaleEnds m k ≡ false
-  unfolding scaleEnds
-  goes-on h n = rw (le-ltb highestScale (scale m ^ suc k) h, ne-eqb k mostSteps n)
-
   pub on-scale : scaleEnds m k ≡ false → (scale m ^ suc k ≤ highestScale) × (k ≡ mostSteps → ⊥)
   unfolding scaleEnds
   on-scale e = go (ltb highestScale (scale m ^ suc k)) refl e
@@ -132,20 +92,13 @@ module _ (m : Model) (k : ℕ) where
       go true q z = clash refl z
       go false q z = (ltb-false highestScale (scale m ^ suc k) q, eqb-false k mostSteps z)
 
-  -- the calls, once 12 is judged
-  abbrev pub rowOfCalls : Diagram → Outcome Diagram
-  rowOfCalls d =
-      andThen (actionsBest (m .arities) (m .numerator) d (leaf 0) (m .actions)) (λ best.
-      andThen (combined Product Shared (m .arities) (m .reward) (leaf (scale m ^ suc k))) (λ r.
-      combined Sum Apart (m .arities) best r))
-
   pub backup-ends : (d : Diagram) → scaleEnds m k ≡ true → backup m k d ≡ refused Scale
   unfolding backup
-  backup-ends d e = ap (λ (b : Bool). pickOutcome b (refused Scale) (rowOfCalls d)) e
+  backup-ends d e = ap (λ (b : Bool). cond b (refused Scale) (rowOfCalls m (scale m ^ suc k) d)) e
 
-  pub backup-row : (d : Diagram) → scaleEnds m k ≡ false → backup m k d ≡ rowOfCalls d
+  pub backup-row : (d : Diagram) → scaleEnds m k ≡ false → backup m k d ≡ rowOfCalls m (scale m ^ suc k) d
   unfolding backup
-  backup-row d e = ap (λ (b : Bool). pickOutcome b (refused Scale) (rowOfCalls d)) e
+  backup-row d e = ap (λ (b : Bool). cond b (refused Scale) (rowOfCalls m (scale m ^ suc k) d)) e
 
 -- ===== Runs =====
 
@@ -174,10 +127,6 @@ module _ (m : Model) where
   pub run-next : (c : Call) (l : List Call) (h : Held) → runFrom m (c ∷ l) h ≡ runFrom m l (call m c h)
   unfolding runFrom
   run-next c l h = refl
-
-  pub run-begins : (l : List Call) → run m l ≡ runFrom m l (record { diagram = m .reward; steps = 0 })
-  unfolding run begin
-  run-begins l = refl
 
 -- ===== k and S^k stay in their ranges =====
 

@@ -4,6 +4,7 @@ use mathlib.Core.List.{List, [], _∷_}
 use Prim.Native.Nat.{ℕ, _^_}
 use lib.ListN.{replicate}
 use Rattle.refusal.specs.declared.Refusal.the-variants.{Value, Scale, Nothing}
+use Rattle.refusal.specs.Outcome.{ok, refused, andThen}
 use Rattle.label.specs.Terms.{isVariable}
 use Rattle.label.specs.Labels.{termsOf, unpacked, predicateOf, packed, testOf, equates}
 use Rattle.label.specs.Renamings.{moved, renamed, mapped, placed, numbering, freeing}
@@ -19,9 +20,8 @@ use Rattle.apply.specs.declared.Combined.the-variants.{Done, Refused}
 use Rattle.apply.specs.Combination.{rowsFormed, combination, diagramAnswer}
 use Rattle.state.specs.State.{meaning, State}
 use Rattle.state.specs.Highest.{highest}
-use Rattle.regress.specs.Calls.{ok, refused, andThen}
-use Rattle.regress.specs.Step.{labelTest}
-use Rattle.regress.specs.Regression.{truthAt}
+use Rattle.regression.specs.Step.{labelTest}
+use Rattle.regression.specs.Regression.{truthAt}
 use Rattle.cut.specs.declared.Edge.the-variants.{False}
 use Rattle.cut.specs.declared.Cut.the-variants.{Done as CutDone, Refused as CutRefused}
 use Rattle.cut.specs.Cut.{diagramAnswer as cutAnswer}

@@ -7,7 +7,7 @@ use lib.ListN.{length, take}
 use Rattle.label.specs.Limits.{predicateCount}
 use Rattle.diagram.specs.Sizes.{resultWords}
 use Rattle.diagram.specs.Words.{isListing}
-use Rattle.regress.specs.Calls.{ok}
+use Rattle.refusal.specs.Outcome.{ok}
 use Rattle.mdp.specs.Model.{scale}
 use Rattle.mdp.specs.Backup.{mostSteps}
 use Rattle.names.specs.Layout.{nameWords}

@@ -5,7 +5,7 @@ use Prim.Native.Nat.{ℕ}
 use native.Mathlib.Omega.{arith}
 use Rattle.refusal.specs.declared.Refusal.{Refusal}
 use Rattle.refusal.specs.declared.Refusal.the-variants.{Place}
-use Rattle.regress.specs.Calls.{Outcome, ok, refused}
+use Rattle.refusal.specs.Outcome.{Outcome, ok, refused}
 use Rattle.text.specs.declared.Kind.{Kind}
 use Rattle.answers.specs.declared.Answer.the-variants.{Refused, Nothing}
 use Rattle.session.specs.declared.Part.the-variants.{Run}

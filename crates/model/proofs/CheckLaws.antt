@@ -1,7 +1,7 @@
 -- Laws of the check of a model.
 use mathlib.Core.Path.{_≡_, refl, sym, ap, subst, _∙_}
 use mathlib.Core.Logic.{_⊎_, inl, inr}
-use mathlib.Core.Bool.{Bool, true, false, not}
+use mathlib.Core.Bool.{Bool, true, false, not, cond}
 use mathlib.Core.List.{List, [], _∷_, _++_}
 use mathlib.Core.Option.{some}
 use Prim.Native.Nat.{ℕ, zero, suc, _+_, _*_, _-_, _/_, _≤_, _<_}
@@ -11,7 +11,7 @@ use native.Mathlib.Numerals.{add-one}
 use lib.ListN.{length, getD, take, drop, replicate, length-append}
 use lib.Seq.{take-at, take-all, ext-getD, getD-take, length-take-le}
 use lib.Dec.{ltb, leb}
-use borrow.Author.Tests.{ltb-true, ltb-false, leb-true}
+use borrow.Author.Tests.{ltb-true, ltb-false, leb-true, not-false}
 use Rattle.basics.specs.Tests.{Flag, isTrue, isFalse, flag}
 use Rattle.basics.specs.Members.{clash}
 use Rattle.refusal.specs.declared.Refusal.the-variants.{Truth, Unbound}
@@ -35,17 +35,16 @@ use Rattle.apart.specs.Results.{Closable}
 use Rattle.state.specs.State.{meaning}
 use Rattle.state.specs.Terms.{Terms}
 use Rattle.state.specs.ValueLaws.{Terms-mono}
-use Rattle.regress.specs.declared.Verdict.{Verdict}
-use Rattle.regress.specs.declared.Verdict.the-variants.{Passed, Refused}
-use Rattle.regress.specs.Parameters.{Within}
-use Rattle.regress.specs.RegressCall.{truthWords, truthsOf, areListings, leafAbove, anyOccurs, unboundVariable}
-use Rattle.regress.specs.RegressCallLaws.{truths-none, truths-some, above-most, any-quiet, not-false}
-use Rattle.regress.specs.NextLaws.{occur-terms}
-use Rattle.regress.specs.Freeing.{anySet}
-use Rattle.regress.specs.Keeping.{Lent}
-use Rattle.regress.specs.Regressing.{pickVerdict, verdictOn, Between}
-use Rattle.regress.proofs.FreeLaws.{used-any}
-use Rattle.regress.proofs.CheckLaws.{judge-valid}
+use Rattle.truths.specs.declared.Verdict.{Verdict}
+use Rattle.truths.specs.declared.Verdict.the-variants.{Passed, Refused}
+use Rattle.regression.specs.Parameters.{Within}
+use Rattle.regression.specs.RegressCall.{truthWords, truthsOf, areListings, leafAbove, anyOccurs, unboundVariable}
+use Rattle.regression.specs.RegressCallLaws.{truths-none, truths-some, above-most, any-quiet}
+use Rattle.regression.specs.NextLaws.{occur-terms}
+use Rattle.freeing.specs.FreeTasks.{anySet}
+use Rattle.truths.specs.TruthChecks.{Lent, verdictOn, Between}
+use Rattle.freeing.specs.MarkLaws.{used-any}
+use Rattle.truths.specs.TruthCheckLaws.{judge-valid}
 use Rattle.mdp.specs.Model.{Every, GoodTruthDiagram, GoodVariant, GoodAction, mostActions, mostVariants}
 use Rattle.mdp.specs.CallLaws.{within-each, closed-count}
 use Rattle.model.specs.declared.Head.{Head}
@@ -109,7 +108,7 @@ module _ (ar : List ℕ) (n : ℕ) (d : Diagram) where
   pass : verdictOn ar n d ≡ Passed → (leafAbove 1 d ≡ false) × (unboundVariable ar n d ≡ false)
   pass e = go (leafAbove 1 d) (unboundVariable ar n d) e
     where
-      go : (a b : Bool) → pickVerdict a (Refused Truth) (pickVerdict b (Refused Unbound) Passed) ≡ Passed → (a ≡ false) × (b ≡ false)
+      go : (a b : Bool) → cond a (Refused Truth) (cond b (Refused Unbound) Passed) ≡ Passed → (a ≡ false) × (b ≡ false)
       go true b q = let z : _≡_ {A = ℕ} 0 1 = cc in absurd (omega arith)
       go false true q = let z : _≡_ {A = ℕ} 0 1 = cc in absurd (omega arith)
       go false false q = (refl, refl)
@@ -123,7 +122,9 @@ truth-says ar words c n e few small v q {b} h = record {
         listed = is-listing-good ar words e;
         bits = above-most 1 (diagramOf words) (p .0);
         parameters = within-lacks ar words c few (sym h ∙ y);
-        arguments = terms-below ar words (firstVariable + n) e (omega arith) (let z : variableCount - n ≡ termBase - (firstVariable + n) = omega arith in subst (λ (k : ℕ). not (anyOccurs ar (diagramOf words) (firstVariable + n) k) ≡ true) z (ap not (p .1)));
+        arguments = terms-below ar words (firstVariable + n) e (omega arith) (
+            let z : variableCount - n ≡ termBase - (firstVariable + n) = omega arith in
+            subst (λ (k : ℕ). not (anyOccurs ar (diagramOf words) (firstVariable + n) k) ≡ true) z (ap not (p .1)));
       };
 }
 
@@ -159,7 +160,8 @@ truths-end t l = record { each = λ q d h k e. t .each q d h (omega arith) e }
 
 -- ===== A weight =====
 
-pub weight-says : (ar words : List ℕ) (c : ℕ) → c ≤ parameterCount → isListing ar words ≡ true → {b : Bool} → b ≡ not (anyOccurs ar (diagramOf words) (16 + c) (64 - (16 + c))) → Says b (IsWeight ar words c)
+pub weight-says : (ar words : List ℕ) (c : ℕ) → c ≤ parameterCount → isListing ar words ≡ true → {b : Bool}
+    → b ≡ not (anyOccurs ar (diagramOf words) (16 + c) (64 - (16 + c))) → Says b (IsWeight ar words c)
 weight-says ar words c few e {b} h = record {
   given = λ y. record {
     listing = e;
@@ -238,8 +240,8 @@ looked-on {ar} {listings} {table} {a} {c} {v} x f = record { each = λ w l. go w
 pub looked-place : (table : List ℕ) (a v n : ℕ) → a * actionWords + actionWords ≤ length table → v < n → n ≤ mostVariants → a * 530 + 2 + v * 66 + variantWords ≤ length table
 looked-place table a v n h l k = omega arith
 
-pub action-says : {ar listings table : List ℕ} {a c v : ℕ} → Looked ar listings table a c v → c ≡ getD table (a * actionWords) 0 → c ≤ parameterCount → variantsOf table a ≤ mostVariants → variantsOf table a ≤ v
-    → ActionFits ar listings table a
+pub action-says : {ar listings table : List ℕ} {a c v : ℕ} → Looked ar listings table a c v → c ≡ getD table (a * actionWords) 0 → c ≤ parameterCount
+    → variantsOf table a ≤ mostVariants → variantsOf table a ≤ v → ActionFits ar listings table a
 unfolding actionAt
 action-says {ar} {listings} {table} {a} {c} {v} x e few most l = record {
   laid = record { few = most; variants = λ w k. x .each w (omega arith) .laid };

@@ -12,8 +12,8 @@ use Rattle.diagram.specs.Listing.{diagramOf}
 use Rattle.diagram.specs.Variables.{closed}
 use Rattle.state.specs.State.{meaning}
 use Rattle.state.specs.Terms.{Terms}
-use Rattle.regress.specs.Parameters.{Within}
-use Rattle.regress.specs.RegressCall.{truthsOf}
+use Rattle.regression.specs.Parameters.{Within}
+use Rattle.regression.specs.RegressCall.{truthsOf}
 use Rattle.mdp.specs.Model.{mostTotal, mostDenominator, GoodTruthDiagram, GoodVariant, GoodAction}
 use Rattle.model.specs.declared.Head.{Head}
 use Rattle.model.specs.Layout.{part, variantAt, actionAt, LaidVariant, LaidAction}

@@ -7,7 +7,7 @@ use lib.ListN.{length, getD, take, drop}
 use Rattle.label.specs.Limits.{predicateCount}
 use Rattle.diagram.specs.Words.{isListing}
 use Rattle.diagram.specs.Listing.{diagramOf}
-use Rattle.regress.specs.RegressCall.{truthsOf, areListings}
+use Rattle.regression.specs.RegressCall.{truthsOf, areListings}
 use Rattle.names.specs.Many.{many}
 use Rattle.mdp.specs.Model.{Variant, Action, Model, GoodModel, mostActions, mostVariants}
 use Rattle.model.specs.declared.Head.{Head}

@@ -1,7 +1,7 @@
 // A model in lent words: its numbers, its listings one after another, and a table of where they stand.
 use label::Label;
 use label::Term;
-use regress::Verdict;
+use truths::Verdict;
 ghost use mathlib.Core.Path.{_≡_};
 ghost use mathlib.Core.Bool.{true, not};
 ghost use Prim.Native.Nat.{_+_, _*_, _≤_};
@@ -11,9 +11,8 @@ ghost use Rattle.label.specs.Labels.{areArities};
 ghost use Rattle.diagram.specs.Words.{isListing};
 ghost use Rattle.diagram.specs.Listing.{diagramOf};
 ghost use Rattle.diagram.specs.Variables.{closed};
-ghost use Rattle.regress.specs.RegressCall.{anyOccurs};
-ghost use Rattle.regress.specs.Keeping.{Lent};
-ghost use Rattle.regress.specs.Regressing.{Between};
+ghost use Rattle.regression.specs.RegressCall.{anyOccurs};
+ghost use Rattle.truths.specs.TruthChecks.{Lent, Between};
 ghost use Rattle.mdp.specs.Model.{GoodTruthDiagram, mostActions};
 ghost use Rattle.model.specs.Layout.{variantWords, actionWords, tableWords, Laid};
 ghost use Rattle.model.specs.Checks.{Says, TruthFits, TruthsFit, IsWeight, WeightFits, VariantFits, ActionFits, ActionsFit, IsReward, RewardFits, NumbersFit};
@@ -59,7 +58,7 @@ fn lacks(arities: &[u64], words: &[u64], first: usize, n: usize) -> bool
 {
     let mut marks = [0u64; 64];
     listing::used(arities, words, &mut marks);
-    !regress::any_set(&marks, first, n)
+    !freeing::any_set(&marks, first, n)
 }
 
 // Whether a listing is a truth diagram of a predicate of n places, of an action with c parameters.
@@ -69,7 +68,7 @@ fn is_truth(arities: &[u64], words: &[u64], c: usize, n: usize) -> bool
     requires { ⌜ n ≤ mostPlaces ⌝ }
     ensures { λ r. ⌜ Says r (GoodTruthDiagram (now (arities .entry)) c n (diagramOf (now (words .entry)))) ⌝ }
 {
-    let v = regress::judge(arities, words, n);
+    let v = truths::judge(arities, words, n);
     let Verdict::Passed = v else {
         return false;
     };
@@ -89,11 +88,11 @@ fn truth_fits(arities: &[u64], listings: &[u64], spans: &[u64], c: usize, p: usi
     requires { ⌜ Between 1 p predicateCount ⌝ }
     ensures { λ r. ⌜ Says r (TruthFits (now (arities .entry)) c (now (listings .entry)) (now (spans .entry)) p) ⌝ }
 {
-    if regress::word_at(spans, p * 2 + 1) == 0 {
+    if truths::word_at(spans, p * 2 + 1) == 0 {
         return true;
     }
     let n = arities[p] as usize;
-    is_truth(arities, regress::truth_words(listings, spans, p), c, n)
+    is_truth(arities, truths::truth_words(listings, spans, p), c, n)
 }
 
 // Whether all truth diagrams of a variant are fit for an action of c parameters.
@@ -150,7 +149,7 @@ fn variant_fits(arities: &[u64], listings: &[u64], table: &[u64], place: usize, 
     if !weight_fits(arities, listings, start, count, c) {
         return false;
     }
-    if !regress::are_listed(arities, listings, &table[place + 2..place + VARIANT_WORDS]) {
+    if !truths::are_listed(arities, listings, &table[place + 2..place + VARIANT_WORDS]) {
         return false;
     }
     truths_fit(

@@ -4,7 +4,7 @@ use mathlib.Core.List.{List, [], _∷_, _++_}
 use Prim.Native.Nat.{ℕ, suc, _≤_, _<_}
 use native.Mathlib.Omega.{arith}
 use lib.ListN.{length, length-append}
-use Rattle.regress.specs.Regression.{Truths}
+use Rattle.regression.specs.Regression.{Truths}
 use Rattle.mdp.specs.Model.{Variant, Action, Every, GoodVariant, GoodAction, mostVariants}
 use Rattle.session.specs.Modelling.{addVariant, lastTruths, lastVariant}
 use Rattle.session.specs.Good.{LastAction}

@@ -17,11 +17,11 @@ use Rattle.text.specs.declared.Kind.the-variants.{Becomes}
 use Rattle.diagram.specs.Diagram.{Diagram}
 use Rattle.state.specs.State.{meaning}
 use Rattle.state.specs.ValueLaws.{Terms-mono}
-use Rattle.regress.specs.Calls.{ok}
-use Rattle.regress.specs.CallLaws.{Accepted, accepted-ok, accepted-then, accepted-pick}
-use Rattle.regress.specs.Regression.{Truths}
-use Rattle.regress.specs.RegressCall.{leafAbove}
-use Rattle.regress.specs.RegressCallLaws.{above-most}
+use Rattle.refusal.specs.Outcome.{ok, Accepted}
+use Rattle.refusal.specs.OutcomeLaws.{accepted-ok, accepted-then, accepted-cond, accepted-next}
+use Rattle.regression.specs.Regression.{Truths}
+use Rattle.regression.specs.RegressCall.{leafAbove}
+use Rattle.regression.specs.RegressCallLaws.{above-most}
 use Rattle.events.specs.declared.Event.{Event}
 use Rattle.events.specs.Events.{diagramEvents, wordsEvents}
 use Rattle.reading.specs.declared.Binding.the-variants.{Only}
@@ -35,7 +35,7 @@ use Rattle.session.specs.declared.Part.the-variants.{Model as ModelPart}
 use Rattle.session.specs.Session.{Names, Session}
 use Rattle.session.specs.Modelling.{mostModelRows, namesFor, rowsWith, pickOption, withTruthAt, lastVariant, truthsNow, isSome, withTruth, truthRead, becomesLine}
 use Rattle.session.specs.Good.{GoodTables, GoodSession}
-use Rattle.model_laws.specs.OutcomeLaws.{accepted-next, accepted-read}
+use Rattle.model_laws.specs.OutcomeLaws.{accepted-read}
 use Rattle.model_laws.specs.SessionLaws.{while-model, parts-with}
 use Rattle.model_laws.specs.ActionLaws.{withTruths, length-last, last-kept, every-last}
 use Rattle.model_laws.specs.DrawnLaws.{Read, read-within}
@@ -63,13 +63,13 @@ became : (n : Names) (ar : List ℕ) → GoodTables n ar → (truths : Truths) (
 unfolding truthRead
 became n ar tables truths r p vs w shallow =
     accepted-read (headNumber (n .predicates) (wordsEvents Becomes (p, vs, w))) _ (λ q i.
-    accepted-pick (isSome (truths q)) Name _ (λ new.
+    accepted-cond (isSome (truths q)) Name _ (λ new.
     accepted-read (headArguments (getD ar q 0) (wordsEvents Becomes (p, vs, w))) _ (λ h j.
     let x = head-headed (getD ar q 0) (keyOf p) vs (diagramEvents w) h j in
     accepted-read (reading (namesFor n ar Only (n .parameters)) (h .rest) (h .variables)) _ (λ u e.
     accepted-next (built (u .operations)) _ (λ d m.
-    accepted-pick (leafAbove 1 d) Truth _ (λ bits.
-    accepted-pick (ltb mostModelRows (rowsWith r d)) Space _ (λ few.
+    accepted-cond (leafAbove 1 d) Truth _ (λ bits.
+    accepted-cond (ltb mostModelRows (rowsWith r d)) Space _ (λ few.
     let f = subst (λ (es : List Event). reading (namesFor n ar Only (n .parameters)) es (h .variables) ≡ fine u) (x .rest) e in
     let y = line-read n ar tables w shallow Only (h .variables) u d (n .parameters) (tables .parameters) f m in
     accepted-ok

@@ -6,15 +6,14 @@ use Prim.Native.Nat.{ℕ}
 use native.Mathlib.Omega.{arith}
 use lib.ListN.{length}
 use lib.Dec.{ltb, leb}
-use borrow.Author.Tests.{leb-true, leb-false, ltb-false}
+use borrow.Author.Tests.{leb-true, leb-false, ltb-false, not-false}
 use Rattle.basics.specs.Tests.{and-left, and-right}
 use Rattle.refusal.specs.declared.Refusal.the-variants.{Name, Range, Space}
 use Rattle.label.specs.Limits.{constantCount, parameterCount}
 use Rattle.words.specs.declared.Key.{Key}
 use Rattle.names.specs.Keys.{isAmong}
-use Rattle.regress.specs.Calls.{ok}
-use Rattle.regress.specs.CallLaws.{Accepted, accepted-ok, accepted-pick}
-use Rattle.regress.specs.RegressCallLaws.{not-false}
+use Rattle.refusal.specs.Outcome.{ok, Accepted}
+use Rattle.refusal.specs.OutcomeLaws.{accepted-ok, accepted-cond}
 use Rattle.mdp.specs.Model.{Action, GoodAction, mostTotal, mostDenominator, mostActions}
 use Rattle.session.specs.declared.Part.the-variants.{Model as ModelPart}
 use Rattle.session.specs.Session.{Names, Session}
@@ -38,8 +37,8 @@ module _ (σ : Session) (good : GoodSession σ) (part : σ .part ≡ ModelPart) 
     where
       accepted : Accepted (λ (n : Names). GoodSession (withNames σ n)) (constantLine (σ .names) k)
       accepted =
-          accepted-pick (isDeclared (σ .names) k) Name _ (λ new.
-          accepted-pick (leb constantCount (length (σ .names .constants))) Space _ (λ room.
+          accepted-cond (isDeclared (σ .names) k) Name _ (λ new.
+          accepted-cond (leb constantCount (length (σ .names .constants))) Space _ (λ room.
           accepted-ok
           (while-model _ part (good .quiet part)
           (record {
@@ -61,7 +60,7 @@ module _ (σ : Session) (good : GoodSession σ) (part : σ .part ≡ ModelPart) 
     where
       accepted : Accepted (λ (x : ℕ). GoodSession (withTotal σ x)) (totalLine w)
       accepted =
-          accepted-pick (not (isTotal w)) Range _ (λ e.
+          accepted-cond (not (isTotal w)) Range _ (λ e.
           let q = not-false (isTotal w) e in
           accepted-ok
           (while-model _ part (good .quiet part) tables (good .agreeing)
@@ -82,7 +81,7 @@ module _ (σ : Session) (good : GoodSession σ) (part : σ .part ≡ ModelPart) 
     where
       accepted : Accepted (λ (q : ℕ × ℕ). GoodSession (withDiscount σ q)) (discountLine g d)
       accepted =
-          accepted-pick (not (isDiscount g d)) Range _ (λ e.
+          accepted-cond (not (isDiscount g d)) Range _ (λ e.
           let q = not-false (isDiscount g d) e in
           let r = and-right (leb 1 d) _ q in
           accepted-ok
@@ -107,8 +106,8 @@ module _ (σ : Session) (good : GoodSession σ) (part : σ .part ≡ ModelPart) 
 
       accepted : Accepted (λ (n : Names). GoodSession (withAction σ n)) (actionLine (σ .names) k ps)
       accepted =
-          accepted-pick (isAmong k (σ .names .actions) || repeated [] ps) Name _ (λ new.
-          accepted-pick (ltb parameterCount (length ps) || leb mostActions (length (σ .names .actions))) Space _ (λ e.
+          accepted-cond (isAmong k (σ .names .actions) || repeated [] ps) Name _ (λ new.
+          accepted-cond (ltb parameterCount (length ps) || leb mostActions (length (σ .names .actions))) Space _ (λ e.
           let q = neither (ltb parameterCount (length ps)) _ e in
           let few = ltb-false parameterCount (length ps) (q .0) in
           accepted-ok

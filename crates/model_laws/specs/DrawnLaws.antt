@@ -20,11 +20,11 @@ use Rattle.apply.specs.GoodLaws.{EveryLabel}
 use Rattle.state.specs.State.{atomOf, meaning}
 use Rattle.state.specs.Terms.{Each, Terms}
 use Rattle.state.specs.ValueLaws.{Terms-mono}
-use Rattle.regress.specs.Calls.{ok}
-use Rattle.regress.specs.Step.{testDiagram}
-use Rattle.regress.specs.StepLaws.{eval-most, most-eval, eval-test, ordered-test, eval-stepped, from-stepped, reduced-stepped, every-stepped}
-use Rattle.regress.specs.Result.{AtMost, asked, stepped}
-use Rattle.regress.specs.Parameters.{Allowed, Within}
+use Rattle.refusal.specs.Outcome.{ok}
+use Rattle.regression.specs.Step.{testDiagram}
+use Rattle.regression.specs.StepLaws.{eval-most, most-eval, eval-test, ordered-test, eval-stepped, from-stepped, reduced-stepped, every-stepped}
+use Rattle.regression.specs.Result.{AtMost, asked, stepped}
+use Rattle.regression.specs.Parameters.{Allowed, Within}
 use Rattle.mdp.specs.CallLaws.{within-closed, closed-count}
 use Rattle.reading.specs.Tree.{Reading, depth, opsOf, Named, GoodTest, GoodReading}
 use Rattle.reading.specs.Tree.Reading.{branch as conditional, number}

@@ -23,7 +23,7 @@ use Rattle.rename.specs.ClosingLaws.{closed-variables, closed-same}
 use Rattle.state.specs.State.{atomOf, meaning}
 use Rattle.state.specs.Terms.{Each, Terms}
 use Rattle.state.specs.ValueLaws.{Terms-mono}
-use Rattle.regress.specs.Parameters.{Allowed, Within}
+use Rattle.regression.specs.Parameters.{Allowed, Within}
 use Rattle.mdp.specs.Model.{Variant, Action, Every, GoodTruthDiagram, GoodVariant, GoodAction}
 use Rattle.session.specs.Good.{GoodReward}
 use Rattle.model_laws.specs.ArityLaws.{Grown, grown-more}

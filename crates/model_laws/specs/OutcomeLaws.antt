@@ -1,15 +1,11 @@
 -- Steps that may be refused: what holds of the answer.
 use mathlib.Core.Path.{_≡_, refl}
 use mathlib.Core.Bool.{Bool, true, false, _||_, true≢false}
-use Rattle.regress.specs.Calls.{Outcome, ok, andThen}
-use Rattle.regress.specs.CallLaws.{Accepted, accepted-refused, accepted-then}
+use Rattle.refusal.specs.Outcome.{Outcome, andThen, Accepted}
+use Rattle.refusal.specs.OutcomeLaws.{accepted-refused}
 use Rattle.reading.specs.Reading.{Judged}
 use Rattle.reading.specs.Reading.Judged.{fine, refused}
 use Rattle.session.specs.Modelling.{outcomeOf}
-
--- one step, then the next
-pub accepted-next : {A B : Type 0} {P : B → Type 0} (o : Outcome A) (f : A → Outcome B) → ((a : A) → o ≡ ok a → Accepted P (f a)) → Accepted P (andThen o f)
-accepted-next o f h = accepted-then o (record { given = λ a e. e }) h
 
 -- words that are read, then the next step
 pub accepted-read : {A B : Type 0} {P : B → Type 0} (j : Judged A) (f : A → Outcome B) → ((a : A) → j ≡ fine a → Accepted P (f a)) → Accepted P (andThen (outcomeOf j) f)

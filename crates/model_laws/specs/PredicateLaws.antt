@@ -10,8 +10,8 @@ use borrow.Author.Tests.{leb-false, ltb-false}
 use Rattle.refusal.specs.declared.Refusal.the-variants.{Name, Range, Space}
 use Rattle.label.specs.Limits.{predicateCount, mostPlaces}
 use Rattle.words.specs.declared.Key.{Key}
-use Rattle.regress.specs.Calls.{ok}
-use Rattle.regress.specs.CallLaws.{Accepted, accepted-ok, accepted-pick}
+use Rattle.refusal.specs.Outcome.{ok, Accepted}
+use Rattle.refusal.specs.OutcomeLaws.{accepted-ok, accepted-cond}
 use Rattle.session.specs.declared.Part.the-variants.{Model as ModelPart}
 use Rattle.session.specs.Session.{Session}
 use Rattle.session.specs.Declaring.{isDeclared, Vocabulary, predicateLine}
@@ -43,9 +43,9 @@ module _ (σ : Session) (good : GoodSession σ) (part : σ .part ≡ ModelPart) 
 
       accepted : Accepted (λ (v : Vocabulary). GoodSession (withVocabulary σ v)) (predicateLine (record { names = σ .names; arities = ar }) k a)
       accepted =
-          accepted-pick (isDeclared (σ .names) k) Name _ (λ new.
-          accepted-pick (ltb mostPlaces a) Range _ (λ e.
-          accepted-pick (leb predicateCount p) Space _ (λ room.
+          accepted-cond (isDeclared (σ .names) k) Name _ (λ new.
+          accepted-cond (ltb mostPlaces a) Range _ (λ e.
+          accepted-cond (leb predicateCount p) Space _ (λ room.
           let g = grown (ltb-false mostPlaces a e) in
           let l = length-more (σ .names .predicates) k in
           accepted-ok

@@ -8,7 +8,7 @@ use Rattle.label.specs.Limits.{parameterCount}
 use Rattle.words.specs.declared.Key.{Key}
 use Rattle.forms.specs.Tree as T
 use Rattle.diagram.specs.Diagram.{Diagram}
-use Rattle.regress.specs.Calls.{ok}
+use Rattle.refusal.specs.Outcome.{ok}
 use Rattle.events.specs.Events.{diagramEvents}
 use Rattle.reading.specs.declared.Binding.{Binding}
 use Rattle.reading.specs.Reading.{Written, reading}

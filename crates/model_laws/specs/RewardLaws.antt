@@ -7,8 +7,8 @@ use borrow.Author.Tests.{ltb-false}
 use Rattle.refusal.specs.declared.Refusal.the-variants.{Space}
 use Rattle.forms.specs.Tree as T
 use Rattle.diagram.specs.Diagram.{Diagram}
-use Rattle.regress.specs.Calls.{ok}
-use Rattle.regress.specs.CallLaws.{Accepted, accepted-ok, accepted-then, accepted-pick}
+use Rattle.refusal.specs.Outcome.{ok, Accepted}
+use Rattle.refusal.specs.OutcomeLaws.{accepted-ok, accepted-then, accepted-cond, accepted-next}
 use Rattle.events.specs.declared.Event.{Event}
 use Rattle.events.specs.Events.{diagramEvents}
 use Rattle.reading.specs.declared.Binding.the-variants.{Any}
@@ -18,7 +18,7 @@ use Rattle.session.specs.declared.Part.the-variants.{Model as ModelPart}
 use Rattle.session.specs.Session.{Names, Session}
 use Rattle.session.specs.Modelling.{mostModelRows, namesFor, rowsWith, withReward, rewardRead, rewardLine}
 use Rattle.session.specs.Good.{GoodTables, GoodReward, GoodSession}
-use Rattle.model_laws.specs.OutcomeLaws.{accepted-next, accepted-read}
+use Rattle.model_laws.specs.OutcomeLaws.{accepted-read}
 use Rattle.model_laws.specs.SessionLaws.{while-model, parts-with}
 use Rattle.model_laws.specs.ReadLaws.{line-reward}
 
@@ -32,7 +32,7 @@ unfolding rewardRead
 rewarded n ar tables r w shallow =
     accepted-read (reading (namesFor n ar Any []) (diagramEvents w) []) _ (λ u e.
     accepted-next (builtClosed ar (u .operations)) _ (λ d m.
-    accepted-pick (ltb mostModelRows (rowsWith r d)) Space _ (λ few.
+    accepted-cond (ltb mostModelRows (rowsWith r d)) Space _ (λ few.
     accepted-ok (record { good = line-reward n ar tables w shallow Any [] u d e m; few = ltb-false mostModelRows (rowsWith r d) few }))))
 
 module _ (σ : Session) (good : GoodSession σ) (part : σ .part ≡ ModelPart) where

@@ -17,8 +17,8 @@ use Rattle.diagram.specs.Diagram.{Diagram}
 use Rattle.state.specs.State.{meaning}
 use Rattle.state.specs.Terms.{Terms}
 use Rattle.state.specs.ValueLaws.{Terms-mono}
-use Rattle.regress.specs.Calls.{ok}
-use Rattle.regress.specs.CallLaws.{Accepted, accepted-ok, accepted-then, accepted-pick}
+use Rattle.refusal.specs.Outcome.{ok, Accepted}
+use Rattle.refusal.specs.OutcomeLaws.{accepted-ok, accepted-then, accepted-cond, accepted-next}
 use Rattle.events.specs.declared.Event.{Event}
 use Rattle.events.specs.Events.{diagramEvents}
 use Rattle.reading.specs.declared.Binding.the-variants.{None}
@@ -30,7 +30,7 @@ use Rattle.session.specs.declared.Part.the-variants.{Model as ModelPart}
 use Rattle.session.specs.Session.{Names, Session}
 use Rattle.session.specs.Modelling.{mostModelRows, namesFor, rowsWith, addVariant, noTruths, withVariant, weightRead, variantLine}
 use Rattle.session.specs.Good.{GoodTables, LastAction, GoodSession}
-use Rattle.model_laws.specs.OutcomeLaws.{accepted-next, accepted-read, neither}
+use Rattle.model_laws.specs.OutcomeLaws.{accepted-read, neither}
 use Rattle.model_laws.specs.SessionLaws.{while-model, parts-with}
 use Rattle.model_laws.specs.ActionLaws.{length-more, length-added, last-added, every-added}
 use Rattle.model_laws.specs.DrawnLaws.{Read}
@@ -66,10 +66,10 @@ record Weighed (n : Names) (ar : List ℕ) (r : ℕ) (d : Diagram) : Type 0 wher
 weighed : (n : Names) (ar : List ℕ) → GoodTables n ar → (r : ℕ) (k : Key) (w : T.Diagram) → T.brackets w ≤ mostTests → Accepted (Weighed n ar r) (weightRead n ar r k (diagramEvents w))
 unfolding weightRead
 weighed n ar tables r k w shallow =
-    accepted-pick (isAmong k (n .variants)) Name _ (λ new.
+    accepted-cond (isAmong k (n .variants)) Name _ (λ new.
     accepted-read (reading (namesFor n ar None (n .parameters)) (diagramEvents w) []) _ (λ u e.
     accepted-next (built (u .operations)) _ (λ d m.
-    accepted-pick (leb mostVariants (length (n .variants)) || ltb mostModelRows (rowsWith r d)) Space _ (λ z.
+    accepted-cond (leb mostVariants (length (n .variants)) || ltb mostModelRows (rowsWith r d)) Space _ (λ z.
     let q = neither (leb mostVariants (length (n .variants))) _ z in
     accepted-ok
     (record {

@@ -5,11 +5,11 @@ use Prim.Native.Nat.{ℕ, suc, _+_, _*_, _≤_, _<_}
 use native.Mathlib.Omega.{arith}
 use lib.ListN.{length, getD, set, take, length-set}
 use lib.Seq.{getD-set-same, getD-set-other, paste}
-use Rattle.state.specs.ValueLaws.{by-low}
-use Rattle.diagram.specs.Listing.{diagramOf}
-use Rattle.model.specs.declared.Head.{Head}
 use Rattle.names.specs.Many.{many}
 use Rattle.names.specs.ManyLaws.{many-ext}
+use Rattle.diagram.specs.Listing.{diagramOf}
+use Rattle.state.specs.ValueLaws.{by-low}
+use Rattle.model.specs.declared.Head.{Head}
 use Rattle.model.specs.Layout.{part, listingWords, actionWords, variantPlace, variantAt, variantsOf, actionAt, rewardWords, modelOf}
 use Rattle.modelling.specs.Building.{modelWith, SpannedAction, Spanned, Canonical, ListedVariant, Listed, Building, withActions, rewarded, newAction, moreActions, rewardHead, ActionRoom, ActionAdded, RowsRoom, RewardAdded}
 use Rattle.modelling.specs.WordLaws.{Same, actionOf, actionUse, paste-before, paste-there, action-same, spanned-action, canonical-on, listed-variant}

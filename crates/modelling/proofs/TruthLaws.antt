@@ -1,6 +1,6 @@
 -- Laws of the truth diagrams of the last variant: whether there is one, and one more.
 use mathlib.Core.Path.{_≡_, refl, sym, ap, ap₂, subst, _∙_, fun-ext}
-use mathlib.Core.Bool.{Bool, true, false}
+use mathlib.Core.Bool.{Bool, true, false, cond}
 use mathlib.Core.List.{List, [], _∷_, _++_}
 use mathlib.Core.Option.{some, none}
 use Prim.Native.Nat.{ℕ, suc, _+_, _*_, _-_, _≤_, _<_}
@@ -11,17 +11,17 @@ use lib.Dec.{eqb}
 use borrow.Author.Tests.{ne-eqb, eqb-true, eqb-false}
 use Rattle.basics.specs.Tests.{Flag, isTrue, isFalse, flag}
 use Rattle.label.specs.Limits.{predicateCount}
-use Rattle.state.specs.ValueLaws.{by-low}
-use Rattle.diagram.specs.Diagram.{Diagram}
-use Rattle.diagram.specs.Listing.{diagramOf}
-use Rattle.regress.specs.Regression.{Truths, pickTruth}
-use Rattle.regress.specs.RegressCall.{truthsOf}
-use Rattle.mdp.specs.Model.{Variant, Action, mostVariants}
-use Rattle.session.specs.Modelling.{lastVariant, lastTruths, withTruthAt, pickOption, truthsNow, truthsOfLast, isSome}
-use Rattle.model.specs.declared.Head.{Head}
 use Rattle.names.specs.Many.{many}
 use Rattle.names.specs.ManyLaws.{many-ext}
+use Rattle.diagram.specs.Diagram.{Diagram}
+use Rattle.diagram.specs.Listing.{diagramOf}
+use Rattle.state.specs.ValueLaws.{by-low}
+use Rattle.regression.specs.Regression.{Truths}
+use Rattle.regression.specs.RegressCall.{truthsOf}
+use Rattle.mdp.specs.Model.{Variant, Action, mostVariants}
+use Rattle.model.specs.declared.Head.{Head}
 use Rattle.model.specs.Layout.{part, variantWords, actionWords, variantPlace, weightWords, spansAt, variantAt, variantsOf, actionAt, modelOf}
+use Rattle.session.specs.Modelling.{lastVariant, lastTruths, withTruthAt, pickOption, truthsNow, truthsOfLast, isSome}
 use Rattle.modelling.specs.Building.{modelWith, Inside, truthPlace, SpannedVariant, SpannedAction, Canonical, ListedVariant, Listed, withActions, RowsRoom, TruthRoom, HasTruth, TruthAdded, lastPlace, TruthPlaced, moreWords}
 use Rattle.modelling.specs.WordLaws.{Same, variantOf, actionOf, actionUse, part-under, truth-none, truth-here, truth-same, truths-over, span-same, action-same, variant-same, inside-kept, spanned-variant, spanned-action, canonical-on, listed-variant}
 use Rattle.modelling.proofs.AddLaws.{snoc, below-action, Appended, appended}
@@ -80,7 +80,7 @@ module _ {t : List ℕ} {h : Head} {p : ℕ} (r : TruthRoom t h p) where
         sym (ap isSome
         (now-here ar l
         ∙ truth-here t (lastPlace t h) p l (r .declared)
-        ∙ ap (λ (b : Bool). pickTruth b none (some (diagramOf (weightWords l t (truthPlace (lastPlace t h) p))))) (ne-eqb (getD t (truthPlace (lastPlace t h) p + 1) 0) 0 n)));
+        ∙ ap (λ (b : Bool). cond b none (some (diagramOf (weightWords l t (truthPlace (lastPlace t h) p))))) (ne-eqb (getD t (truthPlace (lastPlace t h) p + 1) 0) 0 n)));
   }
 
   pub last-few : variantsOf t (h .actions - 1) ≤ mostVariants
@@ -180,7 +180,7 @@ module _ {l l′ t out : List ℕ} {h : Head} {rows p : ℕ} (r : RowsRoom l h o
   new-truth : truthsOf l′ (spansAt t′ i) p ≡ some d
   new-truth =
       truth-here t′ i p l′ (v .declared)
-      ∙ ap₂ (λ (b : Bool) (ws : List ℕ). pickTruth b none (some (diagramOf ws))) (ne-eqb (getD t′ (q + 1) 0) 0 new-some) new-words
+      ∙ ap₂ (λ (b : Bool) (ws : List ℕ). cond b none (some (diagramOf ws))) (ne-eqb (getD t′ (q + 1) 0) 0 new-some) new-words
 
   truth-is : (k : ℕ) → Flag (eqb k p) → truthsOf l′ (spansAt t′ i) k ≡ withTruthAt (truthsOf l (spansAt t i)) p d k
   unfolding withTruthAt

@@ -5,14 +5,14 @@ use Prim.Native.Nat.{ℕ, suc, _+_, _*_, _-_, _≤_, _<_}
 use native.Mathlib.Omega.{arith}
 use lib.ListN.{length, getD, set, take, length-set}
 use lib.Seq.{getD-set-same, getD-set-other, paste}
-use Rattle.state.specs.ValueLaws.{by-low}
-use Rattle.diagram.specs.Listing.{diagramOf}
-use Rattle.mdp.specs.Model.{Variant, Action, mostVariants}
-use Rattle.session.specs.Modelling.{addVariant}
-use Rattle.model.specs.declared.Head.{Head}
 use Rattle.names.specs.Many.{many}
 use Rattle.names.specs.ManyLaws.{many-ext}
+use Rattle.diagram.specs.Listing.{diagramOf}
+use Rattle.state.specs.ValueLaws.{by-low}
+use Rattle.mdp.specs.Model.{Variant, Action, mostVariants}
+use Rattle.model.specs.declared.Head.{Head}
 use Rattle.model.specs.Layout.{part, spanWords, variantWords, actionWords, variantPlace, variantAt, variantsOf, actionAt, modelOf}
+use Rattle.session.specs.Modelling.{addVariant}
 use Rattle.modelling.specs.Building.{modelWith, truthPlace, SpannedVariant, SpannedAction, Canonical, ListedVariant, Listed, withActions, newVariant, RowsRoom, VariantRoom, VariantAdded, Cleared, newPlace, Opened, moreWords}
 use Rattle.modelling.specs.WordLaws.{Same, variantOf, actionOf, actionUse, part-under, truth-none, action-same, variant-same, spanned-variant, spanned-action, canonical-on, listed-variant}
 use Rattle.modelling.proofs.AddLaws.{snoc, below-action, Appended, appended}

@@ -8,9 +8,9 @@ use Rattle.label.specs.Limits.{predicateCount}
 use Rattle.diagram.specs.Diagram.{Diagram}
 use Rattle.diagram.specs.Listing.{listing, diagramOf}
 use Rattle.mdp.specs.Model.{Variant, Action, Model, mostActions, mostVariants}
-use Rattle.session.specs.Modelling.{addVariant, noTruths, lastVariant, withTruthAt, truthsNow, isSome}
 use Rattle.model.specs.declared.Head.{Head}
 use Rattle.model.specs.Layout.{listingWords, tableWords, actionWords, variantWords, variantPlace, weightWords, variantsOf, rewardWords, modelOf}
+use Rattle.session.specs.Modelling.{addVariant, noTruths, lastVariant, withTruthAt, truthsNow, isSome}
 
 -- the model that a head's numbers, a reward and actions are
 abbrev pub modelWith : List ℕ → Head → Diagram → List Action → Model

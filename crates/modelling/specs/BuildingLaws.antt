@@ -1,5 +1,5 @@
 -- Laws of a model while its lines are read: how it begins, that each line adds what the session says, and that its words are laid out as the planner asks.
-use mathlib.Core.Path.{_≡_, refl, sym, ap, ap₂, subst, _∙_}
+use mathlib.Core.Path.{_≡_, sym, ap, ap₂, subst, _∙_}
 use mathlib.Core.Bool.{true, _||_, _&&_}
 use mathlib.Core.List.{List, [], _∷_, _++_}
 use Prim.Native.Nat.{ℕ, zero, suc, _+_, _*_, _-_, _≤_, _<_}
@@ -9,21 +9,18 @@ use lib.Dec.{eqb}
 use borrow.Author.Tests.{eqb-false}
 use Rattle.basics.specs.Tests.{Flag, isTrue, isFalse, flag, or-one, or-other}
 use Rattle.label.specs.Limits.{predicateCount}
-use Rattle.words.specs.declared.Key.{Key}
-use Rattle.diagram.specs.Diagram.{Diagram, leaf}
+use Rattle.names.specs.Many.{many}
+use Rattle.diagram.specs.Diagram.{leaf}
 use Rattle.diagram.specs.Words.{isListing}
 use Rattle.diagram.specs.Listing.{treeAt, diagramOf, Good}
 use Rattle.diagram.specs.Listings.{good-is-listing}
 use Rattle.state.specs.ValueLaws.{by-low}
-use Rattle.regress.specs.RegressCall.{truthCount, truthWords, areListings}
-use Rattle.regress.specs.RegressCallLaws.{listings-none, listings-cons, truths-some}
+use Rattle.regression.specs.RegressCall.{truthCount, truthWords, areListings}
+use Rattle.regression.specs.RegressCallLaws.{listings-none, listings-cons, truths-some}
 use Rattle.mdp.specs.Model.{Every, GoodVariant, GoodAction, GoodModel}
-use Rattle.session.specs.Session.{Session}
-use Rattle.session.specs.Modelling.{withReward, addVariant, withVariant, lastVariant, withTruthAt, withTruth}
 use Rattle.model.specs.declared.Head.{Head}
-use Rattle.names.specs.Many.{many}
 use Rattle.model.specs.Layout.{part, tableWords, actionWords, variantPlace, weightWords, spansAt, variantAt, variantsOf, actionAt, rewardWords, modelOf, LaidVariant, LaidAction, Laid}
-use Rattle.modelling.specs.Building.{modelWith, rewarded, withActions, newVariant, truthPlace, Canonical, Building, SpannedVariant, ListedVariant}
+use Rattle.modelling.specs.Building.{modelWith, truthPlace, Canonical, Building, SpannedVariant, ListedVariant}
 use Rattle.modelling.specs.WordLaws.{span-count, span-start, canonical-on}
 
 -- ===== The first =====
@@ -42,21 +39,6 @@ pub begun-model : (ar listings table : List ℕ) (h : Head) → h .actions ≡ 0
 unfolding modelOf many diagramOf treeAt
 begun-model ar listings table h a n =
     ap₂ (modelWith ar h) (ap (λ (k : ℕ). diagramOf (part listings (h .«reward_start») k)) n) (ap (many (actionAt listings table)) a)
-
--- ===== What the session says of each line =====
-
-module _ (σ : Session) (d : Diagram) where
-  pub reward-line : withReward σ d .model ≡ rewarded (σ .model) d
-  unfolding withReward
-  reward-line = refl
-
-  pub variant-line : (k : Key) → withVariant σ k d .model ≡ withActions (σ .model) (addVariant (σ .model .actions) (newVariant d))
-  unfolding withVariant
-  variant-line k = refl
-
-  pub truth-line : (p : ℕ) → withTruth σ p d .model ≡ withActions (σ .model) (lastVariant (σ .model .actions) (λ truths. withTruthAt truths p d))
-  unfolding withTruth
-  truth-line p = refl
 
 -- ===== Laid out =====
 

@@ -1,4 +1,5 @@
 -- Laws of words in use: what lies behind them changes no part of them, and a word of one block of the table changes no other block.
+use mathlib.Core.Bool.{cond}
 use mathlib.Core.Path.{_≡_, refl, sym, ap, ap₂, subst, _∙_, fun-ext}
 use mathlib.Core.List.{List, [], _∷_}
 use mathlib.Core.Option.{Option, some, none}
@@ -8,15 +9,15 @@ use lib.ListN.{length, getD, set, take, drop, length-set}
 use lib.Seq.{take-take, take-at, drop-at, length-take-le, getD-take, getD-drop, paste, paste-zero, paste-suc, take-paste}
 use lib.Dec.{eqb}
 use Rattle.label.specs.Limits.{predicateCount}
-use Rattle.state.specs.ValueLaws.{by-low}
-use Rattle.diagram.specs.Diagram.{Diagram}
-use Rattle.diagram.specs.Listing.{diagramOf}
-use Rattle.regress.specs.Regression.{Truths, pickTruth}
-use Rattle.regress.specs.RegressCall.{truthsOf}
-use Rattle.regress.specs.RegressCallLaws.{truths-none}
-use Rattle.mdp.specs.Model.{Variant, Action}
 use Rattle.names.specs.Many.{many}
 use Rattle.names.specs.ManyLaws.{many-ext}
+use Rattle.diagram.specs.Diagram.{Diagram}
+use Rattle.diagram.specs.Listing.{diagramOf}
+use Rattle.state.specs.ValueLaws.{by-low}
+use Rattle.regression.specs.Regression.{Truths}
+use Rattle.regression.specs.RegressCall.{truthsOf}
+use Rattle.regression.specs.RegressCallLaws.{truths-none}
+use Rattle.mdp.specs.Model.{Variant, Action}
 use Rattle.model.specs.Layout.{part, spanWords, variantWords, actionWords, variantPlace, weightWords, spansAt, variantAt, variantsOf, actionAt}
 use Rattle.modelling.specs.Building.{Inside, truthPlace, SpannedVariant, SpannedAction, Canonical, ListedVariant}
 
@@ -90,7 +91,7 @@ actionOf c l = record { count = c; variants = l }
 
 -- a truth diagram of n words from the word x on
 abbrev truthAt : List ℕ → ℕ → ℕ → Option Diagram
-truthAt l x n = pickTruth (eqb n 0) none (some (diagramOf (part l x n)))
+truthAt l x n = cond (eqb n 0) none (some (diagramOf (part l x n)))
 
 span-word : (t : List ℕ) (i j : ℕ) → j < spanWords → getD (spansAt t i) j 0 ≡ getD t (i + 2 + j) 0
 span-word t i j h = getD-take spanWords (drop (i + 2) t) j 0 h ∙ getD-drop (i + 2) t j 0
@@ -108,7 +109,7 @@ module _ (t : List ℕ) (i p : ℕ) where
   span-none h = getD-over spanWords (drop (i + 2) t) (p * 2 + 1) (omega arith)
 
   pub truth-here : (l : List ℕ) → p < predicateCount
-      → truthsOf l (spansAt t i) p ≡ pickTruth (eqb (getD t (truthPlace i p + 1) 0) 0) none (some (diagramOf (weightWords l t (truthPlace i p))))
+      → truthsOf l (spansAt t i) p ≡ cond (eqb (getD t (truthPlace i p + 1) 0) 0) none (some (diagramOf (weightWords l t (truthPlace i p))))
   unfolding truthsOf
   truth-here l h = ap₂ (truthAt l) (span-start h) (span-count h)
 
@@ -124,7 +125,7 @@ module _ (l l′ t t′ : List ℕ) (w : ℕ) (e : take w l′ ≡ take w l) whe
       → getD t′ (truthPlace i p + 1) 0 ≡ getD t (truthPlace i p + 1) 0 → Inside t w (truthPlace i p) → truthsOf l′ (spansAt t′ i) p ≡ truthsOf l (spansAt t i) p
   truth-same i p h x y k =
       truth-here t′ i p l′ h
-      ∙ ap₂ (λ (n : ℕ) (ws : List ℕ). pickTruth (eqb n 0) none (some (diagramOf ws))) y (span-same (truthPlace i p) x y k)
+      ∙ ap₂ (λ (n : ℕ) (ws : List ℕ). cond (eqb n 0) none (some (diagramOf ws))) y (span-same (truthPlace i p) x y k)
       ∙ sym (truth-here t i p l h)
 
   pub truths-over : (i p : ℕ) → predicateCount ≤ p → truthsOf l′ (spansAt t′ i) p ≡ truthsOf l (spansAt t i) p

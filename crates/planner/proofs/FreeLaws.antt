@@ -1,51 +1,39 @@
 -- Laws of freeing and closing up.
 use mathlib.Core.Path.{_≡_, refl, sym, ap, subst, _∙_}
-use mathlib.Core.Bool.{true}
 use mathlib.Core.List.{List, _++_}
-use Prim.Native.Nat.{ℕ, _*_, _≤_}
+use Prim.Native.Nat.{ℕ, _*_}
 use native.Mathlib.Omega.{arith}
 use lib.ListN.{length, take, drop}
-use lib.Dec.{lit≤}
-use borrow.Author.Tests.{le-ltb}
 use Rattle.refusal.specs.declared.Refusal.{Refusal}
-use Rattle.label.specs.Limits.{parameterCount}
-use Rattle.diagram.specs.Sizes.{resultWords, spaceWords}
+use Rattle.refusal.specs.Outcome.{Outcome, ok, refused, andThen, Accepted}
+use Rattle.refusal.specs.OutcomeLaws.{accepted-mono}
 use Rattle.diagram.specs.Diagram.{Diagram}
 use Rattle.diagram.specs.Rows.{rows}
-use Rattle.diagram.specs.Words.{isListing}
 use Rattle.diagram.specs.Listing.{listing, diagramOf, Good}
 use Rattle.diagram.specs.ListingValid.{listing-is-valid}
 use Rattle.diagram.specs.Listings.{is-listing-good}
 use Rattle.diagram.specs.Variables.{closed}
 use Rattle.rename.specs.ClosingLaws.{closed-good}
+use Rattle.regression.specs.declared.Freed.{Freed}
+use Rattle.regression.specs.declared.Freed.the-variants.{Done as FreedDone, Refused as NotFreed}
+use Rattle.regression.specs.RegressCall.{writtenAs, freedAs, freeOwn, freedOutcome}
 use Rattle.write.specs.Renaming.{listedIn}
 use Rattle.apart.specs.Results.{Closable}
-use Rattle.regress.specs.declared.Freed.{Freed}
-use Rattle.regress.specs.declared.Freed.the-variants.{Done as FreedDone, Refused as NotFreed}
-use Rattle.regress.specs.Calls.{Outcome, ok, refused, andThen}
-use Rattle.regress.specs.CallLaws.{Accepted, accepted-mono}
-use Rattle.regress.specs.RegressCall.{writtenAs, freedAs, freeOutcome}
-use Rattle.regress.specs.Freeing.{freeOwn, FreeTask, FreedWith}
-use Rattle.mdp.specs.Backup.{freedOutcome}
-use Rattle.mdp.specs.StepLaws.{free-call}
+use Rattle.freeing.specs.FreeTasks.{FreeTask, FreedWith}
+use Rattle.mdp.specs.StepLaws.{own-within}
 use Rattle.mdp.specs.CallLaws.{closed-count, freed-to}
-use Rattle.planner.specs.declared.Step.the-variants.{Rows, Refused}
-use Rattle.planner.specs.Steps.{Result, Given}
+use Rattle.steps.specs.declared.Step.the-variants.{Rows, Refused}
+use Rattle.steps.specs.Steps.{Result, Given}
 use Rattle.planner.specs.Parts.{freedUp}
 use Rattle.planner.specs.Tasks.{FreeUp}
-use Rattle.planner.proofs.StepLaws.{result-count, listing-result, given-refused, given-ok}
-
--- the call's own checks, once the others are passed
-own-outcome : (ar words : List ℕ) (c : ℕ) → isListing ar words ≡ true → c ≤ parameterCount → freeOwn ar words c ≡ freeOutcome ar words c resultWords spaceWords
-unfolding freeOwn freeOutcome
-own-outcome ar words c e few = rw (e, le-ltb parameterCount c few)
+use Rattle.steps.specs.GivenLaws.{result-count, listing-result, given-refused, given-ok}
 
 module _ {ar words : List ℕ} {c : ℕ} {out : List ℕ} (t : FreeUp ar words c out) where
   pub free-task : FreeTask ar words c out
   free-task = record { listing = t .listing; few = t .few; room = let v = listing-is-valid ar words (t .listing) in omega (arith, v .whole, v .few, t .out-room) }
 
   own-is : freeOwn ar words c ≡ freedOutcome ar c (diagramOf words)
-  own-is = own-outcome ar words c (t .listing) (t .few) ∙ free-call ar words c resultWords spaceWords (t .listing) (lit≤ tt) (lit≤ tt) (t .few) (t .within)
+  own-is = own-within ar words c (t .within)
 
   good : Accepted (Good ar) (freedOutcome ar c (diagramOf words))
   good = accepted-mono (freed-to ar c (diagramOf words) (is-listing-good ar words (t .listing)) (t .few) (t .within)) (λ d f. f .listed)

@@ -12,6 +12,8 @@ use lib.Dec.{ltb}
 use borrow.Author.Tests.{ne-eqb, ltb-false}
 use Rattle.refusal.specs.declared.Refusal.{Refusal}
 use Rattle.refusal.specs.declared.Refusal.the-variants.{Paths}
+use Rattle.refusal.specs.Outcome.{Outcome, ok, refused, Accepted}
+use Rattle.refusal.specs.OutcomeLaws.{accepted-ok, accepted-refused}
 use Rattle.diagram.specs.Sizes.{resultWords}
 use Rattle.diagram.specs.Diagram.{Diagram}
 use Rattle.diagram.specs.Rows.{rows}
@@ -22,33 +24,31 @@ use Rattle.diagram.specs.ListingValid.{listing-is-valid}
 use Rattle.diagram.specs.Listings.{is-listing-good}
 use Rattle.rename.specs.ClosingLaws.{closed-good}
 use Rattle.state.specs.State.{meaning}
-use Rattle.regress.specs.Calls.{Outcome, ok, refused}
-use Rattle.regress.specs.CallLaws.{Accepted, accepted-ok, accepted-refused}
-use Rattle.regress.specs.RegressCall.{writtenAs}
-use Rattle.regress.specs.Parameters.{Within}
+use Rattle.regression.specs.RegressCall.{writtenAs}
+use Rattle.regression.specs.Parameters.{Within}
 use Rattle.cut.specs.declared.Edge.{Edge}
 use Rattle.cut.specs.declared.Cut.{Cut}
 use Rattle.cut.specs.declared.Cut.the-variants.{Done as CutDone, Refused as NotCut}
 use Rattle.cut.specs.Paths.{paths, mostPaths}
 use Rattle.cut.specs.Cut.{Choice, goes, stays, reduced, cutAt, cutDiagram, pickCut, edgeOf, isTrueEdge, choice, chosenAnswer, diagramAnswer, written, answerBuffer}
 use Rattle.cut.specs.ReduceLaws.{cut-good}
-use Rattle.trim.specs.Calls.{Cuttable}
 use Rattle.mdp.specs.Model.{Model, scale}
 use Rattle.mdp.specs.Backup.{backup}
 use Rattle.mdp.specs.Runs.{Call, aBackup, aCut, Held as Value, leaves, cutOutcome, taken, call, runFrom, begin, run}
 use Rattle.mdp.specs.StepLaws.{cut-done, cut-refused, call-backup, call-cut, run-none, run-next, run-range}
 use Rattle.mdp.specs.RunLaws.{run-right}
+use Rattle.trim.specs.Calls.{Cuttable}
 use Rattle.model.specs.declared.Head.{Head}
 use Rattle.model.specs.Layout.{rewardWords, modelOf, Laid}
-use Rattle.planner.specs.declared.Step.the-variants.{Rows}
+use Rattle.steps.specs.declared.Step.the-variants.{Rows}
 use Rattle.planner.specs.declared.Backed.{Backed}
 use Rattle.planner.specs.declared.Backed.the-variants.{Done, Refused as NotBacked}
 use Rattle.planner.specs.declared.Held.{Held}
-use Rattle.planner.specs.Steps.{stepAs, Result, Wrote}
+use Rattle.steps.specs.Steps.{stepAs, Result, Wrote}
 use Rattle.planner.specs.Backed.{Powered, backedAs, BackedUp}
 use Rattle.planner.specs.Tasks.{Standing}
 use Rattle.planner.specs.Run.{callOf, callsOf, heldIn, Holds, Room, Callable, CutTask, CutTo, Takeable, Taken}
-use Rattle.planner.proofs.StepLaws.{listing-result, wrote-given, result-few, fold-there, fold-given}
+use Rattle.steps.specs.GivenLaws.{listing-result, wrote-given, result-few, fold-there, fold-given}
 
 -- two held values are equal by their parts
 same-held : {d e : Diagram} {j k : ℕ} → d ≡ e → j ≡ k → _≡_ {A = Value} (record { diagram = d; steps = j }) (record { diagram = e; steps = k })
@@ -60,7 +60,8 @@ module _ {ar : List ℕ} {m : Model} {h : Held} {value : List ℕ} (c : Callable
   pub callable-standing : {work : List ℕ} → Room value work → Standing ar value (h .rows) work
   callable-standing r = record { listing = c .listing; within = c .within; inside = c .room; value-room = r .value-room; work-room = r .work-room }
 
-pub callable-powered : {ar listings table : List ℕ} {n : Head} → Laid ar listings table n → {h : Held} {value : List ℕ} → Callable ar (modelOf ar listings table n) h value → Powered n (h .steps) (h .power)
+pub callable-powered : {ar listings table : List ℕ} {n : Head} → Laid ar listings table n → {h : Held} {value : List ℕ}
+    → Callable ar (modelOf ar listings table n) h value → Powered n (h .steps) (h .power)
 unfolding modelOf scale
 callable-powered t c = record { steps = c .steps; is = c .power }
 
@@ -135,9 +136,6 @@ module _ {ar : List ℕ} {h : Held} {value work : List ℕ} (t : CutTask ar h va
   pub cut-long : h .rows * 3 ≡ length (take (h .rows * 3) value)
   cut-long = sym (length-take-le (h .rows * 3) value (t .room))
 
-  pub cut-small : h .rows * 3 ≤ resultWords
-  cut-small = let v = listing-is-valid ar (take (h .rows * 3) value) (t .listing) in omega (arith, v .whole, v .few, cut-long)
-
   pub cut-able : (n : ℕ) → resultWords ≤ n → Cuttable ar (take (h .rows * 3) value) (replicate n 0) work
   cut-able n k = record { listing = t .listing; out-room = omega (arith, length-replicate {A = ℕ} n 0); work-room = t .work-room }
 
@@ -190,7 +188,8 @@ called-backup {ar} {m} v {h} {value} x e c = subst (λ (y : ℕ). Holds ar m (ca
 call-is : (x : ℕ) → (x ≡ 0 → ⊥) → callOf x ≡ aCut
 call-is x e = rw (ne-eqb x 0 e)
 
-pub called-cut : {ar listings table : List ℕ} {n : Head} → Laid ar listings table n → {h : Held} {value : List ℕ} → Callable ar (modelOf ar listings table n) h value → (x : ℕ) → (x ≡ 0 → ⊥) → {h′ : Held} {value′ : List ℕ}
+pub called-cut : {ar listings table : List ℕ} {n : Head} → Laid ar listings table n → {h : Held} {value : List ℕ}
+    → Callable ar (modelOf ar listings table n) h value → (x : ℕ) → (x ≡ 0 → ⊥) → {h′ : Held} {value′ : List ℕ}
     → CutTo ar h value h′ value′ → Holds ar (modelOf ar listings table n) (call (modelOf ar listings table n) (callOf x) (heldIn h value)) h′ value′
 unfolding modelOf
 called-cut {ar} {listings} {table} {n} l {h} {value} c x e {h′} {value′} t =

@@ -2,7 +2,6 @@
 pub mod FreeLaws
 pub mod HeldLaws
 pub mod PowerLaws
-pub mod StepLaws
 pub mod SumLaws
 pub mod ValueLaws
 pub mod VariantLaws

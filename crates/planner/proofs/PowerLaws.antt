@@ -1,6 +1,6 @@
 -- Laws of the scale, and of a backup as a whole.
 use mathlib.Core.Path.{_≡_, refl, sym, ap, subst, _∙_}
-use mathlib.Core.Bool.{Bool, true, false, _||_}
+use mathlib.Core.Bool.{Bool, true, false, _||_, cond}
 use mathlib.Core.List.{List}
 use Prim.Native.Nat.{ℕ, suc, _*_, _/_, _^_, _≤_, _<_}
 use native.Mathlib.Omega.{arith}
@@ -10,26 +10,25 @@ use lib.Dec.{eqb, ltb}
 use borrow.Author.Tests.{lt-ltb, le-ltb, eq-eqb, ne-eqb}
 use Rattle.refusal.specs.declared.Refusal.{Refusal}
 use Rattle.refusal.specs.declared.Refusal.the-variants.{Scale}
+use Rattle.refusal.specs.Outcome.{Outcome, ok, refused, Accepted}
+use Rattle.refusal.specs.OutcomeLaws.{accepted-refused}
 use Rattle.diagram.specs.Sizes.{highestValue}
 use Rattle.diagram.specs.Diagram.{Diagram}
 use Rattle.diagram.specs.Rows.{rows}
 use Rattle.diagram.specs.Listing.{Good}
-use Rattle.regress.specs.Calls.{Outcome, ok, refused}
-use Rattle.regress.specs.CallLaws.{Accepted, accepted-refused}
-use Rattle.regress.specs.RegressCall.{writtenAs}
+use Rattle.regression.specs.RegressCall.{writtenAs}
 use Rattle.mdp.specs.Model.{Model, scale}
-use Rattle.mdp.specs.Backup.{highestScale, mostSteps, scaleEnds, backup}
+use Rattle.mdp.specs.Backup.{highestScale, mostSteps, scaleEnds, backup, rowOfCalls}
 use Rattle.mdp.specs.StepLaws.{backup-ends, backup-row, on-scale}
 use Rattle.model.specs.declared.Head.{Head}
 use Rattle.model.specs.Layout.{modelOf, Laid}
-use Rattle.planner.specs.declared.Step.{Step}
-use Rattle.planner.specs.declared.Step.the-variants.{Rows, Refused as Stopped}
+use Rattle.steps.specs.declared.Step.{Step}
+use Rattle.steps.specs.declared.Step.the-variants.{Rows, Refused as Stopped}
 use Rattle.planner.specs.declared.Power.{Power}
 use Rattle.planner.specs.declared.Power.the-variants.{Next, Ends}
 use Rattle.planner.specs.declared.Backed.the-variants.{Done, Refused}
-use Rattle.planner.specs.Steps.{stepAs, Wrote}
-use Rattle.planner.specs.Parts.{rowOfCalls}
-use Rattle.planner.specs.Backed.{scaleOf, pickPower, powerAs, Numbers, Powered, backedAs, BackedUp}
+use Rattle.steps.specs.Steps.{stepAs, Wrote}
+use Rattle.planner.specs.Backed.{scaleOf, powerAs, Numbers, Powered, backedAs, BackedUp}
 
 -- ===== The next power =====
 
@@ -48,7 +47,7 @@ module _ {h : Head} (n : Numbers h) where
     unfolding powerAs
     power-steps e = go (ltb highestScale (scaleOf h ^ suc k))
       where
-        go : (b : Bool) → Ends ≡ pickPower (b || eqb k mostSteps) Ends (Next (scaleOf h ^ suc k))
+        go : (b : Bool) → Ends ≡ cond (b || eqb k mostSteps) Ends (Next (scaleOf h ^ suc k))
         go true = refl
         go false = rw (eq-eqb k mostSteps e)
 
@@ -78,7 +77,7 @@ power-ends : (s k : ℕ) → powerAs s k ≡ Ends → (ltb highestScale (s ^ suc
 unfolding powerAs
 power-ends s k e = go (ltb highestScale (s ^ suc k) || eqb k mostSteps) e
   where
-    go : (b : Bool) → pickPower b Ends (Next (s ^ suc k)) ≡ Ends → b ≡ true
+    go : (b : Bool) → cond b Ends (Next (s ^ suc k)) ≡ Ends → b ≡ true
     go true q = refl
     go false q = let z : _≡_ {A = ℕ} 0 1 = cc in absurd (omega arith)
 
@@ -86,7 +85,7 @@ power-goes : (s k x : ℕ) → powerAs s k ≡ Next x → ((ltb highestScale (s 
 unfolding powerAs
 power-goes s k x e = go (ltb highestScale (s ^ suc k) || eqb k mostSteps) e
   where
-    go : (b : Bool) → pickPower b Ends (Next (s ^ suc k)) ≡ Next x → (b ≡ false) × (s ^ suc k ≡ x)
+    go : (b : Bool) → cond b Ends (Next (s ^ suc k)) ≡ Next x → (b ≡ false) × (s ^ suc k ≡ x)
     go true q = let z : _≡_ {A = ℕ} 0 1 = cc in absurd (omega arith)
     go false q = (refl, cc)
 
@@ -122,7 +121,6 @@ module _ {ar listings table : List ℕ} {h : Head} (t : Laid ar listings table h
     next-few = subst (λ (x : ℕ). x ≤ highestValue) power-is (on-scale M k goes .0)
 
     backup-is : (d : Diagram) → backup M k d ≡ rowOfCalls M s d
-    unfolding rowOfCalls
     backup-is d = backup-row M k d goes ∙ ap (λ (x : ℕ). rowOfCalls M x d) power-is
 
     module _ (d : Diagram) {r : Step} {value value′ : List ℕ} (w : Wrote ar (rowOfCalls M s d) r value value′) where
@@ -133,7 +131,12 @@ module _ {ar listings table : List ℕ} {h : Head} (t : Laid ar listings table h
       good-are = subst (Accepted (Good ar)) (sym (backup-is d)) (w .good)
 
       pub backed-done : {n : ℕ} → r ≡ Rows n → BackedUp ar M k d (Done n s) value value′
-      backed-done {n} x = record { answer = go (rowOfCalls M s d) (sym (w .answer) ∙ x) ∙ ap (λ (z : ℕ). backedAs z (rowOfCalls M s d)) (sym power-is) ∙ ap (backedAs (scale M ^ suc k)) (sym (backup-is d)); words = words-are; good = good-are }
+      backed-done {n} x = record {
+        answer = go (rowOfCalls M s d) (sym (w .answer) ∙ x) ∙ ap (λ (z : ℕ). backedAs z (rowOfCalls M s d)) (sym power-is)
+            ∙ ap (backedAs (scale M ^ suc k)) (sym (backup-is d));
+        words = words-are;
+        good = good-are;
+      }
         where
           go : (o : Outcome Diagram) → stepAs o ≡ Rows n → Done n s ≡ backedAs s o
           go (ok c) y = let z : length (rows c) ≡ n = cc in ap (λ (m : ℕ). Done m s) (sym z)

@@ -6,23 +6,22 @@ use native.Mathlib.Omega.{arith}
 use lib.ListN.{length, take, replicate, length-replicate}
 use lib.Seq.{length-take-le}
 use Rattle.refusal.specs.declared.Refusal.{Refusal}
+use Rattle.refusal.specs.Outcome.{Outcome, refused, andThen, Accepted}
+use Rattle.refusal.specs.OutcomeLaws.{accepted-refused}
 use Rattle.diagram.specs.Sizes.{highestValue, resultWords}
 use Rattle.diagram.specs.Diagram.{Diagram, leaf}
 use Rattle.diagram.specs.Listing.{diagramOf, Good}
 use Rattle.apply.specs.declared.Operation.the-variants.{Sum, Product}
 use Rattle.apply.specs.declared.Names.the-variants.{Apart, Shared}
-use Rattle.regress.specs.Calls.{Outcome, refused, andThen}
-use Rattle.regress.specs.CallLaws.{Accepted, accepted-refused}
-use Rattle.regress.specs.RegressCall.{writtenAs}
-use Rattle.mdp.specs.Backup.{combined, actionsBest}
+use Rattle.regression.specs.RegressCall.{writtenAs}
+use Rattle.mdp.specs.Backup.{combined, actionsBest, rowOfCalls}
 use Rattle.model.specs.declared.Head.{Head}
 use Rattle.model.specs.Layout.{rewardWords, modelOf, Laid}
-use Rattle.planner.specs.declared.Step.{Step}
-use Rattle.planner.specs.declared.Step.the-variants.{Rows, Refused}
-use Rattle.planner.specs.Steps.{stepAs, Given, Wrote, Operands}
-use Rattle.planner.specs.Parts.{rowOfCalls}
+use Rattle.steps.specs.declared.Step.{Step}
+use Rattle.steps.specs.declared.Step.the-variants.{Rows, Refused}
+use Rattle.steps.specs.Steps.{stepAs, Given, Wrote, Operands}
 use Rattle.planner.specs.Tasks.{ValueTask, RewardTask, Standing}
-use Rattle.planner.proofs.StepLaws.{step-refused, done-then}
+use Rattle.steps.specs.GivenLaws.{step-refused, done-then}
 
 pub wrote-refused : {ar : List ℕ} {o : Outcome Diagram} {e : Refusal} {out : List ℕ} → o ≡ refused e → Wrote ar o (Refused e) out out
 wrote-refused {ar} {o} {e} {out} h = record {

@@ -5,6 +5,8 @@ use Prim.Native.Nat.{ℕ, _*_, _≤_}
 use native.Mathlib.Omega.{arith}
 use lib.ListN.{length, take, drop, replicate, length-replicate}
 use Rattle.refusal.specs.declared.Refusal.{Refusal}
+use Rattle.refusal.specs.Outcome.{Outcome, ok, refused, andThen, Accepted}
+use Rattle.refusal.specs.OutcomeLaws.{accepted-mono}
 use Rattle.diagram.specs.Sizes.{highestValue, resultWords}
 use Rattle.diagram.specs.Diagram.{Diagram, leaf}
 use Rattle.diagram.specs.Rows.{rows}
@@ -12,23 +14,21 @@ use Rattle.diagram.specs.Listing.{listing, diagramOf, Good}
 use Rattle.diagram.specs.Listings.{is-listing-good}
 use Rattle.apply.specs.declared.Operation.the-variants.{Sum, Product}
 use Rattle.apply.specs.declared.Names.the-variants.{Apart, Shared}
-use Rattle.regress.specs.declared.Regressed.{Regressed}
-use Rattle.regress.specs.declared.Regressed.the-variants.{Done as RegressedDone, Refused as NotRegressed}
-use Rattle.regress.specs.Calls.{Outcome, ok, refused, andThen}
-use Rattle.regress.specs.CallLaws.{Accepted, accepted-mono}
-use Rattle.regress.specs.Regression.{Truths, regressed}
-use Rattle.regress.specs.RegressCall.{truthsOf, regressedAs, writtenAs}
-use Rattle.regress.specs.Regressing.{Regressable}
-use Rattle.regress.specs.NextLaws.{regressed-tells}
+use Rattle.regression.specs.declared.Regressed.{Regressed}
+use Rattle.regression.specs.declared.Regressed.the-variants.{Done as RegressedDone, Refused as NotRegressed}
+use Rattle.regression.specs.Regression.{Truths, regressed}
+use Rattle.regression.specs.RegressCall.{truthsOf, regressedAs, writtenAs}
+use Rattle.regression.specs.NextLaws.{regressed-tells}
 use Rattle.mdp.specs.Backup.{combined}
+use Rattle.regress.specs.Regressing.{Regressable}
 use Rattle.model.specs.Layout.{weightWords, spansAt, variantAt, rewardWords}
 use Rattle.model.specs.declared.Head.{Head}
-use Rattle.planner.specs.declared.Step.{Step}
-use Rattle.planner.specs.declared.Step.the-variants.{Rows, Refused}
-use Rattle.planner.specs.Steps.{Result, Given, Wrote, Begins, Operands, Scalable}
+use Rattle.steps.specs.declared.Step.{Step}
+use Rattle.steps.specs.declared.Step.the-variants.{Rows, Refused}
+use Rattle.steps.specs.Steps.{Result, Given, Wrote, Begins, Operands, Scalable, Folding}
 use Rattle.planner.specs.Parts.{variantProduct, variantAdded}
-use Rattle.planner.specs.Tasks.{VariantTask, WeightTask, RewardTask, Folding}
-use Rattle.planner.proofs.StepLaws.{listing-result, given-ok, given-refused, wrote-given, refused-then, done-then, given-same}
+use Rattle.planner.specs.Tasks.{VariantTask, WeightTask, RewardTask}
+use Rattle.steps.specs.GivenLaws.{listing-result, given-ok, given-refused, wrote-given, refused-then, done-then, given-same}
 
 -- ===== A variant regressed =====
 

@@ -1,16 +1,15 @@
 -- What a backup requires and answers (document 01, section 'Backup').
 use mathlib.Core.Path.{_≡_}
-use mathlib.Core.Bool.{Bool, true, false, _||_}
+use mathlib.Core.Bool.{_||_, cond}
 use mathlib.Core.List.{List}
 use Prim.Native.Nat.{ℕ, suc, _*_, _^_, _≤_}
 use lib.ListN.{length}
 use lib.Dec.{eqb, ltb}
+use Rattle.refusal.specs.Outcome.{Outcome, ok, refused, Accepted}
 use Rattle.diagram.specs.Diagram.{Diagram}
 use Rattle.diagram.specs.Rows.{rows}
 use Rattle.diagram.specs.Listing.{Good}
-use Rattle.regress.specs.Calls.{Outcome, ok, refused}
-use Rattle.regress.specs.CallLaws.{Accepted}
-use Rattle.regress.specs.RegressCall.{writtenAs}
+use Rattle.regression.specs.RegressCall.{writtenAs}
 use Rattle.mdp.specs.Model.{Model, scale, mostTotal, mostDenominator}
 use Rattle.mdp.specs.Backup.{highestScale, mostSteps, backup}
 use Rattle.model.specs.declared.Head.{Head}
@@ -24,12 +23,8 @@ abbrev pub scaleOf : Head → ℕ
 scaleOf h = h .total * h .denominator
 
 -- S^(k+1), or that it is above 10^18, or that k is 10^18
-abbrev pub pickPower : Bool → Power → Power → Power
-pickPower true x y = x
-pickPower false x y = y
-
 unfoldable pub powerAs : ℕ → ℕ → Power
-powerAs s k = pickPower (ltb highestScale (s ^ suc k) || eqb k mostSteps) Ends (Next (s ^ suc k))
+powerAs s k = cond (ltb highestScale (s ^ suc k) || eqb k mostSteps) Ends (Next (s ^ suc k))
 
 -- a model's numbers are in their ranges
 pub record Numbers (h : Head) : Type 0 where

@@ -4,5 +4,4 @@ pub mod Parts
 pub mod PartLaws
 pub mod Run
 pub mod RunLaws
-pub mod Steps
 pub mod Tasks

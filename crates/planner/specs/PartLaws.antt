@@ -4,6 +4,8 @@ use mathlib.Core.Bool.{true}
 use mathlib.Core.List.{List, [], _∷_, _++_}
 use Prim.Native.Nat.{ℕ, _≤_}
 use native.Mathlib.Omega.{arith}
+use Rattle.refusal.specs.Outcome.{Outcome, ok, refused, andThen, Accepted}
+use Rattle.refusal.specs.OutcomeLaws.{accepted-ok, accepted-then}
 use Rattle.label.specs.Labels.{areArities}
 use Rattle.diagram.specs.Sizes.{highestValue}
 use Rattle.diagram.specs.Diagram.{Diagram, leaf}
@@ -12,27 +14,17 @@ use Rattle.diagram.specs.Variables.{closed}
 use Rattle.apply.specs.declared.Operation.the-variants.{Sum, Product, Max}
 use Rattle.apply.specs.declared.Names.the-variants.{Apart, Shared}
 use Rattle.state.specs.State.{meaning}
-use Rattle.regress.specs.Calls.{Outcome, ok, refused, andThen}
-use Rattle.regress.specs.CallLaws.{Accepted, accepted-ok, accepted-then}
-use Rattle.regress.specs.Regression.{regressed}
-use Rattle.regress.specs.Parameters.{Within}
-use Rattle.regress.specs.NextLaws.{regressed-tells}
+use Rattle.regression.specs.Regression.{regressed}
+use Rattle.regression.specs.Parameters.{Within}
+use Rattle.regression.specs.NextLaws.{regressed-tells}
+use Rattle.regression.specs.RegressCall.{freedOutcome}
 use Rattle.mdp.specs.Model.{Variant, Action, Every, GoodVariant, GoodAction}
-use Rattle.mdp.specs.Backup.{combined, freedOutcome, variantsSum, actionsBest}
+use Rattle.mdp.specs.Backup.{combined, variantsSum, actionsBest}
 use Rattle.mdp.specs.StepLaws.{sum-none, sum-next, best-none, best-next}
 use Rattle.mdp.specs.BackupLaws.{truths-good, truths-within, weight-within}
 use Rattle.mdp.specs.CallLaws.{within-more, leaf-listed, leaf-within, shared-made, apart-added}
 use Rattle.planner.specs.Parts.{variantProduct, variantAdded, freedUp, actionValue, actionTried}
-
--- ===== Steps one after another =====
-
-pub then-then : {A B C : Type 0} (o : Outcome A) (f : A → Outcome B) (g : B → Outcome C) → andThen (andThen o f) g ≡ andThen o (λ a. andThen (f a) g)
-then-then (ok a) f g = refl
-then-then (refused r) f g = refl
-
-pub then-same : {A B : Type 0} (o : Outcome A) (f g : A → Outcome B) → ((a : A) → f a ≡ g a) → andThen o f ≡ andThen o g
-then-same (ok a) f g h = h a
-then-same (refused r) f g h = refl
+use Rattle.steps.specs.GivenLaws.{then-then, then-same}
 
 module _ (ar : List ℕ) (g : ℕ) (d : Diagram) where
   sum-added : (sum : Diagram) (v : Variant) (vs : List Variant) → variantsSum ar g d sum (v ∷ vs) ≡ andThen (variantAdded ar g d sum v) (λ s. variantsSum ar g d s vs)

@@ -1,14 +1,15 @@
 -- The parts of a backup that are functions of their own in the code (document 01, section 'Backup').
 use mathlib.Core.List.{List}
 use Prim.Native.Nat.{ℕ}
+use Rattle.refusal.specs.Outcome.{Outcome, ok, andThen}
 use Rattle.diagram.specs.Diagram.{Diagram, leaf}
 use Rattle.diagram.specs.Variables.{closed}
 use Rattle.apply.specs.declared.Operation.the-variants.{Sum, Product, Max}
 use Rattle.apply.specs.declared.Names.the-variants.{Apart, Shared}
-use Rattle.regress.specs.Calls.{Outcome, ok, andThen}
-use Rattle.regress.specs.Regression.{regressed}
-use Rattle.mdp.specs.Model.{Variant, Action, Model}
-use Rattle.mdp.specs.Backup.{combined, freedOutcome, variantsSum, actionsBest}
+use Rattle.regression.specs.Regression.{regressed}
+use Rattle.regression.specs.RegressCall.{freedOutcome}
+use Rattle.mdp.specs.Model.{Variant, Action}
+use Rattle.mdp.specs.Backup.{combined, variantsSum}
 
 -- a variant's value regressed; its weight times leaf G, names shared; the product of these two, names shared
 unfoldable pub variantProduct : List ℕ → ℕ → Diagram → Variant → Outcome Diagram
@@ -32,10 +33,3 @@ actionValue ar g d a = andThen (variantsSum ar g d (leaf 0) (a .variants)) (λ q
 -- max of the best so far and this, names shared
 unfoldable pub actionTried : List ℕ → ℕ → Diagram → Diagram → Action → Outcome Diagram
 actionTried ar g d best a = andThen (actionValue ar g d a) (λ q. combined Max Shared ar best q)
-
--- the calls of a backup, once 12 is judged: the best over the actions, the reward times the leaf, then the best plus that, apart
-unfoldable pub rowOfCalls : Model → ℕ → Diagram → Outcome Diagram
-rowOfCalls m scale d =
-    andThen (actionsBest (m .arities) (m .numerator) d (leaf 0) (m .actions)) (λ best.
-    andThen (combined Product Shared (m .arities) (m .reward) (leaf scale)) (λ r.
-    combined Sum Apart (m .arities) best r))

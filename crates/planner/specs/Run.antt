@@ -1,6 +1,6 @@
 -- Runs of backups and cuts on a model in lent words (document 01, section 'Backup': "the value diagram starts as the reward read, k as 0").
 use mathlib.Core.Path.{_≡_}
-use mathlib.Core.Bool.{Bool, true, false}
+use mathlib.Core.Bool.{true, cond}
 use mathlib.Core.List.{List, [], _∷_}
 use Prim.Native.Nat.{ℕ, _+_, _*_, _/_, _^_, _≤_}
 use lib.ListN.{length, take}
@@ -9,7 +9,7 @@ use Rattle.diagram.specs.Sizes.{resultWords, spaceWords}
 use Rattle.diagram.specs.Words.{isListing}
 use Rattle.diagram.specs.Listing.{diagramOf}
 use Rattle.state.specs.State.{meaning}
-use Rattle.regress.specs.Parameters.{Within}
+use Rattle.regression.specs.Parameters.{Within}
 use Rattle.mdp.specs.Model.{Model, scale}
 use Rattle.mdp.specs.Backup.{mostSteps}
 use Rattle.mdp.specs.Runs.{Call, aBackup, aCut}
@@ -18,13 +18,9 @@ use Rattle.model.specs.declared.Head.{Head}
 use Rattle.model.specs.Layout.{rewardWords}
 use Rattle.planner.specs.declared.Held.{Held}
 
-abbrev pub pickCall : Bool → Call → Call → Call
-pickCall true x y = x
-pickCall false x y = y
-
 -- 0: a backup; any other number: a cut
 abbrev pub callOf : ℕ → Call
-callOf x = pickCall (eqb x 0) aBackup aCut
+callOf x = cond (eqb x 0) aBackup aCut
 
 unfoldable pub callsOf : List ℕ → List Call
 callsOf [] = []

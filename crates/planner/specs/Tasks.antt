@@ -9,7 +9,7 @@ use Rattle.diagram.specs.Sizes.{highestValue, resultWords, spaceWords}
 use Rattle.diagram.specs.Words.{isListing}
 use Rattle.diagram.specs.Listing.{diagramOf}
 use Rattle.state.specs.State.{meaning}
-use Rattle.regress.specs.Parameters.{Within, GoodTruths}
+use Rattle.regression.specs.Parameters.{Within, GoodTruths}
 use Rattle.mdp.specs.Model.{GoodAction}
 use Rattle.model.specs.Layout.{variantWords, actionWords, variantAt, actionAt, rewardWords, LaidVariant, LaidAction}
 use Rattle.model.specs.declared.Head.{Head}
@@ -29,14 +29,6 @@ pub record WeightTask (ar listings table : List ℕ) (place g : ℕ) (out work :
   pub inside : place + variantWords ≤ length table
   pub few : g ≤ highestValue
   pub out-room : resultWords ≤ length out
-  pub work-room : spaceWords ≤ length work
-
--- the first n rows of a buffer are a listing, and so is y
-pub record Folding (ar buffer : List ℕ) (n : ℕ) (y work : List ℕ) : Type 0 where
-  pub first : isListing ar (take (n * 3) buffer) ≡ true
-  pub second : isListing ar y ≡ true
-  pub inside : n * 3 ≤ length buffer
-  pub buffer-room : resultWords ≤ length buffer
   pub work-room : spaceWords ≤ length work
 
 -- a listing without parameters past the count

@@ -1,128 +1,33 @@
 // Backups, and runs of backups and cuts, on models in lent words. What they are stands in crate mdp and in specs/.
-use apply::Combined;
 use apply::Operation;
 use cut::Cut;
-use label::Label;
 use model::Head;
 use refusal::Refusal;
-use regress::Freed;
-use regress::Regressed;
+use regression::Freed;
+use regression::Regressed;
+use steps::Step;
 ghost use mathlib.Core.Path.{_≡_};
 ghost use Prim.Native.Nat.{_*_, _≤_};
-ghost use lib.ListN.{length, take};
-ghost use Rattle.diagram.specs.Sizes.{highestValue, resultWords};
+ghost use lib.ListN.{take};
+ghost use Rattle.diagram.specs.Sizes.{highestValue};
 ghost use Rattle.diagram.specs.Diagram.{leaf};
 ghost use Rattle.diagram.specs.Listing.{diagramOf};
-ghost use Rattle.apply.specs.declared.Operation.the-variants.{Sum, Product, Max};
-ghost use Rattle.apply.specs.declared.Names.the-variants.{Apart, Shared};
-ghost use Rattle.regress.specs.Regression.{regressed};
-ghost use Rattle.mdp.specs.Backup.{combined, variantsSum, actionsBest};
+ghost use Rattle.apply.specs.declared.Operation.the-variants.{Product};
+ghost use Rattle.apply.specs.declared.Names.the-variants.{Shared};
+ghost use Rattle.regression.specs.Regression.{regressed};
+ghost use Rattle.mdp.specs.Backup.{combined, variantsSum, actionsBest, rowOfCalls};
 ghost use Rattle.model.specs.Layout.{variantAt, actionAt, rewardWords, modelOf, Laid};
 ghost use Rattle.mdp.specs.Runs.{aBackup, call, run};
 ghost use Rattle.planner.specs.Run.{callOf, callsOf, heldIn, Holds, Room, Callable, CutTask, CutTo, Takeable, Taken};
-ghost use Rattle.planner.specs.Parts.{variantProduct, variantAdded, freedUp, actionValue, actionTried, rowOfCalls};
+ghost use Rattle.planner.specs.Parts.{variantProduct, variantAdded, freedUp, actionValue, actionTried};
 ghost use Rattle.planner.specs.Backed.{scaleOf, powerAs, Numbers, Powered, BackedUp};
-ghost use Rattle.planner.specs.Steps.{toldAs, Begun, Begins, Given, Wrote, Operands, Scalable};
-ghost use Rattle.planner.specs.Tasks.{Folding, VariantTask, WeightTask, ActionTask, ValueTask, FreeUp, RewardTask, Standing};
+ghost use Rattle.steps.specs.Steps.{Begins, Given, Wrote};
+ghost use Rattle.planner.specs.Tasks.{VariantTask, WeightTask, ActionTask, ValueTask, FreeUp, RewardTask, Standing};
 
 // S^(k+1), or that it or k would pass its limit.
 pub enum Power {
     Next(u64),
     Ends,
-}
-
-// What a row of calls answers: the result's rows, or the first refusal met.
-pub enum Step {
-    Rows(usize),
-    Refused(Refusal),
-}
-
-// The answer of a combination, as that of a step.
-fn told(r: Combined) -> Step
-    ensures { λ q. ⌜ q ≡ toldAs r ⌝ }
-{
-    match r {
-        Combined::Done(n, _) => Step::Rows(n),
-        Combined::Refused(e) => Step::Refused(e),
-    }
-}
-
-// Combines two listings, names shared.
-pub fn shared(
-    op: Operation,
-    arities: &[u64],
-    x: &[u64],
-    y: &[u64],
-    out: &mut [u64],
-    work: &mut [u64],
-) -> Step
-    requires { ⌜ Operands (now arities) (now x) (now y) (now out) (now work) ⌝ }
-    ensures { λ r. ⌜ Wrote (now (arities .entry)) (combined op Shared (now (arities .entry)) (diagramOf (now (x .entry))) (diagramOf (now (y .entry)))) r (now (out .entry)) (now (out .exit)) ⌝ }
-{
-    told(combination::combine_shared(op, arities, x, y, out, work))
-}
-
-// Adds two listings, names apart.
-fn sum_apart(arities: &[u64], x: &[u64], y: &[u64], out: &mut [u64], work: &mut [u64]) -> Step
-    requires { ⌜ Operands (now arities) (now x) (now y) (now out) (now work) ⌝ }
-    ensures { λ r. ⌜ Wrote (now (arities .entry)) (combined Sum Apart (now (arities .entry)) (diagramOf (now (x .entry))) (diagramOf (now (y .entry)))) r (now (out .entry)) (now (out .exit)) ⌝ }
-{
-    told(apart::combine_apart(Operation::Sum, arities, x, y, out, work))
-}
-
-// A listing times the leaf v, names shared.
-fn times_leaf(arities: &[u64], x: &[u64], v: u64, out: &mut [u64], work: &mut [u64]) -> Step
-    requires { ⌜ Scalable (now arities) (now x) v (now out) (now work) ⌝ }
-    ensures { λ r. ⌜ Wrote (now (arities .entry)) (combined Product Shared (now (arities .entry)) (diagramOf (now (x .entry))) (leaf v)) r (now (out .entry)) (now (out .exit)) ⌝ }
-{
-    let one = [Label::LEAF, v, 0];
-    shared(Operation::Product, arities, x, &one, out, work)
-}
-
-// Adds y to the listing that the first n rows of the buffer are, names apart.
-fn add_apart(arities: &[u64], buffer: &mut [u64], n: usize, y: &[u64], work: &mut [u64]) -> Step
-    requires { ⌜ Folding (now arities) (now buffer) n (now y) (now work) ⌝ }
-    ensures { λ r. ⌜ Given (now (arities .entry)) (combined Sum Apart (now (arities .entry)) (diagramOf (take (n * 3) (now (buffer .entry)))) (diagramOf (now (y .entry)))) r (now (buffer .exit)) ⌝ }
-{
-    let mut sum = [0u64; diagram::RESULT_WORDS];
-    let r = sum_apart(arities, &buffer[..n * 3], y, &mut sum, work);
-    let Step::Rows(m) = r else {
-        return r;
-    };
-    write::copy(&sum, m, buffer);
-    r
-}
-
-// Takes the max of the listing that the first n rows of the buffer are and y, names shared.
-fn max_shared(arities: &[u64], buffer: &mut [u64], n: usize, y: &[u64], work: &mut [u64]) -> Step
-    requires { ⌜ Folding (now arities) (now buffer) n (now y) (now work) ⌝ }
-    ensures { λ r. ⌜ Given (now (arities .entry)) (combined Max Shared (now (arities .entry)) (diagramOf (take (n * 3) (now (buffer .entry)))) (diagramOf (now (y .entry)))) r (now (buffer .exit)) ⌝ }
-{
-    let mut best = [0u64; diagram::RESULT_WORDS];
-    let r = shared(
-        Operation::Max,
-        arities,
-        &buffer[..n * 3],
-        y,
-        &mut best,
-        work,
-    );
-    let Step::Rows(m) = r else {
-        return r;
-    };
-    write::copy(&best, m, buffer);
-    r
-}
-
-// Writes leaf 0: one row.
-pub fn begin(out: &mut [u64]) -> usize
-    requires { ⌜ resultWords ≤ length (now out) ⌝ }
-    ensures { λ r. ⌜ Begun r (now (out .exit)) ⌝ }
-{
-    out[0] = Label::LEAF;
-    out[1] = 0;
-    out[2] = 0;
-    1
 }
 
 // The value regressed by the variant at a place of the table.
@@ -167,7 +72,7 @@ fn weigh(
 {
     let start = table[place] as usize;
     let end = start + table[place + 1] as usize;
-    times_leaf(arities, &listings[start..end], g, out, work)
+    steps::times_leaf(arities, &listings[start..end], g, out, work)
 }
 
 // The product of these two, names shared.
@@ -195,7 +100,7 @@ fn variant_product(
     let Step::Rows(m) = b else {
         return b;
     };
-    shared(
+    steps::shared(
         Operation::Product,
         arities,
         &regressed[..n * 3],
@@ -236,7 +141,7 @@ fn add_variant(
     let Step::Rows(m) = a else {
         return a;
     };
-    add_apart(arities, sum, n, &product[..m * 3], work)
+    steps::add_apart(arities, sum, n, &product[..m * 3], work)
 }
 
 // The sum over the variants of an action, begun at leaf 0.
@@ -255,7 +160,7 @@ fn variants_sum(
     ensures { λ r. ⌜ Given (now (arities .entry)) (variantsSum (now (arities .entry)) g (diagramOf (now (value .entry))) (leaf 0) (actionAt (now (listings .entry)) (now (table .entry)) action .variants)) r (now (out .exit)) ⌝ }
 {
     let variants = table[action * model::ACTION_WORDS + 1] as usize;
-    let mut n = begin(out);
+    let mut n = steps::begin(out);
     let mut v = 0;
     while v < variants {
         let place = action * model::ACTION_WORDS + 2 + v * model::VARIANT_WORDS;
@@ -274,7 +179,7 @@ fn free_up(arities: &[u64], words: &[u64], count: u64, out: &mut [u64]) -> Step
     requires { ⌜ FreeUp (now arities) (now words) count (now out) ⌝ }
     ensures { λ r. ⌜ Given (now (arities .entry)) (freedUp (now (arities .entry)) count (diagramOf (now (words .entry)))) r (now (out .exit)) ⌝ }
 {
-    let r = regress::free_checked(arities, words, count, out);
+    let r = freeing::free_checked(arities, words, count, out);
     match r {
         Freed::Done(n) => {
             apart::close_up(arities, out, n);
@@ -330,7 +235,7 @@ fn try_action(
     let Step::Rows(m) = a else {
         return a;
     };
-    max_shared(arities, best, n, &gain[..m * 3], work)
+    steps::fold_shared(Operation::Max, arities, best, n, &gain[..m * 3], work)
 }
 
 // The best over the actions, begun at leaf 0.
@@ -349,7 +254,7 @@ fn actions_best(
 {
     let actions = head.actions;
     let g = head.numerator;
-    let mut n = begin(out);
+    let mut n = steps::begin(out);
     let mut a = 0;
     while a < actions {
         let r = try_action(arities, listings, table, a, g, value, out, n, work);
@@ -376,7 +281,7 @@ fn scale_reward(
 {
     let start = head.reward_start;
     let end = start + head.reward_words;
-    times_leaf(arities, &listings[start..end], scale, out, work)
+    steps::times_leaf(arities, &listings[start..end], scale, out, work)
 }
 
 // The calls of a backup, once 12 is judged: the best over the actions, then the reward times leaf S^(k+1), then the best plus that, apart.
@@ -413,7 +318,7 @@ fn replace_value(
     let Step::Rows(m) = b else {
         return b;
     };
-    sum_apart(arities, &best[..n * 3], &reward[..m * 3], value, work)
+    steps::sum_apart(arities, &best[..n * 3], &reward[..m * 3], value, work)
 }
 
 // What a backup answers: the rows of the new value and S^(k+1), or the first refusal met.

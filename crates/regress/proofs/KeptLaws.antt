@@ -1,40 +1,53 @@
 -- Laws of T kept for a label that occurs again, and of the rows of a regression.
 use mathlib.Core.Path.{_≡_, refl, sym, ap, subst, _∙_, fun-ext}
-use mathlib.Core.Bool.{Bool, true, false}
+use mathlib.Core.Bool.{true}
 use mathlib.Core.List.{List}
-use Prim.Native.Nat.{ℕ, zero, suc, _+_, _*_, _-_, _/_, _%_, _≤_, _<_}
+use Prim.Native.Nat.{ℕ, _+_, _*_, _/_, _%_, _≤_, _<_}
 use native.Mathlib.Omega.{arith}
 use lib.ListN.{length, getD, set, length-set, replicate, length-replicate, getD-replicate}
 use lib.Seq.{getD-set-same, getD-set-other}
+use Rattle.refusal.specs.declared.Refusal.{Refusal}
+use Rattle.refusal.specs.Outcome.{Outcome, ok, refused, andThen}
 use Rattle.basics.specs.Members.{clash}
 use Rattle.basics.specs.Tests.{Cmp, below, equal, above, cmp}
-use Rattle.refusal.specs.declared.Refusal.{Refusal}
 use Rattle.label.specs.Labels.{isLabel, unpacked, inOrder}
 use Rattle.label.specs.LabelLaws.{label-fits, label-below}
-use Rattle.diagram.specs.Diagram.{Diagram, leaf}
+use Rattle.diagram.specs.Diagram.{Diagram, leaf, same}
 use Rattle.diagram.specs.Validity.{tree}
+use Rattle.diagram.specs.Sizes.{spaceRows}
+use Rattle.diagram.specs.DiagramLaws.{diagram-test}
 use Rattle.apply.specs.Formed.{add}
 use Rattle.apply.specs.RowLaws.{onto-mem}
+use Rattle.apply.specs.Snoc.{Begins, mem-begins}
 use Rattle.store.specs.declared.Formed.{Formed}
 use Rattle.store.specs.Space.{diagramsOf, Formation}
-use Rattle.regress.specs.declared.Stepped.{Stepped}
-use Rattle.regress.specs.declared.Stepped.the-variants.{Row, Refused}
+use Rattle.regression.specs.Calls.{Run, bind, form}
+use Rattle.regression.specs.CallLaws.{Steady, steady-bind, steady-form, form-forms, form-old}
+use Rattle.regression.specs.Step.{rowStep}
+use Rattle.regression.specs.StepLaws.{steady-step}
+use Rattle.regression.specs.Regression.{Truths, truthAt}
+use Rattle.regression.specs.RegressionLaws.{steady-truth}
+use Rattle.regression.specs.RegressCall.{truthsOf}
+use Rattle.row_steps.specs.declared.Stepped.{Stepped}
+use Rattle.row_steps.specs.declared.Stepped.the-variants.{Row, Refused}
+use Rattle.row_steps.specs.Running.{Ready, Three, Gave, Ran}
+use Rattle.row_steps.specs.RunLaws.{in-room, ran-bind, ran-stop, ran-cast, ran-answer}
+use Rattle.truths.specs.TruthChecks.{Lent}
 use Rattle.regress.specs.declared.Task.{Task}
 use Rattle.regress.specs.declared.Task.the-variants.{Leaf, Branch}
-use Rattle.regress.specs.Calls.{Outcome, ok, refused, andThen, Run, bind, form}
-use Rattle.regress.specs.CallLaws.{Steady, steady-bind, steady-form, form-forms, form-old}
-use Rattle.regress.specs.SpaceLaws.{Known, known-now, known-later, known-again}
-use Rattle.regress.specs.Step.{rowStep}
-use Rattle.regress.specs.StepLaws.{steady-step}
-use Rattle.regress.specs.Regression.{Truths, truthAt}
-use Rattle.regress.specs.RegressionLaws.{steady-truth}
-use Rattle.regress.specs.RegressCall.{truthsOf}
-use Rattle.regress.specs.Running.{Space, Ready, Three, Gave, countThen, Ran}
+use Rattle.regress.specs.Keeping.{Known, formedTruth, Asking, slotLabel, slotRow, Stands, Keeps, KeptRan}
 use Rattle.regress.specs.Tasks.{taskRun, Tasked, toldAs}
-use Rattle.regress.specs.Keeping.{formedTruth, Lent, Asking, slotLabel, slotRow, Stands, Keeps, KeptRan}
-use Rattle.regress.proofs.RunLaws.{in-room, ran-bind, ran-stop}
-use Rattle.regress.proofs.StepRunLaws.{ran-cast, ran-answer}
 use Rattle.regress.proofs.RowsLaws.{leaf-told, ready-on}
+
+pub known-now : {A : Type 0} (m : Run A) (a : A) (rs qs : List Diagram) → m rs ≡ ok (a, qs) → Known m a qs
+known-now m a rs qs e = record { before = rs; after = qs; ran = e; there = λ x h. h }
+
+pub known-later : {A : Type 0} (m : Run A) (a : A) (rs qs : List Diagram) → Begins rs qs → Known m a rs → Known m a qs
+known-later m a rs qs g k = record { before = k .before; after = k .after; ran = k .ran; there = λ x h. mem-begins same diagram-test x rs qs g (k .there x h) }
+
+-- run again it gives the same answer and adds nothing
+pub known-again : {A : Type 0} (m : Run A) (a : A) (rs : List Diagram) → Steady m → Known m a rs → length rs ≤ spaceRows → m rs ≡ ok (a, rs)
+known-again m a rs s k l = s .again (k .before) a (k .after) rs (k .ran) (k .there) l
 
 -- a kept T stands while rows are added
 steady-formed : (ar : List ℕ) (T : Truths) (l : ℕ) → Steady (formedTruth ar T l)

@@ -1,56 +1,53 @@
 -- Laws of the loop over the rows of a lent listing: the results of its rows stand in the working space, and what is left to run.
 use mathlib.Core.Path.{_≡_, refl, sym, ap, ap₂, subst, _∙_}
 use mathlib.Core.Logic.{_≢_}
-use mathlib.Core.Bool.{Bool, true, false}
+use mathlib.Core.Bool.{true}
 use mathlib.Core.List.{List, [], _∷_, _++_, map}
-use Prim.Native.Nat.{ℕ, zero, suc, pred, _+_, _*_, _-_, _/_, _≤_, _<_}
+use Prim.Native.Nat.{ℕ, zero, suc, pred, _+_, _*_, _/_, _≤_, _<_}
 use native.Mathlib.Omega.{arith}
 use native.Mathlib.Numerals.{add-one}
 use lib.ListN.{length, getD, set, drop, length-set, length-map, replicate, length-replicate}
 use lib.Seq.{getD-set-same, getD-set-other, drop-cons}
 use lib.Dec.{eqb}
 use borrow.Author.Tests.{eq-eqb, ne-eqb, eqb-true, eqb-false}
-use Rattle.basics.specs.Tests.{Flag, isTrue, isFalse, flag, Cmp, below, equal, above, cmp}
 use Rattle.refusal.specs.declared.Refusal.{Refusal}
-use Rattle.refusal.specs.declared.Refusal.the-variants.{Space as NoSpace}
-use Rattle.label.specs.Limits.{leafMark, predicateCount}
+use Rattle.refusal.specs.Outcome.{ok}
+use Rattle.basics.specs.Tests.{Flag, isTrue, isFalse, flag, Cmp, below, equal, above, cmp}
+use Rattle.label.specs.Limits.{leafMark}
 use Rattle.label.specs.LabelLaws.{label-below}
-use Rattle.label.specs.Labels.{areArities, isLabel}
+use Rattle.label.specs.Labels.{isLabel}
 use Rattle.label.specs.Renamings.{mapOf, moved}
 use Rattle.label.specs.Callers.{Movable}
 use Rattle.label.proofs.CodeLaws.{under-all}
 use Rattle.label.specs.declared.Test.{Test}
-use Rattle.label.specs.declared.Label.{Label}
-use Rattle.label.specs.declared.Test.the-variants.{Is}
-use Rattle.diagram.specs.Sizes.{highestValue, spaceRows, mostRows}
-use Rattle.diagram.specs.Diagram.{Diagram, leaf, branch}
-use Rattle.diagram.specs.Rows.{rows, onto}
+use Rattle.diagram.specs.Sizes.{highestValue, mostRows}
+use Rattle.diagram.specs.Diagram.{Diagram, leaf}
+use Rattle.diagram.specs.Rows.{rows}
 use Rattle.diagram.specs.Words.{labelAt, highAt, lowAt, rowCount, upTo, isListing}
 use Rattle.diagram.specs.WordLaws.{length-upTo, map-snoc, getD-map, getD-upTo}
 use Rattle.diagram.specs.Listing.{index, diagramOf}
-use Rattle.diagram.specs.Validity.{Valid, ValidRow, a-leaf, a-branch, LeafRow, BranchRow, tree}
+use Rattle.diagram.specs.Validity.{Valid, ValidRow, a-leaf, a-branch, tree}
 use Rattle.diagram.specs.ListingValid.{listing-is-valid}
 use Rattle.diagram.specs.DiagramOfListing.{shown-rows, rows-are}
 use Rattle.diagram.specs.RowLists.{rowTree}
 use Rattle.diagram.specs.RowLaws.{rows-kept, kept-index-is}
-use Rattle.apply.specs.Formed.{add}
 use Rattle.plan.specs.Plan.{Clean}
+use Rattle.apply.specs.Formed.{add}
 use Rattle.store.specs.declared.Formed.{Formed}
 use Rattle.store.specs.declared.Formed.the-variants.{Row as FormedRow, Full}
-use Rattle.store.specs.Space.{diagramsOf, Holds, Formation}
-use Rattle.regress.specs.declared.Stepped.{Stepped}
-use Rattle.regress.specs.declared.Stepped.the-variants.{Row, Refused}
+use Rattle.store.specs.Space.{diagramsOf, Formation}
+use Rattle.regression.specs.Calls.{Run, bind, form}
+use Rattle.regression.specs.Step.{testDiagram, rowStep}
+use Rattle.regression.specs.Regression.{resultOf, rowResult, rowResults, lastOf, overRows}
+use Rattle.regression.specs.RegressionLaws.{row-leaf, row-branch, results-none, results-cons, over-rows}
+use Rattle.regression.specs.MovedLaws.{moved-to, moved-label}
+use Rattle.row_steps.specs.declared.Stepped.{Stepped}
+use Rattle.row_steps.specs.declared.Stepped.the-variants.{Row, Refused}
+use Rattle.row_steps.specs.Running.{Space, Ready, Two, Gave, countThen, Ran, Testable}
+use Rattle.row_steps.specs.RunLaws.{formed-ran, full-ran, leaf-onto, row-known, full-known}
 use Rattle.regress.specs.declared.Task.{Task}
 use Rattle.regress.specs.declared.Task.the-variants.{Leaf, Branch}
-use Rattle.regress.specs.Calls.{Outcome, ok, refused, Run, pure, bind, form}
-use Rattle.regress.specs.Step.{testDiagram, rowStep}
-use Rattle.regress.specs.Regression.{resultOf, rowResult, rowResults, lastOf, overRows, replacement}
-use Rattle.regress.specs.RegressionLaws.{row-leaf, row-branch, results-none, results-cons, over-rows}
-use Rattle.regress.specs.MovedLaws.{moved-to, moved-label}
-use Rattle.regress.specs.Running.{Valued, Space, Ready, Two, Gave, countThen, Ran, Testable}
 use Rattle.regress.specs.Tasks.{taskAt, Taskable, taskRun, Tasked, replacedBy, Mapping, toldAs}
-use Rattle.regress.proofs.RunLaws.{formed-ran, full-ran}
-use Rattle.regress.proofs.StepRunLaws.{leaf-onto, row-known, full-known}
 
 -- `task_at`
 task-leaf : (ws numbers : List ℕ) (k : ℕ) → labelAt ws k ≡ leafMark → taskAt ws numbers k ≡ Leaf (highAt ws k)

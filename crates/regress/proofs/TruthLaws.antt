@@ -1,26 +1,23 @@
--- Laws of T at a label: the words of a truth diagram, the map of its arguments, and what the code forms.
+-- Laws of T at a label: the map of its arguments, and what the code forms.
 use mathlib.Core.Path.{_≡_, refl, sym, ap, subst, _∙_, fun-ext}
-use mathlib.Core.Bool.{Bool, true, false, not, _&&_}
+use mathlib.Core.Bool.{Bool, true, false, not, cond}
 use mathlib.Core.List.{List, [], _∷_}
 use mathlib.Core.Option.{Option, some, none}
-use Prim.Native.Nat.{ℕ, zero, suc, _+_, _*_, _-_, _≤_, _<_}
+use Prim.Native.Nat.{ℕ, zero, suc, _+_, _-_, _≤_, _<_}
 use native.Mathlib.Omega.{arith}
-use native.Mathlib.Numerals.{add-one}
-use lib.ListN.{length, getD, set, take, drop, length-drop, length-set, drop-of-length-le, List·getD-eq-default}
-use lib.Seq.{take-all, take-nil, getD-take, getD-set-same, getD-set-other}
+use lib.ListN.{length, getD, set, take, length-set, List·getD-eq-default}
+use lib.Seq.{getD-take, getD-set-same, getD-set-other}
 use lib.Dec.{eqb}
-use borrow.Author.Tests.{eq-eqb, ne-eqb, eqb-true, eqb-false}
+use borrow.Author.Tests.{eqb-true, eqb-false, not-true}
 use Rattle.basics.specs.Members.{clash}
 use Rattle.basics.specs.Tests.{and-left, and-right, Flag, isTrue, isFalse, flag, Cmp, below, equal, above, cmp}
-use Rattle.label.specs.Limits.{firstVariable, predicateCount, termBase}
-use Rattle.label.specs.Labels.{areArities, isLabel, termsOf, unpacked, predicateOf}
+use Rattle.label.specs.Limits.{termBase}
+use Rattle.label.specs.Labels.{areArities, termsOf, unpacked, predicateOf}
 use Rattle.label.specs.LabelLaws.{term-below, label-below, label-fits}
-use Rattle.label.specs.Terms.{isTerm}
 use Rattle.label.proofs.CodeLaws.{under-all}
 use Rattle.label.specs.Renamings.{mapOf}
 use Rattle.label.specs.declared.Atom.{Atom}
 use Rattle.label.specs.declared.Label.{Label}
-use Rattle.label.specs.declared.Test.{Test}
 use Rattle.label.specs.declared.Test.the-variants.{Is}
 use Rattle.diagram.specs.Sizes.{highestValue}
 use Rattle.diagram.specs.Diagram.{Diagram}
@@ -33,53 +30,21 @@ use Rattle.state.specs.ValueLaws.{Each-mono}
 use Rattle.store.specs.declared.Formed.{Formed}
 use Rattle.store.specs.declared.Formed.the-variants.{Row as FormedRow, Full}
 use Rattle.store.specs.Space.{diagramsOf, Formation}
-use Rattle.regress.specs.declared.Stepped.{Stepped}
-use Rattle.regress.specs.declared.Stepped.the-variants.{Row}
-use Rattle.regress.specs.Calls.{ok, Run, pure, bind, form}
-use Rattle.regress.specs.CallLaws.{form-old}
-use Rattle.regress.specs.SpaceLaws.{bind-refused}
-use Rattle.regress.specs.Step.{labelTest, testDiagram}
-use Rattle.regress.specs.StepLaws.{most-test}
-use Rattle.regress.specs.Regression.{argument, replacement, Truths, pickTruth, truthOf, truthFrom, truthAt}
-use Rattle.regress.specs.ResultLaws.{label-terms, argument-low, argument-high, argument-in, argument-terms}
-use Rattle.regress.specs.RegressCall.{truthCount, truthWords, truthsOf}
-use Rattle.regress.specs.RegressCallLaws.{truths-none, truths-some, listings-at}
-use Rattle.regress.specs.Running.{Ready, Ran, Testable}
-use Rattle.regress.specs.Result.{AtMost}
+use Rattle.regression.specs.Calls.{Run, bind, form}
+use Rattle.regression.specs.CallLaws.{form-old, bind-refused}
+use Rattle.regression.specs.Step.{labelTest, testDiagram}
+use Rattle.regression.specs.StepLaws.{most-test}
+use Rattle.regression.specs.Regression.{argument, replacement, truthOf, truthFrom, truthAt}
+use Rattle.regression.specs.ResultLaws.{label-terms, argument-low, argument-high, argument-in, argument-terms}
+use Rattle.regression.specs.RegressCall.{truthCount, truthWords, truthsOf}
+use Rattle.regression.specs.RegressCallLaws.{truths-none, truths-some, listings-at}
+use Rattle.regression.specs.Result.{AtMost}
+use Rattle.row_steps.specs.declared.Stepped.{Stepped}
+use Rattle.row_steps.specs.Running.{Ready, Ran, Testable}
+use Rattle.row_steps.specs.RunLaws.{there-mem, in-room, formed-ran, full-ran, row-known, full-known, one-most, ran-cast, ran-answer}
+use Rattle.truths.specs.TruthChecks.{hasTruth}
 use Rattle.regress.specs.Tasks.{Mapping, toldAs, usedPlaces, Usable, Arguable, Argued}
-use Rattle.regress.specs.Keeping.{hasTruth, formedTruth, Asking}
-use Rattle.regress.proofs.FreeLaws.{not-true}
-use Rattle.regress.proofs.RunLaws.{there-mem, in-room, formed-ran, full-ran}
-use Rattle.regress.proofs.StepRunLaws.{row-known, full-known, one-most, ran-cast, ran-answer}
-
--- `word_at`
-pub word-none : (ws : List ℕ) (i : ℕ) → length ws ≤ i → 0 ≡ getD ws i 0
-word-none ws i h = sym (List·getD-eq-default ws 0 h)
-
--- `part`
-pub part-none : (ws : List ℕ) (first count : ℕ) → length ws ≤ first → take 0 (drop 0 ws) ≡ take count (drop first ws)
-part-none ws first count h = sym (rw (drop-of-length-le ws h) (take-nil count))
-
-pub part-rest : (ws : List ℕ) (first count : ℕ) → length ws - first ≤ count → take (length ws - first) (drop first ws) ≡ take count (drop first ws)
-part-rest ws first count h =
-    take-all (length ws - first) (drop first ws) (omega (arith, length-drop first ws)) ∙ sym (take-all count (drop first ws) (omega (arith, length-drop first ws)))
-
-pub part-some : (ws : List ℕ) (first count : ℕ) → take (first + count - first) (drop first ws) ≡ take count (drop first ws)
-part-some ws first count = let e : first + count - first ≡ count = omega arith in rw e refl
-
--- `has_truth`
-pub has-none : (spans : List ℕ) {p : ℕ} → p ≡ 0 → false ≡ hasTruth spans p
-unfolding hasTruth
-has-none spans {p} e = rw (eq-eqb p 0 e)
-
-pub has-words : (spans : List ℕ) {p w : ℕ} → (p ≡ 0 → ⊥) → w ≡ getD spans (p * 2 + 1) 0 → not (eqb w 0) ≡ hasTruth spans p
-unfolding hasTruth
-has-words spans {p} {w} n e = rw (ne-eqb p 0 n, e)
-
--- `truth_words`
-pub words-are : (truths spans : List ℕ) (p : ℕ) {first count : ℕ} {ws : List ℕ} → first ≡ getD spans (p * 2) 0 → count ≡ getD spans (p * 2 + 1) 0
-    → ws ≡ take count (drop first truths) → ws ≡ truthWords truths spans p
-words-are truths spans p e d q = q ∙ (λ i. take (d i) (drop (e i) truths))
+use Rattle.regress.specs.Keeping.{formedTruth, Asking}
 
 -- `argument_term`
 pub argument-is-low : (ts : List ℕ) {t : ℕ} → t < 32 → t ≡ argument ts t
@@ -183,7 +148,8 @@ module _ {ar ws : List ℕ} {l : ℕ} (u : Usable ar ws l) where
     unfolding termsOf
     past t h =
         List·getD-eq-default map 0 (omega (arith, g .whole))
-        ∙ sym (argument-high Ts t (omega arith) ∙ take-past (getD ar (unpacked l .predicate) 0) (unpacked l .first ∷ unpacked l .second ∷ unpacked l .third ∷ unpacked l .fourth ∷ []) (t - 32) (omega arith))
+        ∙ sym (argument-high Ts t (omega arith)
+        ∙ take-past (getD ar (unpacked l .predicate) 0) (unpacked l .first ∷ unpacked l .second ∷ unpacked l .third ∷ unpacked l .fourth ∷ []) (t - 32) (omega arith))
 
     same-map : (t : ℕ) → Cmp t termBase → mapOf map t ≡ argument Ts t
     same-map t (below h) = g .each t h
@@ -245,7 +211,7 @@ module _ {ar truths spans : List ℕ} {l : ℕ} (q : Asking ar truths spans l) w
     unfolding hasTruth truthOf
     has-no h = go (flag (eqb p 0)) (flag (eqb (truthCount spans p) 0))
       where
-        go : Flag (eqb p 0) → Flag (eqb (truthCount spans p) 0) → pickTruth (eqb p 0) none (truthsOf truths spans p) ≡ none
+        go : Flag (eqb p 0) → Flag (eqb (truthCount spans p) 0) → cond (eqb p 0) none (truthsOf truths spans p) ≡ none
         go (isTrue x) y = rw x
         go (isFalse x) (isTrue y) = rw x (truths-none truths spans p (eqb-true _ _ y))
         go (isFalse x) (isFalse y) = clash (rw (x, y) refl) h

@@ -1,37 +1,26 @@
 -- T at a label as the code forms it, and kept for a label that occurs again (document 01, section 'Regression').
 use mathlib.Core.Path.{_≡_}
-use mathlib.Core.Bool.{Bool, true, false, not, _&&_}
+use mathlib.Core.Bool.{true}
 use mathlib.Core.List.{List}
-use Prim.Native.Nat.{ℕ, _-_, _/_, _%_, _≤_, _<_}
+use Prim.Native.Nat.{ℕ, _/_, _%_, _<_}
 use lib.ListN.{length, getD}
-use lib.Dec.{eqb}
-use Rattle.label.specs.Limits.{predicateCount, equality}
-use Rattle.label.specs.Labels.{areArities, isLabel}
-use Rattle.diagram.specs.Diagram.{Diagram}
+use Rattle.basics.specs.Members.{Within}
+use Rattle.label.specs.Labels.{isLabel}
+use Rattle.diagram.specs.Diagram.{Diagram, same}
 use Rattle.diagram.specs.Validity.{tree}
 use Rattle.store.specs.Space.{diagramsOf}
-use Rattle.regress.specs.declared.Stepped.{Stepped}
-use Rattle.regress.specs.declared.Stepped.the-variants.{Row}
-use Rattle.regress.specs.Calls.{Run, bind, form}
-use Rattle.regress.specs.Regression.{Truths, truthAt}
-use Rattle.regress.specs.RegressCall.{truthCount, areListings}
-use Rattle.regress.specs.SpaceLaws.{Known}
-use Rattle.regress.specs.Running.{Ran}
-
--- predicate p has a truth diagram: it is not equality, and words are lent for it
-unfoldable pub hasTruth : List ℕ → ℕ → Bool
-hasTruth spans p = not (eqb p equality) && not (eqb (truthCount spans p) 0)
+use Rattle.regression.specs.Calls.{Run, bind, form}
+use Rattle.regression.specs.Regression.{Truths, truthAt}
+use Rattle.row_steps.specs.declared.Stepped.{Stepped}
+use Rattle.row_steps.specs.declared.Stepped.the-variants.{Row}
+use Rattle.row_steps.specs.Running.{Ran}
+use Rattle.truths.specs.TruthChecks.{Lent}
 
 -- T for the label l, its rows formed
 abbrev pub formedTruth : List ℕ → Truths → ℕ → Run Diagram
 formedTruth ar truths l = bind (truthAt ar truths l) form
 
--- lent truth diagrams that are listings under an arity list
-pub record Lent (ar truths spans : List ℕ) : Type 0 where
-  pub arities : areArities ar ≡ true
-  pub listings : areListings ar truths spans 1 (predicateCount - 1) ≡ true
-
--- the same, and a label whose T is asked for
+-- truth diagrams lent as listings, and a label whose T is asked for
 pub record Asking (ar truths spans : List ℕ) (l : ℕ) : Type 0 where
   pub lent : Lent ar truths spans
   pub label : isLabel ar l ≡ true
@@ -45,6 +34,13 @@ slotLabel kept b = getD kept b 0 / 65536
 
 abbrev pub slotRow : List ℕ → ℕ → ℕ
 slotRow kept b = getD kept b 0 % 65536
+
+-- a step that was run, and whose rows are among rs
+pub record Known {A : Type 0} (m : Run A) (a : A) (rs : List Diagram) : Type 0 where
+  pub before : List Diagram
+  pub after : List Diagram
+  pub ran : m before ≡ ok (a, after)
+  pub there : Within same after rs
 
 -- T stands in row i of the space, and forming it again would form nothing
 pub record Stands (ar : List ℕ) (truths : Truths) (s : List ℕ) (count l i : ℕ) : Type 0 where

@@ -1,25 +1,4 @@
--- Regression, replacement and freeing (document 01, section 'Regression').
--- definitions
-pub mod Calls
-pub mod Step
-pub mod Regression
-pub mod Next
-pub mod RegressCall
-pub mod Result
-pub mod Parameters
-pub mod Freeing
-pub mod Running
+-- The regression call: what its inner functions take and give.
 pub mod Tasks
 pub mod Keeping
 pub mod Regressing
--- laws
-pub mod CallLaws
-pub mod StepLaws
-pub mod RegressionLaws
-pub mod MovedLaws
-pub mod ResultLaws
-pub mod FreeingLaws
-pub mod NextLaws
-pub mod RegressCallLaws
-pub mod FreeCallLaws
-pub mod SpaceLaws

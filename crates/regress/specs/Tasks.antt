@@ -1,7 +1,7 @@
 -- The rows of a lent listing as tasks: a leaf to be formed, or the row step of a label (document 01, section 'Regression').
 use mathlib.Core.Path.{_≡_}
 use mathlib.Core.Logic.{_≢_}
-use mathlib.Core.Bool.{Bool, true, false}
+use mathlib.Core.Bool.{true, cond}
 use mathlib.Core.List.{List, [], _∷_}
 use Prim.Native.Nat.{ℕ, _+_, _*_, _≤_, _<_}
 use lib.ListN.{length, getD, take}
@@ -19,22 +19,18 @@ use Rattle.diagram.specs.Words.{labelAt, highAt, lowAt, isListing}
 use Rattle.diagram.specs.Validity.{tree}
 use Rattle.store.specs.declared.Formed.{Formed}
 use Rattle.store.specs.declared.Formed.the-variants.{Row as FormedRow, Full}
-use Rattle.regress.specs.declared.Stepped.{Stepped}
-use Rattle.regress.specs.declared.Stepped.the-variants.{Row, Refused}
+use Rattle.regression.specs.Calls.{Run, pure, bind, form}
+use Rattle.regression.specs.Step.{testDiagram, rowStep}
+use Rattle.regression.specs.Regression.{argument}
+use Rattle.row_steps.specs.declared.Stepped.{Stepped}
+use Rattle.row_steps.specs.declared.Stepped.the-variants.{Row, Refused}
 use Rattle.regress.specs.declared.Task.{Task}
 use Rattle.regress.specs.declared.Task.the-variants.{Leaf, Branch}
-use Rattle.regress.specs.Calls.{Run, pure, bind, form}
-use Rattle.regress.specs.Step.{testDiagram, rowStep}
-use Rattle.regress.specs.Regression.{argument}
-
-abbrev pub pickTask : Bool → Task → Task → Task
-pickTask true x y = x
-pickTask false x y = y
 
 -- row k of the listing ws, where `numbers` has the rows of the results of the rows before it
 unfoldable pub taskAt : List ℕ → List ℕ → ℕ → Task
 taskAt ws numbers k =
-    pickTask (eqb (labelAt ws k) leafMark) (Leaf (highAt ws k)) (Branch (labelAt ws k) (getD numbers (highAt ws k) 0) (getD numbers (lowAt ws k) 0))
+    cond (eqb (labelAt ws k) leafMark) (Leaf (highAt ws k)) (Branch (labelAt ws k) (getD numbers (highAt ws k) 0) (getD numbers (lowAt ws k) 0))
 
 -- what reading it requires
 pub record Taskable (ws numbers : List ℕ) (k : ℕ) : Type 0 where

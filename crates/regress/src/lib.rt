@@ -1,368 +1,31 @@
-// Regression and freeing of diagrams. What they are stands in specs/.
-use apply::Operation;
-use combine::Joined;
+// The regression call. What it is stands in regression.
 use label::Atom;
 use label::Label;
 use label::Term;
 use label::Test;
 use refusal::Refusal;
+use regression::Regressed;
+use row_steps::Stepped;
 use store::Formed;
-use table::Row;
+use truths::Verdict;
 use write::Listed;
 ghost use mathlib.Core.Path.{_≡_};
 ghost use mathlib.Core.Bool.{true};
-ghost use Prim.Native.Nat.{_+_, _*_, _-_, _<_, _≤_};
-ghost use lib.ListN.{length, getD, take, drop};
+ghost use Prim.Native.Nat.{_<_};
+ghost use lib.ListN.{length};
 ghost use Rattle.diagram.specs.Listing.{diagramOf};
-ghost use Rattle.rename.specs.Freeing.{freed, Freeable};
-ghost use Rattle.regress.specs.Calls.{ok};
-ghost use Rattle.regress.specs.RegressCall.{writtenAs, freeAnswer, freeResult};
-ghost use Rattle.label.specs.Limits.{leafMark, predicateCount, mostPlaces};
-ghost use Rattle.diagram.specs.Diagram.{leaf, branch};
-ghost use Rattle.diagram.specs.Rows.{onto};
-ghost use Rattle.diagram.specs.Validity.{Valid, tree};
-ghost use Rattle.apply.specs.Combination.{operate};
-ghost use Rattle.store.specs.Space.{diagramsOf, Holds, Formation};
-ghost use Rattle.regress.specs.Calls.{combine};
-ghost use Rattle.regress.specs.Step.{testDiagram, rowStep, exchanged};
-ghost use Rattle.regress.specs.Running.{Ready, Two, Three, Ran, Exchangeable, Exchanged, Testable};
+ghost use Rattle.regression.specs.RegressCall.{writtenAs, truthsOf, regressedAs, regressAnswer, regressResult};
+ghost use Rattle.label.specs.Limits.{leafMark};
+ghost use Rattle.diagram.specs.Validity.{tree};
+ghost use Rattle.row_steps.specs.Running.{Ready, Ran};
 ghost use Rattle.diagram.specs.Words.{isListing};
 ghost use Rattle.label.specs.Renamings.{mapOf};
 ghost use Rattle.label.specs.Labels.{termsOf, unpacked};
-ghost use Rattle.regress.specs.Regression.{argument, replacement, truthAt, regression, regressed};
+ghost use Rattle.regression.specs.Regression.{argument, replacement, truthAt, regression, regressed};
 ghost use Rattle.regress.specs.Tasks.{taskAt, Taskable, taskRun, Tasked, replacedBy, Mapping, toldAs, usedPlaces, Usable, Arguable, Argued};
-ghost use Rattle.regress.specs.RegressCall.{truthsOf, truthWords, areListings, leafAbove, unboundVariable, regressedAs, regressAnswer, regressResult};
-ghost use Rattle.regress.specs.Regressing.{Regressable, Listable, held, Answered, isListedAt, isHighLeaf, verdictOn, verdictOf, Between, Judged};
-ghost use Rattle.regress.specs.Keeping.{hasTruth, formedTruth, Lent, Asking, slots, Keeps, KeptRan};
-ghost use Rattle.regress.specs.Freeing.{anySet, freeOwn, FreeTask, FreedWith};
-
-// What a regression answers: the result's rows, or why it is refused.
-pub enum Regressed {
-    Done(usize),
-    Refused(Refusal),
-}
-
-// What freeing answers: the result's rows, or why it is refused.
-pub enum Freed {
-    Done(usize),
-    Refused(Refusal),
-}
-
-// Whether one of the n marks from `first` on is set.
-pub fn any_set(marks: &[u64], first: usize, n: usize) -> bool
-    requires { ⌜ first + n ≤ length (now marks) ⌝ }
-    ensures { λ r. ⌜ r ≡ anySet (now (marks .entry)) first n ⌝ }
-{
-    let mut k = 0;
-    while k < n {
-        if marks[first + k] != 0 {
-            return true;
-        }
-        k += 1;
-    }
-    false
-}
-
-// Writes a listing with its parameters freed.
-fn write_freed(arities: &[u64], words: &[u64], count: u64, out: &mut [u64])
-    requires { ⌜ FreeTask (now arities) (now words) count (now out) ⌝ }
-    requires { ⌜ Freeable (now arities) count (diagramOf (now words)) ⌝ }
-    ensures { λ _. ⌜ now (out .exit) ≡ writtenAs (ok (freed (now (arities .entry)) count (diagramOf (now (words .entry))))) (now (out .entry)) ⌝ }
-{
-    let mut map = [0u64; 64];
-    rename::free_map(count, &mut map);
-    rename::relabel_rows(arities, words, &map, out);
-}
-
-// Frees a listing: no parameter past the count (6), no variable that would pass 63 (8).
-pub fn free_checked(arities: &[u64], words: &[u64], count: u64, out: &mut [u64]) -> Freed
-    requires { ⌜ FreeTask (now arities) (now words) count (now out) ⌝ }
-    ensures { λ r. ⌜ FreedWith (freeOwn (now (arities .entry)) (now (words .entry)) count) r (now (out .entry)) (now (out .exit)) ⌝ }
-{
-    let mut marks = [0u64; 64];
-    listing::used(arities, words, &mut marks);
-    let n = count as usize;
-    let parameters = (Term::PARAMETERS as usize) - n;
-    if any_set(&marks, (Term::FIRST_PARAMETER as usize) + n, parameters) {
-        return Freed::Refused(Refusal::Unbound);
-    }
-    if any_set(&marks, (Term::BASE as usize) - n, n) {
-        return Freed::Refused(Refusal::Variables);
-    }
-    write_freed(arities, words, count, out);
-    Freed::Done(words.len() / 3)
-}
-
-// Frees the parameters of an action that has `count` of them.
-pub fn free(arities: &[u64], words: &[u64], count: u64, out: &mut [u64], work: &[u64]) -> Freed
-    ensures { λ r. ⌜ r ≡ freeAnswer (now (arities .entry)) (now (words .entry)) count (length (now (out .entry))) (length (now (work .entry))) ⌝ }
-    ensures { λ _. ⌜ now (out .exit) ≡ freeResult (now (arities .entry)) (now (words .entry)) count (length (now (work .entry))) (now (out .entry)) ⌝ }
-{
-    if !listing::check(arities, words) {
-        return Freed::Refused(Refusal::Listing);
-    }
-    if out.len() < diagram::RESULT_WORDS {
-        return Freed::Refused(Refusal::Buffer);
-    }
-    if work.len() < diagram::SPACE_WORDS {
-        return Freed::Refused(Refusal::Buffer);
-    }
-    if count > Term::PARAMETERS {
-        return Freed::Refused(Refusal::Range);
-    }
-    free_checked(arities, words, count, out)
-}
-
-// What a step in the working space answers: the result's row and the rows then; or why it is refused, and the rows then.
-pub enum Stepped {
-    Row(usize, usize),
-    Refused(Refusal, usize),
-}
-
-// Combines two rows, names shared.
-fn join(
-    plan: &mut [u64],
-    index: &mut [u16],
-    i: usize,
-    j: usize,
-    op: Operation,
-    space: &mut [u64],
-    heads: &mut [u16],
-    links: &mut [u16],
-    count: usize,
-) -> Stepped
-    requires { ⌜ Ready (now plan) (now index) (now space) (now heads) (now links) count ⌝ }
-    requires { ⌜ Two count i j ⌝ }
-    ensures { λ r. ⌜ Ran (combine (operate op) (tree (now (space .entry)) i) (tree (now (space .entry)) j)) (now (space .entry)) count r (now (space .exit)) (now (heads .exit)) (now (links .exit)) (now (index .exit)) ⌝ }
-{
-    let r = combine::join_rows(
-        plan,
-        index,
-        diagram::PAIRS,
-        i,
-        j,
-        op,
-        space,
-        heads,
-        links,
-        count,
-    );
-    match r {
-        Joined::At(row, rows, _) => Stepped::Row(row, rows),
-        Joined::TooManyPairs => Stepped::Refused(Refusal::Pairs, count),
-        Joined::TooHighValue => Stepped::Refused(Refusal::Value, count),
-        Joined::NoRoom => Stepped::Refused(Refusal::Space, diagram::SPACE_ROWS),
-    }
-}
-
-// Forms a branch of two leaves.
-fn form_pair(
-    space: &mut [u64],
-    heads: &mut [u16],
-    links: &mut [u16],
-    count: usize,
-    label: u64,
-    high: u64,
-    low: u64,
-) -> Formed
-    requires { ⌜ Holds (now space) (now heads) (now links) count ⌝ }
-    requires { ⌜ label < leafMark ⌝ }
-    ensures { λ r. ⌜ Formation (branch label (leaf high) (leaf low)) (onto (branch label (leaf high) (leaf low)) (diagramsOf (now (space .entry)) count)) r (now (space .exit)) (now (heads .exit)) (now (links .exit)) ⌝ }
-{
-    let Formed::Row(t, n) = store::leaf(space, heads, links, count, high) else {
-        return Formed::Full;
-    };
-    let Formed::Row(f, m) = store::leaf(space, heads, links, n, low) else {
-        return Formed::Full;
-    };
-    store::form(
-        space,
-        heads,
-        links,
-        m,
-        Row {
-            label: label,
-            high: t as u64,
-            low: f as u64,
-        },
-    )
-}
-
-// 1 - v.
-fn flipped(v: u64) -> u64
-    ensures { λ r. ⌜ r ≡ 1 - v ⌝ }
-{
-    if v == 0 {
-        return 1;
-    }
-    0
-}
-
-// Forms the rows of 1 - T for row i, and notes the row of each.
-fn exchange(
-    space: &mut [u64],
-    heads: &mut [u16],
-    links: &mut [u16],
-    memo: &mut [u16],
-    count: usize,
-    i: usize,
-) -> Formed
-    requires { ⌜ Exchangeable (now space) (now heads) (now links) (now memo) count i ⌝ }
-    ensures { λ r. ⌜ Exchanged (now (space .entry)) count i r (now (space .exit)) (now (heads .exit)) (now (links .exit)) (now (memo .exit)) ⌝ }
-{
-    let known = basics::wide(memo[i]);
-    if known != 0 {
-        return Formed::Row(known - 1, count);
-    }
-    let l = space[i * 3];
-    let t = space[i * 3 + 1];
-    let f = space[i * 3 + 2] as usize;
-    if l == Label::LEAF {
-        let Formed::Row(j, n) = store::leaf(space, heads, links, count, flipped(t)) else {
-            return Formed::Full;
-        };
-        memo[i] = (j + 1) as u16;
-        return Formed::Row(j, n);
-    }
-    let Formed::Row(high, n) = exchange(space, heads, links, memo, count, t as usize) else {
-        return Formed::Full;
-    };
-    let Formed::Row(low, m) = exchange(space, heads, links, memo, n, f) else {
-        return Formed::Full;
-    };
-    let Formed::Row(j, c) = store::form(
-        space,
-        heads,
-        links,
-        m,
-        Row {
-            label: l,
-            high: high as u64,
-            low: low as u64,
-        },
-    ) else {
-        return Formed::Full;
-    };
-    memo[i] = (j + 1) as u16;
-    Formed::Row(j, c)
-}
-
-// Forms 1 - T for the row `test`.
-fn one_minus(
-    space: &mut [u64],
-    heads: &mut [u16],
-    links: &mut [u16],
-    count: usize,
-    test: usize,
-) -> Formed
-    requires { ⌜ Holds (now space) (now heads) (now links) count ⌝ }
-    requires { ⌜ test < count ⌝ }
-    ensures { λ r. ⌜ Formation (exchanged (tree (now (space .entry)) test)) (onto (exchanged (tree (now (space .entry)) test)) (diagramsOf (now (space .entry)) count)) r (now (space .exit)) (now (heads .exit)) (now (links .exit)) ⌝ }
-{
-    let mut memo = [0u16; diagram::SPACE_ROWS];
-    exchange(space, heads, links, &mut memo, count, test)
-}
-
-// The row step, T being the row `test`: 1 - T, left product, right product, then sum.
-fn row_step(
-    plan: &mut [u64],
-    index: &mut [u16],
-    space: &mut [u64],
-    heads: &mut [u16],
-    links: &mut [u16],
-    count: usize,
-    test: usize,
-    high: usize,
-    low: usize,
-) -> Stepped
-    requires { ⌜ Ready (now plan) (now index) (now space) (now heads) (now links) count ⌝ }
-    requires { ⌜ Three count test high low ⌝ }
-    ensures { λ r. ⌜ Ran (rowStep (tree (now (space .entry)) test) (tree (now (space .entry)) high) (tree (now (space .entry)) low)) (now (space .entry)) count r (now (space .exit)) (now (heads .exit)) (now (links .exit)) (now (index .exit)) ⌝ }
-{
-    let Formed::Row(other, n) = one_minus(space, heads, links, count, test) else {
-        return Stepped::Refused(Refusal::Space, diagram::SPACE_ROWS);
-    };
-    let a = join(
-        plan,
-        index,
-        test,
-        high,
-        Operation::Product,
-        space,
-        heads,
-        links,
-        n,
-    );
-    let Stepped::Row(left, m) = a else {
-        return a;
-    };
-    let b = join(
-        plan,
-        index,
-        other,
-        low,
-        Operation::Product,
-        space,
-        heads,
-        links,
-        m,
-    );
-    let Stepped::Row(right, k) = b else {
-        return b;
-    };
-    join(
-        plan,
-        index,
-        left,
-        right,
-        Operation::Sum,
-        space,
-        heads,
-        links,
-        k,
-    )
-}
-
-// Forms the one-row test of what is asked, or leaf 1 where it is t = t.
-fn form_test(
-    space: &mut [u64],
-    heads: &mut [u16],
-    links: &mut [u16],
-    count: usize,
-    test: Test,
-) -> Formed
-    requires { ⌜ Holds (now space) (now heads) (now links) count ⌝ }
-    requires { ⌜ Testable test ⌝ }
-    ensures { λ r. ⌜ Formation (testDiagram test) (onto (testDiagram test) (diagramsOf (now (space .entry)) count)) r (now (space .exit)) (now (heads .exit)) (now (links .exit)) ⌝ }
-{
-    match test {
-        Test::Always => store::leaf(space, heads, links, count, 1),
-        Test::Is(l) => form_pair(space, heads, links, count, l.packed, 1, 0),
-    }
-}
-
-// The row step, T being the test of what is asked.
-pub fn test_step(
-    plan: &mut [u64],
-    index: &mut [u16],
-    space: &mut [u64],
-    heads: &mut [u16],
-    links: &mut [u16],
-    count: usize,
-    test: Test,
-    high: usize,
-    low: usize,
-) -> Stepped
-    requires { ⌜ Ready (now plan) (now index) (now space) (now heads) (now links) count ⌝ }
-    requires { ⌜ Testable test ⌝ }
-    requires { ⌜ Two count high low ⌝ }
-    ensures { λ r. ⌜ Ran (rowStep (testDiagram test) (tree (now (space .entry)) high) (tree (now (space .entry)) low)) (now (space .entry)) count r (now (space .exit)) (now (heads .exit)) (now (links .exit)) (now (index .exit)) ⌝ }
-{
-    let Formed::Row(t, n) = form_test(space, heads, links, count, test) else {
-        return Stepped::Refused(Refusal::Space, diagram::SPACE_ROWS);
-    };
-    row_step(plan, index, space, heads, links, n, t, high, low)
-}
+ghost use Rattle.regress.specs.Regressing.{Regressable, Listable, held, Answered};
+ghost use Rattle.regress.specs.Keeping.{formedTruth, Asking, slots, Keeps, KeptRan};
+ghost use Rattle.truths.specs.TruthChecks.{Lent};
 
 // What a row of a lent listing asks for: a leaf with its value, or the row step of its label with the rows of its children's results.
 pub enum Task {
@@ -417,7 +80,7 @@ fn replaced_row(
         Task::Leaf(v) => told(store::leaf(space, heads, links, count, v)),
         Task::Branch(l, high, low) => {
             let test = Label { packed: l }.moved(arities, map);
-            test_step(plan, index, space, heads, links, count, test, high, low)
+            row_steps::test_step(plan, index, space, heads, links, count, test, high, low)
         }
     }
 }
@@ -530,52 +193,6 @@ fn replace_arguments(
     )
 }
 
-// Word i, or 0 where there is none.
-pub fn word_at(words: &[u64], i: usize) -> u64
-    ensures { λ r. ⌜ r ≡ getD (now (words .entry)) i 0 ⌝ }
-{
-    if i < words.len() {
-        return words[i];
-    }
-    0
-}
-
-// The `count` words from `first` on, those that are there.
-fn part(words: &[u64], first: usize, count: usize) -> &[u64]
-    ensures { λ r. ⌜ now r ≡ take count (drop first (now (words .entry))) ⌝ }
-{
-    let n = words.len();
-    if first >= n {
-        return &words[..0];
-    }
-    if count >= n - first {
-        return &words[first..];
-    }
-    let end = first + count;
-    &words[first..end]
-}
-
-// Whether predicate p has a truth diagram.
-fn has_truth(spans: &[u64], p: usize) -> bool
-    requires { ⌜ p < predicateCount ⌝ }
-    ensures { λ r. ⌜ r ≡ hasTruth (now (spans .entry)) p ⌝ }
-{
-    if p == 0 {
-        return false;
-    }
-    word_at(spans, p * 2 + 1) != 0
-}
-
-// The words of the truth diagram of predicate p.
-pub fn truth_words<'a>(truths: &'a [u64], spans: &[u64], p: usize) -> &'a [u64]
-    requires { ⌜ p < predicateCount ⌝ }
-    ensures { λ r. ⌜ now r ≡ truthWords (now (truths .entry)) (now (spans .entry)) p ⌝ }
-{
-    let first = word_at(spans, p * 2) as usize;
-    let count = word_at(spans, p * 2 + 1) as usize;
-    part(truths, first, count)
-}
-
 // Forms T for a label: its truth diagram with the arguments replaced; a predicate without one, and equality, stay.
 fn form_truth(
     arities: &[u64],
@@ -594,8 +211,8 @@ fn form_truth(
     ensures { λ r. ⌜ Ran (formedTruth (now (arities .entry)) (truthsOf (now (truths .entry)) (now (spans .entry))) label) (now (space .entry)) count r (now (space .exit)) (now (heads .exit)) (now (links .exit)) (now (index .exit)) ⌝ }
 {
     let p = Label { packed: label }.predicate() as usize;
-    if has_truth(spans, p) {
-        let words = truth_words(truths, spans, p);
+    if truths::has_truth(spans, p) {
+        let words = truths::truth_words(truths, spans, p);
         return replace_arguments(
             arities,
             words,
@@ -608,7 +225,7 @@ fn form_truth(
             count,
         );
     }
-    told(form_test(
+    told(row_steps::form_test(
         space,
         heads,
         links,
@@ -619,6 +236,7 @@ fn form_truth(
 
 // Slots in which T is kept by its label.
 const SLOTS: usize = 1024;
+
 // A slot has its label times this, and the row of T.
 const SLOT_WEIGHT: u64 = 65536;
 
@@ -713,7 +331,7 @@ fn regressed_row(
             let Stepped::Row(test, n) = r else {
                 return r;
             };
-            row_step(plan, index, space, heads, links, n, test, high, low)
+            row_steps::row_step(plan, index, space, heads, links, n, test, high, low)
         }
     }
 }
@@ -781,120 +399,6 @@ fn list_result(space: &[u64], count: usize, root: usize, out: &mut [u64]) -> Reg
     }
 }
 
-// Whether the truth diagram of predicate p is a listing, if there is one.
-fn is_listed(arities: &[u64], truths: &[u64], spans: &[u64], p: usize) -> bool
-    requires { ⌜ p < predicateCount ⌝ }
-    ensures { λ r. ⌜ r ≡ isListedAt (now (arities .entry)) (now (truths .entry)) (now (spans .entry)) p ⌝ }
-{
-    if word_at(spans, p * 2 + 1) == 0 {
-        return true;
-    }
-    listing::check(arities, truth_words(truths, spans, p))
-}
-
-// Whether all lent truth diagrams are listings.
-pub fn are_listed(arities: &[u64], truths: &[u64], spans: &[u64]) -> bool
-    ensures { λ r. ⌜ r ≡ areListings (now (arities .entry)) (now (truths .entry)) (now (spans .entry)) 1 (predicateCount - 1) ⌝ }
-{
-    let mut p = 1usize;
-    while p < Label::PREDICATES {
-        if !is_listed(arities, truths, spans, p) {
-            return false;
-        }
-        p += 1;
-    }
-    true
-}
-
-// What the checks of truth diagrams say.
-pub enum Verdict {
-    Passed,
-    Refused(Refusal),
-}
-
-// Whether row k is a leaf above 1.
-fn is_high_leaf(words: &[u64], k: usize) -> bool
-    requires { ⌜ k * 3 + 3 ≤ length (now words) ⌝ }
-    ensures { λ r. ⌜ r ≡ isHighLeaf (now (words .entry)) k ⌝ }
-{
-    if words[k * 3] != Label::LEAF {
-        return false;
-    }
-    words[k * 3 + 1] > 1
-}
-
-// Whether a listing has a leaf above 1.
-fn has_high_leaf(arities: &[u64], words: &[u64]) -> bool
-    requires { ⌜ Valid (now arities) (now words) ⌝ }
-    ensures { λ r. ⌜ r ≡ leafAbove 1 (diagramOf (now (words .entry))) ⌝ }
-{
-    let m = words.len() / 3;
-    let mut k = 0;
-    while k < m {
-        if is_high_leaf(words, k) {
-            return true;
-        }
-        k += 1;
-    }
-    false
-}
-
-// Whether a listing has a variable that is no argument of a predicate of arity n.
-fn has_unbound(arities: &[u64], words: &[u64], n: usize) -> bool
-    requires { ⌜ Valid (now arities) (now words) ⌝ }
-    requires { ⌜ n ≤ mostPlaces ⌝ }
-    ensures { λ r. ⌜ r ≡ unboundVariable (now (arities .entry)) n (diagramOf (now (words .entry))) ⌝ }
-{
-    let mut marks = [0u64; 64];
-    listing::used(arities, words, &mut marks);
-    let first = (Term::FIRST_VARIABLE as usize) + n;
-    let left = (Term::VARIABLES as usize) - n;
-    any_set(&marks, first, left)
-}
-
-// Checks the truth diagram of a predicate of arity n: 7, then 6.
-pub fn judge(arities: &[u64], words: &[u64], n: usize) -> Verdict
-    requires { ⌜ Valid (now arities) (now words) ⌝ }
-    requires { ⌜ n ≤ mostPlaces ⌝ }
-    ensures { λ r. ⌜ r ≡ verdictOn (now (arities .entry)) n (diagramOf (now (words .entry))) ⌝ }
-{
-    if has_high_leaf(arities, words) {
-        return Verdict::Refused(Refusal::Truth);
-    }
-    if has_unbound(arities, words, n) {
-        return Verdict::Refused(Refusal::Unbound);
-    }
-    Verdict::Passed
-}
-
-// Checks the truth diagram of predicate p, if there is one.
-fn judge_at(arities: &[u64], truths: &[u64], spans: &[u64], p: usize) -> Verdict
-    requires { ⌜ Lent (now arities) (now truths) (now spans) ⌝ }
-    requires { ⌜ Between 1 p predicateCount ⌝ }
-    ensures { λ r. ⌜ r ≡ verdictOf (now (arities .entry)) (getD (now (arities .entry)) p 0) (truthsOf (now (truths .entry)) (now (spans .entry)) p) ⌝ }
-{
-    if word_at(spans, p * 2 + 1) == 0 {
-        return Verdict::Passed;
-    }
-    judge(arities, truth_words(truths, spans, p), arities[p] as usize)
-}
-
-// Checks all lent truth diagrams, one after the other.
-fn judge_all(arities: &[u64], truths: &[u64], spans: &[u64]) -> Verdict
-    requires { ⌜ Lent (now arities) (now truths) (now spans) ⌝ }
-    ensures { λ r. ⌜ Judged (now (arities .entry)) (now (truths .entry)) (now (spans .entry)) r ⌝ }
-{
-    let mut p = 1usize;
-    while p < Label::PREDICATES {
-        let v = judge_at(arities, truths, spans, p);
-        let Verdict::Passed = v else {
-            return v;
-        };
-        p += 1;
-    }
-    Verdict::Passed
-}
-
 // Words of a plan of 4,096 pairs.
 const PLAN_WORDS: usize = 20480;
 
@@ -949,7 +453,7 @@ pub fn regress(
     if !listing::check(arities, value) {
         return Regressed::Refused(Refusal::Listing);
     }
-    if !are_listed(arities, truths, spans) {
+    if !truths::are_listed(arities, truths, spans) {
         return Regressed::Refused(Refusal::Listing);
     }
     if out.len() < diagram::RESULT_WORDS {
@@ -958,7 +462,7 @@ pub fn regress(
     if work.len() < diagram::SPACE_WORDS {
         return Regressed::Refused(Refusal::Buffer);
     }
-    let v = judge_all(arities, truths, spans);
+    let v = truths::judge_all(arities, truths, spans);
     match v {
         Verdict::Passed => regress_checked(arities, value, truths, spans, out, work),
         Verdict::Refused(w) => Regressed::Refused(w),

@@ -1,7 +1,7 @@
 // Tests of regression and freeing: each on a line of its own, by its number in the text below, with the words of the result or the refusal's number.
 use libc::STDOUT_FILENO;
-use regress::Freed;
-use regress::Regressed;
+use regression::Freed;
+use regression::Regressed;
 
 const LEAF: u64 = 4294967295;
 // Labels: p has number 1 and arity 1, q 2 and 2.
@@ -201,7 +201,7 @@ fn short_buffers() {
         regress::regress(&arities, &value, &[], &[], &mut out, &mut work),
         &[],
     );
-    show_freed(32, regress::free(&arities, &value, 5, &mut out, &work), &[]);
+    show_freed(32, freeing::free(&arities, &value, 5, &mut out, &work), &[]);
 }
 
 fn short_space() {
@@ -214,7 +214,7 @@ fn short_space() {
         regress::regress(&arities, &value, &[], &[], &mut out, &mut work),
         &[],
     );
-    show_freed(34, regress::free(&arities, &value, 5, &mut out, &work), &[]);
+    show_freed(34, freeing::free(&arities, &value, 5, &mut out, &work), &[]);
 }
 
 // A test of one label, freed.
@@ -223,7 +223,7 @@ fn freed(number: u64, label: u64, count: u64) {
     let words = [LEAF, 10, 0, LEAF, 3, 0, label, 0, 1];
     let mut out = [0u64; 3072];
     let work = [0u64; 6144];
-    let r = regress::free(&arities, &words, count, &mut out, &work);
+    let r = freeing::free(&arities, &words, count, &mut out, &work);
     show_freed(number, r, &out);
 }
 

@@ -10,8 +10,8 @@ use Rattle.refusal.specs.declared.Refusal.{Refusal}
 use Rattle.diagram.specs.Diagram.{Diagram}
 use Rattle.diagram.specs.Rows.{rows}
 use Rattle.diagram.specs.Listing.{diagramOf}
-use Rattle.regress.specs.Calls.{Outcome, ok, refused, andThen}
-use Rattle.regress.specs.RegressCall.{writtenAs}
+use Rattle.refusal.specs.Outcome.{Outcome, ok, refused, andThen}
+use Rattle.regression.specs.RegressCall.{writtenAs}
 use Rattle.mdp.specs.Model.{Model, scale}
 use Rattle.mdp.specs.Backup.{mostSteps, scaleEnds, backup}
 use Rattle.mdp.specs.Runs.{Held as Value, taken}

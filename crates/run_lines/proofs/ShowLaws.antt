@@ -4,12 +4,12 @@ use mathlib.Core.List.{List}
 use Prim.Native.Nat.{ℕ, _*_}
 use lib.ListN.{take}
 use Rattle.diagram.specs.Listing.{diagramOf}
-use Rattle.regress.specs.Calls.{ok}
+use Rattle.refusal.specs.Outcome.{ok}
 use Rattle.answers.specs.declared.Answer.the-variants as A
 use Rattle.text.specs.declared.Kind.the-variants as K
 use Rattle.session.specs.Replies.{done}
-use Rattle.planner.specs.Steps.{Result}
-use Rattle.planner.proofs.StepLaws.{result-count}
+use Rattle.steps.specs.Steps.{Result}
+use Rattle.steps.specs.GivenLaws.{result-count}
 use Rattle.memory.specs.declared.Numbers.{Numbers}
 use Rattle.memory.specs.Memory.{Memory, sessionOf, Ready, Answers}
 use Rattle.run_lines.specs.Lines.{ShowAnswered}

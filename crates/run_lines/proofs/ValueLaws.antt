@@ -21,8 +21,8 @@ use Rattle.state.specs.Lent.{factWords, isState}
 use Rattle.state.specs.declared.Valued.{Valued}
 use Rattle.state.specs.declared.Valued.the-variants.{Value, Refused}
 use Rattle.state.specs.ValueCall.{mostValuations, parameters, valuations, pickValued, valueAnswer}
-use Rattle.regress.specs.Calls.{Outcome, ok, refused}
-use Rattle.regress.specs.Parameters.{Within}
+use Rattle.refusal.specs.Outcome.{Outcome, ok, refused}
+use Rattle.regression.specs.Parameters.{Within}
 use Rattle.mdp.specs.Model.{scale}
 use Rattle.mdp.specs.CallLaws.{each-within}
 use Rattle.answers.specs.declared.Answer.the-variants as A

@@ -13,8 +13,8 @@ use Rattle.diagram.specs.Diagram.{Diagram}
 use Rattle.diagram.specs.Listing.{diagramOf}
 use Rattle.state.specs.State.{meaning}
 use Rattle.state.specs.Lent.{isState}
-use Rattle.regress.specs.Calls.{ok, refused}
-use Rattle.regress.specs.Parameters.{Within}
+use Rattle.refusal.specs.Outcome.{ok, refused}
+use Rattle.regression.specs.Parameters.{Within}
 use Rattle.mdp.specs.Model.{GoodModel}
 use Rattle.mdp.specs.Runs.{Held}
 use Rattle.mdp.specs.RunLaws.{run-right}

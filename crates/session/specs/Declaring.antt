@@ -8,7 +8,7 @@ use Rattle.refusal.specs.declared.Refusal.the-variants.{Name, Range, Space}
 use Rattle.label.specs.Limits.{constantCount, predicateCount, parameterCount, mostPlaces}
 use Rattle.words.specs.declared.Key.{Key}
 use Rattle.names.specs.Keys.{isAmong}
-use Rattle.regress.specs.Calls.{Outcome, ok}
+use Rattle.refusal.specs.Outcome.{Outcome, ok}
 use Rattle.mdp.specs.Model.{Model, mostTotal, mostDenominator, mostActions}
 use Rattle.session.specs.Session.{Names, Singles, Session, refuseIf}
 

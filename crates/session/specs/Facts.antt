@@ -1,5 +1,5 @@
 -- Lines of the state: their checks in order, and what an accepted one does (document 01, sections 'Text' and 'States and value').
-use mathlib.Core.Bool.{Bool, true, false, not, _||_, _&&_}
+use mathlib.Core.Bool.{Bool, true, false, not, _||_, _&&_, cond}
 use mathlib.Core.List.{List, [], _∷_, _++_}
 use Prim.Native.Nat.{ℕ, suc, _+_, _*_}
 use lib.ListN.{length, set, getD, replicate, take}
@@ -8,7 +8,7 @@ use Rattle.refusal.specs.declared.Refusal.the-variants.{Name, Arity, Range, Spa
 use Rattle.label.specs.Limits.{constantCount}
 use Rattle.words.specs.declared.Key.{Key}
 use Rattle.names.specs.Keys.{placeOf, isAmong}
-use Rattle.regress.specs.Calls.{Outcome, ok, pickOutcome}
+use Rattle.refusal.specs.Outcome.{Outcome, ok}
 use Rattle.state.specs.Lent.{factWords, factCount, someBelow, allBelow}
 use Rattle.session.specs.Session.{Names, Live, refuseIf}
 
@@ -60,7 +60,7 @@ isFact facts row =
 unfoldable pub factLine : Live → List ℕ → Outcome Live
 unfolding withFact isFact
 factLine l row =
-    pickOutcome (isFact (l .facts) row) (ok l)
+    cond (isFact (l .facts) row) (ok l)
     (refuseIf (leb mostFacts (factCount (l .facts))) Space
     (ok (withFact l row)))
 

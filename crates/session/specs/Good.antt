@@ -11,7 +11,7 @@ use Rattle.diagram.specs.Listing.{Good}
 use Rattle.diagram.specs.Variables.{closed}
 use Rattle.state.specs.State.{meaning}
 use Rattle.state.specs.Lent.{isState}
-use Rattle.regress.specs.Parameters.{Within}
+use Rattle.regression.specs.Parameters.{Within}
 use Rattle.mdp.specs.Model.{Action, Model, Every, GoodAction, GoodModel, mostTotal, mostDenominator, mostActions, mostVariants}
 use Rattle.mdp.specs.Runs.{Call, run}
 use Rattle.session.specs.declared.Part.the-variants.{Model as ModelPart, Run}

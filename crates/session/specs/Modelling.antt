@@ -13,9 +13,9 @@ use Rattle.diagram.specs.Diagram.{Diagram, leaf, same}
 use Rattle.diagram.specs.Rows.{rows}
 use Rattle.apply.specs.declared.Operation.the-variants.{Sum}
 use Rattle.apply.specs.declared.Names.the-variants.{Shared}
-use Rattle.regress.specs.Calls.{Outcome, ok, refused, andThen, pickOutcome}
-use Rattle.regress.specs.Regression.{Truths}
-use Rattle.regress.specs.RegressCall.{leafAbove}
+use Rattle.refusal.specs.Outcome.{Outcome, ok, refused, andThen}
+use Rattle.regression.specs.Regression.{Truths}
+use Rattle.regression.specs.RegressCall.{leafAbove}
 use Rattle.forms.specs.Tree as T
 use Rattle.events.specs.Events.{wordsEvents}
 use Rattle.events.specs.declared.Event.{Event}

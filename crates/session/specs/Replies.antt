@@ -8,7 +8,7 @@ use Rattle.refusal.specs.declared.Refusal.{Refusal}
 use Rattle.refusal.specs.declared.Refusal.the-variants.{Form, Place}
 use Rattle.diagram.specs.Rows.{rows}
 use Rattle.diagram.specs.Words.{everyBelow}
-use Rattle.regress.specs.Calls.{Outcome, ok, refused, andThen}
+use Rattle.refusal.specs.Outcome.{Outcome, ok, refused, andThen}
 use Rattle.cut.specs.Cut.{diagramAnswer}
 use Rattle.mdp.specs.Model.{Action, Model, scale}
 use Rattle.mdp.specs.Runs.{Held}

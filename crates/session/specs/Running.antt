@@ -12,7 +12,7 @@ use Rattle.state.specs.State.{State, meaning}
 use Rattle.state.specs.Highest.{highest}
 use Rattle.state.specs.Lent.{stateOf}
 use Rattle.state.specs.ValueCall.{valuations, mostValuations}
-use Rattle.regress.specs.Calls.{Outcome, ok, andThen}
+use Rattle.refusal.specs.Outcome.{Outcome, ok, andThen}
 use Rattle.cut.specs.declared.Cut.{Cut}
 use Rattle.cut.specs.declared.Cut.the-variants as C
 use Rattle.cut.specs.Cut.{diagramAnswer, cutDiagram, isTrueEdge}

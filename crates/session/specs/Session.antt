@@ -1,5 +1,5 @@
 -- A session: what the lines of a text declared, the model, the state and the value diagram (document 01, section 'Text').
-use mathlib.Core.Bool.{Bool, false}
+use mathlib.Core.Bool.{Bool, false, cond}
 use mathlib.Core.List.{List, [], _∷_}
 use Prim.Native.Nat.{ℕ, _-_}
 use lib.ListN.{replicate}
@@ -7,7 +7,7 @@ use Rattle.refusal.specs.declared.Refusal.{Refusal}
 use Rattle.words.specs.declared.Key.{Key}
 use Rattle.label.specs.Limits.{constantCount, predicateCount, equalityArity}
 use Rattle.diagram.specs.Diagram.{Diagram, leaf}
-use Rattle.regress.specs.Calls.{Outcome, refused, pickOutcome}
+use Rattle.refusal.specs.Outcome.{Outcome, refused}
 use Rattle.mdp.specs.Model.{Model}
 use Rattle.mdp.specs.Runs.{Held}
 use Rattle.session.specs.declared.Part.{Part}
@@ -59,4 +59,4 @@ opening = record {
 
 -- refused with r if b, else what follows
 abbrev pub refuseIf : {A : Type 0} → Bool → Refusal → Outcome A → Outcome A
-refuseIf b r after = pickOutcome b (refused r) after
+refuseIf b r after = cond b (refused r) after

@@ -6,7 +6,7 @@ use lib.ListN.{length, drop}
 use Rattle.refusal.specs.declared.Refusal.{Refusal}
 use Rattle.refusal.specs.declared.Refusal.the-variants.{Form}
 use Rattle.diagram.specs.Rows.{rows}
-use Rattle.regress.specs.Calls.{Outcome, ok, refused}
+use Rattle.refusal.specs.Outcome.{Outcome, ok, refused}
 use Rattle.cut.specs.declared.Edge.{Edge}
 use Rattle.cut.specs.declared.Cut.{Cut}
 use Rattle.cut.specs.declared.Cut.the-variants as C

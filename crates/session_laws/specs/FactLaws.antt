@@ -7,15 +7,14 @@ use native.Mathlib.Omega.{arith}
 use lib.ListN.{length, getD, take, length-append, List·getD-append}
 use lib.Seq.{getD-append-add}
 use lib.Dec.{ltb, leb, eqb}
-use borrow.Author.Tests.{lt-ltb}
+use borrow.Author.Tests.{lt-ltb, not-false}
 use Rattle.basics.specs.Tests.{and-left, and-right, Cmp, below, equal, above, cmp, Flag, isTrue, isFalse, flag}
 use Rattle.refusal.specs.declared.Refusal.the-variants.{Name, Arity, Range, Space}
 use Rattle.words.specs.declared.Key.{Key}
 use Rattle.names.specs.Keys.{isAmong}
 use Rattle.state.specs.Lent.{factWords, factCount, predicateAt, objectsAt, allBelow, namesBelow, isState}
-use Rattle.regress.specs.Calls.{ok}
-use Rattle.regress.specs.CallLaws.{Accepted, accepted-ok, accepted-pick}
-use Rattle.regress.specs.RegressCallLaws.{not-false}
+use Rattle.refusal.specs.Outcome.{ok, Accepted}
+use Rattle.refusal.specs.OutcomeLaws.{accepted-ok, accepted-cond}
 use Rattle.session.specs.declared.Part.the-variants.{Run}
 use Rattle.session.specs.Session.{Live, Session}
 use Rattle.session.specs.Facts.{mostFacts, factRow, withFact, isFact, factLine, predicateOf, trueLine}
@@ -102,16 +101,16 @@ fact-kept P l row old new = go (flag (isFact (l .facts) row))
   where
     go : Flag (isFact (l .facts) row) → Accepted P (factLine l row)
     go (isTrue e) = rw e (accepted-ok old)
-    go (isFalse e) = rw e (accepted-pick (leb mostFacts (factCount (l .facts))) Space (ok (withFact l row)) (λ d. accepted-ok new))
+    go (isFalse e) = rw e (accepted-cond (leb mostFacts (factCount (l .facts))) Space (ok (withFact l row)) (λ d. accepted-ok new))
 
 true-kept : (P : Live → Type 0) (σ : Session) (k : Key) (os : List ℕ)
     → (allBelow (σ .live .objects) os ≡ true → Accepted P (factLine (σ .live) (factRow (predicateOf (σ .names) k) os)))
     → Accepted P (trueLine (σ .model .arities) (σ .names) (σ .live) k os)
 unfolding trueLine
 true-kept P σ k os h =
-    accepted-pick (not (isAmong k (σ .names .predicates))) Name _ (λ d₁.
-    accepted-pick (not (eqb (length os) (getD (σ .model .arities) (predicateOf (σ .names) k) 0))) Arity _ (λ d₂.
-    accepted-pick (not (allBelow (σ .live .objects) os)) Range _ (λ d₃.
+    accepted-cond (not (isAmong k (σ .names .predicates))) Name _ (λ d₁.
+    accepted-cond (not (eqb (length os) (getD (σ .model .arities) (predicateOf (σ .names) k) 0))) Arity _ (λ d₂.
+    accepted-cond (not (allBelow (σ .live .objects) os)) Range _ (λ d₃.
     h (not-false (allBelow (σ .live .objects) os) d₃))))
 
 fact-good : (σ : Session) → GoodSession σ → σ .part ≡ Run → WholeRows (σ .live .facts) → (p : ℕ) (os : List ℕ) → allBelow (σ .live .objects) os ≡ true

@@ -6,8 +6,8 @@ use Prim.Native.Nat.{ℕ, suc}
 use native.Mathlib.Omega.{arith}
 use Rattle.basics.specs.Tests.{and-left}
 use Rattle.diagram.specs.Diagram.{Diagram}
-use Rattle.regress.specs.Calls.{Outcome, ok, refused, andThen}
-use Rattle.regress.specs.CallLaws.{accepted-ok, accepted-then}
+use Rattle.refusal.specs.Outcome.{Outcome, ok, refused, andThen}
+use Rattle.refusal.specs.OutcomeLaws.{accepted-ok, accepted-then}
 use Rattle.cut.specs.declared.Cut.{Cut}
 use Rattle.cut.specs.declared.Cut.the-variants as C
 use Rattle.cut.specs.Cut.{diagramAnswer}

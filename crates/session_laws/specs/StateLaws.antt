@@ -14,8 +14,8 @@ use Rattle.words.specs.declared.Key.{Key}
 use Rattle.names.specs.Keys.{placeOf, isAmong}
 use Rattle.diagram.specs.WordLaws.{every-below, below-every}
 use Rattle.state.specs.Lent.{factCount, namesBelow, constantsBelow, isState}
-use Rattle.regress.specs.Calls.{ok}
-use Rattle.regress.specs.CallLaws.{Accepted, accepted-ok, accepted-pick}
+use Rattle.refusal.specs.Outcome.{ok, Accepted}
+use Rattle.refusal.specs.OutcomeLaws.{accepted-ok, accepted-cond}
 use Rattle.session.specs.declared.Part.the-variants.{Run}
 use Rattle.session.specs.Session.{Names, Live, Session}
 use Rattle.session.specs.Facts.{mostObjects, cleared, objectsLine, placed, isLine}
@@ -74,7 +74,7 @@ cleared-state ar n h = state-made ar n (replicate constantCount 0) [] (record {
 
 pub objects-kept : (P : Live → Type 0) (n : ℕ) → P (cleared n) → Accepted P (objectsLine n)
 unfolding objectsLine
-objects-kept P n h = accepted-pick (not (leb 1 n && leb n mostObjects)) Range (ok (cleared n)) (λ d. accepted-ok h)
+objects-kept P n h = accepted-cond (not (leb 1 n && leb n mostObjects)) Range (ok (cleared n)) (λ d. accepted-ok h)
 
 pub objects-good : (σ : Session) → GoodSession σ → σ .part ≡ Run → (n : ℕ) (l : Live) → objectsLine n ≡ ok l → GoodSession (withLive σ l)
 unfolding cleared
@@ -109,8 +109,8 @@ pub is-kept : (P : Live → Type 0) (n : Names) (l : Live) (k : Key) (o : ℕ) �
     → Accepted P (isLine n l k o)
 unfolding isLine
 is-kept P n l k o h =
-    accepted-pick (not (isAmong k (n .constants)) || eqb (getD (l .placed) (placeOf k (n .constants)) 0) 1) Name _ (λ d₁.
-    accepted-pick (leb (l .objects) o) Range _ (λ d₂.
+    accepted-cond (not (isAmong k (n .constants)) || eqb (getD (l .placed) (placeOf k (n .constants)) 0) 1) Name _ (λ d₁.
+    accepted-cond (leb (l .objects) o) Range _ (λ d₂.
     accepted-ok (h (leb-false (l .objects) o d₂))))
 
 pub is-good : (σ : Session) → GoodSession σ → σ .part ≡ Run → (k : Key) (o : ℕ) (l : Live) → isLine (σ .names) (σ .live) k o ≡ ok l → GoodSession (withLive σ l)

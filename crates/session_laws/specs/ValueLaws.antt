@@ -14,8 +14,8 @@ use Rattle.state.specs.ValueLaws.{low-lt, low-ge, by-low}
 use Rattle.state.specs.Highest.{highest}
 use Rattle.state.specs.Lent.{stateOf}
 use Rattle.state.specs.ValueCall.{valuations, mostValuations}
-use Rattle.regress.specs.Calls.{ok}
-use Rattle.regress.specs.CallLaws.{accepted-ok, accepted-pick}
+use Rattle.refusal.specs.Outcome.{ok}
+use Rattle.refusal.specs.OutcomeLaws.{accepted-ok, accepted-cond}
 use Rattle.mdp.specs.Model.{scale}
 use Rattle.mdp.specs.Bellman.{bellman}
 use Rattle.mdp.specs.Runs.{Held}
@@ -70,7 +70,7 @@ value-found : (σ : Session) (v : ℕ) → valueRead (σ .model .arities) (σ .l
     → v ≡ highest (stateIn (σ .model .arities) (σ .live)) [] (meaning (σ .model .arities) (σ .held .diagram))
 unfolding valueRead
 value-found σ v e =
-    accepted-pick {P = λ x. x ≡ highest (stateIn (σ .model .arities) (σ .live)) [] (meaning (σ .model .arities) (σ .held .diagram))}
+    accepted-cond {P = λ x. x ≡ highest (stateIn (σ .model .arities) (σ .live)) [] (meaning (σ .model .arities) (σ .held .diagram))}
     (ltb mostValuations (valuations (σ .model .arities) (σ .live .objects) (σ .held .diagram))) Valuations _ (λ d. accepted-ok refl) .given v e
 
 -- where the place of a (value) is right and it reads v, v is Mk

@@ -3,7 +3,7 @@ use mathlib.Core.Path.{_≡_, refl}
 use mathlib.Core.List.{List}
 use Prim.Native.Nat.{ℕ}
 use Rattle.words.specs.declared.Key.{Key}
-use Rattle.regress.specs.Calls.{ok}
+use Rattle.refusal.specs.Outcome.{ok}
 use Rattle.mdp.specs.Runs.{begin}
 use Rattle.text.specs.declared.Kind.{Kind}
 use Rattle.text.specs.LineForm.{lineKind}

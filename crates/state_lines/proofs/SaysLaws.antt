@@ -5,7 +5,7 @@ use Prim.Native.Nat.{ℕ}
 use lib.ListN.{drop}
 use Rattle.refusal.specs.declared.Refusal.{Refusal}
 use Rattle.words.specs.declared.Key.{Key}
-use Rattle.regress.specs.Calls.{Outcome}
+use Rattle.refusal.specs.Outcome.{Outcome}
 use Rattle.text.specs.declared.Kind.{Kind}
 use Rattle.text.specs.declared.Kind.the-variants.{Objects, Is, True}
 use Rattle.events.specs.declared.Next.{Next}

@@ -11,7 +11,7 @@ use Rattle.diagram.specs.Words.{labelAt, highAt, lowAt, isListing}
 use Rattle.diagram.specs.Listing.{diagramOf}
 use Rattle.diagram.specs.ListingLaws.{length-listing}
 use Rattle.diagram.specs.Listings.{is-listing-diagram}
-use Rattle.regress.specs.Calls.{Outcome, ok, refused}
+use Rattle.refusal.specs.Outcome.{Outcome, ok, refused}
 use Rattle.cut.specs.declared.Cut.{Cut}
 use Rattle.cut.specs.declared.Cut.the-variants as C
 use Rattle.cut.specs.Cut.{diagramAnswer}

@@ -1,6 +1,6 @@
 -- Laws of the check action by action.
 use mathlib.Core.Path.{_≡_, refl, sym, ap, subst, _∙_}
-use mathlib.Core.Bool.{Bool, true, false, not}
+use mathlib.Core.Bool.{Bool, true, false, not, cond}
 use mathlib.Core.List.{List, [], _∷_, _++_}
 use Prim.Native.Nat.{ℕ, suc, pred, _+_, _*_, _-_, _/_, _≤_, _<_}
 use native.Mathlib.Omega.{arith}
@@ -16,17 +16,16 @@ use Rattle.diagram.specs.Words.{labelAt, highAt, lowAt}
 use Rattle.diagram.specs.Listing.{treeAt, diagramOf}
 use Rattle.diagram.specs.ListingLaws.{tree-leaf, tree-branch}
 use Rattle.diagram.specs.ListingValid.{listing-is-valid}
-use Rattle.regress.specs.Calls.{Outcome, ok, refused, andThen, pickOutcome}
+use Rattle.refusal.specs.Outcome.{Outcome, ok, refused, andThen}
 use Rattle.mdp.specs.Model.{Action}
 use Rattle.model.specs.declared.Head.{Head}
 use Rattle.names.specs.Many.{many}
 use Rattle.model.specs.Layout.{actionAt, modelOf}
-use Rattle.planner.specs.declared.Step.{Step}
-use Rattle.planner.specs.declared.Step.the-variants.{Rows, Refused as Stopped}
-use Rattle.planner.specs.Steps.{Given}
-use Rattle.planner.specs.PartLaws.{then-then, then-same}
-use Rattle.planner.proofs.StepLaws.{step-refused, result-long}
-use Rattle.planner.proofs.SumLaws.{many-more, refused-stays}
+use Rattle.steps.specs.declared.Step.{Step}
+use Rattle.steps.specs.declared.Step.the-variants.{Rows, Refused as Stopped}
+use Rattle.steps.specs.Steps.{Given}
+use Rattle.steps.specs.GivenLaws.{then-then, then-same, step-refused, result-long}
+use Rattle.steps.specs.FoldLaws.{many-more, refused-stays}
 use Rattle.session.specs.Modelling.{weightsSum, weighed}
 use Rattle.weights.specs.declared.Weighed.{Weighed}
 use Rattle.weights.specs.declared.Weighed.the-variants.{Done, Refused}
@@ -81,7 +80,7 @@ module _ {words : List ℕ} {n : ℕ} (r : Rooted words n) (w : ℕ) where
 module _ (ar : List ℕ) (total : ℕ) where
   -- a sum is the one leaf W, or 13; then o
   abbrev judged : Outcome (Unit {0}) → Diagram → Outcome (Unit {0})
-  judged o sum = pickOutcome (not (same sum (leaf total))) (refused Weights) o
+  judged o sum = cond (not (same sum (leaf total))) (refused Weights) o
 
   weighed-none : weighed ar total [] ≡ ok tt
   unfolding weighed
@@ -91,7 +90,7 @@ module _ (ar : List ℕ) (total : ℕ) where
   unfolding weighed
   weighed-next a l = refl
 
-  pick-then : (b : Bool) (r : Refusal) (o p : Outcome (Unit {0})) → pickOutcome b (refused r) (andThen o (λ u. p)) ≡ andThen (pickOutcome b (refused r) o) (λ u. p)
+  pick-then : (b : Bool) (r : Refusal) (o p : Outcome (Unit {0})) → cond b (refused r) (andThen o (λ u. p)) ≡ andThen (cond b (refused r) o) (λ u. p)
   pick-then true r o p = refl
   pick-then false r o p = refl
 
@@ -128,14 +127,16 @@ module _ {ar listings table : List ℕ} {a : ℕ} {work : List ℕ} (t : ActionT
             let v = listing-is-valid ar (take (n * 3) sum) (x .result n h .listing) in
             record { some = omega (arith, v .whole, v .some, result-long (x .result n h)); inside = x .result n h .room }
 
-        judged-is : {b : Bool} → b ≡ same (diagramOf (take (n * 3) sum)) (leaf total) → A ≡ pickOutcome (not b) (refused Weights) (ok tt)
-        judged-is e = action-is ∙ ap (λ (o : Outcome Diagram). andThen o (judged ar total (ok tt))) (x .result n h .is) ∙ ap (λ (q : Bool). pickOutcome {A = Unit {0}} (not q) (refused Weights) (ok tt)) (sym e)
+        judged-is : {b : Bool} → b ≡ same (diagramOf (take (n * 3) sum)) (leaf total) → A ≡ cond (not b) (refused Weights) (ok tt)
+        judged-is e =
+            action-is ∙ ap (λ (o : Outcome Diagram). andThen o (judged ar total (ok tt))) (x .result n h .is)
+            ∙ ap (λ (q : Bool). cond {A = Outcome (Unit {0})} (not q) (refused Weights) (ok tt)) (sym e)
 
         pub action-fails : {b : Bool} → b ≡ same (diagramOf (take (n * 3) sum)) (leaf total) → not b ≡ true → Refused Weights ≡ weighedAs A
-        action-fails e k = sym (ap weighedAs (judged-is e ∙ ap (λ (q : Bool). pickOutcome {A = Unit {0}} q (refused Weights) (ok tt)) k))
+        action-fails e k = sym (ap weighedAs (judged-is e ∙ ap (λ (q : Bool). cond {A = Outcome (Unit {0})} q (refused Weights) (ok tt)) k))
 
         pub action-passes : {b : Bool} → b ≡ same (diagramOf (take (n * 3) sum)) (leaf total) → not b ≡ false → Done ≡ weighedAs A
-        action-passes e k = sym (ap weighedAs (judged-is e ∙ ap (λ (q : Bool). pickOutcome {A = Unit {0}} q (refused Weights) (ok tt)) k))
+        action-passes e k = sym (ap weighedAs (judged-is e ∙ ap (λ (q : Bool). cond {A = Outcome (Unit {0})} q (refused Weights) (ok tt)) k))
 
 weighed-refused : (o : Outcome (Unit {0})) (e : Refusal) → weighedAs o ≡ Refused e → o ≡ refused e
 weighed-refused (ok u) e h = let z : _≡_ {A = ℕ} 0 1 = cc in absurd (omega arith)

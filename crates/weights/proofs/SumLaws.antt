@@ -10,18 +10,16 @@ use Rattle.diagram.specs.Words.{isListing}
 use Rattle.diagram.specs.Listing.{diagramOf}
 use Rattle.apply.specs.declared.Operation.the-variants.{Sum}
 use Rattle.apply.specs.declared.Names.the-variants.{Shared}
-use Rattle.regress.specs.Calls.{Outcome, ok, refused, andThen}
+use Rattle.refusal.specs.Outcome.{Outcome, ok, refused, andThen}
 use Rattle.mdp.specs.Model.{Variant}
 use Rattle.mdp.specs.Backup.{combined}
 use Rattle.names.specs.Many.{many}
 use Rattle.model.specs.Layout.{variantPlace, weightWords, variantAt, variantsOf, actionAt}
-use Rattle.planner.specs.declared.Step.{Step}
-use Rattle.planner.specs.declared.Step.the-variants.{Rows, Refused}
-use Rattle.planner.specs.Steps.{Given, Begun}
-use Rattle.planner.specs.PartLaws.{then-then, then-same}
-use Rattle.planner.specs.Tasks.{Folding}
-use Rattle.planner.proofs.StepLaws.{given-same}
-use Rattle.planner.proofs.SumLaws.{Folded, folded-start, folded-begins, folded-stops, folded-on, folded-end}
+use Rattle.steps.specs.declared.Step.{Step}
+use Rattle.steps.specs.declared.Step.the-variants.{Rows, Refused}
+use Rattle.steps.specs.Steps.{Given, Begun, Folding}
+use Rattle.steps.specs.GivenLaws.{then-then, then-same, given-same}
+use Rattle.steps.specs.FoldLaws.{Folded, folded-start, folded-begins, folded-stops, folded-on, folded-end}
 use Rattle.session.specs.Modelling.{weightsSum}
 use Rattle.weights.specs.Weighing.{AddTask, SumTask}
 

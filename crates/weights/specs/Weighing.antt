@@ -7,11 +7,11 @@ use Prim.Native.Nat.{ℕ, _+_, _*_, _≤_, _<_}
 use lib.ListN.{length}
 use Rattle.label.specs.Labels.{areArities}
 use Rattle.diagram.specs.Sizes.{resultWords, spaceWords}
-use Rattle.regress.specs.Calls.{Outcome, ok, refused}
+use Rattle.refusal.specs.Outcome.{Outcome, ok, refused}
 use Rattle.mdp.specs.Model.{mostActions}
 use Rattle.model.specs.declared.Head.{Head}
 use Rattle.model.specs.Layout.{variantWords, actionWords, tableWords, LaidVariant, LaidAction}
-use Rattle.planner.specs.Steps.{Begins}
+use Rattle.steps.specs.Steps.{Begins}
 use Rattle.weights.specs.declared.Weighed.{Weighed}
 use Rattle.weights.specs.declared.Weighed.the-variants.{Done, Refused}
 

@@ -2,8 +2,8 @@
 use apply::Operation;
 use label::Label;
 use model::Head;
-use planner::Step;
 use refusal::Refusal;
+use steps::Step;
 ghost use mathlib.Core.Path.{_≡_};
 ghost use mathlib.Core.List.{[], _∷_};
 ghost use Prim.Native.Nat.{_*_};
@@ -14,8 +14,7 @@ ghost use Rattle.apply.specs.declared.Operation.the-variants.{Sum};
 ghost use Rattle.apply.specs.declared.Names.the-variants.{Shared};
 ghost use Rattle.mdp.specs.Backup.{combined};
 ghost use Rattle.model.specs.Layout.{variantAt, actionAt, modelOf};
-ghost use Rattle.planner.specs.Steps.{Given};
-ghost use Rattle.planner.specs.Tasks.{Folding};
+ghost use Rattle.steps.specs.Steps.{Given};
 ghost use Rattle.session.specs.Modelling.{weightsSum, weighed};
 ghost use Rattle.weights.specs.Weighing.{weighedAs, Rooted, AddTask, SumTask, ActionTask, Weighable};
 
@@ -23,20 +22,6 @@ ghost use Rattle.weights.specs.Weighing.{weighedAs, Rooted, AddTask, Sum
 pub enum Weighed {
     Done,
     Refused(Refusal),
-}
-
-// Adds y to the listing that the first n rows of the buffer are, names shared.
-fn add_shared(arities: &[u64], buffer: &mut [u64], n: usize, y: &[u64], work: &mut [u64]) -> Step
-    requires { ⌜ Folding (now arities) (now buffer) n (now y) (now work) ⌝ }
-    ensures { λ r. ⌜ Given (now (arities .entry)) (combined Sum Shared (now (arities .entry)) (diagramOf (take (n * 3) (now (buffer .entry)))) (diagramOf (now (y .entry)))) r (now (buffer .exit)) ⌝ }
-{
-    let mut sum = [0u64; diagram::RESULT_WORDS];
-    let r = planner::shared(Operation::Sum, arities, &buffer[..n * 3], y, &mut sum, work);
-    let Step::Rows(m) = r else {
-        return r;
-    };
-    write::copy(&sum, m, buffer);
-    r
 }
 
 // Adds the weight of the variant at a place of the table to the sum that the first n rows of the buffer are, names shared.
@@ -54,7 +39,7 @@ fn add_weight(
 {
     let start = table[place] as usize;
     let end = start + table[place + 1] as usize;
-    add_shared(arities, sum, n, &listings[start..end], work)
+    steps::fold_shared(Operation::Sum, arities, sum, n, &listings[start..end], work)
 }
 
 // The sum of the weights of an action, begun at leaf 0, each added in order with names shared.
@@ -70,7 +55,7 @@ fn weights_sum(
     ensures { λ r. ⌜ Given (now (arities .entry)) (weightsSum (now (arities .entry)) (leaf 0) (actionAt (now (listings .entry)) (now (table .entry)) action .variants)) r (now (out .exit)) ⌝ }
 {
     let variants = table[action * model::ACTION_WORDS + 1] as usize;
-    let mut n = planner::begin(out);
+    let mut n = steps::begin(out);
     let mut v = 0;
     while v < variants {
         let place = action * model::ACTION_WORDS + 2 + v * model::VARIANT_WORDS;

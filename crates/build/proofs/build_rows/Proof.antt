@@ -1,5 +1,5 @@
 use Rattle.build.specs.Stacks.{stackWords}
-use Rattle.regress.specs.Running.{Ready}
+use Rattle.row_steps.specs.Running.{Ready}
 use native.Mathlib.Omega.{arith}
 use lib.Dec.{lit≤}
 use lib.ListN.{length}

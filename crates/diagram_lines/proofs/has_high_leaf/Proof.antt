@@ -1,5 +1,5 @@
 use borrow.Author.Needs.{needs}
-use Rattle.regress.proofs.CheckLaws.{LowTo, low-start, low-on, high-leaf, low-leaves}
+use Rattle.truths.specs.TruthCheckLaws.{LowTo, low-start, low-on, high-leaf, low-leaves}
 use Prim.Native.Nat.{_-_}
 use Rattle.diagram_lines.proofs.has_high_leaf.Statement.{statement}
 use Rattle.diagram_lines.proofs.has_high_leaf.Tie as tie

@@ -1,4 +1,4 @@
-use Rattle.regress.proofs.CheckLaws.{high-branch, high-value}
+use Rattle.truths.specs.TruthCheckLaws.{high-branch, high-value}
 use borrow.Author.Needs.{needs}
 use Rattle.diagram_lines.proofs.is_high_leaf.Statement.{statement}
 use Rattle.diagram_lines.proofs.is_high_leaf.Tie as tie

@@ -21,7 +21,11 @@ loop-holds : tie.Need-loop-holds Inv-loop μ-loop
 loop-holds c = looked-start _ _ _ _ _
 
 variant-fits-requires : tie.Need-variant-fits-requires Inv-loop μ-loop
-variant-fits-requires c κs = let a = c .before .before .before .before .before .before .before .before .before .args in (looked-place (a .table .now) (a .a) (c .before .loop .v) _ (c .before .before .before .before .before .before .before .before .before .pre .0) (c .loop-test .taken) (c .before .before .if2 .left), (c .before .before .before .before .before .before .before .before .before .pre .1, c .before .before .before .before .if1 .left))
+variant-fits-requires c κs =
+    let at-if1 = c .before .before .before .before in
+    let entry = at-if1 .before .before .before .before .before in
+    let a = entry .args in
+    (looked-place (a .table .now) (a .a) (c .before .loop .v) _ (entry .pre .0) (c .loop-test .taken) (c .before .before .if2 .left), (entry .pre .1, at-if1 .if1 .left))
 
 returns-3 : tie.Need-returns-3 Inv-loop μ-loop
 returns-3 c = says-no
@@ -35,4 +39,6 @@ returns-4 c = says-yes (action-says (c .before .loop .inv) refl (c .before .befo
 pub action-fits-spec : {M : Type 1} → statement M
 action-fits-spec =
     tie.close
-    (tie.spec Inv-loop μ-loop (λ c. search needs) (λ c. search needs) (λ c. search needs) returns (λ c. search needs) (λ c. search needs) (λ c. search needs) (λ c. search needs) returns-2 loop-holds (λ c. search needs) (λ c. search needs) (λ c. search needs) (λ c. search needs) variant-fits-requires returns-3 (λ c. search needs) (λ c. search needs) loop-again returns-4)
+    (tie.spec Inv-loop μ-loop (λ c. search needs) (λ c. search needs) (λ c. search needs) returns (λ c. search needs) (λ c. search needs) (λ c. search needs) (λ c. search needs)
+    returns-2 loop-holds (λ c. search needs) (λ c. search needs) (λ c. search needs) (λ c. search needs) variant-fits-requires returns-3 (λ c. search needs) (λ c. search needs)
+    loop-again returns-4)

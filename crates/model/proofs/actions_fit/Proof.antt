@@ -16,7 +16,9 @@ loop-holds : tie.Need-loop-holds Inv-loop μ-loop
 loop-holds c = actions-start _ _ _
 
 action-fits-requires : tie.Need-action-fits-requires Inv-loop μ-loop
-action-fits-requires c κs = (let p = c .before .before .before .before .before .pre .0 in let q = c .before .before .before .before .before .pre .1 .0 in let r = c .loop-test .taken in omega arith, c .before .before .before .before .before .pre .1 .1)
+action-fits-requires c κs =
+    let entry = c .before .before .before .before .before in
+    (let p = entry .pre .0 in let q = entry .pre .1 .0 in let r = c .loop-test .taken in omega arith, entry .pre .1 .1)
 
 returns : tie.Need-returns Inv-loop μ-loop
 returns c = says-no

@@ -16,7 +16,10 @@ begins-requires : tie.Need-begins-requires
 begins-requires c κs = let p = closed-few _ _ (c .before .before .before .before .before .before .before .before .before .pre) in search needs
 
 returns : tie.Need-returns
-returns c = closed-says _ _ (c .before .before .before .before .before .before .before .before .before .before .pre) 3072 (lit≤ tt) (c .before .before .before .before .before .before .copy2 .ensures) (c .before .before .before .close-up .ensures) (c .begins .ensures)
+returns c =
+    let at-copy2 = c .before .before .before .before .before .before in
+    let entry = at-copy2 .before .before .before .before in
+    closed-says _ _ (entry .pre) 3072 (lit≤ tt) (at-copy2 .copy2 .ensures) (c .before .before .before .close-up .ensures) (c .begins .ensures)
 
 pub is-closed-spec : {M : Type 1} → statement M
 is-closed-spec =

@@ -17,7 +17,10 @@ lacks-requires : tie.Need-lacks-requires
 lacks-requires c κs = (passed (c .before .before .before .check .ensures) (c .before .before .if1 .left), lit≤ tt)
 
 returns-3 : tie.Need-returns-3
-returns-3 c = reward-says _ _ (passed (c .before .before .before .before .check .ensures) (c .before .before .before .if1 .left)) (said (c .before .before .is-closed .ensures) (c .before .if2 .left)) (c .lacks .ensures)
+returns-3 c =
+    let at-check = c .before .before .before .before in
+    reward-says _ _ (passed (at-check .check .ensures) (c .before .before .before .if1 .left)) (said (c .before .before .is-closed .ensures) (c .before .if2 .left))
+    (c .lacks .ensures)
 
 pub is-reward-spec : {M : Type 1} → statement M
 is-reward-spec =

@@ -15,7 +15,9 @@ lacks-requires : tie.Need-lacks-requires
 lacks-requires c κs = (c .before .before .before .before .before .pre .0, let p = c .before .before .before .before .before .pre .1 .0 in omega arith)
 
 returns-2 : tie.Need-returns-2
-returns-2 c = truth-says _ _ _ _ (c .before .before .before .before .before .before .pre .0) (c .before .before .before .before .before .before .pre .1 .0) (c .before .before .before .before .before .before .pre .1 .1) (c .before .before .before .judge .ensures) (c .before .enum-told .given .1) (c .lacks .ensures)
+returns-2 c =
+    let entry = c .before .before .before .before .before .before in
+    truth-says _ _ _ _ (entry .pre .0) (entry .pre .1 .0) (entry .pre .1 .1) (c .before .before .before .judge .ensures) (c .before .enum-told .given .1) (c .lacks .ensures)
 
 pub is-truth-spec : {M : Type 1} → statement M
 is-truth-spec =

@@ -10,4 +10,6 @@ returns : tie.Need-returns
 returns c = search action-added
 
 pub add-action-spec : {M : Type 1} → statement M
-add-action-spec = tie.close (tie.spec (λ c. search needs) (λ c. search needs) (λ c. search needs) (λ c. search needs) (λ c. search needs) (λ c. search needs) slice-write-table-2 (λ c. search needs) (λ c. search needs) returns)
+add-action-spec =
+    tie.close (tie.spec (λ c. search needs) (λ c. search needs) (λ c. search needs) (λ c. search needs) (λ c. search needs) (λ c. search needs)
+    slice-write-table-2 (λ c. search needs) (λ c. search needs) returns)

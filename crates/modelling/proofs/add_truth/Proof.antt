@@ -12,4 +12,5 @@ returns c = search truth-added
 pub add-truth-spec : {M : Type 1} → statement M
 add-truth-spec =
     tie.close
-    (tie.spec (λ c κs. search needs) (λ c. search needs) (λ c κs. search needs) (λ c. search needs) (λ c. search needs) (λ c. search needs) (λ c. search needs) slice-write-table-2 (λ c. search needs) (λ c. search needs) (λ c. search needs) returns)
+    (tie.spec (λ c κs. search needs) (λ c. search needs) (λ c κs. search needs) (λ c. search needs) (λ c. search needs) (λ c. search needs) (λ c. search needs) slice-write-table-2
+    (λ c. search needs) (λ c. search needs) (λ c. search needs) returns)

@@ -22,4 +22,5 @@ returns c = search truth-placed
 pub truth-place-spec : {M : Type 1} → statement M
 truth-place-spec =
     tie.close
-    (tie.spec (λ c. search needs) (λ c. search needs) (λ c. search needs) (λ c. search needs) (λ c. search needs) (λ c. search needs) (λ c. search needs) (λ c. search needs) mul-result-2 add-result-2 add-result-3 (λ c. search needs) add-result-4 returns)
+    (tie.spec (λ c. search needs) (λ c. search needs) (λ c. search needs) (λ c. search needs) (λ c. search needs) (λ c. search needs) (λ c. search needs) (λ c. search needs)
+    mul-result-2 add-result-2 add-result-3 (λ c. search needs) add-result-4 returns)

@@ -17,21 +17,47 @@ begin-requires : tie.Need-begin-requires Inv-loop μ-loop
 begin-requires c κs = c .before .before .before .before .before .before .before .pre .1 .out-room
 
 loop-holds : tie.Need-loop-holds Inv-loop μ-loop
-loop-holds c = (refl, refl, trying-start (c .before .before .before .before .before .before .before .before .before .before .pre .0) (c .before .before .before .before .before .before .before .before .before .before .pre .1) (c .before .before .begin .ensures))
+loop-holds c =
+    let entry = c .before .before .before .before .before .before .before .before .before .before in
+    (refl, refl, trying-start (entry .pre .0) (entry .pre .1) (c .before .before .begin .ensures))
 
 try-action-requires : tie.Need-try-action-requires Inv-loop μ-loop
-try-action-requires c κs = (trying-task (c .before .before .before .before .before .before .before .before .before .before .before .before .before .before .pre .0) (c .before .before .before .before .before .before .before .before .before .before .before .before .before .before .pre .1) (c .before .before .before .loop .inv .2) (c .before .before .loop-test .taken), (value-next (c .before .before .before .before .before .before .before .before .before .before .before .before .before .before .pre .1) (c .before .before .before .loop .inv .0 ∙ c .before .before .before .before .before .before .begin .kept .0) (c .before .before .before .loop .inv .1), trying-begins (c .before .before .before .before .before .before .before .before .before .before .before .before .before .before .pre .0) (c .before .before .before .before .before .before .before .before .before .before .before .before .before .before .pre .1) (c .before .before .before .loop .inv .2) (c .before .before .loop-test .taken)))
+try-action-requires c κs =
+    let at-begin = c .before .before .before .before .before .before in
+    let entry = at-begin .before .before .before .before .before .before .before .before in (
+      trying-task (entry .pre .0) (entry .pre .1) (c .before .before .before .loop .inv .2) (c .before .before .loop-test .taken),
+      (
+        value-next (entry .pre .1) (c .before .before .before .loop .inv .0 ∙ at-begin .begin .kept .0) (c .before .before .before .loop .inv .1),
+        trying-begins (entry .pre .0) (entry .pre .1) (c .before .before .before .loop .inv .2) (c .before .before .loop-test .taken),
+      ),
+    )
 
 returns : tie.Need-returns Inv-loop μ-loop
-returns c = trying-stops (c .before .before .before .before .before .before .before .before .before .before .before .before .before .before .before .before .before .before .before .before .before .pre .0) (c .before .before .before .before .before .before .before .before .before .before .before .before .before .before .before .before .before .before .before .before .before .pre .1) (c .before .before .before .before .before .before .before .before .before .before .loop .inv .2) (c .before .before .before .before .before .before .before .before .before .loop-test .taken) (c .before .before .before .before .before .before .try-action .ensures) (c .enum-told .given .1)
+returns c =
+    let at-try-action = c .before .before .before .before .before .before in
+    let at-loop-test = at-try-action .before .before .before in
+    let at-loop = at-loop-test .before in
+    let entry = at-loop .before .before .before .before .before .before .before .before .before .before .before in
+    trying-stops (entry .pre .0) (entry .pre .1) (at-loop .loop .inv .2) (at-loop-test .loop-test .taken) (at-try-action .try-action .ensures) (c .enum-told .given .1)
 
 loop-again : tie.Need-loop-again Inv-loop μ-loop
-loop-again c = (c .before .before .before .before .before .before .before .try-action .kept .1 .1 .1 .1 .1 .1 .0 ∙ c .before .before .before .before .before .before .before .before .before .before .before .loop .inv .0, c .before .before .before .before .before .before .before .try-action .kept .1 .1 .1 .1 .1 .1 .1 .1 .0 ∙ c .before .before .before .before .before .before .before .before .before .before .before .loop .inv .1, trying-on (c .before .before .before .before .before .before .before .before .before .before .before .before .before .before .before .before .before .before .before .before .before .before .pre .0) (c .before .before .before .before .before .before .before .before .before .before .before .before .before .before .before .before .before .before .before .before .before .before .pre .1) (c .before .before .before .before .before .before .before .before .before .before .before .loop .inv .2) (c .before .before .before .before .before .before .before .before .before .before .loop-test .taken) (c .before .before .before .before .before .before .before .try-action .ensures) (c .before .r .given .1))
+loop-again c =
+    let at-try-action = c .before .before .before .before .before .before .before in
+    let at-loop-test = at-try-action .before .before .before in
+    let at-loop = at-loop-test .before in
+    let entry = at-loop .before .before .before .before .before .before .before .before .before .before .before in (
+      at-try-action .try-action .kept .1 .1 .1 .1 .1 .1 .0 ∙ at-loop .loop .inv .0,
+      at-try-action .try-action .kept .1 .1 .1 .1 .1 .1 .1 .1 .0 ∙ at-loop .loop .inv .1,
+      trying-on (entry .pre .0) (entry .pre .1) (at-loop .loop .inv .2) (at-loop-test .loop-test .taken) (at-try-action .try-action .ensures) (c .before .r .given .1),
+    )
 
 returns-2 : tie.Need-returns-2 Inv-loop μ-loop
-returns-2 c = trying-end (c .before .before .before .before .before .before .before .before .before .before .before .before .pre .0) (c .before .before .before .before .before .before .before .before .before .before .before .before .pre .1) (c .before .loop .inv .2) (c .loop-test .left)
+returns-2 c =
+    let entry = c .before .before .before .before .before .before .before .before .before .before .before .before in
+    trying-end (entry .pre .0) (entry .pre .1) (c .before .loop .inv .2) (c .loop-test .left)
 
 pub actions-best-spec : {M : Type 1} → statement M
 actions-best-spec =
     tie.close
-    (tie.spec Inv-loop μ-loop begin-requires loop-holds try-action-requires (λ c. search needs) (λ c. search needs) (λ c. search needs) (λ c. search needs) returns (λ c. search needs) (λ c. search needs) loop-again (λ c. search needs) (λ c. search needs) returns-2)
+    (tie.spec Inv-loop μ-loop begin-requires loop-holds try-action-requires (λ c. search needs) (λ c. search needs) (λ c. search needs) (λ c. search needs) returns
+    (λ c. search needs) (λ c. search needs) loop-again (λ c. search needs) (λ c. search needs) returns-2)

@@ -10,15 +10,29 @@ returns : tie.Need-returns
 returns c = backed-ends (c .before .before .before .before .before .before .before .before .pre .0) _ (c .before .before .next-power .ensures) (c .enum-told .given .1) _
 
 replace-value-requires : tie.Need-replace-value-requires
-replace-value-requires c κs = (c .before .before .before .before .before .before .before .before .before .before .before .pre .0, (c .before .before .before .before .before .before .before .before .before .before .before .pre .1 .0, next-few (c .before .before .before .before .before .before .before .before .before .before .before .pre .0) _ (c .before .before .before .before .before .next-power .ensures) (c .before .before .before .p .given .1)))
+replace-value-requires c κs =
+    let at-next-power = c .before .before .before .before .before in
+    let entry = at-next-power .before .before .before .before .before .before in
+    (entry .pre .0, (entry .pre .1 .0, next-few (entry .pre .0) _ (at-next-power .next-power .ensures) (c .before .before .before .p .given .1)))
 
 returns-2 : tie.Need-returns-2
-returns-2 c = backed-done (c .before .before .before .before .before .before .before .before .before .before .before .before .before .before .before .before .before .before .before .pre .0) _ (c .before .before .before .before .before .before .before .before .before .before .before .before .before .next-power .ensures) (c .before .before .before .before .before .before .before .before .before .before .before .p .given .1) _ (c .before .before .before .before .before .before .before .replace-value .ensures) (c .before .r .given .1)
+returns-2 c =
+    let at-replace-value = c .before .before .before .before .before .before .before in
+    let at-p = at-replace-value .before .before .before .before in
+    let at-next-power = at-p .before .before in
+    let entry = at-next-power .before .before .before .before .before .before in
+    backed-done (entry .pre .0) _ (at-next-power .next-power .ensures) (at-p .p .given .1) _ (at-replace-value .replace-value .ensures) (c .before .r .given .1)
 
 returns-3 : tie.Need-returns-3
-returns-3 c = backed-refused (c .before .before .before .before .before .before .before .before .before .before .before .before .before .before .before .before .before .before .before .pre .0) _ (c .before .before .before .before .before .before .before .before .before .before .before .before .before .next-power .ensures) (c .before .before .before .before .before .before .before .before .before .before .before .p .given .1) _ (c .before .before .before .before .before .before .before .replace-value .ensures) (c .before .r2 .given .1)
+returns-3 c =
+    let at-replace-value = c .before .before .before .before .before .before .before in
+    let at-p = at-replace-value .before .before .before .before in
+    let at-next-power = at-p .before .before in
+    let entry = at-next-power .before .before .before .before .before .before in
+    backed-refused (entry .pre .0) _ (at-next-power .next-power .ensures) (at-p .p .given .1) _ (at-replace-value .replace-value .ensures) (c .before .r2 .given .1)
 
 pub backup-spec : {M : Type 1} → statement M
 backup-spec =
     tie.close
-    (tie.spec next-power-requires (λ c. search needs) (λ c. search needs) returns replace-value-requires (λ c. search needs) (λ c. search needs) (λ c. search needs) (λ c. search needs) returns-2 (λ c. search needs) (λ c. search needs) returns-3)
+    (tie.spec next-power-requires (λ c. search needs) (λ c. search needs) returns replace-value-requires (λ c. search needs) (λ c. search needs) (λ c. search needs)
+    (λ c. search needs) returns-2 (λ c. search needs) (λ c. search needs) returns-3)

@@ -10,10 +10,16 @@ returns : tie.Need-returns
 returns c = called-backup _ _ (c .before .before .before .before .before .before .before .if1 .taken) (c .before .before .before .before .call-backup .ensures)
 
 call-cut-requires : tie.Need-call-cut-requires
-call-cut-requires c κs = let k = c .before .before .before .before .before .before .before .before .pre .1 .0 in let r = c .before .before .before .before .before .before .before .before .pre .1 .1 in record { listing = k .listing; room = k .room; value-room = r .value-room; work-room = r .work-room }
+call-cut-requires c κs =
+    let entry = c .before .before .before .before .before .before .before .before in
+    let k = entry .pre .1 .0 in let r = entry .pre .1 .1 in record { listing = k .listing; room = k .room; value-room = r .value-room; work-room = r .work-room }
 
 returns-2 : tie.Need-returns-2
-returns-2 c = called-cut (c .before .before .before .before .before .before .before .before .before .before .before .before .before .pre .0) (c .before .before .before .before .before .before .before .before .before .before .before .before .before .pre .1 .0) _ (c .before .before .before .before .before .before .before .if1 .left) (c .before .before .before .before .call-cut .ensures)
+returns-2 c =
+    let at-call-cut = c .before .before .before .before in
+    let at-if1 = at-call-cut .before .before .before in
+    let entry = at-if1 .before .before .before .before .before .before in
+    called-cut (entry .pre .0) (entry .pre .1 .0) _ (at-if1 .if1 .left) (at-call-cut .call-cut .ensures)
 
 pub call-spec : {M : Type 1} → statement M
 call-spec =

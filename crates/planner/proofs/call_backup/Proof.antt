@@ -4,13 +4,21 @@ use Rattle.planner.proofs.call_backup.Statement.{statement}
 use Rattle.planner.proofs.call_backup.Tie as tie
 
 backup-requires : tie.Need-backup-requires
-backup-requires c κs = (c .before .before .before .before .before .before .before .pre .0, (callable-standing (c .before .before .before .before .before .before .before .pre .1 .0) (c .before .before .before .before .before .before .before .pre .1 .1), callable-powered (c .before .before .before .before .before .before .before .pre .0) (c .before .before .before .before .before .before .before .pre .1 .0)))
+backup-requires c κs =
+    let entry = c .before .before .before .before .before .before .before in
+    (entry .pre .0, (callable-standing (entry .pre .1 .0) (entry .pre .1 .1), callable-powered (entry .pre .0) (entry .pre .1 .0)))
 
 returns : tie.Need-returns
-returns c = backup-holds (c .before .before .before .before .before .before .before .before .before .before .before .before .before .before .before .pre .1 .0) (c .before .before .before .before .before .before .before .backup .ensures) (c .before .r .given .1)
+returns c =
+    let at-backup = c .before .before .before .before .before .before .before in
+    let entry = at-backup .before .before .before .before .before .before .before .before in
+    backup-holds (entry .pre .1 .0) (at-backup .backup .ensures) (c .before .r .given .1)
 
 returns-2 : tie.Need-returns-2
-returns-2 c = backup-stays (c .before .before .before .before .before .before .before .before .before .before .before .before .before .before .pre .1 .0) (c .before .before .before .before .before .before .backup .ensures) (c .enum-told .given .1)
+returns-2 c =
+    let at-backup = c .before .before .before .before .before .before in
+    let entry = at-backup .before .before .before .before .before .before .before .before in
+    backup-stays (entry .pre .1 .0) (at-backup .backup .ensures) (c .enum-told .given .1)
 
 pub call-backup-spec : {M : Type 1} → statement M
 call-backup-spec =

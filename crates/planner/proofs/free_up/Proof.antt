@@ -7,13 +7,23 @@ free-checked-requires : tie.Need-free-checked-requires
 free-checked-requires c κs = free-task (c .before .before .before .before .pre)
 
 close-up-requires : tie.Need-close-up-requires
-close-up-requires c κs = freed-closable (c .before .before .before .before .before .before .before .before .before .before .before .pre) (c .before .before .before .before .before .before .free-checked .ensures) (c .before .before .r .given .1)
+close-up-requires c κs =
+    let at-free-checked = c .before .before .before .before .before .before in
+    let entry = at-free-checked .before .before .before .before .before in
+    freed-closable (entry .pre) (at-free-checked .free-checked .ensures) (c .before .before .r .given .1)
 
 returns : tie.Need-returns
-returns c = freed-given (c .before .before .before .before .before .before .before .before .before .before .before .before .before .before .pre) (c .before .before .before .before .before .before .before .before .before .free-checked .ensures) (c .before .before .before .before .before .r .given .1) (c .before .before .close-up .ensures)
+returns c =
+    let at-r = c .before .before .before .before .before in
+    let at-free-checked = at-r .before .before .before .before in
+    let entry = at-free-checked .before .before .before .before .before in
+    freed-given (entry .pre) (at-free-checked .free-checked .ensures) (at-r .r .given .1) (c .before .before .close-up .ensures)
 
 returns-2 : tie.Need-returns-2
-returns-2 c = freed-stops (c .before .before .before .before .before .before .before .before .before .before .pre) (c .before .before .before .before .before .free-checked .ensures) (c .before .r2 .given .1)
+returns-2 c =
+    let at-free-checked = c .before .before .before .before .before in
+    let entry = at-free-checked .before .before .before .before .before in
+    freed-stops (entry .pre) (at-free-checked .free-checked .ensures) (c .before .r2 .given .1)
 
 pub free-up-spec : {M : Type 1} → statement M
 free-up-spec =

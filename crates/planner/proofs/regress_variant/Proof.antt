@@ -5,15 +5,26 @@ use Rattle.planner.proofs.regress_variant.Statement.{statement}
 use Rattle.planner.proofs.regress_variant.Tie as tie
 
 regress-checked-requires : tie.Need-regress-checked-requires
-regress-checked-requires c κs = regress-able (c .before .before .before .before .before .before .before .before .before .pre) (part-spans (c .before .before .before .before .before .before .before .before .before .args .table .now) (c .before .before .before .before .before .before .before .before .before .args .place))
+regress-checked-requires c κs =
+    let entry = c .before .before .before .before .before .before .before .before .before in
+    regress-able (entry .pre) (part-spans (entry .args .table .now) (entry .args .place))
 
 returns : tie.Need-returns
-returns c = regress-given (c .before .before .before .before .before .before .before .before .before .before .before .before .before .before .before .before .before .pre) (part-spans (c .before .before .before .before .before .before .before .before .before .before .before .before .before .before .before .before .before .args .table .now) (c .before .before .before .before .before .before .before .before .before .before .before .before .before .before .before .before .before .args .place)) (c .before .before .before .before .before .before .before .regress-checked .ensures .0) (c .before .before .before .before .before .before .before .regress-checked .ensures .1) (c .before .r .given .1)
+returns c =
+    let at-regress-checked = c .before .before .before .before .before .before .before in
+    let entry = at-regress-checked .before .before .before .before .before .before .before .before .before .before in
+    regress-given (entry .pre) (part-spans (entry .args .table .now) (entry .args .place)) (at-regress-checked .regress-checked .ensures .0)
+    (at-regress-checked .regress-checked .ensures .1) (c .before .r .given .1)
 
 returns-2 : tie.Need-returns-2
-returns-2 c = regress-stops (c .before .before .before .before .before .before .before .before .before .before .before .before .before .before .before .before .before .pre) (part-spans (c .before .before .before .before .before .before .before .before .before .before .before .before .before .before .before .before .before .args .table .now) (c .before .before .before .before .before .before .before .before .before .before .before .before .before .before .before .before .before .args .place)) (c .before .before .before .before .before .before .before .regress-checked .ensures .0) (c .before .before .before .before .before .before .before .regress-checked .ensures .1) (c .before .r2 .given .1)
+returns-2 c =
+    let at-regress-checked = c .before .before .before .before .before .before .before in
+    let entry = at-regress-checked .before .before .before .before .before .before .before .before .before .before in
+    regress-stops (entry .pre) (part-spans (entry .args .table .now) (entry .args .place)) (at-regress-checked .regress-checked .ensures .0)
+    (at-regress-checked .regress-checked .ensures .1) (c .before .r2 .given .1)
 
 pub regress-variant-spec : {M : Type 1} → statement M
 regress-variant-spec =
     tie.close
-    (tie.spec (λ c. search needs) (λ c. search needs) (λ c. search needs) (λ c. search needs) (λ c. search needs) (λ c. search needs) regress-checked-requires (λ c. search needs) (λ c. search needs) (λ c. search needs) (λ c. search needs) returns (λ c. search needs) (λ c. search needs) returns-2)
+    (tie.spec (λ c. search needs) (λ c. search needs) (λ c. search needs) (λ c. search needs) (λ c. search needs) (λ c. search needs) regress-checked-requires (λ c. search needs)
+    (λ c. search needs) (λ c. search needs) (λ c. search needs) returns (λ c. search needs) (λ c. search needs) returns-2)

@@ -22,10 +22,27 @@ loop-holds : tie.Need-loop-holds Inv-loop μ-loop
 loop-holds c = (refl, refl, running-start (c .before .before .before .before .before .before .before .before .before .before .pre .0) (c .before .before .take-reward .ensures) _)
 
 call-requires : tie.Need-call-requires Inv-loop μ-loop
-call-requires c κs = (c .before .before .before .before .before .before .before .before .before .before .before .before .before .before .before .pre .0, (running-callable (c .before .before .before .before .before .before .before .before .before .before .before .before .before .before .before .pre .0) (c .before .before .before .before .loop .inv .2), room-next (c .before .before .before .before .before .before .before .before .before .before .before .before .before .before .before .pre .1) (c .before .before .before .before .loop .inv .0 ∙ c .before .before .before .before .before .before .before .take-reward .kept .1 .1 .0) (c .before .before .before .before .loop .inv .1)))
+call-requires c κs =
+    let at-loop = c .before .before .before .before in
+    let at-take-reward = at-loop .before .before .before in
+    let entry = at-take-reward .before .before .before .before .before .before .before .before in (
+      entry .pre .0,
+      (
+        running-callable (entry .pre .0) (at-loop .loop .inv .2),
+        room-next (entry .pre .1) (at-loop .loop .inv .0 ∙ at-take-reward .take-reward .kept .1 .1 .0) (at-loop .loop .inv .1),
+      ),
+    )
 
 loop-again : tie.Need-loop-again Inv-loop μ-loop
-loop-again c = (c .before .before .before .before .call .kept .1 .1 .1 .1 .1 .1 .0 ∙ c .before .before .before .before .before .before .before .before .before .loop .inv .0, c .before .before .before .before .call .kept .1 .1 .1 .1 .1 .1 .1 .0 ∙ c .before .before .before .before .before .before .before .before .before .loop .inv .1, running-on (c .before .before .before .before .before .before .before .before .before .before .before .before .before .before .before .before .before .before .before .before .pre .0) (c .before .before .before .before .before .before .before .before .before .loop .inv .2) (c .before .before .before .before .before .before .before .before .loop-test .taken) (c .before .before .before .before .call .ensures))
+loop-again c =
+    let at-call = c .before .before .before .before in
+    let at-loop-test = at-call .before .before .before .before in
+    let at-loop = at-loop-test .before in
+    let entry = at-loop .before .before .before .before .before .before .before .before .before .before .before in (
+      at-call .call .kept .1 .1 .1 .1 .1 .1 .0 ∙ at-loop .loop .inv .0,
+      at-call .call .kept .1 .1 .1 .1 .1 .1 .1 .0 ∙ at-loop .loop .inv .1,
+      running-on (entry .pre .0) (at-loop .loop .inv .2) (at-loop-test .loop-test .taken) (at-call .call .ensures),
+    )
 
 returns : tie.Need-returns Inv-loop μ-loop
 returns c = running-end (c .before .before .before .before .before .before .before .before .before .before .before .before .pre .0) (c .before .loop .inv .2) (c .loop-test .left)

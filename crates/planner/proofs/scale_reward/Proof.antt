@@ -5,10 +5,15 @@ use Rattle.planner.proofs.scale_reward.Statement.{statement}
 use Rattle.planner.proofs.scale_reward.Tie as tie
 
 times-leaf-requires : tie.Need-times-leaf-requires
-times-leaf-requires c κs = let a = c .before .before .before .before .before .before .before .before .args in reward-scalable (c .before .before .before .before .before .before .before .before .pre) (part-words (a .listings .now) (a .head .«reward_start») (a .head .«reward_words»))
+times-leaf-requires c κs =
+    let entry = c .before .before .before .before .before .before .before .before in
+    let a = entry .args in reward-scalable (entry .pre) (part-words (a .listings .now) (a .head .«reward_start») (a .head .«reward_words»))
 
 returns : tie.Need-returns
-returns c = let a = c .before .before .before .before .before .before .before .before .before .before .before .before .before .args in reward-given (c .before .before .before .before .before .before .before .before .before .before .before .before .before .pre) (part-words (a .listings .now) (a .head .«reward_start») (a .head .«reward_words»)) (c .before .before .before .before .times-leaf .ensures)
+returns c =
+    let at-times-leaf = c .before .before .before .before in
+    let entry = at-times-leaf .before .before .before .before .before .before .before .before .before in
+    let a = entry .args in reward-given (entry .pre) (part-words (a .listings .now) (a .head .«reward_start») (a .head .«reward_words»)) (at-times-leaf .times-leaf .ensures)
 
 pub scale-reward-spec : {M : Type 1} → statement M
 scale-reward-spec =

@@ -5,10 +5,14 @@ use Rattle.planner.proofs.take_reward.Statement.{statement}
 use Rattle.planner.proofs.take_reward.Tie as tie
 
 copy-requires : tie.Need-copy-requires
-copy-requires c κs = let a = c .before .before .before .before .args in let e = part-words (a .listings .now) (a .head .«reward_start») (a .head .«reward_words») in (taking-there (c .before .before .before .before .pre) e, taking-room (c .before .before .before .before .pre) e)
+copy-requires c κs =
+    let entry = c .before .before .before .before in
+    let a = entry .args in let e = part-words (a .listings .now) (a .head .«reward_start») (a .head .«reward_words») in (taking-there (entry .pre) e, taking-room (entry .pre) e)
 
 returns : tie.Need-returns
-returns c = let a = c .before .before .before .before .before .before .before .args in taking-taken (c .before .before .before .before .before .before .before .pre) (part-words (a .listings .now) (a .head .«reward_start») (a .head .«reward_words»)) (c .before .before .copy .ensures)
+returns c =
+    let entry = c .before .before .before .before .before .before .before in
+    let a = entry .args in taking-taken (entry .pre) (part-words (a .listings .now) (a .head .«reward_start») (a .head .«reward_words»)) (c .before .before .copy .ensures)
 
 pub take-reward-spec : {M : Type 1} → statement M
 take-reward-spec =

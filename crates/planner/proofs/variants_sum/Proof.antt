@@ -17,21 +17,46 @@ begin-requires : tie.Need-begin-requires Inv-loop μ-loop
 begin-requires c κs = c .before .before .before .before .before .before .before .before .pre .1 .out-room
 
 loop-holds : tie.Need-loop-holds Inv-loop μ-loop
-loop-holds c = (refl, refl, summing-start (c .before .before .before .before .before .before .before .before .before .before .before .pre .0) (c .before .before .before .before .before .before .before .before .before .before .before .pre .1) (c .before .before .begin .ensures))
+loop-holds c =
+    let entry = c .before .before .before .before .before .before .before .before .before .before .before in
+    (refl, refl, summing-start (entry .pre .0) (entry .pre .1) (c .before .before .begin .ensures))
 
 add-variant-requires : tie.Need-add-variant-requires Inv-loop μ-loop
-add-variant-requires c κs = (summing-task (c .before .before .before .before .before .before .before .before .before .before .before .before .before .before .before .pre .0) (c .before .before .before .before .before .before .before .before .before .before .before .before .before .before .before .pre .1) (c .before .before .before .loop .inv .2) (c .before .before .loop-test .taken) (c .before .before .before .loop .inv .0 ∙ c .before .before .before .before .before .before .begin .kept .0) (c .before .before .before .loop .inv .1), (c .before .before .before .before .before .before .before .before .before .before .before .before .before .before .before .pre .1 .few, summing-begins (c .before .before .before .before .before .before .before .before .before .before .before .before .before .before .before .pre .0) (c .before .before .before .before .before .before .before .before .before .before .before .before .before .before .before .pre .1) (c .before .before .before .loop .inv .2) (c .before .before .loop-test .taken)))
+add-variant-requires c κs =
+    let at-begin = c .before .before .before .before .before .before in
+    let entry = at-begin .before .before .before .before .before .before .before .before .before in (
+      summing-task (entry .pre .0) (entry .pre .1) (c .before .before .before .loop .inv .2) (c .before .before .loop-test .taken)
+          (c .before .before .before .loop .inv .0 ∙ at-begin .begin .kept .0) (c .before .before .before .loop .inv .1),
+      (entry .pre .1 .few, summing-begins (entry .pre .0) (entry .pre .1) (c .before .before .before .loop .inv .2) (c .before .before .loop-test .taken)),
+    )
 
 returns : tie.Need-returns Inv-loop μ-loop
-returns c = summing-stops (c .before .before .before .before .before .before .before .before .before .before .before .before .before .before .before .before .before .before .before .before .before .before .pre .0) (c .before .before .before .before .before .before .before .before .before .before .before .before .before .before .before .before .before .before .before .before .before .before .pre .1) (c .before .before .before .before .before .before .before .before .before .before .loop .inv .2) (c .before .before .before .before .before .before .before .before .before .loop-test .taken) (c .before .before .before .before .before .before .add-variant .ensures) (c .enum-told .given .1)
+returns c =
+    let at-add-variant = c .before .before .before .before .before .before in
+    let at-loop-test = at-add-variant .before .before .before in
+    let at-loop = at-loop-test .before in
+    let entry = at-loop .before .before .before .before .before .before .before .before .before .before .before .before in
+    summing-stops (entry .pre .0) (entry .pre .1) (at-loop .loop .inv .2) (at-loop-test .loop-test .taken) (at-add-variant .add-variant .ensures) (c .enum-told .given .1)
 
 loop-again : tie.Need-loop-again Inv-loop μ-loop
-loop-again c = (c .before .before .before .before .before .before .before .add-variant .kept .1 .1 .1 .1 .1 .1 .0 ∙ c .before .before .before .before .before .before .before .before .before .before .before .loop .inv .0, c .before .before .before .before .before .before .before .add-variant .kept .1 .1 .1 .1 .1 .1 .1 .1 .0 ∙ c .before .before .before .before .before .before .before .before .before .before .before .loop .inv .1, summing-on (c .before .before .before .before .before .before .before .before .before .before .before .before .before .before .before .before .before .before .before .before .before .before .before .pre .0) (c .before .before .before .before .before .before .before .before .before .before .before .before .before .before .before .before .before .before .before .before .before .before .before .pre .1) (c .before .before .before .before .before .before .before .before .before .before .before .loop .inv .2) (c .before .before .before .before .before .before .before .before .before .before .loop-test .taken) (c .before .before .before .before .before .before .before .add-variant .ensures) (c .before .r .given .1))
+loop-again c =
+    let at-add-variant = c .before .before .before .before .before .before .before in
+    let at-loop-test = at-add-variant .before .before .before in
+    let at-loop = at-loop-test .before in
+    let entry = at-loop .before .before .before .before .before .before .before .before .before .before .before .before in (
+      at-add-variant .add-variant .kept .1 .1 .1 .1 .1 .1 .0 ∙ at-loop .loop .inv .0,
+      at-add-variant .add-variant .kept .1 .1 .1 .1 .1 .1 .1 .1 .0 ∙ at-loop .loop .inv .1,
+      summing-on (entry .pre .0) (entry .pre .1) (at-loop .loop .inv .2) (at-loop-test .loop-test .taken) (at-add-variant .add-variant .ensures) (c .before .r .given .1),
+    )
 
 returns-2 : tie.Need-returns-2 Inv-loop μ-loop
-returns-2 c = summing-end (c .before .before .before .before .before .before .before .before .before .before .before .before .before .pre .0) (c .before .before .before .before .before .before .before .before .before .before .before .before .before .pre .1) (c .before .loop .inv .2) (c .loop-test .left)
+returns-2 c =
+    let entry = c .before .before .before .before .before .before .before .before .before .before .before .before .before in
+    summing-end (entry .pre .0) (entry .pre .1) (c .before .loop .inv .2) (c .loop-test .left)
 
 pub variants-sum-spec : {M : Type 1} → statement M
 variants-sum-spec =
     tie.close
-    (tie.spec Inv-loop μ-loop (λ c. search needs) (λ c. search needs) (λ c. search needs) (λ c. search needs) begin-requires loop-holds (λ c. search needs) (λ c. search needs) (λ c. search needs) (λ c. search needs) add-variant-requires (λ c. search needs) (λ c. search needs) (λ c. search needs) (λ c. search needs) returns (λ c. search needs) (λ c. search needs) loop-again (λ c. search needs) (λ c. search needs) returns-2)
+    (tie.spec Inv-loop μ-loop (λ c. search needs) (λ c. search needs) (λ c. search needs) (λ c. search needs) begin-requires loop-holds (λ c. search needs) (λ c. search needs)
+    (λ c. search needs) (λ c. search needs) add-variant-requires (λ c. search needs) (λ c. search needs) (λ c. search needs) (λ c. search needs) returns (λ c. search needs)
+    (λ c. search needs) loop-again (λ c. search needs) (λ c. search needs) returns-2)

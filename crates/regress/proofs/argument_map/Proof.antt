@@ -30,4 +30,5 @@ returns c = search arguing-end
 pub argument-map-spec : {M : Type 1} → statement M
 argument-map-spec =
     tie.close
-    (tie.spec Inv-loop μ-loop (λ c κs. search needs) mul-n shared-slice-read-n loop-holds (λ c κs. search needs) (λ c. search needs) (λ c. search needs) (λ c. search needs) (λ c. search needs) loop-again (λ c. search needs) returns)
+    (tie.spec Inv-loop μ-loop (λ c κs. search needs) mul-n shared-slice-read-n loop-holds (λ c κs. search needs) (λ c. search needs) (λ c. search needs) (λ c. search needs)
+    (λ c. search needs) loop-again (λ c. search needs) returns)

@@ -20,7 +20,8 @@ returns-2 c =
 
 mul-kept : tie.Need-mul-kept
 mul-kept c =
-    let c1 = c .before .before .before .before .before .before .before .before .before .before .before .before .before .before .before .before .before .before .before .before .before .before .before .before .before .before .before .before .before .before .before in
+    let c1 = c .before .before .before .before .before .before .before .before .before .before .before .before .before .before .before .before .before .before .before .before
+    .before .before .before .before .before .before .before .before .before .before .before in
     let p = asking-below (c1 .pre .0) in search needs
 
 add-kept : tie.Need-add-kept
@@ -47,4 +48,6 @@ returns-3 c =
 pub kept-truth-spec : {M : Type 1} → statement M
 kept-truth-spec =
     tie.close
-    (tie.spec slot-requires (λ c. search needs) (λ c. search needs) returns (λ c κs. search needs) (λ c. search needs) (λ c. search needs) (λ c. search needs) (λ c. search needs) (λ c. search needs) (λ c. search needs) (λ c. search needs) returns-2 mul-kept add-kept (λ c. search needs) slice-write-kept (λ c. search needs) (λ c. search needs) (λ c. search needs) (λ c. search needs) (λ c. search needs) (λ c. search needs) returns-3)
+    (tie.spec slot-requires (λ c. search needs) (λ c. search needs) returns (λ c κs. search needs) (λ c. search needs) (λ c. search needs) (λ c. search needs) (λ c. search needs)
+    (λ c. search needs) (λ c. search needs) (λ c. search needs) returns-2 mul-kept add-kept (λ c. search needs) slice-write-kept (λ c. search needs) (λ c. search needs)
+    (λ c. search needs) (λ c. search needs) (λ c. search needs) (λ c. search needs) returns-3)

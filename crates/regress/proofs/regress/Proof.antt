@@ -60,7 +60,8 @@ returns-5 c =
     let c8 = c7 .before in
     let c9 = c8 .before in
     let c10 = c9 .before .before .before .before .before .before .before in
-    regress-passed _ _ _ _ (c10 .args .out .now) (c10 .args .work .now) (c9 .check .ensures) (c8 .if1 .left) (c7 .are-listed .ensures) (c6 .if2 .left) (c5 .if3 .left) (c4 .if4 .left) (c3 .judge-all .ensures) (c2 .enum-told .given .1) (c1 .regress-checked .ensures)
+    regress-passed _ _ _ _ (c10 .args .out .now) (c10 .args .work .now) (c9 .check .ensures) (c8 .if1 .left) (c7 .are-listed .ensures) (c6 .if2 .left) (c5 .if3 .left)
+    (c4 .if4 .left) (c3 .judge-all .ensures) (c2 .enum-told .given .1) (c1 .regress-checked .ensures)
 
 returns-6 : tie.Need-returns-6
 returns-6 c =
@@ -72,9 +73,11 @@ returns-6 c =
     let c6 = c5 .before in
     let c7 = c6 .before in
     let c8 = c7 .before .before .before .before .before .before .before in
-    regress-faulty _ _ _ _ (c8 .args .out .now) (c8 .args .work .now) (c7 .check .ensures) (c6 .if1 .left) (c5 .are-listed .ensures) (c4 .if2 .left) (c3 .if3 .left) (c2 .if4 .left) (c1 .judge-all .ensures) (c .before .v .given .1)
+    regress-faulty _ _ _ _ (c8 .args .out .now) (c8 .args .work .now) (c7 .check .ensures) (c6 .if1 .left) (c5 .are-listed .ensures) (c4 .if2 .left) (c3 .if3 .left) (c2 .if4 .left)
+    (c1 .judge-all .ensures) (c .before .v .given .1)
 
 pub regress-spec : {M : Type 1} → statement M
 regress-spec =
     tie.close
-    (tie.spec (λ c κs. search needs) returns (λ c κs. search needs) returns-2 returns-3 returns-4 judge-all-requires (λ c. search needs) regress-checked-requires (λ c. search needs) (λ c. search needs) (λ c. search needs) returns-5 returns-6)
+    (tie.spec (λ c κs. search needs) returns (λ c κs. search needs) returns-2 returns-3 returns-4 judge-all-requires (λ c. search needs) regress-checked-requires (λ c. search needs)
+    (λ c. search needs) (λ c. search needs) returns-5 returns-6)

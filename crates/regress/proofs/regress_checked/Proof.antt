@@ -32,4 +32,5 @@ returns-2 c =
 pub regress-checked-spec : {M : Type 1} → statement M
 regress-checked-spec =
     tie.close
-    (tie.spec (λ c. search needs) (λ c. search needs) (λ c. search needs) (λ c. search needs) regress-rows-requires (λ c. search needs) list-result-requires (λ c. search needs) (λ c. search needs) (λ c. search needs) returns (λ c. search needs) returns-2)
+    (tie.spec (λ c. search needs) (λ c. search needs) (λ c. search needs) (λ c. search needs) regress-rows-requires (λ c. search needs) list-result-requires (λ c. search needs)
+    (λ c. search needs) (λ c. search needs) returns (λ c. search needs) returns-2)

@@ -3,9 +3,9 @@ use Prim.Native.Nat.{_-_}
 use lib.ListN.{length}
 use native.Mathlib.Omega.{arith}
 use borrow.Author.Needs.{needs}
-use Rattle.regress.specs.Running.{Ready}
-use Rattle.regress.specs.RegressCall.{truthsOf}
-use Rattle.regress.specs.Regression.{truthAt, regression}
+use Rattle.row_steps.specs.Running.{Ready}
+use Rattle.regression.specs.RegressCall.{truthsOf}
+use Rattle.regression.specs.Regression.{truthAt, regression}
 use Rattle.regress.specs.Keeping.{Keeps}
 use Rattle.regress.proofs.KeptLaws.{keeps-start}
 use Rattle.regress.proofs.RowsLaws.{Going, going-start, going-taskable, going-few, going-tasked, going-stop, going-small, going-on, going-end, ready-on}
@@ -92,19 +92,22 @@ cast-numbers c =
 
 mul-numbers : tie.Need-mul-numbers Inv-loop μ-loop
 mul-numbers c =
-    let c1 = c .before .before .before .before .before .before .before .before .before .before .before .before .before .before .before .before .before .before .before .before .before .before .before in
+    let c1 = c .before .before .before .before .before .before .before .before .before .before .before .before .before .before .before .before .before .before .before .before
+    .before .before .before in
     let c2 = c1 .before in
     let p = going-few (c2 .loop .inv .6) (c1 .loop-test .taken) in search needs
 
 array-write-numbers : tie.Need-array-write-numbers Inv-loop μ-loop
 array-write-numbers c =
-    let c1 = c .before .before .before .before .before .before .before .before .before .before .before .before .before .before .before .before .before .before .before .before .before .before .before in
+    let c1 = c .before .before .before .before .before .before .before .before .before .before .before .before .before .before .before .before .before .before .before .before
+    .before .before .before in
     let c2 = c1 .before in
     going-few (c2 .loop .inv .6) (c1 .loop-test .taken)
 
 add-k : tie.Need-add-k Inv-loop μ-loop
 add-k c =
-    let c1 = c .before .before .before .before .before .before .before .before .before .before .before .before .before .before .before .before .before .before .before .before .before .before .before in
+    let c1 = c .before .before .before .before .before .before .before .before .before .before .before .before .before .before .before .before .before .before .before .before
+    .before .before .before in
     let c2 = c1 .before in
     let p = going-few (c2 .loop .inv .6) (c1 .loop-test .taken) in search needs
 
@@ -113,8 +116,16 @@ loop-again c =
     let c1 = c .before .before .before .before .before .before .before .before .before .before .before .before .before .before in
     let c2 = c1 .before .before .before .before .before .before .before in
     let c3 = c2 .before .before in
-    let c4 = c3 .before in
-    (c1 .regressed-row .kept .1 .1 .1 .1 .1 .0 ∙ c4 .loop .inv .0, c1 .regressed-row .kept .1 .1 .1 .1 .1 .1 .0 ∙ c4 .loop .inv .1, c1 .regressed-row .kept .1 .1 .1 .1 .1 .1 .1 .0 ∙ c4 .loop .inv .2, c1 .regressed-row .kept .1 .1 .1 .1 .1 .1 .1 .1 .0 ∙ c4 .loop .inv .3, c1 .regressed-row .kept .1 .1 .1 .1 .1 .1 .1 .1 .1 .0 ∙ c4 .loop .inv .4, ready-on (c4 .loop .inv .5) (c1 .regressed-row .ensures .ran) (c1 .regressed-row .kept .1 .1 .1 .1 .1 .0) (c .before .r .given .1), going-on (c4 .loop .inv .6) (c3 .loop-test .taken) (c2 .task-at .ensures) (c1 .regressed-row .ensures .ran) (c .before .r .given .1), c1 .regressed-row .ensures .keeps _ _ (c .before .r .given .1))
+    let c4 = c3 .before in (
+      c1 .regressed-row .kept .1 .1 .1 .1 .1 .0 ∙ c4 .loop .inv .0,
+      c1 .regressed-row .kept .1 .1 .1 .1 .1 .1 .0 ∙ c4 .loop .inv .1,
+      c1 .regressed-row .kept .1 .1 .1 .1 .1 .1 .1 .0 ∙ c4 .loop .inv .2,
+      c1 .regressed-row .kept .1 .1 .1 .1 .1 .1 .1 .1 .0 ∙ c4 .loop .inv .3,
+      c1 .regressed-row .kept .1 .1 .1 .1 .1 .1 .1 .1 .1 .0 ∙ c4 .loop .inv .4,
+      ready-on (c4 .loop .inv .5) (c1 .regressed-row .ensures .ran) (c1 .regressed-row .kept .1 .1 .1 .1 .1 .0) (c .before .r .given .1),
+      going-on (c4 .loop .inv .6) (c3 .loop-test .taken) (c2 .task-at .ensures) (c1 .regressed-row .ensures .ran) (c .before .r .given .1),
+      c1 .regressed-row .ensures .keeps _ _ (c .before .r .given .1),
+    )
 
 same-length-6 : tie.Need-same-length-6 Inv-loop μ-loop
 same-length-6 c = c .before .loop .inv .0
@@ -138,4 +149,6 @@ returns-2 c = going-end (c .before .loop .inv .6) (c .loop-test .left) (c .befor
 pub regress-rows-spec : {M : Type 1} → statement M
 regress-rows-spec =
     tie.close
-    (tie.spec Inv-loop μ-loop loop-holds slice-aggregate-task-at task-at-requires slice-aggregate-regressed-row regressed-row-requires (λ c. search needs) (λ c. search needs) same-length same-length-2 same-length-3 same-length-4 same-length-5 returns cast-numbers mul-numbers array-write-numbers add-k (λ c. search needs) loop-again same-length-6 same-length-7 same-length-8 same-length-9 same-length-10 returns-2)
+    (tie.spec Inv-loop μ-loop loop-holds slice-aggregate-task-at task-at-requires slice-aggregate-regressed-row regressed-row-requires (λ c. search needs) (λ c. search needs)
+    same-length same-length-2 same-length-3 same-length-4 same-length-5 returns cast-numbers mul-numbers array-write-numbers add-k (λ c. search needs) loop-again same-length-6
+    same-length-7 same-length-8 same-length-9 same-length-10 returns-2)

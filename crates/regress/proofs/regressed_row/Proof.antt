@@ -21,8 +21,11 @@ row-step-requires c κs =
     let c1 = c .before .before .before .before .before .before in
     let c2 = c1 .before .before .before .before .before .before .before .before .before .before .before .before .before .before in
     let c3 = c2 .before .before .before .before .before .before .before .before in
-    let c4 = c3 .before .before .before .before .before .before .before .before .before .before .before in
-    (row-ready (c4 .pre .0) (c4 .pre .1 .0) (c4 .pre .1 .1 .0) (c4 .pre .1 .1 .1) (c3 .task2 .given .1) (c2 .kept-truth .ensures) (c1 .r .given .1) (c2 .kept-truth .kept .1 .1 .1 .1 .1 .0), row-three (c4 .pre .0) (c4 .pre .1 .0) (c4 .pre .1 .1 .0) (c4 .pre .1 .1 .1) (c3 .task2 .given .1) (c2 .kept-truth .ensures) (c1 .r .given .1))
+    let c4 = c3 .before .before .before .before .before .before .before .before .before .before .before in (
+      row-ready (c4 .pre .0) (c4 .pre .1 .0) (c4 .pre .1 .1 .0) (c4 .pre .1 .1 .1) (c3 .task2 .given .1) (c2 .kept-truth .ensures) (c1 .r .given .1)
+          (c2 .kept-truth .kept .1 .1 .1 .1 .1 .0),
+      row-three (c4 .pre .0) (c4 .pre .1 .0) (c4 .pre .1 .1 .0) (c4 .pre .1 .1 .1) (c3 .task2 .given .1) (c2 .kept-truth .ensures) (c1 .r .given .1),
+    )
 
 returns-2 : tie.Need-returns-2
 returns-2 c =
@@ -43,4 +46,6 @@ returns-3 c =
 pub regressed-row-spec : {M : Type 1} → statement M
 regressed-row-spec =
     tie.close
-    (tie.spec (λ c. search needs) (λ c κs. search needs) (λ c κs. search needs) (λ c. search needs) kept-truth-requires (λ c. search needs) (λ c. search needs) (λ c. search needs) (λ c. search needs) (λ c. search needs) (λ c. search needs) (λ c. search needs) (λ c. search needs) returns row-step-requires (λ c. search needs) (λ c. search needs) (λ c. search needs) returns-2 (λ c. search needs) (λ c. search needs) (λ c. search needs) (λ c. search needs) (λ c. search needs) (λ c. search needs) returns-3)
+    (tie.spec (λ c. search needs) (λ c κs. search needs) (λ c κs. search needs) (λ c. search needs) kept-truth-requires (λ c. search needs) (λ c. search needs) (λ c. search needs)
+    (λ c. search needs) (λ c. search needs) (λ c. search needs) (λ c. search needs) (λ c. search needs) returns row-step-requires (λ c. search needs) (λ c. search needs)
+    (λ c. search needs) returns-2 (λ c. search needs) (λ c. search needs) (λ c. search needs) (λ c. search needs) (λ c. search needs) (λ c. search needs) returns-3)

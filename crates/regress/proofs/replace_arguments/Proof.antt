@@ -23,4 +23,5 @@ returns c =
 pub replace-arguments-spec : {M : Type 1} → statement M
 replace-arguments-spec =
     tie.close
-    (tie.spec (λ c. search needs) argument-map-requires (λ c. search needs) replace-requires (λ c. search needs) (λ c. search needs) (λ c. search needs) (λ c. search needs) (λ c. search needs) returns)
+    (tie.spec (λ c. search needs) argument-map-requires (λ c. search needs) replace-requires (λ c. search needs) (λ c. search needs) (λ c. search needs) (λ c. search needs)
+    (λ c. search needs) returns)

@@ -16,13 +16,27 @@ loop-holds : tie.Need-loop-holds Inv-loop μ-loop
 loop-holds c = (refl, weighing-start (c .before .before .before .before .pre))
 
 weigh-action-requires : tie.Need-weigh-action-requires Inv-loop μ-loop
-weigh-action-requires c κs = weighing-task (c .before .before .before .before .before .before .before .pre) (c .before .before .loop .inv .1) (c .before .loop-test .taken) (c .before .before .loop .inv .0)
+weigh-action-requires c κs =
+    let entry = c .before .before .before .before .before .before .before in
+    weighing-task (entry .pre) (c .before .before .loop .inv .1) (c .before .loop-test .taken) (c .before .before .loop .inv .0)
 
 returns : tie.Need-returns Inv-loop μ-loop
-returns c = weighing-stops (c .before .before .before .before .before .before .before .before .before .before .before .before .pre) (c .before .before .before .before .before .before .before .loop .inv .1) (c .before .before .before .before .before .before .loop-test .taken) (c .before .before .before .before .weigh-action .ensures) (c .enum-told2 .given .1)
+returns c =
+    let at-weigh-action = c .before .before .before .before in
+    let at-loop-test = at-weigh-action .before .before in
+    let at-loop = at-loop-test .before in
+    let entry = at-loop .before .before .before .before .before in
+    weighing-stops (entry .pre) (at-loop .loop .inv .1) (at-loop-test .loop-test .taken) (at-weigh-action .weigh-action .ensures) (c .enum-told2 .given .1)
 
 loop-again : tie.Need-loop-again Inv-loop μ-loop
-loop-again c = (c .before .before .before .before .weigh-action .kept .1 .1 .1 .1 .1 .0 ∙ c .before .before .before .before .before .before .before .loop .inv .0, weighing-on (c .before .before .before .before .before .before .before .before .before .before .before .before .pre) (c .before .before .before .before .before .before .before .loop .inv .1) (c .before .before .before .before .before .before .loop-test .taken) (c .before .before .before .before .weigh-action .ensures) (c .enum-told .given .1))
+loop-again c =
+    let at-weigh-action = c .before .before .before .before in
+    let at-loop-test = at-weigh-action .before .before in
+    let at-loop = at-loop-test .before in
+    let entry = at-loop .before .before .before .before .before in (
+      at-weigh-action .weigh-action .kept .1 .1 .1 .1 .1 .0 ∙ at-loop .loop .inv .0,
+      weighing-on (entry .pre) (at-loop .loop .inv .1) (at-loop-test .loop-test .taken) (at-weigh-action .weigh-action .ensures) (c .enum-told .given .1),
+    )
 
 returns-2 : tie.Need-returns-2 Inv-loop μ-loop
 returns-2 c = weighing-end (c .before .before .before .before .before .before .pre) (c .before .loop .inv .1) (c .loop-test .left)
@@ -30,4 +44,5 @@ returns-2 c = weighing-end (c .before .before .before .before .before .before .p
 pub weigh-spec : {M : Type 1} → statement M
 weigh-spec =
     tie.close
-    (tie.spec Inv-loop μ-loop loop-holds weigh-action-requires (λ c. search needs) (λ c. search needs) (λ c. search needs) returns (λ c. search needs) (λ c. search needs) loop-again (λ c. search needs) returns-2)
+    (tie.spec Inv-loop μ-loop loop-holds weigh-action-requires (λ c. search needs) (λ c. search needs) (λ c. search needs) returns (λ c. search needs) (λ c. search needs) loop-again
+    (λ c. search needs) returns-2)

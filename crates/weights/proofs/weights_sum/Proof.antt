@@ -20,13 +20,30 @@ loop-holds : tie.Need-loop-holds Inv-loop μ-loop
 loop-holds c = (refl, refl, summing-start (c .before .before .before .before .before .before .before .before .before .before .pre) (c .before .before .begin .ensures))
 
 add-weight-requires : tie.Need-add-weight-requires Inv-loop μ-loop
-add-weight-requires c κs = summing-task (c .before .before .before .before .before .before .before .before .before .before .before .before .before .before .pre) (c .before .before .before .loop .inv .2) (c .before .before .loop-test .taken) (c .before .before .before .loop .inv .0 ∙ c .before .before .before .before .before .before .begin .kept .0) (c .before .before .before .loop .inv .1)
+add-weight-requires c κs =
+    let at-begin = c .before .before .before .before .before .before in
+    let entry = at-begin .before .before .before .before .before .before .before .before in
+    summing-task (entry .pre) (c .before .before .before .loop .inv .2) (c .before .before .loop-test .taken) (c .before .before .before .loop .inv .0 ∙ at-begin .begin .kept .0)
+    (c .before .before .before .loop .inv .1)
 
 returns : tie.Need-returns Inv-loop μ-loop
-returns c = summing-stops (c .before .before .before .before .before .before .before .before .before .before .before .before .before .before .before .before .before .before .before .before .before .pre) (c .before .before .before .before .before .before .before .before .before .before .loop .inv .2) (c .before .before .before .before .before .before .before .before .before .loop-test .taken) (c .before .before .before .before .before .before .add-weight .ensures) (c .enum-told .given .1)
+returns c =
+    let at-add-weight = c .before .before .before .before .before .before in
+    let at-loop-test = at-add-weight .before .before .before in
+    let at-loop = at-loop-test .before in
+    let entry = at-loop .before .before .before .before .before .before .before .before .before .before .before in
+    summing-stops (entry .pre) (at-loop .loop .inv .2) (at-loop-test .loop-test .taken) (at-add-weight .add-weight .ensures) (c .enum-told .given .1)
 
 loop-again : tie.Need-loop-again Inv-loop μ-loop
-loop-again c = (c .before .before .before .before .before .before .before .add-weight .kept .1 .1 .1 .1 .0 ∙ c .before .before .before .before .before .before .before .before .before .before .before .loop .inv .0, c .before .before .before .before .before .before .before .add-weight .kept .1 .1 .1 .1 .1 .1 .0 ∙ c .before .before .before .before .before .before .before .before .before .before .before .loop .inv .1, summing-on (c .before .before .before .before .before .before .before .before .before .before .before .before .before .before .before .before .before .before .before .before .before .before .pre) (c .before .before .before .before .before .before .before .before .before .before .before .loop .inv .2) (c .before .before .before .before .before .before .before .before .before .before .loop-test .taken) (c .before .before .before .before .before .before .before .add-weight .ensures) (c .before .r .given .1))
+loop-again c =
+    let at-add-weight = c .before .before .before .before .before .before .before in
+    let at-loop-test = at-add-weight .before .before .before in
+    let at-loop = at-loop-test .before in
+    let entry = at-loop .before .before .before .before .before .before .before .before .before .before .before in (
+      at-add-weight .add-weight .kept .1 .1 .1 .1 .0 ∙ at-loop .loop .inv .0,
+      at-add-weight .add-weight .kept .1 .1 .1 .1 .1 .1 .0 ∙ at-loop .loop .inv .1,
+      summing-on (entry .pre) (at-loop .loop .inv .2) (at-loop-test .loop-test .taken) (at-add-weight .add-weight .ensures) (c .before .r .given .1),
+    )
 
 returns-2 : tie.Need-returns-2 Inv-loop μ-loop
 returns-2 c = summing-end (c .before .before .before .before .before .before .before .before .before .before .before .before .pre) (c .before .loop .inv .2) (c .loop-test .left)
@@ -34,4 +51,6 @@ returns-2 c = summing-end (c .before .before .before .before .before .before .be
 pub weights-sum-spec : {M : Type 1} → statement M
 weights-sum-spec =
     tie.close
-    (tie.spec Inv-loop μ-loop (λ c. search needs) (λ c. search needs) (λ c. search needs) (λ c. search needs) begin-requires loop-holds (λ c. search needs) (λ c. search needs) (λ c. search needs) (λ c. search needs) add-weight-requires (λ c. search needs) (λ c. search needs) (λ c. search needs) (λ c. search needs) returns (λ c. search needs) (λ c. search needs) loop-again (λ c. search needs) (λ c. search needs) returns-2)
+    (tie.spec Inv-loop μ-loop (λ c. search needs) (λ c. search needs) (λ c. search needs) (λ c. search needs) begin-requires loop-holds (λ c. search needs) (λ c. search needs)
+    (λ c. search needs) (λ c. search needs) add-weight-requires (λ c. search needs) (λ c. search needs) (λ c. search needs) (λ c. search needs) returns (λ c. search needs)
+    (λ c. search needs) loop-again (λ c. search needs) (λ c. search needs) returns-2)

@@ -1,0 +1,214 @@
+-- The regressed diagram says of a state what the old one says of the next state.
+use mathlib.Core.Path.{_≡_, refl, ap, sym, _∙_, subst, fun-ext}
+use mathlib.Core.Bool.{true, cond, _||_}
+use mathlib.Core.List.{List, [], _∷_, map}
+use mathlib.Core.Option.{Option, some, none, Option·map}
+use Prim.Native.Nat.{ℕ, zero, suc, _-_, _≤_, _<_}
+use native.Mathlib.Omega.{arith}
+use native.Mathlib.Nat.{le-of-eq}
+use lib.ListN.{length, getD, List·getD-map}
+use lib.Dec.{eqb}
+use borrow.Author.Tests.{eqb-true, eq-eqb, ne-eqb}
+use Rattle.refusal.specs.Outcome.{Accepted}
+use Rattle.refusal.specs.OutcomeLaws.{accepted-mono}
+use Rattle.basics.specs.Tests.{Either, one, other, either, or-one, or-other}
+use Rattle.basics.specs.Members.{mem, clash}
+use Rattle.label.specs.Limits.{firstParameter, firstVariable}
+use Rattle.label.specs.Labels.{areArities, predicateOf, unpacked, isLabel, termsOf}
+use Rattle.diagram.specs.Sizes.{mostRows}
+use Rattle.diagram.specs.Diagram.{Tree, Diagram, leaf, branch, eval, relabel}
+use Rattle.diagram.specs.Rows.{rows}
+use Rattle.diagram.specs.Listing.{Good as Listed}
+use Rattle.diagram.specs.Variables.{occurs}
+use Rattle.apply.specs.GoodLaws.{fine-every}
+use Rattle.state.specs.MaxLaws.{max-by}
+use Rattle.state.specs.Highest.{Highest, Bound, start}
+use Rattle.state.specs.HighestLaws.{start-fits}
+use Rattle.state.specs.State.{Atomic, atom, atomOf, meaning, State, Good, holds, value, low, fixed, Fits}
+use Rattle.state.specs.Terms.{Each, args, Terms}
+use Rattle.state.specs.ValueLaws.{low-lt, low-ge, by-low, Each-mono, Terms-mono, value-same}
+use Rattle.regression.specs.StepLaws.{eval-most}
+use Rattle.regression.specs.Regression.{argument, Truths, truthOf, regressed}
+use Rattle.regression.specs.RegressionLaws.{regressed-is}
+use Rattle.regression.specs.Result.{replaced, truthGiven, truthDiagram, regressedDiagram}
+use Rattle.regression.specs.Parameters.{Allowed, Within, Labels, GoodTruth, GoodTruths, WithinTruths}
+use Rattle.regression.specs.ResultLaws.{value-meaning, eval-rebuilt, value-replaced, label-terms, argument-low, argument-high, argument-terms, bit, terms-regressed, good-regressed, label-predicate}
+use Rattle.regression.specs.FreeingLaws.{fixed-constant}
+use Rattle.regression.specs.Next.{inner, factAfter, next, meanings}
+
+-- the objects of the terms that replace the arguments
+pub fits-zero : {s : State} {os : List ℕ} {θ : ℕ → ℕ} → Fits s os θ → θ 0 ≡ s .constant 0
+unfolding fixed
+fits-zero {s} {os} f = f .low 0 (omega arith)
+
+pub argument-inner : (s : State) (os ts : List ℕ) (θ : ℕ → ℕ) → Fits s os θ → (λ t. θ (argument ts t)) ≡ inner s os (map θ ts)
+unfolding inner
+argument-inner s os ts θ f = fun-ext (λ t. by-low (θ (argument ts t) ≡ inner s os (map θ ts) t) firstVariable t
+    (λ h. ap θ (argument-low ts t h) ∙ f .low t h ∙ sym (low-lt firstVariable t (fixed s os t) (getD (map θ ts) (t - firstVariable) (s .constant 0)) h))
+    (λ h. ap θ (argument-high ts t h) ∙ sym (List·getD-map θ ts (t - firstVariable) 0)
+    ∙ ap (getD (map θ ts) (t - firstVariable)) (fits-zero f) ∙ sym (low-ge firstVariable t (fixed s os t) (getD (map θ ts) (t - firstVariable) (s .constant 0)) h)))
+
+module _ (ar : List ℕ) (good : areArities ar ≡ true) (truths : Truths) (g : GoodTruths ar truths) (s : State) (os : List ℕ) (θ : ℕ → ℕ) (f : Fits s os θ) where
+  -- a truth diagram used at p(ts) gives 1 exactly where p(ts) holds in the next state
+  truth-used : (l : ℕ) (d : Diagram) → isLabel ar l ≡ true → GoodTruth ar d
+      → eval (λ k. holds s θ (atomOf ar k)) (replaced ar (argument (termsOf ar (unpacked l))) d)
+      ≡ cond (eqb (value s (meaning ar d) (inner s os (map θ (termsOf ar (unpacked l))))) 1) 1 0
+  truth-used l d h t =
+      let ts = termsOf ar (unpacked l) in
+      let x = inner s os (map θ (termsOf ar (unpacked l))) in
+      sym (value-meaning s ar (replaced ar (argument (termsOf ar (unpacked l))) d) θ)
+      ∙ value-replaced ar good (argument (termsOf ar (unpacked l))) (argument-terms (termsOf ar (unpacked l)) (label-terms ar l h)) s θ d (t .labels)
+      ∙ ap (value s (meaning ar d)) (argument-inner s os (termsOf ar (unpacked l)) θ f)
+      ∙ bit (value s (meaning ar d) (inner s os (map θ (termsOf ar (unpacked l)))))
+      (rw (value-meaning s ar d (inner s os (map θ (termsOf ar (unpacked l))))) (eval-most 1 _ d (t .bits)))
+
+  truth-named : (l p : ℕ) → isLabel ar l ≡ true → predicateOf l ≡ p
+      → eval (λ k. holds s θ (atomOf ar k)) (truthGiven ar (truthOf truths p) l) ≡ cond (holds (next s os (meanings ar truths)) θ (atom p (termsOf ar (unpacked l)))) 1 0
+  unfolding truthOf truthGiven eval holds atomOf next
+  truth-named l zero h e = rw e refl
+  truth-named l (suc p) h e = rw (ne-eqb (suc p) 0 (omega arith)) (go (truths (suc p)) refl)
+    where
+      go : (o : Option Diagram) → truths (suc p) ≡ o
+          → eval (λ k. holds s θ (atomOf ar k)) (truthGiven ar o l)
+          ≡ cond (factAfter s os (Option·map (meaning ar) o) (suc p) (map θ (termsOf ar (unpacked l)))) 1 0
+      go none q = rw e refl
+      go (some d) q = truth-used l d h (g .each (suc p) d (omega arith) (let x = label-predicate ar l h in omega arith) q)
+
+  pub truth-value : (l : ℕ) → isLabel ar l ≡ true
+      → eval (λ k. holds s θ (atomOf ar k)) (truthDiagram ar truths l) ≡ cond (holds (next s os (meanings ar truths)) θ (atomOf ar l)) 1 0
+  unfolding truthDiagram atomOf
+  truth-value l h = truth-named l (predicateOf l) h refl
+
+  -- the leaf in the state is the old diagram's leaf in the next state
+  pub regressed-value : (d : Diagram) → Labels ar d → value s (meaning ar (regressedDiagram ar truths d)) θ ≡ value (next s os (meanings ar truths)) (meaning ar d) θ
+  unfolding regressedDiagram
+  regressed-value d w =
+      value-meaning s ar (regressedDiagram ar truths d) θ
+      ∙ eval-rebuilt (λ k. holds s θ (atomOf ar k)) (λ l. holds (next s os (meanings ar truths)) θ (atomOf ar l)) (truthDiagram ar truths) (λ l. isLabel ar l ≡ true)
+      truth-value d w
+      ∙ sym (value-meaning (next s os (meanings ar truths)) ar d θ)
+
+-- no parameter but those of the truth diagrams
+pub within-regressed : (c : ℕ) (ar : List ℕ) → areArities ar ≡ true → (truths : Truths) → GoodTruths ar truths → WithinTruths c ar truths
+    → (d : Diagram) → Labels ar d → Within c (meaning ar d) → Within c (meaning ar (regressedDiagram ar truths d))
+within-regressed c ar good truths g v d w h = record {
+  terms = terms-regressed ar truths good g (Allowed c) (λ z. absurd (omega arith))
+      (λ p t i j e. Terms-mono (Allowed c) (λ x. x < firstVariable → Allowed c x) (λ x k q. k) (meaning ar t) (v .each p t i j e .terms)) d w (h .terms);
+}
+
+-- and no variable but those of the old diagram
+mem-each : (P : ℕ → Type 0) (t : ℕ) (ts : List ℕ) → Each P ts → mem eqb t ts ≡ true → P t
+mem-each P t [] w h = clash h refl
+mem-each P t (u ∷ us) w h = go (either (eqb t u) (mem eqb t us) h) (mem-each P t us (w .1))
+  where
+    go : Either (eqb t u) (mem eqb t us) → (mem eqb t us ≡ true → P t) → P t
+    go (one e) ih = rw (eqb-true t u e) (w .0)
+    go (other e) ih = ih e
+
+each-mem : (ts us : List ℕ) → ((t : ℕ) → mem eqb t ts ≡ true → mem eqb t us ≡ true) → Each (λ t. mem eqb t us ≡ true) ts
+each-mem [] us h = tt
+each-mem (t ∷ ts) us h = (h t (or-one (eqb t t) _ (eq-eqb t t refl)), each-mem ts us (λ u k. h u (or-other (eqb u t) _ k)))
+
+pub terms-occur : (P : ℕ → Type 0) (ar : List ℕ) (t : ℕ) (d : Diagram) → Terms P (meaning ar d) → occurs ar t d ≡ true → P t
+unfolding meaning relabel occurs atomOf
+terms-occur P ar t (leaf v) w h = clash h refl
+terms-occur P ar t (branch l x y) w h =
+    go (either (mem eqb t (termsOf ar (unpacked l))) (occurs ar t x || occurs ar t y) h) (terms-occur P ar t x (w .1)) (terms-occur P ar t y (w .2))
+  where
+    inside : Either (occurs ar t x) (occurs ar t y) → (occurs ar t x ≡ true → P t) → (occurs ar t y ≡ true → P t) → P t
+    inside (one e) p q = p e
+    inside (other e) p q = q e
+
+    go : Either (mem eqb t (termsOf ar (unpacked l))) (occurs ar t x || occurs ar t y) → (occurs ar t x ≡ true → P t) → (occurs ar t y ≡ true → P t) → P t
+    go (one e) p q = mem-each P t (termsOf ar (unpacked l)) (w .0) e
+    go (other e) p q = inside (either (occurs ar t x) (occurs ar t y) e) p q
+
+pub occur-terms : (ar : List ℕ) (d : Diagram) → Terms (λ t. occurs ar t d ≡ true) (meaning ar d)
+unfolding meaning relabel occurs atomOf
+occur-terms ar (leaf v) = tt
+occur-terms ar (branch l x y) = (
+  Each-mono _ (λ t. (mem eqb t (termsOf ar (unpacked l)) || (occurs ar t x || occurs ar t y)) ≡ true) (λ t h. or-one _ _ h) (termsOf ar (unpacked l))
+      (each-mem (termsOf ar (unpacked l)) (termsOf ar (unpacked l)) (λ t h. h)),
+  Terms-mono _ (λ t. (mem eqb t (termsOf ar (unpacked l)) || (occurs ar t x || occurs ar t y)) ≡ true)
+      (λ t h. or-other (mem eqb t (termsOf ar (unpacked l))) _ (or-one _ _ h)) (meaning ar x) (occur-terms ar x),
+  Terms-mono _ (λ t. (mem eqb t (termsOf ar (unpacked l)) || (occurs ar t x || occurs ar t y)) ≡ true)
+      (λ t h. or-other (mem eqb t (termsOf ar (unpacked l))) _ (or-other (occurs ar t x) _ h)) (meaning ar y) (occur-terms ar y),
+)
+
+terms-all : (P : ℕ → Type 0) → ((t : ℕ) → P t) → (d : Tree Atomic) → Terms P d
+terms-all P h (leaf v) = tt
+terms-all P h (branch a t f) = (each (args a), terms-all P h t, terms-all P h f)
+  where
+    each : (ts : List ℕ) → Each P ts
+    each [] = tt
+    each (t ∷ ts) = (h t, each ts)
+
+pub variables-regressed : (ar : List ℕ) → areArities ar ≡ true → (truths : Truths) → GoodTruths ar truths → (d : Diagram) → Labels ar d
+    → (t : ℕ) → firstVariable ≤ t → occurs ar t (regressedDiagram ar truths d) ≡ true → occurs ar t d ≡ true
+variables-regressed ar good truths g d w t h o =
+    terms-occur (λ x. firstVariable ≤ x → occurs ar x d ≡ true) ar t (regressedDiagram ar truths d)
+    (terms-regressed ar truths good g (λ x. firstVariable ≤ x → occurs ar x d ≡ true) (λ z. absurd (omega arith))
+    (λ p u i j e. terms-all (λ x. x < firstVariable → firstVariable ≤ x → occurs ar x d ≡ true) (λ x k z. absurd (omega arith)) (meaning ar u))
+    d w (Terms-mono _ (λ x. firstVariable ≤ x → occurs ar x d ≡ true) (λ x k z. k) (meaning ar d) (occur-terms ar d))) o h
+
+-- what an accepted regression of a good diagram is
+pub record Tells (ar : List ℕ) (truths : Truths) (d r : Diagram) : Type 0 where
+  pub good : Listed ar r
+  pub values : (s : State) (os : List ℕ) (θ : ℕ → ℕ) → Fits s os θ → value s (meaning ar r) θ ≡ value (next s os (meanings ar truths)) (meaning ar d) θ
+  pub within : (c : ℕ) → WithinTruths c ar truths → Within c (meaning ar d) → Within c (meaning ar r)
+  pub variables : (t : ℕ) → firstVariable ≤ t → occurs ar t r ≡ true → occurs ar t d ≡ true
+
+pub regressed-tells : (ar : List ℕ) (truths : Truths) (d : Diagram) → GoodTruths ar truths → Listed ar d → Accepted (Tells ar truths d) (regressed ar truths d)
+regressed-tells ar truths d g h = accepted-mono (regressed-is ar truths d) (λ r i. subst (Tells ar truths d) (sym (i .is)) (record {
+  good = good-regressed ar truths d g h (subst (λ (x : Diagram). length (rows x) ≤ mostRows) (i .is) (i .few));
+  values = λ s os θ f. regressed-value ar (h .arities) truths g s os θ f d (fine-every ar d (h .fine));
+  within = λ c v w. within-regressed c ar (h .arities) truths g v d (fine-every ar d (h .fine)) w;
+  variables = variables-regressed ar (h .arities) truths g d (fine-every ar d (h .fine));
+}))
+
+-- the highest leaf: no parameter stands in the old diagram, which is read without a tuple
+refit : State → List ℕ → (ℕ → ℕ) → ℕ → ℕ
+refit s os θ t = low firstVariable t (fixed s os t) (θ t)
+
+refit-fits : (s : State) (os os′ : List ℕ) (θ : ℕ → ℕ) → Good s → Bound s os → Fits s os′ θ → Fits s os (refit s os θ)
+unfolding refit start
+refit-fits s os os′ θ g b f = record {
+  low = λ t h. low-lt firstVariable t (fixed s os t) (θ t) h;
+  range = λ t. by-low (refit s os θ t < s .size) firstVariable t
+      (λ h. rw (low-lt firstVariable t (fixed s os t) (θ t) h) (rw (low-lt firstVariable t (fixed s os t) 0 h) at (start-fits s os g b .range t)))
+      (λ h. rw (low-ge firstVariable t (fixed s os t) (θ t) h) (f .range t));
+}
+
+refit-value : (s s′ : State) (os os′ : List ℕ) (θ : ℕ → ℕ) (d : Tree Atomic) → Within 0 d → Fits s os′ θ → value s′ d (refit s os θ) ≡ value s′ d θ
+unfolding refit
+refit-value s s′ os os′ θ d w f = value-same (Allowed 0) s′ d (refit s os θ) θ (w .terms) (λ t a. by-low (refit s os θ t ≡ θ t) firstVariable t
+    (λ h. by-low (refit s os θ t ≡ θ t) firstParameter t
+    (λ l. low-lt firstVariable t (fixed s os t) (θ t) h ∙ fixed-constant s os t l ∙ sym (fixed-constant s os′ t l) ∙ sym (f .low t h))
+    (λ l. let k = a l in absurd (omega arith)))
+    (λ h. low-ge firstVariable t (fixed s os t) (θ t) h))
+
+pub next-good : (s : State) (os : List ℕ) (becomes : ℕ → Option (Tree Atomic)) → Good s → Good (next s os becomes)
+unfolding next
+next-good s os becomes g = record { some = g .some; placed = g .placed }
+
+to-next : (s : State) (os os′ : List ℕ) (becomes : ℕ → Option (Tree Atomic)) (θ : ℕ → ℕ) → Fits s os′ θ → Fits (next s os becomes) os′ θ
+unfolding next fixed
+to-next s os os′ becomes θ f = record { low = f .low; range = f .range }
+
+from-next : (s : State) (os os′ : List ℕ) (becomes : ℕ → Option (Tree Atomic)) (θ : ℕ → ℕ) → Fits (next s os becomes) os′ θ → Fits s os′ θ
+unfolding next fixed
+from-next s os os′ becomes θ f = record { low = f .low; range = f .range }
+
+-- the result's highest leaf in the state, with the tuple os for the parameters, is the old diagram's in the next state
+pub regressed-highest : (ar : List ℕ) (truths : Truths) (d r : Diagram) → Tells ar truths d r → Within 0 (meaning ar d) → (s : State) → Good s → (os : List ℕ) → Bound s os
+    → (x : ℕ) → Highest (next s os (meanings ar truths)) [] (meaning ar d) x → Highest s os (meaning ar r) x
+regressed-highest ar truths d r tells w s g os b x m = max-by m
+    (λ θ f.
+    let f′ = from-next s os [] (meanings ar truths) θ f in
+    let h = refit-fits s os [] θ g b f′ in
+    (refit s os θ, h, le-of-eq (sym (refit-value s (next s os (meanings ar truths)) os [] θ (meaning ar d) w f′) ∙ sym (tells .values s os (refit s os θ) h))))
+    (λ θ f. (
+      refit s [] θ,
+      to-next s os [] (meanings ar truths) (refit s [] θ) (refit-fits s [] os θ g (record { each = λ i. g .placed 0 }) f),
+      le-of-eq (tells .values s os θ f ∙ sym (refit-value s (next s os (meanings ar truths)) [] os θ (meaning ar d) w f)),
+    ))

@@ -1,0 +1,526 @@
+-- Laws of the code of the row step: one-row tests, 1 - T, and the step itself.
+use mathlib.Core.Path.{_≡_, refl, sym, ap, ap₂, subst, _∙_}
+use mathlib.Core.Bool.{true}
+use mathlib.Core.List.{List}
+use Prim.Native.Nat.{ℕ, suc, _+_, _*_, _-_, _≤_, _<_}
+use native.Mathlib.Omega.{arith}
+use lib.ListN.{length, getD, set, replicate, length-set, length-replicate, getD-replicate}
+use lib.Seq.{getD-set-same, getD-set-other}
+use Rattle.refusal.specs.declared.Refusal.{Refusal}
+use Rattle.refusal.specs.declared.Refusal.the-variants.{Space as NoSpace}
+use Rattle.refusal.specs.Outcome.{ok}
+use Rattle.basics.specs.Tests.{Cmp, below, equal, above, cmp}
+use Rattle.basics.specs.Members.{mem}
+use Rattle.label.specs.Limits.{leafMark}
+use Rattle.label.specs.declared.Label.{Label}
+use Rattle.label.specs.declared.Test.{Test}
+use Rattle.label.specs.declared.Test.the-variants.{Always, Is}
+use Rattle.diagram.specs.Sizes.{highestValue, spaceRows}
+use Rattle.diagram.specs.Diagram.{Diagram, leaf, branch, same}
+use Rattle.diagram.specs.DiagramLaws.{onto-old}
+use Rattle.diagram.specs.Rows.{onto}
+use Rattle.diagram.specs.Words.{labelAt, highAt, lowAt}
+use Rattle.diagram.specs.Validity.{tree}
+use Rattle.diagram.specs.RowLaws.{kept-index-is}
+use Rattle.apply.specs.declared.Operation.the-variants.{Sum, Product}
+use Rattle.apply.specs.Combination.{operate}
+use Rattle.apply.specs.Snoc.{Begins, begins-trans}
+use Rattle.apply.specs.Formed.{add}
+use Rattle.apply.specs.FormedLaws.{add-begins}
+use Rattle.apply.specs.RowLaws.{onto-begins, onto-mem}
+use Rattle.store.specs.declared.Formed.{Formed}
+use Rattle.store.specs.declared.Formed.the-variants.{Row as FormedRow, Full}
+use Rattle.store.specs.Space.{diagramsOf, Holds, standsFor, Formable, a-branch, Formation}
+use Rattle.store.specs.AddLaws.{add-branch}
+use Rattle.store.proofs.SpaceLaws.{length-diagrams, diagram-at, stands-branch, formed-room, formation-row, formation-tree, formation-old, full-more, holds-closed}
+use Rattle.regression.specs.Calls.{Run, bind, form, combine}
+use Rattle.regression.specs.CallLaws.{form-old}
+use Rattle.regression.specs.Step.{testDiagram, exchanged, rowStep}
+use Rattle.regression.specs.StepLaws.{most-test, most-exchanged}
+use Rattle.regression.specs.Result.{AtMost}
+use Rattle.row_steps.specs.declared.Stepped.{Stepped}
+use Rattle.row_steps.specs.declared.Stepped.the-variants.{Row, Refused}
+use Rattle.row_steps.specs.Running.{Ready, Two, Three, Gave, Ran, Noted, Exchangeable, Exchanged, Testable}
+use Rattle.row_steps.specs.RunLaws.{row-label, row-leaf, row-kids, row-branch, there-mem, in-room, formed-gave, formed-space, full-ran, ran-bind, ran-stop, gave-old, leaf-onto, row-known, full-known, one-most, ran-cast, ran-answer}
+
+-- what forming a row leaves of the rows before
+pub record Grew (s₀ : List ℕ) (count : ℕ) (d : Diagram) (i n : ℕ) (s : List ℕ) : Type 0 where
+  pub there : i < n
+  pub is : tree s i ≡ d
+  pub rows : diagramsOf s n ≡ onto d (diagramsOf s₀ count)
+  pub old : (k : ℕ) → k < count → (k < n) × (tree s k ≡ tree s₀ k)
+
+pub grew : {s₀ : List ℕ} {count : ℕ} {d : Diagram} {i n : ℕ} {s heads links : List ℕ}
+    → Formation d (onto d (diagramsOf s₀ count)) (FormedRow i n) s heads links → Grew s₀ count d i n s
+grew {s₀} {count} {d} f =
+    let t = formation-tree f (onto-mem d (diagramsOf s₀ count)) in
+    record { there = t .0; is = t .1; rows = formation-row f .3; old = formation-old f s₀ count (onto-begins d (diagramsOf s₀ count)) }
+
+-- a branch whose children were put onto the rows, one after the other
+module _ {s₀ heads₀ links₀ : List ℕ} {count : ℕ} (h : Holds s₀ heads₀ links₀ count) (l : ℕ) (below-mark : l < leafMark) (t f : Diagram)
+    {i n j m : ℕ} {s₁ s₂ : List ℕ} (g₁ : Grew s₀ count t i n s₁) (g₂ : Grew s₁ n f j m s₂) where
+  rows-two : diagramsOf s₂ m ≡ onto f (onto t (diagramsOf s₀ count))
+  rows-two = g₂ .rows ∙ ap (onto f) (g₁ .rows)
+
+  pub kid-formable : Formable m (record { label = l; high = i; low = j })
+  kid-formable = a-branch below-mark (g₂ .old i (g₁ .there) .0) (g₂ .there)
+
+  stands : standsFor s₂ (record { label = l; high = i; low = j }) ≡ branch l t f
+  stands = stands-branch s₂ (record { label = l; high = i; low = j }) below-mark ∙ ap₂ (branch l) (g₂ .old i (g₁ .there) .1 ∙ g₁ .is) (g₂ .is)
+
+  rows-branch : add (branch l t f) (diagramsOf s₂ m) ≡ onto (branch l t f) (diagramsOf s₀ count)
+  rows-branch = ap (add (branch l t f)) rows-two ∙ add-branch l t f (diagramsOf s₀ count) (holds-closed h)
+
+  pub kid-begins : Begins (diagramsOf s₂ m) (onto (branch l t f) (diagramsOf s₀ count))
+  kid-begins = subst (Begins (diagramsOf s₂ m)) rows-branch (add-begins (branch l t f) (diagramsOf s₂ m))
+
+  pub kid-formed : {r : Formed} {s heads links : List ℕ}
+      → Formation (standsFor s₂ (record { label = l; high = i; low = j })) (add (standsFor s₂ (record { label = l; high = i; low = j })) (diagramsOf s₂ m)) r s heads links
+      → Formation (branch l t f) (onto (branch l t f) (diagramsOf s₀ count)) r s heads links
+  kid-formed {r} {s} {heads} {links} z =
+      let y = subst (λ (d : Diagram). Formation d (add d (diagramsOf s₂ m)) r s heads links) stands z in
+      subst (λ (rs : List Diagram). Formation (branch l t f) rs r s heads links) rows-branch y
+
+-- no room for a child: none for the branch
+module _ {s₀ heads₀ links₀ : List ℕ} {count : ℕ} (h : Holds s₀ heads₀ links₀ count) (l : ℕ) (t f : Diagram) where
+  begins-all : Begins (onto f (onto t (diagramsOf s₀ count))) (onto (branch l t f) (diagramsOf s₀ count))
+  begins-all =
+      subst (Begins (onto f (onto t (diagramsOf s₀ count)))) (add-branch l t f (diagramsOf s₀ count) (holds-closed h))
+      (add-begins (branch l t f) (onto f (onto t (diagramsOf s₀ count))))
+
+  pub high-full : {s heads links : List ℕ} → Formation t (onto t (diagramsOf s₀ count)) Full s heads links
+      → Formation (branch l t f) (onto (branch l t f) (diagramsOf s₀ count)) Full s heads links
+  high-full z = full-more (branch l t f) (onto (branch l t f) (diagramsOf s₀ count)) z
+      (begins-trans (onto t (diagramsOf s₀ count)) (onto f (onto t (diagramsOf s₀ count))) _ (onto-begins f (onto t (diagramsOf s₀ count))) begins-all)
+
+  pub low-full : {i n : ℕ} {s₁ s heads links : List ℕ} → Grew s₀ count t i n s₁ → Formation f (onto f (diagramsOf s₁ n)) Full s heads links
+      → Formation (branch l t f) (onto (branch l t f) (diagramsOf s₀ count)) Full s heads links
+  low-full {i} {n} {s₁} {s} {heads} {links} g z =
+      full-more (branch l t f) (onto (branch l t f) (diagramsOf s₀ count))
+      (subst (λ (rs : List Diagram). Formation f (onto f rs) Full s heads links) (g .rows) z) begins-all
+
+-- a row that is there
+pub old-row : {s heads links : List ℕ} {count i : ℕ} {d : Diagram} → Holds s heads links count → i < count → tree s i ≡ d
+    → Formation d (diagramsOf s count) (FormedRow i count) s heads links
+old-row {s} {heads} {links} {count} {i} {d} h l e =
+    formed-room s heads links (diagramsOf s count) count (length-diagrams s count) (h .written) (h .table) d i
+    (kept-index-is (diagramsOf s count) i d (h .written .kept) (omega (arith, length-diagrams s count)) (diagram-at s count i l ∙ e))
+
+-- `form_pair`
+module _ {s₀ heads₀ links₀ : List ℕ} {count : ℕ} (h : Holds s₀ heads₀ links₀ count) {l : ℕ} (b : l < leafMark) {v : ℕ} (w : ℕ) {r₁ : Formed} {s₁ heads₁ links₁ : List ℕ}
+    (f₁ : Formation (leaf v) (add (leaf v) (diagramsOf s₀ count)) r₁ s₁ heads₁ links₁) where
+  pub pair-high : r₁ ≡ Full → Formation (branch l (leaf v) (leaf w)) (onto (branch l (leaf v) (leaf w)) (diagramsOf s₀ count)) Full s₁ heads₁ links₁
+  pair-high e = high-full h l (leaf v) (leaf w) (full-known (leaf-onto s₀ count f₁) e)
+
+  module _ {i n : ℕ} (e₁ : r₁ ≡ FormedRow i n) where
+    first : Grew s₀ count (leaf v) i n s₁
+    first = grew (row-known (leaf-onto s₀ count f₁) e₁)
+
+    pub pair-holds : Holds s₁ heads₁ links₁ n
+    pair-holds = row-known f₁ e₁ .holds
+
+    module _ {r₂ : Formed} {s₂ heads₂ links₂ : List ℕ} (f₂ : Formation (leaf w) (add (leaf w) (diagramsOf s₁ n)) r₂ s₂ heads₂ links₂) where
+      pub pair-low : r₂ ≡ Full → Formation (branch l (leaf v) (leaf w)) (onto (branch l (leaf v) (leaf w)) (diagramsOf s₀ count)) Full s₂ heads₂ links₂
+      pair-low e = low-full h l (leaf v) (leaf w) first (full-known (leaf-onto s₁ n f₂) e)
+
+      module _ {j m : ℕ} (e₂ : r₂ ≡ FormedRow j m) where
+        second : Grew s₁ n (leaf w) j m s₂
+        second = grew (row-known (leaf-onto s₁ n f₂) e₂)
+
+        pub pair-holds-2 : Holds s₂ heads₂ links₂ m
+        pair-holds-2 = row-known f₂ e₂ .holds
+
+        pub pair-formable : Formable m (record { label = l; high = i; low = j })
+        pair-formable = kid-formable h l b (leaf v) (leaf w) first second
+
+        pub pair-formed : {r : Formed} {s heads links : List ℕ}
+            → Formation (standsFor s₂ (record { label = l; high = i; low = j })) (add (standsFor s₂ (record { label = l; high = i; low = j })) (diagramsOf s₂ m)) r s heads links
+            → Formation (branch l (leaf v) (leaf w)) (onto (branch l (leaf v) (leaf w)) (diagramsOf s₀ count)) r s heads links
+        pair-formed z = kid-formed h l b (leaf v) (leaf w) first second z
+
+-- `form_test`
+pub test-always : (s₀ : List ℕ) (count : ℕ) {t : Test} {r : Formed} {s heads links : List ℕ} → t ≡ Always
+    → Formation (leaf 1) (add (leaf 1) (diagramsOf s₀ count)) r s heads links
+    → Formation (testDiagram t) (onto (testDiagram t) (diagramsOf s₀ count)) r s heads links
+unfolding testDiagram
+test-always s₀ count {t} {r} {s} {heads} {links} e f = rw e (leaf-onto s₀ count f)
+
+pub test-is : (s₀ : List ℕ) (count : ℕ) {t : Test} {l : Label} {r : Formed} {s heads links : List ℕ} → t ≡ Is l
+    → Formation (branch (l .packed) (leaf 1) (leaf 0)) (onto (branch (l .packed) (leaf 1) (leaf 0)) (diagramsOf s₀ count)) r s heads links
+    → Formation (testDiagram t) (onto (testDiagram t) (diagramsOf s₀ count)) r s heads links
+unfolding testDiagram
+test-is s₀ count {t} {l} {r} {s} {heads} {links} e f = rw e f
+
+pub testable-label : {t : Test} {l : Label} → Testable t → t ≡ Is l → l .packed < leafMark
+testable-label {t} {l} p e = p .label l e
+
+-- `exchange`
+exchanged-leaf : (v : ℕ) → exchanged (leaf v) ≡ leaf (1 - v)
+unfolding exchanged
+exchanged-leaf v = refl
+
+exchanged-branch : (l : ℕ) (t f : Diagram) → exchanged (branch l t f) ≡ branch l (exchanged t) (exchanged f)
+unfolding exchanged
+exchanged-branch l t f = refl
+
+-- notes of rows that stay
+noted-later : {s₀ s memo : List ℕ} {count n : ℕ} → ((k : ℕ) → k < count → (k < n) × (tree s k ≡ tree s₀ k)) → Noted s₀ memo count → Noted s memo n
+noted-later {s₀} {s} {memo} {count} {n} o q = record {
+  places = q .places;
+  each = λ k j l e.
+      let z = q .each k j l e in
+      let a = o k (z .0) in
+      let b = o j (z .1) in
+      (a .0, b .0, b .1 ∙ z .2 ∙ ap exchanged (sym (a .1)));
+}
+
+-- one more note
+noted-more : {s memo : List ℕ} {n i j : ℕ} → Noted s memo n → i < n → i < spaceRows → j < n → tree s j ≡ exchanged (tree s i) → Noted s (set memo i (j + 1)) n
+noted-more {s} {memo} {n} {i} {j} q a c b e = record { places = rw length-set (q .places); each = λ k m l x. go k m l x (cmp k i) }
+  where
+    other : (k m : ℕ) → k < spaceRows → getD (set memo i (j + 1)) k 0 ≡ suc m → (k ≡ i → ⊥) → (k < n) × (m < n) × (tree s m ≡ exchanged (tree s k))
+    other k m l x d = q .each k m l (sym (getD-set-other memo i k (j + 1) 0 d) ∙ x)
+
+    go : (k m : ℕ) → k < spaceRows → getD (set memo i (j + 1)) k 0 ≡ suc m → Cmp k i → (k < n) × (m < n) × (tree s m ≡ exchanged (tree s k))
+    go k m l x (below d) = other k m l x (λ z. omega arith)
+    go k m l x (above d) = other k m l x (λ z. omega arith)
+    go k m l x (equal d) =
+        let p = getD-set-same memo i (j + 1) 0 (omega (arith, q .places)) in
+        let y : getD (set memo i (j + 1)) i 0 ≡ suc m = subst (λ (z : ℕ). getD (set memo i (j + 1)) z 0 ≡ suc m) d x in
+        let w : m ≡ j = omega arith in
+        (omega arith, omega arith, ap (tree s) w ∙ e ∙ ap (λ (z : ℕ). exchanged (tree s z)) (sym d))
+
+pub row-small : {d : Diagram} {rs : List Diagram} {j n : ℕ} {s heads links : List ℕ} → Formation d rs (FormedRow j n) s heads links → mem same d rs ≡ true → j + 1 < 65536
+row-small f m = omega (arith, formation-tree f m .0, f .holds .table .within)
+
+-- the note of a row that was formed, where n₂ rows and their notes were there before
+noting : {d : Diagram} {rs : List Diagram} {j n : ℕ} {s heads links : List ℕ} {s₂ memo₂ : List ℕ} {n₂ i : ℕ} → Formation d rs (FormedRow j n) s heads links → mem same d rs ≡ true
+    → Begins (diagramsOf s₂ n₂) rs → Noted s₂ memo₂ n₂ → i < n₂ → i < spaceRows → d ≡ exchanged (tree s₂ i) → Noted s (set memo₂ i (j + 1)) n
+noting {d} {rs} {j} {n} {s} {heads} {links} {s₂} {memo₂} {n₂} {i} f m b q a c e =
+    let o = formation-old f s₂ n₂ b in
+    let t = formation-tree f m in
+    noted-more (noted-later o q) (o i a .0) c (t .0) (t .1 ∙ e ∙ ap exchanged (sym (o i a .1)))
+
+module _ {s heads links memo : List ℕ} {count i : ℕ} (x : Exchangeable s heads links memo count i) where
+  pub small-row : i < 2048
+  small-row = omega (arith, x .row, x .holds .table .within)
+
+  pub memo-room : i < length memo
+  memo-room = omega (arith, small-row, x .noted .places)
+
+  pub row-room : i * 3 + 3 ≤ length s
+  row-room = omega (arith, x .row, x .holds .table .within, x .holds .table .words)
+
+  -- it is known
+  pub exchange-known : {k : ℕ} → k ≡ getD memo i 0 → (k ≡ 0 → ⊥) → Exchanged s count i (FormedRow (k - 1) count) s heads links memo
+  exchange-known {k} e n = record {
+    formation = rw (onto-old (exchanged (tree s i)) (diagramsOf s count) there) (old-row (x .holds) (z .1) (z .2));
+    noted = λ j m q. let w : count ≡ m = cc in subst (Noted s memo) w (x .noted);
+  }
+    where
+      z : (i < count) × (k - 1 < count) × (tree s (k - 1) ≡ exchanged (tree s i))
+      z = x .noted .each i (k - 1) small-row (sym e ∙ (let q : k ≡ suc (k - 1) = omega arith in q))
+
+      there : mem same (exchanged (tree s i)) (diagramsOf s count) ≡ true
+      there = subst (λ (d : Diagram). mem same d (diagramsOf s count) ≡ true) (z .2) (there-mem (x .holds) (k - 1) (z .1))
+
+  -- a leaf
+  module _ (m : getD s (i * 3) 0 ≡ 4294967295) {v : ℕ} (q : v ≡ 1 - getD s (i * 3 + 1) 0) {r : Formed} {s′ heads′ links′ : List ℕ}
+      (f : Formation (leaf v) (add (leaf v) (diagramsOf s count)) r s′ heads′ links′) where
+    leaf-is : leaf v ≡ exchanged (tree s i)
+    unfolding labelAt highAt
+    leaf-is = ap leaf q ∙ sym (ap exchanged (row-leaf (x .holds) i (x .row) m) ∙ exchanged-leaf (highAt s i))
+
+    leaf-formation : Formation (exchanged (tree s i)) (onto (exchanged (tree s i)) (diagramsOf s count)) r s′ heads′ links′
+    leaf-formation = subst (λ (d : Diagram). Formation d (onto d (diagramsOf s count)) r s′ heads′ links′) leaf-is (leaf-onto s count f)
+
+    pub exchange-leaf-full : r ≡ Full → Exchanged s count i Full s′ heads′ links′ memo
+    exchange-leaf-full e = record {
+      formation = full-known leaf-formation e;
+      noted = λ j n z. let w : _≡_ {A = ℕ} 0 1 = cc in absurd (omega arith);
+    }
+
+    module _ {j n : ℕ} (e : r ≡ FormedRow j n) where
+      pub exchange-leaf : Exchanged s count i (FormedRow j n) s′ heads′ links′ (set memo i (j + 1))
+      exchange-leaf = record {
+        formation = row-known leaf-formation e;
+        noted = λ k c z.
+            let w : n ≡ c = cc in
+            subst (Noted s′ (set memo i (j + 1))) w (noting (row-known leaf-formation e) (onto-mem (exchanged (tree s i)) (diagramsOf s count))
+            (onto-begins (exchanged (tree s i)) (diagramsOf s count)) (x .noted) (x .row) small-row refl);
+      }
+
+      pub exchange-leaf-small : j + 1 < 65536
+      exchange-leaf-small = row-small (row-known leaf-formation e) (onto-mem (exchanged (tree s i)) (diagramsOf s count))
+
+  -- a branch
+  module _ (m : getD s (i * 3) 0 ≡ 4294967295 → ⊥) where
+    kids : (getD s (i * 3 + 1) 0 < i) × (getD s (i * 3 + 2) 0 < i)
+    unfolding labelAt highAt lowAt
+    kids = row-kids (x .holds) i (x .row) m
+
+    label-less : getD s (i * 3) 0 < leafMark
+    unfolding labelAt
+    label-less = let q = row-label (x .holds) i (x .row) in let w : getD s (i * 3) 0 ≡ leafMark → ⊥ = m in omega arith
+
+    branch-is : branch (getD s (i * 3) 0) (exchanged (tree s (getD s (i * 3 + 1) 0))) (exchanged (tree s (getD s (i * 3 + 2) 0))) ≡ exchanged (tree s i)
+    unfolding labelAt highAt lowAt
+    branch-is = sym (ap exchanged (row-branch (x .holds) i (x .row) m) ∙ exchanged-branch (labelAt s i) (tree s (highAt s i)) (tree s (lowAt s i)))
+
+    as-branch : {r : Formed} {s′ heads′ links′ : List ℕ}
+        → Formation (branch (getD s (i * 3) 0) (exchanged (tree s (getD s (i * 3 + 1) 0))) (exchanged (tree s (getD s (i * 3 + 2) 0))))
+        (onto (branch (getD s (i * 3) 0) (exchanged (tree s (getD s (i * 3 + 1) 0))) (exchanged (tree s (getD s (i * 3 + 2) 0)))) (diagramsOf s count)) r s′ heads′ links′
+        → Formation (exchanged (tree s i)) (onto (exchanged (tree s i)) (diagramsOf s count)) r s′ heads′ links′
+    as-branch {r} {s′} {heads′} {links′} f = subst (λ (d : Diagram). Formation d (onto d (diagramsOf s count)) r s′ heads′ links′) branch-is f
+
+    pub exchange-less : getD s (i * 3 + 1) 0 < i
+    exchange-less = kids .0
+
+    pub exchange-less-2 : getD s (i * 3 + 2) 0 < i
+    exchange-less-2 = kids .1
+
+    pub exchange-high : Exchangeable s heads links memo count (getD s (i * 3 + 1) 0)
+    exchange-high = record { holds = x .holds; noted = x .noted; row = omega (arith, kids .0, x .row) }
+
+    module _ {r₁ : Formed} {s₁ heads₁ links₁ memo₁ : List ℕ} (x₁ : Exchanged s count (getD s (i * 3 + 1) 0) r₁ s₁ heads₁ links₁ memo₁) where
+      pub exchange-high-full : r₁ ≡ Full → Exchanged s count i Full s₁ heads₁ links₁ memo₁
+      exchange-high-full e = record {
+        formation = as-branch (high-full (x .holds) (getD s (i * 3) 0) _ _ (full-known (x₁ .formation) e));
+        noted = λ j n z. let w : _≡_ {A = ℕ} 0 1 = cc in absurd (omega arith);
+      }
+
+      module _ {i₁ n₁ : ℕ} (e₁ : r₁ ≡ FormedRow i₁ n₁) where
+        g₁ : Grew s count (exchanged (tree s (getD s (i * 3 + 1) 0))) i₁ n₁ s₁
+        g₁ = grew (row-known (x₁ .formation) e₁)
+
+        low-same : tree s₁ (getD s (i * 3 + 2) 0) ≡ tree s (getD s (i * 3 + 2) 0)
+        low-same = g₁ .old (getD s (i * 3 + 2) 0) (omega (arith, kids .1, x .row)) .1
+
+        pub exchange-low : Exchangeable s₁ heads₁ links₁ memo₁ n₁ (getD s (i * 3 + 2) 0)
+        exchange-low = record {
+          holds = row-known (x₁ .formation) e₁ .holds;
+          noted = x₁ .noted i₁ n₁ e₁;
+          row = g₁ .old (getD s (i * 3 + 2) 0) (omega (arith, kids .1, x .row)) .0;
+        }
+
+        module _ {r₂ : Formed} {s₂ heads₂ links₂ memo₂ : List ℕ} (x₂ : Exchanged s₁ n₁ (getD s (i * 3 + 2) 0) r₂ s₂ heads₂ links₂ memo₂) where
+          f₂ : Formation (exchanged (tree s (getD s (i * 3 + 2) 0))) (onto (exchanged (tree s (getD s (i * 3 + 2) 0))) (diagramsOf s₁ n₁)) r₂ s₂ heads₂ links₂
+          f₂ = subst (λ (d : Diagram). Formation (exchanged d) (onto (exchanged d) (diagramsOf s₁ n₁)) r₂ s₂ heads₂ links₂) low-same (x₂ .formation)
+
+          pub exchange-low-full : r₂ ≡ Full → Exchanged s count i Full s₂ heads₂ links₂ memo₂
+          exchange-low-full e = record {
+            formation = as-branch (low-full (x .holds) (getD s (i * 3) 0) _ _ g₁ (full-known f₂ e));
+            noted = λ j n z. let w : _≡_ {A = ℕ} 0 1 = cc in absurd (omega arith);
+          }
+
+          module _ {i₂ n₂ : ℕ} (e₂ : r₂ ≡ FormedRow i₂ n₂) where
+            g₂ : Grew s₁ n₁ (exchanged (tree s (getD s (i * 3 + 2) 0))) i₂ n₂ s₂
+            g₂ = grew (row-known f₂ e₂)
+
+            pub exchange-holds : Holds s₂ heads₂ links₂ n₂
+            exchange-holds = row-known f₂ e₂ .holds
+
+            pub exchange-formable : Formable n₂ (record { label = getD s (i * 3) 0; high = i₁; low = i₂ })
+            exchange-formable = kid-formable (x .holds) (getD s (i * 3) 0) label-less _ _ g₁ g₂
+
+            module _ {r : Formed} {s′ heads′ links′ : List ℕ}
+                (f : Formation (standsFor s₂ (record { label = getD s (i * 3) 0; high = i₁; low = i₂ }))
+                (add (standsFor s₂ (record { label = getD s (i * 3) 0; high = i₁; low = i₂ })) (diagramsOf s₂ n₂)) r s′ heads′ links′) where
+              whole : Formation (exchanged (tree s i)) (onto (exchanged (tree s i)) (diagramsOf s count)) r s′ heads′ links′
+              whole = as-branch (kid-formed (x .holds) (getD s (i * 3) 0) label-less _ _ g₁ g₂ f)
+
+              pub exchange-branch-full : r ≡ Full → Exchanged s count i Full s′ heads′ links′ memo₂
+              exchange-branch-full e = record {
+                formation = full-known whole e;
+                noted = λ j n z. let w : _≡_ {A = ℕ} 0 1 = cc in absurd (omega arith);
+              }
+
+              module _ {j n : ℕ} (e : r ≡ FormedRow j n) where
+                stays : (k : ℕ) → k < count → (k < n₂) × (tree s₂ k ≡ tree s k)
+                stays k l = let a = g₁ .old k l in let b = g₂ .old k (a .0) in (b .0, b .1 ∙ a .1)
+
+                pub exchange-branch : Exchanged s count i (FormedRow j n) s′ heads′ links′ (set memo₂ i (j + 1))
+                exchange-branch = record {
+                  formation = row-known whole e;
+                  noted = λ k c z.
+                      let w : n ≡ c = cc in
+                      subst (Noted s′ (set memo₂ i (j + 1))) w (noting (row-known whole e) (onto-mem (exchanged (tree s i)) (diagramsOf s count))
+                      (subst (Begins (diagramsOf s₂ n₂)) (ap (λ (d : Diagram). onto d (diagramsOf s count)) branch-is)
+                      (kid-begins (x .holds) (getD s (i * 3) 0) label-less _ _ g₁ g₂))
+                      (x₂ .noted i₂ n₂ e₂) (stays i (x .row) .0) small-row (ap exchanged (sym (stays i (x .row) .1))));
+                }
+
+                pub exchange-branch-small : j + 1 < 65536
+                exchange-branch-small = row-small (row-known whole e) (onto-mem (exchanged (tree s i)) (diagramsOf s count))
+
+-- `one_minus`
+never : {P : Type 0} (n k j : ℕ) → k < n → _≡_ {A = ℕ} (getD (replicate n 0) k 0) (suc j) → P
+never n k j h e = let z : _≡_ {A = ℕ} (getD (replicate n 0) k 0) 0 = getD-replicate n k 0 0 h in let w : 0 ≡ suc j = sym z ∙ e in absurd (omega arith)
+
+pub none-noted : {s heads links : List ℕ} {count i : ℕ} (n : ℕ) → 2048 ≤ n → Holds s heads links count → i < count → Exchangeable s heads links (replicate n 0) count i
+none-noted {s} {heads} {links} {count} {i} n l h r = record {
+  holds = h;
+  noted = record { places = rw length-replicate l; each = λ k j q e. never n k j (omega arith) e };
+  row = r;
+}
+
+-- `row_step`: its parts
+abbrev rights : Diagram → Diagram → Diagram → Run Diagram
+rights y f p = bind (combine _*_ y f) (λ q. combine _+_ p q)
+
+abbrev lefts : Diagram → Diagram → Diagram → Diagram → Run Diagram
+lefts x t f y = bind (combine _*_ x t) (λ p. rights y f p)
+
+abbrev others : Diagram → Diagram → Diagram → Run Diagram
+others t f x = bind (form (exchanged x)) (λ y. lefts x t f y)
+
+module _ {plan index s heads links : List ℕ} {count test high low : ℕ} (ready : Ready plan index s heads links count) (three : Three count test high low)
+    {r₁ : Formed} {s₁ heads₁ links₁ : List ℕ}
+    (f₁ : Formation (exchanged (tree s test)) (onto (exchanged (tree s test)) (diagramsOf s count)) r₁ s₁ heads₁ links₁) where
+  -- from the step behind T on
+  from-test : {r : Stepped} {s′ heads′ links′ index′ : List ℕ} → Ran (others (tree s high) (tree s low) (tree s test)) s count r s′ heads′ links′ index′
+      → Ran (rowStep (tree s test) (tree s high) (tree s low)) s count r s′ heads′ links′ index′
+  unfolding rowStep
+  from-test z = ran-bind (form (tree s test)) (others (tree s high) (tree s low)) (gave-old (ready .space .holds) (three .test-there)) z
+
+  pub step-full : r₁ ≡ Full → Ran (rowStep (tree s test) (tree s high) (tree s low)) s count (Refused NoSpace 2048) s₁ heads₁ links₁ index
+  step-full e = from-test (ran-stop (form (exchanged (tree s test))) (lefts (tree s test) (tree s high) (tree s low))
+      (full-ran s count (exchanged (tree s test)) (one-most (exchanged (tree s test)) (most-exchanged (tree s test))) (ready .space .values) (ready .clean) (full-known f₁ e)))
+
+  module _ {o n : ℕ} (e₁ : r₁ ≡ FormedRow o n) where
+    gave₁ : Gave (form (exchanged (tree s test))) s count o n s₁
+    gave₁ = formed-gave s count (exchanged (tree s test)) (row-known f₁ e₁)
+
+    pub step-ready : Ready plan index s₁ heads₁ links₁ n
+    step-ready = record {
+      space = formed-space s count (exchanged (tree s test)) (one-most (exchanged (tree s test)) (most-exchanged (tree s test))) (ready .space .values) (row-known f₁ e₁);
+      clean = ready .clean;
+      words = ready .words;
+    }
+
+    pub step-two : Two n test high
+    step-two = record { first = omega (arith, three .test-there, gave₁ .more); second = omega (arith, three .high-there, gave₁ .more) }
+
+    from-other : {r : Stepped} {s′ heads′ links′ index′ : List ℕ} → Ran (lefts (tree s test) (tree s high) (tree s low) (tree s₁ o)) s₁ n r s′ heads′ links′ index′
+        → Ran (rowStep (tree s test) (tree s high) (tree s low)) s count r s′ heads′ links′ index′
+    from-other z = from-test (ran-bind (form (exchanged (tree s test))) (lefts (tree s test) (tree s high) (tree s low)) gave₁ z)
+
+    module _ {a : Stepped} {s₂ heads₂ links₂ index₂ : List ℕ} (x₂ : Ran (combine (operate Product) (tree s₁ test) (tree s₁ high)) s₁ n a s₂ heads₂ links₂ index₂) where
+      y₂ : Ran (combine _*_ (tree s test) (tree s high)) s₁ n a s₂ heads₂ links₂ index₂
+      y₂ = ran-cast (λ i. combine _*_ (gave₁ .stays test (three .test-there) i) (gave₁ .stays high (three .high-there) i)) x₂
+
+      pub step-left : {w : Refusal} {k : ℕ} → a ≡ Refused w k → Ran (rowStep (tree s test) (tree s high) (tree s low)) s count a s₂ heads₂ links₂ index₂
+      step-left {w} {k} e = from-other (ran-answer (sym e) (ran-stop (combine _*_ (tree s test) (tree s high)) (rights (tree s₁ o) (tree s low)) (ran-answer e y₂)))
+
+      module _ {left m : ℕ} (e₂ : a ≡ Row left m) where
+        gave₂ : Gave (combine _*_ (tree s test) (tree s high)) s₁ n left m s₂
+        gave₂ = y₂ .row left m e₂
+
+        pub step-ready-2 : (plan₂ : List ℕ) → length plan₂ ≡ length plan → Ready plan₂ index₂ s₂ heads₂ links₂ m
+        step-ready-2 plan₂ l = record { space = ran-answer e₂ y₂ .space; clean = y₂ .clean; words = omega (arith, ready .words) }
+
+        pub step-two-2 : Two m o low
+        step-two-2 = record { first = omega (arith, gave₁ .there, gave₂ .more); second = omega (arith, three .low-there, gave₁ .more, gave₂ .more) }
+
+        from-left : {r : Stepped} {s′ heads′ links′ index′ : List ℕ} → Ran (rights (tree s₁ o) (tree s low) (tree s₂ left)) s₂ m r s′ heads′ links′ index′
+            → Ran (rowStep (tree s test) (tree s high) (tree s low)) s count r s′ heads′ links′ index′
+        from-left z = from-other (ran-bind (combine _*_ (tree s test) (tree s high)) (rights (tree s₁ o) (tree s low)) gave₂ z)
+
+        module _ {b : Stepped} {s₃ heads₃ links₃ index₃ : List ℕ} (x₃ : Ran (combine (operate Product) (tree s₂ o) (tree s₂ low)) s₂ m b s₃ heads₃ links₃ index₃) where
+          y₃ : Ran (combine _*_ (tree s₁ o) (tree s low)) s₂ m b s₃ heads₃ links₃ index₃
+          y₃ = ran-cast (λ i. combine _*_ (gave₂ .stays o (gave₁ .there) i)
+              ((gave₂ .stays low (omega (arith, three .low-there, gave₁ .more)) ∙ gave₁ .stays low (three .low-there)) i)) x₃
+
+          pub step-right : {w : Refusal} {k : ℕ} → b ≡ Refused w k → Ran (rowStep (tree s test) (tree s high) (tree s low)) s count b s₃ heads₃ links₃ index₃
+          step-right {w} {k} e = from-left (ran-answer (sym e) (ran-stop (combine _*_ (tree s₁ o) (tree s low)) (λ q. combine _+_ (tree s₂ left) q) (ran-answer e y₃)))
+
+          module _ {right k : ℕ} (e₃ : b ≡ Row right k) where
+            gave₃ : Gave (combine _*_ (tree s₁ o) (tree s low)) s₂ m right k s₃
+            gave₃ = y₃ .row right k e₃
+
+            pub step-ready-3 : (plan₃ : List ℕ) → length plan₃ ≡ length plan → Ready plan₃ index₃ s₃ heads₃ links₃ k
+            step-ready-3 plan₃ l = record { space = ran-answer e₃ y₃ .space; clean = y₃ .clean; words = omega (arith, ready .words) }
+
+            pub step-two-3 : Two k left right
+            step-two-3 = record { first = omega (arith, gave₂ .there, gave₃ .more); second = gave₃ .there }
+
+            pub step-sum : {r : Stepped} {s₄ heads₄ links₄ index₄ : List ℕ} → Ran (combine (operate Sum) (tree s₃ left) (tree s₃ right)) s₃ k r s₄ heads₄ links₄ index₄
+                → Ran (rowStep (tree s test) (tree s high) (tree s low)) s count r s₄ heads₄ links₄ index₄
+            step-sum x₄ = from-left (ran-bind (combine _*_ (tree s₁ o) (tree s low)) (λ q. combine _+_ (tree s₂ left) q) gave₃
+                (ran-cast (λ i. combine _+_ (gave₃ .stays left (gave₂ .there) i) (tree s₃ right)) x₄))
+
+-- `test_step`: T formed before the step adds nothing in it
+module _ (T t f : Diagram) {plan index s₀ heads₀ links₀ : List ℕ} {count : ℕ} (ready : Ready plan index s₀ heads₀ links₀ count) (small : AtMost highestValue T)
+    {r₁ : Formed} {s₁ heads₁ links₁ : List ℕ} (f₁ : Formation T (onto T (diagramsOf s₀ count)) r₁ s₁ heads₁ links₁) where
+  pub formed-step-full : r₁ ≡ Full → Ran (rowStep T t f) s₀ count (Refused NoSpace 2048) s₁ heads₁ links₁ index
+  unfolding rowStep
+  formed-step-full e = ran-stop (form T) (others t f) (full-ran s₀ count T small (ready .space .values) (ready .clean) (full-known f₁ e))
+
+  module _ {i n : ℕ} (e₁ : r₁ ≡ FormedRow i n) where
+    gave : Gave (form T) s₀ count i n s₁
+    gave = formed-gave s₀ count T (row-known f₁ e₁)
+
+    pub formed-step-ready : Ready plan index s₁ heads₁ links₁ n
+    formed-step-ready = record { space = formed-space s₀ count T small (ready .space .values) (row-known f₁ e₁); clean = ready .clean; words = ready .words }
+
+    pub formed-step-more : (k : ℕ) → k < count → (k < n) × (tree s₁ k ≡ tree s₀ k)
+    formed-step-more k l = (omega (arith, gave .more), gave .stays k l)
+
+    pub formed-step-there : i < n
+    formed-step-there = gave .there
+
+    is-test : tree s₁ i ≡ T
+    is-test = grew (row-known f₁ e₁) .is
+
+    -- a row step whose T is there
+    twice : rowStep T t f (diagramsOf s₁ n) ≡ rowStep T t f (diagramsOf s₀ count)
+    unfolding rowStep
+    twice =
+        let h = row-known f₁ e₁ .holds in
+        let a : form T (diagramsOf s₁ n) ≡ ok (T, diagramsOf s₁ n)
+        = form-old T (diagramsOf s₁ n) (subst (λ (d : Diagram). mem same d (diagramsOf s₁ n) ≡ true) is-test (there-mem h i (gave .there))) (in-room h) in
+        let b : form T (diagramsOf s₀ count) ≡ ok (T, diagramsOf s₁ n) = gave .gives ∙ ap (λ (d : Diagram). ok (d, diagramsOf s₁ n)) is-test in
+        rw (a, b) refl
+
+    pub formed-step : {r : Stepped} {s heads links index′ : List ℕ} → Ran (rowStep (tree s₁ i) t f) s₁ n r s heads links index′
+        → Ran (rowStep T t f) s₀ count r s heads links index′
+    formed-step x =
+        let y = ran-cast (ap (λ (d : Diagram). rowStep d t f) is-test) x in
+        record {
+          space = y .space;
+          clean = y .clean;
+          row = λ j m e.
+              let z = y .row j m e in
+              record {
+                there = z .there;
+                more = omega (arith, gave .more, z .more);
+                gives = sym twice ∙ z .gives;
+                stays = λ k l. z .stays k (omega (arith, gave .more)) ∙ gave .stays k l;
+              };
+          refusal = λ w m e. sym twice ∙ y .refusal w m e;
+        }
+
+-- with the test of what is asked
+module _ (test : Test) {plan index s₀ heads₀ links₀ : List ℕ} {count high low : ℕ} (ready : Ready plan index s₀ heads₀ links₀ count) (two : Two count high low)
+    {r₁ : Formed} {s₁ heads₁ links₁ : List ℕ} (f₁ : Formation (testDiagram test) (onto (testDiagram test) (diagramsOf s₀ count)) r₁ s₁ heads₁ links₁) where
+  pub test-step-full : r₁ ≡ Full → Ran (rowStep (testDiagram test) (tree s₀ high) (tree s₀ low)) s₀ count (Refused NoSpace 2048) s₁ heads₁ links₁ index
+  test-step-full e = formed-step-full (testDiagram test) (tree s₀ high) (tree s₀ low) ready (one-most (testDiagram test) (most-test test)) f₁ e
+
+  module _ {i n : ℕ} (e₁ : r₁ ≡ FormedRow i n) where
+    pub test-step-ready : Ready plan index s₁ heads₁ links₁ n
+    test-step-ready = formed-step-ready (testDiagram test) (tree s₀ high) (tree s₀ low) ready (one-most (testDiagram test) (most-test test)) f₁ e₁
+
+    old : (k : ℕ) → k < count → (k < n) × (tree s₁ k ≡ tree s₀ k)
+    old = formed-step-more (testDiagram test) (tree s₀ high) (tree s₀ low) ready (one-most (testDiagram test) (most-test test)) f₁ e₁
+
+    pub test-step-three : Three n i high low
+    test-step-three = record {
+      test-there = formed-step-there (testDiagram test) (tree s₀ high) (tree s₀ low) ready (one-most (testDiagram test) (most-test test)) f₁ e₁;
+      high-there = old high (two .first) .0;
+      low-there = old low (two .second) .0;
+    }
+
+    pub test-step-row : {r : Stepped} {s heads links index′ : List ℕ} → Ran (rowStep (tree s₁ i) (tree s₁ high) (tree s₁ low)) s₁ n r s heads links index′
+        → Ran (rowStep (testDiagram test) (tree s₀ high) (tree s₀ low)) s₀ count r s heads links index′
+    test-step-row x = formed-step (testDiagram test) (tree s₀ high) (tree s₀ low) ready (one-most (testDiagram test) (most-test test)) f₁ e₁
+        (ran-cast (λ j. rowStep (tree s₁ i) (old high (two .first) .1 j) (old low (two .second) .1 j)) x)

@@ -1,0 +1,270 @@
+// The row step in a working space. What it is stands in regression.
+use apply::Operation;
+use combine::Joined;
+use label::Label;
+use label::Test;
+use refusal::Refusal;
+use store::Formed;
+use table::Row;
+ghost use mathlib.Core.Path.{_≡_};
+ghost use Prim.Native.Nat.{_-_, _<_};
+ghost use Rattle.label.specs.Limits.{leafMark};
+ghost use Rattle.diagram.specs.Diagram.{leaf, branch};
+ghost use Rattle.diagram.specs.Rows.{onto};
+ghost use Rattle.diagram.specs.Validity.{tree};
+ghost use Rattle.apply.specs.Combination.{operate};
+ghost use Rattle.store.specs.Space.{diagramsOf, Holds, Formation};
+ghost use Rattle.regression.specs.Calls.{combine};
+ghost use Rattle.regression.specs.Step.{testDiagram, rowStep, exchanged};
+ghost use Rattle.row_steps.specs.Running.{Ready, Two, Three, Ran, Exchangeable, Exchanged, Testable};
+
+// What a step in the working space answers: the result's row and the rows then; or why it is refused, and the rows then.
+pub enum Stepped {
+    Row(usize, usize),
+    Refused(Refusal, usize),
+}
+
+// Combines two rows, names shared.
+fn join(
+    plan: &mut [u64],
+    index: &mut [u16],
+    i: usize,
+    j: usize,
+    op: Operation,
+    space: &mut [u64],
+    heads: &mut [u16],
+    links: &mut [u16],
+    count: usize,
+) -> Stepped
+    requires { ⌜ Ready (now plan) (now index) (now space) (now heads) (now links) count ⌝ }
+    requires { ⌜ Two count i j ⌝ }
+    ensures { λ r. ⌜ Ran (combine (operate op) (tree (now (space .entry)) i) (tree (now (space .entry)) j)) (now (space .entry)) count r (now (space .exit)) (now (heads .exit)) (now (links .exit)) (now (index .exit)) ⌝ }
+{
+    let r = combine::join_rows(
+        plan,
+        index,
+        diagram::PAIRS,
+        i,
+        j,
+        op,
+        space,
+        heads,
+        links,
+        count,
+    );
+    match r {
+        Joined::At(row, rows, _) => Stepped::Row(row, rows),
+        Joined::TooManyPairs => Stepped::Refused(Refusal::Pairs, count),
+        Joined::TooHighValue => Stepped::Refused(Refusal::Value, count),
+        Joined::NoRoom => Stepped::Refused(Refusal::Space, diagram::SPACE_ROWS),
+    }
+}
+
+// Forms a branch of two leaves.
+fn form_pair(
+    space: &mut [u64],
+    heads: &mut [u16],
+    links: &mut [u16],
+    count: usize,
+    label: u64,
+    high: u64,
+    low: u64,
+) -> Formed
+    requires { ⌜ Holds (now space) (now heads) (now links) count ⌝ }
+    requires { ⌜ label < leafMark ⌝ }
+    ensures { λ r. ⌜ Formation (branch label (leaf high) (leaf low)) (onto (branch label (leaf high) (leaf low)) (diagramsOf (now (space .entry)) count)) r (now (space .exit)) (now (heads .exit)) (now (links .exit)) ⌝ }
+{
+    let Formed::Row(t, n) = store::leaf(space, heads, links, count, high) else {
+        return Formed::Full;
+    };
+    let Formed::Row(f, m) = store::leaf(space, heads, links, n, low) else {
+        return Formed::Full;
+    };
+    store::form(
+        space,
+        heads,
+        links,
+        m,
+        Row {
+            label: label,
+            high: t as u64,
+            low: f as u64,
+        },
+    )
+}
+
+// 1 - v.
+fn flipped(v: u64) -> u64
+    ensures { λ r. ⌜ r ≡ 1 - v ⌝ }
+{
+    if v == 0 {
+        return 1;
+    }
+    0
+}
+
+// Forms the rows of 1 - T for row i, and notes the row of each.
+fn exchange(
+    space: &mut [u64],
+    heads: &mut [u16],
+    links: &mut [u16],
+    memo: &mut [u16],
+    count: usize,
+    i: usize,
+) -> Formed
+    requires { ⌜ Exchangeable (now space) (now heads) (now links) (now memo) count i ⌝ }
+    ensures { λ r. ⌜ Exchanged (now (space .entry)) count i r (now (space .exit)) (now (heads .exit)) (now (links .exit)) (now (memo .exit)) ⌝ }
+{
+    let known = basics::wide(memo[i]);
+    if known != 0 {
+        return Formed::Row(known - 1, count);
+    }
+    let l = space[i * 3];
+    let t = space[i * 3 + 1];
+    let f = space[i * 3 + 2] as usize;
+    if l == Label::LEAF {
+        let Formed::Row(j, n) = store::leaf(space, heads, links, count, flipped(t)) else {
+            return Formed::Full;
+        };
+        memo[i] = (j + 1) as u16;
+        return Formed::Row(j, n);
+    }
+    let Formed::Row(high, n) = exchange(space, heads, links, memo, count, t as usize) else {
+        return Formed::Full;
+    };
+    let Formed::Row(low, m) = exchange(space, heads, links, memo, n, f) else {
+        return Formed::Full;
+    };
+    let Formed::Row(j, c) = store::form(
+        space,
+        heads,
+        links,
+        m,
+        Row {
+            label: l,
+            high: high as u64,
+            low: low as u64,
+        },
+    ) else {
+        return Formed::Full;
+    };
+    memo[i] = (j + 1) as u16;
+    Formed::Row(j, c)
+}
+
+// Forms 1 - T for the row `test`.
+fn one_minus(
+    space: &mut [u64],
+    heads: &mut [u16],
+    links: &mut [u16],
+    count: usize,
+    test: usize,
+) -> Formed
+    requires { ⌜ Holds (now space) (now heads) (now links) count ⌝ }
+    requires { ⌜ test < count ⌝ }
+    ensures { λ r. ⌜ Formation (exchanged (tree (now (space .entry)) test)) (onto (exchanged (tree (now (space .entry)) test)) (diagramsOf (now (space .entry)) count)) r (now (space .exit)) (now (heads .exit)) (now (links .exit)) ⌝ }
+{
+    let mut memo = [0u16; diagram::SPACE_ROWS];
+    exchange(space, heads, links, &mut memo, count, test)
+}
+
+// The row step, T being the row `test`: 1 - T, left product, right product, then sum.
+pub fn row_step(
+    plan: &mut [u64],
+    index: &mut [u16],
+    space: &mut [u64],
+    heads: &mut [u16],
+    links: &mut [u16],
+    count: usize,
+    test: usize,
+    high: usize,
+    low: usize,
+) -> Stepped
+    requires { ⌜ Ready (now plan) (now index) (now space) (now heads) (now links) count ⌝ }
+    requires { ⌜ Three count test high low ⌝ }
+    ensures { λ r. ⌜ Ran (rowStep (tree (now (space .entry)) test) (tree (now (space .entry)) high) (tree (now (space .entry)) low)) (now (space .entry)) count r (now (space .exit)) (now (heads .exit)) (now (links .exit)) (now (index .exit)) ⌝ }
+{
+    let Formed::Row(other, n) = one_minus(space, heads, links, count, test) else {
+        return Stepped::Refused(Refusal::Space, diagram::SPACE_ROWS);
+    };
+    let a = join(
+        plan,
+        index,
+        test,
+        high,
+        Operation::Product,
+        space,
+        heads,
+        links,
+        n,
+    );
+    let Stepped::Row(left, m) = a else {
+        return a;
+    };
+    let b = join(
+        plan,
+        index,
+        other,
+        low,
+        Operation::Product,
+        space,
+        heads,
+        links,
+        m,
+    );
+    let Stepped::Row(right, k) = b else {
+        return b;
+    };
+    join(
+        plan,
+        index,
+        left,
+        right,
+        Operation::Sum,
+        space,
+        heads,
+        links,
+        k,
+    )
+}
+
+// Forms the one-row test of what is asked, or leaf 1 where it is t = t.
+pub fn form_test(
+    space: &mut [u64],
+    heads: &mut [u16],
+    links: &mut [u16],
+    count: usize,
+    test: Test,
+) -> Formed
+    requires { ⌜ Holds (now space) (now heads) (now links) count ⌝ }
+    requires { ⌜ Testable test ⌝ }
+    ensures { λ r. ⌜ Formation (testDiagram test) (onto (testDiagram test) (diagramsOf (now (space .entry)) count)) r (now (space .exit)) (now (heads .exit)) (now (links .exit)) ⌝ }
+{
+    match test {
+        Test::Always => store::leaf(space, heads, links, count, 1),
+        Test::Is(l) => form_pair(space, heads, links, count, l.packed, 1, 0),
+    }
+}
+
+// The row step, T being the test of what is asked.
+pub fn test_step(
+    plan: &mut [u64],
+    index: &mut [u16],
+    space: &mut [u64],
+    heads: &mut [u16],
+    links: &mut [u16],
+    count: usize,
+    test: Test,
+    high: usize,
+    low: usize,
+) -> Stepped
+    requires { ⌜ Ready (now plan) (now index) (now space) (now heads) (now links) count ⌝ }
+    requires { ⌜ Testable test ⌝ }
+    requires { ⌜ Two count high low ⌝ }
+    ensures { λ r. ⌜ Ran (rowStep (testDiagram test) (tree (now (space .entry)) high) (tree (now (space .entry)) low)) (now (space .entry)) count r (now (space .exit)) (now (heads .exit)) (now (links .exit)) (now (index .exit)) ⌝ }
+{
+    let Formed::Row(t, n) = form_test(space, heads, links, count, test) else {
+        return Stepped::Refused(Refusal::Space, diagram::SPACE_ROWS);
+    };
+    row_step(plan, index, space, heads, links, n, t, high, low)
+}
