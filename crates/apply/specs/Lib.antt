@@ -5,6 +5,7 @@ pub mod Pairs
 pub mod Visit
 pub mod Formed
 pub mod Combination
+pub mod Before
 -- laws
 pub mod Snoc
 pub mod Walk
@@ -18,3 +19,4 @@ pub mod FormedLaws
 pub mod Canon
 pub mod GoodLaws
 pub mod CombinationLaws
+pub mod ZeroLaws

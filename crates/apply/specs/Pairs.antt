@@ -1,15 +1,16 @@
--- The pairs of a combination, and how many they are (document 01, section 'Combination').
+-- The pairs of a combination, and how many they are (document 01, section 'Combination'; document 02, L4).
 use mathlib.Core.Path.{_≡_}
 use mathlib.Core.Bool.{Bool, true, false, _&&_, _||_, cond}
 use mathlib.Core.List.{List, [], _∷_, _++_}
 use Prim.Native.Nat.{ℕ}
 use lib.ListN.{length}
-use lib.Dec.{leb, ltb}
+use lib.Dec.{eqb, leb, ltb}
 use Rattle.basics.specs.Tests.{below, equal, above, cmp}
 use Rattle.basics.specs.Members.{mem, nub, Within}
 use Rattle.diagram.specs.Sizes.{highestValue}
 use Rattle.diagram.specs.Diagram.{Diagram, leaf, branch, same}
 use Rattle.apply.specs.declared.Operation.{Operation}
+use Rattle.apply.specs.declared.Operation.the-variants.{Sum, Product, Max}
 
 abbrev pub Pair : Type 0
 Pair = Diagram × Diagram
@@ -17,16 +18,18 @@ Pair = Diagram × Diagram
 abbrev pub samePair : Pair → Pair → Bool
 samePair p q = same (p .0) (q .0) && same (p .1) (q .1)
 
-abbrev pub isLeaf : Diagram → Bool
-isLeaf (leaf v) = true
-isLeaf (branch l t f) = false
+-- a leaf that gives 0 with every value: leaf 0 in a product
+abbrev pub absorbs : Operation → ℕ → Bool
+absorbs Sum v = false
+absorbs Product v = eqb v 0
+absorbs Max v = false
 
-abbrev pub bothLeaves : Diagram → Diagram → Bool
-bothLeaves a b = isLeaf a && isLeaf b
-
--- where a pair ends: it has no successors
+-- where a pair ends, with no successors: two leaves do, and in a product a leaf 0 on either side does (document 02, L4)
 unfoldable pub ends : Operation → Diagram → Diagram → Bool
-ends op a b = bothLeaves a b
+ends op (leaf v) (leaf w) = true
+ends op (leaf v) (branch k u g) = absorbs op v
+ends op (branch l t f) (leaf w) = absorbs op w
+ends op (branch l t f) (branch k u g) = false
 
 -- an operand a beside the operand b: it descends by w, true or false, if its label is the lower one or equal, and stays if not
 unfoldable pub descend : Bool → Diagram → Diagram → Diagram

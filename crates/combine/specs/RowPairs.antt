@@ -8,8 +8,8 @@ use native.Mathlib.Omega.{arith}
 use lib.ListN.{length}
 use lib.Dec.{eqb, ltb, leb}
 use borrow.Author.Tests.{eqb-true, eqb-false, le-leb, lt-leb}
-use Rattle.basics.specs.Tests.{Flag, isTrue, isFalse, flag, Cmp, below, equal, above, cmp, and-left, and-right}
-use Rattle.basics.specs.Members.{mem}
+use Rattle.basics.specs.Tests.{Flag, isTrue, isFalse, flag, Cmp, below, equal, above, cmp}
+use Rattle.basics.specs.Members.{mem, clash}
 use Rattle.label.specs.Limits.{leafMark}
 use Rattle.diagram.specs.Sizes.{highestValue}
 use Rattle.diagram.specs.Diagram.{Diagram, leaf, branch, same}
@@ -19,9 +19,10 @@ use Rattle.apply.specs.declared.Operation.{Operation}
 use Rattle.apply.specs.Apply.{apply}
 use Rattle.apply.specs.ApplyLaws.{apply-leaves}
 use Rattle.apply.specs.Combination.{operate}
-use Rattle.apply.specs.Pairs.{Pair, samePair, isLeaf, ends, tooHigh}
+use Rattle.apply.specs.Pairs.{Pair, samePair, ends, tooHigh}
 use Rattle.apply.specs.Visit.{visit}
 use Rattle.apply.specs.Walk.{Below, Step, left, right, both}
+use Rattle.apply.specs.Course.{absorb-left, absorb-right, absorbed-left, absorbed-right}
 use Rattle.apply.specs.VisitLaws.{visit-old, visit-stop, visit-step}
 use Rattle.plan.specs.Walk.{isEnd, pairLabel, lesser, onHigh, onLow, descend, finishPairs}
 use Rattle.plan.specs.Walk as rows
@@ -33,14 +34,33 @@ pub record Operand (ws : List ℕ) (m : ℕ) (tree : ℕ → Diagram) : Type 0 w
   pub most : (k : ℕ) → k < m → labelAt ws k ≤ leafMark
   pub values : (k : ℕ) → k < m → labelAt ws k ≡ leafMark → highAt ws k ≤ highestValue
 
--- row k of an operand: a leaf exactly if its label is a leaf's mark; the word behind its label is a value or an earlier row
+-- the word v behind the label of d's row: a leaf's value
+abbrev WordOf : Diagram → ℕ → Type 0
+WordOf (leaf u) v = u ≡ v
+WordOf (branch l t f) v = Unit {0}
+
+-- two such words form what a pair that ends does, and are too high exactly if the pair is: whatever stands beside a leaf that absorbs, the result is 0
+end-words : (op : Operation) (a b : Diagram) (v w : ℕ) → WordOf a v → WordOf b w → ends op a b ≡ true
+    → (leaf (operate op v w) ≡ apply (operate op) a b) × (tooHigh (operate op) a b ≡ ltb highestValue (operate op v w))
+unfolding ends
+end-words op (leaf u) (leaf z) v w p q e =
+    (ap leaf (ap₂ (operate op) (sym p) (sym q)) ∙ sym (apply-leaves (operate op) u z), ap (ltb highestValue) (ap₂ (operate op) p q))
+end-words op (leaf u) (branch k t f) v w p q e =
+    let r : operate op v w ≡ 0 = ap (λ (x : ℕ). operate op x w) (sym p) ∙ absorb-left op u w e in
+    (ap leaf r ∙ sym (absorbed-left op u (branch k t f) e), ap (ltb highestValue) (sym r))
+end-words op (branch l t f) (leaf z) v w p q e =
+    let r : operate op v w ≡ 0 = ap (operate op v) (sym q) ∙ absorb-right op v z e in
+    (ap leaf r ∙ sym (absorbed-right op (branch l t f) z e), ap (ltb highestValue) (sym r))
+end-words op (branch l t f) (branch k u g) v w p q e = clash e refl
+
+-- row k of an operand: the word behind its label is a leaf's value or an earlier row
 module _ (ws : List ℕ) (m : ℕ) (tree : ℕ → Diagram) (o : Operand ws m tree) (k : ℕ) (h : k < m) where
-  leaf-row : isLeaf (tree k) ≡ eqb (labelAt ws k) leafMark
-  leaf-row = go (flag (eqb (labelAt ws k) leafMark))
+  row-word : WordOf (tree k) (highAt ws k)
+  row-word = go (flag (eqb (labelAt ws k) leafMark))
     where
-      go : Flag (eqb (labelAt ws k) leafMark) → isLeaf (tree k) ≡ eqb (labelAt ws k) leafMark
-      go (isTrue e) = rw (o .shown .leaves k h (eqb-true _ _ e), e)
-      go (isFalse e) = rw (o .shown .branches k h (eqb-false _ _ e), e)
+      go : Flag (eqb (labelAt ws k) leafMark) → WordOf (tree k) (highAt ws k)
+      go (isTrue e) = rw (o .shown .leaves k h (eqb-true _ _ e)) refl
+      go (isFalse e) = rw (o .shown .branches k h (eqb-false _ _ e)) tt
 
   pub word-small : k < rows.mostRows → highAt ws k ≤ highestValue
   word-small l = go (flag (eqb (labelAt ws k) leafMark))
@@ -93,7 +113,13 @@ module _ (x y : List ℕ) (m n : ℕ) (tx ty : ℕ → Diagram) (ox : Operand x 
     -- a pair of rows ends exactly if its diagrams do
     end-rows : (p : rows.Pair) → Inside p → isEnd op x y p ≡ ends op (tx (p .0)) (ty (p .1))
     unfolding isEnd ends
-    end-rows p h = rw (leaf-row x m tx ox (p .0) (h .0), leaf-row y n ty oy (p .1) (h .1))
+    end-rows p h = go (flag (eqb (labelAt x (p .0)) leafMark)) (flag (eqb (labelAt y (p .1)) leafMark))
+      where
+        go : Flag (eqb (labelAt x (p .0)) leafMark) → Flag (eqb (labelAt y (p .1)) leafMark) → isEnd op x y p ≡ ends op (tx (p .0)) (ty (p .1))
+        go (isTrue e) (isTrue d) = rw (e, d, ox .shown .leaves (p .0) (h .0) (eqb-true _ _ e), oy .shown .leaves (p .1) (h .1) (eqb-true _ _ d))
+        go (isTrue e) (isFalse d) = rw (e, d, ox .shown .leaves (p .0) (h .0) (eqb-true _ _ e), oy .shown .branches (p .1) (h .1) (eqb-false _ _ d))
+        go (isFalse e) (isTrue d) = rw (e, d, ox .shown .branches (p .0) (h .0) (eqb-false _ _ e), oy .shown .leaves (p .1) (h .1) (eqb-true _ _ d))
+        go (isFalse e) (isFalse d) = rw (e, d, ox .shown .branches (p .0) (h .0) (eqb-false _ _ e), oy .shown .branches (p .1) (h .1) (eqb-false _ _ d))
 
     -- how the walk goes on from a pair of rows, as one of diagrams
     pub record Onward (p : rows.Pair) : Type 0 where
@@ -166,11 +192,9 @@ module _ (x y : List ℕ) (m n : ℕ) (tx ty : ℕ → Diagram) (ox : Operand x 
     pub end-forms : (p : rows.Pair) → Inside p → isEnd op x y p ≡ true
         → (leaf (operate op (highAt x (p .0)) (highAt y (p .1))) ≡ apply (operate op) (tx (p .0)) (ty (p .1)))
         × (tooHigh (operate op) (tx (p .0)) (ty (p .1)) ≡ ltb highestValue (operate op (highAt x (p .0)) (highAt y (p .1))))
-    unfolding isEnd
     end-forms p h e =
-        let u = ox .shown .leaves (p .0) (h .0) (eqb-true _ _ (and-left _ _ e)) in
-        let v = oy .shown .leaves (p .1) (h .1) (eqb-true _ _ (and-right (eqb (labelAt x (p .0)) leafMark) _ e)) in
-        (sym (apply-leaves (operate op) _ _) ∙ ap₂ (apply (operate op)) (sym u) (sym v), rw (u, v))
+        end-words op (tx (p .0)) (ty (p .1)) (highAt x (p .0)) (highAt y (p .1)) (row-word x m tx ox (p .0) (h .0)) (row-word y n ty oy (p .1) (h .1))
+        (sym (end-rows p h) ∙ e)
 
     -- the walk over rows finishes the pairs of diagrams in the order of the walk over diagrams
     abbrev Agrees : ℕ → Type 0

@@ -15,6 +15,8 @@ use Rattle.table.specs.Chains.{prev}
 use Rattle.table.specs.ChainLaws.{test, prev-same, prev-other, prev-le, prev-gap, prev-hits, prev-none}
 use Rattle.diagram.specs.Words.{labelAt, highAt, lowAt}
 use Rattle.apply.specs.declared.Operation.{Operation}
+use Rattle.apply.specs.declared.Operation.the-variants.{Product}
+use Rattle.apply.specs.Pairs.{absorbs}
 use Rattle.plan.specs.Walk.{isEnd, lesser, pairLabel, onHigh, onLow}
 use Rattle.plan.specs.WalkLaws.{lesser-le, lesser-gt, end-label, lower-label, descend-first, descend-second, descend-both}
 use Rattle.plan.specs.Plan.{buckets, keyCount, hashOf, keyAt, linkAt, hashAt, putEntry, Index, Clean, Touched, packBase, wentOf, Entered}
@@ -168,15 +170,27 @@ lower-le {a} {b} h = sym (lesser-le a b h)
 pub lower-gt : {a b : ℕ} → b < a → b ≡ lesser a b
 lower-gt {a} {b} h = sym (lesser-gt a b h)
 
+-- the way out of `absorbs` in a product
+pub absorbs-product : (op : Operation) (v : ℕ) → op ≡ Product → eqb v 0 ≡ absorbs op v
+absorbs-product op v e = rw e
+
 -- the ways out of `ends` and `pair_label`
 module _ (op : Operation) (x y : List ℕ) (i j : ℕ) where
-  pub ends-not : (getD x (i * 3) 0 ≡ leafMark → ⊥) → false ≡ isEnd op x y (i, j)
+  pub ends-leaves : getD x (i * 3) 0 ≡ leafMark → getD y (j * 3) 0 ≡ leafMark → true ≡ isEnd op x y (i, j)
   unfolding isEnd labelAt
-  ends-not f = rw (ne-eqb (getD x (i * 3) 0) leafMark f)
+  ends-leaves e d = rw (eq-eqb (getD x (i * 3) 0) leafMark e, eq-eqb (getD y (j * 3) 0) leafMark d)
 
-  pub ends-second : getD x (i * 3) 0 ≡ leafMark → eqb (getD y (j * 3) 0) leafMark ≡ isEnd op x y (i, j)
+  pub ends-first : {b : Bool} → getD x (i * 3) 0 ≡ leafMark → (getD y (j * 3) 0 ≡ leafMark → ⊥) → b ≡ absorbs op (getD x (i * 3 + 1) 0) → b ≡ isEnd op x y (i, j)
+  unfolding isEnd labelAt highAt
+  ends-first e f b = rw (eq-eqb (getD x (i * 3) 0) leafMark e, ne-eqb (getD y (j * 3) 0) leafMark f) b
+
+  pub ends-second : {b : Bool} → (getD x (i * 3) 0 ≡ leafMark → ⊥) → getD y (j * 3) 0 ≡ leafMark → b ≡ absorbs op (getD y (j * 3 + 1) 0) → b ≡ isEnd op x y (i, j)
+  unfolding isEnd labelAt highAt
+  ends-second f d b = rw (ne-eqb (getD x (i * 3) 0) leafMark f, eq-eqb (getD y (j * 3) 0) leafMark d) b
+
+  pub ends-not : (getD x (i * 3) 0 ≡ leafMark → ⊥) → (getD y (j * 3) 0 ≡ leafMark → ⊥) → false ≡ isEnd op x y (i, j)
   unfolding isEnd labelAt
-  ends-second e = rw (eq-eqb (getD x (i * 3) 0) leafMark e)
+  ends-not f g = rw (ne-eqb (getD x (i * 3) 0) leafMark f, ne-eqb (getD y (j * 3) 0) leafMark g)
 
   pub label-end : {b : Bool} → b ≡ isEnd op x y (i, j) → b ≡ true → leafMark ≡ pairLabel op x y (i, j)
   label-end e t = sym (end-label op x y (i, j) (sym e ∙ t))

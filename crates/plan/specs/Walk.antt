@@ -9,6 +9,7 @@ use Rattle.basics.specs.Members.{mem}
 use Rattle.label.specs.Limits.{leafMark}
 use Rattle.diagram.specs.Words.{labelAt, highAt, lowAt}
 use Rattle.apply.specs.declared.Operation.{Operation}
+use Rattle.apply.specs.Pairs.{absorbs}
 
 -- a row of the first operand and a row of the second
 abbrev pub Pair : Type 0
@@ -19,7 +20,9 @@ samePair p q = eqb (p .0) (q .0) && eqb (p .1) (q .1)
 
 -- where a pair ends: `ends` of apply, read off the rows
 unfoldable pub isEnd : Operation → List ℕ → List ℕ → Pair → Bool
-isEnd op x y p = eqb (labelAt x (p .0)) leafMark && eqb (labelAt y (p .1)) leafMark
+isEnd op x y p =
+    cond (eqb (labelAt x (p .0)) leafMark) (cond (eqb (labelAt y (p .1)) leafMark) true (absorbs op (highAt x (p .0))))
+    (cond (eqb (labelAt y (p .1)) leafMark) (absorbs op (highAt y (p .1))) false)
 
 unfoldable pub lesser : ℕ → ℕ → ℕ
 lesser a b = cond (leb a b) a b

@@ -7,6 +7,7 @@ ghost use Prim.Native.Nat.{_+_, _*_, _<_, _≤_};
 ghost use lib.ListN.{length};
 ghost use Rattle.basics.specs.Members.{mem};
 ghost use Rattle.table.specs.Chains.{prev};
+ghost use Rattle.apply.specs.Pairs.{absorbs};
 ghost use Rattle.plan.specs.Walk.{samePair, isEnd, lesser, pairLabel, onHigh, onLow, walked, mostRows, Leading};
 ghost use Rattle.plan.specs.Plan.{buckets, keyCount, keyOf, hashOf, keyAt, Index, Plan, Clean, Touched, Ready, Planned, packBase, wentOf, pairsAt, Visited, Entered};
 ghost use Rattle.plan.specs.declared.Went.the-variants.{To};
@@ -80,15 +81,34 @@ fn find(plan: &[u64], heads: &[u16], limit: usize, count: usize, k: u64) -> usiz
     0
 }
 
+// Whether a leaf of this value ends a pair beside whatever stands there.
+fn absorbs(op: Operation, value: u64) -> bool
+    ensures { λ r. ⌜ r ≡ absorbs op value ⌝ }
+{
+    match op {
+        Operation::Sum => false,
+        Operation::Product => value == 0,
+        Operation::Max => false,
+    }
+}
+
 // Whether a pair ends.
 fn ends(x: &[u64], y: &[u64], i: usize, j: usize, op: Operation) -> bool
     requires { ⌜ (i * 3 + 3 ≤ length (now x)) × (j * 3 + 3 ≤ length (now y)) ⌝ }
     ensures { λ r. ⌜ r ≡ isEnd op (now (x .entry)) (now (y .entry)) (i, j) ⌝ }
 {
-    if x[i * 3] != LEAF {
-        return false;
+    let a = x[i * 3];
+    let b = y[j * 3];
+    if a == LEAF {
+        if b == LEAF {
+            return true;
+        }
+        return absorbs(op, x[i * 3 + 1]);
     }
-    y[j * 3] == LEAF
+    if b == LEAF {
+        return absorbs(op, y[j * 3 + 1]);
+    }
+    false
 }
 
 // A leaf's mark where a pair ends, or the label by which it goes down.
