@@ -29,7 +29,7 @@ use Rattle.apply.specs.declared.Combined.{Combined}
 use Rattle.apply.specs.declared.Combined.the-variants.{Done, Refused}
 use Rattle.apply.specs.Apply.{apply}
 use Rattle.apply.specs.Pairs.{pairs, pairCount, overflows}
-use Rattle.apply.specs.Combination.{operate, combination, cond, diagramAnswer, written, rowsFormed}
+use Rattle.apply.specs.Combination.{operate, combination, diagramAnswer, written, rowsFormed}
 use Rattle.apply.specs.CombinationLaws.{rows-shared}
 use Rattle.apply.specs.RowLaws.{rows-onto}
 use Rattle.plan.specs.Walk.{Leads, Leading}
