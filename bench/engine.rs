@@ -143,6 +143,7 @@ struct Walk<'a> {
     y: &'a [u64],
     plan: &'a mut [u64],
     heads: &'a mut [u16],
+    op: Operation,
     limit: usize,
     count: usize,
 }
@@ -175,8 +176,8 @@ impl Walk<'_> {
         let (xt, xf) = (at(x, i * 3 + 1), at(x, i * 3 + 2));
         let (yt, yf) = (at(y, j * 3 + 1), at(y, j * 3 + 2));
         let l = if a <= b { a } else { b };
-        if l == LEAF {
-            return self.add(i, j, l, xt, yt);
+        if l == LEAF || self.op == Operation::Product && (a == LEAF && xt == 0 || b == LEAF && yt == 0) {
+            return self.add(i, j, LEAF, xt, yt);
         }
         let (ti, tj, fi, fj) = if a < b {
             (xt as usize, j, xf as usize, j)
@@ -312,7 +313,7 @@ fn form_plan(op: Operation, plan: &mut [u64], heads: &mut [u16], walked: usize, 
 
 #[inline(always)]
 fn join_listings(op: Operation, x: &[u64], y: &[u64], plan: &mut [u64], heads: &mut [u16], limit: usize, space: &mut Space) -> Joined {
-    let mut walk = Walk { x, y, plan, heads, limit, count: 0 };
+    let mut walk = Walk { x, y, plan, heads, op, limit, count: 0 };
     let walked = walk.below(x.len() / 3 - 1, y.len() / 3 - 1);
     let n = walk.count;
     form_plan(op, plan, heads, walked, n, space)
@@ -321,7 +322,7 @@ fn join_listings(op: Operation, x: &[u64], y: &[u64], plan: &mut [u64], heads: &
 #[inline(always)]
 fn join_rows(op: Operation, i: usize, j: usize, plan: &mut [u64], heads: &mut [u16], limit: usize, space: &mut Space) -> Joined {
     let rows: &[u64] = space.rows;
-    let mut walk = Walk { x: rows, y: rows, plan, heads, limit, count: 0 };
+    let mut walk = Walk { x: rows, y: rows, plan, heads, op, limit, count: 0 };
     let walked = walk.below(i, j);
     let n = walk.count;
     form_plan(op, plan, heads, walked, n, space)

@@ -73,6 +73,7 @@ uint64_t yindolve_check(const uint64_t *arities, size_t arities_count, const uin
 /* Sum, product and max of two listings, the result to `result`, its rows to *rows and the pairs that the walk reached to *pairs.
  * Apart: the first operand is closed up (its variables renamed to 32, 33, .. in their order), the second's variables follow after, and the result is closed up.
  * Shared: names stay.
+ * Pairs: the roots', and below each pair its two successors, but none below two leaves and, in a product, none below a leaf 0 on either side.
  * Refused, in this order: LISTING for the first operand, then for the second; BUFFER; VARIABLES (apart only: those of both together); PAIRS; TOO_HIGH; SPACE.
  */
 uint64_t yindolve_sum_apart(const uint64_t *arities, size_t arities_count, const uint64_t *first, size_t first_count, const uint64_t *second,

@@ -30,7 +30,7 @@ use Rattle.apply.specs.Pairs.{pairs, pairCount, overflows}
 use Rattle.apply.specs.Combination.{operate}
 use Rattle.plan.specs.Walk.{Leads}
 use Rattle.plan.specs.Plan.{buckets}
-use Rattle.plan.specs.PlanLaws.{plan-empty}
+use Rattle.plan.specs.PlanLaws.{index-empty}
 use Rattle.store.specs.Space.{diagramsOf, Holds}
 use Rattle.store.proofs.SpaceLaws.{length-diagrams, diagram-at, written-trees}
 use Rattle.combine.specs.declared.Joined.{Joined}
@@ -42,29 +42,29 @@ use Rattle.apart.specs.Results.{Regular, Writable, resultAnswer, ResultW
 
 -- the answers of `join_rows`, taken apart
 record Told (op : Operation) (limit : ℕ) (a b : Diagram) (rs : List Diagram) (k n p : ℕ) : Type 0 where
-  few : pairCount a b ≤ limit
-  calm : overflows (operate op) (pairs a b) ≡ false
+  few : pairCount op a b ≤ limit
+  calm : overflows (operate op) (pairs op a b) ≡ false
   room : length (rowsAfter op a b rs) ≤ spaceRows
   row : k ≡ index (apply (operate op) a b) (rowsAfter op a b rs)
   count : n ≡ length (rowsAfter op a b rs)
-  reached : p ≡ pairCount a b
+  reached : p ≡ pairCount op a b
 
 module _ (op : Operation) (limit : ℕ) (a b : Diagram) (rs : List Diagram) where
   abbrev Many : Type 0
-  Many = Flag (ltb limit (pairCount a b))
+  Many = Flag (ltb limit (pairCount op a b))
 
   abbrev High : Type 0
-  High = Flag (overflows (operate op) (pairs a b))
+  High = Flag (overflows (operate op) (pairs op a b))
 
   abbrev Wide : Type 0
   Wide = Flag (ltb spaceRows (length (rowsAfter op a b rs)))
 
   abbrev Result : Joined
-  Result = At (index (apply (operate op) a b) (rowsAfter op a b rs)) (length (rowsAfter op a b rs)) (pairCount a b)
+  Result = At (index (apply (operate op) a b) (rowsAfter op a b rs)) (length (rowsAfter op a b rs)) (pairCount op a b)
 
   at-told : {k n p : ℕ} → At k n p ≡ joinAnswer op limit a b rs → Told op limit a b rs k n p
   unfolding joinAnswer
-  at-told {k} {n} {p} e = go (flag (ltb limit (pairCount a b))) (flag (overflows (operate op) (pairs a b))) (flag (ltb spaceRows (length (rowsAfter op a b rs))))
+  at-told {k} {n} {p} e = go (flag (ltb limit (pairCount op a b))) (flag (overflows (operate op) (pairs op a b))) (flag (ltb spaceRows (length (rowsAfter op a b rs))))
     where
       go : Many → High → Wide → Told op limit a b rs k n p
       go (isTrue x) y z = let w : At k n p ≡ TooManyPairs = rw x at e in absurd (let o : _≡_ {A = ℕ} 0 1 = cc in omega arith)
@@ -74,31 +74,31 @@ module _ (op : Operation) (limit : ℕ) (a b : Diagram) (rs : List Diagram) wher
           let w : At k n p ≡ Result = rw (x, y, z) at e in
           record { few = ltb-false _ _ x; calm = y; room = ltb-false _ _ z; row = cc; count = cc; reached = cc }
 
-  many-told : TooManyPairs ≡ joinAnswer op limit a b rs → limit < pairCount a b
+  many-told : TooManyPairs ≡ joinAnswer op limit a b rs → limit < pairCount op a b
   unfolding joinAnswer
-  many-told e = go (flag (ltb limit (pairCount a b))) (flag (overflows (operate op) (pairs a b))) (flag (ltb spaceRows (length (rowsAfter op a b rs))))
+  many-told e = go (flag (ltb limit (pairCount op a b))) (flag (overflows (operate op) (pairs op a b))) (flag (ltb spaceRows (length (rowsAfter op a b rs))))
     where
-      go : Many → High → Wide → limit < pairCount a b
+      go : Many → High → Wide → limit < pairCount op a b
       go (isTrue x) y z = ltb-true _ _ x
       go (isFalse x) (isTrue y) z = let w : TooManyPairs ≡ TooHighValue = rw (x, y) at e in absurd (let o : _≡_ {A = ℕ} 0 1 = cc in omega arith)
       go (isFalse x) (isFalse y) (isTrue z) = let w : TooManyPairs ≡ NoRoom = rw (x, y, z) at e in absurd (let o : _≡_ {A = ℕ} 0 1 = cc in omega arith)
       go (isFalse x) (isFalse y) (isFalse z) = let w : TooManyPairs ≡ Result = rw (x, y, z) at e in absurd (let o : _≡_ {A = ℕ} 0 1 = cc in omega arith)
 
-  high-told : TooHighValue ≡ joinAnswer op limit a b rs → (pairCount a b ≤ limit) × (overflows (operate op) (pairs a b) ≡ true)
+  high-told : TooHighValue ≡ joinAnswer op limit a b rs → (pairCount op a b ≤ limit) × (overflows (operate op) (pairs op a b) ≡ true)
   unfolding joinAnswer
-  high-told e = go (flag (ltb limit (pairCount a b))) (flag (overflows (operate op) (pairs a b))) (flag (ltb spaceRows (length (rowsAfter op a b rs))))
+  high-told e = go (flag (ltb limit (pairCount op a b))) (flag (overflows (operate op) (pairs op a b))) (flag (ltb spaceRows (length (rowsAfter op a b rs))))
     where
-      go : Many → High → Wide → (pairCount a b ≤ limit) × (overflows (operate op) (pairs a b) ≡ true)
+      go : Many → High → Wide → (pairCount op a b ≤ limit) × (overflows (operate op) (pairs op a b) ≡ true)
       go (isTrue x) y z = let w : TooHighValue ≡ TooManyPairs = rw x at e in absurd (let o : _≡_ {A = ℕ} 0 1 = cc in omega arith)
       go (isFalse x) (isTrue y) z = (ltb-false _ _ x, y)
       go (isFalse x) (isFalse y) (isTrue z) = let w : TooHighValue ≡ NoRoom = rw (x, y, z) at e in absurd (let o : _≡_ {A = ℕ} 0 1 = cc in omega arith)
       go (isFalse x) (isFalse y) (isFalse z) = let w : TooHighValue ≡ Result = rw (x, y, z) at e in absurd (let o : _≡_ {A = ℕ} 0 1 = cc in omega arith)
 
-  wide-told : NoRoom ≡ joinAnswer op limit a b rs → (pairCount a b ≤ limit) × (overflows (operate op) (pairs a b) ≡ false) × (spaceRows < length (rowsAfter op a b rs))
+  wide-told : NoRoom ≡ joinAnswer op limit a b rs → (pairCount op a b ≤ limit) × (overflows (operate op) (pairs op a b) ≡ false) × (spaceRows < length (rowsAfter op a b rs))
   unfolding joinAnswer
-  wide-told e = go (flag (ltb limit (pairCount a b))) (flag (overflows (operate op) (pairs a b))) (flag (ltb spaceRows (length (rowsAfter op a b rs))))
+  wide-told e = go (flag (ltb limit (pairCount op a b))) (flag (overflows (operate op) (pairs op a b))) (flag (ltb spaceRows (length (rowsAfter op a b rs))))
     where
-      go : Many → High → Wide → (pairCount a b ≤ limit) × (overflows (operate op) (pairs a b) ≡ false) × (spaceRows < length (rowsAfter op a b rs))
+      go : Many → High → Wide → (pairCount op a b ≤ limit) × (overflows (operate op) (pairs op a b) ≡ false) × (spaceRows < length (rowsAfter op a b rs))
       go (isTrue x) y z = let w : NoRoom ≡ TooManyPairs = rw x at e in absurd (let o : _≡_ {A = ℕ} 0 1 = cc in omega arith)
       go (isFalse x) (isTrue y) z = let w : NoRoom ≡ TooHighValue = rw (x, y) at e in absurd (let o : _≡_ {A = ℕ} 0 1 = cc in omega arith)
       go (isFalse x) (isFalse y) (isTrue z) = (ltb-false _ _ x, y, ltb-true _ _ z)
@@ -106,22 +106,22 @@ module _ (op : Operation) (limit : ℕ) (a b : Diagram) (rs : List Diagram) wher
 
 -- the laws of `joinedAnswer`
 module _ (op : Operation) (ar : List ℕ) (a b : Diagram) (rs : List Diagram) where
-  answer-pairs : mostPairs < pairCount a b → Refused Pairs ≡ joinedAnswer op ar a b rs
+  answer-pairs : mostPairs < pairCount op a b → Refused Pairs ≡ joinedAnswer op ar a b rs
   unfolding joinedAnswer
-  answer-pairs h = rw (lt-ltb mostPairs (pairCount a b) h)
+  answer-pairs h = rw (lt-ltb mostPairs (pairCount op a b) h)
 
-  answer-value : pairCount a b ≤ mostPairs → overflows (operate op) (pairs a b) ≡ true → Refused Value ≡ joinedAnswer op ar a b rs
+  answer-value : pairCount op a b ≤ mostPairs → overflows (operate op) (pairs op a b) ≡ true → Refused Value ≡ joinedAnswer op ar a b rs
   unfolding joinedAnswer
-  answer-value h e = rw (le-ltb mostPairs (pairCount a b) h, e)
+  answer-value h e = rw (le-ltb mostPairs (pairCount op a b) h, e)
 
-  answer-space : pairCount a b ≤ mostPairs → overflows (operate op) (pairs a b) ≡ false → spaceRows < length (rowsAfter op a b rs) → Refused Space ≡ joinedAnswer op ar a b rs
+  answer-space : pairCount op a b ≤ mostPairs → overflows (operate op) (pairs op a b) ≡ false → spaceRows < length (rowsAfter op a b rs) → Refused Space ≡ joinedAnswer op ar a b rs
   unfolding joinedAnswer
-  answer-space h e l = rw (le-ltb mostPairs (pairCount a b) h, e, lt-ltb spaceRows (length (rowsAfter op a b rs)) l)
+  answer-space h e l = rw (le-ltb mostPairs (pairCount op a b) h, e, lt-ltb spaceRows (length (rowsAfter op a b rs)) l)
 
-  answer-result : pairCount a b ≤ mostPairs → overflows (operate op) (pairs a b) ≡ false → length (rowsAfter op a b rs) ≤ spaceRows
-      → resultAnswer ar (apply (operate op) a b) (pairCount a b) ≡ joinedAnswer op ar a b rs
+  answer-result : pairCount op a b ≤ mostPairs → overflows (operate op) (pairs op a b) ≡ false → length (rowsAfter op a b rs) ≤ spaceRows
+      → resultAnswer ar (apply (operate op) a b) (pairCount op a b) ≡ joinedAnswer op ar a b rs
   unfolding joinedAnswer
-  answer-result h e l = rw (le-ltb mostPairs (pairCount a b) h, e, le-ltb spaceRows (length (rowsAfter op a b rs)) l)
+  answer-result h e l = rw (le-ltb mostPairs (pairCount op a b) h, e, le-ltb spaceRows (length (rowsAfter op a b rs)) l)
 
 module _ {ar s heads links : List ℕ} {count i j : ℕ} {out : List ℕ} (g : Joinable ar s heads links count i j out) where
   trees : Shown s count (tree s)
@@ -168,7 +168,7 @@ module _ {ar s heads links : List ℕ} {count i j : ℕ} {out : List ℕ} (g : J
     second = operand (suc j) (omega (arith, g .second));
     leading = record { first = leads i (g .first); second = leads j (g .second) };
     empty =
-        plan-empty s s (replicate n₁ 0) (replicate n₂ 0) limit (rw length-replicate h) (omega arith)
+        index-empty (replicate n₁ 0) (replicate n₂ 0) limit (rw length-replicate h) (omega arith)
         (record { slots = rw length-replicate k; zeros = λ b l. getD-replicate n₂ b 0 0 (omega arith) });
   }
 
@@ -250,7 +250,7 @@ module _ {ar s heads links : List ℕ} {count i j : ℕ} {out : List ℕ} (g : J
         arities = g .arities;
         ordered = ordered-apply (operate op) A B (g .first-ordered) (g .second-ordered);
         reduced = reduced-apply (operate op) A B;
-        fine = fine-apply (operate op) ar A B (g .fine i (g .first)) (g .fine j (g .second)) (told .calm);
+        fine = fine-apply op ar A B (g .fine i (g .first)) (g .fine j (g .second)) (told .calm);
       }
 
       pub join-writable : Writable ar s′ n k out

@@ -1,6 +1,6 @@
 -- The result of a call apart, from two rows of the working space to the closed listing in the result buffer (document 01, section 'Combination').
 use mathlib.Core.Path.{_≡_}
-use mathlib.Core.Bool.{true}
+use mathlib.Core.Bool.{true, cond}
 use mathlib.Core.List.{List}
 use Prim.Native.Nat.{ℕ, _*_, _≤_, _<_}
 use lib.ListN.{length, take}
@@ -19,7 +19,7 @@ use Rattle.apply.specs.declared.Combined.{Combined}
 use Rattle.apply.specs.declared.Combined.the-variants.{Done, Refused}
 use Rattle.apply.specs.Apply.{apply}
 use Rattle.apply.specs.Pairs.{pairs, pairCount, overflows}
-use Rattle.apply.specs.Combination.{operate, pickCombined, written}
+use Rattle.apply.specs.Combination.{operate, written}
 use Rattle.store.specs.Space.{diagramsOf, Holds}
 
 -- what `close_up` requires: the first m rows of the buffer are a listing
@@ -45,7 +45,7 @@ pub record Writable (ar s : List ℕ) (count root : ℕ) (out : List ℕ) : Type
 
 -- what it answers: the rows of the closed result and the pairs, or that the rows are above 1,024 (refusal 9)
 unfoldable pub resultAnswer : List ℕ → Diagram → ℕ → Combined
-resultAnswer ar d p = pickCombined (ltb mostRows (length (rows (closed ar d)))) (Refused Space) (Done (length (rows (closed ar d))) p)
+resultAnswer ar d p = cond (ltb mostRows (length (rows (closed ar d)))) (Refused Space) (Done (length (rows (closed ar d))) p)
 
 pub record ResultWritten (ar : List ℕ) (d : Diagram) (p : ℕ) (out : List ℕ) (r : Combined) (out′ : List ℕ) : Type 0 where
   pub answer : r ≡ resultAnswer ar d p
@@ -65,10 +65,10 @@ pub record Joinable (ar s heads links : List ℕ) (count i j : ℕ) (out : List 
 -- what it answers, where the rows rs were in the space: pairs (10), value (11), space (9), then the result
 unfoldable pub joinedAnswer : Operation → List ℕ → Diagram → Diagram → List Diagram → Combined
 joinedAnswer op ar a b rs =
-    pickCombined (ltb mostPairs (pairCount a b)) (Refused Pairs)
-    (pickCombined (overflows (operate op) (pairs a b)) (Refused Value)
-    (pickCombined (ltb spaceRows (length (onto (apply (operate op) a b) rs))) (Refused Space)
-    (resultAnswer ar (apply (operate op) a b) (pairCount a b))))
+    cond (ltb mostPairs (pairCount op a b)) (Refused Pairs)
+    (cond (overflows (operate op) (pairs op a b)) (Refused Value)
+    (cond (ltb spaceRows (length (onto (apply (operate op) a b) rs))) (Refused Space)
+    (resultAnswer ar (apply (operate op) a b) (pairCount op a b))))
 
 pub record JoinedUp (op : Operation) (ar : List ℕ) (a b : Diagram) (rs : List Diagram) (out : List ℕ) (r : Combined) (out′ : List ℕ) : Type 0 where
   pub answer : r ≡ joinedAnswer op ar a b rs

@@ -122,7 +122,7 @@ fn join_many(
 }
 
 // The same, with room for few pairs first, which suffices for most calls: clearing room for all costs more than their walk. Each row of an operand is met in a
-// pair, so that rows enough for two listings of few rows mean more pairs.
+// pair, but under a zero of a product, so that rows enough for two listings of few rows mostly mean more pairs.
 fn join(
     op: Operation,
     arities: &[u64],

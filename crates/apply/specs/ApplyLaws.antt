@@ -7,7 +7,7 @@ use Rattle.basics.specs.Tests.{Cmp, below, equal, above, cmp, cond-const, Flag,
 use Rattle.diagram.specs.Diagram.{Diagram, leaf, branch, same, eval, From, Ordered, Reduced}
 use Rattle.diagram.specs.DiagramLaws.{same-eq, same-ne, from-weaken}
 use Rattle.apply.specs.Apply.{node, apply}
-use Rattle.apply.specs.Walk.{Below, Step, left, right, both, Walk, ends, on, walk, from-below}
+use Rattle.apply.specs.Walk.{Below, Step, left, right, both, Walk, leaves, on, walk, from-below}
 
 -- the laws of `node`: nothing else unfolds it
 pub node-same : (l : ℕ) (t f : Diagram) → same t f ≡ true → node l t f ≡ t
@@ -87,7 +87,7 @@ eval-step op c (both {l = l} {t = t} {f = f} {u = u} {g = g} e) = rw (← e) (co
 
 eval-walk : (op : ℕ → ℕ → ℕ) (c : ℕ → Bool) {a b : Diagram} → Walk a b → eval c (apply op a b) ≡ op (eval c a) (eval c b)
 unfolding eval
-eval-walk op c (ends v w) = rw (apply-leaves op v w)
+eval-walk op c (leaves v w) = rw (apply-leaves op v w)
 eval-walk op c (on s x y) = rw (apply-step op s, eval-node, eval-walk op c x, eval-walk op c y) (eval-step op c s)
 
 -- each choice leads to what the operation makes of the operands' leaves
@@ -125,7 +125,7 @@ from-step n (right {k = k} {a = a} h) o p =
 from-step n (both e) o p = record { reach = o .0; on-t = o .1; on-u = rw e (p .1); on-f = o .2; on-g = rw e (p .2) }
 
 from-walk : (op : ℕ → ℕ → ℕ) (n : ℕ) {a b : Diagram} → Walk a b → From n a → From n b → From n (apply op a b)
-from-walk op n (ends v w) o p = rw (apply-leaves op v w) tt
+from-walk op n (leaves v w) o p = rw (apply-leaves op v w) tt
 from-walk op n (on {l = l} {t = t} {u = u} {f = f} {g = g} s x y) o p =
     let q = from-step n s o p in
     rw (apply-step op s) (from-node n l (apply op t u) (apply op f g) (q .reach) (from-walk op (suc l) x (q .on-t) (q .on-u)) (from-walk op (suc l) y (q .on-f) (q .on-g)))
@@ -137,7 +137,7 @@ pub ordered-apply : (op : ℕ → ℕ → ℕ) (a b : Diagram) → Ordered a →
 ordered-apply op a b o p = from-apply op 0 a b o p
 
 reduced-walk : (op : ℕ → ℕ → ℕ) {a b : Diagram} → Walk a b → Reduced (apply op a b)
-reduced-walk op (ends v w) = rw (apply-leaves op v w) tt
+reduced-walk op (leaves v w) = rw (apply-leaves op v w) tt
 reduced-walk op (on {l = l} {t = t} {u = u} {f = f} {g = g} s x y) =
     rw (apply-step op s) (reduced-node l (apply op t u) (apply op f g) (reduced-walk op x) (reduced-walk op y))
 

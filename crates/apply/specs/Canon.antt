@@ -8,7 +8,7 @@ use borrow.Author.Tests.{eq-eqb, ne-eqb}
 use Rattle.diagram.specs.Diagram.{Diagram, leaf, branch, eval, From, Ordered, Reduced}
 use Rattle.diagram.specs.DiagramLaws.{from-weaken}
 use Rattle.apply.specs.Apply.{apply}
-use Rattle.apply.specs.Walk.{left, right, both, Walk, ends, on, walk, from-below}
+use Rattle.apply.specs.Walk.{left, right, both, Walk, leaves, on, walk, from-below}
 use Rattle.apply.specs.ApplyLaws.{eval-apply, ordered-apply, reduced-apply}
 
 -- the choice c with b at l
@@ -61,7 +61,7 @@ loosen n d o = from-weaken 0 n d (omega arith) o
 
 canon-walk : {a b : Diagram} → Walk a b → Ordered a → Reduced a → Ordered b → Reduced b → Alike a b → a ≡ b
 unfolding eval
-canon-walk (ends v w) o r p s k = ap leaf (k (λ n. true))
+canon-walk (leaves v w) o r p s k = ap leaf (k (λ n. true))
 canon-walk (on (left {l = l} {t = t} {f = f} {b = b} h) x y) o r p s k =
     let q = from-below 0 l b p h in
     let e = canon-walk x (loosen _ t (o .1)) (r .1) p s (alike-true l t f b (o .1) q k) in

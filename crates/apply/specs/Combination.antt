@@ -1,5 +1,5 @@
 -- What a combination answers and writes (document 01, sections 'Combination' and 'Refusals by trade word').
-use mathlib.Core.Bool.{Bool, true, false, not, _||_}
+use mathlib.Core.Bool.{Bool, false, cond, not, _||_}
 use mathlib.Core.List.{List, [], _++_}
 use Prim.Native.Nat.{ℕ, _+_, _*_, max}
 use lib.ListN.{length, drop}
@@ -59,28 +59,24 @@ operandRows Shared ar a b = []
 -- every pair forms its reduced diagram; equal rows are counted once, none given up; closing up and writing a result form none
 unfoldable pub rowsFormed : Operation → Names → List ℕ → Diagram → Diagram → ℕ
 rowsFormed op names ar a b =
-    length (formed (operate op) (operandRows names ar a b) (pairs (leftOperand names ar a b) (rightOperand names ar a b)))
-
-abbrev pub pickCombined : Bool → Combined → Combined → Combined
-pickCombined true x y = x
-pickCombined false x y = y
+    length (formed (operate op) (operandRows names ar a b) (pairs op (leftOperand names ar a b) (rightOperand names ar a b)))
 
 -- the operation's own checks, in order: variables (8), pairs (10), value (11), space (9)
 unfoldable pub diagramAnswer : Operation → Names → List ℕ → Diagram → Diagram → Combined
 diagramAnswer op names ar a b =
-    pickCombined (tooMany names ar a b) (Refused Variables)
-    (pickCombined (ltb mostPairs (pairCount (leftOperand names ar a b) (rightOperand names ar a b))) (Refused Pairs)
-    (pickCombined (overflows (operate op) (pairs (leftOperand names ar a b) (rightOperand names ar a b))) (Refused Value)
-    (pickCombined (ltb spaceRows (rowsFormed op names ar a b)) (Refused Space)
-    (pickCombined (ltb mostRows (length (rows (combination op names ar a b)))) (Refused Space)
-    (Done (length (rows (combination op names ar a b))) (pairCount (leftOperand names ar a b) (rightOperand names ar a b)))))))
+    cond (tooMany names ar a b) (Refused Variables)
+    (cond (ltb mostPairs (pairCount op (leftOperand names ar a b) (rightOperand names ar a b))) (Refused Pairs)
+    (cond (overflows (operate op) (pairs op (leftOperand names ar a b) (rightOperand names ar a b))) (Refused Value)
+    (cond (ltb spaceRows (rowsFormed op names ar a b)) (Refused Space)
+    (cond (ltb mostRows (length (rows (combination op names ar a b)))) (Refused Space)
+    (Done (length (rows (combination op names ar a b))) (pairCount op (leftOperand names ar a b) (rightOperand names ar a b)))))))
 
 -- a library call checks 14 by operand, then 18, then the operation's own
 unfoldable pub combineAnswer : Operation → Names → List ℕ → List ℕ → List ℕ → ℕ → ℕ → Combined
 combineAnswer op names ar x y outLength workLength =
-    pickCombined (not (isListing ar x)) (Refused Listing)
-    (pickCombined (not (isListing ar y)) (Refused Listing)
-    (pickCombined (ltb outLength resultWords || ltb workLength spaceWords) (Refused Buffer)
+    cond (not (isListing ar x)) (Refused Listing)
+    (cond (not (isListing ar y)) (Refused Listing)
+    (cond (ltb outLength resultWords || ltb workLength spaceWords) (Refused Buffer)
     (diagramAnswer op names ar (diagramOf x) (diagramOf y))))
 
 -- the result buffer after the call: words behind a result stay, and a refused call changes none

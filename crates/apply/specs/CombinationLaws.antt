@@ -1,6 +1,6 @@
 -- Laws of what a combination answers: one for each check, and what an accepted call is.
 use mathlib.Core.Path.{_≡_, refl}
-use mathlib.Core.Bool.{Bool, true, false, _||_}
+use mathlib.Core.Bool.{Bool, true, false, cond, _||_}
 use mathlib.Core.List.{List, [], _++_}
 use Prim.Native.Nat.{ℕ, _≤_, _<_}
 use native.Mathlib.Omega.{arith}
@@ -28,7 +28,7 @@ use Rattle.apply.specs.ApplyLaws.{eval-apply}
 use Rattle.apply.specs.RowLaws.{rows-onto, nothing-rows, onto-closed, onto-nodup}
 use Rattle.apply.specs.FormedLaws.{formed-count}
 use Rattle.apply.specs.GoodLaws.{good-apply}
-use Rattle.apply.specs.Combination.{operate, leftOperand, rightOperand, combination, tooMany, operandRows, rowsFormed, pickCombined, diagramAnswer, combineAnswer, combineResult}
+use Rattle.apply.specs.Combination.{operate, leftOperand, rightOperand, combination, tooMany, operandRows, rowsFormed, diagramAnswer, combineAnswer, combineResult}
 
 -- the rows formed are the operands' as renamed and those of the result before it is closed up
 pub operands-closed : (names : Names) (ar : List ℕ) (a b : Diagram) → ClosedRows (operandRows names ar a b)
@@ -43,7 +43,7 @@ pub rows-formed : (op : Operation) (names : Names) (ar : List ℕ) (a b : Diagra
     → rowsFormed op names ar a b ≡ length (onto (apply (operate op) (leftOperand names ar a b) (rightOperand names ar a b)) (operandRows names ar a b))
 unfolding rowsFormed
 rows-formed op names ar a b =
-    formed-count (operate op) (operandRows names ar a b) (leftOperand names ar a b) (rightOperand names ar a b) (operands-closed names ar a b) (operands-nodup names ar a b)
+    formed-count op (operandRows names ar a b) (leftOperand names ar a b) (rightOperand names ar a b) (operands-closed names ar a b) (operands-nodup names ar a b)
 
 -- a shared call forms its result's rows
 pub rows-shared : (op : Operation) (ar : List ℕ) (a b : Diagram) → rowsFormed op Shared ar a b ≡ length (rows (combination op Shared ar a b))
@@ -75,31 +75,31 @@ module _ (op : Operation) (names : Names) (ar : List ℕ) (a b : Diagram) where
   unfolding diagramAnswer
   diagrams-variables e = rw e
 
-  pub diagrams-pairs : tooMany names ar a b ≡ false → mostPairs < pairCount (leftOperand names ar a b) (rightOperand names ar a b)
+  pub diagrams-pairs : tooMany names ar a b ≡ false → mostPairs < pairCount op (leftOperand names ar a b) (rightOperand names ar a b)
       → diagramAnswer op names ar a b ≡ Refused Pairs
   unfolding diagramAnswer
-  diagrams-pairs e h = rw (e, lt-ltb mostPairs (pairCount (leftOperand names ar a b) (rightOperand names ar a b)) h)
+  diagrams-pairs e h = rw (e, lt-ltb mostPairs (pairCount op (leftOperand names ar a b) (rightOperand names ar a b)) h)
 
-  pub diagrams-value : tooMany names ar a b ≡ false → pairCount (leftOperand names ar a b) (rightOperand names ar a b) ≤ mostPairs
-      → overflows (operate op) (pairs (leftOperand names ar a b) (rightOperand names ar a b)) ≡ true → diagramAnswer op names ar a b ≡ Refused Value
+  pub diagrams-value : tooMany names ar a b ≡ false → pairCount op (leftOperand names ar a b) (rightOperand names ar a b) ≤ mostPairs
+      → overflows (operate op) (pairs op (leftOperand names ar a b) (rightOperand names ar a b)) ≡ true → diagramAnswer op names ar a b ≡ Refused Value
   unfolding diagramAnswer
-  diagrams-value e h o = rw (e, le-ltb mostPairs (pairCount (leftOperand names ar a b) (rightOperand names ar a b)) h, o)
+  diagrams-value e h o = rw (e, le-ltb mostPairs (pairCount op (leftOperand names ar a b) (rightOperand names ar a b)) h, o)
 
-  pub diagrams-space : tooMany names ar a b ≡ false → pairCount (leftOperand names ar a b) (rightOperand names ar a b) ≤ mostPairs
-      → overflows (operate op) (pairs (leftOperand names ar a b) (rightOperand names ar a b)) ≡ false → spaceRows < rowsFormed op names ar a b
+  pub diagrams-space : tooMany names ar a b ≡ false → pairCount op (leftOperand names ar a b) (rightOperand names ar a b) ≤ mostPairs
+      → overflows (operate op) (pairs op (leftOperand names ar a b) (rightOperand names ar a b)) ≡ false → spaceRows < rowsFormed op names ar a b
       → diagramAnswer op names ar a b ≡ Refused Space
   unfolding diagramAnswer
   diagrams-space e h o s =
-      rw (e, le-ltb mostPairs (pairCount (leftOperand names ar a b) (rightOperand names ar a b)) h, o, lt-ltb spaceRows (rowsFormed op names ar a b) s)
+      rw (e, le-ltb mostPairs (pairCount op (leftOperand names ar a b) (rightOperand names ar a b)) h, o, lt-ltb spaceRows (rowsFormed op names ar a b) s)
 
-  pub diagrams-rows : tooMany names ar a b ≡ false → pairCount (leftOperand names ar a b) (rightOperand names ar a b) ≤ mostPairs
-      → overflows (operate op) (pairs (leftOperand names ar a b) (rightOperand names ar a b)) ≡ false → rowsFormed op names ar a b ≤ spaceRows
+  pub diagrams-rows : tooMany names ar a b ≡ false → pairCount op (leftOperand names ar a b) (rightOperand names ar a b) ≤ mostPairs
+      → overflows (operate op) (pairs op (leftOperand names ar a b) (rightOperand names ar a b)) ≡ false → rowsFormed op names ar a b ≤ spaceRows
       → mostRows < length (rows (combination op names ar a b)) → diagramAnswer op names ar a b ≡ Refused Space
   unfolding diagramAnswer
   diagrams-rows e h o s n =
       rw (
         e,
-        le-ltb mostPairs (pairCount (leftOperand names ar a b) (rightOperand names ar a b)) h,
+        le-ltb mostPairs (pairCount op (leftOperand names ar a b) (rightOperand names ar a b)) h,
         o,
         le-ltb spaceRows (rowsFormed op names ar a b) s,
         lt-ltb mostRows (length (rows (combination op names ar a b))) n,
@@ -108,19 +108,19 @@ module _ (op : Operation) (names : Names) (ar : List ℕ) (a b : Diagram) where
 -- an accepted combination: no check refuses it, and the answer has its rows and its pairs
 pub record Accepted (op : Operation) (names : Names) (ar : List ℕ) (a b : Diagram) (n m : ℕ) : Type 0 where
   pub variables : tooMany names ar a b ≡ false
-  pub pairs-few : pairCount (leftOperand names ar a b) (rightOperand names ar a b) ≤ mostPairs
-  pub calm : overflows (operate op) (pairs (leftOperand names ar a b) (rightOperand names ar a b)) ≡ false
+  pub pairs-few : pairCount op (leftOperand names ar a b) (rightOperand names ar a b) ≤ mostPairs
+  pub calm : overflows (operate op) (pairs op (leftOperand names ar a b) (rightOperand names ar a b)) ≡ false
   pub room : rowsFormed op names ar a b ≤ spaceRows
   pub few : length (rows (combination op names ar a b)) ≤ mostRows
   pub rows-are : n ≡ length (rows (combination op names ar a b))
-  pub pairs-are : m ≡ pairCount (leftOperand names ar a b) (rightOperand names ar a b)
+  pub pairs-are : m ≡ pairCount op (leftOperand names ar a b) (rightOperand names ar a b)
 
 pub accepted-done : (op : Operation) (names : Names) (ar : List ℕ) (a b : Diagram) (n m : ℕ) → Accepted op names ar a b n m → diagramAnswer op names ar a b ≡ Done n m
 unfolding diagramAnswer
 accepted-done op names ar a b n m h =
     rw (
       h .variables,
-      le-ltb mostPairs (pairCount (leftOperand names ar a b) (rightOperand names ar a b)) (h .pairs-few),
+      le-ltb mostPairs (pairCount op (leftOperand names ar a b) (rightOperand names ar a b)) (h .pairs-few),
       h .calm,
       le-ltb spaceRows (rowsFormed op names ar a b) (h .room),
       le-ltb mostRows (length (rows (combination op names ar a b))) (h .few),
@@ -128,7 +128,7 @@ accepted-done op names ar a b n m h =
       h .pairs-are,
     )
 
-pick-done : (t : Bool) (r : Refusal) (x : Combined) (n m : ℕ) → pickCombined t (Refused r) x ≡ Done n m → (t ≡ false) × (x ≡ Done n m)
+pick-done : (t : Bool) (r : Refusal) (x : Combined) (n m : ℕ) → cond t (Refused r) x ≡ Done n m → (t ≡ false) × (x ≡ Done n m)
 pick-done true r x n m e = let z : _≡_ {A = ℕ} 0 1 = cc in absurd (omega arith)
 pick-done false r x n m e = (refl, e)
 
@@ -136,14 +136,14 @@ pub done-accepted : (op : Operation) (names : Names) (ar : List ℕ) (a b : Diag
 unfolding diagramAnswer
 done-accepted op names ar a b n m e =
     let p = pick-done (tooMany names ar a b) Variables _ n m e in
-    let q = pick-done (ltb mostPairs (pairCount (leftOperand names ar a b) (rightOperand names ar a b))) Pairs _ n m (p .1) in
-    let r = pick-done (overflows (operate op) (pairs (leftOperand names ar a b) (rightOperand names ar a b))) Value _ n m (q .1) in
+    let q = pick-done (ltb mostPairs (pairCount op (leftOperand names ar a b) (rightOperand names ar a b))) Pairs _ n m (p .1) in
+    let r = pick-done (overflows (operate op) (pairs op (leftOperand names ar a b) (rightOperand names ar a b))) Value _ n m (q .1) in
     let s = pick-done (ltb spaceRows (rowsFormed op names ar a b)) Space _ n m (r .1) in
     let t = pick-done (ltb mostRows (length (rows (combination op names ar a b)))) Space _ n m (s .1) in
     let d = t .1 in
     record {
       variables = p .0;
-      pairs-few = ltb-false mostPairs (pairCount (leftOperand names ar a b) (rightOperand names ar a b)) (q .0);
+      pairs-few = ltb-false mostPairs (pairCount op (leftOperand names ar a b) (rightOperand names ar a b)) (q .0);
       calm = r .0;
       room = ltb-false spaceRows (rowsFormed op names ar a b) (s .0);
       few = ltb-false mostRows (length (rows (combination op names ar a b))) (t .0);
@@ -171,4 +171,4 @@ eval-shared op ar c a b = eval-apply (operate op) c a b
 
 pub good-shared : (op : Operation) (ar : List ℕ) (a b : Diagram) (n m : ℕ) → Good ar a → Good ar b → Accepted op Shared ar a b n m → Good ar (combination op Shared ar a b)
 unfolding combination
-good-shared op ar a b n m x y h = good-apply (operate op) ar a b x y (h .calm) (h .few)
+good-shared op ar a b n m x y h = good-apply op ar a b x y (h .calm) (h .few)

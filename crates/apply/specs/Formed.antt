@@ -1,6 +1,6 @@
 -- The rows that a combination forms (document 01, section 'Combination').
 use mathlib.Core.Path.{_≡_}
-use mathlib.Core.Bool.{Bool, true, false}
+use mathlib.Core.Bool.{true, cond}
 use mathlib.Core.List.{List, [], _∷_, _++_}
 use Prim.Native.Nat.{ℕ}
 use Rattle.basics.specs.Members.{mem}
@@ -8,14 +8,10 @@ use Rattle.diagram.specs.Diagram.{Diagram, branch, same}
 use Rattle.apply.specs.Apply.{apply}
 use Rattle.apply.specs.Pairs.{Pair}
 
-abbrev pub pickRows : Bool → List Diagram → List Diagram → List Diagram
-pickRows true x y = x
-pickRows false x y = y
-
 -- equal rows are counted once
 unfoldable pub add : Diagram → List Diagram → List Diagram
 unfolding same
-add d rs = pickRows (mem same d rs) rs (rs ++ (d ∷ []))
+add d rs = cond (mem same d rs) rs (rs ++ (d ∷ []))
 
 -- every pair forms its reduced diagram: the rows rs, and behind them those of the pairs ps
 unfoldable pub formed : (ℕ → ℕ → ℕ) → List Diagram → List Pair → List Diagram

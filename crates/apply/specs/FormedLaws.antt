@@ -11,14 +11,17 @@ use Rattle.diagram.specs.Diagram.{Diagram, leaf, branch, same}
 use Rattle.diagram.specs.Rows.{onto, rows}
 use Rattle.diagram.specs.DiagramLaws.{same-eq, diagram-test, onto-old, onto-leaf, onto-branch}
 use Rattle.apply.specs.Snoc.{mem-snoc, snoc-cases, nodup-snoc, Begins, begins-refl, begins-trans, begins-snoc, mem-begins}
+use Rattle.apply.specs.declared.Operation.{Operation}
 use Rattle.apply.specs.Apply.{node, apply}
-use Rattle.apply.specs.Pairs.{Pair, samePair, pairs}
+use Rattle.apply.specs.Pairs.{Pair, samePair, ends, pairs}
 use Rattle.apply.specs.Visit.{visit}
 use Rattle.apply.specs.Formed.{add, formed, ClosedRows}
-use Rattle.apply.specs.Walk.{Step, Walk, ends, on, walk}
-use Rattle.apply.specs.ApplyLaws.{node-same, node-differ, apply-leaves, apply-step}
+use Rattle.apply.specs.Combination.{operate}
+use Rattle.apply.specs.Walk.{Step}
+use Rattle.apply.specs.ApplyLaws.{node-same, node-differ, apply-step}
+use Rattle.apply.specs.Course.{Course, stops, descends, course, ending}
 use Rattle.apply.specs.PairLaws.{pair-test}
-use Rattle.apply.specs.VisitLaws.{visit-old, visit-ends, visit-step, visit-within, pairs-within}
+use Rattle.apply.specs.VisitLaws.{visit-old, visit-stop, visit-step, visit-within, pairs-within}
 use Rattle.apply.specs.RowLaws.{rows-onto, nothing-rows, onto-mem, onto-fresh, onto-closed}
 
 -- the laws of `add` and `formed`: nothing else unfolds them
@@ -167,59 +170,66 @@ add-node l t f rs c = go (flag (same t f))
     go (isFalse e) = rw (node-differ l t f e) (add-branch l t f rs c)
 
 -- forming the pairs in the order in which they are finished gives the rows in the order of a listing
-abbrev Forms : (ℕ → ℕ → ℕ) → List Diagram → Diagram → Diagram → Type 0
-Forms op rs a b = (done : List Pair) → ClosedRows (formed op rs done) → formed op rs (visit a b done) ≡ onto (apply op a b) (formed op rs done)
+module _ (op : Operation) (rs : List Diagram) where
+  abbrev Forms : Diagram → Diagram → Type 0
+  Forms a b = (done : List Pair) → ClosedRows (formed (operate op) rs done)
+      → formed (operate op) rs (visit op a b done) ≡ onto (apply (operate op) a b) (formed (operate op) rs done)
 
-forms-old : (op : ℕ → ℕ → ℕ) (rs : List Diagram) (a b : Diagram) (done : List Pair) → mem samePair (a, b) done ≡ true
-    → formed op rs (visit a b done) ≡ onto (apply op a b) (formed op rs done)
-forms-old op rs a b done e = rw (visit-old a b done e, onto-old (apply op a b) (formed op rs done) (formed-mem op rs done (a, b) e))
+  forms-old : (a b : Diagram) (done : List Pair) → mem samePair (a, b) done ≡ true
+      → formed (operate op) rs (visit op a b done) ≡ onto (apply (operate op) a b) (formed (operate op) rs done)
+  forms-old a b done e =
+      rw (visit-old op a b done e, onto-old (apply (operate op) a b) (formed (operate op) rs done) (formed-mem (operate op) rs done (a, b) e))
 
-forms-ends : (op : ℕ → ℕ → ℕ) (rs : List Diagram) (v w : ℕ) → Forms op rs (leaf v) (leaf w)
-forms-ends op rs v w done c = go (flag (mem samePair (leaf v, leaf w) done))
-  where
-    go : Flag (mem samePair (leaf v, leaf w) done) → formed op rs (visit (leaf v) (leaf w) done) ≡ onto (apply op (leaf v) (leaf w)) (formed op rs done)
-    go (isTrue e) = forms-old op rs (leaf v) (leaf w) done e
-    go (isFalse e) = rw (visit-ends v w done e, formed-snoc op rs done (leaf v, leaf w), apply-leaves op v w) (add-leaf (op v w) (formed op rs done))
+  forms-stop : (a b : Diagram) → ends op a b ≡ true → Forms a b
+  forms-stop a b n done c = go (flag (mem samePair (a, b) done))
+    where
+      go : Flag (mem samePair (a, b) done) → formed (operate op) rs (visit op a b done) ≡ onto (apply (operate op) a b) (formed (operate op) rs done)
+      go (isTrue e) = forms-old a b done e
+      go (isFalse e) =
+          let z = ending op a b n in
+          rw (visit-stop op a b done n e, formed-snoc (operate op) rs done (a, b), z .forms) (add-leaf (z .value) (formed (operate op) rs done))
 
-forms-step : (op : ℕ → ℕ → ℕ) (rs : List Diagram) {l : ℕ} {a b t u f g : Diagram} → Step l a b t u f g → Forms op rs t u → Forms op rs f g → Forms op rs a b
-forms-step op rs {l = l} {a = a} {b = b} {t = t} {u = u} {f = f} {g = g} s x y done c = go (flag (mem samePair (a, b) done))
-  where
-    go : Flag (mem samePair (a, b) done) → formed op rs (visit a b done) ≡ onto (apply op a b) (formed op rs done)
-    go (isTrue e) = forms-old op rs a b done e
-    go (isFalse e) =
-        let p = x done c in
-        let c′ : ClosedRows (formed op rs (visit t u done)) = rw p (onto-closed (apply op t u) (formed op rs done) c) in
-        let q = y (visit t u done) c′ in
-        rw (visit-step done s e, formed-snoc op rs (visit f g (visit t u done)) (a, b), q, p, apply-step op s)
-        (add-node l (apply op t u) (apply op f g) (formed op rs done) c)
+  forms-step : {l : ℕ} {a b t u f g : Diagram} → ends op a b ≡ false → Step l a b t u f g → Forms t u → Forms f g → Forms a b
+  forms-step {l = l} {a = a} {b = b} {t = t} {u = u} {f = f} {g = g} n s x y done c = go (flag (mem samePair (a, b) done))
+    where
+      go : Flag (mem samePair (a, b) done) → formed (operate op) rs (visit op a b done) ≡ onto (apply (operate op) a b) (formed (operate op) rs done)
+      go (isTrue e) = forms-old a b done e
+      go (isFalse e) =
+          let p = x done c in
+          let c′ : ClosedRows (formed (operate op) rs (visit op t u done)) = rw p (onto-closed (apply (operate op) t u) (formed (operate op) rs done) c) in
+          let q = y (visit op t u done) c′ in
+          rw (visit-step op done n s e, formed-snoc (operate op) rs (visit op f g (visit op t u done)) (a, b), q, p, apply-step (operate op) s)
+          (add-node l (apply (operate op) t u) (apply (operate op) f g) (formed (operate op) rs done) c)
 
-forms-walk : (op : ℕ → ℕ → ℕ) (rs : List Diagram) {a b : Diagram} → Walk a b → Forms op rs a b
-forms-walk op rs (ends v w) done c = forms-ends op rs v w done c
-forms-walk op rs (on s x y) done c = forms-step op rs s (forms-walk op rs x) (forms-walk op rs y) done c
+  forms-course : {a b : Diagram} → Course op a b → Forms a b
+  forms-course (stops {a = a} {b = b} n) done c = forms-stop a b n done c
+  forms-course (descends n s x y) done c = forms-step n s (forms-course x) (forms-course y) done c
 
-pub formed-done : (op : ℕ → ℕ → ℕ) (rs : List Diagram) (a b : Diagram) (done : List Pair) → ClosedRows (formed op rs done)
-    → formed op rs (visit a b done) ≡ onto (apply op a b) (formed op rs done)
-formed-done op rs a b done c = forms-walk op rs (walk a b) done c
+  pub formed-done : (a b : Diagram) (done : List Pair) → ClosedRows (formed (operate op) rs done)
+      → formed (operate op) rs (visit op a b done) ≡ onto (apply (operate op) a b) (formed (operate op) rs done)
+  formed-done a b done c = forms-course (course op a b) done c
 
-pub formed-visit : (op : ℕ → ℕ → ℕ) (rs : List Diagram) (a b : Diagram) → ClosedRows rs → formed op rs (visit a b []) ≡ onto (apply op a b) rs
-unfolding formed
-formed-visit op rs a b c = formed-done op rs a b [] c
+  pub formed-visit : (a b : Diagram) → ClosedRows rs → formed (operate op) rs (visit op a b []) ≡ onto (apply (operate op) a b) rs
+  unfolding formed
+  formed-visit a b c = formed-done a b [] c
 
 -- in an empty space they are the rows of the result's listing
-pub formed-rows : (op : ℕ → ℕ → ℕ) (a b : Diagram) → formed op [] (visit a b []) ≡ rows (apply op a b)
-formed-rows op a b = formed-visit op [] a b nothing-rows ∙ sym (rows-onto (apply op a b))
+pub formed-rows : (op : Operation) (a b : Diagram) → formed (operate op) [] (visit op a b []) ≡ rows (apply (operate op) a b)
+formed-rows op a b = formed-visit op [] a b nothing-rows ∙ sym (rows-onto (apply (operate op) a b))
 
 -- in whatever order every pair forms its diagram, the rows formed are those of the result put onto rs
-pub record FormedPairs (op : ℕ → ℕ → ℕ) (rs : List Diagram) (a b : Diagram) : Type 0 where
-  pub every : (p : Pair) → mem samePair p (pairs a b) ≡ true → mem same (apply op (p .0) (p .1)) (onto (apply op a b) rs) ≡ true
-  pub only : (d : Diagram) → mem same d (onto (apply op a b) rs) ≡ true → Formed op rs (pairs a b) d
+pub record FormedPairs (op : Operation) (rs : List Diagram) (a b : Diagram) : Type 0 where
+  pub every : (p : Pair) → mem samePair p (pairs op a b) ≡ true → mem same (apply (operate op) (p .0) (p .1)) (onto (apply (operate op) a b) rs) ≡ true
+  pub only : (d : Diagram) → mem same d (onto (apply (operate op) a b) rs) ≡ true → Formed (operate op) rs (pairs op a b) d
 
-pub formed-pairs : (op : ℕ → ℕ → ℕ) (rs : List Diagram) (a b : Diagram) → ClosedRows rs → FormedPairs op rs a b
+pub formed-pairs : (op : Operation) (rs : List Diagram) (a b : Diagram) → ClosedRows rs → FormedPairs op rs a b
 formed-pairs op rs a b c = record {
-  every = λ p h. rw (← formed-visit op rs a b c) (formed-mem op rs (visit a b []) p (pairs-within a b p h));
-  only = λ d h. formed-from op rs (pairs a b) d (formed-within op rs (visit a b []) (pairs a b) (visit-within a b) d (rw (formed-visit op rs a b c) h));
+  every = λ p h. rw (← formed-visit op rs a b c) (formed-mem (operate op) rs (visit op a b []) p (pairs-within op a b p h));
+  only = λ d h. formed-from (operate op) rs (pairs op a b) d
+      (formed-within (operate op) rs (visit op a b []) (pairs op a b) (visit-within op a b) d (rw (formed-visit op rs a b c) h));
 }
 
-pub formed-count : (op : ℕ → ℕ → ℕ) (rs : List Diagram) (a b : Diagram) → ClosedRows rs → NoDup same rs
-    → length (formed op rs (pairs a b)) ≡ length (onto (apply op a b) rs)
-formed-count op rs a b c d = formed-length op rs (pairs a b) (visit a b []) d (pairs-within a b) (visit-within a b) ∙ ap length (formed-visit op rs a b c)
+pub formed-count : (op : Operation) (rs : List Diagram) (a b : Diagram) → ClosedRows rs → NoDup same rs
+    → length (formed (operate op) rs (pairs op a b)) ≡ length (onto (apply (operate op) a b) rs)
+formed-count op rs a b c d =
+    formed-length (operate op) rs (pairs op a b) (visit op a b []) d (pairs-within op a b) (visit-within op a b) ∙ ap length (formed-visit op rs a b c)

@@ -1,12 +1,12 @@
 -- Labels, values and variables of a combination: a good one of good operands.
-use mathlib.Core.Path.{_≡_, refl}
+use mathlib.Core.Path.{_≡_, refl, sym, _∙_}
 use mathlib.Core.Bool.{Bool, true, false, _||_}
 use mathlib.Core.List.{List, _∷_}
 use Prim.Native.Nat.{ℕ, zero, suc, _≤_}
 use native.Mathlib.Omega.{arith}
 use lib.ListN.{length}
 use lib.Dec.{eqb, ltb}
-use borrow.Author.Tests.{le-ltb}
+use borrow.Author.Tests.{le-ltb, ltb-false}
 use Rattle.basics.specs.Tests.{Flag, isTrue, isFalse, flag, Either, one, other}
 use Rattle.basics.specs.Members.{mem, clash}
 use Rattle.label.specs.Limits.{firstVariable, variableCount}
@@ -17,12 +17,15 @@ use Rattle.diagram.specs.DiagramLaws.{same-eq}
 use Rattle.diagram.specs.Rows.{rows}
 use Rattle.diagram.specs.Listing.{Fine, Good}
 use Rattle.diagram.specs.Variables.{occurs, pickList, occurring, variables}
+use Rattle.apply.specs.declared.Operation.{Operation}
 use Rattle.apply.specs.Apply.{node, apply}
-use Rattle.apply.specs.Pairs.{pairs, tooHigh, overflows}
-use Rattle.apply.specs.Walk.{Step, left, right, both, Walk, ends, on, walk}
+use Rattle.apply.specs.Pairs.{ends, pairs, tooHigh, overflows}
+use Rattle.apply.specs.Combination.{operate}
+use Rattle.apply.specs.Walk.{Step, left, right, both, Walk, leaves, on, walk}
 use Rattle.apply.specs.ApplyLaws.{node-same, node-differ, apply-leaves, apply-step, ordered-apply, reduced-apply}
+use Rattle.apply.specs.Course.{Course, stops, descends, course, ending, inner-calm}
 use Rattle.apply.specs.PairLaws.{pairs-where, Where, root, by-true, by-false, pairs-alone}
-use Rattle.apply.specs.OverflowLaws.{Overflow, overflow-found, overflow-made, calm-true, calm-false, calm-ends}
+use Rattle.apply.specs.OverflowLaws.{Overflow, overflow-found, overflow-made, calm-root, calm-true, calm-false}
 
 or-false-one : (a b : Bool) → (a || b) ≡ false → a ≡ false
 or-false-one true b e = e
@@ -57,7 +60,7 @@ every-step P (right h) x y = record { at-label = y .0; at-t = x; at-u = y .1; at
 every-step P (both e) x y = record { at-label = x .0; at-t = x .1; at-u = y .1; at-f = x .2; at-g = y .2 }
 
 every-walk : (op : ℕ → ℕ → ℕ) (P : ℕ → Type 0) {a b : Diagram} → Walk a b → EveryLabel P a → EveryLabel P b → EveryLabel P (apply op a b)
-every-walk op P (ends v w) x y = rw (apply-leaves op v w) tt
+every-walk op P (leaves v w) x y = rw (apply-leaves op v w) tt
 every-walk op P (on {l = l} {t = t} {u = u} {f = f} {g = g} s m n) x y =
     let q = every-step P s x y in
     rw (apply-step op s) (every-node P l (apply op t u) (apply op f g) (q .at-label) (every-walk op P m (q .at-t) (q .at-u)) (every-walk op P n (q .at-f) (q .at-g)))
@@ -119,16 +122,19 @@ fine-node ar l t f h x y = go (flag (same t f))
     go (isTrue e) = rw (node-same l t f e) x
     go (isFalse e) = rw (node-differ l t f e) (h, x, y)
 
-fine-walk : (op : ℕ → ℕ → ℕ) (ar : List ℕ) {a b : Diagram} → Walk a b → EveryLabel (λ l. isLabel ar l ≡ true) a → EveryLabel (λ l. isLabel ar l ≡ true) b
-    → overflows op (pairs a b) ≡ false → Fine ar (apply op a b)
-fine-walk op ar (ends v w) x y h = rw (apply-leaves op v w) (calm-ends op v w h)
-fine-walk op ar (on {l = l} {t = t} {u = u} {f = f} {g = g} s m n) x y h =
+fine-course : (op : Operation) (ar : List ℕ) {a b : Diagram} → Course op a b → EveryLabel (λ l. isLabel ar l ≡ true) a → EveryLabel (λ l. isLabel ar l ≡ true) b
+    → overflows (operate op) (pairs op a b) ≡ false → Fine ar (apply (operate op) a b)
+fine-course op ar (stops {a = a} {b = b} n) x y h =
+    let z = ending op a b n in
+    rw (z .forms) (ltb-false highestValue (z .value) (sym (z .high) ∙ calm-root (operate op) op a b h))
+fine-course op ar (descends {l = l} {t = t} {u = u} {f = f} {g = g} i s m n) x y h =
     let q = every-step (λ k. isLabel ar k ≡ true) s x y in
-    rw (apply-step op s) (fine-node ar l (apply op t u) (apply op f g) (q .at-label) (fine-walk op ar m (q .at-t) (q .at-u) (calm-true op s h))
-    (fine-walk op ar n (q .at-f) (q .at-g) (calm-false op s h)))
+    rw (apply-step (operate op) s) (fine-node ar l (apply (operate op) t u) (apply (operate op) f g) (q .at-label)
+    (fine-course op ar m (q .at-t) (q .at-u) (calm-true (operate op) op i s h)) (fine-course op ar n (q .at-f) (q .at-g) (calm-false (operate op) op i s h)))
 
-pub fine-apply : (op : ℕ → ℕ → ℕ) (ar : List ℕ) (a b : Diagram) → Fine ar a → Fine ar b → overflows op (pairs a b) ≡ false → Fine ar (apply op a b)
-fine-apply op ar a b x y h = fine-walk op ar (walk a b) (fine-every ar a x) (fine-every ar b y) h
+pub fine-apply : (op : Operation) (ar : List ℕ) (a b : Diagram) → Fine ar a → Fine ar b → overflows (operate op) (pairs op a b) ≡ false
+    → Fine ar (apply (operate op) a b)
+fine-apply op ar a b x y h = fine-course op ar (course op a b) (fine-every ar a x) (fine-every ar b y) h
 
 -- and no result is in its range where a leaf pair's is not
 fine-true : (ar : List ℕ) (l : ℕ) (t f : Diagram) → Fine ar (node l t f) → Fine ar t
@@ -145,54 +151,49 @@ fine-false ar l t f h = go (flag (same t f))
     go (isTrue e) = let k : Fine ar t = rw (node-same l t f e) at h in rw (← same-eq t f e) k
     go (isFalse e) = let k : Fine ar (branch l t f) = rw (node-differ l t f e) at h in k .2
 
-calm-step : (op : ℕ → ℕ → ℕ) {l : ℕ} {a b t u f g : Diagram} → Step l a b t u f g → overflows op (pairs t u) ≡ false → overflows op (pairs f g) ≡ false
-    → overflows op (pairs a b) ≡ false
-calm-step op {a = a} {b = b} {t = t} {u = u} {f = f} {g = g} s x y = go (flag (overflows op (pairs a b)))
+calm-step : (op : Operation) {l : ℕ} {a b t u f g : Diagram} → ends op a b ≡ false → Step l a b t u f g → overflows (operate op) (pairs op t u) ≡ false
+    → overflows (operate op) (pairs op f g) ≡ false → overflows (operate op) (pairs op a b) ≡ false
+calm-step op {a = a} {b = b} {t = t} {u = u} {f = f} {g = g} n s x y = go (flag (overflows (operate op) (pairs op a b)))
   where
-    inner : tooHigh op a b ≡ false
-    inner = none s
-      where
-        none : {l : ℕ} {a b t u f g : Diagram} → Step l a b t u f g → tooHigh op a b ≡ false
-        none (left h) = refl
-        none (right {a = leaf v} h) = refl
-        none (right {a = branch k p q} h) = refl
-        none (both e) = refl
+    found : (o : Overflow (operate op) (pairs op a b)) → Where op (o .pair) a b t u f g → ⊥
+    found o (root e) = clash (rw e at (o .high)) (inner-calm (operate op) s)
+    found o (by-true e) = clash (overflow-made (operate op) (pairs op t u) (o .pair) e (o .high)) x
+    found o (by-false e) = clash (overflow-made (operate op) (pairs op f g) (o .pair) e (o .high)) y
 
-    found : (o : Overflow op (pairs a b)) → Where (o .pair) a b t u f g → ⊥
-    found o (root e) = clash (rw e at (o .high)) inner
-    found o (by-true e) = clash (overflow-made op (pairs t u) (o .pair) e (o .high)) x
-    found o (by-false e) = clash (overflow-made op (pairs f g) (o .pair) e (o .high)) y
-
-    go : Flag (overflows op (pairs a b)) → overflows op (pairs a b) ≡ false
-    go (isTrue e) = let o = overflow-found op (pairs a b) e in absurd (found o (pairs-where (o .pair) s (o .member)))
+    go : Flag (overflows (operate op) (pairs op a b)) → overflows (operate op) (pairs op a b) ≡ false
+    go (isTrue e) = let o = overflow-found (operate op) (pairs op a b) e in absurd (found o (pairs-where op (o .pair) n s (o .member)))
     go (isFalse e) = e
 
-calm-leaves : (op : ℕ → ℕ → ℕ) (v w : ℕ) → op v w ≤ highestValue → overflows op (pairs (leaf v) (leaf w)) ≡ false
-calm-leaves op v w h = go (flag (overflows op (pairs (leaf v) (leaf w))))
+calm-stop : (op : Operation) (a b : Diagram) → ends op a b ≡ true → tooHigh (operate op) a b ≡ false → overflows (operate op) (pairs op a b) ≡ false
+calm-stop op a b n h = go (flag (overflows (operate op) (pairs op a b)))
   where
-    found : (o : Overflow op (pairs (leaf v) (leaf w))) → o .pair ≡ (leaf v, leaf w) → ⊥
-    found o e = let k : ltb highestValue (op v w) ≡ true = rw e at (o .high) in clash k (le-ltb highestValue (op v w) h)
+    found : (o : Overflow (operate op) (pairs op a b)) → o .pair ≡ (a, b) → ⊥
+    found o e = clash (rw e at (o .high)) h
 
-    go : Flag (overflows op (pairs (leaf v) (leaf w))) → overflows op (pairs (leaf v) (leaf w)) ≡ false
-    go (isTrue e) = let o = overflow-found op (pairs (leaf v) (leaf w)) e in absurd (found o (pairs-alone (o .pair) v w (o .member)))
+    go : Flag (overflows (operate op) (pairs op a b)) → overflows (operate op) (pairs op a b) ≡ false
+    go (isTrue e) = let o = overflow-found (operate op) (pairs op a b) e in absurd (found o (pairs-alone op (o .pair) a b n (o .member)))
     go (isFalse e) = e
 
-calm-walk : (op : ℕ → ℕ → ℕ) (ar : List ℕ) {a b : Diagram} → Walk a b → Fine ar (apply op a b) → overflows op (pairs a b) ≡ false
-calm-walk op ar (ends v w) h = calm-leaves op v w (rw (apply-leaves op v w) at h)
-calm-walk op ar (on {l = l} {a = a} {b = b} {t = t} {u = u} {f = f} {g = g} s x y) h =
-    let k : Fine ar (node l (apply op t u) (apply op f g)) = rw (apply-step op s) at h in
-    calm-step op s (calm-walk op ar x (fine-true ar l (apply op t u) (apply op f g) k)) (calm-walk op ar y (fine-false ar l (apply op t u) (apply op f g) k))
+calm-course : (op : Operation) (ar : List ℕ) {a b : Diagram} → Course op a b → Fine ar (apply (operate op) a b) → overflows (operate op) (pairs op a b) ≡ false
+calm-course op ar (stops {a = a} {b = b} n) h =
+    let z = ending op a b n in
+    let k : Fine ar (leaf (z .value)) = rw (z .forms) at h in
+    calm-stop op a b n (z .high ∙ le-ltb highestValue (z .value) k)
+calm-course op ar (descends {l = l} {a = a} {b = b} {t = t} {u = u} {f = f} {g = g} n s x y) h =
+    let k : Fine ar (node l (apply (operate op) t u) (apply (operate op) f g)) = rw (apply-step (operate op) s) at h in
+    calm-step op n s (calm-course op ar x (fine-true ar l (apply (operate op) t u) (apply (operate op) f g) k))
+    (calm-course op ar y (fine-false ar l (apply (operate op) t u) (apply (operate op) f g) k))
 
-pub fine-calm : (op : ℕ → ℕ → ℕ) (ar : List ℕ) (a b : Diagram) → Fine ar (apply op a b) → overflows op (pairs a b) ≡ false
-fine-calm op ar a b h = calm-walk op ar (walk a b) h
+pub fine-calm : (op : Operation) (ar : List ℕ) (a b : Diagram) → Fine ar (apply (operate op) a b) → overflows (operate op) (pairs op a b) ≡ false
+fine-calm op ar a b h = calm-course op ar (course op a b) h
 
 -- a combination of good diagrams that does not overflow and has at most 1,024 rows is good
-pub good-apply : (op : ℕ → ℕ → ℕ) (ar : List ℕ) (a b : Diagram) → Good ar a → Good ar b → overflows op (pairs a b) ≡ false
-    → length (rows (apply op a b)) ≤ mostRows → Good ar (apply op a b)
+pub good-apply : (op : Operation) (ar : List ℕ) (a b : Diagram) → Good ar a → Good ar b → overflows (operate op) (pairs op a b) ≡ false
+    → length (rows (apply (operate op) a b)) ≤ mostRows → Good ar (apply (operate op) a b)
 good-apply op ar a b x y h n = record {
   arities = x .arities;
-  ordered = ordered-apply op a b (x .ordered) (y .ordered);
-  reduced = reduced-apply op a b;
+  ordered = ordered-apply (operate op) a b (x .ordered) (y .ordered);
+  reduced = reduced-apply (operate op) a b;
   fine = fine-apply op ar a b (x .fine) (y .fine) h;
   few = n;
 }

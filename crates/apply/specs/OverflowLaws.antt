@@ -2,13 +2,12 @@
 use mathlib.Core.Path.{_≡_, refl, sym, _∙_}
 use mathlib.Core.Bool.{true, false, _||_, or-assoc}
 use mathlib.Core.List.{List, [], _∷_, _++_}
-use Prim.Native.Nat.{ℕ, _≤_}
-use borrow.Author.Tests.{ltb-false}
+use Prim.Native.Nat.{ℕ}
 use Rattle.basics.specs.Tests.{Flag, isTrue, isFalse, flag, Either, one, other, either, or-one, or-other}
 use Rattle.basics.specs.Members.{mem, Within, clash}
-use Rattle.diagram.specs.Sizes.{highestValue}
-use Rattle.diagram.specs.Diagram.{Diagram, leaf}
-use Rattle.apply.specs.Pairs.{Pair, samePair, pairs, tooHigh, overflows}
+use Rattle.diagram.specs.Diagram.{Diagram}
+use Rattle.apply.specs.declared.Operation.{Operation}
+use Rattle.apply.specs.Pairs.{Pair, samePair, ends, pairs, tooHigh, overflows}
 use Rattle.apply.specs.Visit.{visit}
 use Rattle.apply.specs.Walk.{Step}
 use Rattle.apply.specs.PairLaws.{pair-test, pairs-root, in-true, in-false}
@@ -70,19 +69,20 @@ overflows-same op ps qs v w = go (flag (overflows op qs))
     go (isTrue e) = overflows-more op qs ps w e ∙ sym e
     go (isFalse e) = overflows-less op ps qs v e ∙ sym e
 
-pub overflows-visit : (op : ℕ → ℕ → ℕ) (a b : Diagram) → overflows op (visit a b []) ≡ overflows op (pairs a b)
-overflows-visit op a b = overflows-same op (visit a b []) (pairs a b) (visit-within a b) (pairs-within a b)
+pub overflows-visit : (o : ℕ → ℕ → ℕ) (op : Operation) (a b : Diagram) → overflows o (visit op a b []) ≡ overflows o (pairs op a b)
+overflows-visit o op a b = overflows-same o (visit op a b []) (pairs op a b) (visit-within op a b) (pairs-within op a b)
 
--- where no pair overflows, none that it goes down to does, and a leaf pair's result is within its range
-pub calm-true : (op : ℕ → ℕ → ℕ) {l : ℕ} {a b t u f g : Diagram} → Step l a b t u f g → overflows op (pairs a b) ≡ false → overflows op (pairs t u) ≡ false
-calm-true op {a = a} {b = b} {t = t} {u = u} s h = overflows-less op (pairs t u) (pairs a b) (λ p e. in-true p s e) h
+-- where no pair overflows, the pair itself does not, and none that it goes down to does
+module _ (o : ℕ → ℕ → ℕ) (op : Operation) where
+  pub calm-root : (a b : Diagram) → overflows o (pairs op a b) ≡ false → tooHigh o a b ≡ false
+  calm-root a b h = go (flag (tooHigh o a b))
+    where
+      go : Flag (tooHigh o a b) → tooHigh o a b ≡ false
+      go (isTrue e) = clash (overflow-made o (pairs op a b) (a, b) (pairs-root op a b) e) h
+      go (isFalse e) = e
 
-pub calm-false : (op : ℕ → ℕ → ℕ) {l : ℕ} {a b t u f g : Diagram} → Step l a b t u f g → overflows op (pairs a b) ≡ false → overflows op (pairs f g) ≡ false
-calm-false op {a = a} {b = b} {f = f} {g = g} s h = overflows-less op (pairs f g) (pairs a b) (λ p e. in-false p s e) h
+  pub calm-true : {l : ℕ} {a b t u f g : Diagram} → ends op a b ≡ false → Step l a b t u f g → overflows o (pairs op a b) ≡ false → overflows o (pairs op t u) ≡ false
+  calm-true {a = a} {b = b} {t = t} {u = u} n s h = overflows-less o (pairs op t u) (pairs op a b) (λ p e. in-true op p n s e) h
 
-pub calm-ends : (op : ℕ → ℕ → ℕ) (v w : ℕ) → overflows op (pairs (leaf v) (leaf w)) ≡ false → op v w ≤ highestValue
-calm-ends op v w h = ltb-false highestValue (op v w) (go (flag (tooHigh op (leaf v) (leaf w))))
-  where
-    go : Flag (tooHigh op (leaf v) (leaf w)) → tooHigh op (leaf v) (leaf w) ≡ false
-    go (isTrue e) = clash (overflow-made op (pairs (leaf v) (leaf w)) (leaf v, leaf w) (pairs-root (leaf v) (leaf w)) e) h
-    go (isFalse e) = e
+  pub calm-false : {l : ℕ} {a b t u f g : Diagram} → ends op a b ≡ false → Step l a b t u f g → overflows o (pairs op a b) ≡ false → overflows o (pairs op f g) ≡ false
+  calm-false {a = a} {b = b} {f = f} {g = g} n s h = overflows-less o (pairs op f g) (pairs op a b) (λ p e. in-false op p n s e) h

@@ -18,11 +18,11 @@ pub data Step : ℕ → Diagram → Diagram → Diagram → Diagram → Diagram 
 
 -- the walk below the pair (a, b)
 pub data Walk : Diagram → Diagram → Type 0 where
-  ends : (v w : ℕ) → Walk (leaf v) (leaf w)
+  leaves : (v w : ℕ) → Walk (leaf v) (leaf w)
   on : {l : ℕ} {a b t u f g : Diagram} → Step l a b t u f g → Walk t u → Walk f g → Walk a b
 
 unfoldable pub walk : (a b : Diagram) → Walk a b
-walk (leaf v) (leaf w) = ends v w
+walk (leaf v) (leaf w) = leaves v w
 walk (leaf v) (branch k u g) = on (right tt) (walk (leaf v) u) (walk (leaf v) g)
 walk (branch l t f) (leaf w) = on (left tt) (walk t (leaf w)) (walk f (leaf w))
 walk (branch l t f) (branch k u g) = elim (cmp l k) [

@@ -1,6 +1,6 @@
 -- Laws of the result: a row of the space written as the listing of what was built.
 use mathlib.Core.Path.{_≡_, refl, sym, ap, subst, _∙_}
-use mathlib.Core.Bool.{Bool, true, false, false≢true}
+use mathlib.Core.Bool.{Bool, true, false, cond, false≢true}
 use mathlib.Core.List.{List, [], _++_}
 use Prim.Native.Nat.{ℕ, _+_, _*_, _≤_, _<_}
 use native.Mathlib.Omega.{arith}
@@ -26,7 +26,7 @@ use Rattle.write.specs.Writing.{writeAnswer, writeWords, WritePost}
 use Rattle.write.specs.Writing as write
 use Rattle.apply.specs.declared.Combined.{Combined}
 use Rattle.apply.specs.declared.Combined.the-variants.{Done as CombinedDone, Refused as CombinedRefused}
-use Rattle.apply.specs.Combination.{pickCombined, written}
+use Rattle.apply.specs.Combination.{written}
 use Rattle.apart.specs.Results.{Writable, resultAnswer, ResultWritten}
 use Rattle.apart.proofs.ResultLaws.{unmarked-made}
 use Rattle.row_steps.specs.declared.Stepped.{Stepped}
@@ -164,10 +164,10 @@ module _ {ar : List ℕ} {d : Diagram} {p : ℕ} {out : List ℕ} {q : Combined}
     where
       go : (b : Bool) → ltb mostRows (length (rows (closed ar d))) ≡ b → Answered (held (closed ar d)) out (Done m) out′
       go true f =
-          let y : CombinedDone m n ≡ CombinedRefused NoSpace = sym e ∙ x .answer ∙ ap (λ (b : Bool). pickCombined b (CombinedRefused NoSpace) (CombinedDone (length (rows (closed ar d))) p)) f in
+          let y : CombinedDone m n ≡ CombinedRefused NoSpace = sym e ∙ x .answer ∙ ap (λ (b : Bool). cond b (CombinedRefused NoSpace) (CombinedDone (length (rows (closed ar d))) p)) f in
           absurd (let z : _≡_ {A = ℕ} 0 1 = cc in omega arith)
       go false f =
-          let y : CombinedDone m n ≡ CombinedDone (length (rows (closed ar d))) p = sym e ∙ x .answer ∙ ap (λ (b : Bool). pickCombined b (CombinedRefused NoSpace) (CombinedDone (length (rows (closed ar d))) p)) f in
+          let y : CombinedDone m n ≡ CombinedDone (length (rows (closed ar d))) p = sym e ∙ x .answer ∙ ap (λ (b : Bool). cond b (CombinedRefused NoSpace) (CombinedDone (length (rows (closed ar d))) p)) f in
           let k : m ≡ length (rows (closed ar d)) = cc in
           record { answer = rw f (ap Done k); words = rw f (x .words ∙ ap (λ (c : Combined). written c (listing (closed ar d)) out) e) }
 
@@ -177,11 +177,11 @@ module _ {ar : List ℕ} {d : Diagram} {p : ℕ} {out : List ℕ} {q : Combined}
     where
       go : (b : Bool) → ltb mostRows (length (rows (closed ar d))) ≡ b → Answered (held (closed ar d)) out (Refused w) out′
       go true f =
-          let y : CombinedRefused w ≡ CombinedRefused NoSpace = sym e ∙ x .answer ∙ ap (λ (b : Bool). pickCombined b (CombinedRefused NoSpace) (CombinedDone (length (rows (closed ar d))) p)) f in
+          let y : CombinedRefused w ≡ CombinedRefused NoSpace = sym e ∙ x .answer ∙ ap (λ (b : Bool). cond b (CombinedRefused NoSpace) (CombinedDone (length (rows (closed ar d))) p)) f in
           let k : w ≡ NoSpace = cc in
           record { answer = rw f (ap Refused k); words = rw f (x .words ∙ ap (λ (c : Combined). written c (listing (closed ar d)) out) e) }
       go false f =
-          let y : CombinedRefused w ≡ CombinedDone (length (rows (closed ar d))) p = sym e ∙ x .answer ∙ ap (λ (b : Bool). pickCombined b (CombinedRefused NoSpace) (CombinedDone (length (rows (closed ar d))) p)) f in
+          let y : CombinedRefused w ≡ CombinedDone (length (rows (closed ar d))) p = sym e ∙ x .answer ∙ ap (λ (b : Bool). cond b (CombinedRefused NoSpace) (CombinedDone (length (rows (closed ar d))) p)) f in
           absurd (let z : _≡_ {A = ℕ} 0 1 = cc in omega arith)
 
 -- `build_closed`

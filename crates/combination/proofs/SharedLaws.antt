@@ -29,18 +29,18 @@ use Rattle.apply.specs.declared.Combined.{Combined}
 use Rattle.apply.specs.declared.Combined.the-variants.{Done, Refused}
 use Rattle.apply.specs.Apply.{apply}
 use Rattle.apply.specs.Pairs.{pairs, pairCount, overflows}
-use Rattle.apply.specs.Combination.{operate, combination, pickCombined, diagramAnswer, written, rowsFormed}
+use Rattle.apply.specs.Combination.{operate, combination, diagramAnswer, written, rowsFormed}
 use Rattle.apply.specs.CombinationLaws.{rows-shared}
 use Rattle.apply.specs.RowLaws.{rows-onto}
 use Rattle.plan.specs.Walk.{Leads, Leading}
 use Rattle.plan.specs.Plan.{Clean}
-use Rattle.plan.specs.PlanLaws.{plan-empty}
+use Rattle.plan.specs.PlanLaws.{index-empty}
 use Rattle.table.proofs.TableLaws.{clean-made}
 use Rattle.store.specs.Space.{diagramsOf, Holds}
 use Rattle.store.proofs.SpaceLaws.{holds-none, diagrams-none, length-diagrams}
 use Rattle.combine.specs.RowPairs.{Operand}
 use Rattle.combine.specs.Paired.{Pairable}
-use Rattle.combine.specs.Joining.{pickJoined, rowsAfter, joinAnswer, countAfter, diagramsAfter, Joint}
+use Rattle.combine.specs.Joining.{rowsAfter, joinAnswer, countAfter, diagramsAfter, Joint}
 use Rattle.combine.specs.Calls.{Callable, Answered}
 use Rattle.combine.specs.declared.Joined.{Joined}
 use Rattle.combine.specs.declared.Joined.the-variants.{At, TooManyPairs, TooHighValue, NoRoom}
@@ -137,7 +137,7 @@ shared-pairable ar {x} {y} n m limit vx vy h k l = record {
   first = listing-operand ar x vx;
   second = listing-operand ar y vy;
   leading = record { first = listing-leads ar x vx; second = listing-leads ar y vy };
-  empty = plan-empty x y (replicate n 0) (replicate m 0) limit (rw length-replicate h) l (plan-clean m k);
+  empty = index-empty (replicate n 0) (replicate m 0) limit (rw length-replicate h) l (plan-clean m k);
 }
 
 pub shared-holds : (work : List ℕ) (n m : ℕ) → spaceWords ≤ length work → 2048 ≤ n → 2048 ≤ m → Holds work (replicate n 0) (replicate m 0) 0
@@ -154,9 +154,9 @@ module _ (op : Operation) (ar : List ℕ) (a b : Diagram) where
 
   answer-is : finishAnswer (joinAnswer op mostPairs a b []) ≡ diagramAnswer op Shared ar a b
   unfolding diagramAnswer joinAnswer
-  answer-is = go (flag (ltb mostPairs (pairCount a b))) (flag (overflows (operate op) (pairs a b))) (flag (ltb spaceRows (length (onto (apply (operate op) a b) []))))
+  answer-is = go (flag (ltb mostPairs (pairCount op a b))) (flag (overflows (operate op) (pairs op a b))) (flag (ltb spaceRows (length (onto (apply (operate op) a b) []))))
     where
-      go : Flag (ltb mostPairs (pairCount a b)) → Flag (overflows (operate op) (pairs a b)) → Flag (ltb spaceRows (length (onto (apply (operate op) a b) [])))
+      go : Flag (ltb mostPairs (pairCount op a b)) → Flag (overflows (operate op) (pairs op a b)) → Flag (ltb spaceRows (length (onto (apply (operate op) a b) [])))
           → finishAnswer (joinAnswer op mostPairs a b []) ≡ diagramAnswer op Shared ar a b
       go (isTrue e) f g = rw e
       go (isFalse e) (isTrue f) g = rw (e, f)
@@ -190,13 +190,13 @@ shared-in op limit ar x y work {r} {s} {heads} {links} {hs} c j = record {
 -- few pairs are no more than a call may have
 few-answer : (op : Operation) (a b : Diagram) (rs : List Diagram) (r : Joined) → (r ≡ TooManyPairs → ⊥) → r ≡ joinAnswer op few a b rs → r ≡ joinAnswer op mostPairs a b rs
 unfolding joinAnswer
-few-answer op a b rs r n e = go (flag (ltb few (pairCount a b)))
+few-answer op a b rs r n e = go (flag (ltb few (pairCount op a b)))
   where
-    go : Flag (ltb few (pairCount a b)) → r ≡ joinAnswer op mostPairs a b rs
+    go : Flag (ltb few (pairCount op a b)) → r ≡ joinAnswer op mostPairs a b rs
     go (isTrue q) = absurd (n (rw q at e))
     go (isFalse q) =
-        let l = ltb-false few (pairCount a b) q in
-        rw (le-ltb mostPairs (pairCount a b) (omega arith)) (rw q at e)
+        let l = ltb-false few (pairCount op a b) q in
+        rw (le-ltb mostPairs (pairCount op a b) (omega arith)) (rw q at e)
 
 pub few-many : {op : Operation} {x y work : List ℕ} {r : Joined} {s : List ℕ} → (r ≡ TooManyPairs → ⊥) → SharedIn op few x y work r s → SharedIn op mostPairs x y work r s
 few-many {op} {x} {y} {work} {r} {s} n j = record {

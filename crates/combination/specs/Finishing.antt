@@ -1,6 +1,6 @@
 -- How a shared combination ends: the rows formed in an empty space are the result's listing (document 01, section 'Combination').
 use mathlib.Core.Path.{_≡_}
-use mathlib.Core.Bool.{Bool, true, false}
+use mathlib.Core.Bool.{cond}
 use mathlib.Core.List.{List, _++_}
 use Prim.Native.Nat.{ℕ, _*_, _≤_}
 use lib.ListN.{length, take, drop}
@@ -9,7 +9,7 @@ use Rattle.refusal.specs.declared.Refusal.the-variants.{Pairs, Value, Space}
 use Rattle.diagram.specs.Sizes.{mostRows, resultWords}
 use Rattle.apply.specs.declared.Combined.{Combined}
 use Rattle.apply.specs.declared.Combined.the-variants.{Done, Refused}
-use Rattle.apply.specs.Combination.{pickCombined, written}
+use Rattle.apply.specs.Combination.{written}
 use Rattle.combine.specs.declared.Joined.{Joined}
 use Rattle.combine.specs.declared.Joined.the-variants.{At, TooManyPairs, TooHighValue, NoRoom}
 
@@ -22,7 +22,7 @@ rowsIn NoRoom = 0
 
 -- what the call answers: a result above 1,024 rows is refused too
 abbrev pub finishAnswer : Joined → Combined
-finishAnswer (At i n p) = pickCombined (ltb mostRows n) (Refused Space) (Done n p)
+finishAnswer (At i n p) = cond (ltb mostRows n) (Refused Space) (Done n p)
 finishAnswer TooManyPairs = Refused Pairs
 finishAnswer TooHighValue = Refused Value
 finishAnswer NoRoom = Refused Space

@@ -110,7 +110,7 @@ fn combine_many(
 }
 
 // The same, with room for few pairs first, which suffices for most calls: clearing room for all costs more than their walk. Each row of an operand is met in a
-// pair, so that a listing of more rows has more pairs.
+// pair, but under a zero of a product, so that a listing of more rows mostly has more pairs.
 pub fn combine_shared(
     op: Operation,
     arities: &[u64],

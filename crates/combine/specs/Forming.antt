@@ -1,6 +1,6 @@
 -- Forming the rows of a plan's entries, one after another (document 01, section 'Combination': every pair forms its reduced diagram).
 use mathlib.Core.Path.{_≡_}
-use mathlib.Core.Bool.{Bool, true, false}
+use mathlib.Core.Bool.{true, false, cond}
 use mathlib.Core.List.{List}
 use Prim.Native.Nat.{ℕ, _*_, _-_, _≤_, _<_}
 use lib.ListN.{length, getD}
@@ -11,14 +11,14 @@ use Rattle.apply.specs.declared.Operation.{Operation}
 use Rattle.apply.specs.Combination.{operate}
 use Rattle.apply.specs.Apply.{node}
 use Rattle.plan.specs.Plan.{pairLabelAt, firstAt, secondAt}
-use Rattle.store.specs.Space.{diagramsOf, Holds, addAll, pickDiagram}
+use Rattle.store.specs.Space.{diagramsOf, Holds, addAll}
 use Rattle.combine.specs.Callers.{Calm}
 use Rattle.combine.specs.Results.{isEndAt, results, exceeds, Sound}
 
 -- what entry k forms, once the last word of each earlier entry is the number of the row that it formed
 unfoldable pub entryAt : Operation → List ℕ → List ℕ → ℕ → Diagram
 entryAt op ws s k =
-    pickDiagram (isEndAt ws k) (leaf (operate op (firstAt ws k) (secondAt ws k)))
+    cond (isEndAt ws k) (leaf (operate op (firstAt ws k) (secondAt ws k)))
     (node (pairLabelAt ws k) (tree s (secondAt ws (firstAt ws k))) (tree s (secondAt ws (secondAt ws k))))
 
 -- a branch entry's children are rows of the space

@@ -1,6 +1,6 @@
 -- One combination in a working space: what it answers and what the space holds then (document 01, section 'Combination': pairs, value, space).
 use mathlib.Core.Path.{_≡_}
-use mathlib.Core.Bool.{Bool, true, false}
+use mathlib.Core.Bool.{cond}
 use mathlib.Core.List.{List}
 use Prim.Native.Nat.{ℕ}
 use lib.ListN.{length, take}
@@ -22,10 +22,6 @@ use Rattle.combine.specs.Forming.{lastOf}
 use Rattle.combine.specs.declared.Joined.{Joined}
 use Rattle.combine.specs.declared.Joined.the-variants.{At, TooManyPairs, TooHighValue, NoRoom}
 
-abbrev pub pickJoined : Bool → Joined → Joined → Joined
-pickJoined true x y = x
-pickJoined false x y = y
-
 -- the rows after a combination of a and b in a space that holds rs
 abbrev pub rowsAfter : Operation → Diagram → Diagram → List Diagram → List Diagram
 rowsAfter op a b rs = onto (apply (operate op) a b) rs
@@ -33,10 +29,10 @@ rowsAfter op a b rs = onto (apply (operate op) a b) rs
 -- the result's row, the rows then, the pairs; or pairs above the limit, then a leaf pair above 10^18, then no room
 unfoldable pub joinAnswer : Operation → ℕ → Diagram → Diagram → List Diagram → Joined
 joinAnswer op limit a b rs =
-    pickJoined (ltb limit (pairCount a b)) TooManyPairs
-    (pickJoined (overflows (operate op) (pairs a b)) TooHighValue
-    (pickJoined (ltb spaceRows (length (rowsAfter op a b rs))) NoRoom
-    (At (index (apply (operate op) a b) (rowsAfter op a b rs)) (length (rowsAfter op a b rs)) (pairCount a b))))
+    cond (ltb limit (pairCount op a b)) TooManyPairs
+    (cond (overflows (operate op) (pairs op a b)) TooHighValue
+    (cond (ltb spaceRows (length (rowsAfter op a b rs))) NoRoom
+    (At (index (apply (operate op) a b) (rowsAfter op a b rs)) (length (rowsAfter op a b rs)) (pairCount op a b))))
 
 -- the rows in the space after an answer, of which there were n
 abbrev pub countAfter : ℕ → Joined → ℕ

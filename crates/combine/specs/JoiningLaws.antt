@@ -29,8 +29,8 @@ use Rattle.store.proofs.SpaceLaws.{formation-row, formation-full}
 use Rattle.combine.specs.Results.{results}
 use Rattle.combine.specs.ResultLaws.{length-results}
 use Rattle.combine.specs.Forming.{lastOf, Formable}
-use Rattle.combine.specs.Paired.{pairAnswer, pickPaired, Forms, PairedUp}
-use Rattle.combine.specs.Joining.{pickJoined, rowsAfter, joinAnswer, countAfter, diagramsAfter, Joint, joinedAs, FormedAll}
+use Rattle.combine.specs.Paired.{pairAnswer, Forms, PairedUp}
+use Rattle.combine.specs.Joining.{rowsAfter, joinAnswer, countAfter, diagramsAfter, Joint, joinedAs, FormedAll}
 use Rattle.combine.specs.declared.Paired.{Paired}
 use Rattle.combine.specs.declared.Paired.the-variants.{Pairs, TooMany, TooHigh}
 use Rattle.combine.specs.declared.Joined.{Joined}
@@ -42,51 +42,51 @@ kept-closed rs k = record { children = λ l t f m. (kept-children rs l t f k m .
 
 -- the answers of `pair_up`, taken apart
 module _ (op : Operation) (limit : ℕ) (a b : Diagram) where
-  pairs-few : (n : ℕ) → Pairs n ≡ pairAnswer op limit a b → (pairCount a b ≤ limit) × (overflows (operate op) (pairs a b) ≡ false) × (n ≡ pairCount a b)
+  pairs-few : (n : ℕ) → Pairs n ≡ pairAnswer op limit a b → (pairCount op a b ≤ limit) × (overflows (operate op) (pairs op a b) ≡ false) × (n ≡ pairCount op a b)
   unfolding pairAnswer
-  pairs-few n e = go (flag (ltb limit (pairCount a b))) (flag (overflows (operate op) (pairs a b)))
+  pairs-few n e = go (flag (ltb limit (pairCount op a b))) (flag (overflows (operate op) (pairs op a b)))
     where
-      go : Flag (ltb limit (pairCount a b)) → Flag (overflows (operate op) (pairs a b)) → (pairCount a b ≤ limit) × (overflows (operate op) (pairs a b) ≡ false) × (n ≡ pairCount a b)
+      go : Flag (ltb limit (pairCount op a b)) → Flag (overflows (operate op) (pairs op a b)) → (pairCount op a b ≤ limit) × (overflows (operate op) (pairs op a b) ≡ false) × (n ≡ pairCount op a b)
       go (isTrue p) q = let k : Pairs n ≡ TooMany = rw p at e in absurd (let z : _≡_ {A = ℕ} 0 1 = cc in omega arith)
       go (isFalse p) (isTrue q) = let k : Pairs n ≡ TooHigh = rw (p, q) at e in absurd (let z : _≡_ {A = ℕ} 0 1 = cc in omega arith)
-      go (isFalse p) (isFalse q) = let k : Pairs n ≡ Pairs (pairCount a b) = rw (p, q) at e in (ltb-false _ _ p, q, (cc))
+      go (isFalse p) (isFalse q) = let k : Pairs n ≡ Pairs (pairCount op a b) = rw (p, q) at e in (ltb-false _ _ p, q, (cc))
 
-  many-over : TooMany ≡ pairAnswer op limit a b → limit < pairCount a b
+  many-over : TooMany ≡ pairAnswer op limit a b → limit < pairCount op a b
   unfolding pairAnswer
-  many-over e = go (flag (ltb limit (pairCount a b))) (flag (overflows (operate op) (pairs a b)))
+  many-over e = go (flag (ltb limit (pairCount op a b))) (flag (overflows (operate op) (pairs op a b)))
     where
-      go : Flag (ltb limit (pairCount a b)) → Flag (overflows (operate op) (pairs a b)) → limit < pairCount a b
+      go : Flag (ltb limit (pairCount op a b)) → Flag (overflows (operate op) (pairs op a b)) → limit < pairCount op a b
       go (isTrue p) q = ltb-true _ _ p
       go (isFalse p) (isTrue q) = let k : TooMany ≡ TooHigh = rw (p, q) at e in absurd (let z : _≡_ {A = ℕ} 0 1 = cc in omega arith)
-      go (isFalse p) (isFalse q) = let k : TooMany ≡ Pairs (pairCount a b) = rw (p, q) at e in absurd (let z : _≡_ {A = ℕ} 0 1 = cc in omega arith)
+      go (isFalse p) (isFalse q) = let k : TooMany ≡ Pairs (pairCount op a b) = rw (p, q) at e in absurd (let z : _≡_ {A = ℕ} 0 1 = cc in omega arith)
 
-  high-over : TooHigh ≡ pairAnswer op limit a b → (pairCount a b ≤ limit) × (overflows (operate op) (pairs a b) ≡ true)
+  high-over : TooHigh ≡ pairAnswer op limit a b → (pairCount op a b ≤ limit) × (overflows (operate op) (pairs op a b) ≡ true)
   unfolding pairAnswer
-  high-over e = go (flag (ltb limit (pairCount a b))) (flag (overflows (operate op) (pairs a b)))
+  high-over e = go (flag (ltb limit (pairCount op a b))) (flag (overflows (operate op) (pairs op a b)))
     where
-      go : Flag (ltb limit (pairCount a b)) → Flag (overflows (operate op) (pairs a b)) → (pairCount a b ≤ limit) × (overflows (operate op) (pairs a b) ≡ true)
+      go : Flag (ltb limit (pairCount op a b)) → Flag (overflows (operate op) (pairs op a b)) → (pairCount op a b ≤ limit) × (overflows (operate op) (pairs op a b) ≡ true)
       go (isTrue p) q = let k : TooHigh ≡ TooMany = rw p at e in absurd (let z : _≡_ {A = ℕ} 0 1 = cc in omega arith)
       go (isFalse p) (isTrue q) = (ltb-false _ _ p, q)
-      go (isFalse p) (isFalse q) = let k : TooHigh ≡ Pairs (pairCount a b) = rw (p, q) at e in absurd (let z : _≡_ {A = ℕ} 0 1 = cc in omega arith)
+      go (isFalse p) (isFalse q) = let k : TooHigh ≡ Pairs (pairCount op a b) = rw (p, q) at e in absurd (let z : _≡_ {A = ℕ} 0 1 = cc in omega arith)
 
   -- the answers of a combination
   module _ (rs : List Diagram) where
-    answer-many : limit < pairCount a b → TooManyPairs ≡ joinAnswer op limit a b rs
+    answer-many : limit < pairCount op a b → TooManyPairs ≡ joinAnswer op limit a b rs
     unfolding joinAnswer
-    answer-many h = rw (lt-ltb limit (pairCount a b) h)
+    answer-many h = rw (lt-ltb limit (pairCount op a b) h)
 
-    answer-high : pairCount a b ≤ limit → overflows (operate op) (pairs a b) ≡ true → TooHighValue ≡ joinAnswer op limit a b rs
+    answer-high : pairCount op a b ≤ limit → overflows (operate op) (pairs op a b) ≡ true → TooHighValue ≡ joinAnswer op limit a b rs
     unfolding joinAnswer
-    answer-high h e = rw (le-ltb limit (pairCount a b) h, e)
+    answer-high h e = rw (le-ltb limit (pairCount op a b) h, e)
 
-    answer-full : pairCount a b ≤ limit → overflows (operate op) (pairs a b) ≡ false → spaceRows < length (rowsAfter op a b rs) → NoRoom ≡ joinAnswer op limit a b rs
+    answer-full : pairCount op a b ≤ limit → overflows (operate op) (pairs op a b) ≡ false → spaceRows < length (rowsAfter op a b rs) → NoRoom ≡ joinAnswer op limit a b rs
     unfolding joinAnswer
-    answer-full h e l = rw (le-ltb limit (pairCount a b) h, e, lt-ltb spaceRows (length (rowsAfter op a b rs)) l)
+    answer-full h e l = rw (le-ltb limit (pairCount op a b) h, e, lt-ltb spaceRows (length (rowsAfter op a b rs)) l)
 
-    answer-at : pairCount a b ≤ limit → overflows (operate op) (pairs a b) ≡ false → length (rowsAfter op a b rs) ≤ spaceRows
-        → At (index (apply (operate op) a b) (rowsAfter op a b rs)) (length (rowsAfter op a b rs)) (pairCount a b) ≡ joinAnswer op limit a b rs
+    answer-at : pairCount op a b ≤ limit → overflows (operate op) (pairs op a b) ≡ false → length (rowsAfter op a b rs) ≤ spaceRows
+        → At (index (apply (operate op) a b) (rowsAfter op a b rs)) (length (rowsAfter op a b rs)) (pairCount op a b) ≡ joinAnswer op limit a b rs
     unfolding joinAnswer
-    answer-at h e l = rw (le-ltb limit (pairCount a b) h, e, le-ltb spaceRows (length (rowsAfter op a b rs)) l)
+    answer-at h e l = rw (le-ltb limit (pairCount op a b) h, e, le-ltb spaceRows (length (rowsAfter op a b rs)) l)
 
 -- what `pair_up` leaves can be formed
 pub forms-formable : {op : Operation} {a b : Diagram} {ws : List ℕ} {n : ℕ} → Forms op a b ws n → Formable op ws n
@@ -106,7 +106,7 @@ module _ {op : Operation} {limit : ℕ} {a b : Diagram} {p : Paired} {ws hs : Li
       record { answer = answer-high op limit a b (diagramsOf s count) (q .0) (q .1); clean = up .clean; holds = holds; diagrams = refl }
 
   module _ {n : ℕ} (e : p ≡ Pairs n) where
-    q : (pairCount a b ≤ limit) × (overflows (operate op) (pairs a b) ≡ false) × (n ≡ pairCount a b)
+    q : (pairCount op a b ≤ limit) × (overflows (operate op) (pairs op a b) ≡ false) × (n ≡ pairCount op a b)
     q = pairs-few op limit a b n (sym e ∙ up .answer)
 
     last-is : lastOf (results (operate op) ws n) ≡ apply (operate op) a b

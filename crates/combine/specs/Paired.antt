@@ -1,7 +1,7 @@
 -- What pairing up two rows answers, and the plan that it leaves (document 01, section 'Combination': pairs, then values).
 use mathlib.Core.Path.{_≡_}
-use mathlib.Core.Bool.{Bool, true, false}
-use mathlib.Core.List.{List, []}
+use mathlib.Core.Bool.{false, cond}
+use mathlib.Core.List.{List}
 use Prim.Native.Nat.{ℕ, suc, _-_, _<_}
 use lib.ListN.{getD}
 use lib.Dec.{ltb}
@@ -14,7 +14,7 @@ use Rattle.apply.specs.Apply.{apply}
 use Rattle.apply.specs.Pairs.{pairs, pairCount, overflows}
 use Rattle.apply.specs.Formed.{ClosedRows}
 use Rattle.plan.specs.Walk.{Leading}
-use Rattle.plan.specs.Plan.{Plan, Clean}
+use Rattle.plan.specs.Plan.{Index, Clean}
 use Rattle.combine.specs.RowPairs.{Operand}
 use Rattle.combine.specs.Results.{results, exceeds, Sound}
 use Rattle.store.specs.Space.{addAll}
@@ -26,16 +26,12 @@ pub record Pairable (x y plan heads : List ℕ) (limit i j : ℕ) : Type 0 where
   pub first : Operand x (suc i) (tree x)
   pub second : Operand y (suc j) (tree y)
   pub leading : Leading x y (i, j)
-  pub empty : Plan x y plan heads limit []
-
-abbrev pub pickPaired : Bool → Paired → Paired → Paired
-pickPaired true x y = x
-pickPaired false x y = y
+  pub empty : Index plan heads limit 0
 
 -- more pairs than the limit, or a leaf pair whose result is above 10^18, in this order
 unfoldable pub pairAnswer : Operation → ℕ → Diagram → Diagram → Paired
 pairAnswer op limit a b =
-    pickPaired (ltb limit (pairCount a b)) TooMany (pickPaired (overflows (operate op) (pairs a b)) TooHigh (Pairs (pairCount a b)))
+    cond (ltb limit (pairCount op a b)) TooMany (cond (overflows (operate op) (pairs op a b)) TooHigh (Pairs (pairCount op a b)))
 
 -- the first n entries of the plan form the rows of the combination of a and b
 pub record Forms (op : Operation) (a b : Diagram) (ws : List ℕ) (n : ℕ) : Type 0 where

@@ -14,17 +14,19 @@ use Rattle.diagram.specs.Sizes.{highestValue}
 use Rattle.diagram.specs.Diagram.{Diagram, leaf, branch}
 use Rattle.diagram.specs.Words.{labelAt, highAt, lowAt}
 use Rattle.apply.specs.Apply.{node, apply}
-use Rattle.apply.specs.ApplyLaws.{apply-leaves, apply-step}
-use Rattle.apply.specs.Pairs.{Pair, overflows, tooHigh}
-use Rattle.apply.specs.Walk.{Step, left, right, both}
+use Rattle.apply.specs.declared.Operation.{Operation}
+use Rattle.apply.specs.Combination.{operate}
+use Rattle.apply.specs.ApplyLaws.{apply-step}
+use Rattle.apply.specs.Pairs.{overflows}
+use Rattle.apply.specs.Course.{inner-calm}
 use Rattle.apply.specs.OverflowLaws.{overflows-none, overflows-cons, overflows-append}
 use Rattle.apply.specs.Formed.{add, formed}
 use Rattle.apply.specs.FormedLaws.{formed-none, formed-cons}
 use Rattle.plan.specs.Walk.{isEnd, pairLabel, onHigh, onLow}
 use Rattle.plan.specs.Walk as rows
-use Rattle.plan.specs.WalkLaws.{end-label, branch-label, end-leaves}
+use Rattle.plan.specs.WalkLaws.{end-label}
 use Rattle.plan.specs.Plan.{pairLabelAt, firstAt, secondAt, origin, Plan, Entry, Branch, End}
-use Rattle.combine.specs.RowPairs.{Operand, Inside, AllInside, pairTree, Onward, onward, ending}
+use Rattle.combine.specs.RowPairs.{Operand, Inside, AllInside, pairTree, Onward, onward, end-forms, word-small}
 use Rattle.combine.specs.Results.{isEndAt, resultAt, results, exceedsAt, exceeds, Sound}
 use Rattle.store.specs.Space.{addAll}
 
@@ -85,114 +87,105 @@ map-append : {A B : Type 0} (f : A → B) (xs ys : List A) → map f (xs ++ ys) 
 map-append f [] ys = refl
 map-append f (x ∷ xs) ys = ap (_∷_ (f x)) (map-append f xs ys)
 
--- a pair that is not both leaves has no result of its own
-inner-calm : (op : ℕ → ℕ → ℕ) {l : ℕ} {a b t u f g : Diagram} → Step l a b t u f g → tooHigh op a b ≡ false
-inner-calm op (left h) = refl
-inner-calm op (right {k = k} {u = u} {g = g} {a = a} h) = go a
-  where
-    go : (d : Diagram) → tooHigh op d (branch k u g) ≡ false
-    go (leaf v) = refl
-    go (branch j t f) = refl
-inner-calm op (both e) = refl
-
 module _ (x y : List ℕ) (m n : ℕ) (tx ty : ℕ → Diagram) (ox : Operand x m tx) (oy : Operand y n ty)
-    (ws heads : List ℕ) (limit : ℕ) (ps : List rows.Pair) (plan : Plan x y ws heads limit ps) (inside : AllInside x y m n tx ty ox oy ps) where
+    (op : Operation) (ws heads : List ℕ) (limit : ℕ) (ps : List rows.Pair) (plan : Plan op x y ws heads limit ps) (inside : AllInside x y m n tx ty ox oy ps) where
   -- what a pair of rows forms
-  abbrev pub pairResult : (ℕ → ℕ → ℕ) → rows.Pair → Diagram
-  pairResult op p = apply op (tx (p .0)) (ty (p .1))
+  abbrev pub pairResult : rows.Pair → Diagram
+  pairResult p = apply (operate op) (tx (p .0)) (ty (p .1))
 
   at-inside : (qs : List rows.Pair) → AllInside x y m n tx ty ox oy qs → (k : ℕ) → k < length qs → Inside x y m n tx ty ox oy (getD qs k origin)
   at-inside [] a k h = absurd (omega arith)
   at-inside (q ∷ qs) a zero h = a .0
   at-inside (q ∷ qs) a (suc k) h = at-inside qs (a .1) k (omega arith)
 
-  label-end : (k : ℕ) → k < length ps → isEndAt ws k ≡ isEnd x y (getD ps k origin)
-  label-end k h = go (flag (isEnd x y (getD ps k origin)))
+  label-end : (k : ℕ) → k < length ps → isEndAt ws k ≡ isEnd op x y (getD ps k origin)
+  label-end k h = go (flag (isEnd op x y (getD ps k origin)))
     where
-      go : Flag (isEnd x y (getD ps k origin)) → isEndAt ws k ≡ isEnd x y (getD ps k origin)
-      go (isTrue e) = end-at ws k (plan .entry k h .label ∙ end-label x y (getD ps k origin) e) ∙ sym e
+      go : Flag (isEnd op x y (getD ps k origin)) → isEndAt ws k ≡ isEnd op x y (getD ps k origin)
+      go (isTrue e) = end-at ws k (plan .entry k h .label ∙ end-label op x y (getD ps k origin) e) ∙ sym e
       go (isFalse e) =
-          let o = onward x y m n tx ty ox oy (getD ps k origin) (at-inside ps inside k h) e in
+          let o = onward x y m n tx ty ox oy op (getD ps k origin) (at-inside ps inside k h) e in
           branch-at ws k (λ z. omega (arith, o .label-less, sym (plan .entry k h .label) ∙ z)) ∙ sym e
 
-  results-step : (op : ℕ → ℕ → ℕ) (k : ℕ) → k < length ps → results op ws k ≡ map (pairResult op) (take k ps)
-      → resultAt op ws (results op ws k) k ≡ pairResult op (getD ps k origin)
-  results-step op k h ih = go (flag (isEnd x y (getD ps k origin)))
+  results-step : (k : ℕ) → k < length ps → results (operate op) ws k ≡ map pairResult (take k ps)
+      → resultAt (operate op) ws (results (operate op) ws k) k ≡ pairResult (getD ps k origin)
+  results-step k h ih = go (flag (isEnd op x y (getD ps k origin)))
     where
       p : rows.Pair
       p = getD ps k origin
 
-      child : (j : ℕ) → j < k → getD (results op ws k) j (leaf 0) ≡ pairResult op (getD ps j origin)
+      child : (j : ℕ) → j < k → getD (results (operate op) ws k) j (leaf 0) ≡ pairResult (getD ps j origin)
       child j l =
           ap (λ (ds : List Diagram). getD ds j (leaf 0)) ih
-          ∙ getD-map (pairResult op) (take k ps) j origin (leaf 0) (omega (arith, length-take-le k ps (omega arith)))
-          ∙ ap (pairResult op) (getD-take k ps j origin l)
+          ∙ getD-map pairResult (take k ps) j origin (leaf 0) (omega (arith, length-take-le k ps (omega arith)))
+          ∙ ap pairResult (getD-take k ps j origin l)
 
-      go : Flag (isEnd x y (getD ps k origin)) → resultAt op ws (results op ws k) k ≡ pairResult op (getD ps k origin)
+      go : Flag (isEnd op x y (getD ps k origin)) → resultAt (operate op) ws (results (operate op) ws k) k ≡ pairResult (getD ps k origin)
       go (isTrue e) =
           let v = plan .entry k h .end e in
-          let z = ending x y m n tx ty ox oy (getD ps k origin) (at-inside ps inside k h) e in
-          result-end op ws (results op ws k) k (label-end k h ∙ e)
-          ∙ ap leaf (ap₂ op (v .first) (v .second))
-          ∙ sym (apply-leaves op _ _) ∙ ap₂ (apply op) (sym (z .0)) (sym (z .1))
+          result-end (operate op) ws (results (operate op) ws k) k (label-end k h ∙ e)
+          ∙ ap leaf (ap₂ (operate op) (v .first) (v .second))
+          ∙ end-forms x y m n tx ty ox oy op (getD ps k origin) (at-inside ps inside k h) e .0
       go (isFalse e) =
           let b = plan .entry k h .branch e in
-          let o = onward x y m n tx ty ox oy (getD ps k origin) (at-inside ps inside k h) e in
-          result-branch op ws (results op ws k) k (label-end k h ∙ e)
-          ∙ ap₂ (node (pairLabelAt ws k)) (child (firstAt ws k) (b .first-less) ∙ ap (pairResult op) (b .first)) (child (secondAt ws k) (b .second-less) ∙ ap (pairResult op) (b .second))
-          ∙ ap (λ (l : ℕ). node l (pairResult op (onHigh x y p)) (pairResult op (onLow x y p))) (plan .entry k h .label)
-          ∙ sym (apply-step op (o .step))
+          let o = onward x y m n tx ty ox oy op (getD ps k origin) (at-inside ps inside k h) e in
+          result-branch (operate op) ws (results (operate op) ws k) k (label-end k h ∙ e)
+          ∙ ap₂ (node (pairLabelAt ws k)) (child (firstAt ws k) (b .first-less) ∙ ap pairResult (b .first)) (child (secondAt ws k) (b .second-less) ∙ ap pairResult (b .second))
+          ∙ ap (λ (l : ℕ). node l (pairResult (onHigh x y p)) (pairResult (onLow x y p))) (plan .entry k h .label)
+          ∙ sym (apply-step (operate op) (o .step))
 
   -- the entries form, in their order, what their pairs of diagrams form
-  pub results-are : (op : ℕ → ℕ → ℕ) (k : ℕ) → k ≤ length ps → results op ws k ≡ map (pairResult op) (take k ps)
-  results-are op zero h = results-none op ws
-  results-are op (suc k) h =
-      let ih = results-are op k (omega arith) in
-      results-more op ws k ∙ ap₂ (λ (ds : List Diagram) (d : Diagram). ds ++ (d ∷ [])) ih (results-step op k h ih)
-      ∙ sym (map-append (pairResult op) (take k ps) (getD ps k origin ∷ [])) ∙ ap (map (pairResult op)) (sym (take-suc ps k origin h))
+  pub results-are : (k : ℕ) → k ≤ length ps → results (operate op) ws k ≡ map pairResult (take k ps)
+  results-are zero h = results-none (operate op) ws
+  results-are (suc k) h =
+      let ih = results-are k (omega arith) in
+      results-more (operate op) ws k ∙ ap₂ (λ (ds : List Diagram) (d : Diagram). ds ++ (d ∷ [])) ih (results-step k h ih)
+      ∙ sym (map-append pairResult (take k ps) (getD ps k origin ∷ [])) ∙ ap (map pairResult) (sym (take-suc ps k origin h))
 
   -- rows added in the order of the entries are the rows formed by the pairs
-  pub added-formed : (op : ℕ → ℕ → ℕ) (rs : List Diagram) (qs : List rows.Pair)
-      → addAll rs (map (pairResult op) qs) ≡ formed op rs (map (pairTree x y m n tx ty ox oy) qs)
+  pub added-formed : (rs : List Diagram) (qs : List rows.Pair)
+      → addAll rs (map pairResult qs) ≡ formed (operate op) rs (map (pairTree x y m n tx ty ox oy) qs)
   unfolding addAll
-  added-formed op rs [] = sym (formed-none op rs)
-  added-formed op rs (q ∷ qs) = added-formed op (add (pairResult op q) rs) qs ∙ sym (formed-cons op rs _ _)
+  added-formed rs [] = sym (formed-none (operate op) rs)
+  added-formed rs (q ∷ qs) = added-formed (add (pairResult q) rs) qs ∙ sym (formed-cons (operate op) rs _ _)
 
-  exceeds-step : (op : ℕ → ℕ → ℕ) (k : ℕ) → k < length ps → exceedsAt op ws k ≡ overflows op (pairTree x y m n tx ty ox oy (getD ps k origin) ∷ [])
+  exceeds-step : (k : ℕ) → k < length ps → exceedsAt (operate op) ws k ≡ overflows (operate op) (pairTree x y m n tx ty ox oy (getD ps k origin) ∷ [])
   unfolding exceedsAt
-  exceeds-step op k h = go (flag (isEnd x y (getD ps k origin)))
+  exceeds-step k h = go (flag (isEnd op x y (getD ps k origin)))
     where
-      go : Flag (isEnd x y (getD ps k origin)) → (isEndAt ws k && ltb highestValue (op (firstAt ws k) (secondAt ws k))) ≡ overflows op (pairTree x y m n tx ty ox oy (getD ps k origin) ∷ [])
+      go : Flag (isEnd op x y (getD ps k origin)) → (isEndAt ws k && ltb highestValue (operate op (firstAt ws k) (secondAt ws k))) ≡ overflows (operate op) (pairTree x y m n tx ty ox oy (getD ps k origin) ∷ [])
       go (isTrue e) =
           let v = plan .entry k h .end e in
-          let z = ending x y m n tx ty ox oy (getD ps k origin) (at-inside ps inside k h) e in
-          rw (label-end k h, e, v .first, v .second, overflows-cons op (pairTree x y m n tx ty ox oy (getD ps k origin)) [], overflows-none op, z .0, z .1) (sym (or-false _))
+          let z = end-forms x y m n tx ty ox oy op (getD ps k origin) (at-inside ps inside k h) e in
+          rw (label-end k h, e, v .first, v .second, overflows-cons (operate op) (pairTree x y m n tx ty ox oy (getD ps k origin)) [], overflows-none (operate op), z .1) (sym (or-false _))
       go (isFalse e) =
-          let o = onward x y m n tx ty ox oy (getD ps k origin) (at-inside ps inside k h) e in
-          rw (label-end k h, e, overflows-cons op (pairTree x y m n tx ty ox oy (getD ps k origin)) [], overflows-none op, inner-calm op (o .step))
+          let o = onward x y m n tx ty ox oy op (getD ps k origin) (at-inside ps inside k h) e in
+          rw (label-end k h, e, overflows-cons (operate op) (pairTree x y m n tx ty ox oy (getD ps k origin)) [], overflows-none (operate op), inner-calm (operate op) (o .step))
 
   -- an end among the entries exceeds exactly if one of the pairs of leaves does
-  pub exceeds-are : (op : ℕ → ℕ → ℕ) (k : ℕ) → k ≤ length ps → exceeds op ws k ≡ overflows op (map (pairTree x y m n tx ty ox oy) (take k ps))
-  exceeds-are op zero h = exceeds-none op ws ∙ sym (overflows-none op)
-  exceeds-are op (suc k) h =
-      exceeds-more op ws k ∙ ap₂ _||_ (exceeds-are op k (omega arith)) (exceeds-step op k h)
-      ∙ sym (overflows-append op (map (pairTree x y m n tx ty ox oy) (take k ps)) (pairTree x y m n tx ty ox oy (getD ps k origin) ∷ []))
-      ∙ ap (overflows op) (sym (map-append (pairTree x y m n tx ty ox oy) (take k ps) (getD ps k origin ∷ [])) ∙ ap (map (pairTree x y m n tx ty ox oy)) (sym (take-suc ps k origin h)))
+  pub exceeds-are : (k : ℕ) → k ≤ length ps → exceeds (operate op) ws k ≡ overflows (operate op) (map (pairTree x y m n tx ty ox oy) (take k ps))
+  exceeds-are zero h = exceeds-none (operate op) ws ∙ sym (overflows-none (operate op))
+  exceeds-are (suc k) h =
+      exceeds-more (operate op) ws k ∙ ap₂ _||_ (exceeds-are k (omega arith)) (exceeds-step k h)
+      ∙ sym (overflows-append (operate op) (map (pairTree x y m n tx ty ox oy) (take k ps)) (pairTree x y m n tx ty ox oy (getD ps k origin) ∷ []))
+      ∙ ap (overflows (operate op)) (sym (map-append (pairTree x y m n tx ty ox oy) (take k ps) (getD ps k origin ∷ [])) ∙ ap (map (pairTree x y m n tx ty ox oy)) (sym (take-suc ps k origin h)))
 
   -- the entries can be worked on
   pub plan-sound : Sound ws (length ps)
   plan-sound = record {
     room = omega (arith, plan .index .words, plan .index .within);
-    labels = λ k h e. let o = onward x y m n tx ty ox oy (getD ps k origin) (at-inside ps inside k h) (sym (label-end k h) ∙ e) in
+    labels = λ k h e. let o = onward x y m n tx ty ox oy op (getD ps k origin) (at-inside ps inside k h) (sym (label-end k h) ∙ e) in
         rw (plan .entry k h .label) (o .label-less);
     firsts = λ k h e. plan .entry k h .branch (sym (label-end k h) ∙ e) .first-less;
     seconds = λ k h e. plan .entry k h .branch (sym (label-end k h) ∙ e) .second-less;
     values = λ k h e. end-values k h (sym (label-end k h) ∙ e);
   }
     where
-      end-values : (k : ℕ) → k < length ps → isEnd x y (getD ps k origin) ≡ true → (firstAt ws k ≤ highestValue) × (secondAt ws k ≤ highestValue)
+      end-values : (k : ℕ) → k < length ps → isEnd op x y (getD ps k origin) ≡ true → (firstAt ws k ≤ highestValue) × (secondAt ws k ≤ highestValue)
       end-values k h e =
-          let v = plan .entry k h .end e in
-          let z = end-leaves x y (getD ps k origin) e in
-          let a = at-inside ps inside k h in
-          (rw (v .first) (ox .values (getD ps k origin .0) (a .0) (z .0)), rw (v .second) (oy .values (getD ps k origin .1) (a .1) (z .1)))
+          let t = plan .entry k h in
+          let v = t .end e in
+          let a = at-inside ps inside k h in (
+            rw (v .first) (word-small x m tx ox (getD ps k origin .0) (a .0) (t .few-x)),
+            rw (v .second) (word-small y n ty oy (getD ps k origin .1) (a .1) (t .few-y)),
+          )

@@ -1,6 +1,6 @@
 -- What a plan's entries stand for: the diagrams that its pairs form, worked out from its words.
 use mathlib.Core.Path.{_≡_}
-use mathlib.Core.Bool.{Bool, true, false, _&&_, _||_}
+use mathlib.Core.Bool.{Bool, true, false, _&&_, _||_, cond}
 use mathlib.Core.List.{List, [], _∷_, _++_}
 use Prim.Native.Nat.{ℕ, zero, suc, _*_, _≤_, _<_}
 use lib.ListN.{length, getD}
@@ -9,17 +9,16 @@ use Rattle.label.specs.Limits.{leafMark}
 use Rattle.diagram.specs.Sizes.{highestValue}
 use Rattle.diagram.specs.Diagram.{Diagram, leaf, branch}
 use Rattle.apply.specs.Apply.{node}
-use Rattle.store.specs.Space.{pickDiagram}
 use Rattle.plan.specs.Plan.{pairLabelAt, firstAt, secondAt}
 
--- entry k is an end: a pair of leaves
+-- entry k is an end
 unfoldable pub isEndAt : List ℕ → ℕ → Bool
 isEndAt ws k = eqb (pairLabelAt ws k) leafMark
 
 -- what entry k forms, the results of the entries before it being `done`
 unfoldable pub resultAt : (ℕ → ℕ → ℕ) → List ℕ → List Diagram → ℕ → Diagram
 resultAt op ws done k =
-    pickDiagram (isEndAt ws k) (leaf (op (firstAt ws k) (secondAt ws k)))
+    cond (isEndAt ws k) (leaf (op (firstAt ws k) (secondAt ws k)))
     (node (pairLabelAt ws k) (getD done (firstAt ws k) (leaf 0)) (getD done (secondAt ws k) (leaf 0)))
 
 -- what the first n entries form

@@ -1,4 +1,4 @@
-// Combination of two diagrams: the plan's leaves checked, its rows formed, the result written.
+// Combination of two diagrams in a working space: their pairs walked, the plan's ends checked, its rows formed.
 use apply::Operation;
 use plan::Went;
 use store::Formed;
@@ -70,7 +70,7 @@ fn greater(v: u64, w: u64) -> u64
     v
 }
 
-// Whether entry k of the plan is a pair of leaves whose result is above 10^18.
+// Whether entry k of the plan is an end whose result is above 10^18.
 fn too_high_at(plan: &[u64], n: usize, k: usize, op: Operation) -> bool
     requires { ⌜ SoundAt (now plan) n k ⌝ }
     ensures { λ r. ⌜ r ≡ exceedsAt (operate op) (now (plan .entry)) k ⌝ }
@@ -81,7 +81,7 @@ fn too_high_at(plan: &[u64], n: usize, k: usize, op: Operation) -> bool
     too_high(op, plan[k * 5 + 3], plan[k * 5 + 4])
 }
 
-// Whether a pair of leaves among the first n pairs of the plan has a result above 10^18.
+// Whether an end among the first n pairs of the plan has a result above 10^18.
 fn overflow(plan: &[u64], n: usize, op: Operation) -> bool
     requires { ⌜ Sound (now plan) n ⌝ }
     ensures { λ r. ⌜ r ≡ exceeds (operate op) (now (plan .entry)) n ⌝ }
@@ -195,7 +195,7 @@ fn pair_up(
     requires { ⌜ Pairable (now x) (now y) (now plan) (now index) limit i j ⌝ }
     ensures { λ r. ⌜ PairedUp op limit (tree (now (x .entry)) i) (tree (now (y .entry)) j) r (now (plan .exit)) (now (index .exit)) ⌝ }
 {
-    let Went::To(_, n) = plan::walk(x, y, plan, index, limit, i, j) else {
+    let Went::To(_, n) = plan::walk(x, y, plan, index, limit, i, j, op) else {
         plan::clear(plan, index, limit);
         return Paired::TooMany;
     };

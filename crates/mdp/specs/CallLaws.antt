@@ -205,9 +205,9 @@ apart-added ar a b x y = go (diagramAnswer Sum Apart ar a b) refl
     go (Done n m) e =
         let h = done-accepted Sum Apart ar a b n m e in
         let room : length (variables ar a) + length (variables ar b) ≤ variableCount = ltb-false variableCount (length (variables ar a) + length (variables ar b)) (h .variables) in
-        let fine : Fine ar (before ar a b) = fine-apply _+_ ar (closed ar a) (after ar a b) (closed-good ar a x .fine) (after-good ar a b x y room .fine) (h .calm) in
+        let fine : Fine ar (before ar a b) = fine-apply Sum ar (closed ar a) (after ar a b) (closed-good ar a x .fine) (after-good ar a b x y room .fine) (h .calm) in
         let few : length (rows (before ar a b)) ≤ mostRows = subst (λ (n : ℕ). n ≤ mostRows) (closed-count ar (apply _+_ (closed ar a) (after ar a b)) (x .arities) fine) (h .few) in
-        let good : Listed ar (before ar a b) = good-apply _+_ ar (closed ar a) (after ar a b) (closed-good ar a x) (after-good ar a b x y room) (h .calm) few in
+        let good : Listed ar (before ar a b) = good-apply Sum ar (closed ar a) (after ar a b) (closed-good ar a x) (after-good ar a b x y room) (h .calm) few in
         accepted-ok (record {
           listed = closed-good ar (before ar a b) good;
           is-closed = closed-twice ar (before ar a b) good;

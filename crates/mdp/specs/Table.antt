@@ -12,7 +12,7 @@ use Rattle.diagram.specs.Sizes.{highestValue}
 use Rattle.diagram.specs.Diagram.{leaf}
 use Rattle.diagram.specs.Variables.{variables, closed, after}
 use Rattle.apply.specs.Apply.{apply}
-use Rattle.apply.specs.Pairs.{pairs, pairCount, overflows}
+use Rattle.apply.specs.Pairs.{ends, pairs, pairCount, overflows}
 use Rattle.apply.specs.Formed.{formed}
 use Rattle.apply.specs.declared.Operation.the-variants.{Sum}
 use Rattle.apply.specs.declared.Names.the-variants.{Shared}
@@ -64,5 +64,5 @@ pub table : (shown runModel [] nothingTrue ≡ (0, 0, 1))
     × (run eightModel (replicate 19 aBackup) .steps ≡ 19)
     × (backup eightModel 19 (run eightModel (replicate 19 aBackup) .diagram) ≡ refused Scale)
     × (andThen (truthAt (2 ∷ 2 ∷ replicate 30 0) (forFirst (labelTest ab)) ba []) (λ r. ok (r .0)) ≡ ok (labelTest ba))
-unfolding run highest meaning scale cutAnswer diagramAnswer combination rowsFormed formed pairs pairCount overflows apply backup truthAt variables closed after moved testOf equates renamed numbering freeing mapped placed packed unpacked predicateOf termsOf isVariable
+unfolding run highest meaning scale cutAnswer diagramAnswer combination rowsFormed formed ends pairs pairCount overflows apply backup truthAt variables closed after moved testOf equates renamed numbering freeing mapped placed packed unpacked predicateOf termsOf isVariable
 table = (refl, refl, refl, refl, refl, refl, refl, refl, refl, refl)

@@ -6,16 +6,21 @@ use mathlib.Core.List.{List}
 use Prim.Native.Nat.{ℕ, zero, suc, _+_, _-_, _*_, _/_, _%_, _<_, _≤_, zero-le}
 use native.Mathlib.Omega.{arith}
 use lib.ListN.{length, getD, set, length-set}
-use borrow.Author.Tests.{ne-eqb}
+use lib.Dec.{eqb}
+use borrow.Author.Tests.{eq-eqb, ne-eqb}
 use lib.Seq.{getD-set-same, getD-set-other}
 use Rattle.basics.specs.Tests.{Cmp, below, equal, above, cmp}
 use Rattle.label.specs.Order.{Compared}
 use Rattle.label.specs.OrderLaws.{compared-less, compared-not}
+use Rattle.label.specs.Limits.{leafMark}
 use Rattle.table.specs.Chains.{prev}
 use Rattle.table.specs.ChainLaws.{test, prev-same, prev-other, prev-le, prev-gap, prev-hits, prev-none}
 use Rattle.diagram.specs.Words.{labelAt, highAt, lowAt}
-use Rattle.plan.specs.Walk.{lesser, onHigh, onLow}
-use Rattle.plan.specs.WalkLaws.{lesser-le, lesser-gt, descend-first, descend-second, descend-both}
+use Rattle.apply.specs.declared.Operation.{Operation}
+use Rattle.apply.specs.declared.Operation.the-variants.{Product}
+use Rattle.apply.specs.Pairs.{absorbs}
+use Rattle.plan.specs.Walk.{isEnd, lesser, pairLabel, onHigh, onLow}
+use Rattle.plan.specs.WalkLaws.{lesser-le, lesser-gt, end-label, lower-label, descend-first, descend-second, descend-both}
 use Rattle.plan.specs.Plan.{buckets, keyCount, hashOf, keyAt, linkAt, hashAt, putEntry, Index, Clean, Touched, packBase, wentOf, Entered}
 use Rattle.plan.specs.declared.Went.{Went}
 use Rattle.plan.specs.declared.Went.the-variants.{To, Full}
@@ -166,6 +171,35 @@ lower-second {a} {b} q e = sym (lesser-gt a b (compared-less b a q e))
 
 pub lower-first : {a b : ℕ} {r : Bool} → Compared b a r → r ≡ false → a ≡ lesser a b
 lower-first {a} {b} q e = sym (lesser-le a b (compared-not b a q e))
+
+-- the way out of `absorbs` in a product
+pub absorbs-product : (op : Operation) (v : ℕ) → op ≡ Product → eqb v 0 ≡ absorbs op v
+absorbs-product op v e = rw e
+
+-- the ways out of `ends` and `pair_label`
+module _ (op : Operation) (x y : List ℕ) (i j : ℕ) where
+  pub ends-leaves : getD x (i * 3) 0 ≡ leafMark → getD y (j * 3) 0 ≡ leafMark → true ≡ isEnd op x y (i, j)
+  unfolding isEnd labelAt
+  ends-leaves e d = rw (eq-eqb (getD x (i * 3) 0) leafMark e, eq-eqb (getD y (j * 3) 0) leafMark d)
+
+  pub ends-first : {b : Bool} → getD x (i * 3) 0 ≡ leafMark → (getD y (j * 3) 0 ≡ leafMark → ⊥) → b ≡ absorbs op (getD x (i * 3 + 1) 0) → b ≡ isEnd op x y (i, j)
+  unfolding isEnd labelAt highAt
+  ends-first e f b = rw (eq-eqb (getD x (i * 3) 0) leafMark e, ne-eqb (getD y (j * 3) 0) leafMark f) b
+
+  pub ends-second : {b : Bool} → (getD x (i * 3) 0 ≡ leafMark → ⊥) → getD y (j * 3) 0 ≡ leafMark → b ≡ absorbs op (getD y (j * 3 + 1) 0) → b ≡ isEnd op x y (i, j)
+  unfolding isEnd labelAt highAt
+  ends-second f d b = rw (ne-eqb (getD x (i * 3) 0) leafMark f, eq-eqb (getD y (j * 3) 0) leafMark d) b
+
+  pub ends-not : (getD x (i * 3) 0 ≡ leafMark → ⊥) → (getD y (j * 3) 0 ≡ leafMark → ⊥) → false ≡ isEnd op x y (i, j)
+  unfolding isEnd labelAt
+  ends-not f g = rw (ne-eqb (getD x (i * 3) 0) leafMark f, ne-eqb (getD y (j * 3) 0) leafMark g)
+
+  pub label-end : {b : Bool} → b ≡ isEnd op x y (i, j) → b ≡ true → leafMark ≡ pairLabel op x y (i, j)
+  label-end e t = sym (end-label op x y (i, j) (sym e ∙ t))
+
+  pub label-lower : {b : Bool} {l : ℕ} → b ≡ isEnd op x y (i, j) → b ≡ false → l ≡ lesser (getD x (i * 3) 0) (getD y (j * 3) 0) → l ≡ pairLabel op x y (i, j)
+  unfolding labelAt
+  label-lower e t l = l ∙ sym (lower-label op x y (i, j) (sym e ∙ t))
 
 -- the ways out of `successors`
 module _ (x y : List ℕ) (i j : ℕ) where

@@ -12,8 +12,9 @@ use Rattle.basics.specs.Members.{mem, clash}
 use Rattle.label.specs.Limits.{leafMark}
 use Rattle.table.specs.Chains.{prev}
 use Rattle.table.specs.ChainLaws.{prev-le, prev-gap, prev-hits}
-use Rattle.diagram.specs.Words.{labelAt, highAt}
-use Rattle.plan.specs.Walk.{Pair, samePair, isEnd, lesser, pairLabel, onHigh, onLow, walked, mostRows, Leading}
+use Rattle.diagram.specs.Words.{highAt}
+use Rattle.apply.specs.declared.Operation.{Operation}
+use Rattle.plan.specs.Walk.{Pair, samePair, isEnd, pairLabel, onHigh, onLow, walked, mostRows, Leading}
 use Rattle.plan.specs.WalkLaws.{mem-at, mem-nowhere, place-one, end-label, branch-label, high-below, low-below, high-leading, low-leading, extends-length, extends-getD, walked-old, walked-end, walked-branch, walked-extends, walked-fresh, walked-root}
 use Rattle.plan.specs.Plan.{keyCount, keyOf, hashOf, keyAt, putEntry, Index, origin, Entry, Plan, Touched, wentTo, packBase, Ready, Planned, pairsAt, Reached, Overrun, Visited, Entered}
 use Rattle.plan.specs.PlanLaws.{key-one, length-pairs, plan-pairs, plan-added, index-touched}
@@ -21,25 +22,25 @@ use Rattle.plan.specs.declared.Went.{Went}
 use Rattle.plan.specs.declared.Went.the-variants.{To, Full}
 
 -- the two answers
-module _ {x y ws heads : List ℕ} {limit : ℕ} {p : Pair} {ps : List Pair} where
-  visited-to : {number count : ℕ} → Reached x y limit p ps number count ws heads → Visited x y limit p ps (To number count) ws heads
+module _ {op : Operation} {x y ws heads : List ℕ} {limit : ℕ} {p : Pair} {ps : List Pair} where
+  visited-to : {number count : ℕ} → Reached op x y limit p ps number count ws heads → Visited op x y limit p ps (To number count) ws heads
   visited-to {number} {count} r = record {
     to = λ a b q.
         let u : number ≡ a = cc in
         let v : count ≡ b = cc in
-        subst (λ (m : ℕ). Reached x y limit p ps m b ws heads) u (subst (λ (n : ℕ). Reached x y limit p ps number n ws heads) v r);
+        subst (λ (m : ℕ). Reached op x y limit p ps m b ws heads) u (subst (λ (n : ℕ). Reached op x y limit p ps number n ws heads) v r);
     full = λ q. absurd (let z : _≡_ {A = ℕ} 0 1 = cc in omega arith);
   }
 
-  visited-full : Overrun limit ps ws heads → Visited x y limit p ps Full ws heads
+  visited-full : Overrun limit ps ws heads → Visited op x y limit p ps Full ws heads
   visited-full o = record { to = λ a b q. absurd (let z : _≡_ {A = ℕ} 0 1 = cc in omega arith); full = λ q. o }
 
 -- the plan with the entry that `add` wrote, or none
-module _ (x y ws heads : List ℕ) (limit : ℕ) (ps : List Pair) (t : Plan x y ws heads limit ps) (p : Pair) (few-x : p .0 < mostRows) (few-y : p .1 < mostRows)
-    (new : mem samePair p ps ≡ false) (label first second : ℕ) (label-is : label ≡ pairLabel x y p)
-    (end-is : isEnd x y p ≡ true → (first ≡ highAt x (p .0)) × (second ≡ highAt y (p .1)))
-    (branch-is : isEnd x y p ≡ false → (first < length ps) × (second < length ps) × (getD ps first origin ≡ onHigh x y p) × (getD ps second origin ≡ onLow x y p)) where
-  entered : (z : Went) (ws′ heads′ : List ℕ) → Entered ws heads limit (length ps) (keyOf p) label first second z ws′ heads′ → Visited x y limit p (ps ++ (p ∷ [])) z ws′ heads′
+module _ (op : Operation) (x y ws heads : List ℕ) (limit : ℕ) (ps : List Pair) (t : Plan op x y ws heads limit ps) (p : Pair) (few-x : p .0 < mostRows) (few-y : p .1 < mostRows)
+    (new : mem samePair p ps ≡ false) (label first second : ℕ) (label-is : label ≡ pairLabel op x y p)
+    (end-is : isEnd op x y p ≡ true → (first ≡ highAt x (p .0)) × (second ≡ highAt y (p .1)))
+    (branch-is : isEnd op x y p ≡ false → (first < length ps) × (second < length ps) × (getD ps first origin ≡ onHigh x y p) × (getD ps second origin ≡ onLow x y p)) where
+  entered : (z : Went) (ws′ heads′ : List ℕ) → Entered ws heads limit (length ps) (keyOf p) label first second z ws′ heads′ → Visited op x y limit p (ps ++ (p ∷ [])) z ws′ heads′
   entered z ws′ heads′ e = record {
     to = λ a b q. reached a b (e .to a b q);
     full = λ q. overrun (e .full q);
@@ -51,14 +52,14 @@ module _ (x y ws heads : List ℕ) (limit : ℕ) (ps : List Pair) (t : Plan x y 
       reached : (a b : ℕ)
           → (a ≡ length ps) × (b ≡ length ps + 1) × (length ps < limit)
           × (ws′ ≡ putEntry ws (length ps) (keyOf p) (getD heads (hashOf (keyOf p)) 0) label first second) × (heads′ ≡ set heads (hashOf (keyOf p)) (length ps + 1))
-          → Reached x y limit p (ps ++ (p ∷ [])) a b ws′ heads′
+          → Reached op x y limit p (ps ++ (p ∷ [])) a b ws′ heads′
       reached a b h = record {
         less = omega (arith, h .0, h .1);
         count-is = more ∙ sym (h .1);
         number-is = getD-at ps p [] origin a (sym (h .0));
-        plan = subst (λ (w : List ℕ). Plan x y w heads′ limit (ps ++ (p ∷ []))) (sym (h .3))
-            (subst (λ (g : List ℕ). Plan x y (putEntry ws (length ps) (keyOf p) (getD heads (hashOf (keyOf p)) 0) label first second) g limit (ps ++ (p ∷ []))) (sym (h .4))
-            (plan-added x y ws heads limit ps t p few-x few-y new (h .2) label first second label-is end-is branch-is));
+        plan = subst (λ (w : List ℕ). Plan op x y w heads′ limit (ps ++ (p ∷ []))) (sym (h .3))
+            (subst (λ (g : List ℕ). Plan op x y (putEntry ws (length ps) (keyOf p) (getD heads (hashOf (keyOf p)) 0) label first second) g limit (ps ++ (p ∷ []))) (sym (h .4))
+            (plan-added op x y ws heads limit ps t p few-x few-y new (h .2) label first second label-is end-is branch-is));
       }
 
       overrun : (length ps ≡ limit) × (ws′ ≡ ws) × (heads′ ≡ heads) → Overrun limit (ps ++ (p ∷ [])) ws′ heads′
@@ -70,13 +71,13 @@ module _ (x y ws heads : List ℕ) (limit : ℕ) (ps : List Pair) (t : Plan x y 
 
   -- the same, with the count and the key by their equations
   pub entered-at : {n k : ℕ} {z : Went} {ws′ heads′ : List ℕ} → length ps ≡ n → k ≡ keyOf p → Entered ws heads limit n k label first second z ws′ heads′
-      → Visited x y limit p (ps ++ (p ∷ [])) z ws′ heads′
+      → Visited op x y limit p (ps ++ (p ∷ [])) z ws′ heads′
   entered-at {n} {k} {z} {ws′} {heads′} c d e =
       entered z ws′ heads′
       (subst (λ (m : ℕ). Entered ws heads limit m (keyOf p) label first second z ws′ heads′) (sym c)
       (subst (λ (m : ℕ). Entered ws heads limit n m label first second z ws′ heads′) d e))
 
-module _ {x y ws heads : List ℕ} {limit count i j : ℕ} (r : Ready x y ws heads limit count (i, j)) where
+module _ {op : Operation} {x y ws heads : List ℕ} {limit count i j : ℕ} (r : Ready op x y ws heads limit count (i, j)) where
   pub ready-few : (i < mostRows) × (j < mostRows)
   ready-few = (r .leading .first .few, r .leading .second .few)
 
@@ -88,12 +89,12 @@ module _ {x y ws heads : List ℕ} {limit count i j : ℕ} (r : Ready x y ws hea
 
   -- the search for the pair
   module _ {k at : ℕ} (key : (k ≡ keyOf (i, j)) × (k < keyCount)) (found : at ≡ prev (keyAt ws) k count) where
-    visit-old : (at ≡ 0 → ⊥) → Visited x y limit (i, j) (walked x y (i, j) (pairsAt ws count)) (To (at - 1) count) ws heads
+    visit-old : (at ≡ 0 → ⊥) → Visited op x y limit (i, j) (walked op x y (i, j) (pairsAt ws count)) (To (at - 1) count) ws heads
     visit-old n = visited-to (record {
       less = l;
       count-is = ap length w ∙ length-pairs ws count;
       number-is = ap (λ (qs : List Pair). getD qs (at - 1) origin) w ∙ is;
-      plan = subst (Plan x y ws heads limit) (sym w) (r .plan);
+      plan = subst (Plan op x y ws heads limit) (sym w) (r .plan);
     })
       where
         l : at - 1 < count
@@ -102,22 +103,22 @@ module _ {x y ws heads : List ℕ} {limit count i j : ℕ} (r : Ready x y ws hea
         m : at - 1 < length (pairsAt ws count)
         m = omega (arith, length-pairs ws count, l)
 
-        e : Entry x y ws (pairsAt ws count) (at - 1) (getD (pairsAt ws count) (at - 1) origin)
+        e : Entry op x y ws (pairsAt ws count) (at - 1) (getD (pairsAt ws count) (at - 1) origin)
         e = r .plan .entry (at - 1) m
 
         is : getD (pairsAt ws count) (at - 1) origin ≡ (i, j)
         is = key-one (getD (pairsAt ws count) (at - 1) origin) (i, j) (e .few-y) (ready-few .1)
             (sym (e .key) ∙ prev-hits (keyAt ws) k count (at - 1) (omega arith) ∙ key .0)
 
-        w : walked x y (i, j) (pairsAt ws count) ≡ pairsAt ws count
-        w = walked-old x y (i, j) (pairsAt ws count) (subst (λ (q : Pair). mem samePair q (pairsAt ws count) ≡ true) is (mem-at origin (pairsAt ws count) (at - 1) m))
+        w : walked op x y (i, j) (pairsAt ws count) ≡ pairsAt ws count
+        w = walked-old op x y (i, j) (pairsAt ws count) (subst (λ (q : Pair). mem samePair q (pairsAt ws count) ≡ true) is (mem-at origin (pairsAt ws count) (at - 1) m))
 
     pub visit-packable : (at ≡ 0 → ⊥) → (at - 1 < packBase) × (0 < count) × (count < packBase)
     visit-packable n = let i = ready-index in
         (omega (arith, prev-le (keyAt ws) k count, i .within, i .small), omega (arith, prev-le (keyAt ws) k count), omega (arith, i .within, i .small))
 
-    pub visit-answer : {z : Went} → (at ≡ 0 → ⊥) → z ≡ To (at - 1) count → Visited x y limit (i, j) (walked x y (i, j) (pairsAt ws count)) z ws heads
-    visit-answer n e = subst (λ (w : Went). Visited x y limit (i, j) (walked x y (i, j) (pairsAt ws count)) w ws heads) (sym e) (visit-old n)
+    pub visit-answer : {z : Went} → (at ≡ 0 → ⊥) → z ≡ To (at - 1) count → Visited op x y limit (i, j) (walked op x y (i, j) (pairsAt ws count)) z ws heads
+    visit-answer n e = subst (λ (w : Went). Visited op x y limit (i, j) (walked op x y (i, j) (pairsAt ws count)) w ws heads) (sym e) (visit-old n)
 
     pub visit-new : at ≡ 0 → mem samePair (i, j) (pairsAt ws count) ≡ false
     visit-new z = mem-nowhere origin (i, j) (pairsAt ws count)
@@ -125,94 +126,90 @@ module _ {x y ws heads : List ℕ} {limit count i j : ℕ} (r : Ready x y ws hea
         prev-gap (keyAt ws) k count n (omega arith) l (r .plan .entry n h .key ∙ ap keyOf e ∙ sym (key .0)))
 
   -- the pair is new
-  module _ {l : ℕ} (new : mem samePair (i, j) (pairsAt ws count) ≡ false) (low : l ≡ lesser (getD x (i * 3) 0) (getD y (j * 3) 0)) where
-    label-is : l ≡ pairLabel x y (i, j)
-    unfolding pairLabel labelAt
-    label-is = low
-
-    is-end : l ≡ leafMark → isEnd x y (i, j) ≡ true
-    is-end e = go (flag (isEnd x y (i, j)))
+  module _ {l : ℕ} (new : mem samePair (i, j) (pairsAt ws count) ≡ false) (label-is : l ≡ pairLabel op x y (i, j)) where
+    is-end : l ≡ leafMark → isEnd op x y (i, j) ≡ true
+    is-end e = go (flag (isEnd op x y (i, j)))
       where
-        go : Flag (isEnd x y (i, j)) → isEnd x y (i, j) ≡ true
+        go : Flag (isEnd op x y (i, j)) → isEnd op x y (i, j) ≡ true
         go (isTrue h) = h
-        go (isFalse h) = absurd (omega (arith, branch-label x y (i, j) (r .leading) h, label-is, e))
+        go (isFalse h) = absurd (omega (arith, branch-label op x y (i, j) (r .leading) h, label-is, e))
 
-    is-branch : (l ≡ leafMark → ⊥) → isEnd x y (i, j) ≡ false
-    is-branch f = go (flag (isEnd x y (i, j)))
+    is-branch : (l ≡ leafMark → ⊥) → isEnd op x y (i, j) ≡ false
+    is-branch f = go (flag (isEnd op x y (i, j)))
       where
-        go : Flag (isEnd x y (i, j)) → isEnd x y (i, j) ≡ false
-        go (isTrue h) = absurd (f (label-is ∙ end-label x y (i, j) h))
+        go : Flag (isEnd op x y (i, j)) → isEnd op x y (i, j) ≡ false
+        go (isTrue h) = absurd (f (label-is ∙ end-label op x y (i, j) h))
         go (isFalse h) = h
 
     pub below-end : {k : ℕ} {z : Went} {ws′ heads′ : List ℕ} → l ≡ leafMark → (k ≡ keyOf (i, j)) × (k < keyCount)
         → Entered ws heads limit count k l (getD x (i * 3 + 1) 0) (getD y (j * 3 + 1) 0) z ws′ heads′
-        → Visited x y limit (i, j) (walked x y (i, j) (pairsAt ws count)) z ws′ heads′
+        → Visited op x y limit (i, j) (walked op x y (i, j) (pairsAt ws count)) z ws′ heads′
     unfolding highAt
     below-end {k} {z} {ws′} {heads′} e key a =
-        subst (λ (qs : List Pair). Visited x y limit (i, j) qs z ws′ heads′) (sym (walked-end x y (i, j) (pairsAt ws count) new (is-end e)))
-        (entered-at x y ws heads limit (pairsAt ws count) (r .plan) (i, j) (ready-few .0) (ready-few .1) new l (highAt x i) (highAt y j) label-is
+        subst (λ (qs : List Pair). Visited op x y limit (i, j) qs z ws′ heads′) (sym (walked-end op x y (i, j) (pairsAt ws count) new (is-end e)))
+        (entered-at op x y ws heads limit (pairsAt ws count) (r .plan) (i, j) (ready-few .0) (ready-few .1) new l (highAt x i) (highAt y j) label-is
         (λ h. (refl, refl)) (λ h. clash (is-end e) h) (length-pairs ws count) (key .0) a)
 
     -- a branch pair
     module _ {hi hj li lj : ℕ} (branch : l ≡ leafMark → ⊥) (s : ((hi, hj) ≡ onHigh x y (i, j)) × ((li, lj) ≡ onLow x y (i, j))) where
       us : List Pair
-      us = walked x y (onHigh x y (i, j)) (pairsAt ws count)
+      us = walked op x y (onHigh x y (i, j)) (pairsAt ws count)
 
       vs : List Pair
-      vs = walked x y (onLow x y (i, j)) (walked x y (onHigh x y (i, j)) (pairsAt ws count))
+      vs = walked op x y (onLow x y (i, j)) (walked op x y (onHigh x y (i, j)) (pairsAt ws count))
 
-      after : walked x y (i, j) (pairsAt ws count) ≡ vs ++ ((i, j) ∷ [])
+      after : walked op x y (i, j) (pairsAt ws count) ≡ vs ++ ((i, j) ∷ [])
       unfolding vs
-      after = walked-branch x y (i, j) (pairsAt ws count) (r .leading) new (is-branch branch)
+      after = walked-branch op x y (i, j) (pairsAt ws count) (r .leading) new (is-branch branch)
 
-      after-length : length (walked x y (i, j) (pairsAt ws count)) ≡ length vs + 1
+      after-length : length (walked op x y (i, j) (pairsAt ws count)) ≡ length vs + 1
       after-length = ap length after ∙ length-append vs ((i, j) ∷ [])
 
       pub high-less : hi + hj < i + j
-      high-less = subst (λ (q : Pair). q .0 + q .1 < i + j) (sym (s .0)) (high-below x y (i, j) (r .leading) (is-branch branch) .less)
+      high-less = subst (λ (q : Pair). q .0 + q .1 < i + j) (sym (s .0)) (high-below op x y (i, j) (r .leading) (is-branch branch) .less)
 
       pub low-less : li + lj < i + j
-      low-less = subst (λ (q : Pair). q .0 + q .1 < i + j) (sym (s .1)) (low-below x y (i, j) (r .leading) (is-branch branch) .less)
+      low-less = subst (λ (q : Pair). q .0 + q .1 < i + j) (sym (s .1)) (low-below op x y (i, j) (r .leading) (is-branch branch) .less)
 
-      pub high-ready : Ready x y ws heads limit count (hi, hj)
-      high-ready = record { leading = subst (Leading x y) (sym (s .0)) (high-leading x y (i, j) (r .leading) (is-branch branch)); plan = r .plan }
+      pub high-ready : Ready op x y ws heads limit count (hi, hj)
+      high-ready = record { leading = subst (Leading x y) (sym (s .0)) (high-leading op x y (i, j) (r .leading) (is-branch branch)); plan = r .plan }
 
-      module _ {z : Went} {ws₁ heads₁ : List ℕ} (v : Visited x y limit (hi, hj) (walked x y (hi, hj) (pairsAt ws count)) z ws₁ heads₁) where
-        pub high-full : z ≡ Full → Visited x y limit (i, j) (walked x y (i, j) (pairsAt ws count)) Full ws₁ heads₁
+      module _ {z : Went} {ws₁ heads₁ : List ℕ} (v : Visited op x y limit (hi, hj) (walked op x y (hi, hj) (pairsAt ws count)) z ws₁ heads₁) where
+        pub high-full : z ≡ Full → Visited op x y limit (i, j) (walked op x y (i, j) (pairsAt ws count)) Full ws₁ heads₁
         unfolding us vs
         high-full e = visited-full (record {
           many =
-              let a : limit < length us = subst (λ (q : Pair). limit < length (walked x y q (pairsAt ws count))) (s .0) (v .full e .many) in
-              omega (arith, after-length, extends-length (walked-extends x y (onLow x y (i, j)) us));
+              let a : limit < length us = subst (λ (q : Pair). limit < length (walked op x y q (pairsAt ws count))) (s .0) (v .full e .many) in
+              omega (arith, after-length, extends-length (walked-extends op x y (onLow x y (i, j)) us));
           touched = v .full e .touched;
         })
 
         module _ {t n : ℕ} (to : z ≡ To t n) where
-          high-reached : Reached x y limit (onHigh x y (i, j)) us t n ws₁ heads₁
+          high-reached : Reached op x y limit (onHigh x y (i, j)) us t n ws₁ heads₁
           unfolding us
-          high-reached = subst (λ (q : Pair). Reached x y limit q (walked x y q (pairsAt ws count)) t n ws₁ heads₁) (s .0) (v .to t n to)
+          high-reached = subst (λ (q : Pair). Reached op x y limit q (walked op x y q (pairsAt ws count)) t n ws₁ heads₁) (s .0) (v .to t n to)
 
           pairs-high : pairsAt ws₁ n ≡ us
           pairs-high = ap (pairsAt ws₁) (sym (high-reached .count-is)) ∙ plan-pairs (high-reached .plan)
 
-          pub low-ready : Ready x y ws₁ heads₁ limit n (li, lj)
+          pub low-ready : Ready op x y ws₁ heads₁ limit n (li, lj)
           low-ready = record {
-            leading = subst (Leading x y) (sym (s .1)) (low-leading x y (i, j) (r .leading) (is-branch branch));
-            plan = subst (Plan x y ws₁ heads₁ limit) (sym pairs-high) (high-reached .plan);
+            leading = subst (Leading x y) (sym (s .1)) (low-leading op x y (i, j) (r .leading) (is-branch branch));
+            plan = subst (Plan op x y ws₁ heads₁ limit) (sym pairs-high) (high-reached .plan);
           }
 
-          module _ {z₂ : Went} {ws₂ heads₂ : List ℕ} (v₂ : Visited x y limit (li, lj) (walked x y (li, lj) (pairsAt ws₁ n)) z₂ ws₂ heads₂) where
-            low-visited : Visited x y limit (onLow x y (i, j)) vs z₂ ws₂ heads₂
+          module _ {z₂ : Went} {ws₂ heads₂ : List ℕ} (v₂ : Visited op x y limit (li, lj) (walked op x y (li, lj) (pairsAt ws₁ n)) z₂ ws₂ heads₂) where
+            low-visited : Visited op x y limit (onLow x y (i, j)) vs z₂ ws₂ heads₂
             unfolding us vs
             low-visited =
-                subst (λ (qs : List Pair). Visited x y limit (onLow x y (i, j)) (walked x y (onLow x y (i, j)) qs) z₂ ws₂ heads₂) pairs-high
-                (subst (λ (q : Pair). Visited x y limit q (walked x y q (pairsAt ws₁ n)) z₂ ws₂ heads₂) (s .1) v₂)
+                subst (λ (qs : List Pair). Visited op x y limit (onLow x y (i, j)) (walked op x y (onLow x y (i, j)) qs) z₂ ws₂ heads₂) pairs-high
+                (subst (λ (q : Pair). Visited op x y limit q (walked op x y q (pairsAt ws₁ n)) z₂ ws₂ heads₂) (s .1) v₂)
 
-            pub low-full : z₂ ≡ Full → Visited x y limit (i, j) (walked x y (i, j) (pairsAt ws count)) Full ws₂ heads₂
+            pub low-full : z₂ ≡ Full → Visited op x y limit (i, j) (walked op x y (i, j) (pairsAt ws count)) Full ws₂ heads₂
             low-full e = visited-full (record { many = omega (arith, after-length, low-visited .full e .many); touched = low-visited .full e .touched })
 
             module _ {f m : ℕ} (to₂ : z₂ ≡ To f m) where
-              low-reached : Reached x y limit (onLow x y (i, j)) vs f m ws₂ heads₂
+              low-reached : Reached op x y limit (onLow x y (i, j)) vs f m ws₂ heads₂
               low-reached = low-visited .to f m to₂
 
               pub low-index : Index ws₂ heads₂ limit m
@@ -220,27 +217,27 @@ module _ {x y ws heads : List ℕ} {limit count i j : ℕ} (r : Ready x y ws hea
 
               first-less : t < length vs
               unfolding us vs
-              first-less = omega (arith, high-reached .less, high-reached .count-is, extends-length (walked-extends x y (onLow x y (i, j)) us))
+              first-less = omega (arith, high-reached .less, high-reached .count-is, extends-length (walked-extends op x y (onLow x y (i, j)) us))
 
               first-is : getD vs t origin ≡ onHigh x y (i, j)
               unfolding us vs
-              first-is = extends-getD (walked-extends x y (onLow x y (i, j)) us) origin t (omega (arith, high-reached .less, high-reached .count-is)) ∙ high-reached .number-is
+              first-is = extends-getD (walked-extends op x y (onLow x y (i, j)) us) origin t (omega (arith, high-reached .less, high-reached .count-is)) ∙ high-reached .number-is
 
               pub below-branch : {k : ℕ} {z₃ : Went} {ws₃ heads₃ : List ℕ} → (k ≡ keyOf (i, j)) × (k < keyCount) → Entered ws₂ heads₂ limit m k l t f z₃ ws₃ heads₃
-                  → Visited x y limit (i, j) (walked x y (i, j) (pairsAt ws count)) z₃ ws₃ heads₃
+                  → Visited op x y limit (i, j) (walked op x y (i, j) (pairsAt ws count)) z₃ ws₃ heads₃
               unfolding vs
               below-branch {k} {z₃} {ws₃} {heads₃} key a =
-                  subst (λ (qs : List Pair). Visited x y limit (i, j) qs z₃ ws₃ heads₃) (sym after)
-                  (entered-at x y ws₂ heads₂ limit vs (low-reached .plan) (i, j) (ready-few .0) (ready-few .1)
-                  (walked-fresh x y (i, j) (pairsAt ws count) (r .leading) (is-branch branch) new) l t f label-is
+                  subst (λ (qs : List Pair). Visited op x y limit (i, j) qs z₃ ws₃ heads₃) (sym after)
+                  (entered-at op x y ws₂ heads₂ limit vs (low-reached .plan) (i, j) (ready-few .0) (ready-few .1)
+                  (walked-fresh op x y (i, j) (pairsAt ws count) (r .leading) (is-branch branch) new) l t f label-is
                   (λ h. clash h (is-branch branch))
                   (λ h. (first-less, omega (arith, low-reached .less, low-reached .count-is), first-is, low-reached .number-is))
                   (low-reached .count-is) (key .0) a)
 
 -- the ways through `walk`
-pub walk-ready : {x y ws heads : List ℕ} {limit i j : ℕ} → Leading x y (i, j) → Plan x y ws heads limit [] → Ready x y ws heads limit 0 (i, j)
+pub walk-ready : {op : Operation} {x y ws heads : List ℕ} {limit i j : ℕ} → Leading x y (i, j) → Index ws heads limit 0 → Ready op x y ws heads limit 0 (i, j)
 unfolding pairsAt
-walk-ready a t = record { leading = a; plan = t }
+walk-ready a t = record { leading = a; plan = record { index = t; entry = λ k h. absurd (omega arith); apart = tt } }
 
 pub walk-new : (ws : List ℕ) (p : Pair) → mem samePair p (pairsAt ws 0) ≡ false
 unfolding pairsAt
@@ -255,25 +252,25 @@ went-many : (limit : ℕ) (ps : List Pair) → limit < length ps → wentTo limi
 unfolding wentTo
 went-many limit ps h = rw (lt-leb (length ps) limit h)
 
-planned : (x y : List ℕ) (limit : ℕ) (p : Pair) → Leading x y p → (z : Went) (ws heads : List ℕ) → Visited x y limit p (walked x y p []) z ws heads
-    → Planned x y limit (walked x y p []) z ws heads
-planned x y limit p a (To k n) ws heads v =
-    let r : Reached x y limit p (walked x y p []) k n ws heads = v .to k n refl in
-    let few : length (walked x y p []) ≤ limit = r .plan .index .within in
-    let is : k ≡ length (walked x y p []) - 1 =
-    place-one origin (walked x y p []) (r .plan .apart) k (length (walked x y p []) - 1) (omega (arith, r .less, r .count-is))
-    (omega (arith, walked-root x y p a origin .0)) (r .number-is ∙ sym (walked-root x y p a origin .1)) in
+planned : (op : Operation) (x y : List ℕ) (limit : ℕ) (p : Pair) → Leading x y p → (z : Went) (ws heads : List ℕ) → Visited op x y limit p (walked op x y p []) z ws heads
+    → Planned op x y limit (walked op x y p []) z ws heads
+planned op x y limit p a (To k n) ws heads v =
+    let r : Reached op x y limit p (walked op x y p []) k n ws heads = v .to k n refl in
+    let few : length (walked op x y p []) ≤ limit = r .plan .index .within in
+    let is : k ≡ length (walked op x y p []) - 1 =
+    place-one origin (walked op x y p []) (r .plan .apart) k (length (walked op x y p []) - 1) (omega (arith, r .less, r .count-is))
+    (omega (arith, walked-root op x y p a origin .0)) (r .number-is ∙ sym (walked-root op x y p a origin .1)) in
     record {
-      answer = ap (λ (m : ℕ). To m n) is ∙ ap (To (length (walked x y p []) - 1)) (sym (r .count-is)) ∙ sym (went-few limit (walked x y p []) few);
+      answer = ap (λ (m : ℕ). To m n) is ∙ ap (To (length (walked op x y p []) - 1)) (sym (r .count-is)) ∙ sym (went-few limit (walked op x y p []) few);
       plan = λ h. r .plan;
       touched = λ h. absurd (omega arith);
     }
-planned x y limit p a Full ws heads v =
-    let o : Overrun limit (walked x y p []) ws heads = v .full refl in
-    record { answer = sym (went-many limit (walked x y p []) (o .many)); plan = λ h. absurd (omega (arith, o .many)); touched = λ h. o .touched }
+planned op x y limit p a Full ws heads v =
+    let o : Overrun limit (walked op x y p []) ws heads = v .full refl in
+    record { answer = sym (went-many limit (walked op x y p []) (o .many)); plan = λ h. absurd (omega (arith, o .many)); touched = λ h. o .touched }
 
-pub walk-out : (ws : List ℕ) {x y ws′ heads′ : List ℕ} {limit i j : ℕ} {z w : Went} → Leading x y (i, j) → w ≡ z → Visited x y limit (i, j) (walked x y (i, j) (pairsAt ws 0)) w ws′ heads′
-    → Planned x y limit (walked x y (i, j) []) z ws′ heads′
+pub walk-out : (ws : List ℕ) {op : Operation} {x y ws′ heads′ : List ℕ} {limit i j : ℕ} {z w : Went} → Leading x y (i, j) → w ≡ z → Visited op x y limit (i, j) (walked op x y (i, j) (pairsAt ws 0)) w ws′ heads′
+    → Planned op x y limit (walked op x y (i, j) []) z ws′ heads′
 unfolding pairsAt
-walk-out ws {x} {y} {ws′} {heads′} {limit} {i} {j} {z} a e v =
-    planned x y limit (i, j) a z ws′ heads′ (subst (λ (t : Went). Visited x y limit (i, j) (walked x y (i, j) []) t ws′ heads′) e v)
+walk-out ws {op} {x} {y} {ws′} {heads′} {limit} {i} {j} {z} a e v =
+    planned op x y limit (i, j) a z ws′ heads′ (subst (λ (t : Went). Visited op x y limit (i, j) (walked op x y (i, j) []) t ws′ heads′) e v)

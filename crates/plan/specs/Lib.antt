@@ -2,5 +2,4 @@
 pub mod Walk
 pub mod Plan
 pub mod WalkLaws
-pub mod PairSet
 pub mod PlanLaws

@@ -8,6 +8,7 @@ use lib.Dec.{leb, eqb}
 use Rattle.basics.specs.Members.{NoDup}
 use Rattle.table.specs.Chains.{prev}
 use Rattle.diagram.specs.Words.{highAt}
+use Rattle.apply.specs.declared.Operation.{Operation}
 use Rattle.plan.specs.declared.Went.{Went}
 use Rattle.plan.specs.declared.Went.the-variants.{To, Full}
 use Rattle.plan.specs.Walk.{Pair, samePair, isEnd, pairLabel, onHigh, onLow, mostRows, Leading}
@@ -34,7 +35,7 @@ pairOf k = (k / mostRows, k % mostRows)
 unfoldable pub hashOf : ℕ → ℕ
 hashOf k = k * 2654435769 / 65536 % buckets
 
--- the words of entry k: its pair's key; its link; its pair's label; the numbers of the successors by true and by false, or the two values of an end
+-- the words of entry k: its pair's key; its link; its pair's label; the numbers of the successors by true and by false, or an end's two words
 unfoldable pub keyAt : List ℕ → ℕ → ℕ
 keyAt ws k = getD ws (k * 5) 0
 
@@ -58,7 +59,7 @@ unfoldable pub putEntry : List ℕ → (k key link label first second : ℕ) →
 putEntry ws k key link label first second =
     set (set (set (set (set ws (k * 5) key) (k * 5 + 1) link) (k * 5 + 2) label) (k * 5 + 3) first) (k * 5 + 4) second
 
--- heads and links index the first count entries of the plan, which has room for `limit`: a bucket's head is its last entry, an entry's link the one
+-- heads index the first count entries of the plan, which has room for `limit`: a bucket's head is its last entry, an entry's link the one
 -- before it in its bucket, both one up, and 0 for none
 pub record Index (ws heads : List ℕ) (limit count : ℕ) : Type 0 where
   pub words : limit * 5 ≤ length ws
@@ -80,24 +81,24 @@ pub record Branch (x y ws : List ℕ) (ps : List Pair) (k : ℕ) (p : Pair) : Ty
   pub first : getD ps (firstAt ws k) origin ≡ onHigh x y p
   pub second : getD ps (secondAt ws k) origin ≡ onLow x y p
 
--- an end's entry k holds the values of its two leaves
+-- an end's entry k holds the words behind the labels of its two rows: a leaf's value, a branch's true row
 pub record End (x y ws : List ℕ) (k : ℕ) (p : Pair) : Type 0 where
   pub first : firstAt ws k ≡ highAt x (p .0)
   pub second : secondAt ws k ≡ highAt y (p .1)
 
 -- entry k is that of the pair p
-pub record Entry (x y ws : List ℕ) (ps : List Pair) (k : ℕ) (p : Pair) : Type 0 where
+pub record Entry (op : Operation) (x y ws : List ℕ) (ps : List Pair) (k : ℕ) (p : Pair) : Type 0 where
   pub few-x : p .0 < mostRows
   pub few-y : p .1 < mostRows
   pub key : keyAt ws k ≡ keyOf p
-  pub label : pairLabelAt ws k ≡ pairLabel x y p
-  pub end : isEnd x y p ≡ true → End x y ws k p
-  pub branch : isEnd x y p ≡ false → Branch x y ws ps k p
+  pub label : pairLabelAt ws k ≡ pairLabel op x y p
+  pub end : isEnd op x y p ≡ true → End x y ws k p
+  pub branch : isEnd op x y p ≡ false → Branch x y ws ps k p
 
 -- the first entries of the plan are those of the pairs ps, no pair twice, and are indexed
-pub record Plan (x y ws heads : List ℕ) (limit : ℕ) (ps : List Pair) : Type 0 where
+pub record Plan (op : Operation) (x y ws heads : List ℕ) (limit : ℕ) (ps : List Pair) : Type 0 where
   pub index : Index ws heads limit (length ps)
-  pub entry : (k : ℕ) → k < length ps → Entry x y ws ps k (getD ps k origin)
+  pub entry : (k : ℕ) → k < length ps → Entry op x y ws ps k (getD ps k origin)
   pub apart : NoDup samePair ps
 
 -- no bucket is in use
@@ -124,9 +125,9 @@ unfoldable pub wentOf : ℕ → Went
 wentOf r = cond (eqb r 0) Full (To (r % packBase) (r / packBase))
 
 -- what `walk` ensures, ps being the pairs of the walk: the answer, the plan of these pairs, and, where they are too many, that the index can be cleared
-pub record Planned (x y : List ℕ) (limit : ℕ) (ps : List Pair) (r : Went) (ws heads : List ℕ) : Type 0 where
+pub record Planned (op : Operation) (x y : List ℕ) (limit : ℕ) (ps : List Pair) (r : Went) (ws heads : List ℕ) : Type 0 where
   pub answer : r ≡ wentTo limit ps
-  pub plan : length ps ≤ limit → Plan x y ws heads limit ps
+  pub plan : length ps ≤ limit → Plan op x y ws heads limit ps
   pub touched : limit < length ps → Touched ws heads limit
 
 -- the pairs of the first n entries of a plan, by their keys
@@ -135,23 +136,23 @@ pairsAt ws zero = []
 pairsAt ws (suc n) = pairsAt ws n ++ (pairOf (keyAt ws n) ∷ [])
 
 -- what a walk from p that goes on after count entries requires
-pub record Ready (x y ws heads : List ℕ) (limit count : ℕ) (p : Pair) : Type 0 where
+pub record Ready (op : Operation) (x y ws heads : List ℕ) (limit count : ℕ) (p : Pair) : Type 0 where
   pub leading : Leading x y p
-  pub plan : Plan x y ws heads limit (pairsAt ws count)
+  pub plan : Plan op x y ws heads limit (pairsAt ws count)
 
 -- what `visit` and `below` ensure, ps being the pairs after a walk from p: p's number and how many pairs there are, with their plan, or that they are too many
-pub record Reached (x y : List ℕ) (limit : ℕ) (p : Pair) (ps : List Pair) (number count : ℕ) (ws heads : List ℕ) : Type 0 where
+pub record Reached (op : Operation) (x y : List ℕ) (limit : ℕ) (p : Pair) (ps : List Pair) (number count : ℕ) (ws heads : List ℕ) : Type 0 where
   pub less : number < count
   pub count-is : length ps ≡ count
   pub number-is : getD ps number origin ≡ p
-  pub plan : Plan x y ws heads limit ps
+  pub plan : Plan op x y ws heads limit ps
 
 pub record Overrun (limit : ℕ) (ps : List Pair) (ws heads : List ℕ) : Type 0 where
   pub many : limit < length ps
   pub touched : Touched ws heads limit
 
-pub record Visited (x y : List ℕ) (limit : ℕ) (p : Pair) (ps : List Pair) (r : Went) (ws heads : List ℕ) : Type 0 where
-  pub to : (number count : ℕ) → r ≡ To number count → Reached x y limit p ps number count ws heads
+pub record Visited (op : Operation) (x y : List ℕ) (limit : ℕ) (p : Pair) (ps : List Pair) (r : Went) (ws heads : List ℕ) : Type 0 where
+  pub to : (number count : ℕ) → r ≡ To number count → Reached op x y limit p ps number count ws heads
   pub full : r ≡ Full → Overrun limit ps ws heads
 
 -- what `add` ensures: an entry at the end, or that there is no room

@@ -9,14 +9,13 @@ use native.Mathlib.Numerals.{add-one}
 use native.Mathlib.Omega.{arith}
 use lib.ListN.{length, getD, set, length-append, length-set, List·getD-append}
 use lib.Seq.{getD-at, getD-set-same, getD-set-other, ext-getD}
-use Rattle.basics.specs.Tests.{Flag, isTrue, isFalse, flag}
 use Rattle.basics.specs.Members.{mem}
-use Rattle.label.specs.Limits.{leafMark}
 use Rattle.diagram.specs.Words.{highAt}
 use Rattle.table.specs.Chains.{prev}
 use Rattle.table.specs.ChainLaws.{test, prev-zero, prev-same, prev-other, prev-none, prev-ext}
-use Rattle.plan.specs.Walk.{Pair, samePair, isEnd, pairLabel, onHigh, onLow, mostRows, Leading}
-use Rattle.plan.specs.WalkLaws.{pair-ext, nodup-more, end-label, branch-label}
+use Rattle.apply.specs.declared.Operation.{Operation}
+use Rattle.plan.specs.Walk.{Pair, samePair, isEnd, pairLabel, onHigh, onLow, mostRows}
+use Rattle.plan.specs.WalkLaws.{pair-ext, nodup-more}
 use Rattle.plan.specs.Plan.{buckets, mostPairs, keyCount, keyOf, pairOf, hashOf, keyAt, linkAt, pairLabelAt, firstAt, secondAt, hashAt, putEntry, Index, origin, Entry, Plan, Clean, Touched, pairsAt}
 
 -- keys
@@ -51,8 +50,8 @@ getD-pairs ws o (suc n) k h =
     (eq-or-lt-of-le (le-of-suc-le-suc h))
 
 -- a plan's pairs are those of its keys
-pub plan-pairs : {x y ws heads : List ℕ} {limit : ℕ} {ps : List Pair} → Plan x y ws heads limit ps → pairsAt ws (length ps) ≡ ps
-plan-pairs {x} {y} {ws} {heads} {limit} {ps} t =
+pub plan-pairs : {op : Operation} {x y ws heads : List ℕ} {limit : ℕ} {ps : List Pair} → Plan op x y ws heads limit ps → pairsAt ws (length ps) ≡ ps
+plan-pairs {op} {x} {y} {ws} {heads} {limit} {ps} t =
     ext-getD origin (pairsAt ws (length ps)) ps (length-pairs ws (length ps))
     (λ k h. let l : k < length ps = omega (arith, length-pairs ws (length ps)) in
     getD-pairs ws origin (length ps) k l ∙ ap pairOf (t .entry k l .key) ∙ pair-of-key (getD ps k origin) (t .entry k l .few-y))
@@ -222,7 +221,7 @@ module _ (ws heads : List ℕ) (limit n : ℕ) (t : Index ws heads limit n) (roo
   index-added = index-more
 
 -- the plan with the entry of a pair more
-module _ (x y ws heads : List ℕ) (limit : ℕ) (ps : List Pair) (t : Plan x y ws heads limit ps) (p : Pair) (few-x : p .0 < mostRows) (few-y : p .1 < mostRows)
+module _ (op : Operation) (x y ws heads : List ℕ) (limit : ℕ) (ps : List Pair) (t : Plan op x y ws heads limit ps) (p : Pair) (few-x : p .0 < mostRows) (few-y : p .1 < mostRows)
     (new : mem samePair p ps ≡ false) (room : length ps < limit) (label first second : ℕ) where
   more : List ℕ
   more = putEntry ws (length ps) (keyOf p) (getD heads (hashOf (keyOf p)) 0) label first second
@@ -261,7 +260,7 @@ module _ (x y ws heads : List ℕ) (limit : ℕ) (ps : List Pair) (t : Plan x y 
   unfolding more
   second-new = second-same ws (length ps) (keyOf p) (getD heads (hashOf (keyOf p)) 0) label first second fits′
 
-  entry-old : (k : ℕ) → k < length ps → Entry x y more all k (getD ps k origin)
+  entry-old : (k : ℕ) → k < length ps → Entry op x y more all k (getD ps k origin)
   unfolding more
   entry-old k h = record {
     few-x = e .few-x;
@@ -277,12 +276,12 @@ module _ (x y ws heads : List ℕ) (limit : ℕ) (ps : List Pair) (t : Plan x y 
     };
   }
     where
-      e : Entry x y ws ps k (getD ps k origin)
+      e : Entry op x y ws ps k (getD ps k origin)
       e = t .entry k h
 
-  module _ (label-is : label ≡ pairLabel x y p) (end-is : isEnd x y p ≡ true → (first ≡ highAt x (p .0)) × (second ≡ highAt y (p .1)))
-      (branch-is : isEnd x y p ≡ false → (first < length ps) × (second < length ps) × (getD ps first origin ≡ onHigh x y p) × (getD ps second origin ≡ onLow x y p)) where
-    entry-new : Entry x y more all (length ps) p
+  module _ (label-is : label ≡ pairLabel op x y p) (end-is : isEnd op x y p ≡ true → (first ≡ highAt x (p .0)) × (second ≡ highAt y (p .1)))
+      (branch-is : isEnd op x y p ≡ false → (first < length ps) × (second < length ps) × (getD ps first origin ≡ onHigh x y p) × (getD ps second origin ≡ onLow x y p)) where
+    entry-new : Entry op x y more all (length ps) p
     unfolding more
     entry-new = record {
       few-x = few-x;
@@ -298,32 +297,28 @@ module _ (x y ws heads : List ℕ) (limit : ℕ) (ps : List Pair) (t : Plan x y 
       };
     }
 
-    pub plan-added : Plan x y (putEntry ws (length ps) (keyOf p) (getD heads (hashOf (keyOf p)) 0) label first second) (set heads (hashOf (keyOf p)) (length ps + 1)) limit (ps ++ (p ∷ []))
+    pub plan-added : Plan op x y (putEntry ws (length ps) (keyOf p) (getD heads (hashOf (keyOf p)) 0) label first second) (set heads (hashOf (keyOf p)) (length ps + 1)) limit (ps ++ (p ∷ []))
     unfolding more all
     plan-added = record {
       index = subst (Index more (set heads (hashOf (keyOf p)) (length ps + 1)) limit) (sym all-length)
           (index-added ws heads limit (length ps) (t .index) room (keyOf p) label first second (key-less p few-x few-y));
       entry = λ k h. ⊎-elim
-          (λ (e : k ≡ length ps). subst (λ (z : ℕ). Entry x y more all z (getD all z origin)) (sym e) (subst (Entry x y more all (length ps)) (sym all-new) entry-new))
-          (λ (e : k ≡ length ps → ⊥). let l : k < length ps = omega (arith, all-length) in subst (Entry x y more all k) (sym (all-old k l)) (entry-old k l))
+          (λ (e : k ≡ length ps). subst (λ (z : ℕ). Entry op x y more all z (getD all z origin)) (sym e) (subst (Entry op x y more all (length ps)) (sym all-new) entry-new))
+          (λ (e : k ≡ length ps → ⊥). let l : k < length ps = omega (arith, all-length) in subst (Entry op x y more all k) (sym (all-old k l)) (entry-old k l))
           (test k (length ps));
       apart = nodup-more p ps (t .apart) new;
     }
 
--- a plan with no pairs, over a clean index; any words
-pub plan-empty : (x y ws heads : List ℕ) (limit : ℕ) → limit * 5 ≤ length ws → limit ≤ mostPairs → Clean heads → Plan x y ws heads limit []
-plan-empty x y ws heads limit h g c = record {
-  index = record {
-    words = h;
-    slots = c .slots;
-    small = g;
-    within = zero-le;
-    keys = λ k l. absurd (omega arith);
-    head = λ b l. c .zeros b l ∙ sym (prev-zero (hashAt ws) b);
-    link = λ k l. absurd (omega arith);
-  };
-  entry = λ k l. absurd (omega arith);
-  apart = tt;
+-- an index of no entries; any words
+pub index-empty : (ws heads : List ℕ) (limit : ℕ) → limit * 5 ≤ length ws → limit ≤ mostPairs → Clean heads → Index ws heads limit 0
+index-empty ws heads limit h g c = record {
+  words = h;
+  slots = c .slots;
+  small = g;
+  within = zero-le;
+  keys = λ k l. absurd (omega arith);
+  head = λ b l. c .zeros b l ∙ sym (prev-zero (hashAt ws) b);
+  link = λ k l. absurd (omega arith);
 }
 
 -- an index may be cleared
@@ -335,32 +330,5 @@ index-touched {ws} {heads} {limit} {count} t = record {
   others = λ b h f. t .head b h ∙ prev-none (hashAt ws) b count f;
 }
 
-pub plan-touched : {x y ws heads : List ℕ} {limit : ℕ} {ps : List Pair} → Plan x y ws heads limit ps → Touched ws heads (length ps)
+pub plan-touched : {op : Operation} {x y ws heads : List ℕ} {limit : ℕ} {ps : List Pair} → Plan op x y ws heads limit ps → Touched ws heads (length ps)
 plan-touched t = index-touched (t .index)
-
--- also after other words of the plan than its keys are changed
-pub touched-keep : {ws heads : List ℕ} {count : ℕ} (ws′ : List ℕ) → Touched ws heads count → length ws′ ≡ length ws
-    → ((k : ℕ) → k < count → keyAt ws′ k ≡ keyAt ws k) → Touched ws′ heads count
-unfolding hashAt
-touched-keep {ws} {heads} {count} ws′ t l e = record {
-  words = omega (arith, t .words);
-  slots = t .slots;
-  keys = λ k h. omega (arith, e k h, t .keys k h);
-  others = λ b h f. t .others b h (λ k m q. f k m (ap hashOf (e k m) ∙ q));
-}
-
--- an entry is an end's exactly if its label is a leaf's mark
-module _ {x y ws : List ℕ} {ps : List Pair} {k : ℕ} {p : Pair} (e : Entry x y ws ps k p) (a : Leading x y p) where
-  pub entry-end : pairLabelAt ws k ≡ leafMark → isEnd x y p ≡ true
-  entry-end h = go (flag (isEnd x y p))
-    where
-      go : Flag (isEnd x y p) → isEnd x y p ≡ true
-      go (isTrue i) = i
-      go (isFalse i) = absurd (omega (arith, branch-label x y p a i, e .label))
-
-  pub entry-branch : (pairLabelAt ws k ≡ leafMark → ⊥) → isEnd x y p ≡ false
-  entry-branch f = go (flag (isEnd x y p))
-    where
-      go : Flag (isEnd x y p) → isEnd x y p ≡ false
-      go (isTrue i) = absurd (f (e .label ∙ end-label x y p i))
-      go (isFalse i) = i

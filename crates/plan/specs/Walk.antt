@@ -8,6 +8,8 @@ use lib.Dec.{eqb, leb}
 use Rattle.basics.specs.Members.{mem}
 use Rattle.label.specs.Limits.{leafMark}
 use Rattle.diagram.specs.Words.{labelAt, highAt, lowAt}
+use Rattle.apply.specs.declared.Operation.{Operation}
+use Rattle.apply.specs.Pairs.{absorbs}
 
 -- a row of the first operand and a row of the second
 abbrev pub Pair : Type 0
@@ -16,16 +18,18 @@ Pair = ℕ × ℕ
 unfoldable pub samePair : Pair → Pair → Bool
 samePair p q = eqb (p .0) (q .0) && eqb (p .1) (q .1)
 
--- both rows are leaves
-unfoldable pub isEnd : List ℕ → List ℕ → Pair → Bool
-isEnd x y p = eqb (labelAt x (p .0)) leafMark && eqb (labelAt y (p .1)) leafMark
+-- where a pair ends: `ends` of apply, read off the rows
+unfoldable pub isEnd : Operation → List ℕ → List ℕ → Pair → Bool
+isEnd op x y p =
+    cond (eqb (labelAt x (p .0)) leafMark) (cond (eqb (labelAt y (p .1)) leafMark) true (absorbs op (highAt x (p .0))))
+    (cond (eqb (labelAt y (p .1)) leafMark) (absorbs op (highAt y (p .1))) false)
 
 unfoldable pub lesser : ℕ → ℕ → ℕ
 lesser a b = cond (leb a b) a b
 
--- the lower label of the two; a leaf's mark is above every label
-unfoldable pub pairLabel : List ℕ → List ℕ → Pair → ℕ
-pairLabel x y p = lesser (labelAt x (p .0)) (labelAt y (p .1))
+-- an end has a leaf's mark, which is above every label; a pair that goes down has the lower label of the two
+unfoldable pub pairLabel : Operation → List ℕ → List ℕ → Pair → ℕ
+pairLabel op x y p = cond (isEnd op x y p) leafMark (lesser (labelAt x (p .0)) (labelAt y (p .1)))
 
 -- "descend by true and by false in every operand whose label is the lower one, in both if equal"
 unfoldable pub descend : (List ℕ → ℕ → ℕ) → List ℕ → List ℕ → Pair → Pair
@@ -39,19 +43,19 @@ abbrev pub onLow : List ℕ → List ℕ → Pair → Pair
 onLow x y p = descend lowAt x y p
 
 -- the pairs that a walk from p finishes, true branch first, after those of `done`; it goes at most `depth` pairs deep
-unfoldable pub finishPairs : List ℕ → List ℕ → ℕ → Pair → List Pair → List Pair
-finishPairs x y zero p done = done
-finishPairs x y (suc depth) p done = elim (mem samePair p done) [
+unfoldable pub finishPairs : Operation → List ℕ → List ℕ → ℕ → Pair → List Pair → List Pair
+finishPairs op x y zero p done = done
+finishPairs op x y (suc depth) p done = elim (mem samePair p done) [
   | true ↦ done
-  | false ↦ elim (isEnd x y p) [
+  | false ↦ elim (isEnd op x y p) [
     | true ↦ done ++ (p ∷ [])
-    | false ↦ finishPairs x y depth (onLow x y p) (finishPairs x y depth (onHigh x y p) done) ++ (p ∷ [])
+    | false ↦ finishPairs op x y depth (onLow x y p) (finishPairs op x y depth (onHigh x y p) done) ++ (p ∷ [])
   ]
 ]
 
 -- the same, as deep as it goes: each step is to an earlier row of an operand
-unfoldable pub walked : List ℕ → List ℕ → Pair → List Pair → List Pair
-walked x y p done = finishPairs x y (suc (p .0 + p .1)) p done
+unfoldable pub walked : Operation → List ℕ → List ℕ → Pair → List Pair → List Pair
+walked op x y p done = finishPairs op x y (suc (p .0 + p .1)) p done
 
 -- rows on either side at most: those of a working space
 abbrev pub mostRows : ℕ

@@ -14,6 +14,7 @@ use Rattle.basics.specs.Tests.{Cmp, below, equal, above, cmp, Flag, isTrue, isF
 use Rattle.basics.specs.Members.{IsTest, mem, NoDup, mem-append, clash}
 use Rattle.label.specs.Limits.{leafMark}
 use Rattle.diagram.specs.Words.{labelAt, highAt, lowAt}
+use Rattle.apply.specs.declared.Operation.{Operation}
 use Rattle.plan.specs.Walk.{Pair, samePair, isEnd, lesser, pairLabel, descend, onHigh, onLow, finishPairs, walked, Leads, Leading}
 
 -- pairs
@@ -45,29 +46,22 @@ unfolding lesser
 lesser-gt a b h = rw (lt-leb a b h)
 
 -- when a pair is an end
-module _ (x y : List ℕ) (p : Pair) where
-  pub end-leaves : isEnd x y p ≡ true → (labelAt x (p .0) ≡ leafMark) × (labelAt y (p .1) ≡ leafMark)
-  unfolding isEnd
-  end-leaves e = (eqb-true _ _ (and-left _ _ e), eqb-true _ _ (and-right (eqb (labelAt x (p .0)) leafMark) _ e))
-
-  pub leaves-end : labelAt x (p .0) ≡ leafMark → labelAt y (p .1) ≡ leafMark → isEnd x y p ≡ true
+module _ (op : Operation) (x y : List ℕ) (p : Pair) where
+  leaves-end : labelAt x (p .0) ≡ leafMark → labelAt y (p .1) ≡ leafMark → isEnd op x y p ≡ true
   unfolding isEnd
   leaves-end a b = rw (eq-eqb (labelAt x (p .0)) leafMark a, eq-eqb (labelAt y (p .1)) leafMark b)
 
-  pub branch-one : isEnd x y p ≡ false → labelAt x (p .0) ≡ leafMark → labelAt y (p .1) ≡ leafMark → ⊥
+  pub branch-one : isEnd op x y p ≡ false → labelAt x (p .0) ≡ leafMark → labelAt y (p .1) ≡ leafMark → ⊥
   branch-one e a b = clash (leaves-end a b) e
 
-  pub one-branch : (labelAt x (p .0) ≡ leafMark → labelAt y (p .1) ≡ leafMark → ⊥) → isEnd x y p ≡ false
-  one-branch f = go (flag (isEnd x y p))
-    where
-      go : Flag (isEnd x y p) → isEnd x y p ≡ false
-      go (isTrue h) = absurd (f (end-leaves h .0) (end-leaves h .1))
-      go (isFalse h) = h
-
-  -- the label of an end is a leaf's mark, and so is no other's
-  pub end-label : isEnd x y p ≡ true → pairLabel x y p ≡ leafMark
+  -- the label of an end is a leaf's mark, that of another pair the lower of the two
+  pub end-label : isEnd op x y p ≡ true → pairLabel op x y p ≡ leafMark
   unfolding pairLabel
-  end-label e = rw (end-leaves e .0, end-leaves e .1) (lesser-le leafMark leafMark (omega arith))
+  end-label e = rw e
+
+  pub lower-label : isEnd op x y p ≡ false → pairLabel op x y p ≡ lesser (labelAt x (p .0)) (labelAt y (p .1))
+  unfolding pairLabel
+  lower-label e = rw e
 
 -- where a pair leads
 module _ (child : List ℕ → ℕ → ℕ) (x y : List ℕ) (p : Pair) where
@@ -107,7 +101,7 @@ leads-under {x} {i} {k} a h = record {
 pub leading-under : {x y : List ℕ} {p q : Pair} → Leading x y p → Under q p → Leading x y q
 leading-under a u = record { first = leads-under (a .first) (u .first); second = leads-under (a .second) (u .second) }
 
-module _ (x y : List ℕ) (p : Pair) (a : Leading x y p) (e : isEnd x y p ≡ false) where
+module _ (op : Operation) (x y : List ℕ) (p : Pair) (a : Leading x y p) (e : isEnd op x y p ≡ false) where
   descend-below : (child : List ℕ → ℕ → ℕ) → ((labelAt x (p .0) ≡ leafMark → ⊥) → child x (p .0) < p .0) → ((labelAt y (p .1) ≡ leafMark → ⊥) → child y (p .1) < p .1)
       → Below (descend child x y p) p
   descend-below child f g = go (cmp (labelAt x (p .0)) (labelAt y (p .1)))
@@ -123,8 +117,8 @@ module _ (x y : List ℕ) (p : Pair) (a : Leading x y p) (e : isEnd x y p ≡ fa
           let c : child y (p .1) < p .1 = g (λ l. omega (arith, a .first .most (p .0) (omega arith))) in
           made _ (descend-second child x y p h) (record { under = record { first = omega arith; second = omega arith }; less = omega arith })
       go (equal h) =
-          let c : child x (p .0) < p .0 = f (λ l. branch-one x y p e l (sym h ∙ l)) in
-          let d : child y (p .1) < p .1 = g (λ l. branch-one x y p e (h ∙ l) l) in
+          let c : child x (p .0) < p .0 = f (λ l. branch-one op x y p e l (sym h ∙ l)) in
+          let d : child y (p .1) < p .1 = g (λ l. branch-one op x y p e (h ∙ l) l) in
           made _ (descend-both child x y p h) (record { under = record { first = omega arith; second = omega arith }; less = omega arith })
 
   pub high-below : Below (onHigh x y p) p
@@ -140,9 +134,8 @@ module _ (x y : List ℕ) (p : Pair) (a : Leading x y p) (e : isEnd x y p ≡ fa
   low-leading = leading-under a (low-below .under)
 
   -- only an end has a leaf's mark for its label
-  pub branch-label : pairLabel x y p < leafMark
-  unfolding pairLabel
-  branch-label = go (cmp (labelAt x (p .0)) (labelAt y (p .1)))
+  pub branch-label : pairLabel op x y p < leafMark
+  branch-label = rw (lower-label op x y p e) (go (cmp (labelAt x (p .0)) (labelAt y (p .1))))
     where
       i : labelAt x (p .0) ≤ leafMark
       i = a .first .most (p .0) (omega arith)
@@ -157,21 +150,21 @@ module _ (x y : List ℕ) (p : Pair) (a : Leading x y p) (e : isEnd x y p ≡ fa
         where
           go′ : Cmp (labelAt x (p .0)) leafMark → lesser (labelAt x (p .0)) (labelAt y (p .1)) < leafMark
           go′ (below l) = omega (arith, lesser-le (labelAt x (p .0)) (labelAt y (p .1)) (omega arith))
-          go′ (equal l) = absurd (branch-one x y p e l (sym h ∙ l))
+          go′ (equal l) = absurd (branch-one op x y p e l (sym h ∙ l))
           go′ (above l) = absurd (omega (arith, i))
 
 -- one step of the walk
-module _ (x y : List ℕ) (depth : ℕ) (p : Pair) (done : List Pair) where
-  pub finish-old : mem samePair p done ≡ true → finishPairs x y (suc depth) p done ≡ done
+module _ (op : Operation) (x y : List ℕ) (depth : ℕ) (p : Pair) (done : List Pair) where
+  pub finish-old : mem samePair p done ≡ true → finishPairs op x y (suc depth) p done ≡ done
   unfolding finishPairs
   finish-old m = rw (m, finishPairs)
 
-  pub finish-end : mem samePair p done ≡ false → isEnd x y p ≡ true → finishPairs x y (suc depth) p done ≡ done ++ (p ∷ [])
+  pub finish-end : mem samePair p done ≡ false → isEnd op x y p ≡ true → finishPairs op x y (suc depth) p done ≡ done ++ (p ∷ [])
   unfolding finishPairs
   finish-end m e = rw (m, e, finishPairs)
 
-  pub finish-branch : mem samePair p done ≡ false → isEnd x y p ≡ false
-      → finishPairs x y (suc depth) p done ≡ finishPairs x y depth (onLow x y p) (finishPairs x y depth (onHigh x y p) done) ++ (p ∷ [])
+  pub finish-branch : mem samePair p done ≡ false → isEnd op x y p ≡ false
+      → finishPairs op x y (suc depth) p done ≡ finishPairs op x y depth (onLow x y p) (finishPairs op x y depth (onHigh x y p) done) ++ (p ∷ [])
   unfolding finishPairs
   finish-branch m e = rw (m, e, finishPairs)
 
@@ -196,27 +189,21 @@ module _ {done ps : List Pair} (e : Extends done ps) where
   pub extends-getD : (o : Pair) (k : ℕ) → k < length done → getD ps k o ≡ getD done k o
   extends-getD o k h = ap (λ (l : List Pair). getD l k o) (e .is) ∙ List·getD-append done (e .rest) o k h
 
-  pub extends-mem : (q : Pair) → mem samePair q done ≡ true → mem samePair q ps ≡ true
-  extends-mem q h = ap (mem samePair q) (e .is) ∙ mem-append samePair q done (e .rest) ∙ or-one _ _ h
-
-pub finish-extends : (x y : List ℕ) (depth : ℕ) (p : Pair) (done : List Pair) → Extends done (finishPairs x y depth p done)
+pub finish-extends : (op : Operation) (x y : List ℕ) (depth : ℕ) (p : Pair) (done : List Pair) → Extends done (finishPairs op x y depth p done)
 unfolding finishPairs
-finish-extends x y zero p done = extends-same done
-finish-extends x y (suc depth) p done =
-    go (flag (mem samePair p done)) (flag (isEnd x y p)) (finish-extends x y depth (onHigh x y p) done)
-    (finish-extends x y depth (onLow x y p) (finishPairs x y depth (onHigh x y p) done))
+finish-extends op x y zero p done = extends-same done
+finish-extends op x y (suc depth) p done =
+    go (flag (mem samePair p done)) (flag (isEnd op x y p)) (finish-extends op x y depth (onHigh x y p) done)
+    (finish-extends op x y depth (onLow x y p) (finishPairs op x y depth (onHigh x y p) done))
   where
-    go : Flag (mem samePair p done) → Flag (isEnd x y p) → Extends done (finishPairs x y depth (onHigh x y p) done)
-        → Extends (finishPairs x y depth (onHigh x y p) done) (finishPairs x y depth (onLow x y p) (finishPairs x y depth (onHigh x y p) done))
-        → Extends done (finishPairs x y (suc depth) p done)
-    go (isTrue m) e a b = subst (Extends done) (sym (finish-old x y depth p done m)) (extends-same done)
-    go (isFalse m) (isTrue e) a b = subst (Extends done) (sym (finish-end x y depth p done m e)) (extends-more _ (extends-same done))
-    go (isFalse m) (isFalse e) a b = subst (Extends done) (sym (finish-branch x y depth p done m e)) (extends-more _ (extends-trans a b))
+    go : Flag (mem samePair p done) → Flag (isEnd op x y p) → Extends done (finishPairs op x y depth (onHigh x y p) done)
+        → Extends (finishPairs op x y depth (onHigh x y p) done) (finishPairs op x y depth (onLow x y p) (finishPairs op x y depth (onHigh x y p) done))
+        → Extends done (finishPairs op x y (suc depth) p done)
+    go (isTrue m) e a b = subst (Extends done) (sym (finish-old op x y depth p done m)) (extends-same done)
+    go (isFalse m) (isTrue e) a b = subst (Extends done) (sym (finish-end op x y depth p done m e)) (extends-more _ (extends-same done))
+    go (isFalse m) (isFalse e) a b = subst (Extends done) (sym (finish-branch op x y depth p done m e)) (extends-more _ (extends-trans a b))
 
 -- membership of a list with one more pair
-pub mem-last : (p : Pair) (l : List Pair) → mem samePair p (l ++ (p ∷ [])) ≡ true
-mem-last p l = mem-append samePair p l (p ∷ []) ∙ or-other (mem samePair p l) _ (or-one _ _ (pair-test .complete p))
-
 pub mem-more : (q p : Pair) (l : List Pair) → mem samePair q (l ++ (p ∷ [])) ≡ true → (mem samePair q l ≡ true) ⊎ (q ≡ p)
 mem-more q p l h = go (either (mem samePair q l) (samePair q p || false) (sym (mem-append samePair q l (p ∷ [])) ∙ h))
   where
@@ -239,47 +226,47 @@ mem-nowhere o q (p ∷ ps) f = go (flag (samePair q p)) (mem-nowhere o q ps (λ 
     go (isFalse e) m = rw (e, m)
 
 -- every pair that it adds has no later rows than the pair where it starts
-pub finish-members : (x y : List ℕ) (depth : ℕ) (p : Pair) (done : List Pair) → Leading x y p → (q : Pair) → mem samePair q (finishPairs x y depth p done) ≡ true
+pub finish-members : (op : Operation) (x y : List ℕ) (depth : ℕ) (p : Pair) (done : List Pair) → Leading x y p → (q : Pair) → mem samePair q (finishPairs op x y depth p done) ≡ true
     → (mem samePair q done ≡ true) ⊎ Under q p
 unfolding finishPairs
-finish-members x y zero p done a q h = inl h
-finish-members x y (suc depth) p done a q h =
-    go (flag (mem samePair p done)) (flag (isEnd x y p)) (λ a q. finish-members x y depth (onHigh x y p) done a q)
-    (λ a q. finish-members x y depth (onLow x y p) (finishPairs x y depth (onHigh x y p) done) a q)
+finish-members op x y zero p done a q h = inl h
+finish-members op x y (suc depth) p done a q h =
+    go (flag (mem samePair p done)) (flag (isEnd op x y p)) (λ a q. finish-members op x y depth (onHigh x y p) done a q)
+    (λ a q. finish-members op x y depth (onLow x y p) (finishPairs op x y depth (onHigh x y p) done) a q)
   where
     self : (l : List Pair) → (mem samePair q l ≡ true → (mem samePair q done ≡ true) ⊎ Under q p) → mem samePair q (l ++ (p ∷ [])) ≡ true
         → (mem samePair q done ≡ true) ⊎ Under q p
     self l f k = ⊎-elim f (λ (e : q ≡ p). inr (record { first = omega (arith, ap (λ (z : Pair). z .0) e); second = omega (arith, ap (λ (z : Pair). z .1) e) })) (mem-more q p l k)
 
-    go : Flag (mem samePair p done) → Flag (isEnd x y p)
-        → (Leading x y (onHigh x y p) → (q : Pair) → mem samePair q (finishPairs x y depth (onHigh x y p) done) ≡ true → (mem samePair q done ≡ true) ⊎ Under q (onHigh x y p))
-        → (Leading x y (onLow x y p) → (q : Pair) → mem samePair q (finishPairs x y depth (onLow x y p) (finishPairs x y depth (onHigh x y p) done)) ≡ true
-        → (mem samePair q (finishPairs x y depth (onHigh x y p) done) ≡ true) ⊎ Under q (onLow x y p))
+    go : Flag (mem samePair p done) → Flag (isEnd op x y p)
+        → (Leading x y (onHigh x y p) → (q : Pair) → mem samePair q (finishPairs op x y depth (onHigh x y p) done) ≡ true → (mem samePair q done ≡ true) ⊎ Under q (onHigh x y p))
+        → (Leading x y (onLow x y p) → (q : Pair) → mem samePair q (finishPairs op x y depth (onLow x y p) (finishPairs op x y depth (onHigh x y p) done)) ≡ true
+        → (mem samePair q (finishPairs op x y depth (onHigh x y p) done) ≡ true) ⊎ Under q (onLow x y p))
         → (mem samePair q done ≡ true) ⊎ Under q p
-    go (isTrue m) e u v = inl (subst (λ (l : List Pair). mem samePair q l ≡ true) (finish-old x y depth p done m) h)
-    go (isFalse m) (isTrue e) u v = self done inl (subst (λ (l : List Pair). mem samePair q l ≡ true) (finish-end x y depth p done m e) h)
+    go (isTrue m) e u v = inl (subst (λ (l : List Pair). mem samePair q l ≡ true) (finish-old op x y depth p done m) h)
+    go (isFalse m) (isTrue e) u v = self done inl (subst (λ (l : List Pair). mem samePair q l ≡ true) (finish-end op x y depth p done m e) h)
     go (isFalse m) (isFalse e) u v =
-        self (finishPairs x y depth (onLow x y p) (finishPairs x y depth (onHigh x y p) done))
-        (λ k. ⊎-elim (λ i. ⊎-elim inl (λ j. inr (under-trans j (high-below x y p a e .under))) (u (high-leading x y p a e) q i))
-        (λ j. inr (under-trans j (low-below x y p a e .under))) (v (low-leading x y p a e) q k))
-        (subst (λ (l : List Pair). mem samePair q l ≡ true) (finish-branch x y depth p done m e) h)
+        self (finishPairs op x y depth (onLow x y p) (finishPairs op x y depth (onHigh x y p) done))
+        (λ k. ⊎-elim (λ i. ⊎-elim inl (λ j. inr (under-trans j (high-below op x y p a e .under))) (u (high-leading op x y p a e) q i))
+        (λ j. inr (under-trans j (low-below op x y p a e .under))) (v (low-leading op x y p a e) q k))
+        (subst (λ (l : List Pair). mem samePair q l ≡ true) (finish-branch op x y depth p done m e) h)
 
 -- a branch pair that is not there is not there after the walks from its successors
-pub finish-fresh : (x y : List ℕ) (f g : ℕ) (p : Pair) (done : List Pair) → Leading x y p → isEnd x y p ≡ false → mem samePair p done ≡ false
-    → mem samePair p (finishPairs x y f (onLow x y p) (finishPairs x y g (onHigh x y p) done)) ≡ false
-finish-fresh x y f g p done a e m = go (flag (mem samePair p (finishPairs x y f (onLow x y p) (finishPairs x y g (onHigh x y p) done))))
+pub finish-fresh : (op : Operation) (x y : List ℕ) (f g : ℕ) (p : Pair) (done : List Pair) → Leading x y p → isEnd op x y p ≡ false → mem samePair p done ≡ false
+    → mem samePair p (finishPairs op x y f (onLow x y p) (finishPairs op x y g (onHigh x y p) done)) ≡ false
+finish-fresh op x y f g p done a e m = go (flag (mem samePair p (finishPairs op x y f (onLow x y p) (finishPairs op x y g (onHigh x y p) done))))
   where
     not-under : (q : Pair) → Below q p → Under p q → ⊥
     not-under q b u = omega (arith, b .less, u .first, u .second)
 
-    go : Flag (mem samePair p (finishPairs x y f (onLow x y p) (finishPairs x y g (onHigh x y p) done)))
-        → mem samePair p (finishPairs x y f (onLow x y p) (finishPairs x y g (onHigh x y p) done)) ≡ false
+    go : Flag (mem samePair p (finishPairs op x y f (onLow x y p) (finishPairs op x y g (onHigh x y p) done)))
+        → mem samePair p (finishPairs op x y f (onLow x y p) (finishPairs op x y g (onHigh x y p) done)) ≡ false
     go (isTrue h) =
         absurd (⊎-elim
-        (λ k. ⊎-elim (λ (i : mem samePair p done ≡ true). clash i m) (not-under (onHigh x y p) (high-below x y p a e))
-        (finish-members x y g (onHigh x y p) done (high-leading x y p a e) p k))
-        (not-under (onLow x y p) (low-below x y p a e))
-        (finish-members x y f (onLow x y p) (finishPairs x y g (onHigh x y p) done) (low-leading x y p a e) p h))
+        (λ k. ⊎-elim (λ (i : mem samePair p done ≡ true). clash i m) (not-under (onHigh x y p) (high-below op x y p a e))
+        (finish-members op x y g (onHigh x y p) done (high-leading op x y p a e) p k))
+        (not-under (onLow x y p) (low-below op x y p a e))
+        (finish-members op x y f (onLow x y p) (finishPairs op x y g (onHigh x y p) done) (low-leading op x y p a e) p h))
     go (isFalse h) = h
 
 -- no pair twice
@@ -292,83 +279,54 @@ nodup-more p (q ∷ l) d m = go (flag (samePair p q)) (flag (mem samePair p l)) 
     go (isFalse e) (isTrue n) u = clash (or-other (samePair p q) (mem samePair p l) n) m
     go (isFalse e) (isFalse n) u = (mem-append samePair q l (p ∷ []) ∙ rw (d .0, pair-turned p q e), u n)
 
-pub finish-nodup : (x y : List ℕ) (depth : ℕ) (p : Pair) (done : List Pair) → Leading x y p → NoDup samePair done → NoDup samePair (finishPairs x y depth p done)
-unfolding finishPairs
-finish-nodup x y zero p done a d = d
-finish-nodup x y (suc depth) p done a d =
-    go (flag (mem samePair p done)) (flag (isEnd x y p)) (λ b. finish-nodup x y depth (onHigh x y p) done b d)
-    (λ b k. finish-nodup x y depth (onLow x y p) (finishPairs x y depth (onHigh x y p) done) b k)
-  where
-    go : Flag (mem samePair p done) → Flag (isEnd x y p) → (Leading x y (onHigh x y p) → NoDup samePair (finishPairs x y depth (onHigh x y p) done))
-        → (Leading x y (onLow x y p) → NoDup samePair (finishPairs x y depth (onHigh x y p) done)
-        → NoDup samePair (finishPairs x y depth (onLow x y p) (finishPairs x y depth (onHigh x y p) done)))
-        → NoDup samePair (finishPairs x y (suc depth) p done)
-    go (isTrue m) e u v = subst (NoDup samePair) (sym (finish-old x y depth p done m)) d
-    go (isFalse m) (isTrue e) u v = subst (NoDup samePair) (sym (finish-end x y depth p done m e)) (nodup-more p done d m)
-    go (isFalse m) (isFalse e) u v =
-        subst (NoDup samePair) (sym (finish-branch x y depth p done m e))
-        (nodup-more p (finishPairs x y depth (onLow x y p) (finishPairs x y depth (onHigh x y p) done)) (v (low-leading x y p a e) (u (high-leading x y p a e))) (finish-fresh x y depth depth p done a e m))
-
 -- any depth above the sum of the pair's rows will do
-pub finish-depth : (x y : List ℕ) (f g : ℕ) (p : Pair) (done : List Pair) → Leading x y p → p .0 + p .1 < f → p .0 + p .1 < g → finishPairs x y f p done ≡ finishPairs x y g p done
-finish-depth x y zero g p done a lf lg = absurd (omega arith)
-finish-depth x y (suc f) zero p done a lf lg = absurd (omega arith)
-finish-depth x y (suc f) (suc g) p done a lf lg = go (flag (mem samePair p done)) (flag (isEnd x y p)) (λ q l. finish-depth x y f g q l)
+pub finish-depth : (op : Operation) (x y : List ℕ) (f g : ℕ) (p : Pair) (done : List Pair) → Leading x y p → p .0 + p .1 < f → p .0 + p .1 < g → finishPairs op x y f p done ≡ finishPairs op x y g p done
+finish-depth op x y zero g p done a lf lg = absurd (omega arith)
+finish-depth op x y (suc f) zero p done a lf lg = absurd (omega arith)
+finish-depth op x y (suc f) (suc g) p done a lf lg = go (flag (mem samePair p done)) (flag (isEnd op x y p)) (λ q l. finish-depth op x y f g q l)
   where
-    go : Flag (mem samePair p done) → Flag (isEnd x y p)
-        → ((q : Pair) (l : List Pair) → Leading x y q → q .0 + q .1 < f → q .0 + q .1 < g → finishPairs x y f q l ≡ finishPairs x y g q l)
-        → finishPairs x y (suc f) p done ≡ finishPairs x y (suc g) p done
-    go (isTrue m) e u = finish-old x y f p done m ∙ sym (finish-old x y g p done m)
-    go (isFalse m) (isTrue e) u = finish-end x y f p done m e ∙ sym (finish-end x y g p done m e)
+    go : Flag (mem samePair p done) → Flag (isEnd op x y p)
+        → ((q : Pair) (l : List Pair) → Leading x y q → q .0 + q .1 < f → q .0 + q .1 < g → finishPairs op x y f q l ≡ finishPairs op x y g q l)
+        → finishPairs op x y (suc f) p done ≡ finishPairs op x y (suc g) p done
+    go (isTrue m) e u = finish-old op x y f p done m ∙ sym (finish-old op x y g p done m)
+    go (isFalse m) (isTrue e) u = finish-end op x y f p done m e ∙ sym (finish-end op x y g p done m e)
     go (isFalse m) (isFalse e) u =
-        let b : onHigh x y p .0 + onHigh x y p .1 < p .0 + p .1 = high-below x y p a e .less in
-        let c : onLow x y p .0 + onLow x y p .1 < p .0 + p .1 = low-below x y p a e .less in
-        finish-branch x y f p done m e
-        ∙ ap (λ (l : List Pair). l ++ (p ∷ [])) (ap (finishPairs x y f (onLow x y p)) (u (onHigh x y p) done (high-leading x y p a e) (omega arith) (omega arith))
-        ∙ u (onLow x y p) (finishPairs x y g (onHigh x y p) done) (low-leading x y p a e) (omega arith) (omega arith))
-        ∙ sym (finish-branch x y g p done m e)
+        let b : onHigh x y p .0 + onHigh x y p .1 < p .0 + p .1 = high-below op x y p a e .less in
+        let c : onLow x y p .0 + onLow x y p .1 < p .0 + p .1 = low-below op x y p a e .less in
+        finish-branch op x y f p done m e
+        ∙ ap (λ (l : List Pair). l ++ (p ∷ [])) (ap (finishPairs op x y f (onLow x y p)) (u (onHigh x y p) done (high-leading op x y p a e) (omega arith) (omega arith))
+        ∙ u (onLow x y p) (finishPairs op x y g (onHigh x y p) done) (low-leading op x y p a e) (omega arith) (omega arith))
+        ∙ sym (finish-branch op x y g p done m e)
 
 -- the walk as deep as it goes
-module _ (x y : List ℕ) (p : Pair) (done : List Pair) where
-  pub walked-old : mem samePair p done ≡ true → walked x y p done ≡ done
+module _ (op : Operation) (x y : List ℕ) (p : Pair) (done : List Pair) where
+  pub walked-old : mem samePair p done ≡ true → walked op x y p done ≡ done
   unfolding walked
-  walked-old m = finish-old x y (p .0 + p .1) p done m
+  walked-old m = finish-old op x y (p .0 + p .1) p done m
 
-  pub walked-end : mem samePair p done ≡ false → isEnd x y p ≡ true → walked x y p done ≡ done ++ (p ∷ [])
+  pub walked-end : mem samePair p done ≡ false → isEnd op x y p ≡ true → walked op x y p done ≡ done ++ (p ∷ [])
   unfolding walked
-  walked-end m e = finish-end x y (p .0 + p .1) p done m e
+  walked-end m e = finish-end op x y (p .0 + p .1) p done m e
 
-  pub walked-branch : Leading x y p → mem samePair p done ≡ false → isEnd x y p ≡ false
-      → walked x y p done ≡ walked x y (onLow x y p) (walked x y (onHigh x y p) done) ++ (p ∷ [])
+  pub walked-branch : Leading x y p → mem samePair p done ≡ false → isEnd op x y p ≡ false
+      → walked op x y p done ≡ walked op x y (onLow x y p) (walked op x y (onHigh x y p) done) ++ (p ∷ [])
   unfolding walked
   walked-branch a m e =
-      let b : onHigh x y p .0 + onHigh x y p .1 < p .0 + p .1 = high-below x y p a e .less in
-      let c : onLow x y p .0 + onLow x y p .1 < p .0 + p .1 = low-below x y p a e .less in
-      finish-branch x y (p .0 + p .1) p done m e
+      let b : onHigh x y p .0 + onHigh x y p .1 < p .0 + p .1 = high-below op x y p a e .less in
+      let c : onLow x y p .0 + onLow x y p .1 < p .0 + p .1 = low-below op x y p a e .less in
+      finish-branch op x y (p .0 + p .1) p done m e
       ∙ ap (λ (l : List Pair). l ++ (p ∷ []))
-      (ap (finishPairs x y (p .0 + p .1) (onLow x y p))
-      (finish-depth x y (p .0 + p .1) (suc (onHigh x y p .0 + onHigh x y p .1)) (onHigh x y p) done (high-leading x y p a e) b (omega arith))
-      ∙ finish-depth x y (p .0 + p .1) (suc (onLow x y p .0 + onLow x y p .1)) (onLow x y p) (walked x y (onHigh x y p) done) (low-leading x y p a e) c (omega arith))
+      (ap (finishPairs op x y (p .0 + p .1) (onLow x y p))
+      (finish-depth op x y (p .0 + p .1) (suc (onHigh x y p .0 + onHigh x y p .1)) (onHigh x y p) done (high-leading op x y p a e) b (omega arith))
+      ∙ finish-depth op x y (p .0 + p .1) (suc (onLow x y p .0 + onLow x y p .1)) (onLow x y p) (walked op x y (onHigh x y p) done) (low-leading op x y p a e) c (omega arith))
 
-  pub walked-depth : (depth : ℕ) → Leading x y p → p .0 + p .1 < depth → finishPairs x y depth p done ≡ walked x y p done
+  pub walked-extends : Extends done (walked op x y p done)
   unfolding walked
-  walked-depth depth a h = finish-depth x y depth (suc (p .0 + p .1)) p done a h (omega arith)
+  walked-extends = finish-extends op x y (suc (p .0 + p .1)) p done
 
-  pub walked-extends : Extends done (walked x y p done)
+  pub walked-fresh : Leading x y p → isEnd op x y p ≡ false → mem samePair p done ≡ false → mem samePair p (walked op x y (onLow x y p) (walked op x y (onHigh x y p) done)) ≡ false
   unfolding walked
-  walked-extends = finish-extends x y (suc (p .0 + p .1)) p done
-
-  pub walked-members : Leading x y p → (q : Pair) → mem samePair q (walked x y p done) ≡ true → (mem samePair q done ≡ true) ⊎ Under q p
-  unfolding walked
-  walked-members a q h = finish-members x y (suc (p .0 + p .1)) p done a q h
-
-  pub walked-nodup : Leading x y p → NoDup samePair done → NoDup samePair (walked x y p done)
-  unfolding walked
-  walked-nodup a d = finish-nodup x y (suc (p .0 + p .1)) p done a d
-
-  pub walked-fresh : Leading x y p → isEnd x y p ≡ false → mem samePair p done ≡ false → mem samePair p (walked x y (onLow x y p) (walked x y (onHigh x y p) done)) ≡ false
-  unfolding walked
-  walked-fresh a e m = finish-fresh x y _ _ p done a e m
+  walked-fresh a e m = finish-fresh op x y _ _ p done a e m
 
 -- a list without repeats has each pair at one place
 pub place-one : (o : Pair) (ps : List Pair) → NoDup samePair ps → (k l : ℕ) → k < length ps → l < length ps → getD ps k o ≡ getD ps l o → k ≡ l
@@ -379,14 +337,14 @@ place-one o (p ∷ ps) d (suc k) zero h g e = clash (subst (λ (q : Pair). mem s
 place-one o (p ∷ ps) d (suc k) (suc l) h g e = ap suc (place-one o ps (d .1) k l (le-of-suc-le-suc h) (le-of-suc-le-suc g) e)
 
 -- the walk of no pairs yet finishes its root, and that last
-pub walked-root : (x y : List ℕ) (p : Pair) → Leading x y p → (o : Pair) → (0 < length (walked x y p [])) × (getD (walked x y p []) (length (walked x y p []) - 1) o ≡ p)
-walked-root x y p a o = go (flag (isEnd x y p))
+pub walked-root : (op : Operation) (x y : List ℕ) (p : Pair) → Leading x y p → (o : Pair) → (0 < length (walked op x y p [])) × (getD (walked op x y p []) (length (walked op x y p []) - 1) o ≡ p)
+walked-root op x y p a o = go (flag (isEnd op x y p))
   where
-    root : (us : List Pair) → walked x y p [] ≡ us ++ (p ∷ []) → (0 < length (walked x y p [])) × (getD (walked x y p []) (length (walked x y p []) - 1) o ≡ p)
+    root : (us : List Pair) → walked op x y p [] ≡ us ++ (p ∷ []) → (0 < length (walked op x y p [])) × (getD (walked op x y p []) (length (walked op x y p []) - 1) o ≡ p)
     root us e =
-        let l : length (walked x y p []) ≡ length us + 1 = ap length e ∙ length-append us (p ∷ []) in
-        (omega arith, ap (λ (qs : List Pair). getD qs (length (walked x y p []) - 1) o) e ∙ getD-at us p [] o (length (walked x y p []) - 1) (omega arith))
+        let l : length (walked op x y p []) ≡ length us + 1 = ap length e ∙ length-append us (p ∷ []) in
+        (omega arith, ap (λ (qs : List Pair). getD qs (length (walked op x y p []) - 1) o) e ∙ getD-at us p [] o (length (walked op x y p []) - 1) (omega arith))
 
-    go : Flag (isEnd x y p) → (0 < length (walked x y p [])) × (getD (walked x y p []) (length (walked x y p []) - 1) o ≡ p)
-    go (isTrue e) = root [] (walked-end x y p [] refl e)
-    go (isFalse e) = root (walked x y (onLow x y p) (walked x y (onHigh x y p) [])) (walked-branch x y p [] a refl e)
+    go : Flag (isEnd op x y p) → (0 < length (walked op x y p [])) × (getD (walked op x y p []) (length (walked op x y p []) - 1) o ≡ p)
+    go (isTrue e) = root [] (walked-end op x y p [] refl e)
+    go (isFalse e) = root (walked op x y (onLow x y p) (walked op x y (onHigh x y p) [])) (walked-branch op x y p [] a refl e)

@@ -1,4 +1,5 @@
 // The walk of pairs of a combination, and the plan that it writes into lent space.
+use apply::Operation;
 ghost use mathlib.Core.Path.{_≡_};
 ghost use mathlib.Core.Bool.{false};
 ghost use mathlib.Core.List.{[]};
@@ -6,7 +7,8 @@ ghost use Prim.Native.Nat.{_+_, _*_, _<_, _≤_};
 ghost use lib.ListN.{length};
 ghost use Rattle.basics.specs.Members.{mem};
 ghost use Rattle.table.specs.Chains.{prev};
-ghost use Rattle.plan.specs.Walk.{samePair, lesser, onHigh, onLow, walked, mostRows, Leading};
+ghost use Rattle.apply.specs.Pairs.{absorbs};
+ghost use Rattle.plan.specs.Walk.{samePair, isEnd, lesser, pairLabel, onHigh, onLow, walked, mostRows, Leading};
 ghost use Rattle.plan.specs.Plan.{buckets, keyCount, keyOf, hashOf, keyAt, Index, Plan, Clean, Touched, Ready, Planned, packBase, wentOf, pairsAt, Visited, Entered};
 ghost use Rattle.plan.specs.declared.Went.the-variants.{To};
 
@@ -77,6 +79,47 @@ fn find(plan: &[u64], heads: &[u16], limit: usize, count: usize, k: u64) -> usiz
         at = plan[i * ENTRY_WORDS + 1] as usize;
     }
     0
+}
+
+// Whether a leaf of this value ends a pair beside whatever stands there.
+fn absorbs(op: Operation, value: u64) -> bool
+    ensures { λ r. ⌜ r ≡ absorbs op value ⌝ }
+{
+    match op {
+        Operation::Sum => false,
+        Operation::Product => value == 0,
+        Operation::Max => false,
+    }
+}
+
+// Whether a pair ends.
+fn ends(x: &[u64], y: &[u64], i: usize, j: usize, op: Operation) -> bool
+    requires { ⌜ (i * 3 + 3 ≤ length (now x)) × (j * 3 + 3 ≤ length (now y)) ⌝ }
+    ensures { λ r. ⌜ r ≡ isEnd op (now (x .entry)) (now (y .entry)) (i, j) ⌝ }
+{
+    let a = x[i * 3];
+    let b = y[j * 3];
+    if a == LEAF {
+        if b == LEAF {
+            return true;
+        }
+        return absorbs(op, x[i * 3 + 1]);
+    }
+    if b == LEAF {
+        return absorbs(op, y[j * 3 + 1]);
+    }
+    false
+}
+
+// A leaf's mark where a pair ends, or the label by which it goes down.
+fn pair_label(x: &[u64], y: &[u64], i: usize, j: usize, op: Operation) -> u64
+    requires { ⌜ (i * 3 + 3 ≤ length (now x)) × (j * 3 + 3 ≤ length (now y)) ⌝ }
+    ensures { λ r. ⌜ r ≡ pairLabel op (now (x .entry)) (now (y .entry)) (i, j) ⌝ }
+{
+    if ends(x, y, i, j, op) {
+        return LEAF;
+    }
+    lower(x[i * 3], y[j * 3])
 }
 
 // The successors of a pair, all read before anything is stored.
@@ -156,15 +199,16 @@ fn visit(
     count: usize,
     i: usize,
     j: usize,
+    op: Operation,
 ) -> usize
-    requires { ⌜ Ready (now x) (now y) (now plan) (now heads) limit count (i, j) ⌝ }
-    ensures { λ r. ⌜ Visited (now (x .entry)) (now (y .entry)) limit (i, j) (walked (now (x .entry)) (now (y .entry)) (i, j) (pairsAt (now (plan .entry)) count)) (wentOf r) (now (plan .exit)) (now (heads .exit)) ⌝ }
+    requires { ⌜ Ready op (now x) (now y) (now plan) (now heads) limit count (i, j) ⌝ }
+    ensures { λ r. ⌜ Visited op (now (x .entry)) (now (y .entry)) limit (i, j) (walked op (now (x .entry)) (now (y .entry)) (i, j) (pairsAt (now (plan .entry)) count)) (wentOf r) (now (plan .exit)) (now (heads .exit)) ⌝ }
 {
     let at = find(plan, heads, limit, count, key(i, j));
     if at != 0 {
         return packed(at - 1, count);
     }
-    below(x, y, plan, heads, limit, count, i, j)
+    below(x, y, plan, heads, limit, count, i, j, op)
 }
 
 // Walks from a pair that is not in the plan.
@@ -177,12 +221,13 @@ fn below(
     count: usize,
     i: usize,
     j: usize,
+    op: Operation,
 ) -> usize
-    requires { ⌜ Ready (now x) (now y) (now plan) (now heads) limit count (i, j) ⌝ }
+    requires { ⌜ Ready op (now x) (now y) (now plan) (now heads) limit count (i, j) ⌝ }
     requires { ⌜ mem samePair (i, j) (pairsAt (now plan) count) ≡ false ⌝ }
-    ensures { λ r. ⌜ Visited (now (x .entry)) (now (y .entry)) limit (i, j) (walked (now (x .entry)) (now (y .entry)) (i, j) (pairsAt (now (plan .entry)) count)) (wentOf r) (now (plan .exit)) (now (heads .exit)) ⌝ }
+    ensures { λ r. ⌜ Visited op (now (x .entry)) (now (y .entry)) limit (i, j) (walked op (now (x .entry)) (now (y .entry)) (i, j) (pairsAt (now (plan .entry)) count)) (wentOf r) (now (plan .exit)) (now (heads .exit)) ⌝ }
 {
-    let l = lower(x[i * 3], y[j * 3]);
+    let l = pair_label(x, y, i, j, op);
     if l == LEAF {
         return add(
             plan,
@@ -196,12 +241,12 @@ fn below(
         );
     }
     let s = successors(x, y, i, j);
-    let high = visit(x, y, plan, heads, limit, count, s.hi, s.hj);
+    let high = visit(x, y, plan, heads, limit, count, s.hi, s.hj, op);
     if high == FULL {
         return FULL;
     }
     let n = high / PACK_BASE;
-    let low = visit(x, y, plan, heads, limit, n, s.li, s.lj);
+    let low = visit(x, y, plan, heads, limit, n, s.li, s.lj, op);
     if low == FULL {
         return FULL;
     }
@@ -211,7 +256,7 @@ fn below(
     add(plan, heads, limit, m, key(i, j), l, t as u64, f as u64)
 }
 
-// Walks the pairs of two row spaces from row i of x and row j of y, and writes their plan. The index must be clean, and is in use after.
+// Walks the pairs of an operation on two row spaces from row i of x and row j of y, and writes their plan. The index must be clean, and is in use after.
 pub fn walk(
     x: &[u64],
     y: &[u64],
@@ -220,12 +265,13 @@ pub fn walk(
     limit: usize,
     i: usize,
     j: usize,
+    op: Operation,
 ) -> Went
     requires { ⌜ Leading (now x) (now y) (i, j) ⌝ }
-    requires { ⌜ Plan (now x) (now y) (now plan) (now heads) limit [] ⌝ }
-    ensures { λ r. ⌜ Planned (now (x .entry)) (now (y .entry)) limit (walked (now (x .entry)) (now (y .entry)) (i, j) []) r (now (plan .exit)) (now (heads .exit)) ⌝ }
+    requires { ⌜ Index (now plan) (now heads) limit 0 ⌝ }
+    ensures { λ r. ⌜ Planned op (now (x .entry)) (now (y .entry)) limit (walked op (now (x .entry)) (now (y .entry)) (i, j) []) r (now (plan .exit)) (now (heads .exit)) ⌝ }
 {
-    let r = below(x, y, plan, heads, limit, 0, i, j);
+    let r = below(x, y, plan, heads, limit, 0, i, j, op);
     if r == FULL {
         return Went::Full;
     }

@@ -18,8 +18,10 @@ use Rattle.diagram.specs.DiagramLaws.{diagram-test, onto-old}
 use Rattle.diagram.specs.Rows.{onto}
 use Rattle.diagram.specs.RowLists.{Kept}
 use Rattle.diagram.specs.RowLaws.{onto-kept, kept-children, kept-nodup}
+use Rattle.apply.specs.declared.Operation.{Operation}
 use Rattle.apply.specs.Apply.{apply}
 use Rattle.apply.specs.Pairs.{pairs, pairCount, overflows}
+use Rattle.apply.specs.Combination.{operate}
 use Rattle.apply.specs.Visit.{visit}
 use Rattle.apply.specs.Formed.{formed, ClosedRows}
 use Rattle.apply.specs.Snoc.{Begins, begins-refl, begins-trans, mem-begins}
@@ -87,19 +89,19 @@ form-space d rs h = rw (lt-ltb spaceRows (length (onto d rs)) h)
 pub form-old : (d : Diagram) (rs : List Diagram) → mem same d rs ≡ true → length rs ≤ spaceRows → form d rs ≡ ok (d, rs)
 form-old d rs h l = form-room d rs (rw (onto-old d rs h) l) ∙ rw (onto-old d rs h) refl
 
-pub combine-pairs : (op : ℕ → ℕ → ℕ) (a b : Diagram) (rs : List Diagram) → mostPairs < pairCount a b → combine op a b rs ≡ refused Pairs
+pub combine-pairs : (op : Operation) (a b : Diagram) (rs : List Diagram) → mostPairs < pairCount op a b → combine op a b rs ≡ refused Pairs
 unfolding combine
-combine-pairs op a b rs h = rw (lt-ltb mostPairs (pairCount a b) h)
+combine-pairs op a b rs h = rw (lt-ltb mostPairs (pairCount op a b) h)
 
-pub combine-value : (op : ℕ → ℕ → ℕ) (a b : Diagram) (rs : List Diagram) → pairCount a b ≤ mostPairs → overflows op (pairs a b) ≡ true
+pub combine-value : (op : Operation) (a b : Diagram) (rs : List Diagram) → pairCount op a b ≤ mostPairs → overflows (operate op) (pairs op a b) ≡ true
     → combine op a b rs ≡ refused Value
 unfolding combine
-combine-value op a b rs h o = rw (le-ltb mostPairs (pairCount a b) h, o)
+combine-value op a b rs h o = rw (le-ltb mostPairs (pairCount op a b) h, o)
 
-pub combine-calm : (op : ℕ → ℕ → ℕ) (a b : Diagram) (rs : List Diagram) → pairCount a b ≤ mostPairs → overflows op (pairs a b) ≡ false
-    → combine op a b rs ≡ form (apply op a b) rs
+pub combine-calm : (op : Operation) (a b : Diagram) (rs : List Diagram) → pairCount op a b ≤ mostPairs → overflows (operate op) (pairs op a b) ≡ false
+    → combine op a b rs ≡ form (apply (operate op) a b) rs
 unfolding combine
-combine-calm op a b rs h o = rw (le-ltb mostPairs (pairCount a b) h, o)
+combine-calm op a b rs h o = rw (le-ltb mostPairs (pairCount op a b) h, o)
 
 -- a step that was not refused
 pub record Forms (d x : Diagram) (rs qs : List Diagram) : Type 0 where
@@ -115,33 +117,33 @@ form-forms d rs x qs h = go (ltb spaceRows (length (onto d rs))) refl h
     go true e k = let z : _≡_ {A = ℕ} 0 1 = cc in absurd (omega arith)
     go false e k = record { is = sym (same-answer d x (onto d rs) qs k); rows-are = sym (same-rows d x (onto d rs) qs k); room = ltb-false _ _ e }
 
-pub record Combines (op : ℕ → ℕ → ℕ) (a b x : Diagram) (rs qs : List Diagram) : Type 0 where
-  pub few : pairCount a b ≤ mostPairs
-  pub calm : overflows op (pairs a b) ≡ false
-  pub forms : Forms (apply op a b) x rs qs
+pub record Combines (op : Operation) (a b x : Diagram) (rs qs : List Diagram) : Type 0 where
+  pub few : pairCount op a b ≤ mostPairs
+  pub calm : overflows (operate op) (pairs op a b) ≡ false
+  pub forms : Forms (apply (operate op) a b) x rs qs
 
-pub combine-combines : (op : ℕ → ℕ → ℕ) (a b : Diagram) (rs : List Diagram) (x : Diagram) (qs : List Diagram) → combine op a b rs ≡ ok (x, qs) → Combines op a b x rs qs
+pub combine-combines : (op : Operation) (a b : Diagram) (rs : List Diagram) (x : Diagram) (qs : List Diagram) → combine op a b rs ≡ ok (x, qs) → Combines op a b x rs qs
 unfolding combine
-combine-combines op a b rs x qs h = go (ltb mostPairs (pairCount a b)) (overflows op (pairs a b)) refl refl h
+combine-combines op a b rs x qs h = go (ltb mostPairs (pairCount op a b)) (overflows (operate op) (pairs op a b)) refl refl h
   where
-    go : (p o : Bool) → ltb mostPairs (pairCount a b) ≡ p → overflows op (pairs a b) ≡ o
-        → cond p (refused Pairs) (cond o (refused Value) (form (apply op a b) rs)) ≡ ok (x, qs) → Combines op a b x rs qs
+    go : (p o : Bool) → ltb mostPairs (pairCount op a b) ≡ p → overflows (operate op) (pairs op a b) ≡ o
+        → cond p (refused Pairs) (cond o (refused Value) (form (apply (operate op) a b) rs)) ≡ ok (x, qs) → Combines op a b x rs qs
     go true o e d k = let z : _≡_ {A = ℕ} 0 1 = cc in absurd (omega arith)
     go false true e d k = let z : _≡_ {A = ℕ} 0 1 = cc in absurd (omega arith)
-    go false false e d k = record { few = ltb-false _ _ e; calm = d; forms = form-forms (apply op a b) rs x qs k }
+    go false false e d k = record { few = ltb-false _ _ e; calm = d; forms = form-forms (apply (operate op) a b) rs x qs k }
 
 pub form-gives : (d : Diagram) → Gives (λ x. x ≡ d) (form d)
 form-gives d = record { given = λ rs. record { given = λ r e. form-forms d rs (r .0) (r .1) e .is } }
 
-pub combine-gives : (op : ℕ → ℕ → ℕ) (a b : Diagram) → Gives (λ x. x ≡ apply op a b) (combine op a b)
+pub combine-gives : (op : Operation) (a b : Diagram) → Gives (λ x. x ≡ apply (operate op) a b) (combine op a b)
 combine-gives op a b = record { given = λ rs. record { given = λ r e. combine-combines op a b rs (r .0) (r .1) e .forms .is } }
 
 -- every pair forms its reduced diagram: the rows formed are those of the result, and they are as many
 pub kept-closed : (rs : List Diagram) → Kept rs → ClosedRows rs
 kept-closed rs k = record { children = λ l t f h. let c = kept-children rs l t f k h in (c .0 .is-row, c .1 .is-row) }
 
-pub combine-forms : (op : ℕ → ℕ → ℕ) (a b : Diagram) (rs : List Diagram) → Kept rs
-    → (formed op rs (visit a b []) ≡ onto (apply op a b) rs) × (length (formed op rs (pairs a b)) ≡ length (onto (apply op a b) rs))
+pub combine-forms : (op : Operation) (a b : Diagram) (rs : List Diagram) → Kept rs
+    → (formed (operate op) rs (visit op a b []) ≡ onto (apply (operate op) a b) rs) × (length (formed (operate op) rs (pairs op a b)) ≡ length (onto (apply (operate op) a b) rs))
 combine-forms op a b rs k = (formed-visit op rs a b (kept-closed rs k), formed-count op rs a b (kept-closed rs k) (kept-nodup rs k))
 
 -- a step keeps the rows that are there, in the room of the space; and where its rows are there already it gives the same answer and adds nothing
@@ -194,14 +196,14 @@ steady-form d = record {
       form-old d us (w d (rw (f .rows-are) (onto-mem d rs))) l ∙ ap (λ (y : Diagram). ok (y, us)) (sym (f .is));
 }
 
-pub steady-combine : (op : ℕ → ℕ → ℕ) (a b : Diagram) → Steady (combine op a b)
+pub steady-combine : (op : Operation) (a b : Diagram) → Steady (combine op a b)
 steady-combine op a b = record {
-  grows = λ rs x qs e. rw (combine-combines op a b rs x qs e .forms .rows-are) (onto-begins (apply op a b) rs);
-  kept = λ rs x qs e k. rw (combine-combines op a b rs x qs e .forms .rows-are) (onto-kept (apply op a b) rs k);
+  grows = λ rs x qs e. rw (combine-combines op a b rs x qs e .forms .rows-are) (onto-begins (apply (operate op) a b) rs);
+  kept = λ rs x qs e k. rw (combine-combines op a b rs x qs e .forms .rows-are) (onto-kept (apply (operate op) a b) rs k);
   room = λ rs x qs e l. rw (combine-combines op a b rs x qs e .forms .rows-are) (combine-combines op a b rs x qs e .forms .room);
   again = λ rs x qs us e w l.
       let c = combine-combines op a b rs x qs e in
       let f = c .forms in
-      combine-calm op a b us (c .few) (c .calm) ∙ form-old (apply op a b) us (w (apply op a b) (rw (f .rows-are) (onto-mem (apply op a b) rs))) l
+      combine-calm op a b us (c .few) (c .calm) ∙ form-old (apply (operate op) a b) us (w (apply (operate op) a b) (rw (f .rows-are) (onto-mem (apply (operate op) a b) rs))) l
       ∙ ap (λ (y : Diagram). ok (y, us)) (sym (f .is));
 }

@@ -9,8 +9,10 @@ use Rattle.refusal.specs.declared.Refusal.the-variants.{Pairs, Value, Space}
 use Rattle.diagram.specs.Sizes.{spaceRows, mostPairs}
 use Rattle.diagram.specs.Diagram.{Diagram}
 use Rattle.diagram.specs.Rows.{onto}
+use Rattle.apply.specs.declared.Operation.{Operation}
 use Rattle.apply.specs.Apply.{apply}
 use Rattle.apply.specs.Pairs.{pairs, pairCount, overflows}
+use Rattle.apply.specs.Combination.{operate}
 
 -- a step of a call: from the rows formed so far, its answer and the rows formed then
 abbrev pub Run : Type 0 → Type 0
@@ -29,9 +31,9 @@ form d rs = cond (ltb spaceRows (length (onto d rs))) (refused Space) (ok (d, on
 
 -- a combination with names shared: more than 4,096 pairs (10), a leaf pair whose result is above 10^18 (11), space (9).
 -- Every pair forms its reduced diagram: these are the rows of the result (`combine-forms`).
-unfoldable pub combine : (ℕ → ℕ → ℕ) → Diagram → Diagram → Run Diagram
+unfoldable pub combine : Operation → Diagram → Diagram → Run Diagram
 unfolding form
 combine op a b rs =
-    cond (ltb mostPairs (pairCount a b)) (refused Pairs)
-    (cond (overflows op (pairs a b)) (refused Value)
-    (form (apply op a b) rs))
+    cond (ltb mostPairs (pairCount op a b)) (refused Pairs)
+    (cond (overflows (operate op) (pairs op a b)) (refused Value)
+    (form (apply (operate op) a b) rs))

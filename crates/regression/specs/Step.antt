@@ -1,8 +1,9 @@
 -- The row step (document 01, section 'Regression'): (T times true result) + ((1 - T) times false result).
-use Prim.Native.Nat.{ℕ, _+_, _*_, _-_}
+use Prim.Native.Nat.{ℕ, _-_}
 use Rattle.label.specs.declared.Test.{Test}
 use Rattle.label.specs.declared.Test.the-variants.{Always, Is}
 use Rattle.diagram.specs.Diagram.{Diagram, leaf, branch}
+use Rattle.apply.specs.declared.Operation.the-variants.{Sum, Product}
 use Rattle.regression.specs.Calls.{Run, bind, form, combine}
 
 -- the one-row test of a label: one branch and its two leaves
@@ -26,6 +27,6 @@ unfolding form combine exchanged
 rowStep T t f =
     bind (form T) (λ x.
     bind (form (exchanged x)) (λ y.
-    bind (combine _*_ x t) (λ left.
-    bind (combine _*_ y f) (λ right.
-    combine _+_ left right))))
+    bind (combine Product x t) (λ left.
+    bind (combine Product y f) (λ right.
+    combine Sum left right))))

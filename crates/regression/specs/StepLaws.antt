@@ -7,6 +7,7 @@ use Rattle.label.specs.declared.Test.{Test}
 use Rattle.label.specs.declared.Test.the-variants.{Always, Is}
 use Rattle.diagram.specs.Diagram.{Diagram, leaf, branch, eval, From, Ordered, Reduced}
 use Rattle.diagram.specs.Canonicity.{choosing, eval-true, eval-false}
+use Rattle.apply.specs.declared.Operation.the-variants.{Sum, Product}
 use Rattle.apply.specs.Apply.{apply}
 use Rattle.apply.specs.ApplyLaws.{eval-apply, from-apply, reduced-apply}
 use Rattle.apply.specs.GoodLaws.{EveryLabel, every-apply}
@@ -85,18 +86,18 @@ unfolding rowStep stepped
 step-gives T t f =
     gives-bind _ _ (form-gives T) (λ x hx.
     gives-bind _ _ (form-gives (exchanged x)) (λ y hy.
-    gives-bind _ _ (combine-gives _*_ x t) (λ p hp.
-    gives-bind _ _ (combine-gives _*_ y f) (λ q hq.
-    gives-mono (combine-gives _+_ p q) (λ r hr. hr ∙ rw (hp, hq, hy, hx) refl)))))
+    gives-bind _ _ (combine-gives Product x t) (λ p hp.
+    gives-bind _ _ (combine-gives Product y f) (λ q hq.
+    gives-mono (combine-gives Sum p q) (λ r hr. hr ∙ rw (hp, hq, hy, hx) refl)))))
 
 pub steady-step : (T t f : Diagram) → Steady (rowStep T t f)
 unfolding rowStep
 steady-step T t f =
     steady-bind _ _ (steady-form T) (λ x.
     steady-bind _ _ (steady-form (exchanged x)) (λ y.
-    steady-bind _ _ (steady-combine _*_ x t) (λ p.
-    steady-bind _ _ (steady-combine _*_ y f) (λ q.
-    steady-combine _+_ p q))))
+    steady-bind _ _ (steady-combine Product x t) (λ p.
+    steady-bind _ _ (steady-combine Product y f) (λ q.
+    steady-combine Sum p q))))
 
 step-number : (b : Bool) (d x y : ℕ) → d ≡ cond b 1 0 → d * x + (1 - d) * y ≡ cond b x y
 step-number true d x y e = rw e (omega arith)

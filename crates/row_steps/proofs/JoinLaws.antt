@@ -16,10 +16,10 @@ use Rattle.diagram.specs.RowLists.{Written}
 use Rattle.apply.specs.declared.Operation.{Operation}
 use Rattle.apply.specs.Combination.{operate}
 use Rattle.apply.specs.Apply.{node, apply}
-use Rattle.apply.specs.ApplyLaws.{node-same, node-differ, apply-leaves, apply-step}
+use Rattle.apply.specs.ApplyLaws.{node-same, node-differ, apply-step}
 use Rattle.apply.specs.Pairs.{pairs, pairCount, overflows}
-use Rattle.apply.specs.Walk.{Walk, ends, on, walk}
-use Rattle.apply.specs.OverflowLaws.{calm-true, calm-false, calm-ends}
+use Rattle.apply.specs.Course.{Course, stops, descends, course, ending}
+use Rattle.apply.specs.OverflowLaws.{calm-root, calm-true, calm-false}
 use Rattle.store.specs.Space.{diagramsOf, Holds}
 use Rattle.store.proofs.SpaceLaws.{formed-room}
 use Rattle.regression.specs.Calls.{combine}
@@ -40,71 +40,74 @@ most-node b l t f x y = go (flag (same t f))
     go (isTrue e) = rw (node-same l t f e) x
     go (isFalse e) = rw (node-differ l t f e) (x, y)
 
-most-walk : (op : ℕ → ℕ → ℕ) {a b : Diagram} → Walk a b → overflows op (pairs a b) ≡ false → AtMost highestValue (apply op a b)
-most-walk op (ends v w) h = rw (apply-leaves op v w) (calm-ends op v w h)
-most-walk op (on {l = l} {t = t} {u = u} {f = f} {g = g} s m n) h =
-    rw (apply-step op s) (most-node highestValue l (apply op t u) (apply op f g) (most-walk op m (calm-true op s h)) (most-walk op n (calm-false op s h)))
+most-course : (op : Operation) {a b : Diagram} → Course op a b → overflows (operate op) (pairs op a b) ≡ false → AtMost highestValue (apply (operate op) a b)
+most-course op (stops {a = a} {b = b} n) h =
+    let z = ending op a b n in
+    rw (z .forms) (ltb-false highestValue (z .value) (sym (z .high) ∙ calm-root (operate op) op a b h))
+most-course op (descends {l = l} {t = t} {u = u} {f = f} {g = g} n s x y) h =
+    rw (apply-step (operate op) s) (most-node highestValue l (apply (operate op) t u) (apply (operate op) f g)
+    (most-course op x (calm-true (operate op) op n s h)) (most-course op y (calm-false (operate op) op n s h)))
 
-most-apply : (op : ℕ → ℕ → ℕ) (a b : Diagram) → overflows op (pairs a b) ≡ false → AtMost highestValue (apply op a b)
-most-apply op a b h = most-walk op (walk a b) h
+most-apply : (op : Operation) (a b : Diagram) → overflows (operate op) (pairs op a b) ≡ false → AtMost highestValue (apply (operate op) a b)
+most-apply op a b h = most-course op (course op a b) h
 
 -- `join`
 module _ (op : Operation) (a b : Diagram) (rs : List Diagram) where
   answer-at : {i n p : ℕ} → At i n p ≡ joinAnswer op 4096 a b rs
-      → (pairCount a b ≤ mostPairs) × (overflows (operate op) (pairs a b) ≡ false) × (length (rowsAfter op a b rs) ≤ spaceRows)
+      → (pairCount op a b ≤ mostPairs) × (overflows (operate op) (pairs op a b) ≡ false) × (length (rowsAfter op a b rs) ≤ spaceRows)
       × (i ≡ index (apply (operate op) a b) (rowsAfter op a b rs)) × (n ≡ length (rowsAfter op a b rs))
   unfolding joinAnswer
-  answer-at {i} {n} {p} e = go (flag (ltb 4096 (pairCount a b))) (flag (overflows (operate op) (pairs a b))) (flag (ltb spaceRows (length (rowsAfter op a b rs))))
+  answer-at {i} {n} {p} e = go (flag (ltb 4096 (pairCount op a b))) (flag (overflows (operate op) (pairs op a b))) (flag (ltb spaceRows (length (rowsAfter op a b rs))))
     where
-      go : Flag (ltb 4096 (pairCount a b)) → Flag (overflows (operate op) (pairs a b)) → Flag (ltb spaceRows (length (rowsAfter op a b rs)))
-          → (pairCount a b ≤ mostPairs) × (overflows (operate op) (pairs a b) ≡ false) × (length (rowsAfter op a b rs) ≤ spaceRows)
+      go : Flag (ltb 4096 (pairCount op a b)) → Flag (overflows (operate op) (pairs op a b)) → Flag (ltb spaceRows (length (rowsAfter op a b rs)))
+          → (pairCount op a b ≤ mostPairs) × (overflows (operate op) (pairs op a b) ≡ false) × (length (rowsAfter op a b rs) ≤ spaceRows)
           × (i ≡ index (apply (operate op) a b) (rowsAfter op a b rs)) × (n ≡ length (rowsAfter op a b rs))
       go (isTrue x) y z = let k : At i n p ≡ TooManyPairs = rw x at e in let w : _≡_ {A = ℕ} 0 1 = cc in absurd (omega arith)
       go (isFalse x) (isTrue y) z = let k : At i n p ≡ TooHighValue = rw (x, y) at e in let w : _≡_ {A = ℕ} 0 1 = cc in absurd (omega arith)
       go (isFalse x) (isFalse y) (isTrue z) = let k : At i n p ≡ NoRoom = rw (x, y, z) at e in let w : _≡_ {A = ℕ} 0 1 = cc in absurd (omega arith)
       go (isFalse x) (isFalse y) (isFalse z) =
-          let k : At i n p ≡ At (index (apply (operate op) a b) (rowsAfter op a b rs)) (length (rowsAfter op a b rs)) (pairCount a b) = rw (x, y, z) at e in
+          let k : At i n p ≡ At (index (apply (operate op) a b) (rowsAfter op a b rs)) (length (rowsAfter op a b rs)) (pairCount op a b) = rw (x, y, z) at e in
           (ltb-false _ _ x, y, ltb-false _ _ z, (cc), (cc))
 
-  answer-many : TooManyPairs ≡ joinAnswer op 4096 a b rs → mostPairs < pairCount a b
+  answer-many : TooManyPairs ≡ joinAnswer op 4096 a b rs → mostPairs < pairCount op a b
   unfolding joinAnswer
-  answer-many e = go (flag (ltb 4096 (pairCount a b))) (flag (overflows (operate op) (pairs a b))) (flag (ltb spaceRows (length (rowsAfter op a b rs))))
+  answer-many e = go (flag (ltb 4096 (pairCount op a b))) (flag (overflows (operate op) (pairs op a b))) (flag (ltb spaceRows (length (rowsAfter op a b rs))))
     where
-      go : Flag (ltb 4096 (pairCount a b)) → Flag (overflows (operate op) (pairs a b)) → Flag (ltb spaceRows (length (rowsAfter op a b rs))) → mostPairs < pairCount a b
+      go : Flag (ltb 4096 (pairCount op a b)) → Flag (overflows (operate op) (pairs op a b)) → Flag (ltb spaceRows (length (rowsAfter op a b rs))) → mostPairs < pairCount op a b
       go (isTrue x) y z = ltb-true _ _ x
       go (isFalse x) (isTrue y) z = let k : TooManyPairs ≡ TooHighValue = rw (x, y) at e in let w : _≡_ {A = ℕ} 0 1 = cc in absurd (omega arith)
       go (isFalse x) (isFalse y) (isTrue z) = let k : TooManyPairs ≡ NoRoom = rw (x, y, z) at e in let w : _≡_ {A = ℕ} 0 1 = cc in absurd (omega arith)
       go (isFalse x) (isFalse y) (isFalse z) =
-          let k : TooManyPairs ≡ At (index (apply (operate op) a b) (rowsAfter op a b rs)) (length (rowsAfter op a b rs)) (pairCount a b) = rw (x, y, z) at e in
+          let k : TooManyPairs ≡ At (index (apply (operate op) a b) (rowsAfter op a b rs)) (length (rowsAfter op a b rs)) (pairCount op a b) = rw (x, y, z) at e in
           let w : _≡_ {A = ℕ} 0 1 = cc in
           absurd (omega arith)
 
-  answer-high : TooHighValue ≡ joinAnswer op 4096 a b rs → (pairCount a b ≤ mostPairs) × (overflows (operate op) (pairs a b) ≡ true)
+  answer-high : TooHighValue ≡ joinAnswer op 4096 a b rs → (pairCount op a b ≤ mostPairs) × (overflows (operate op) (pairs op a b) ≡ true)
   unfolding joinAnswer
-  answer-high e = go (flag (ltb 4096 (pairCount a b))) (flag (overflows (operate op) (pairs a b))) (flag (ltb spaceRows (length (rowsAfter op a b rs))))
+  answer-high e = go (flag (ltb 4096 (pairCount op a b))) (flag (overflows (operate op) (pairs op a b))) (flag (ltb spaceRows (length (rowsAfter op a b rs))))
     where
-      go : Flag (ltb 4096 (pairCount a b)) → Flag (overflows (operate op) (pairs a b)) → Flag (ltb spaceRows (length (rowsAfter op a b rs)))
-          → (pairCount a b ≤ mostPairs) × (overflows (operate op) (pairs a b) ≡ true)
+      go : Flag (ltb 4096 (pairCount op a b)) → Flag (overflows (operate op) (pairs op a b)) → Flag (ltb spaceRows (length (rowsAfter op a b rs)))
+          → (pairCount op a b ≤ mostPairs) × (overflows (operate op) (pairs op a b) ≡ true)
       go (isTrue x) y z = let k : TooHighValue ≡ TooManyPairs = rw x at e in let w : _≡_ {A = ℕ} 0 1 = cc in absurd (omega arith)
       go (isFalse x) (isTrue y) z = (ltb-false _ _ x, y)
       go (isFalse x) (isFalse y) (isTrue z) = let k : TooHighValue ≡ NoRoom = rw (x, y, z) at e in let w : _≡_ {A = ℕ} 0 1 = cc in absurd (omega arith)
       go (isFalse x) (isFalse y) (isFalse z) =
-          let k : TooHighValue ≡ At (index (apply (operate op) a b) (rowsAfter op a b rs)) (length (rowsAfter op a b rs)) (pairCount a b) = rw (x, y, z) at e in
+          let k : TooHighValue ≡ At (index (apply (operate op) a b) (rowsAfter op a b rs)) (length (rowsAfter op a b rs)) (pairCount op a b) = rw (x, y, z) at e in
           let w : _≡_ {A = ℕ} 0 1 = cc in
           absurd (omega arith)
 
   answer-none : NoRoom ≡ joinAnswer op 4096 a b rs
-      → (pairCount a b ≤ mostPairs) × (overflows (operate op) (pairs a b) ≡ false) × (spaceRows < length (rowsAfter op a b rs))
+      → (pairCount op a b ≤ mostPairs) × (overflows (operate op) (pairs op a b) ≡ false) × (spaceRows < length (rowsAfter op a b rs))
   unfolding joinAnswer
-  answer-none e = go (flag (ltb 4096 (pairCount a b))) (flag (overflows (operate op) (pairs a b))) (flag (ltb spaceRows (length (rowsAfter op a b rs))))
+  answer-none e = go (flag (ltb 4096 (pairCount op a b))) (flag (overflows (operate op) (pairs op a b))) (flag (ltb spaceRows (length (rowsAfter op a b rs))))
     where
-      go : Flag (ltb 4096 (pairCount a b)) → Flag (overflows (operate op) (pairs a b)) → Flag (ltb spaceRows (length (rowsAfter op a b rs)))
-          → (pairCount a b ≤ mostPairs) × (overflows (operate op) (pairs a b) ≡ false) × (spaceRows < length (rowsAfter op a b rs))
+      go : Flag (ltb 4096 (pairCount op a b)) → Flag (overflows (operate op) (pairs op a b)) → Flag (ltb spaceRows (length (rowsAfter op a b rs)))
+          → (pairCount op a b ≤ mostPairs) × (overflows (operate op) (pairs op a b) ≡ false) × (spaceRows < length (rowsAfter op a b rs))
       go (isTrue x) y z = let k : NoRoom ≡ TooManyPairs = rw x at e in let w : _≡_ {A = ℕ} 0 1 = cc in absurd (omega arith)
       go (isFalse x) (isTrue y) z = let k : NoRoom ≡ TooHighValue = rw (x, y) at e in let w : _≡_ {A = ℕ} 0 1 = cc in absurd (omega arith)
       go (isFalse x) (isFalse y) (isTrue z) = (ltb-false _ _ x, y, ltb-true _ _ z)
       go (isFalse x) (isFalse y) (isFalse z) =
-          let k : NoRoom ≡ At (index (apply (operate op) a b) (rowsAfter op a b rs)) (length (rowsAfter op a b rs)) (pairCount a b) = rw (x, y, z) at e in
+          let k : NoRoom ≡ At (index (apply (operate op) a b) (rowsAfter op a b rs)) (length (rowsAfter op a b rs)) (pairCount op a b) = rw (x, y, z) at e in
           let w : _≡_ {A = ℕ} 0 1 = cc in
           absurd (omega arith)
 
@@ -116,14 +119,14 @@ module _ {op : Operation} {a b : Diagram} {s₀ : List ℕ} {count : ℕ} {r : J
   abbrev Rows : List Diagram
   Rows = rowsAfter op a b (diagramsOf s₀ count)
 
-  pub join-row : {i n p : ℕ} → r ≡ At i n p → Ran (combine (operate op) a b) s₀ count (Row i n) s heads links index
+  pub join-row : {i n p : ℕ} → r ≡ At i n p → Ran (combine op a b) s₀ count (Row i n) s heads links index
   join-row {i} {n} {p} e =
       let q = answer-at op a b (diagramsOf s₀ count) (sym e ∙ j .answer) in
       let d : diagramsOf s n ≡ Rows = subst (λ (x : Joined). diagramsOf s (countAfter count x) ≡ diagramsAfter op a b (diagramsOf s₀ count) x) e (j .diagrams) in
       let h : Holds s heads links n = subst (λ (x : Joined). Holds s heads links (countAfter count x)) e (j .holds) in
       let f = formed-room s heads links Rows n (sym (q .4)) (subst (Written s) d (h .written)) (h .table) D i (sym (q .3)) in
-      let c = combine-calm (operate op) a b (diagramsOf s₀ count) (q .0) (q .1) in
-      let z = formed-ran s₀ count D (most-apply (operate op) a b (q .1)) v (j .clean) f in
+      let c = combine-calm op a b (diagramsOf s₀ count) (q .0) (q .1) in
+      let z = formed-ran s₀ count D (most-apply op a b (q .1)) v (j .clean) f in
       record {
         space = z .space;
         clean = z .clean;
@@ -131,7 +134,7 @@ module _ {op : Operation} {a b : Diagram} {s₀ : List ℕ} {count : ℕ} {r : J
         refusal = λ w m x. c ∙ z .refusal w m x;
       }
 
-  pub join-many : r ≡ TooManyPairs → Ran (combine (operate op) a b) s₀ count (Refused ManyPairs count) s heads links index
+  pub join-many : r ≡ TooManyPairs → Ran (combine op a b) s₀ count (Refused ManyPairs count) s heads links index
   join-many e =
       let q = answer-many op a b (diagramsOf s₀ count) (sym e ∙ j .answer) in
       let d : diagramsOf s count ≡ diagramsOf s₀ count = subst (λ (x : Joined). diagramsOf s (countAfter count x) ≡ diagramsAfter op a b (diagramsOf s₀ count) x) e (j .diagrams) in
@@ -140,10 +143,10 @@ module _ {op : Operation} {a b : Diagram} {s₀ : List ℕ} {count : ℕ} {r : J
         space = record { holds = h; values = subst Valued (sym d) v };
         clean = j .clean;
         row = λ k m x. let z : _≡_ {A = ℕ} 0 1 = cc in absurd (omega arith);
-        refusal = λ w m x. let p : ManyPairs ≡ w = cc in rw (← p) (combine-pairs (operate op) a b (diagramsOf s₀ count) q);
+        refusal = λ w m x. let p : ManyPairs ≡ w = cc in rw (← p) (combine-pairs op a b (diagramsOf s₀ count) q);
       }
 
-  pub join-high : r ≡ TooHighValue → Ran (combine (operate op) a b) s₀ count (Refused HighValue count) s heads links index
+  pub join-high : r ≡ TooHighValue → Ran (combine op a b) s₀ count (Refused HighValue count) s heads links index
   join-high e =
       let q = answer-high op a b (diagramsOf s₀ count) (sym e ∙ j .answer) in
       let d : diagramsOf s count ≡ diagramsOf s₀ count = subst (λ (x : Joined). diagramsOf s (countAfter count x) ≡ diagramsAfter op a b (diagramsOf s₀ count) x) e (j .diagrams) in
@@ -152,19 +155,19 @@ module _ {op : Operation} {a b : Diagram} {s₀ : List ℕ} {count : ℕ} {r : J
         space = record { holds = h; values = subst Valued (sym d) v };
         clean = j .clean;
         row = λ k m x. let z : _≡_ {A = ℕ} 0 1 = cc in absurd (omega arith);
-        refusal = λ w m x. let p : HighValue ≡ w = cc in rw (← p) (combine-value (operate op) a b (diagramsOf s₀ count) (q .0) (q .1));
+        refusal = λ w m x. let p : HighValue ≡ w = cc in rw (← p) (combine-value op a b (diagramsOf s₀ count) (q .0) (q .1));
       }
 
-  pub join-none : r ≡ NoRoom → Ran (combine (operate op) a b) s₀ count (Refused NoSpace 2048) s heads links index
+  pub join-none : r ≡ NoRoom → Ran (combine op a b) s₀ count (Refused NoSpace 2048) s heads links index
   join-none e =
       let q = answer-none op a b (diagramsOf s₀ count) (sym e ∙ j .answer) in
       let d : diagramsOf s spaceRows ≡ take spaceRows Rows
       = subst (λ (x : Joined). diagramsOf s (countAfter count x) ≡ diagramsAfter op a b (diagramsOf s₀ count) x) e (j .diagrams) in
       let h : Holds s heads links spaceRows = subst (λ (x : Joined). Holds s heads links (countAfter count x)) e (j .holds) in
       record {
-        space = record { holds = h; values = subst Valued (sym d) (valued-take spaceRows Rows (valued-onto D (diagramsOf s₀ count) (most-apply (operate op) a b (q .1)) v)) };
+        space = record { holds = h; values = subst Valued (sym d) (valued-take spaceRows Rows (valued-onto D (diagramsOf s₀ count) (most-apply op a b (q .1)) v)) };
         clean = j .clean;
         row = λ k m x. let z : _≡_ {A = ℕ} 0 1 = cc in absurd (omega arith);
         refusal = λ w m x. let p : NoSpace ≡ w = cc in
-            rw (← p) (combine-calm (operate op) a b (diagramsOf s₀ count) (q .0) (q .1) ∙ form-space D (diagramsOf s₀ count) (q .2));
+            rw (← p) (combine-calm op a b (diagramsOf s₀ count) (q .0) (q .1) ∙ form-space D (diagramsOf s₀ count) (q .2));
       }

@@ -366,10 +366,10 @@ none-noted {s} {heads} {links} {count} {i} n l h r = record {
 
 -- `row_step`: its parts
 abbrev rights : Diagram → Diagram → Diagram → Run Diagram
-rights y f p = bind (combine _*_ y f) (λ q. combine _+_ p q)
+rights y f p = bind (combine Product y f) (λ q. combine Sum p q)
 
 abbrev lefts : Diagram → Diagram → Diagram → Diagram → Run Diagram
-lefts x t f y = bind (combine _*_ x t) (λ p. rights y f p)
+lefts x t f y = bind (combine Product x t) (λ p. rights y f p)
 
 abbrev others : Diagram → Diagram → Diagram → Run Diagram
 others t f x = bind (form (exchanged x)) (λ y. lefts x t f y)
@@ -405,15 +405,15 @@ module _ {plan index s heads links : List ℕ} {count test high low : ℕ} (read
         → Ran (rowStep (tree s test) (tree s high) (tree s low)) s count r s′ heads′ links′ index′
     from-other z = from-test (ran-bind (form (exchanged (tree s test))) (lefts (tree s test) (tree s high) (tree s low)) gave₁ z)
 
-    module _ {a : Stepped} {s₂ heads₂ links₂ index₂ : List ℕ} (x₂ : Ran (combine (operate Product) (tree s₁ test) (tree s₁ high)) s₁ n a s₂ heads₂ links₂ index₂) where
-      y₂ : Ran (combine _*_ (tree s test) (tree s high)) s₁ n a s₂ heads₂ links₂ index₂
-      y₂ = ran-cast (λ i. combine _*_ (gave₁ .stays test (three .test-there) i) (gave₁ .stays high (three .high-there) i)) x₂
+    module _ {a : Stepped} {s₂ heads₂ links₂ index₂ : List ℕ} (x₂ : Ran (combine Product (tree s₁ test) (tree s₁ high)) s₁ n a s₂ heads₂ links₂ index₂) where
+      y₂ : Ran (combine Product (tree s test) (tree s high)) s₁ n a s₂ heads₂ links₂ index₂
+      y₂ = ran-cast (λ i. combine Product (gave₁ .stays test (three .test-there) i) (gave₁ .stays high (three .high-there) i)) x₂
 
       pub step-left : {w : Refusal} {k : ℕ} → a ≡ Refused w k → Ran (rowStep (tree s test) (tree s high) (tree s low)) s count a s₂ heads₂ links₂ index₂
-      step-left {w} {k} e = from-other (ran-answer (sym e) (ran-stop (combine _*_ (tree s test) (tree s high)) (rights (tree s₁ o) (tree s low)) (ran-answer e y₂)))
+      step-left {w} {k} e = from-other (ran-answer (sym e) (ran-stop (combine Product (tree s test) (tree s high)) (rights (tree s₁ o) (tree s low)) (ran-answer e y₂)))
 
       module _ {left m : ℕ} (e₂ : a ≡ Row left m) where
-        gave₂ : Gave (combine _*_ (tree s test) (tree s high)) s₁ n left m s₂
+        gave₂ : Gave (combine Product (tree s test) (tree s high)) s₁ n left m s₂
         gave₂ = y₂ .row left m e₂
 
         pub step-ready-2 : (plan₂ : List ℕ) → length plan₂ ≡ length plan → Ready plan₂ index₂ s₂ heads₂ links₂ m
@@ -424,18 +424,18 @@ module _ {plan index s heads links : List ℕ} {count test high low : ℕ} (read
 
         from-left : {r : Stepped} {s′ heads′ links′ index′ : List ℕ} → Ran (rights (tree s₁ o) (tree s low) (tree s₂ left)) s₂ m r s′ heads′ links′ index′
             → Ran (rowStep (tree s test) (tree s high) (tree s low)) s count r s′ heads′ links′ index′
-        from-left z = from-other (ran-bind (combine _*_ (tree s test) (tree s high)) (rights (tree s₁ o) (tree s low)) gave₂ z)
+        from-left z = from-other (ran-bind (combine Product (tree s test) (tree s high)) (rights (tree s₁ o) (tree s low)) gave₂ z)
 
-        module _ {b : Stepped} {s₃ heads₃ links₃ index₃ : List ℕ} (x₃ : Ran (combine (operate Product) (tree s₂ o) (tree s₂ low)) s₂ m b s₃ heads₃ links₃ index₃) where
-          y₃ : Ran (combine _*_ (tree s₁ o) (tree s low)) s₂ m b s₃ heads₃ links₃ index₃
-          y₃ = ran-cast (λ i. combine _*_ (gave₂ .stays o (gave₁ .there) i)
+        module _ {b : Stepped} {s₃ heads₃ links₃ index₃ : List ℕ} (x₃ : Ran (combine Product (tree s₂ o) (tree s₂ low)) s₂ m b s₃ heads₃ links₃ index₃) where
+          y₃ : Ran (combine Product (tree s₁ o) (tree s low)) s₂ m b s₃ heads₃ links₃ index₃
+          y₃ = ran-cast (λ i. combine Product (gave₂ .stays o (gave₁ .there) i)
               ((gave₂ .stays low (omega (arith, three .low-there, gave₁ .more)) ∙ gave₁ .stays low (three .low-there)) i)) x₃
 
           pub step-right : {w : Refusal} {k : ℕ} → b ≡ Refused w k → Ran (rowStep (tree s test) (tree s high) (tree s low)) s count b s₃ heads₃ links₃ index₃
-          step-right {w} {k} e = from-left (ran-answer (sym e) (ran-stop (combine _*_ (tree s₁ o) (tree s low)) (λ q. combine _+_ (tree s₂ left) q) (ran-answer e y₃)))
+          step-right {w} {k} e = from-left (ran-answer (sym e) (ran-stop (combine Product (tree s₁ o) (tree s low)) (λ q. combine Sum (tree s₂ left) q) (ran-answer e y₃)))
 
           module _ {right k : ℕ} (e₃ : b ≡ Row right k) where
-            gave₃ : Gave (combine _*_ (tree s₁ o) (tree s low)) s₂ m right k s₃
+            gave₃ : Gave (combine Product (tree s₁ o) (tree s low)) s₂ m right k s₃
             gave₃ = y₃ .row right k e₃
 
             pub step-ready-3 : (plan₃ : List ℕ) → length plan₃ ≡ length plan → Ready plan₃ index₃ s₃ heads₃ links₃ k
@@ -444,10 +444,10 @@ module _ {plan index s heads links : List ℕ} {count test high low : ℕ} (read
             pub step-two-3 : Two k left right
             step-two-3 = record { first = omega (arith, gave₂ .there, gave₃ .more); second = gave₃ .there }
 
-            pub step-sum : {r : Stepped} {s₄ heads₄ links₄ index₄ : List ℕ} → Ran (combine (operate Sum) (tree s₃ left) (tree s₃ right)) s₃ k r s₄ heads₄ links₄ index₄
+            pub step-sum : {r : Stepped} {s₄ heads₄ links₄ index₄ : List ℕ} → Ran (combine Sum (tree s₃ left) (tree s₃ right)) s₃ k r s₄ heads₄ links₄ index₄
                 → Ran (rowStep (tree s test) (tree s high) (tree s low)) s count r s₄ heads₄ links₄ index₄
-            step-sum x₄ = from-left (ran-bind (combine _*_ (tree s₁ o) (tree s low)) (λ q. combine _+_ (tree s₂ left) q) gave₃
-                (ran-cast (λ i. combine _+_ (gave₃ .stays left (gave₂ .there) i) (tree s₃ right)) x₄))
+            step-sum x₄ = from-left (ran-bind (combine Product (tree s₁ o) (tree s low)) (λ q. combine Sum (tree s₂ left) q) gave₃
+                (ran-cast (λ i. combine Sum (gave₃ .stays left (gave₂ .there) i) (tree s₃ right)) x₄))
 
 -- `test_step`: T formed before the step adds nothing in it
 module _ (T t f : Diagram) {plan index s₀ heads₀ links₀ : List ℕ} {count : ℕ} (ready : Ready plan index s₀ heads₀ links₀ count) (small : AtMost highestValue T)

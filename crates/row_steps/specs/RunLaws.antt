@@ -25,7 +25,7 @@ use Rattle.diagram.specs.Shown.{Shown}
 use Rattle.diagram.specs.WrittenRows.{written-shown}
 use Rattle.plan.specs.Walk.{Leads}
 use Rattle.plan.specs.Plan.{Clean}
-use Rattle.plan.specs.PlanLaws.{plan-empty}
+use Rattle.plan.specs.PlanLaws.{index-empty}
 use Rattle.apply.specs.RowLaws.{onto-begins, onto-mem}
 use Rattle.apply.specs.Formed.{add}
 use Rattle.apply.specs.FormedLaws.{add-leaf}
@@ -140,7 +140,7 @@ ready-pairable {plan} {index} {s} {heads} {links} {count} {i} {j} r t =
       first = space-operand h v i (t .first);
       second = space-operand h v j (t .second);
       leading = record { first = space-leads h v i (t .first); second = space-leads h v j (t .second) };
-      empty = plan-empty s s plan index 4096 (r .words) (lit≤ tt) (r .clean);
+      empty = index-empty plan index 4096 (r .words) (lit≤ tt) (r .clean);
     }
 
 -- rows that were formed

@@ -12,7 +12,6 @@ ghost use Rattle.label.specs.Limits.{leafMark};
 ghost use Rattle.diagram.specs.Diagram.{leaf, branch};
 ghost use Rattle.diagram.specs.Rows.{onto};
 ghost use Rattle.diagram.specs.Validity.{tree};
-ghost use Rattle.apply.specs.Combination.{operate};
 ghost use Rattle.store.specs.Space.{diagramsOf, Holds, Formation};
 ghost use Rattle.regression.specs.Calls.{combine};
 ghost use Rattle.regression.specs.Step.{testDiagram, rowStep, exchanged};
@@ -38,7 +37,7 @@ fn join(
 ) -> Stepped
     requires { ⌜ Ready (now plan) (now index) (now space) (now heads) (now links) count ⌝ }
     requires { ⌜ Two count i j ⌝ }
-    ensures { λ r. ⌜ Ran (combine (operate op) (tree (now (space .entry)) i) (tree (now (space .entry)) j)) (now (space .entry)) count r (now (space .exit)) (now (heads .exit)) (now (links .exit)) (now (index .exit)) ⌝ }
+    ensures { λ r. ⌜ Ran (combine op (tree (now (space .entry)) i) (tree (now (space .entry)) j)) (now (space .entry)) count r (now (space .exit)) (now (heads .exit)) (now (links .exit)) (now (index .exit)) ⌝ }
 {
     let r = combine::join_rows(
         plan,

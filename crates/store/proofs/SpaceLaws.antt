@@ -1,5 +1,5 @@
 -- Laws of the working space: what its rows stand for, and what forming a row does to it.
-use mathlib.Core.Bool.{Bool, true, false}
+use mathlib.Core.Bool.{true, false, cond}
 use mathlib.Core.Path.{_≡_, refl, sym, ap, ap₂, subst, _∙_}
 use mathlib.Core.List.{List, [], _∷_, _++_, map}
 use Prim.Native.Nat.{ℕ, zero, suc, _+_, _-_, _*_, _<_, _≤_}
@@ -41,7 +41,7 @@ use Rattle.apply.specs.FormedLaws.{add-old, add-new}
 use Rattle.store.specs.declared.Formed.{Formed}
 use Rattle.store.specs.declared.Formed.the-variants.{Row, Full}
 use Rattle.store.specs.AddLaws.{kept-closed}
-use Rattle.store.specs.Space.{diagramsOf, Holds, standsFor, Formable, a-leaf, a-branch, Children, pickFormed, formAnswer, rowsThen, Formation}
+use Rattle.store.specs.Space.{diagramsOf, Holds, standsFor, Formable, a-leaf, a-branch, Children, formAnswer, rowsThen, Formation}
 
 -- the diagrams of the rows, by number
 map-same : (f g : ℕ → Diagram) (n : ℕ) → ((k : ℕ) → k < n → f k ≡ g k) → map f (upTo n) ≡ map g (upTo n)
@@ -296,7 +296,7 @@ module _ {d : Diagram} {rs : List Diagram} {s heads links : List ℕ} where
   unfolding formAnswer
   formation-row {i} {n} f = go (flag (leb (length rs) spaceRows)) (f .answer)
     where
-      go : Flag (leb (length rs) spaceRows) → Row i n ≡ pickFormed (leb (length rs) spaceRows) (Row (index d rs) (length rs)) Full
+      go : Flag (leb (length rs) spaceRows) → Row i n ≡ cond (leb (length rs) spaceRows) (Row (index d rs) (length rs)) Full
           → (length rs ≤ spaceRows) × (i ≡ index d rs) × (n ≡ length rs) × (diagramsOf s n ≡ rs)
       go (isTrue e) a =
           let l = leb-true (length rs) spaceRows e in
@@ -308,7 +308,7 @@ module _ {d : Diagram} {rs : List Diagram} {s heads links : List ℕ} where
   unfolding formAnswer
   formation-full f = go (flag (leb (length rs) spaceRows)) (f .answer)
     where
-      go : Flag (leb (length rs) spaceRows) → Full ≡ pickFormed (leb (length rs) spaceRows) (Row (index d rs) (length rs)) Full → spaceRows < length rs
+      go : Flag (leb (length rs) spaceRows) → Full ≡ cond (leb (length rs) spaceRows) (Row (index d rs) (length rs)) Full → spaceRows < length rs
       go (isTrue e) a = let b : Full ≡ Row (index d rs) (length rs) = rw e at a in absurd (let z : _≡_ {A = ℕ} 0 1 = cc in omega arith)
       go (isFalse e) a = leb-false (length rs) spaceRows e
 

@@ -1,6 +1,6 @@
 -- The rows of a lent listing formed in the working space with their terms renamed (document 01, section 'Combination': "an apart call forms both
 -- operands' rows as renamed").
-use mathlib.Core.Bool.{Bool, true, false}
+use mathlib.Core.Bool.{true, cond}
 use mathlib.Core.Path.{_≡_}
 use mathlib.Core.List.{List, map}
 use Prim.Native.Nat.{ℕ, _≤_, _<_}
@@ -19,14 +19,10 @@ use Rattle.store.specs.declared.Formed.{Formed}
 use Rattle.store.specs.declared.Formed.the-variants.{Row}
 use Rattle.store.specs.Space.{diagramsOf, Holds, Formation, addAll}
 
-abbrev pub pickRow : Bool → TableRow → TableRow → TableRow
-pickRow true x y = x
-pickRow false x y = y
-
 -- row k of the listing ws as a row of the space: its label renamed, its children by their numbers there
 unfoldable pub carried : List ℕ → List ℕ → List ℕ → List ℕ → ℕ → TableRow
 carried ar ws ts numbers k =
-    pickRow (eqb (labelAt ws k) leafMark) (record { label = leafMark; high = highAt ws k; low = 0 })
+    cond {A = TableRow} (eqb (labelAt ws k) leafMark) (record { label = leafMark; high = highAt ws k; low = 0 })
     (record { label = renamed ar (mapOf ts) (labelAt ws k); high = getD numbers (highAt ws k) 0; low = getD numbers (lowAt ws k) 0 })
 
 -- the diagram of the listing ws, its terms renamed by the map ts

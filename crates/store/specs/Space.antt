@@ -1,6 +1,6 @@
 -- The working space (document 01, section 'Combination': "rows formed in one call share a working space of 2,048 rows, equal ones counted once, none
 -- given up"): words that hold the rows, and an index over them. What it means is the list of the rows' diagrams.
-use mathlib.Core.Bool.{Bool, true, false}
+use mathlib.Core.Bool.{cond}
 use mathlib.Core.Path.{_≡_}
 use mathlib.Core.List.{List, [], _∷_, map}
 use Prim.Native.Nat.{ℕ, _<_}
@@ -28,13 +28,9 @@ pub record Holds (s heads links : List ℕ) (count : ℕ) : Type 0 where
   pub table : Table s heads links spaceRows count
   pub written : Written s (diagramsOf s count)
 
-abbrev pub pickDiagram : Bool → Diagram → Diagram → Diagram
-pickDiagram true x y = x
-pickDiagram false x y = y
-
 -- the diagram that a row's words stand for, where its children are rows of the space
 unfoldable pub standsFor : List ℕ → TableRow → Diagram
-standsFor s r = pickDiagram (eqb (r .label) leafMark) (leaf (r .high)) (branch (r .label) (tree s (r .high)) (tree s (r .low)))
+standsFor s r = cond (eqb (r .label) leafMark) (leaf (r .high)) (branch (r .label) (tree s (r .high)) (tree s (r .low)))
 
 -- a row that may be formed in a space of count rows: a leaf, or a branch whose children are rows of the space
 pub data Formable (count : ℕ) (r : TableRow) : Type 0 where
@@ -47,13 +43,9 @@ pub record Children (count label high low : ℕ) : Type 0 where
   pub high-there : high < count
   pub low-there : low < count
 
-abbrev pub pickFormed : Bool → Formed → Formed → Formed
-pickFormed true x y = x
-pickFormed false x y = y
-
 -- what forming answers, where the rows are rs then: the number of the row d and the count of rows, or that they are above 2,048 (refusal 9)
 unfoldable pub formAnswer : Diagram → List Diagram → Formed
-formAnswer d rs = pickFormed (leb (length rs) spaceRows) (Row (index d rs) (length rs)) Full
+formAnswer d rs = cond (leb (length rs) spaceRows) (Row (index d rs) (length rs)) Full
 
 -- the rows in the space after an answer
 abbrev pub rowsThen : Formed → ℕ

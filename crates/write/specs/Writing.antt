@@ -1,6 +1,6 @@
 -- Writing a row of the working space as a listing (document 01, sections 'Terms, labels, listings' and 'Combination': "a result above 1,024 rows is also
 -- 9", "buffer words behind a result stay").
-use mathlib.Core.Bool.{Bool, true, false, cond}
+use mathlib.Core.Bool.{cond}
 use mathlib.Core.Path.{_≡_}
 use mathlib.Core.Logic.{_≢_}
 use mathlib.Core.List.{List, [], _∷_, _++_}
@@ -17,7 +17,6 @@ use Rattle.diagram.specs.Listing.{listing}
 use Rattle.diagram.specs.Validity.{tree}
 use Rattle.diagram.specs.RowLists.{Written}
 use Rattle.store.specs.Space.{diagramsOf}
-use Rattle.store.specs.Load.{pickRow}
 use Rattle.write.specs.declared.Listed.{Listed}
 use Rattle.write.specs.declared.Listed.the-variants.{Rows, TooMany}
 use Rattle.write.specs.Numbering.{Marked, Unmarked}
@@ -25,7 +24,7 @@ use Rattle.write.specs.Numbering.{Marked, Unmarked}
 -- row k as it stands in the listing: its children by their numbers
 unfoldable pub renumbered : List ℕ → List ℕ → ℕ → Row
 renumbered s marks k =
-    pickRow (eqb (labelAt s k) leafMark) (record { label = leafMark; high = highAt s k; low = 0 })
+    cond {A = Row} (eqb (labelAt s k) leafMark) (record { label = leafMark; high = highAt s k; low = 0 })
     (record { label = labelAt s k; high = getD marks (highAt s k) 0 - 1; low = getD marks (lowAt s k) 0 - 1 })
 
 -- the words of the rows ks
@@ -60,13 +59,9 @@ pub record Writable (s : List ℕ) (count root : ℕ) (marks order out : List �
   pub order-places : spaceRows ≤ length order
   pub room : mostRows * 3 ≤ length out
 
-abbrev pub pickListed : Bool → Listed → Listed → Listed
-pickListed true x y = x
-pickListed false x y = y
-
 -- what writing the diagram d answers: its count of rows, or that they are above 1,024 (refusal 9)
 unfoldable pub writeAnswer : Diagram → Listed
-writeAnswer d = pickListed (leb (length (rows d)) mostRows) (Rows (length (rows d))) TooMany
+writeAnswer d = cond (leb (length (rows d)) mostRows) (Rows (length (rows d))) TooMany
 
 -- the result buffer then: d's listing, and the words behind it as they were
 unfoldable pub writeWords : Diagram → List ℕ → List ℕ

@@ -1,4 +1,4 @@
-//! Sum, product and max, names apart or shared (document 01, "Combination").
+//! Sum, product and max, names apart or shared (document 01, "Combination"; document 02, L4).
 
 use crate::diagram::{Diagram, Row, Space, LARGEST};
 use crate::refusal::{require, Refusal};
@@ -23,6 +23,11 @@ impl Operator {
             Operator::Max => a.max(b),
         }
     }
+
+    /// Whether a pair with this row on one side has no successors, whatever the other side: leaf 0 in a product (L4).
+    fn stops_at(self, row: Row) -> bool {
+        self == Operator::Product && row == Row::Leaf(0)
+    }
 }
 
 #[derive(Clone, Copy, Debug, PartialEq, Eq)]
@@ -42,17 +47,19 @@ type Pair = (usize, usize);
 
 enum Step {
     Leaves(u64, u64),
+    Zero,
     Descend { label: Label, yes: Pair, no: Pair },
 }
 
-/// A pair of leaves, or the lower label and the pairs below: descend in every operand that has this label.
-fn step(a: &Diagram, b: &Diagram, (i, j): Pair) -> Step {
+/// A pair of leaves, a leaf 0 beside a branch in a product, or the lower label and the pairs below: descend in every operand that has this label.
+fn step(operator: Operator, a: &Diagram, b: &Diagram, (i, j): Pair) -> Step {
     let label_of = |row: Row| match row {
         Row::Leaf(_) => None,
         Row::Branch { label, .. } => Some(label),
     };
     let label = match (a.rows()[i], b.rows()[j]) {
         (Row::Leaf(v), Row::Leaf(w)) => return Step::Leaves(v, w),
+        (row, other) if operator.stops_at(row) || operator.stops_at(other) => return Step::Zero,
         (row, other) => label_of(row).into_iter().chain(label_of(other)).min().expect("one is a branch"),
     };
     let below = |diagram: &Diagram, at: usize| match diagram.rows()[at] {
@@ -63,8 +70,8 @@ fn step(a: &Diagram, b: &Diagram, (i, j): Pair) -> Step {
     Step::Descend { label, yes: (yes_a, yes_b), no: (no_a, no_b) }
 }
 
-/// The least set that holds the pair of roots and, with each pair not both leaves, its two successors; or 10.
-fn reached(a: &Diagram, b: &Diagram) -> Result<BTreeSet<Pair>, Refusal> {
+/// The least set that holds the pair of roots and, with each pair that has some, its two successors; or 10.
+fn reached(operator: Operator, a: &Diagram, b: &Diagram) -> Result<BTreeSet<Pair>, Refusal> {
     let mut pairs = BTreeSet::new();
     let mut open = vec![(a.root(), b.root())];
     while let Some(pair) = open.pop() {
@@ -72,7 +79,7 @@ fn reached(a: &Diagram, b: &Diagram) -> Result<BTreeSet<Pair>, Refusal> {
             continue;
         }
         require(pairs.len() <= PAIRS, Refusal::Pairs)?;
-        if let Step::Descend { yes, no, .. } = step(a, b, pair) {
+        if let Step::Descend { yes, no, .. } = step(operator, a, b, pair) {
             open.push(no);
             open.push(yes);
         }
@@ -93,8 +100,9 @@ impl Walk<'_> {
         if let Some(at) = self.formed.get(&pair) {
             return Ok(*at);
         }
-        let row = match step(self.a, self.b, pair) {
+        let row = match step(self.operator, self.a, self.b, pair) {
             Step::Leaves(v, w) => Row::Leaf(self.operator.apply(v, w) as u64),
+            Step::Zero => Row::Leaf(0),
             Step::Descend { label, yes, no } => {
                 let yes = self.form(space, yes)?;
                 let no = self.form(space, no)?;
@@ -109,9 +117,9 @@ impl Walk<'_> {
 
 /// A combination with shared names inside a call: 10, then 11, then 9.
 pub fn combine_in(space: &mut Space, operator: Operator, a: &Diagram, b: &Diagram) -> Result<Combined, Refusal> {
-    let pairs = reached(a, b)?;
+    let pairs = reached(operator, a, b)?;
     for pair in &pairs {
-        if let Step::Leaves(v, w) = step(a, b, *pair) {
+        if let Step::Leaves(v, w) = step(operator, a, b, *pair) {
             require(operator.apply(v, w) <= u128::from(LARGEST), Refusal::Value)?;
         }
     }

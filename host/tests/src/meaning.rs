@@ -35,8 +35,8 @@ fn below(diagram: &Diagram, root: usize) -> Diagram {
     space.diagram(root)
 }
 
-/// The pair set worked out on diagrams instead of row numbers.
-fn pair_set(a: &Diagram, b: &Diagram, set: &mut BTreeSet<(Diagram, Diagram)>) {
+/// The pair set worked out on diagrams instead of row numbers. In a product a pair with leaf 0 on either side has no successors.
+fn pair_set(operator: Operator, a: &Diagram, b: &Diagram, set: &mut BTreeSet<(Diagram, Diagram)>) {
     if !set.insert((a.clone(), b.clone())) {
         return;
     }
@@ -46,7 +46,8 @@ fn pair_set(a: &Diagram, b: &Diagram, set: &mut BTreeSet<(Diagram, Diagram)>) {
         Row::Leaf(_) => Label(u64::MAX),
     };
     let lower = label(a).min(label(b));
-    if lower == Label(u64::MAX) {
+    let zero = root(a) == Row::Leaf(0) || root(b) == Row::Leaf(0);
+    if lower == Label(u64::MAX) || (operator == Operator::Product && zero) {
         return;
     }
     for side in [true, false] {
@@ -54,7 +55,7 @@ fn pair_set(a: &Diagram, b: &Diagram, set: &mut BTreeSet<(Diagram, Diagram)>) {
             Row::Branch { label, yes, no } if label == lower => below(d, if side { yes } else { no }),
             _ => d.clone(),
         };
-        pair_set(&descend(a), &descend(b), set);
+        pair_set(operator, &descend(a), &descend(b), set);
     }
 }
 
@@ -80,7 +81,7 @@ pub fn check_combination(seed: u64, tally: &mut Tally) -> Result<(), String> {
     if let Ok(combined) = tally.watch(combine(operator, Names::Shared, &a, &b)) {
         expect(is_listing(&combined.diagram, &signature), || "the result is no listing".to_string())?;
         let mut pairs = BTreeSet::new();
-        pair_set(&a, &b, &mut pairs);
+        pair_set(operator, &a, &b, &mut pairs);
         expect(pairs.len() == combined.pairs, || format!("{} pairs, not {}", combined.pairs, pairs.len()))?;
         for _ in 0..20 {
             let salt = random.next();

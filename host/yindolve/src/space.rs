@@ -8,7 +8,7 @@ use crate::state::State;
 pub struct Combined {
     /// The result.
     pub listing: Listing,
-    /// How many pairs of rows the walk over both operands reached, at most 4,096.
+    /// How many pairs of rows the walk over both operands reached, at most 4,096; in a product it does not go on below a leaf 0.
     pub pairs: u64,
 }
 

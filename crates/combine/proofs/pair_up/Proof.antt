@@ -16,10 +16,24 @@ overflow-requires : tie.Need-overflow-requires
 overflow-requires c κs = search to-sound
 
 returns-2 : tie.Need-returns-2
-returns-2 c = out-high (c .before .before .before .before .before .before .before .before .before .before .before .before .before .before .before .before .before .before .before .before .before .before .pre) (c .before .before .before .before .before .before .before .before .before .before .before .before .before .before .before .walk .ensures) _ _ _ (c .before .before .before .before .before .before .before .before .before .n .given .1) (c .before .before .before .before .before .clear2 .ensures .1) (c .before .overflow .ensures) (c .if1 .taken)
+returns-2 c =
+    let judged = c .before in
+    let cleared = judged .before .before .before .before in
+    let told = cleared .before .before .before .before in
+    let walked = told .before .before .before .before .before .before in
+    let start = walked .before .before .before .before .before .before .before in
+    out-high (start .pre) (walked .walk .ensures) _ _ (told .n .given .1) (cleared .clear2 .ensures .1) (judged .overflow .ensures)
+    (c .if1 .taken)
 
 returns-3 : tie.Need-returns-3
-returns-3 c = out-pairs (c .before .before .before .before .before .before .before .before .before .before .before .before .before .before .before .before .before .before .before .before .before .before .pre) (c .before .before .before .before .before .before .before .before .before .before .before .before .before .before .before .walk .ensures) _ _ _ (c .before .before .before .before .before .before .before .before .before .n .given .1) (c .before .before .before .before .before .clear2 .ensures .1) (c .before .overflow .ensures) (c .if1 .left)
+returns-3 c =
+    let judged = c .before in
+    let cleared = judged .before .before .before .before in
+    let told = cleared .before .before .before .before in
+    let walked = told .before .before .before .before .before .before in
+    let start = walked .before .before .before .before .before .before .before in
+    out-pairs (start .pre) (walked .walk .ensures) _ _ (told .n .given .1) (cleared .clear2 .ensures .1) (judged .overflow .ensures)
+    (c .if1 .left)
 
 pub pair-up-spec : {M : Type 1} → statement M
 pair-up-spec =
