@@ -19,9 +19,7 @@ ghost use lib.ListN.{length};
 // What the result buffer and the working space hold before a call.
 const MARK: u64 = 77;
 
-const BYTES: usize = 40960;
-
-// The registers: word r is how many words register r has. A place behind comes the registers' words: 63 for each letter to w, more for x, y and z.
+// The registers: room for 63 words for each letter to w, for more for x, y and z. How many they have stands before them, at 32 and the letter's number.
 const DESK: usize = 34400;
 
 const SMALL: usize = 64;
@@ -131,9 +129,9 @@ fn fill(line: &[u8], desk: &mut [u64], at: usize) -> usize {
     n
 }
 
-// Where the register of a letter begins; its first word is not used.
+// Where the register of a letter begins, with a word that is not used.
 fn place(letter: u64) -> usize
-    ensures { λ r. ⌜ r ≤ 50000 ⌝ }
+    ensures { λ r. ⌜ r ≤ 45000 ⌝ }
 {
     let r = (letter % 32) as usize;
     if r < 24 {
@@ -154,7 +152,7 @@ fn part(desk: &[u64], first: usize, n: usize) -> &[u64] {
 }
 
 fn register(desk: &[u64], letter: u64) -> &[u64] {
-    let n = word_at(desk, (letter % 32) as usize);
+    let n = word_at(desk, (letter % 32 + 32) as usize);
     part(desk, place(letter) + 1, n as usize)
 }
 
@@ -232,7 +230,7 @@ fn chain_word(c: Chain, i: u64) -> u64 {
 fn grow(desk: &mut [u64], c: Chain) {
     let at = place(c.letter) + 1;
     let n = (c.words as usize) % DESK;
-    put_word(desk, (c.letter % 32) as usize, n as u64);
+    put_word(desk, (c.letter % 32 + 32) as usize, n as u64);
     let mut i = 0;
     while i < n {
         put_word(desk, at + i, chain_word(c, i as u64));
@@ -257,15 +255,13 @@ fn tell_rows(rows: usize) -> usize {
     rows
 }
 
-fn tell_pairs(rows: usize, pairs: usize) -> usize {
-    say(b"  rows ", rows as u64);
-    say(b", pairs ", pairs as u64);
-    rows
-}
-
 fn tell_combined(answer: Combined) -> usize {
     match answer {
-        Combined::Done(rows, pairs) => tell_pairs(rows, pairs),
+        Combined::Done(rows, pairs) => {
+            tell_rows(rows);
+            say(b", pairs ", pairs as u64);
+            rows
+        }
         Combined::Refused(why) => tell_refusal(why),
     }
 }
@@ -344,43 +340,18 @@ fn names(word: u64) -> Names {
     Names::Shared
 }
 
-fn combine(desk: &[u64], kind: u8, out: &mut [u64], work: &mut [u64]) -> usize {
+fn combine(
+    desk: &[u64],
+    kind: u8,
+    how: Names,
+    arities: &[u64],
+    out: &mut [u64],
+    work: &mut [u64],
+) -> usize {
     let op = operation(kind);
-    let how = names(argument(desk, kind, 0));
     let x = register(desk, argument(desk, kind, 1));
     let y = register(desk, argument(desk, kind, 2));
-    let arities = register(desk, 1);
     tell_combined(combination::combine(op, how, arities, x, y, out, work))
-}
-
-fn value(desk: &[u64]) -> usize {
-    let n = argument(desk, b'v', 0);
-    let arities = register(desk, 1);
-    let x = register(desk, 24);
-    let y = register(desk, 25);
-    let z = register(desk, 26);
-    tell_value(valuing::value(arities, x, n, y, z))
-}
-
-fn regress(desk: &[u64], out: &mut [u64], work: &mut [u64]) -> usize {
-    let arities = register(desk, 1);
-    let x = register(desk, 24);
-    let y = register(desk, 25);
-    let z = register(desk, 26);
-    tell_regressed(regress::regress(arities, x, y, z, out, work))
-}
-
-fn free(desk: &[u64], out: &mut [u64], work: &[u64]) -> usize {
-    let arities = register(desk, 1);
-    let x = register(desk, 24);
-    let n = argument(desk, b'f', 0);
-    tell_freed(freeing::free(arities, x, n, out, work))
-}
-
-fn cut(desk: &[u64], out: &mut [u64], work: &mut [u64]) -> usize {
-    let arities = register(desk, 1);
-    let x = register(desk, 24);
-    tell_cut(cut::cut(arities, x, out, work))
 }
 
 fn head(words: &[u64]) -> Head {
@@ -395,11 +366,17 @@ fn head(words: &[u64]) -> Head {
     }
 }
 
-fn run_calls(desk: &[u64], calls: &[u8], out: &mut [u64], work: &mut [u64]) -> usize {
-    let arities = register(desk, 1);
-    let x = register(desk, 24);
-    let y = register(desk, 25);
-    let h = head(register(desk, 26));
+// A run on the model of the listings x, the table y and the head z.
+fn run_calls(
+    arities: &[u64],
+    x: &[u64],
+    y: &[u64],
+    z: &[u64],
+    calls: &[u8],
+    out: &mut [u64],
+    work: &mut [u64],
+) -> usize {
+    let h = head(z);
     if out.len() < diagram::RESULT_WORDS {
         return 0;
     }
@@ -441,30 +418,49 @@ fn begin(bytes: &[u8], n: usize) -> &[u8] {
     bytes
 }
 
-fn iterate(desk: &[u64], out: &mut [u64], work: &mut [u64]) -> usize {
+fn iterate(
+    desk: &[u64],
+    arities: &[u64],
+    x: &[u64],
+    y: &[u64],
+    z: &[u64],
+    out: &mut [u64],
+    work: &mut [u64],
+) -> usize {
     let mut calls = [0u8; 32];
     let words = register(desk, b'i' as u64);
     put_calls(words, &mut calls);
-    run_calls(desk, begin(&calls, words.len()), out, work)
+    run_calls(arities, x, y, z, begin(&calls, words.len()), out, work)
 }
 
-fn call(desk: &[u64], kind: u8, out: &mut [u64], work: &mut [u64]) -> usize {
+// One call, of which n is the first word.
+fn call(
+    desk: &[u64],
+    kind: u8,
+    n: u64,
+    arities: &[u64],
+    x: &[u64],
+    y: &[u64],
+    z: &[u64],
+    out: &mut [u64],
+    work: &mut [u64],
+) -> usize {
     if kind == b'v' {
-        return value(desk);
+        return tell_value(valuing::value(arities, x, n, y, z));
     }
     if kind == b'r' {
-        return regress(desk, out, work);
+        return tell_regressed(regress::regress(arities, x, y, z, out, work));
     }
     if kind == b'f' {
-        return free(desk, out, work);
+        return tell_freed(freeing::free(arities, x, n, out, work));
     }
     if kind == b'c' {
-        return cut(desk, out, work);
+        return tell_cut(cut::cut(arities, x, out, work));
     }
     if kind == b'i' {
-        return iterate(desk, out, work);
+        return iterate(desk, arities, x, y, z, out, work);
     }
-    combine(desk, kind, out, work)
+    combine(desk, kind, names(n), arities, out, work)
 }
 
 fn least(n: usize, most: usize) -> usize
@@ -476,33 +472,13 @@ fn least(n: usize, most: usize) -> usize
     most
 }
 
-// A call in parts of two buffers, as long as register b says.
-fn lend(desk: &[u64], kind: u8, out: &mut [u64], work: &mut [u64]) -> usize {
-    let n = least(argument(desk, b'b', 0) as usize, out.len());
-    let m = least(argument(desk, b'b', 1) as usize, work.len());
-    call(desk, kind, &mut out[0..n], &mut work[0..m])
-}
-
 // The result buffer after a call.
 
-fn are_kept(words: &[u64], start: usize) -> bool {
-    let mut i = start;
-    while i < words.len() {
-        if words[i] != MARK {
-            return false;
-        }
-        i += 1;
-    }
-    true
-}
-
-// The words behind the result, or all after a refusal, stay; but a run uses what lies behind its value.
-fn tell_kept(kind: u8, kept: bool) {
-    if kind == b'i' {
-        return;
-    }
-    if !kept {
-        io::write_all(STDOUT_FILENO, b", but other words changed");
+fn show_terms(label: u64) {
+    let mut unit = 262144;
+    while unit > 0 {
+        say(b".", label / unit % 64);
+        unit /= 64;
     }
 }
 
@@ -512,13 +488,10 @@ fn show_label(label: u64) {
         return;
     }
     say(b": ", label / 16777216);
-    say(b".", label / 262144 % 64);
-    say(b".", label / 4096 % 64);
-    say(b".", label / 64 % 64);
-    say(b".", label % 64);
+    show_terms(label);
 }
 
-fn show_word(i: usize, word: u64) {
+fn show_in_row(i: usize, word: u64) {
     if i % 3 != 0 {
         say(b" ", word);
         return;
@@ -527,11 +500,13 @@ fn show_word(i: usize, word: u64) {
     show_label(word);
 }
 
-fn show_words(out: &[u64], start: usize, end: usize) {
-    let mut i = start;
-    while i < end {
-        show_word(i, word_at(out, i));
-        i += 1;
+// A word behind the result, or any after a refusal, has to stay; but a run uses what lies behind its value.
+fn tell_changed(kind: u8, i: usize, word: u64) {
+    if word == MARK {
+        return;
+    }
+    if kind != b'i' {
+        say(b", but changed is word ", i as u64);
     }
 }
 
@@ -543,17 +518,61 @@ fn first_shown(end: usize) -> usize {
     end - 6
 }
 
+fn show_word(kind: u8, i: usize, end: usize, word: u64) {
+    if i >= end {
+        tell_changed(kind, i, word);
+        return;
+    }
+    if i >= first_shown(end) {
+        show_in_row(i, word);
+    }
+}
+
 fn show(kind: u8, out: &[u64], rows: usize) {
     let end = rows % DESK * 3;
-    tell_kept(kind, are_kept(out, end));
-    show_words(out, first_shown(end), end);
+    let mut i = 0;
+    while i < out.len() {
+        show_word(kind, i, end, out[i]);
+        i += 1;
+    }
     io::write_all(STDOUT_FILENO, b"\n");
 }
 
+// A call in parts of two buffers, as long as register b says.
+fn lend(
+    desk: &[u64],
+    kind: u8,
+    arities: &[u64],
+    x: &[u64],
+    y: &[u64],
+    z: &[u64],
+    out: &mut [u64],
+    work: &mut [u64],
+) -> usize {
+    let n = least(argument(desk, b'b', 0) as usize, out.len());
+    let m = least(argument(desk, b'b', 1) as usize, work.len());
+    let first = argument(desk, kind, 0);
+    call(
+        desk,
+        kind,
+        first,
+        arities,
+        x,
+        y,
+        z,
+        &mut out[0..n],
+        &mut work[0..m],
+    )
+}
+
 fn answer(desk: &[u64], kind: u8) {
+    let arities = register(desk, 1);
+    let x = register(desk, 24);
+    let y = register(desk, 25);
+    let z = register(desk, 26);
     let mut out = [MARK; 3073];
     let mut work = [MARK; 6145];
-    let rows = lend(desk, kind, &mut out, &mut work);
+    let rows = lend(desk, kind, arities, x, y, z, &mut out, &mut work);
     show(kind, &out, rows);
 }
 
@@ -577,19 +596,17 @@ fn comment(line: &[u8], kind: u8) {
     }
 }
 
-fn count(desk: &mut [u64], kind: u8, end: usize) {
-    let at = place(kind as u64);
-    if kind < b'a' {
-        return;
-    }
-    if at < end {
-        put_word(desk, (kind % 32) as usize, (end - at - 1) as u64);
-    }
+// How many words a line has behind its first, by where they began and ended.
+fn counted(at: usize, end: usize) -> u64
+    requires { ⌜ at ≤ 45000 ⌝ }
+{
+    ((end % 50000 + 49999 - at) % 50000) as u64
 }
 
 fn read_line(line: &[u8], desk: &mut [u64], kind: u8) {
-    let end = fill(line, desk, place(kind as u64));
-    count(desk, kind, end);
+    let at = place(kind as u64);
+    let end = fill(line, desk, at);
+    put_word(desk, (kind % 64) as usize, counted(at, end));
     if kind == b'w' {
         grow(desk, asked_chain(desk));
     }
@@ -634,7 +651,7 @@ fn run(text: &[u8], desk: &mut [u64]) {
 }
 
 fn main() {
-    let mut text = [0u8; BYTES];
+    let mut text = io::large_buffer();
     let mut desk = [0u64; DESK];
     let n = io::read_full(STDIN_FILENO, &mut text);
     run(&text[..n], &mut desk);
