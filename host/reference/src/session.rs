@@ -45,15 +45,15 @@ impl Answer {
 
 /// The state in hand.
 #[derive(Clone, Debug)]
-struct Placed {
-    objects: u64,
-    constants: Vec<Option<u64>>,
-    facts: BTreeSet<(u64, Vec<u64>)>,
+pub struct Placed {
+    pub objects: u64,
+    pub constants: Vec<Option<u64>>,
+    pub facts: BTreeSet<(u64, Vec<u64>)>,
 }
 
 impl Placed {
     /// The state, once every declared constant is placed.
-    fn state(&self) -> Option<State> {
+    pub fn state(&self) -> Option<State> {
         let constants = self.constants.iter().copied().collect::<Option<Vec<u64>>>()?;
         Some(State { objects: self.objects, constants, facts: self.facts.clone() })
     }
@@ -66,7 +66,7 @@ pub struct Run {
     pub arities: Arities,
     pub value: Diagram,
     pub k: u64,
-    placed: Option<Placed>,
+    pub placed: Option<Placed>,
 }
 
 #[derive(Clone, Debug, Default)]
