@@ -1,4 +1,5 @@
-//! Whole texts by the static library beside the reference: in one call, in one call with little room for the answers, and line by line.
+//! Whole texts by the static library beside the reference: in one call, in one call with little room for the answers, and line by line
+//! with a session that is saved and restored now and then.
 
 use crate::program::difference;
 use crate::random::Random;
@@ -14,9 +15,13 @@ pub fn check(seed: u64, text: &[u8]) -> Result<(), String> {
     expect("run", &right, &run(text))?;
 
     // the answers line by line; what is left over closes a text that has no accepted (start)
+    let random = &mut Random::new(seed);
     let mut session = Session::open();
     let mut answers: Vec<Vec<u8>> = Vec::new();
     for (number, (line, ended)) in (1..).zip(lines(text)) {
+        if random.once_in(20) {
+            session = Session::restore(&session.save()).map_err(|damaged| format!("saved before line {number}: {damaged}"))?;
+        }
         if ended {
             session.line(line);
             answers.push(session.answer_bytes().to_vec());
@@ -29,11 +34,11 @@ pub fn check(seed: u64, text: &[u8]) -> Result<(), String> {
     expect("session", &right, &[&together, closing].concat())?;
 
     // as much as fits
-    let room = Random::new(seed).below(right.len() as u64 + 2) as usize;
+    let room = random.below(right.len() as u64 + 2) as usize;
     let mut buffer = vec![7; room];
     let (bytes, behind) = match run_into(text, &mut buffer) {
         Ok(bytes) => (bytes, right.len()),
-        Err(Full { bytes, lines }) => {
+        Err(Full { bytes, lines, .. }) => {
             let before: usize = answers[..lines as usize].iter().map(Vec::len).sum();
             let next = answers.get(lines as usize).map_or(closing.len(), Vec::len);
             if before != bytes || bytes + next <= room {

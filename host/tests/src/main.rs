@@ -8,14 +8,14 @@
 //!
 //! `self` holds the reference against brute force, counts the refusals met, and sees that each of document 01's slips is caught.
 //! `program` feeds random texts to a program and to the reference. `library` (feature `library`) makes random calls of the static
-//! library and of the reference, and sees that each call gave each of its answers; with the feature `text` whole texts too.
+//! library and of the reference, whole texts too, and sees that each call gave each of its answers.
 //! `stored` runs each NAME.txt of a folder and compares with NAME.out, by the reference or by the program at PATH. `text` prints
 //! the random text of a seed. Default: a minute, from seed 0.
 
 mod bellman;
 #[cfg(feature = "library")]
 mod library;
-#[cfg(feature = "text")]
+#[cfg(feature = "library")]
 mod library_texts;
 mod limits;
 mod listings;
@@ -138,7 +138,6 @@ fn library_calls(bound: &Bound) -> Result<(), String> {
     for seed in bound.seeds(SEEDS) {
         let failed = |message: String| format!("seed {seed}: {message}");
         library::check(seed, &mut answers).map_err(failed)?;
-        #[cfg(feature = "text")]
         library_texts::check(seed, &texts::text(seed)).map_err(failed)?;
         done += 1;
     }

@@ -85,7 +85,6 @@ extern "C" {
     ) -> u64;
 }
 
-#[cfg(feature = "text")]
 extern "C" {
     pub fn yindolve_run(
         text: *const u8,
