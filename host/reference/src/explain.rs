@@ -9,10 +9,9 @@ mod sizes;
 mod words;
 
 use crate::refusal::Refusal;
-use crate::session::{Run, Session};
+use crate::session::Session;
 use crate::text::{self, Span};
 
-pub use backup::refused_backup;
 pub use measure::count_paths;
 
 /// A refusal with its reason.
@@ -67,11 +66,6 @@ pub fn no_start() -> Fault {
     )
 }
 
-/// The reason of a (value), (backup) or (cut) that is refused, its place in a text unknown.
-pub fn explain_run(run: &Run, session: &Session, form: &text::Line) -> Option<Fault> {
-    sizes::check_run(run, session.declarations(), form, (0, 0)).err()
-}
-
 /// A number with a comma before each three digits.
 pub fn grouped(number: u128) -> String {
     let digits = number.to_string();
@@ -80,6 +74,6 @@ pub fn grouped(number: u128) -> String {
 }
 
 /// "1 row", "2 rows".
-fn counted(count: usize, noun: &str) -> String {
+pub fn counted(count: usize, noun: &str) -> String {
     format!("{} {noun}{}", grouped(count as u128), if count == 1 { "" } else { "s" })
 }

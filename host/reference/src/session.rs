@@ -93,6 +93,14 @@ impl Session {
         self.run.as_ref()
     }
 
+    /// The session after k steps that led to this value diagram.
+    pub fn with_value(mut self, value: Diagram, k: u64) -> Session {
+        if let Some(run) = &mut self.run {
+            (run.value, run.k) = (value, k);
+        }
+        self
+    }
+
     /// Takes one line without its line feed. A refused line changes nothing.
     pub fn take(&mut self, line: &[u8]) -> Taken {
         let line = read_line(line)?;

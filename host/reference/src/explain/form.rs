@@ -148,7 +148,7 @@ const FORMS: [Form; 16] = [
     form("discount", "(discount G D)", &[Shape::Number, Shape::Number]),
     form("reward", "(reward DIAGRAM)", &[Shape::Diagram]),
     form("action", "(action NAME !p ..)", &[Shape::Name, Shape::Parameters]),
-    form("variant", "(variant NAME WEIGHT)", &[Shape::Name, Shape::Diagram]),
+    form("variant", "(variant NAME DIAGRAM)", &[Shape::Name, Shape::Diagram]),
     form("becomes", "(becomes (PREDICATE ?a ..) DIAGRAM)", &[Shape::Head, Shape::Diagram]),
     form("start", "(start)", &[]),
     form("objects", "(objects N)", &[Shape::Number]),
@@ -168,7 +168,8 @@ pub fn misfit(words: &[Word], length: usize) -> Fault {
     let Some(form) = FORMS.iter().find(|form| form.name == name) else {
         return unknown_form(name, words[0].span);
     };
-    let advice = format!("the form is {}", form.written);
+    let diagram = if form.shapes.contains(&Shape::Diagram) { "; a diagram is a number or (if ATOM DIAGRAM DIAGRAM)" } else { "" };
+    let advice = format!("the form is {}{diagram}", form.written);
     let (span, what) = misfit_of(form, &words[1..]).unwrap_or(((length - 1, length), "the form ends too early".into()));
     fault(span, what, advice)
 }

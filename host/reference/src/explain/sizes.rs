@@ -260,14 +260,14 @@ fn cuts(run: &Run, span: Span) -> Checked {
                 refusal,
                 span,
                 format!("after step {}: the value diagram of {rows} has {paths} paths; at most {PATHS}", run.k),
-                "cut after every backup, while the diagram is small; its values are right as it is",
+                "values are right uncut, so go on; a smaller model has fewer paths",
             );
         }
         Fault::new(
             refusal,
             span,
             format!("after step {}: the value diagram of {rows} has no edge that may go", run.k),
-            "nothing: all is cut",
+            "all is cut, so go on",
         )
     })
 }
