@@ -7,6 +7,12 @@
 use crate::ffi;
 use crate::refusal::{accepted, Refusal};
 
+pub use crate::memory::{LISTING_WORDS, NAME_WORDS, NUMBER_WORDS, SESSION_WORK_WORDS, STATE_WORDS, TABLE_WORDS, VALUE_WORDS};
+
+/// The highest value of a leaf.
+pub const VALUE: u64 = 1_000_000_000_000_000_000;
+/// The objects of a state's constants, at most.
+pub const CONSTANTS: usize = 16;
 /// Words of an arity list.
 pub const ARITIES: usize = 32;
 /// Words of a row.
