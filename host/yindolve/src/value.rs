@@ -4,7 +4,7 @@ use std::fmt;
 ///
 /// ```
 /// use yindolve::Session;
-/// let mut session = Session::load("(total 4)\n(reward 7)\n(action wait)\n(variant only 4)\n(start)\n")?;
+/// let mut session = Session::load("(total 4)\n(discount 1 1)\n(reward 7)\n(action wait)\n(variant only 4)\n(start)\n")?;
 /// session.backup()?;
 /// let value = session.value(&session.state(1).finish()?)?;
 /// assert_eq!((value.value, value.steps, value.scale), (56, 1, 4));
