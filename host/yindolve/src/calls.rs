@@ -137,7 +137,7 @@ pub fn regress(
 pub fn free(arities: &[u64], words: &[u64], parameters: u64, result: &mut [u64], work: &[u64], rows: &mut u64) -> Result<(), Refusal> {
     // SAFETY: each pointer is to as many words as its count says, and what is written to overlaps nothing.
     accepted(unsafe {
-        ffi::yindolve_free(
+        ffi::yindolve_free_parameters(
             arities.as_ptr(),
             arities.len(),
             words.as_ptr(),
