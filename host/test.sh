@@ -88,6 +88,21 @@ rust_save() {
     prints $'2 steps: 243/64 = 3.80\nnot a saved session: its sum is wrong, so that bytes were lost or changed' rust_example save
 }
 
+# What install.sh installs works where it is installed.
+installed() {
+    local prefix=$PWD/target/prefix flags
+    rm -rf "$prefix"
+    quiet ../install.sh "$prefix" || return 1
+    if command -v pkg-config >/dev/null; then
+        flags=$(PKG_CONFIG_PATH=$prefix/lib/pkgconfig pkg-config --cflags --libs yindolve) || return 1
+    else
+        flags="-I$prefix/include -L$prefix/lib -lyindolve"
+    fi
+    # shellcheck disable=SC2086
+    cc -o target/c/value ../examples/value.c $flags && prints 10 target/c/value || return 1
+    "$prefix/bin/yindolve" <../examples/sample.txt | cmp - ../examples/sample.out
+}
+
 # What docs/REFERENCE.md says of the program: status 0 for refusals, for a full disk and for a directory; the end by a signal where the pipe is closed.
 program_at_its_ends() {
     local status
@@ -130,6 +145,7 @@ if [ -n "$program" ] && [ -x "$program" ]; then
     step target/release/tests program "$program" seconds "$seconds"
     step target/release/tests bellman "$program" seconds "$((seconds / 2))"
     step program_at_its_ends
+    if [ -f ../target/bin/yindolve ] && [ -f ../target/staticlib/libc_library.a ]; then step installed; fi
 else
     echo "no program${program:+ at $program}: its texts are left out"
 fi
