@@ -231,7 +231,7 @@ uint64_t yindolve_line(const uint8_t *line, size_t line_count, uint64_t *numbers
 
 /* ----- Inline functions ----- */
 
-/* An answer as a struct. Which fields count is said with the kinds; the others are 0. */
+/* An answer as a struct. Which fields count is said with the kinds; the others are 0, but for the count of the answer's bytes, which each kind has. */
 typedef enum {
     YINDOLVE_ANSWER_NOTHING, /* the line is accepted and has no answer */
     YINDOLVE_ANSWER_VALUE,   /* (value V k S^k): value, steps, scale; the value of the state is value / scale */
@@ -239,7 +239,7 @@ typedef enum {
     YINDOLVE_ANSWER_CUT,     /* (cut row edge rows): row, edge (1 for true, 0 for false), rows */
     YINDOLVE_ANSWER_ROWS,    /* (row ..) lines: rows; yindolve_read_rows reads them */
     YINDOLVE_ANSWER_REFUSED, /* (refused number line): refusal, line */
-    YINDOLVE_ANSWER_UNKNOWN  /* bytes that are no answer of this version */
+    YINDOLVE_ANSWER_UNKNOWN  /* bytes that are no answer of this version; none where no line was answered */
 } yindolve_answer_kind;
 
 typedef struct {
@@ -247,6 +247,7 @@ typedef struct {
     uint64_t value, steps, scale;
     uint64_t row, edge, rows;
     uint64_t refusal, line;
+    uint64_t bytes;
 } yindolve_answer;
 
 /* Reads a word at *at: steps over it and answers 1 if it stands there. For the functions below. */
@@ -310,6 +311,7 @@ static inline yindolve_answer yindolve_read_answer(const uint8_t *bytes, size_t 
         a.kind = YINDOLVE_ANSWER_UNKNOWN;
         return a;
     }
+    a.bytes = count;
     if (yindolve_take_word(bytes, count, &at, "(value ")) {
         a.kind = YINDOLVE_ANSWER_VALUE;
         whole = yindolve_take_number(bytes, count, &at, &a.value) && yindolve_take_word(bytes, count, &at, " ") &&
@@ -337,6 +339,7 @@ static inline yindolve_answer yindolve_read_answer(const uint8_t *bytes, size_t 
     if (!whole || at != count) {
         memset(&a, 0, sizeof a);
         a.kind = YINDOLVE_ANSWER_UNKNOWN;
+        a.bytes = count;
     }
     return a;
 }
@@ -398,8 +401,8 @@ static inline uint64_t yindolve_session_line(yindolve_session *s, const uint8_t 
         YINDOLVE_VALUE_WORDS, s->work, YINDOLVE_SESSION_WORK_WORDS, s->answer, YINDOLVE_ANSWER_BYTES, bytes);
 }
 
-/* Answers the next line of an open session, a C string without its line feed, as a struct: yindolve_session_ask(s, "(value)"). The kind is UNKNOWN for a session
- * that was not opened.
+/* Answers the next line of an open session, a C string without its line feed, as a struct: yindolve_session_ask(s, "(value)"). The answer's bytes stay in s->answer.
+ * The kind is UNKNOWN, without bytes, for a session that was not opened.
  */
 static inline yindolve_answer yindolve_session_ask(yindolve_session *s, const char *line) {
     uint64_t bytes = 0, refusal = yindolve_session_line(s, (const uint8_t *)line, line ? strlen(line) : 0, &bytes);

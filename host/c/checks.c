@@ -36,7 +36,7 @@ static void refusals(void) {
 
 static void read_answers(void) {
     yindolve_answer a = read_text("(value 30 1 8)\n");
-    EXPECT(a.kind == YINDOLVE_ANSWER_VALUE && a.value == 30 && a.steps == 1 && a.scale == 8);
+    EXPECT(a.kind == YINDOLVE_ANSWER_VALUE && a.value == 30 && a.steps == 1 && a.scale == 8 && a.bytes == 15);
     a = read_text("(backup 2 540)\n");
     EXPECT(a.kind == YINDOLVE_ANSWER_BACKUP && a.steps == 2 && a.rows == 540);
     a = read_text("(cut 5 false 4)\n");
@@ -53,7 +53,10 @@ static void read_answers(void) {
     static const char *const wrong[] = {"(", "(value", "(value 1 2)\n", "(value 1 2 3)", "(value 1 2 3)\nx", "(value 99999999999999999999 1 1)\n", "(cut 5 maybe 4)\n",
         "(row 0 leaf)\n", "(row)\n", "(refused x 1)\n", "\n", "(value  1 2 3)\n"};
     size_t i;
-    for (i = 0; i < sizeof wrong / sizeof wrong[0]; ++i) EXPECT(read_text(wrong[i]).kind == YINDOLVE_ANSWER_UNKNOWN);
+    for (i = 0; i < sizeof wrong / sizeof wrong[0]; ++i) {
+        a = read_text(wrong[i]);
+        EXPECT(a.kind == YINDOLVE_ANSWER_UNKNOWN && a.bytes == strlen(wrong[i]) && a.value == 0 && a.rows == 0);
+    }
 }
 
 static void null_pointers(void) {
