@@ -31,15 +31,45 @@ prints() {
     if [ "$printed" != "$lines" ]; then echo "$* prints: $printed"; return 1; fi
 }
 
-c_example() {
-    mkdir -p target/c
-    cc -std=c99 -Wall -Wextra -Werror -I../include -o target/c/value ../examples/value.c "$library" && prints 10 target/c/value
+# The compilers that the C programs are built with: C99, C++ and sanitizers; the last two only where there are such.
+mkdir -p target/c
+compilers=("cc -std=c99")
+if command -v c++ >/dev/null; then compilers+=("c++ -x c++ -std=c++11"); fi
+sanitizers="cc -std=c99 -g -fsanitize=address,undefined -fno-sanitize-recover=all"
+if echo 'int main(void) { return 0; }' | $sanitizers -x c -o target/c/sanitized - 2>target/c/sanitizers.log && target/c/sanitized; then
+    compilers+=("$sanitizers")
+else
+    echo "the C compiler has no sanitizers: they are left out"
+fi
+
+# build COMPILER SOURCE NAME: a C program over the library, as target/c/NAME.
+build() {
+    # the language of the source is not that of the library
+    $1 -Wall -Wextra -Wpedantic -Werror -I../include -o "target/c/$3" "$2" -x none "$library"
+}
+
+c_value() {
+    build "$1" ../examples/value.c value && prints 10 target/c/value
 }
 
 c_session() {
-    mkdir -p target/c
-    cc -std=c99 -Wall -Wextra -Werror -I../include -o target/c/session ../examples/session.c "$library" &&
-        target/c/session <../examples/sample.txt | cmp - ../examples/sample.out
+    build "$1" ../examples/session.c session && target/c/session <../examples/sample.txt | cmp - ../examples/sample.out
+}
+
+c_checks() {
+    build "$1" c/checks.c checks && prints "" target/c/checks
+}
+
+# the model of an example to the planner's part, a state to the desk's, then a file that is cut off
+c_save() {
+    build "$1" ../examples/save.c save || return 1
+    sed '/(start)/q' ../examples/liftparts.txt >target/c/model
+    printf '(objects 3)\n(true wanted 0)\n(true aboard 0 2)\n(true here 2)\n' >target/c/state
+    rm -f target/c/saved
+    prints "1 step, 66 rows, 19 after cuts" target/c/save plan target/c/saved <target/c/model || return 1
+    prints "108 / 16 = 6.75" target/c/save value target/c/saved <target/c/state || return 1
+    head -c 1000 target/c/saved >target/c/cut_off
+    ! target/c/save value target/c/cut_off <target/c/state 2>target/c/said && grep -q 'is no saved session' target/c/said
 }
 
 rust_example() {
@@ -58,6 +88,33 @@ rust_save() {
     prints $'2 steps: 243/64 = 3.80\nnot a saved session: its sum is wrong, so that bytes were lost or changed' rust_example save
 }
 
+# What install.sh installs works where it is installed.
+installed() {
+    local prefix=$PWD/target/prefix flags
+    rm -rf "$prefix"
+    quiet ../install.sh "$prefix" || return 1
+    if command -v pkg-config >/dev/null; then
+        flags=$(PKG_CONFIG_PATH=$prefix/lib/pkgconfig pkg-config --cflags --libs yindolve) || return 1
+    else
+        flags="-I$prefix/include -L$prefix/lib -lyindolve"
+    fi
+    # shellcheck disable=SC2086
+    cc -o target/c/value ../examples/value.c $flags && prints 10 target/c/value || return 1
+    "$prefix/bin/yindolve" <../examples/sample.txt | cmp - ../examples/sample.out
+}
+
+# What docs/REFERENCE.md says of the program: status 0 for refusals, for a full disk and for a directory; the end by a signal where the pipe is closed.
+program_at_its_ends() {
+    local status
+    printf 'x\n' | "$program" >target/said || return 1
+    prints $'(refused 1 1)\n(refused 5 0)' cat target/said || return 1
+    if [ -w /dev/full ]; then "$program" <../examples/sample.txt >/dev/full || return 1; fi
+    "$program" <. >target/said || return 1
+    yes '(show)' | head -n 100000 | "$program" | head -n 1 >target/said
+    status=("${PIPESTATUS[@]}")
+    [ "${status[2]}" -eq 141 ] || { echo "status ${status[2]} at a closed pipe"; return 1; }
+}
+
 step cargo fmt --check
 step quiet cargo test --quiet --release --offline
 step quiet cargo build --quiet --release --offline
@@ -69,8 +126,12 @@ if [ -f "$library" ]; then
     step quiet cargo test --quiet --release --offline -p yindolve
     step quiet cargo build --quiet --release --offline -p tests --features library
     step target/release/tests library seconds "$seconds"
-    step c_example
-    step c_session
+    for compiler in "${compilers[@]}"; do
+        step c_value "$compiler"
+        step c_session "$compiler"
+        step c_save "$compiler"
+        step c_checks "$compiler"
+    done
     step rust_add_apart
     step rust_keep_loaded
     step rust_save
@@ -82,6 +143,9 @@ if [ -n "$program" ] && [ -x "$program" ]; then
     step target/release/tests stored corpus "$program"
     step target/release/tests stored ../examples "$program"
     step target/release/tests program "$program" seconds "$seconds"
+    step target/release/tests bellman "$program" seconds "$((seconds / 2))"
+    step program_at_its_ends
+    if [ -f ../target/bin/yindolve ] && [ -f ../target/staticlib/libc_library.a ]; then step installed; fi
 else
     echo "no program${program:+ at $program}: its texts are left out"
 fi

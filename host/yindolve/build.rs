@@ -5,8 +5,8 @@ use std::path::{Path, PathBuf};
 
 /// Names that the library has in a folder: as it is installed, and as it is built.
 const NAMES: [&str; 2] = ["libyindolve.a", "libc_library.a"];
-/// A function that each library has had since texts were in it.
-const FUNCTION: &[u8] = b"yindolve_line";
+/// The newest function, by which an old library is told.
+const FUNCTION: &str = "yindolve_free_parameters";
 const HELP: &str = "Run `rt staticlib c_library` at the root of the repository, or let YINDOLVE_LIBRARY name a library or its folder.";
 
 fn main() {
@@ -21,6 +21,9 @@ fn main() {
         eprintln!("{what}: {}, {whence}.\n{HELP}", path.display());
         std::process::exit(1)
     };
+    if path.is_dir() {
+        fail(&format!("This folder has neither {} nor {}", NAMES[0], NAMES[1]));
+    }
     let bytes = match std::fs::read(&path) {
         Ok(bytes) => bytes,
         Err(error) => fail(&format!("The static library cannot be read ({error})")),
@@ -28,8 +31,8 @@ fn main() {
     if !bytes.starts_with(b"!<arch>\n") {
         fail("This file is no static library");
     }
-    if !bytes.windows(FUNCTION.len()).any(|window| window == FUNCTION) {
-        fail("This static library is another one, or an old one: it has no function yindolve_line");
+    if !bytes.windows(FUNCTION.len()).any(|window| window == FUNCTION.as_bytes()) {
+        fail(&format!("This static library is another one, or an old one that has no {FUNCTION}"));
     }
     let folder = PathBuf::from(std::env::var_os("OUT_DIR").expect("cargo sets OUT_DIR"));
     if let Err(error) = std::fs::write(folder.join(NAMES[0]), &bytes) {

@@ -44,7 +44,7 @@ extern "C" {
         rows: *mut u64,
     ) -> u64;
 
-    pub fn yindolve_free(
+    pub fn yindolve_free_parameters(
         arities: *const u64,
         arities_count: usize,
         words: *const u64,

@@ -1,18 +1,20 @@
 //! A session as bytes. They are lines: a heading with the format's number, then the parts with the count of their lines, and at the end
 //! the count of answered lines and a sum over everything before it.
 //!
-//!     yindolve session 1
-//!     model 10
-//!     (constant hub)
-//!     ..
-//!     state 2
-//!     (objects 2)
-//!     (is hub 0)
-//!     value 1 6
-//!     (row 0 leaf 120)
-//!     ..
-//!     lines 14
-//!     sum 0123456789abcdef
+//! ```text
+//! yindolve session 1
+//! model 10
+//! (constant hub)
+//! ..
+//! state 2
+//! (objects 2)
+//! (is hub 0)
+//! value 1 6
+//! (row 0 leaf 120)
+//! ..
+//! lines 14
+//! sum 0123456789abcdef
+//! ```
 
 use crate::listing::Row;
 use crate::text::Answer;
@@ -227,7 +229,9 @@ mod tests {
         assert_eq!(wrong("131072", "135168"), "not a saved session: the value diagram has a parameter, or its variables are not closed up");
         assert_eq!(wrong("value 1 ", "value 20 "), "not a saved session: there are too many steps");
         assert_eq!(wrong("(start)", "(total 5)"), "not a saved session: the line (total 5) is not accepted there");
-        assert_eq!(wrong("model 10", "model 11"), "not a saved session: the line state 3 is not accepted there");
+        assert_eq!(wrong("model 10", "model 11"), "not a saved session: \"(objects 2)\" where the line 'state ..' is due");
+        assert_eq!(wrong("model 10", "model 9"), "not a saved session: \"(start)\" where the line 'state ..' is due");
+        assert_eq!(wrong("(is hub 0)", "(constant c)"), "not a saved session: the line (constant c) is not accepted there");
     }
 
     #[test]

@@ -194,7 +194,8 @@ impl Session {
         let line = line.as_ref();
         let was_started = self.is_started();
         self.bytes = self.memory.line(line, &mut self.answer);
-        let answer = Answer::read(self.answer_bytes()).expect("the library writes answers");
+        let written = self.answer_bytes();
+        let answer = Answer::read(written).unwrap_or_else(|| Answer::Other(String::from_utf8_lossy(written).into_owned()));
         if answer == Answer::Nothing && !was_started && !line.is_empty() {
             let line = String::from_utf8_lossy(line).into_owned();
             self.vocabulary.note(&line);

@@ -96,10 +96,12 @@ pub enum Answer {
         /// The line's number, from 1 on.
         line: u64,
     },
+    /// An answer that this version does not know, as it was written.
+    Other(String),
 }
 
 impl Answer {
-    /// The answer of these bytes, if they are one.
+    /// The answer of these bytes, if they are one that this version knows.
     ///
     /// ```
     /// use yindolve::{Answer, Refusal};

@@ -4,7 +4,7 @@ use std::fmt;
 ///
 /// ```
 /// use yindolve::Session;
-/// let mut session = Session::load("(total 4)\n(reward 7)\n(action wait)\n(variant only 4)\n(start)\n")?;
+/// let mut session = Session::load("(total 4)\n(discount 1 1)\n(reward 7)\n(action wait)\n(variant only 4)\n(start)\n")?;
 /// session.backup()?;
 /// let value = session.value(&session.state(1).finish()?)?;
 /// assert_eq!((value.value, value.steps, value.scale), (56, 1, 4));
@@ -39,7 +39,7 @@ impl Value {
     }
 }
 
-/// A fraction in lowest terms, shown as `15/4`, or `14` for `14/1`.
+/// A fraction in lowest terms, shown as `15/4`, or `14` for `14/1`; fractions compare by their value.
 #[derive(Clone, Copy, Debug, PartialEq, Eq, Hash)]
 pub struct Fraction {
     numerator: u64,
@@ -103,6 +103,19 @@ impl Fraction {
     }
 }
 
+impl Ord for Fraction {
+    fn cmp(&self, other: &Fraction) -> std::cmp::Ordering {
+        let product = |a: u64, b: u64| u128::from(a) * u128::from(b);
+        product(self.numerator, other.denominator).cmp(&product(other.numerator, self.denominator))
+    }
+}
+
+impl PartialOrd for Fraction {
+    fn partial_cmp(&self, other: &Fraction) -> Option<std::cmp::Ordering> {
+        Some(self.cmp(other))
+    }
+}
+
 impl fmt::Display for Fraction {
     fn fmt(&self, f: &mut fmt::Formatter) -> fmt::Result {
         match self.denominator {
@@ -129,6 +142,7 @@ mod tests {
         assert_eq!(Fraction::new(30, 8).to_string(), "15/4");
         assert_eq!((Fraction::new(30, 8).numerator(), Fraction::new(30, 8).denominator()), (15, 4));
         assert_eq!(Fraction::new(30, 8).to_f64(), 3.75);
+        assert!(Fraction::new(1, 3) < Fraction::new(30, 8) && Fraction::new(2, 4) <= Fraction::new(1, 2));
     }
 
     #[test]

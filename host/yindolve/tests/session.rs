@@ -63,7 +63,7 @@ fn calls_answer_as_lines_do() {
     let mut lift_parts = Session::load(LIFT_PARTS).unwrap();
     lift_parts.backup().unwrap();
     let all = lift_parts.cut_all().unwrap();
-    assert_eq!((all.cuts, all.rows), (13, 19));
+    assert_eq!((all.cuts, all.rows), (12, 19));
     lift_parts.backup().unwrap();
     assert_eq!(lift_parts.cut_all(), Err(Refusal::Paths));
     assert_eq!(lift_parts.backup(), Err(Refusal::Space));
