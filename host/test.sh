@@ -88,6 +88,25 @@ rust_save() {
     prints $'2 steps: 243/64 = 3.80\nnot a saved session: its sum is wrong, so that bytes were lost or changed' rust_example save
 }
 
+# The front end's answers to random texts, which are the program's; that a line was refused, status 1, is no failure here.
+desk_run() {
+    printf '#!/bin/sh\n"%s" run 2>/dev/null || [ $? -eq 1 ]\n' "$PWD/target/release/yindolve-desk" >target/desk_run
+    chmod +x target/desk_run
+    quiet target/release/tests program "$PWD/target/desk_run" seconds "$1"
+}
+
+# Every refusal of random texts is explained, for so many seconds; status 2 would say that library and reference disagree.
+desk_explain() {
+    local seed=$RANDOM end=$((SECONDS + $1)) first
+    first=$seed
+    while [ "$SECONDS" -lt "$end" ]; do
+        target/release/tests text "$seed" | timeout 60 target/release/yindolve-desk explain - >target/explained 2>&1
+        if [ $? -gt 1 ]; then echo "explain fails for the text of seed $seed:"; cat target/explained; return 1; fi
+        seed=$((seed + 1))
+    done
+    echo "the texts of seeds $first to $((seed - 1)) are explained"
+}
+
 # What install.sh installs works where it is installed.
 installed() {
     local prefix=$PWD/target/prefix flags
@@ -135,6 +154,11 @@ if [ -f "$library" ]; then
     step rust_add_apart
     step rust_keep_loaded
     step rust_save
+    step quiet cargo build --quiet --release --offline -p yindolve-desk
+    step quiet cargo test --quiet --release --offline -p yindolve-desk
+    step desk_run "$((seconds / 4 + 1))"
+    step desk_explain "$((seconds / 4 + 1))"
+    if ! command -v chromium chromium-browser google-chrome >/dev/null; then echo "no Chromium is installed: that a browser shows a report is left out"; fi
 else
     echo "no static library at $library (rt staticlib c_library builds it): its tests are left out"
 fi

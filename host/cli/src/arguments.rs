@@ -29,7 +29,7 @@ const KNOWN: [Known; 8] = [
 pub struct Arguments {
     command: String,
     options: Vec<(&'static str, OsString)>,
-    pub files: Vec<OsString>,
+    files: Vec<OsString>,
 }
 
 impl Arguments {
@@ -85,6 +85,10 @@ impl Arguments {
         };
         let number = word.to_str().and_then(|word| word.parse().ok());
         number.map(Some).ok_or_else(|| self.wrong(&format!("{option} takes a whole number, and there is {}", word.to_string_lossy())))
+    }
+
+    pub fn all_files(&self) -> Vec<&OsStr> {
+        self.files.iter().map(OsString::as_os_str).collect()
     }
 
     /// The only file, or none.

@@ -53,6 +53,20 @@ pub fn write_file(file: &OsStr, bytes: &[u8]) -> Result<(), Trouble> {
     }
 }
 
+/// Trouble where the file to be written is one of those that are read.
+pub fn apart_from(output: Option<&OsStr>, inputs: &[&OsStr]) -> Result<(), Trouble> {
+    let place = |file: &OsStr| std::fs::canonicalize(file).ok().filter(|path| path.is_file());
+    let Some((output, there)) = output.and_then(|file| Some((file, place(file)?))) else {
+        return Ok(());
+    };
+    match inputs.iter().any(|input| place(input).as_ref() == Some(&there)) {
+        true => {
+            Err(Trouble(format!("{} is read here, and writing to it would lose it; name another file behind -o", output.to_string_lossy())))
+        }
+        false => Ok(()),
+    }
+}
+
 fn replace(path: &Path, bytes: &[u8]) -> io::Result<()> {
     let beside = beside(path);
     let written = std::fs::File::create(&beside).and_then(|mut to| to.write_all(bytes).and_then(|()| to.sync_all()));

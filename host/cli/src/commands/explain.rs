@@ -2,14 +2,20 @@
 
 use crate::arguments::Arguments;
 use crate::input::{open, Lines};
+use crate::model::is_saved;
 use crate::output::Out;
-use crate::trouble::{Outcome, Verdict};
+use crate::trouble::{Outcome, Trouble, Verdict};
 use crate::twin::{told, Twin};
 use reference::explain::no_start;
+use std::io::BufRead;
 
 pub fn explain(arguments: &Arguments, out: &mut Out) -> Outcome {
     let file = arguments.one_file()?.ok_or_else(|| arguments.wrong("no text is named"))?;
-    let (name, input) = open(Some(file))?;
+    let (name, mut input) = open(Some(file))?;
+    let begin = input.fill_buf().map_err(|error| Trouble::reading(&name, &error))?;
+    if is_saved(begin) {
+        return Err(Trouble(format!("{name} is what plan saved, and here a text should stand")));
+    }
     let mut lines = Lines::new(name.clone(), input);
     let mut twin = Twin::open();
     let mut refused = false;

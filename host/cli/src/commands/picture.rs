@@ -4,7 +4,7 @@ use crate::arguments::Arguments;
 use crate::drawing::{dot::dot, svg::svg, Figure};
 use crate::input::Text;
 use crate::model::{is_saved, load, Loaded};
-use crate::output::Out;
+use crate::output::{apart_from, Out};
 use crate::planning::{diagram, Planner};
 use crate::trouble::{message, Outcome, Trouble, Verdict};
 use crate::twin::reason;
@@ -33,6 +33,7 @@ pub fn picture(arguments: &Arguments, out: &mut Out) -> Outcome {
         _ => return Err(arguments.wrong("beside the model either --step K or one file is named")),
     };
     let as_dot = wants_dot(arguments)?;
+    apart_from(arguments.word("--output"), &arguments.all_files())?;
     let Some(mut model) = load(&Text::read(file)?)? else {
         return Ok(Verdict::Refused);
     };

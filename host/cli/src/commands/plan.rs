@@ -3,7 +3,7 @@
 use crate::arguments::Arguments;
 use crate::input::Text;
 use crate::model::load;
-use crate::output::{write_file, Out};
+use crate::output::{apart_from, write_file, Out};
 use crate::planning::{Plan, Planner, Progress, Step};
 use crate::table::Table;
 use crate::trouble::{message, remark, Outcome, Trouble, Verdict};
@@ -20,6 +20,9 @@ pub fn plan(arguments: &Arguments, out: &mut Out) -> Outcome {
     let Some(mut model) = load(&Text::read(file)?)? else {
         return Ok(Verdict::Refused);
     };
+    if !model.was_saved {
+        apart_from(Some(save_to), &[file])?;
+    }
     // a file that cannot be written is told before the work
     write_file(save_to, &model.twin.engine.save())?;
     let mut watch = |progress: Progress| watch(progress, save_to);

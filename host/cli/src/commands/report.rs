@@ -6,7 +6,7 @@ use crate::drawing::plot::{plot, Growth};
 use crate::drawing::{escaped, svg::svg, Figure};
 use crate::input::{Lines, Text};
 use crate::model::{load, Loaded};
-use crate::output::Out;
+use crate::output::{apart_from, Out};
 use crate::planning::{diagram, Plan, Planner, Step};
 use crate::samples::{asked, made, Sample};
 use crate::trouble::{message, Outcome, Trouble, Verdict};
@@ -15,6 +15,7 @@ use reference::declarations::Declarations;
 use reference::explain::{counted, grouped};
 use reference::names::Names;
 use std::ffi::OsString;
+use std::path::Path;
 use yindolve::Value;
 
 /// How many steps are looked ahead where --steps is not given.
@@ -32,21 +33,22 @@ th{background:#f5f7fa}th:first-child,td:first-child{text-align:left}td.words,th.
 pub fn report(arguments: &Arguments, out: &mut Out) -> Outcome {
     let (file, states) = arguments.first_file("model")?;
     let steps = arguments.number("--steps")?.unwrap_or(STEPS);
-    let text = Text::read(file)?;
-    let Some(mut model) = load(&text)? else {
+    apart_from(arguments.word("--output"), &arguments.all_files())?;
+    let Some(mut model) = load(&Text::read(file)?)? else {
         return Ok(Verdict::Refused);
     };
     let plan = Planner { steps, uncut: arguments.has("--uncut"), watch: &mut |_| Ok(()) }.plan(&mut model)?;
-    let mut samples = given(states)?;
-    samples.extend(asked(&model));
-    samples.extend(made(&model));
-    let given_refused = refused_among(&model, &samples[..states.len()])?;
-    let page = page(&model, &plan, steps, &valued(&model, samples)?);
+    let given = given(states)?;
+    let refused = refused_among(&model, &given)?;
+    let mut samples: Vec<(Sample, Option<Value>)> = given.into_iter().chain(asked(&model)).map(|sample| valued(&model, sample)).collect();
+    // a made state that has more objects than can be valued is none to show
+    samples.extend(made(&model).into_iter().map(|sample| valued(&model, sample)).filter(|(_, value)| value.is_some()));
+    let page = page(&model, &plan, steps, &samples);
     out.to_file(arguments.word("--output"), page.as_bytes())?;
     if let (Some(fault), true) = (&plan.stop, arguments.has("--steps")) {
         message(&format!("the report ends after {} of {steps} steps: {}", model.twin.engine.steps(), reason(fault)));
     }
-    Ok(Verdict::refused_if(given_refused || (plan.stop.is_some() && arguments.has("--steps"))))
+    Ok(Verdict::refused_if(refused || (plan.stop.is_some() && arguments.has("--steps"))))
 }
 
 /// The states of the files.
@@ -72,19 +74,17 @@ fn bytes_of(sample: &Sample) -> Vec<u8> {
     sample.lines.iter().flat_map(|line| [line.as_bytes(), b"\n"].concat()).collect()
 }
 
-/// The samples with their values; those that are refused have none.
-fn valued(model: &Loaded, samples: Vec<Sample>) -> Result<Vec<(Sample, Option<Value>)>, Trouble> {
-    let value = |sample: Sample| {
-        let mut engine = model.twin.engine.clone();
-        let told = engine.tell(bytes_of(&sample));
-        let value = told.ok().and_then(|()| engine.value_in_hand().ok());
-        Ok((sample, value))
-    };
-    samples.into_iter().map(value).collect()
+/// A sample with its value; one that is refused has none.
+fn valued(model: &Loaded, sample: Sample) -> (Sample, Option<Value>) {
+    let mut engine = model.twin.engine.clone();
+    let told = engine.tell(bytes_of(&sample));
+    let value = told.ok().and_then(|()| engine.value_in_hand().ok());
+    (sample, value)
 }
 
 fn page(model: &Loaded, plan: &Plan, steps: u64, samples: &[(Sample, Option<Value>)]) -> String {
-    let name = escaped(&model.name);
+    let file = Path::new(&model.name).file_name().map_or(model.name.clone(), |name| name.to_string_lossy().into_owned());
+    let name = escaped(&file);
     let k = model.twin.engine.steps();
     let mut page = format!(
         "<!DOCTYPE html>\n<html lang=\"en\">\n<head>\n<meta charset=\"utf-8\">\n<meta name=\"viewport\" content=\"width=device-width, initial-scale=1\">\n\
@@ -158,21 +158,26 @@ fn step_row(step: &Step) -> String {
 
 fn cuts_part(plan: &Plan) -> String {
     let mut text = String::from("<p>A cut takes one edge of the diagram away and changes no value.</p>\n");
-    let mut rows = String::new();
-    for step in &plan.steps {
-        for cut in &step.cuts {
-            rows += &format!("<tr><td>{}</td><td>{}</td><td>{}</td><td>{}</td></tr>\n", step.k, cut.row, cut.edge, cut.rows);
-        }
-    }
+    let rows: String = plan.steps.iter().filter(|step| !step.cuts.is_empty()).map(cuts_row).collect();
     if rows.is_empty() {
         text += "<p>Nothing was cut.</p>\n";
     } else {
-        text += &format!("<table>\n<tr><th>after step</th><th>row</th><th>edge</th><th>rows left</th></tr>\n{rows}</table>\n");
+        text += &format!("<table>\n<tr><th>after step</th><th>cuts</th><th class=\"words\">row, edge, and the rows left, in turn</th></tr>\n{rows}</table>\n");
     }
     for fault in plan.steps.iter().filter_map(|step| step.uncut.as_ref()) {
         text += &format!("<p class=\"note\">Not all was cut. {}</p>\n", escaped(&reason(fault)));
     }
     text
+}
+
+fn cuts_row(step: &Step) -> String {
+    let cuts = step.cuts.iter().map(|cut| format!("<code>{} {} {}</code>", cut.row, cut.edge, cut.rows));
+    format!(
+        "<tr><td>{}</td><td>{}</td><td class=\"words\">{}</td></tr>\n",
+        step.k,
+        step.cuts.len(),
+        cuts.collect::<Vec<String>>().join(", ")
+    )
 }
 
 fn diagram_part(model: &Loaded) -> String {

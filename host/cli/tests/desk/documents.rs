@@ -81,7 +81,7 @@ fn a_quarter_of_sixty_branches() {
 
 #[test]
 fn the_manual_page() {
-    let path = root().join("docs/yindolve-desk.1");
+    let path = root().join("man/yindolve-desk.1");
     let page = std::fs::read_to_string(&path).expect("the manual page");
     for word in [
         "run",

@@ -93,6 +93,24 @@ fn a_file_is_replaced_whole() {
     assert_eq!(std::fs::read_dir(&here).expect("a folder").count(), 1);
 }
 
+/// No file that is read is written over, but a plan that goes on.
+#[test]
+fn inputs_are_not_lost() {
+    let here = folder("inputs");
+    let text = std::fs::read_to_string(example("sample.txt")).expect("a text");
+    let model = file(&here, "model.txt", &text);
+    let around = here.join("../inputs/model.txt").display().to_string();
+    let plan = here.join("model.plan").display().to_string();
+    told(&desk(&["plan", &model, "--steps", "1", "-o", &around]), "is read here, and writing to it would lose it");
+    told(&desk(&["picture", &model, "-o", &model]), "is read here, and writing to it would lose it");
+    told(&desk(&["report", &model, "-o", &model]), "is read here, and writing to it would lose it");
+    assert_eq!(std::fs::read_to_string(&model).expect("a text"), text);
+    assert_eq!(desk(&["plan", &model, "--steps", "1", "-o", &plan]).status, 0);
+    assert_eq!(desk(&["plan", &plan, "--steps", "1", "-o", &plan]).status, 0);
+    told(&desk(&["picture", &plan, "-o", &plan]), "is read here, and writing to it would lose it");
+    told(&desk(&["explain", &plan]), "is what plan saved, and here a text should stand");
+}
+
 #[test]
 fn wrong_words_on_the_command_line() {
     let sample = example("sample.txt");
