@@ -21,13 +21,16 @@ use yindolve::Value;
 /// How many steps are looked ahead where --steps is not given.
 const STEPS: u64 = 3;
 
+/// Diagrams of so many rows are shown as wide as the page.
+const FIT_ROWS: usize = 100;
+
 const STYLE: &str = "\
 body{font-family:Helvetica,Arial,sans-serif;color:#1c1c1c;background:#fff;max-width:1100px;margin:2em auto;padding:0 1.5em;line-height:1.45}\
 h1{font-size:1.6em;margin-bottom:.1em}h2{font-size:1.2em;margin-top:2em;border-bottom:1px solid #ccd5df;padding-bottom:.2em}\
 pre{background:#f5f7fa;padding:.8em 1em;overflow-x:auto;font-size:13px;line-height:1.5;border-radius:4px}\
 table{border-collapse:collapse;margin:.8em 0}th,td{padding:.25em .8em;border-bottom:1px solid #e3e9f0;text-align:right;vertical-align:top}\
 th{background:#f5f7fa}th:first-child,td:first-child{text-align:left}td.words,th.words{text-align:left}td code{white-space:nowrap}\
-.picture{overflow:auto;border:1px solid #e3e9f0;border-radius:4px;max-height:1200px}.note{background:#fff6e0;padding:.6em 1em;border-radius:4px}\
+.picture{overflow:auto;border:1px solid #e3e9f0;border-radius:4px;max-height:1200px}.fit svg{max-width:100%;height:auto}.note{background:#fff6e0;padding:.6em 1em;border-radius:4px}\
 .about{color:#5a6570}li{margin:.15em 0}";
 
 pub fn report(arguments: &Arguments, out: &mut Out) -> Outcome {
@@ -183,10 +186,13 @@ fn cuts_row(step: &Step) -> String {
 fn diagram_part(model: &Loaded) -> String {
     let engine = &model.twin.engine;
     let names = Names { declarations: model.twin.known.declarations(), parameters: &[] };
-    let figure = Figure { diagram: &diagram(engine), names, steps: engine.steps(), scale: engine.scale() };
+    let value = diagram(engine);
+    let figure = Figure { diagram: &value, names, steps: engine.steps(), scale: engine.scale() };
+    // a large picture keeps its size and is scrolled
+    let fit = if value.rows().len() <= FIT_ROWS { " fit" } else { "" };
     format!(
         "<p>From the root down: a solid line where the test is true, a dashed one where it is not. Objects for ?v0, ?v1, .. are chosen so that the leaf is \
-         highest; that leaf divided by {} is the state's value.</p>\n<div class=\"picture\">\n{}</div>\n",
+         highest; that leaf divided by {} is the state's value.</p>\n<div class=\"picture{fit}\">\n{}</div>\n",
         engine.scale(),
         svg(&figure)
     )

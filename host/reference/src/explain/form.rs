@@ -79,7 +79,7 @@ fn no_bracket_advice(line: &[u8]) -> &'static str {
 
 fn no_word(line: &[u8], at: usize) -> (String, String) {
     let what = match line.get(at) {
-        Some(b' ') => "a second space stands where a word should",
+        Some(b' ') => "a space stands where a word should",
         Some(b')') if line[at - 1] == b'(' => "the brackets hold no word",
         Some(_) => "a space stands before a closing bracket",
         None => "the line ends where a word should stand",
@@ -235,7 +235,7 @@ fn head_misfit(words: &[Word]) -> Option<(Span, String)> {
 }
 
 fn diagram_misfit(word: &Word) -> Option<(Span, String)> {
-    let wanted = |span| Some((span, format!("here should stand a number or (if ATOM DIAGRAM DIAGRAM), and there is {}", kind_of(word))));
+    let wanted = |span| Some((span, format!("here should stand a diagram, and there is {}", kind_of(word))));
     let words = match &word.kind {
         Kind::Number(_) => return None,
         Kind::Form(words) => words,

@@ -220,7 +220,11 @@ fn undeclared<'a>(word: &Word, kind: &str, declaration: &str, known: impl Iterat
 /// The known name that is one or two letters away, the nearest first.
 pub fn nearest<'a>(name: &str, known: impl Iterator<Item = &'a str>) -> Option<&'a str> {
     let near = known.map(|other| (distance(name.as_bytes(), other.as_bytes()), other));
-    let most = if name.len() < 4 { 1 } else { 2 };
+    let most = match name.len() {
+        0..=2 => 0,
+        3 => 1,
+        _ => 2,
+    };
     near.filter(|(distance, _)| *distance <= most).min_by_key(|(distance, _)| *distance).map(|(_, other)| other)
 }
 
