@@ -1,9 +1,11 @@
-//! include/yindolve.h beside this crate: sizes, refusals with their words and meanings, functions, and the version.
+//! include/yindolve.h beside this crate: sizes, refusals with their words and meanings, functions, and the version; and the reference's
+//! table of refusals.
 
 use std::collections::BTreeMap;
 use yindolve::{calls, Refusal, Row};
 
 const HEADER: &str = include_str!("../../../include/yindolve.h");
+const REFERENCE: &str = include_str!("../../../docs/REFERENCE.md");
 
 /// The header's plain constants: #define NAME NUMBER, and the numbers of the enum of refusals.
 fn constants() -> BTreeMap<&'static str, u64> {
@@ -66,6 +68,18 @@ fn refusals() {
         let said = |text: &str| HEADER.contains(&format!("case {name}: return \"{text}\";"));
         assert!(said(refusal.word()) && said(refusal.meaning()), "{name}");
     }
+}
+
+/// docs/REFERENCE.md has a row for each refusal, with its number and word.
+#[test]
+fn refusals_in_the_reference() {
+    let rows: Vec<&str> = REFERENCE.split("\n## Refusals\n").nth(1).unwrap().split("\n## ").next().unwrap().lines().collect();
+    for refusal in Refusal::ALL {
+        let row = format!("| {} | {} | ", refusal.number(), refusal.word());
+        assert_eq!(rows.iter().filter(|line| line.starts_with(&row)).count(), 1, "{row}");
+    }
+    let rows = rows.iter().filter(|line| line.starts_with("| ") && !line.starts_with("| Number"));
+    assert_eq!(rows.count(), Refusal::ALL.len());
 }
 
 #[test]
