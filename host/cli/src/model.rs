@@ -28,22 +28,8 @@ pub fn load(text: &Text) -> Result<Option<Loaded>, Trouble> {
     if is_saved(&text.bytes) {
         return load_saved(text).map(Some);
     }
-    let mut twin = Twin::open();
-    let mut refused = 0;
-    let mut lines = text.lines();
-    let mut read = 0;
-    let mut count = 0;
-    while let Some(line) = lines.next()? {
-        (read, count) = (read + line_length(&text.bytes[read..]), line.number);
-        if let Some(fault) = twin.line(&line)? {
-            remark(&told(&text.name, line.number, &fault));
-            refused += 1;
-        }
-        if twin.engine.is_started() {
-            break;
-        }
-    }
-    if !twin.engine.is_started() && refused == 0 {
+    let (loaded, mut refused) = read_model(text)?;
+    if !loaded.twin.engine.is_started() && refused == 0 {
         remark(&told(&text.name, 0, &no_start()));
         refused += 1;
     }
@@ -51,7 +37,27 @@ pub fn load(text: &Text) -> Result<Option<Loaded>, Trouble> {
         message(&format!("{}: the model is not taken, since {} refused", text.name, lines_are(refused)));
         return Ok(None);
     }
-    Ok(Some(Loaded { name: text.name.clone(), twin, behind: text.bytes[read..].to_vec(), lines: count, was_saved: false }))
+    Ok(Some(loaded))
+}
+
+/// Reads up to an accepted (start) and tells each refused line; how many there are.
+fn read_model(text: &Text) -> Result<(Loaded, u64), Trouble> {
+    let mut loaded = Loaded { name: text.name.clone(), twin: Twin::open(), behind: Vec::new(), lines: 0, was_saved: false };
+    let (mut refused, mut read) = (0, 0);
+    let mut lines = text.lines();
+    while let Some(line) = lines.next()? {
+        read += line_length(&text.bytes[read..]);
+        loaded.lines = line.number;
+        if let Some(fault) = loaded.twin.line(&line)? {
+            remark(&told(&text.name, line.number, &fault));
+            refused += 1;
+        }
+        if loaded.twin.engine.is_started() {
+            break;
+        }
+    }
+    loaded.behind = text.bytes[read..].to_vec();
+    Ok((loaded, refused))
 }
 
 /// The bytes of the first line, its line feed included.

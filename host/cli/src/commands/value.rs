@@ -1,7 +1,7 @@
 //! value: the number of each branch's state.
 
 use crate::arguments::Arguments;
-use crate::input::{Lines, Text};
+use crate::input::{Line, Lines, Text};
 use crate::model::{load, Loaded};
 use crate::output::Out;
 use crate::table::Table;
@@ -69,58 +69,70 @@ fn one(model: &Loaded, file: &OsString) -> Result<Option<Value>, Trouble> {
 
 /// The value of a state's lines; none where one is refused, which was told.
 pub fn value_of(model: &Loaded, mut lines: Lines<&[u8]>) -> Result<Option<Value>, Trouble> {
-    let mut twin = Twin { engine: model.twin.engine.clone(), known: model.twin.known.clone() };
-    let mut begun = false;
-    let mut accepted = true;
-    let mut last = 0;
+    let twin = Twin { engine: model.twin.engine.clone(), known: model.twin.known.clone() };
+    let mut reader = Reader { name: lines.name().to_string(), twin, begun: false, accepted: true, last: 0 };
     while let Some(line) = lines.next()? {
-        last = line.number;
-        let form = read_words(&line.bytes).ok().and_then(|words| line_of(&words));
-        if form.as_ref().is_some_and(|form| !is_state_form(form)) {
-            remark(&format!(
-                "{}:{}:1: this is no line of a state; a state has (objects n), (is c o) and (true p o ..) lines",
-                lines.name(),
-                line.number
-            ));
-            accepted = false;
-            continue;
-        }
-        if let Some(Form::Objects(_)) = form {
-            tell_second_state(begun, lines.name(), line.number);
-            begun = true;
-        }
-        if let Answer::Refused { .. } = answer(&mut twin.engine, &line) {
-            accepted = false;
-            tell_refused(&twin, lines.name(), &line.bytes, line.number, line.ended)?;
-        } else if line.ended {
-            // what the engine took is kept for the reason of a later line
-            let _ = twin.known.take(&line.bytes);
-        }
+        reader.take(&line)?;
     }
-    if !accepted {
-        return Ok(None);
-    }
-    match twin.engine.value_in_hand() {
-        Ok(value) => Ok(Some(value)),
-        Err(_) => tell_refused(&twin, lines.name(), b"(value)", last, true).map(|()| None),
-    }
+    reader.value()
 }
 
-fn is_state_form(form: &Form) -> bool {
-    matches!(form, Form::Objects(_) | Form::Is(..) | Form::True(..))
+/// A state while it is read.
+struct Reader {
+    name: String,
+    twin: Twin,
+    /// Whether an (objects n) was there.
+    begun: bool,
+    accepted: bool,
+    /// The number of the last line.
+    last: u64,
 }
 
-fn tell_second_state(begun: bool, name: &str, line: u64) {
-    if begun {
-        message(&format!("{name}:{line}: a second (objects n) begins the state anew; what stands before it does not count"));
+impl Reader {
+    fn take(&mut self, line: &Line) -> Result<(), Trouble> {
+        self.last = line.number;
+        match read_words(&line.bytes).ok().and_then(|words| line_of(&words)) {
+            Some(Form::Objects(_)) => self.begin(line.number),
+            Some(Form::Is(..) | Form::True(..)) | None => {}
+            Some(_) => {
+                self.accepted = false;
+                let lines = "a state has (objects n), (is c o) and (true p o ..) lines";
+                remark(&format!("{}:{}:1: this is no line of a state; {lines}", self.name, line.number));
+                return Ok(());
+            }
+        }
+        if let Answer::Refused { .. } = answer(&mut self.twin.engine, line) {
+            return self.tell_refused(&line.bytes, line.ended);
+        }
+        // what the engine took is kept for the reason of a later line
+        let _ = self.twin.known.take(&line.bytes);
+        Ok(())
     }
-}
 
-fn tell_refused(twin: &Twin, name: &str, line: &[u8], number: u64, ended: bool) -> Result<(), Trouble> {
-    let fault = explain(&twin.known, line, ended);
-    let fault = fault.ok_or_else(|| {
-        Trouble(format!("{name}:{number}: the proved library refuses the line, and the independent implementation does not"))
-    })?;
-    remark(&told(name, number, &fault));
-    Ok(())
+    fn begin(&mut self, number: u64) {
+        if self.begun {
+            message(&format!("{}:{number}: a second (objects n) begins the state anew; what stands before it does not count", self.name));
+        }
+        self.begun = true;
+    }
+
+    fn tell_refused(&mut self, line: &[u8], ended: bool) -> Result<(), Trouble> {
+        self.accepted = false;
+        let fault = explain(&self.twin.known, line, ended).ok_or_else(|| {
+            let place = format!("{}:{}", self.name, self.last);
+            Trouble(format!("{place}: the proved library refuses the line, and the independent implementation does not"))
+        })?;
+        remark(&told(&self.name, self.last, &fault));
+        Ok(())
+    }
+
+    fn value(mut self) -> Result<Option<Value>, Trouble> {
+        if !self.accepted {
+            return Ok(None);
+        }
+        match self.twin.engine.value_in_hand() {
+            Ok(value) => Ok(Some(value)),
+            Err(_) => self.tell_refused(b"(value)", true).map(|()| None),
+        }
+    }
 }
