@@ -1,4 +1,5 @@
-//! yindolve-desk: the value engine for people. The numbers come from the proved library; reasons, pictures and pages are made here, and nothing proved rests on them.
+//! yindolve-desk: the value engine for people. The numbers come from the proved library; reasons, pictures and pages are made here, and
+//! nothing proved rests on them.
 
 mod arguments;
 mod commands;

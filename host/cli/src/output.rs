@@ -32,7 +32,7 @@ impl Out {
     }
 
     /// Writes to a file, or to standard output where none is named.
-    pub fn to_file(&mut self, file: Option<&OsStr>, bytes: &[u8]) -> Result<(), Trouble> {
+    pub fn write_to(&mut self, file: Option<&OsStr>, bytes: &[u8]) -> Result<(), Trouble> {
         match file {
             Some(file) => write_file(file, bytes),
             None => self.bytes(bytes),
@@ -64,6 +64,20 @@ pub fn apart_from(output: Option<&OsStr>, inputs: &[&OsStr]) -> Result<(), Troub
             Err(Trouble(format!("{} is read here, and writing to it would lose it; name another file behind -o", output.to_string_lossy())))
         }
         false => Ok(()),
+    }
+}
+
+/// Trouble where the file could not be written; what stands there stays.
+pub fn try_file(file: &OsStr) -> Result<(), Trouble> {
+    let path = Path::new(file);
+    let trouble = |error: io::Error| Trouble::writing(&path.display().to_string(), &error);
+    match std::fs::metadata(path) {
+        Ok(there) if there.is_dir() => Err(trouble(io::ErrorKind::IsADirectory.into())),
+        Ok(there) if !there.is_file() => Ok(()),
+        _ => {
+            let beside = beside(path);
+            std::fs::File::create(&beside).and_then(|_| std::fs::remove_file(&beside)).map_err(trouble)
+        }
     }
 }
 

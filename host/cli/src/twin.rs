@@ -83,3 +83,23 @@ pub fn reason(fault: &Fault) -> String {
     let word = yindolve::Refusal::from_number(number).map_or("refused", yindolve::Refusal::word);
     format!("{word} ({number}): {}; {}", fault.what, fault.advice)
 }
+
+#[cfg(test)]
+mod tests {
+    use super::*;
+
+    fn line(number: u64, bytes: &[u8]) -> Line {
+        Line { number, bytes: bytes.to_vec(), ended: true }
+    }
+
+    #[test]
+    fn a_disagreement_is_trouble() {
+        let mut twin = Twin::open();
+        assert!(twin.line(&line(1, b"(constant hub)")).unwrap().is_none());
+        twin.known.take(b"(constant shop)").unwrap();
+        let Err(Trouble(what)) = twin.line(&line(2, b"(constant shop)")) else {
+            panic!("the two agree");
+        };
+        assert!(what.contains("disagree at line 2, (constant shop)"), "{what}");
+    }
+}

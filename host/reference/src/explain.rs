@@ -1,5 +1,5 @@
-//! Why a line is refused, for people: the bytes at fault, what was found there, and what to do. The answers are given by the other modules; a line is looked at
-//! again here, check by check in document 01's order, so that what is told can be held against the answer.
+//! Why a line is refused, for people: the bytes at fault, what was found there, and what to do. The answers are given by the other
+//! modules; a line is looked at again here, check by check in document 01's order, so that what is told can be held against the answer.
 
 mod backup;
 mod form;

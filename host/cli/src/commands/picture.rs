@@ -48,7 +48,7 @@ pub fn picture(arguments: &Arguments, out: &mut Out) -> Outcome {
     let names = Names { declarations: model.twin.known.declarations(), parameters: &[] };
     let figure = Figure { diagram: &shown.diagram, names, steps: shown.steps, scale: shown.scale };
     let drawn = if as_dot { dot(&figure) } else { svg(&figure) };
-    out.to_file(arguments.word("--output"), drawn.as_bytes())?;
+    out.write_to(arguments.word("--output"), drawn.as_bytes())?;
     Ok(Verdict::refused_if(stopped))
 }
 

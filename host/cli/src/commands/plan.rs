@@ -3,7 +3,7 @@
 use crate::arguments::Arguments;
 use crate::input::Text;
 use crate::model::load;
-use crate::output::{apart_from, write_file, Out};
+use crate::output::{apart_from, try_file, write_file, Out};
 use crate::planning::{Plan, Planner, Progress, Step};
 use crate::table::Table;
 use crate::trouble::{message, remark, Outcome, Trouble, Verdict};
@@ -24,9 +24,12 @@ pub fn plan(arguments: &Arguments, out: &mut Out) -> Outcome {
         apart_from(Some(save_to), &[file])?;
     }
     // a file that cannot be written is told before the work
-    write_file(save_to, &model.twin.engine.save())?;
+    try_file(save_to)?;
     let mut watch = |progress: Progress| watch(progress, save_to);
     let planned = Planner { steps, uncut: arguments.has("--uncut"), watch: &mut watch }.plan(&mut model)?;
+    if planned.steps.len() == 1 {
+        write_file(save_to, &model.twin.engine.save())?;
+    }
     out.text(&table(&planned).print())?;
     notes(&planned, out)?;
     let k = model.twin.engine.steps();

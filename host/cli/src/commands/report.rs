@@ -25,12 +25,14 @@ const STEPS: u64 = 3;
 const FIT_ROWS: usize = 100;
 
 const STYLE: &str = "\
-body{font-family:Helvetica,Arial,sans-serif;color:#1c1c1c;background:#fff;max-width:1100px;margin:2em auto;padding:0 1.5em;line-height:1.45}\
+body{font-family:Helvetica,Arial,sans-serif;color:#1c1c1c;background:#fff;max-width:1100px;margin:2em auto;padding:0 1.5em}\
+body{line-height:1.45}\
 h1{font-size:1.6em;margin-bottom:.1em}h2{font-size:1.2em;margin-top:2em;border-bottom:1px solid #ccd5df;padding-bottom:.2em}\
 pre{background:#f5f7fa;padding:.8em 1em;overflow-x:auto;font-size:13px;line-height:1.5;border-radius:4px}\
 table{border-collapse:collapse;margin:.8em 0}th,td{padding:.25em .8em;border-bottom:1px solid #e3e9f0;text-align:right;vertical-align:top}\
 th{background:#f5f7fa}th:first-child,td:first-child{text-align:left}td.words,th.words{text-align:left}td code{white-space:nowrap}\
-.picture{overflow:auto;border:1px solid #e3e9f0;border-radius:4px;max-height:1200px}.fit svg{max-width:100%;height:auto}.note{background:#fff6e0;padding:.6em 1em;border-radius:4px}\
+.picture{overflow:auto;border:1px solid #e3e9f0;border-radius:4px;max-height:1200px}.fit svg{max-width:100%;height:auto}\
+.note{background:#fff6e0;padding:.6em 1em;border-radius:4px}\
 .about{color:#5a6570}li{margin:.15em 0}";
 
 pub fn report(arguments: &Arguments, out: &mut Out) -> Outcome {
@@ -47,7 +49,7 @@ pub fn report(arguments: &Arguments, out: &mut Out) -> Outcome {
     // a made state that has more objects than can be valued is none to show
     samples.extend(made(&model).into_iter().map(|sample| valued(&model, sample)).filter(|(_, value)| value.is_some()));
     let page = page(&model, &plan, steps, &samples);
-    out.to_file(arguments.word("--output"), page.as_bytes())?;
+    out.write_to(arguments.word("--output"), page.as_bytes())?;
     if let (Some(fault), true) = (&plan.stop, arguments.has("--steps")) {
         message(&format!("the report ends after {} of {steps} steps: {}", model.twin.engine.steps(), reason(fault)));
     }
@@ -90,7 +92,8 @@ fn page(model: &Loaded, plan: &Plan, steps: u64, samples: &[(Sample, Option<Valu
     let name = escaped(&file);
     let k = model.twin.engine.steps();
     let mut page = format!(
-        "<!DOCTYPE html>\n<html lang=\"en\">\n<head>\n<meta charset=\"utf-8\">\n<meta name=\"viewport\" content=\"width=device-width, initial-scale=1\">\n\
+        "<!DOCTYPE html>\n<html lang=\"en\">\n<head>\n<meta charset=\"utf-8\">\n\
+         <meta name=\"viewport\" content=\"width=device-width, initial-scale=1\">\n\
          <title>{name}: a model and its values</title>\n<style>{STYLE}</style>\n</head>\n<body>\n<h1>{name}</h1>\n\
          <p class=\"about\">A model and its value diagram, {} ahead, by yindolve-desk {}. The numbers come from the proved library.</p>\n",
         counted(k as usize, "step"),
@@ -141,7 +144,8 @@ fn growth_part(plan: &Plan, steps: u64) -> String {
         format!("<p class=\"note\">{done} of {steps} steps were done; the next one is refused. {}</p>\n", escaped(&reason(fault)))
     });
     format!(
-        "{}<table>\n<tr><th>step</th><th>rows after the backup</th><th>cuts</th><th>rows left</th><th>variables</th><th>paths</th></tr>\n{rows}</table>\n{}",
+        "{}<table>\n<tr><th>step</th><th>rows after the backup</th><th>cuts</th><th>rows left</th><th>variables</th><th>paths</th></tr>\n\
+         {rows}</table>\n{}",
         plot(&growth),
         stop.unwrap_or_default()
     )
@@ -165,7 +169,8 @@ fn cuts_part(plan: &Plan) -> String {
     if rows.is_empty() {
         text += "<p>Nothing was cut.</p>\n";
     } else {
-        text += &format!("<table>\n<tr><th>after step</th><th>cuts</th><th class=\"words\">row, edge, and the rows left, in turn</th></tr>\n{rows}</table>\n");
+        let heads = "<th>after step</th><th>cuts</th><th class=\"words\">row, edge, and the rows left, in turn</th>";
+        text += &format!("<table>\n<tr>{heads}</tr>\n{rows}</table>\n");
     }
     for fault in plan.steps.iter().filter_map(|step| step.uncut.as_ref()) {
         text += &format!("<p class=\"note\">Not all was cut. {}</p>\n", escaped(&reason(fault)));
@@ -191,8 +196,8 @@ fn diagram_part(model: &Loaded) -> String {
     // a large picture keeps its size and is scrolled
     let fit = if value.rows().len() <= FIT_ROWS { " fit" } else { "" };
     format!(
-        "<p>From the root down: a solid line where the test is true, a dashed one where it is not. Objects for ?v0, ?v1, .. are chosen so that the leaf is \
-         highest; that leaf divided by {} is the state's value.</p>\n<div class=\"picture{fit}\">\n{}</div>\n",
+        "<p>From the root down: a solid line where the test is true, a dashed one where it is not. Objects for ?v0, ?v1, .. are chosen so \
+         that the leaf is highest; that leaf divided by {} is the state's value.</p>\n<div class=\"picture{fit}\">\n{}</div>\n",
         engine.scale(),
         svg(&figure)
     )

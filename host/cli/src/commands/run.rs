@@ -52,7 +52,11 @@ impl<R: BufRead> Running<R> {
     fn tell_refused(&self) {
         let name = self.lines.name();
         if self.in_model > 0 && self.engine.is_started() {
-            message(&format!("{name}: {} refused before (start), so the values are those of a model other than the one written; yindolve-desk explain tells why", lines_are(self.in_model)));
+            let refused = lines_are(self.in_model);
+            message(&format!(
+                "{name}: {refused} refused before (start), so the values are those of a model other than the one written; \
+                 yindolve-desk explain tells why"
+            ));
         }
     }
 }

@@ -24,7 +24,9 @@ pub fn plot(steps: &[Growth]) -> String {
     let mark = mark_for(most);
     let top = most.div_ceil(mark) * mark;
     let y = |rows: usize| HEIGHT - BOTTOM - rows as f64 / top as f64 * (HEIGHT - TOP - BOTTOM);
-    let mut text = format!("<svg xmlns=\"http://www.w3.org/2000/svg\" class=\"yp\" role=\"img\" width=\"{WIDTH}\" height=\"{HEIGHT}\" viewBox=\"0 0 {WIDTH} {HEIGHT}\">\n<title>Rows of the value diagram by step</title>\n<style>{STYLE}</style>\n");
+    let size = format!("width=\"{WIDTH}\" height=\"{HEIGHT}\" viewBox=\"0 0 {WIDTH} {HEIGHT}\"");
+    let mut text = format!("<svg xmlns=\"http://www.w3.org/2000/svg\" class=\"yp\" role=\"img\" {size}>\n");
+    text += &format!("<title>Rows of the value diagram by step</title>\n<style>{STYLE}</style>\n");
     for rows in (0..=top).step_by(mark) {
         let at = y(rows);
         text += &format!(

@@ -27,9 +27,8 @@ pub fn svg(figure: &Figure) -> String {
     let layout = layout(figure.diagram, &widths, tallest as f64 * LINE + 10.0);
     let (width, height) = (layout.width.max(LEGEND_WIDTH) + 2.0 * MARGIN, layout.height() + TITLE_HEIGHT + LEGEND_HEIGHT + 2.0 * MARGIN);
     let left = MARGIN + (layout.width.max(LEGEND_WIDTH) - layout.width) / 2.0;
-    let mut text = format!(
-        "<svg xmlns=\"http://www.w3.org/2000/svg\" class=\"yd\" role=\"img\" width=\"{width:.0}\" height=\"{height:.0}\" viewBox=\"0 0 {width:.0} {height:.0}\">\n"
-    );
+    let size = format!("width=\"{width:.0}\" height=\"{height:.0}\" viewBox=\"0 0 {width:.0} {height:.0}\"");
+    let mut text = format!("<svg xmlns=\"http://www.w3.org/2000/svg\" class=\"yd\" role=\"img\" {size}>\n");
     let title = escaped(&figure.title());
     text += &format!("<title>{title}</title>\n<style>{STYLE}</style>\n<rect width=\"100%\" height=\"100%\" fill=\"#ffffff\"/>\n");
     text += &format!("<text class=\"title left\" x=\"{MARGIN}\" y=\"{:.0}\">{title}</text>\n", MARGIN + 14.0);

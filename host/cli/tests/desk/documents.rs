@@ -1,5 +1,5 @@
-//! The documents: every transcript of docs/DESK.md, the quarter of sixty branches, and the manual page. With YINDOLVE_DESK_DOCS=write the transcripts and the
-//! quarter's answers are written anew.
+//! The documents: every transcript of docs/DESK.md, the quarter of sixty branches, and the manual page. With YINDOLVE_DESK_DOCS=write the
+//! transcripts and the quarter's answers are written anew.
 
 use crate::common::{folder, root, PROGRAM};
 use std::path::Path;

@@ -38,8 +38,9 @@ fn rows_names_scaled_leaves_and_a_legend() {
         assert!(svg.contains(part), "{part}");
     }
     for row in 0..6 {
-        assert!(svg.contains(&format!("class=\"row left\" x=")) && svg.contains(&format!(">{row}</text>")), "row {row}");
+        assert!(svg.contains(&format!(">{row}</text>")), "row {row}");
     }
+    assert_eq!(svg.matches("class=\"row left\"").count(), 6);
     assert_eq!(svg.matches("<rect class=\"leaf\"").count() + svg.matches("<rect class=\"test\"").count(), 6);
     let cut = desk(&["picture", &example("sample.txt"), "--step", "1"]).out;
     assert!(cut.contains("1 step ahead: 5 rows"), "{cut}");

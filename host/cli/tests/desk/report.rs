@@ -85,7 +85,13 @@ fn a_browser_shows_it() {
     let shown = |arguments: &[&str]| {
         let profile = format!("--user-data-dir={}", here.join("profile").display());
         let fixed = ["--headless", "--no-sandbox", "--disable-gpu", "--disable-dev-shm-usage", "--hide-scrollbars", &profile];
-        let output = Command::new(browser).args(fixed).args(arguments).arg(format!("file://{page}")).stderr(Stdio::null()).output();
+        let output = Command::new("timeout")
+            .args(["60", browser])
+            .args(fixed)
+            .args(arguments)
+            .arg(format!("file://{page}"))
+            .stderr(Stdio::null())
+            .output();
         output.expect("the browser runs").stdout
     };
     let picture = here.join("page.png");

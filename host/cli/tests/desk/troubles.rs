@@ -93,6 +93,22 @@ fn a_file_is_replaced_whole() {
     assert_eq!(std::fs::read_dir(&here).expect("a folder").count(), 1);
 }
 
+/// The plan of the last quarter stays until a step of this one is done.
+#[test]
+fn a_plan_that_is_refused_at_once() {
+    let here = folder("refused_at_once");
+    let plan = here.join("plan").display().to_string();
+    let model =
+        file(&here, "model.txt", "(total 1000000)\n(discount 1 1000000)\n(reward 1)\n(action wait)\n(variant only 1000000)\n(start)\n");
+    assert_eq!(desk(&["plan", &model, "--steps", "0", "-o", &plan]).status, 0);
+    assert!(std::fs::read_to_string(&plan).expect("a plan").contains("\nvalue 0 1\n"));
+    assert_eq!(desk(&["plan", &model, "--steps", "1", "-o", &plan]).status, 0);
+    let ended = desk(&["plan", &plan, "--steps", "1", "-o", &plan]);
+    assert_eq!(ended.status, 1);
+    assert!(std::fs::read_to_string(&plan).expect("a plan").contains("\nvalue 1 1\n"));
+    assert_eq!(std::fs::read_dir(&here).expect("a folder").count(), 2);
+}
+
 /// No file that is read is written over, but a plan that goes on.
 #[test]
 fn inputs_are_not_lost() {

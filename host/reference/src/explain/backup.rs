@@ -24,8 +24,14 @@ pub fn refused_backup(run: &Run, declared: &Declarations, span: Span) -> Option<
 /// What the guide says about a refused backup.
 fn advice(refusal: Refusal) -> &'static str {
     match refusal {
-        Refusal::Variables => "cut after every backup until 16; take fewer variants and fewer parameters, since each variant brings a copy of the diagram's variables",
-        Refusal::Space => "cut after every backup until 16; take fewer variants, fewer parameters (an action for each of a few known places) and predicates of fewer places; try another order of the predicates",
+        Refusal::Variables => {
+            "cut after every backup until 16; take fewer variants and fewer parameters, since each variant brings a copy of the \
+             diagram's variables"
+        }
+        Refusal::Space => {
+            "cut after every backup until 16; take fewer variants, fewer parameters (an action for each of a few known places) and \
+             predicates of fewer places; try another order of the predicates"
+        }
         Refusal::Pairs => "cut after every backup until 16; take fewer variants and fewer parameters",
         Refusal::Value => "take a smaller reward, total or discount divisor: leaves reach about k * S^k * reward",
         _ => "take a smaller total or discount divisor: each backup multiplies the scale by S = total * divisor",

@@ -24,9 +24,7 @@ pub fn flawed(line: &[u8], flawed: Flawed) -> Fault {
     let (from, to) = flawed.span;
     let bytes = &line[from..to];
     let (what, advice) = match flawed.flaw {
-        Flaw::LineBytes => {
-            (format!("the line has {} bytes; at most {LINE_BYTES}", line.len()), "use shorter names or a smaller diagram".into())
-        }
+        Flaw::LineBytes => (format!("the line has more than {LINE_BYTES} bytes"), "use shorter names or a smaller diagram".into()),
         Flaw::OpenBrackets => (
             format!("this bracket is number {} of those open together; at most {OPEN_BRACKETS}", OPEN_BRACKETS + 1),
             "nest fewer conditions".into(),

@@ -1,4 +1,5 @@
-//! What a line's own operation refuses: a diagram's 8, 10, 9, 7, full declarations (9), the sums of weights at (start), and what a run form does.
+//! What a line's own operation refuses: a diagram's 8, 10, 9, 7, full declarations (9), the sums of weights at (start), and what a run
+//! form does.
 
 use super::{backup, counted, grouped, measure, unless_fault, Checked, Fault};
 use crate::combine::{combine, Names, Operator};
