@@ -122,6 +122,16 @@ installed() {
     "$prefix/bin/yindolve" <../examples/sample.txt | cmp - ../examples/sample.out
 }
 
+# README's five lines, but for the two that install, print what README says.
+readme() {
+    local block='/^## The wholesaler/ { on = 1 } on && /^```/ { n++; next } on && n == wanted' lines said
+    lines=$(awk -v wanted=1 "$block" ../README.md | grep -v '^./install.sh\|^export')
+    said=$(awk -v wanted=3 "$block" ../README.md | grep -v '^\.\.$')
+    rm -rf target/readme && mkdir target/readme && ln -s ../../../examples target/readme/examples
+    (cd target/readme && PATH=$PWD/../prefix/bin:$PATH bash -ec "$lines" 2>../readme.log | grep '^[0-9a-z]*  ') >target/readme/said
+    prints "$said" cat target/readme/said
+}
+
 # What docs/REFERENCE.md says of the program: status 0 for refusals, for a full disk and for a directory; the end by a signal where the pipe is closed.
 program_at_its_ends() {
     local status
@@ -169,7 +179,10 @@ if [ -n "$program" ] && [ -x "$program" ]; then
     step target/release/tests program "$program" seconds "$seconds"
     step target/release/tests bellman "$program" seconds "$((seconds / 2))"
     step program_at_its_ends
-    if [ -f ../target/bin/yindolve ] && [ -f ../target/staticlib/libc_library.a ]; then step installed; fi
+    if [ -f ../target/bin/yindolve ] && [ -f ../target/staticlib/libc_library.a ]; then
+        step installed
+        step readme
+    fi
 else
     echo "no program${program:+ at $program}: its texts are left out"
 fi
