@@ -11,16 +11,16 @@ fn quoted(text: &str) -> String {
 
 /// True edges are solid, false edges dashed; leaves are boxes; leaf 0 and what leads to it is faint.
 pub fn dot(figure: &Figure) -> String {
-    let legend = format!("{}\\nnumber: row; solid: true; dashed: false; {}", quoted(&figure.title()), quoted(&figure.leaf_legend()));
+    let legend = format!("{}\\n#: row; solid: true; dashed: false; {}", quoted(&figure.title()), quoted(&figure.leaf_legend()));
     let mut text =
         format!("digraph value {{\n  label=\"{legend}\";\n  labelloc=b;\n  fontname=\"Helvetica\";\n  node [fontname=\"Helvetica\"];\n");
     for (number, row) in figure.diagram.rows().iter().enumerate().rev() {
         let lines = figure.lines(*row).iter().map(|line| quoted(line)).collect::<Vec<String>>().join("\\n");
         let faint = if figure.is_zero(number) { format!(", color=\"{FAINT}\", fontcolor=\"{FAINT}\"") } else { String::new() };
         match row {
-            Row::Leaf(_) => text += &format!("  r{number} [shape=box, label=\"{lines}\", xlabel=\"{number}\"{faint}];\n"),
+            Row::Leaf(_) => text += &format!("  r{number} [shape=box, label=\"#{number}\\n{lines}\"{faint}];\n"),
             Row::Branch { yes, no, .. } => {
-                text += &format!("  r{number} [shape=ellipse, label=\"{lines}\", xlabel=\"{number}\"];\n");
+                text += &format!("  r{number} [shape=ellipse, label=\"#{number}\\n{lines}\"];\n");
                 text += &edge(figure, number, *yes, "solid");
                 text += &edge(figure, number, *no, "dashed");
             }
