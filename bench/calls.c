@@ -15,7 +15,7 @@ int main(void) {
     assert(yindolve_check(arities, 32, reward, 9) == 0 && yindolve_check(arities, 32, reward, 8) == YINDOLVE_LISTING);
     assert(yindolve_sum_shared(arities, 32, reward, 9, reward, 9, result, 3072, work, 6144, &rows, &pairs) == 0);
     assert(yindolve_sum_apart(arities, 32, reward, 9, reward, 9, result, 3071, work, 6144, &rows, &pairs) == YINDOLVE_BUFFER);
-    assert(yindolve_free(arities, 32, reward, 9, 5, result, 3072, work, 6144, &rows) == YINDOLVE_RANGE);
+    assert(yindolve_free_parameters(arities, 32, reward, 9, 5, result, 3072, work, 6144, &rows) == YINDOLVE_RANGE);
     assert(yindolve_value(arities, 32, result, rows * 3, 2, constants, 16, fact, 5, &value) == 0);
     assert(yindolve_regress(arities, 32, reward, 9, turned, 9, spans, 64, result, 3072, work, 6144, &regressed) == 0);
     assert(regressed == 3 && result[1] == 0 && result[4] == 10 && result[6] == stock_hub);

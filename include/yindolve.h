@@ -1,9 +1,19 @@
-/* Yindolve, a value engine on first-order decision diagrams: the functions of the static library, for C.
+/* Yindolve, a value engine on first-order decision diagrams: the functions of the static library, for C and C++.
  *
- * Memory. The library owns none: the caller lends every word, 64 bits each, as a pointer and a count of words. A pointer is to as many words as its count says and
- * is not null, also where the count is 0; what a call writes to (result, work, rows, pairs, row, edge, value) overlaps nothing else that the call is lent. Nothing
- * else is asked of the words: any are taken, and those that are not what they should be are refused. Only yindolve_line asks more: a session's words are as the
- * library left them.
+ * Build and link, from a checkout (`rt staticlib c_library` builds the library) and from where `install.sh PREFIX` put it:
+ *     cc -Iinclude -o program program.c target/staticlib/libc_library.a
+ *     cc -o program program.c $(PKG_CONFIG_PATH=PREFIX/lib/pkgconfig pkg-config --cflags --libs yindolve)
+ * examples/value.c, examples/session.c and examples/save.c are whole programs. Linux on x86-64.
+ *
+ * Where to begin. A desk's program opens a session (yindolve_session_open), gives it the lines of a model and of a state (yindolve_session_ask) and reads the
+ * answers as structs. docs/REFERENCE.md says what lines there are, what each answers, and what to do about each refusal. The other functions work on single
+ * diagrams.
+ *
+ * Memory. The library owns none: the caller lends every word, 64 bits each, as a pointer and a count of words. A pointer is to as many words as its count says
+ * and, for the functions that are not inline, is not null, also where the count is 0 (YINDOLVE_NO_WORDS stands for such a pointer and its 0); what a call writes
+ * to (result, work, rows, pairs, row, edge, value) overlaps nothing else that the call is lent. The inline functions take null where the count is 0, and answer
+ * BUFFER for null with a higher count. Nothing else is asked of the words: any are taken, and those that are not what they should be are refused. Only
+ * yindolve_line asks more: a session's words are as the library left them.
  *
  * Listings. A row is three words: a leaf is YINDOLVE_LEAF, its value, 0; a branch is its label, true row, false row. A label is predicate * 2^24 + t1 * 2^18 +
  * t2 * 2^12 + t3 * 2^6 + t4, unused places 0. Terms: constants 0 to 15, parameters 16 to 19, variables 32 to 63. Predicate 0 is equality, its smaller term
@@ -11,21 +21,30 @@
  * YINDOLVE_ARITIES arities, the first of them 2, each at most 4.
  *
  * Answers. Each function answers 0, or the number of the refusal. After a refusal the result buffer and what the other pointers are to, the working space
- * apart, are as they were. Words of the result buffer behind a result stay. The working space may hold anything before a call and holds nothing of use after it.
+ * apart, are as they were (yindolve_run says what it leaves). Words of the result buffer behind a result stay. The working space may hold anything before a call
+ * and holds nothing of use after it.
  *
  * Stack and threads. A call uses less than a megabyte of stack. The library has no memory of its own, so calls on different memory may run at the same time.
  *
- * Each function is proved to answer and to write what document 01 says, on all words.
+ * Proofs. Each function that is not inline is proved to answer and to write what its definition says, on all words (yindolve_line: on the words of a session). The
+ * inline functions are plain C around them.
  */
 #ifndef YINDOLVE_H
 #define YINDOLVE_H
 
 #include <stddef.h>
 #include <stdint.h>
+#include <string.h>
 
 #ifdef __cplusplus
 extern "C" {
 #endif
+
+/* The version of this header and of its library. */
+#define YINDOLVE_VERSION_MAJOR 0
+#define YINDOLVE_VERSION_MINOR 1
+#define YINDOLVE_VERSION_PATCH 0
+#define YINDOLVE_VERSION "0.1.0"
 
 /* The first word of a leaf's row, and the highest value of a leaf. */
 #define YINDOLVE_LEAF UINT64_C(4294967295)
@@ -51,21 +70,84 @@ extern "C" {
 #define YINDOLVE_SESSION_WORK_WORDS 8190 /* a session's working space, at least */
 #define YINDOLVE_ANSWER_BYTES 92160      /* the answer of a line: 90 bytes for each of 1,024 rows */
 
-/* The refusals that library calls answer. */
+/* The refusals. Calls on diagrams answer 4, 6 to 11 and 14 to 18; lines of a text 1 to 13 and 15 to 17. Later versions add numbers from 19 on. */
 enum {
-    YINDOLVE_RANGE = 4,       /* a state without objects or with an object beyond them; more than 4 parameters */
+    YINDOLVE_FORM = 1,        /* a line that is not of the grammar */
+    YINDOLVE_NAME = 2,        /* a name that is not declared, or given twice */
+    YINDOLVE_ARITY = 3,       /* not as many terms or objects as the predicate has places */
+    YINDOLVE_RANGE = 4,       /* a number outside its range; a state without objects or with an object beyond them; more than 4 parameters */
+    YINDOLVE_PLACE = 5,       /* a line in the wrong part of the text, a missing part, a second single form, a constant that is not placed */
     YINDOLVE_UNBOUND = 6,     /* a parameter where none is allowed, or past the action's; a truth diagram's variable that is no argument */
     YINDOLVE_TRUTH = 7,       /* a truth diagram's leaf above 1 */
     YINDOLVE_VARIABLES = 8,   /* more than 32 variables, or a variable past 63 */
-    YINDOLVE_SPACE = 9,       /* more than 2,048 rows formed, or a result of more than 1,024 */
+    YINDOLVE_SPACE = 9,       /* more than 2,048 rows formed, or a result of more than 1,024; more facts or declarations than there is room for */
     YINDOLVE_PAIRS = 10,      /* more than 4,096 pairs */
-    YINDOLVE_TOO_HIGH = 11,   /* a leaf above YINDOLVE_VALUE */
+    YINDOLVE_TOO_HIGH = 11,   /* a leaf above YINDOLVE_VALUE; its trade word is "value" */
+    YINDOLVE_SCALE = 12,      /* a power of the scale above 10^18, or 10^18 backups */
+    YINDOLVE_WEIGHTS = 13,    /* an action's weights, summed, are not the total in every case */
     YINDOLVE_LISTING = 14,    /* words that are no listing, or a wrong arity list */
     YINDOLVE_VALUATIONS = 15, /* more than 1,000,000 valuations */
     YINDOLVE_NOTHING = 16,    /* no edge to cut */
     YINDOLVE_PATHS = 17,      /* more than 256 paths */
     YINDOLVE_BUFFER = 18      /* a result buffer or a working space that is too small */
 };
+
+/* The trade word of a refusal; "accepted" for 0, and "unknown" for a number that this version does not have. */
+static inline const char *yindolve_refusal_word(uint64_t refusal) {
+    switch (refusal) {
+    case 0: return "accepted";
+    case YINDOLVE_FORM: return "form";
+    case YINDOLVE_NAME: return "name";
+    case YINDOLVE_ARITY: return "arity";
+    case YINDOLVE_RANGE: return "range";
+    case YINDOLVE_PLACE: return "place";
+    case YINDOLVE_UNBOUND: return "unbound";
+    case YINDOLVE_TRUTH: return "truth";
+    case YINDOLVE_VARIABLES: return "variables";
+    case YINDOLVE_SPACE: return "space";
+    case YINDOLVE_PAIRS: return "pairs";
+    case YINDOLVE_TOO_HIGH: return "value";
+    case YINDOLVE_SCALE: return "scale";
+    case YINDOLVE_WEIGHTS: return "weights";
+    case YINDOLVE_LISTING: return "listing";
+    case YINDOLVE_VALUATIONS: return "valuations";
+    case YINDOLVE_NOTHING: return "nothing";
+    case YINDOLVE_PATHS: return "paths";
+    case YINDOLVE_BUFFER: return "buffer";
+    default: return "unknown";
+    }
+}
+
+/* What a refusal means, in one sentence. */
+static inline const char *yindolve_refusal_meaning(uint64_t refusal) {
+    switch (refusal) {
+    case 0: return "nothing is refused";
+    case YINDOLVE_FORM: return "the line is not of the grammar: brackets, spaces, the count or the kind of its words";
+    case YINDOLVE_NAME: return "a name that is not declared on an earlier accepted line, or one that is given twice";
+    case YINDOLVE_ARITY: return "not as many terms or objects as the predicate has places";
+    case YINDOLVE_RANGE: return "a number outside its range, or an object that is not there";
+    case YINDOLVE_PLACE: return "the line stands in the wrong part of the text, a part is missing, or a constant is not placed";
+    case YINDOLVE_UNBOUND: return "a variable or a parameter that is not allowed here";
+    case YINDOLVE_TRUTH: return "a diagram that says what becomes true has a number above 1";
+    case YINDOLVE_VARIABLES: return "more than 32 variables";
+    case YINDOLVE_SPACE: return "more rows, facts or declarations than there is room for";
+    case YINDOLVE_PAIRS: return "more than 4,096 pairs of rows in one combination";
+    case YINDOLVE_TOO_HIGH: return "a number above 10^18 was worked out";
+    case YINDOLVE_SCALE: return "the scale, the power of total times discount divisor, would pass 10^18";
+    case YINDOLVE_WEIGHTS: return "an action's weights, summed, are not the total in every case";
+    case YINDOLVE_LISTING: return "the words are no listing, or the arity list is wrong";
+    case YINDOLVE_VALUATIONS: return "more than 1,000,000 ways to choose objects for the variables";
+    case YINDOLVE_NOTHING: return "no edge is left to cut";
+    case YINDOLVE_PATHS: return "more than 256 paths, too many to cut";
+    case YINDOLVE_BUFFER: return "a result buffer or a working space that is too small";
+    default: return "a refusal that this version does not have";
+    }
+}
+
+/* A pointer and a count for no words, or for no bytes: yindolve_regress(.., YINDOLVE_NO_WORDS, spans, ..). */
+static const uint64_t yindolve_no_words[1] = {0};
+#define YINDOLVE_NO_WORDS yindolve_no_words, (size_t)0
+#define YINDOLVE_NO_BYTES (const uint8_t *)yindolve_no_words, (size_t)0
 
 /* Whether the words are a listing: 0 or YINDOLVE_LISTING. */
 uint64_t yindolve_check(const uint64_t *arities, size_t arities_count, const uint64_t *words, size_t words_count);
@@ -100,16 +182,18 @@ uint64_t yindolve_max_shared(const uint64_t *arities, size_t arities_count, cons
 uint64_t yindolve_regress(const uint64_t *arities, size_t arities_count, const uint64_t *words, size_t words_count, const uint64_t *truths, size_t truths_count,
     const uint64_t *spans, size_t spans_count, uint64_t *result, size_t result_count, uint64_t *work, size_t work_count, uint64_t *rows);
 
-/* Frees the parameters of an action that has `parameters` of them: parameter 16 + i turns into variable 32 + i, and the other variables move up by that count.
+/* Turns the parameters of an action into variables (no memory is freed). The action has `parameters` of them: parameter 16 + i turns into variable 32 + i, and
+ * the other variables move up by that count.
  * Refused, in this order: LISTING; BUFFER; RANGE (more than 4 parameters); UNBOUND (a parameter past the count); VARIABLES (a variable would pass 63).
  */
-uint64_t yindolve_free(const uint64_t *arities, size_t arities_count, const uint64_t *words, size_t words_count, uint64_t parameters, uint64_t *result,
-    size_t result_count, const uint64_t *work, size_t work_count, uint64_t *rows);
+uint64_t yindolve_free_parameters(const uint64_t *arities, size_t arities_count, const uint64_t *words, size_t words_count, uint64_t parameters,
+    uint64_t *result, size_t result_count, const uint64_t *work, size_t work_count, uint64_t *rows);
 
 /* Cuts a listing: one edge goes to leaf 0, and the diagram is reduced and closed up. The result goes to `result` and its rows to *rows, the row of `words` whose
  * edge went to *row, and 1 for its true edge or 0 for its false one to *edge. An edge may go if it is not to leaf 0 yet and each path through it to a leaf above
  * 0 has a path that avoids it, with a leaf at least as high, and a replacement of that path's variables by terms of the two paths under which each of its
  * literals is one of the first path or is t = t true. The highest row goes first, its true edge before its false one.
+ * How long the search takes has no useful bound: it is short for most diagrams, and hours for some that are made to be hard.
  * Refused, in this order: LISTING; BUFFER; PATHS; NOTHING.
  */
 uint64_t yindolve_cut(const uint64_t *arities, size_t arities_count, const uint64_t *words, size_t words_count, uint64_t *result, size_t result_count,
@@ -123,7 +207,7 @@ uint64_t yindolve_cut(const uint64_t *arities, size_t arities_count, const uint6
 uint64_t yindolve_value(const uint64_t *arities, size_t arities_count, const uint64_t *words, size_t words_count, uint64_t objects, const uint64_t *constants,
     size_t constants_count, const uint64_t *facts, size_t facts_count, uint64_t *value);
 
-/* Texts. A text is bytes, its lines end with a line feed; document 01 says what lines there are and what each is answered. */
+/* Texts. A text is bytes, its lines end with a line feed; docs/REFERENCE.md says what lines there are and what each is answered. */
 
 /* Answers a whole text: the answers behind one another to `answers`, the closing one too, and their bytes to *bytes; bytes behind them stay.
  * Refused: BUFFER where the answer of a line does not fit: the answers before it are written, *bytes of them, and *lines lines are answered.
@@ -146,7 +230,150 @@ uint64_t yindolve_line(const uint8_t *line, size_t line_count, uint64_t *numbers
     size_t arities_count, uint64_t *listings, size_t listings_count, uint64_t *table, size_t table_count, uint64_t *state, size_t state_count, uint64_t *value,
     size_t value_count, uint64_t *work, size_t work_count, uint8_t *answer, size_t answer_count, uint64_t *bytes);
 
-/* A session with all its memory; about 300 KB, so that it is best static or from the heap. */
+/* ----- Inline functions ----- */
+
+/* An answer as a struct. Which fields count is said with the kinds; the others are 0, but for the count of the answer's bytes, which each kind has. */
+typedef enum {
+    YINDOLVE_ANSWER_NOTHING, /* the line is accepted and has no answer */
+    YINDOLVE_ANSWER_VALUE,   /* (value V k S^k): value, steps, scale; the value of the state is value / scale */
+    YINDOLVE_ANSWER_BACKUP,  /* (backup k rows): steps, rows */
+    YINDOLVE_ANSWER_CUT,     /* (cut row edge rows): row, edge (1 for true, 0 for false), rows */
+    YINDOLVE_ANSWER_ROWS,    /* (row ..) lines: rows; yindolve_read_rows reads them */
+    YINDOLVE_ANSWER_REFUSED, /* (refused number line): refusal, line */
+    YINDOLVE_ANSWER_UNKNOWN  /* bytes that are no answer of this version; none where no line was answered */
+} yindolve_answer_kind;
+
+typedef struct {
+    yindolve_answer_kind kind;
+    uint64_t value, steps, scale;
+    uint64_t row, edge, rows;
+    uint64_t refusal, line;
+    uint64_t bytes;
+} yindolve_answer;
+
+/* Reads a word at *at: steps over it and answers 1 if it stands there. For the functions below. */
+static inline int yindolve_take_word(const uint8_t *bytes, size_t count, size_t *at, const char *word) {
+    size_t length = strlen(word);
+    if (count - *at < length || memcmp(bytes + *at, word, length) != 0) return 0;
+    *at += length;
+    return 1;
+}
+
+/* Reads a number at *at: steps over it and answers 1 if one stands there that 64 bits hold. For the functions below. */
+static inline int yindolve_take_number(const uint8_t *bytes, size_t count, size_t *at, uint64_t *number) {
+    size_t begin = *at;
+    uint64_t n = 0;
+    for (; *at < count && '0' <= bytes[*at] && bytes[*at] <= '9'; ++*at) {
+        uint64_t digit = (uint64_t)(bytes[*at] - '0');
+        if (n > (UINT64_MAX - digit) / 10) return 0;
+        n = n * 10 + digit;
+    }
+    *number = n;
+    return *at > begin;
+}
+
+/* Reads a row line at *at into three words of a listing: steps over it and answers 1 if one stands there. */
+static inline int yindolve_take_row(const uint8_t *bytes, size_t count, size_t *at, uint64_t row[YINDOLVE_ROW_WORDS]) {
+    uint64_t number;
+    if (!yindolve_take_word(bytes, count, at, "(row ") || !yindolve_take_number(bytes, count, at, &number)) return 0;
+    if (yindolve_take_word(bytes, count, at, " leaf ")) {
+        row[0] = YINDOLVE_LEAF;
+        row[2] = 0;
+        return yindolve_take_number(bytes, count, at, &row[1]) && yindolve_take_word(bytes, count, at, ")\n");
+    }
+    return yindolve_take_word(bytes, count, at, " ") && yindolve_take_number(bytes, count, at, &row[0]) && yindolve_take_word(bytes, count, at, " ") &&
+        yindolve_take_number(bytes, count, at, &row[1]) && yindolve_take_word(bytes, count, at, " ") && yindolve_take_number(bytes, count, at, &row[2]) &&
+        yindolve_take_word(bytes, count, at, ")\n");
+}
+
+/* Reads the row lines of an answer into the words of a listing, their rows to *rows: 0; BUFFER where they do not fit; LISTING where the bytes are no rows. */
+static inline uint64_t yindolve_read_rows(const uint8_t *bytes, size_t count, uint64_t *words, size_t words_count, uint64_t *rows) {
+    size_t at = 0, n = 0;
+    uint64_t row[YINDOLVE_ROW_WORDS];
+    if ((!bytes && count) || (!words && words_count)) return YINDOLVE_BUFFER;
+    for (; at < count; ++n) {
+        if (!yindolve_take_row(bytes, count, &at, row)) return YINDOLVE_LISTING;
+        if (words_count / YINDOLVE_ROW_WORDS <= n) return YINDOLVE_BUFFER;
+        memcpy(words + n * YINDOLVE_ROW_WORDS, row, sizeof row);
+    }
+    *rows = n;
+    return n ? 0 : YINDOLVE_LISTING;
+}
+
+/* Reads the answer of one line. */
+static inline yindolve_answer yindolve_read_answer(const uint8_t *bytes, size_t count) {
+    yindolve_answer a;
+    size_t at = 0;
+    uint64_t row[YINDOLVE_ROW_WORDS];
+    int whole = 0;
+    memset(&a, 0, sizeof a);
+    if (count == 0) return a;
+    if (!bytes) {
+        a.kind = YINDOLVE_ANSWER_UNKNOWN;
+        return a;
+    }
+    a.bytes = count;
+    if (yindolve_take_word(bytes, count, &at, "(value ")) {
+        a.kind = YINDOLVE_ANSWER_VALUE;
+        whole = yindolve_take_number(bytes, count, &at, &a.value) && yindolve_take_word(bytes, count, &at, " ") &&
+            yindolve_take_number(bytes, count, &at, &a.steps) && yindolve_take_word(bytes, count, &at, " ") &&
+            yindolve_take_number(bytes, count, &at, &a.scale) && yindolve_take_word(bytes, count, &at, ")\n");
+    } else if (yindolve_take_word(bytes, count, &at, "(backup ")) {
+        a.kind = YINDOLVE_ANSWER_BACKUP;
+        whole = yindolve_take_number(bytes, count, &at, &a.steps) && yindolve_take_word(bytes, count, &at, " ") &&
+            yindolve_take_number(bytes, count, &at, &a.rows) && yindolve_take_word(bytes, count, &at, ")\n");
+    } else if (yindolve_take_word(bytes, count, &at, "(cut ")) {
+        a.kind = YINDOLVE_ANSWER_CUT;
+        whole = yindolve_take_number(bytes, count, &at, &a.row);
+        a.edge = (uint64_t)yindolve_take_word(bytes, count, &at, " true ");
+        whole = whole && (a.edge || yindolve_take_word(bytes, count, &at, " false ")) && yindolve_take_number(bytes, count, &at, &a.rows) &&
+            yindolve_take_word(bytes, count, &at, ")\n");
+    } else if (yindolve_take_word(bytes, count, &at, "(refused ")) {
+        a.kind = YINDOLVE_ANSWER_REFUSED;
+        whole = yindolve_take_number(bytes, count, &at, &a.refusal) && yindolve_take_word(bytes, count, &at, " ") &&
+            yindolve_take_number(bytes, count, &at, &a.line) && yindolve_take_word(bytes, count, &at, ")\n");
+    } else {
+        a.kind = YINDOLVE_ANSWER_ROWS;
+        whole = 1;
+        for (; whole && at < count; ++a.rows) whole = yindolve_take_row(bytes, count, &at, row);
+    }
+    if (!whole || at != count) {
+        memset(&a, 0, sizeof a);
+        a.kind = YINDOLVE_ANSWER_UNKNOWN;
+        a.bytes = count;
+    }
+    return a;
+}
+
+/* yindolve_run for pointers that may be null where their count is 0. */
+static inline uint64_t yindolve_run_text(const uint8_t *text, size_t text_count, uint8_t *answers, size_t answers_count, uint64_t *bytes, uint64_t *lines) {
+    uint8_t none[1];
+    if ((!text && text_count) || (!answers && answers_count)) return YINDOLVE_BUFFER;
+    return yindolve_run(text ? text : (const uint8_t *)yindolve_no_words, text_count, answers ? answers : none, answers_count, bytes, lines);
+}
+
+/* yindolve_value for pointers that may be null where their count is 0: no constants, no facts. */
+static inline uint64_t yindolve_value_of(const uint64_t *arities, size_t arities_count, const uint64_t *words, size_t words_count, uint64_t objects,
+    const uint64_t *constants, size_t constants_count, const uint64_t *facts, size_t facts_count, uint64_t *value) {
+    if ((!arities && arities_count) || (!words && words_count) || (!constants && constants_count) || (!facts && facts_count)) return YINDOLVE_BUFFER;
+    return yindolve_value(arities ? arities : yindolve_no_words, arities_count, words ? words : yindolve_no_words, words_count, objects,
+        constants ? constants : yindolve_no_words, constants_count, facts ? facts : yindolve_no_words, facts_count, value);
+}
+
+/* yindolve_regress for pointers that may be null where their count is 0: no truth diagrams. */
+static inline uint64_t yindolve_regress_under(const uint64_t *arities, size_t arities_count, const uint64_t *words, size_t words_count, const uint64_t *truths,
+    size_t truths_count, const uint64_t *spans, size_t spans_count, uint64_t *result, size_t result_count, uint64_t *work, size_t work_count, uint64_t *rows) {
+    uint64_t none[1];
+    if ((!arities && arities_count) || (!words && words_count) || (!truths && truths_count) || (!spans && spans_count) || (!result && result_count) ||
+        (!work && work_count)) {
+        return YINDOLVE_BUFFER;
+    }
+    return yindolve_regress(arities ? arities : yindolve_no_words, arities_count, words ? words : yindolve_no_words, words_count,
+        truths ? truths : yindolve_no_words, truths_count, spans ? spans : yindolve_no_words, spans_count, result ? result : none, result_count,
+        work ? work : none, work_count, rows);
+}
+
+/* A session with all its memory; about 300 KB, so that it is best static or from the heap. It has no pointers: a copy is a session of its own. */
 typedef struct {
     uint64_t numbers[YINDOLVE_NUMBER_WORDS];
     uint64_t names[YINDOLVE_NAME_WORDS];
@@ -164,11 +391,79 @@ static inline uint64_t yindolve_session_open(yindolve_session *s) {
     return yindolve_open(s->numbers, YINDOLVE_NUMBER_WORDS, s->arities, YINDOLVE_ARITIES, s->state, YINDOLVE_STATE_WORDS);
 }
 
-/* Answers the next line of an open session, given without its line feed: 0, the answer in s->answer, its bytes to *bytes. */
+/* Answers the next line of an open session, given without its line feed: 0, the answer in s->answer, its bytes to *bytes. The line may be null where its count
+ * is 0. Refused, and the line is not answered: BUFFER for null with a higher count, LISTING for a session that was not opened (its arity list is none).
+ */
 static inline uint64_t yindolve_session_line(yindolve_session *s, const uint8_t *line, size_t line_count, uint64_t *bytes) {
-    return yindolve_line(line, line_count, s->numbers, YINDOLVE_NUMBER_WORDS, s->names, YINDOLVE_NAME_WORDS, s->arities, YINDOLVE_ARITIES, s->listings,
-        YINDOLVE_LISTING_WORDS, s->table, YINDOLVE_TABLE_WORDS, s->state, YINDOLVE_STATE_WORDS, s->value, YINDOLVE_VALUE_WORDS, s->work,
-        YINDOLVE_SESSION_WORK_WORDS, s->answer, YINDOLVE_ANSWER_BYTES, bytes);
+    if (!line && line_count) return YINDOLVE_BUFFER;
+    if (s->arities[0] != 2) return YINDOLVE_LISTING;
+    return yindolve_line(line ? line : (const uint8_t *)yindolve_no_words, line_count, s->numbers, YINDOLVE_NUMBER_WORDS, s->names, YINDOLVE_NAME_WORDS,
+        s->arities, YINDOLVE_ARITIES, s->listings, YINDOLVE_LISTING_WORDS, s->table, YINDOLVE_TABLE_WORDS, s->state, YINDOLVE_STATE_WORDS, s->value,
+        YINDOLVE_VALUE_WORDS, s->work, YINDOLVE_SESSION_WORK_WORDS, s->answer, YINDOLVE_ANSWER_BYTES, bytes);
+}
+
+/* Answers the next line of an open session, a C string without its line feed, as a struct: yindolve_session_ask(s, "(value)"). The answer's bytes stay in s->answer.
+ * The kind is UNKNOWN, without bytes, for a session that was not opened.
+ */
+static inline yindolve_answer yindolve_session_ask(yindolve_session *s, const char *line) {
+    uint64_t bytes = 0, refusal = yindolve_session_line(s, (const uint8_t *)line, line ? strlen(line) : 0, &bytes);
+    yindolve_answer a = yindolve_read_answer(s->answer, refusal ? 0 : bytes);
+    if (refusal) a.kind = YINDOLVE_ANSWER_UNKNOWN;
+    return a;
+}
+
+/* A session as words, which a program may write to a file and read again, on a machine of the same kind and with a library of the same version: a mark, the
+ * version, a sum over the others, and the words that the library keeps from line to line.
+ */
+#define YINDOLVE_SAVED_HEAD 3
+#define YINDOLVE_SAVED_WORDS (YINDOLVE_SAVED_HEAD + YINDOLVE_NUMBER_WORDS + YINDOLVE_NAME_WORDS + YINDOLVE_ARITIES + YINDOLVE_LISTING_WORDS + YINDOLVE_TABLE_WORDS + \
+    YINDOLVE_STATE_WORDS + YINDOLVE_VALUE_WORDS)
+#define YINDOLVE_SAVED_MARK UINT64_C(0x65766c6f646e6979) /* the bytes "yindolve" */
+#define YINDOLVE_SAVED_VERSION ((uint64_t)(YINDOLVE_VERSION_MAJOR * 10000 + YINDOLVE_VERSION_MINOR * 100 + YINDOLVE_VERSION_PATCH))
+
+/* The sum of saved words: FNV-1a of the bytes behind the head. */
+static inline uint64_t yindolve_saved_sum(const uint64_t *words) {
+    uint64_t sum = UINT64_C(0xcbf29ce484222325);
+    size_t i;
+    for (i = YINDOLVE_SAVED_HEAD * 8; i < YINDOLVE_SAVED_WORDS * 8; ++i) sum = (sum ^ ((words[i / 8] >> (i % 8 * 8)) & 255)) * UINT64_C(0x100000001b3);
+    return sum;
+}
+
+/* Writes the session to YINDOLVE_SAVED_WORDS words: 0, or BUFFER where there are fewer. */
+static inline uint64_t yindolve_session_save(const yindolve_session *s, uint64_t *words, size_t words_count) {
+    uint64_t *to = words;
+    if (!words || words_count < YINDOLVE_SAVED_WORDS) return YINDOLVE_BUFFER;
+    to += YINDOLVE_SAVED_HEAD;
+    memcpy(to, s->numbers, sizeof s->numbers), to += YINDOLVE_NUMBER_WORDS;
+    memcpy(to, s->names, sizeof s->names), to += YINDOLVE_NAME_WORDS;
+    memcpy(to, s->arities, sizeof s->arities), to += YINDOLVE_ARITIES;
+    memcpy(to, s->listings, sizeof s->listings), to += YINDOLVE_LISTING_WORDS;
+    memcpy(to, s->table, sizeof s->table), to += YINDOLVE_TABLE_WORDS;
+    memcpy(to, s->state, sizeof s->state), to += YINDOLVE_STATE_WORDS;
+    memcpy(to, s->value, sizeof s->value);
+    words[0] = YINDOLVE_SAVED_MARK;
+    words[1] = YINDOLVE_SAVED_VERSION;
+    words[2] = yindolve_saved_sum(words);
+    return 0;
+}
+
+/* The session that was saved, to *s: 0; BUFFER where there are not YINDOLVE_SAVED_WORDS words; LISTING where the mark, the version or the sum is wrong. After a
+ * refusal *s is as it was. The sum tells words that were damaged by accident. It does not tell words that someone made up, and the library trusts a session's
+ * words: load what you saved, and nothing from strangers (the Rust crate's format is read anew line by line, and is safe for that).
+ */
+static inline uint64_t yindolve_session_load(yindolve_session *s, const uint64_t *words, size_t words_count) {
+    const uint64_t *from = words;
+    if (!words || words_count != YINDOLVE_SAVED_WORDS) return YINDOLVE_BUFFER;
+    if (words[0] != YINDOLVE_SAVED_MARK || words[1] != YINDOLVE_SAVED_VERSION || words[2] != yindolve_saved_sum(words)) return YINDOLVE_LISTING;
+    from += YINDOLVE_SAVED_HEAD;
+    memcpy(s->numbers, from, sizeof s->numbers), from += YINDOLVE_NUMBER_WORDS;
+    memcpy(s->names, from, sizeof s->names), from += YINDOLVE_NAME_WORDS;
+    memcpy(s->arities, from, sizeof s->arities), from += YINDOLVE_ARITIES;
+    memcpy(s->listings, from, sizeof s->listings), from += YINDOLVE_LISTING_WORDS;
+    memcpy(s->table, from, sizeof s->table), from += YINDOLVE_TABLE_WORDS;
+    memcpy(s->state, from, sizeof s->state), from += YINDOLVE_STATE_WORDS;
+    memcpy(s->value, from, sizeof s->value);
+    return 0;
 }
 
 #ifdef __cplusplus

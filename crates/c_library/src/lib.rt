@@ -237,7 +237,7 @@ pub extern "C" fn yindolve_regress(
 
 // Frees the parameters of an action that has `count` of them.
 #[no_mangle]
-pub extern "C" fn yindolve_free(
+pub extern "C" fn yindolve_free_parameters(
     arities: &[u64],
     words: &[u64],
     count: u64,

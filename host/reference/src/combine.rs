@@ -5,8 +5,6 @@ use crate::refusal::{require, Refusal};
 use crate::terms::{Label, FIRST_VARIABLE, VARIABLES};
 use std::collections::{BTreeMap, BTreeSet};
 
-pub const PAIRS: usize = 4_096;
-
 #[derive(Clone, Copy, Debug, PartialEq, Eq)]
 pub enum Operator {
     Sum,
@@ -71,14 +69,14 @@ fn step(operator: Operator, a: &Diagram, b: &Diagram, (i, j): Pair) -> Step {
 }
 
 /// The least set that holds the pair of roots and, with each pair that has some, its two successors; or 10.
-fn reached(operator: Operator, a: &Diagram, b: &Diagram) -> Result<BTreeSet<Pair>, Refusal> {
+fn reached(operator: Operator, a: &Diagram, b: &Diagram, most: usize) -> Result<BTreeSet<Pair>, Refusal> {
     let mut pairs = BTreeSet::new();
     let mut open = vec![(a.root(), b.root())];
     while let Some(pair) = open.pop() {
         if !pairs.insert(pair) {
             continue;
         }
-        require(pairs.len() <= PAIRS, Refusal::Pairs)?;
+        require(pairs.len() <= most, Refusal::Pairs)?;
         if let Step::Descend { yes, no, .. } = step(operator, a, b, pair) {
             open.push(no);
             open.push(yes);
@@ -117,7 +115,8 @@ impl Walk<'_> {
 
 /// A combination with shared names inside a call: 10, then 11, then 9.
 pub fn combine_in(space: &mut Space, operator: Operator, a: &Diagram, b: &Diagram) -> Result<Combined, Refusal> {
-    let pairs = reached(operator, a, b)?;
+    let pairs = reached(operator, a, b, space.limits().pairs)?;
+    space.most_pairs = space.most_pairs.max(pairs.len());
     for pair in &pairs {
         if let Step::Leaves(v, w) = step(operator, a, b, *pair) {
             require(operator.apply(v, w) <= u128::from(LARGEST), Refusal::Value)?;
@@ -128,26 +127,38 @@ pub fn combine_in(space: &mut Space, operator: Operator, a: &Diagram, b: &Diagra
     Ok(Combined { diagram: space.diagram(root), pairs: pairs.len() })
 }
 
+/// The operands as a call combines them; apart, their renamed rows are formed: 8.
+pub fn operands(space: &mut Space, names: Names, a: &Diagram, b: &Diagram) -> Result<(Diagram, Diagram), Refusal> {
+    if names == Names::Shared {
+        return Ok((a.clone(), b.clone()));
+    }
+    let used = a.variables().len() as u64;
+    require(used + b.variables().len() as u64 <= VARIABLES, Refusal::Variables)?;
+    let a = a.closed_up();
+    let b = b.numbered_from(FIRST_VARIABLE + used);
+    // Two listings of 1,024 rows fit, so this never refuses ahead of 10 and 11.
+    space.form_diagram(&a)?;
+    space.form_diagram(&b)?;
+    Ok((a, b))
+}
+
 /// A combination as one call: 8, then 10, 11, 9.
 pub fn combine(operator: Operator, names: Names, a: &Diagram, b: &Diagram) -> Result<Combined, Refusal> {
     let mut space = Space::new();
-    let (a, b) = match names {
-        Names::Shared => (a.clone(), b.clone()),
-        Names::Apart => {
-            let used = a.variables().len() as u64;
-            require(used + b.variables().len() as u64 <= VARIABLES, Refusal::Variables)?;
-            let a = a.closed_up();
-            let b = b.numbered_from(FIRST_VARIABLE + used);
-            // Two listings of 1,024 rows fit, so this never refuses ahead of 10 and 11.
-            space.form_diagram(&a)?;
-            space.form_diagram(&b)?;
-            (a, b)
-        }
-    };
+    let (a, b) = operands(&mut space, names, a, b)?;
     let combined = combine_in(&mut space, operator, &a, &b)?;
     let diagram = combined.diagram.as_result()?;
     Ok(match names {
         Names::Shared => Combined { diagram, ..combined },
         Names::Apart => Combined { diagram: diagram.closed_up(), ..combined },
     })
+}
+
+/// The highest leaf that a combination with shared names has, however high; or 10.
+pub fn highest_leaf(operator: Operator, a: &Diagram, b: &Diagram, most_pairs: usize) -> Result<u128, Refusal> {
+    let leaf = |pair: &Pair| match step(operator, a, b, *pair) {
+        Step::Leaves(v, w) => Some(operator.apply(v, w)),
+        Step::Descend { .. } => None,
+    };
+    Ok(reached(operator, a, b, most_pairs)?.iter().filter_map(leaf).max().unwrap_or(0))
 }

@@ -8,6 +8,8 @@ use std::collections::{BTreeMap, BTreeSet};
 pub const ROWS: usize = 1_024;
 /// Rows of the working space of one call.
 pub const SPACE_ROWS: usize = 2_048;
+/// Pairs that one walk over two diagrams may reach.
+pub const PAIRS: usize = 4_096;
 /// The highest leaf.
 pub const LARGEST: u64 = 1_000_000_000_000_000_000;
 
@@ -120,11 +122,34 @@ impl Diagram {
 pub struct Space {
     rows: Vec<Row>,
     index: BTreeMap<Row, usize>,
+    limits: Limits,
+    /// The most pairs that a walk of this call reached.
+    pub most_pairs: usize,
+}
+
+/// How many rows a call may form, and how many pairs each of its walks may reach.
+#[derive(Clone, Copy, Debug, PartialEq, Eq)]
+pub struct Limits {
+    pub rows: usize,
+    pub pairs: usize,
+}
+
+impl Limits {
+    pub const CALL: Limits = Limits { rows: SPACE_ROWS, pairs: PAIRS };
 }
 
 impl Space {
     pub fn new() -> Space {
-        Space { rows: Vec::new(), index: BTreeMap::new() }
+        Space::within(Limits::CALL)
+    }
+
+    /// A space of another size, to measure what a refused call would need.
+    pub fn within(limits: Limits) -> Space {
+        Space { rows: Vec::new(), index: BTreeMap::new(), limits, most_pairs: 0 }
+    }
+
+    pub fn limits(&self) -> Limits {
+        self.limits
     }
 
     pub fn formed(&self) -> usize {
@@ -141,7 +166,7 @@ impl Space {
         if let Some(at) = self.index.get(&row) {
             return Ok(*at);
         }
-        require(self.rows.len() < SPACE_ROWS, Refusal::Space)?;
+        require(self.rows.len() < self.limits.rows, Refusal::Space)?;
         self.rows.push(row);
         self.index.insert(row, self.rows.len() - 1);
         Ok(self.rows.len() - 1)

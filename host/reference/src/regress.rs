@@ -63,12 +63,16 @@ fn with_arguments(space: &mut Space, truth: &Diagram, label: Label, slips: Slips
 
 /// The diagram read in the next state, said in the old one. One call.
 pub fn regress(diagram: &Diagram, truths: &Truths, slips: Slips) -> Result<Diagram, Refusal> {
-    let mut space = Space::new();
+    regress_in(&mut Space::new(), diagram, truths, slips)?.as_result()
+}
+
+/// A regression inside a call's space, its result of any size.
+pub fn regress_in(space: &mut Space, diagram: &Diagram, truths: &Truths, slips: Slips) -> Result<Diagram, Refusal> {
     let mut test = |space: &mut Space, label: Label| match truths.get(&label.predicate()) {
         Some(truth) if label.predicate() != EQUALITY => with_arguments(space, truth, label, slips),
         _ => Ok(Diagram::test(crate::terms::Test::Is(label))),
     };
-    rebuild(&mut space, diagram, &mut test)?.as_result()
+    rebuild(space, diagram, &mut test)
 }
 
 /// Parameter 16 + i becomes variable 32 + i; the other variables move up by the parameter count.

@@ -45,15 +45,15 @@ impl Answer {
 
 /// The state in hand.
 #[derive(Clone, Debug)]
-struct Placed {
-    objects: u64,
-    constants: Vec<Option<u64>>,
-    facts: BTreeSet<(u64, Vec<u64>)>,
+pub struct Placed {
+    pub objects: u64,
+    pub constants: Vec<Option<u64>>,
+    pub facts: BTreeSet<(u64, Vec<u64>)>,
 }
 
 impl Placed {
     /// The state, once every declared constant is placed.
-    fn state(&self) -> Option<State> {
+    pub fn state(&self) -> Option<State> {
         let constants = self.constants.iter().copied().collect::<Option<Vec<u64>>>()?;
         Some(State { objects: self.objects, constants, facts: self.facts.clone() })
     }
@@ -66,7 +66,7 @@ pub struct Run {
     pub arities: Arities,
     pub value: Diagram,
     pub k: u64,
-    placed: Option<Placed>,
+    pub placed: Option<Placed>,
 }
 
 #[derive(Clone, Debug, Default)]
@@ -91,6 +91,14 @@ impl Session {
 
     pub fn started(&self) -> Option<&Run> {
         self.run.as_ref()
+    }
+
+    /// The session after k steps that led to this value diagram.
+    pub fn with_value(mut self, value: Diagram, k: u64) -> Session {
+        if let Some(run) = &mut self.run {
+            (run.value, run.k) = (value, k);
+        }
+        self
     }
 
     /// Takes one line without its line feed. A refused line changes nothing.

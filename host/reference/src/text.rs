@@ -1,20 +1,50 @@
 //! Document 01, "Text": from the bytes of a line to the form it is, or 1. Names are not looked up here.
 
-use crate::refusal::{require, Refusal};
+use crate::refusal::Refusal;
 
 pub const LINE_BYTES: usize = 4_095;
 pub const OPEN_BRACKETS: usize = 64;
 pub const NAME_LETTERS: usize = 15;
 
-/// A word, or an inner form in the place of one. A number too large for 64 bits is held as the largest one, which is outside every range.
+/// The bytes of a line that a word is, from the first to the one behind the last.
+pub type Span = (usize, usize);
+
+/// A word, or an inner form in the place of one.
 #[derive(Clone, Debug, PartialEq, Eq)]
-enum Word {
+pub struct Word {
+    pub span: Span,
+    pub kind: Kind,
+}
+
+/// What a word is. A number too large for 64 bits is held as the largest one, which is outside every range.
+#[derive(Clone, Debug, PartialEq, Eq)]
+pub enum Kind {
     Name(String),
     Variable(String),
     Parameter(String),
     Number(u64),
     Equals,
     Form(Vec<Word>),
+}
+
+/// Why bytes are no words in brackets.
+#[derive(Clone, Copy, Debug, PartialEq, Eq)]
+pub enum Flaw {
+    LineBytes,
+    OpenBrackets,
+    NoBracket,
+    NoWord,
+    NotAWord,
+    NoSpace,
+    NotClosed,
+    Behind,
+}
+
+/// Bytes that are no words, and where.
+#[derive(Clone, Copy, Debug, PartialEq, Eq)]
+pub struct Flawed {
+    pub flaw: Flaw,
+    pub span: Span,
 }
 
 #[derive(Clone, Debug, PartialEq, Eq)]
@@ -66,48 +96,64 @@ pub fn lines(text: &[u8]) -> Vec<(&[u8], bool)> {
 
 /// The form that a line is.
 pub fn read_line(line: &[u8]) -> Result<Line, Refusal> {
-    require(line.len() <= LINE_BYTES, Refusal::Form)?;
-    let (word, rest) = read_word(line, 0)?;
-    require(rest.is_empty(), Refusal::Form)?;
-    match word {
-        Word::Form(words) => line_of(&words).ok_or(Refusal::Form),
-        _ => Err(Refusal::Form),
+    let words = read_words(line).map_err(|_| Refusal::Form)?;
+    line_of(&words).ok_or(Refusal::Form)
+}
+
+/// The words of the form that the whole line is.
+pub fn read_words(line: &[u8]) -> Result<Vec<Word>, Flawed> {
+    unflawed(line.len() <= LINE_BYTES, Flaw::LineBytes, (LINE_BYTES, line.len()))?;
+    unflawed(line.first() == Some(&b'('), Flaw::NoBracket, (0, line.len().min(1)))?;
+    let (words, behind) = read_form(line, 1, 1)?;
+    unflawed(behind == line.len(), Flaw::Behind, (behind, line.len()))?;
+    Ok(words)
+}
+
+fn unflawed(condition: bool, flaw: Flaw, span: Span) -> Result<(), Flawed> {
+    if condition {
+        Ok(())
+    } else {
+        Err(Flawed { flaw, span })
     }
 }
 
-/// Reads one word or inner form, and gives the bytes after it.
-fn read_word(bytes: &[u8], open: usize) -> Result<(Word, &[u8]), Refusal> {
-    if let Some(inner) = bytes.strip_prefix(b"(") {
-        require(open < OPEN_BRACKETS, Refusal::Form)?;
-        return read_form(inner, open + 1);
+/// Reads one word or inner form from a place of the line, and gives the place behind it.
+fn read_word(line: &[u8], at: usize, open: usize) -> Result<(Word, usize), Flawed> {
+    if line.get(at) == Some(&b'(') {
+        unflawed(open < OPEN_BRACKETS, Flaw::OpenBrackets, (at, at + 1))?;
+        let (words, behind) = read_form(line, at + 1, open + 1)?;
+        return Ok((Word { span: (at, behind), kind: Kind::Form(words) }, behind));
     }
-    let length = bytes.iter().position(|byte| b" ()".contains(byte)).unwrap_or(bytes.len());
-    let (word, rest) = bytes.split_at(length);
-    Ok((plain_word(word).ok_or(Refusal::Form)?, rest))
+    let length = line[at..].iter().position(|byte| b" ()".contains(byte)).unwrap_or(line.len() - at);
+    let span = (at, at + length);
+    unflawed(length > 0, Flaw::NoWord, (at, line.len().min(at + 1)))?;
+    let kind = plain_word(&line[at..at + length]).ok_or(Flawed { flaw: Flaw::NotAWord, span })?;
+    Ok((Word { span, kind }, at + length))
 }
 
 /// Reads the words of a form behind its opening bracket: one space between neighbours, then the closing bracket.
-fn read_form(bytes: &[u8], open: usize) -> Result<(Word, &[u8]), Refusal> {
+fn read_form(line: &[u8], from: usize, open: usize) -> Result<(Vec<Word>, usize), Flawed> {
     let mut words = Vec::new();
-    let mut rest = bytes;
+    let mut at = from;
     loop {
-        let (word, behind) = read_word(rest, open)?;
+        let (word, behind) = read_word(line, at, open)?;
         words.push(word);
-        match behind.split_first() {
-            Some((b' ', behind)) => rest = behind,
-            Some((b')', behind)) => return Ok((Word::Form(words), behind)),
-            _ => return Err(Refusal::Form),
+        match line.get(behind) {
+            Some(b' ') => at = behind + 1,
+            Some(b')') => return Ok((words, behind + 1)),
+            Some(_) => return Err(Flawed { flaw: Flaw::NoSpace, span: (behind, behind + 1) }),
+            None => return Err(Flawed { flaw: Flaw::NotClosed, span: (behind, behind) }),
         }
     }
 }
 
-fn plain_word(bytes: &[u8]) -> Option<Word> {
+fn plain_word(bytes: &[u8]) -> Option<Kind> {
     match bytes.split_first()? {
-        (b'=', []) => Some(Word::Equals),
-        (b'?', name) => read_name(name).map(Word::Variable),
-        (b'!', name) => read_name(name).map(Word::Parameter),
-        (b'0'..=b'9', _) => read_number(bytes).map(Word::Number),
-        _ => read_name(bytes).map(Word::Name),
+        (b'=', []) => Some(Kind::Equals),
+        (b'?', name) => read_name(name).map(Kind::Variable),
+        (b'!', name) => read_name(name).map(Kind::Parameter),
+        (b'0'..=b'9', _) => read_number(bytes).map(Kind::Number),
+        _ => read_name(bytes).map(Kind::Name),
     }
 }
 
@@ -125,26 +171,32 @@ fn read_number(bytes: &[u8]) -> Option<u64> {
     plain.then(|| bytes.iter().fold(0, add))
 }
 
-fn line_of(words: &[Word]) -> Option<Line> {
-    let (Word::Name(kind), words) = words.split_first()? else {
+/// The kinds of words, to be told apart by their shape.
+fn kinds(words: &[Word]) -> Vec<&Kind> {
+    words.iter().map(|word| &word.kind).collect()
+}
+
+/// The line of these words, if they are one.
+pub fn line_of(words: &[Word]) -> Option<Line> {
+    let (Kind::Name(kind), words) = words.split_first().map(|(first, rest)| (&first.kind, kinds(rest)))? else {
         return None;
     };
-    Some(match (kind.as_str(), words) {
-        ("constant", [Word::Name(name)]) => Line::Constant(name.clone()),
-        ("predicate", [Word::Name(name), Word::Number(arity)]) => Line::Predicate(name.clone(), *arity),
-        ("total", [Word::Number(total)]) => Line::Total(*total),
-        ("discount", [Word::Number(gain), Word::Number(divisor)]) => Line::Discount(*gain, *divisor),
+    Some(match (kind.as_str(), words.as_slice()) {
+        ("constant", [Kind::Name(name)]) => Line::Constant(name.clone()),
+        ("predicate", [Kind::Name(name), Kind::Number(arity)]) => Line::Predicate(name.clone(), *arity),
+        ("total", [Kind::Number(total)]) => Line::Total(*total),
+        ("discount", [Kind::Number(gain), Kind::Number(divisor)]) => Line::Discount(*gain, *divisor),
         ("reward", [diagram]) => Line::Reward(diagram_of(diagram)?),
-        ("action", [Word::Name(name), parameters @ ..]) => Line::Action(name.clone(), all(parameters, parameter_of)?),
-        ("variant", [Word::Name(name), weight]) => Line::Variant(name.clone(), diagram_of(weight)?),
-        ("becomes", [Word::Form(head), diagram]) => match head.split_first()? {
-            (Word::Name(name), arguments) => Line::Becomes(name.clone(), all(arguments, variable_of)?, diagram_of(diagram)?),
+        ("action", [Kind::Name(name), parameters @ ..]) => Line::Action(name.clone(), all(parameters, parameter_of)?),
+        ("variant", [Kind::Name(name), weight]) => Line::Variant(name.clone(), diagram_of(weight)?),
+        ("becomes", [Kind::Form(head), diagram]) => match kinds(head).split_first()? {
+            (Kind::Name(name), arguments) => Line::Becomes(name.clone(), all(arguments, variable_of)?, diagram_of(diagram)?),
             _ => return None,
         },
         ("start", []) => Line::Start,
-        ("objects", [Word::Number(objects)]) => Line::Objects(*objects),
-        ("is", [Word::Name(name), Word::Number(object)]) => Line::Is(name.clone(), *object),
-        ("true", [Word::Name(name), objects @ ..]) => Line::True(name.clone(), all(objects, number_of)?),
+        ("objects", [Kind::Number(objects)]) => Line::Objects(*objects),
+        ("is", [Kind::Name(name), Kind::Number(object)]) => Line::Is(name.clone(), *object),
+        ("true", [Kind::Name(name), objects @ ..]) => Line::True(name.clone(), all(objects, number_of)?),
         ("value", []) => Line::Value,
         ("backup", []) => Line::Backup,
         ("cut", []) => Line::Cut,
@@ -153,57 +205,57 @@ fn line_of(words: &[Word]) -> Option<Line> {
     })
 }
 
-fn all<T>(words: &[Word], read: impl Fn(&Word) -> Option<T>) -> Option<Vec<T>> {
-    words.iter().map(read).collect()
+fn all<T>(words: &[&Kind], read: impl Fn(&Kind) -> Option<T>) -> Option<Vec<T>> {
+    words.iter().map(|word| read(word)).collect()
 }
 
-fn variable_of(word: &Word) -> Option<String> {
+fn variable_of(word: &Kind) -> Option<String> {
     match word {
-        Word::Variable(name) => Some(name.clone()),
+        Kind::Variable(name) => Some(name.clone()),
         _ => None,
     }
 }
 
-fn parameter_of(word: &Word) -> Option<String> {
+fn parameter_of(word: &Kind) -> Option<String> {
     match word {
-        Word::Parameter(name) => Some(name.clone()),
+        Kind::Parameter(name) => Some(name.clone()),
         _ => None,
     }
 }
 
-fn number_of(word: &Word) -> Option<u64> {
+fn number_of(word: &Kind) -> Option<u64> {
     match word {
-        Word::Number(number) => Some(*number),
+        Kind::Number(number) => Some(*number),
         _ => None,
     }
 }
 
-fn term_of(word: &Word) -> Option<WrittenTerm> {
+fn term_of(word: &Kind) -> Option<WrittenTerm> {
     match word {
-        Word::Name(name) => Some(WrittenTerm::Constant(name.clone())),
-        Word::Variable(name) => Some(WrittenTerm::Variable(name.clone())),
-        Word::Parameter(name) => Some(WrittenTerm::Parameter(name.clone())),
+        Kind::Name(name) => Some(WrittenTerm::Constant(name.clone())),
+        Kind::Variable(name) => Some(WrittenTerm::Variable(name.clone())),
+        Kind::Parameter(name) => Some(WrittenTerm::Parameter(name.clone())),
         _ => None,
     }
 }
 
-fn atom_of(word: &Word) -> Option<WrittenAtom> {
-    let Word::Form(words) = word else {
+fn atom_of(word: &Kind) -> Option<WrittenAtom> {
+    let Kind::Form(words) = word else {
         return None;
     };
-    match words.as_slice() {
-        [Word::Equals, a, b] => Some(WrittenAtom::Equality(term_of(a)?, term_of(b)?)),
-        [Word::Name(name), terms @ ..] => Some(WrittenAtom::Predicate(name.clone(), all(terms, term_of)?)),
+    match kinds(words).as_slice() {
+        [Kind::Equals, a, b] => Some(WrittenAtom::Equality(term_of(a)?, term_of(b)?)),
+        [Kind::Name(name), terms @ ..] => Some(WrittenAtom::Predicate(name.clone(), all(terms, term_of)?)),
         _ => None,
     }
 }
 
 /// A number, or (if ATOM DIAGRAM DIAGRAM).
-fn diagram_of(word: &Word) -> Option<WrittenDiagram> {
+fn diagram_of(word: &Kind) -> Option<WrittenDiagram> {
     match word {
-        Word::Number(number) => Some(WrittenDiagram::Number(*number)),
-        Word::Form(words) => match words.as_slice() {
-            [Word::Name(name), atom, yes, no] if name == "if" => {
+        Kind::Number(number) => Some(WrittenDiagram::Number(*number)),
+        Kind::Form(words) => match kinds(words).as_slice() {
+            [Kind::Name(name), atom, yes, no] if *name == "if" => {
                 Some(WrittenDiagram::If(atom_of(atom)?, Box::new(diagram_of(yes)?), Box::new(diagram_of(no)?)))
             }
             _ => None,

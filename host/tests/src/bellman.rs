@@ -1,11 +1,13 @@
-//! Values after backups and cuts against the Bellman equation worked out from state to state.
+//! Values after backups and cuts, by the reference and by a program, against the Bellman equation worked out from state to state.
 
 use crate::models::{model, state, write_model, write_state, Size};
+use crate::program::printed;
 use crate::random::Random;
 use crate::tally::Tally;
 use reference::bellman::Bellman;
 use reference::session::{Answer, Session};
 use reference::slips::Slips;
+use std::path::Path;
 
 /// One random model with a random list of backups and cuts. A wrong value is described.
 pub fn check(seed: u64, slips: Slips, tally: &mut Tally) -> Result<(), String> {
@@ -43,4 +45,61 @@ pub fn check(seed: u64, slips: Slips, tally: &mut Tally) -> Result<(), String> {
         }
     }
     Ok(())
+}
+
+/// One random model with backups and cuts as a text for a program: how many values it printed, all of them those of the equation.
+pub fn check_program(program: &Path, seed: u64) -> Result<u64, String> {
+    let random = &mut Random::new(seed);
+    let (signature, plain) = model(random, Size::SMALL);
+    let mut lines = write_model(&signature, &plain);
+    let model_lines = lines.len();
+    // the state at each (value) line, in their order
+    let mut states = Vec::new();
+    for _ in 0..6 {
+        lines.push(random.pick(&["(backup)", "(cut)", "(cut)"]).to_string());
+        let objects = random.between(1, Size::SMALL.objects);
+        let state = state(random, &signature, objects);
+        lines.extend(write_state(&state));
+        lines.push("(value)".to_string());
+        states.push((lines.len(), state));
+    }
+    let text: String = lines.iter().flat_map(|line| [line.as_str(), "\n"]).collect();
+    let answers = String::from_utf8(printed(program, text.as_bytes())?).map_err(|error| error.to_string())?;
+    let scale = u128::from(plain.total) * u128::from(plain.discount.1);
+    let mut bellman = Bellman::new(&plain);
+    let (mut k, mut values) = (0, 0);
+    let mut states = states.iter();
+    for answer in answers.lines() {
+        let wrong = |why: &str| format!("{answer}: {why}, in\n{text}");
+        let words: Vec<&str> = answer.trim_matches(['(', ')']).split(' ').collect();
+        let number = |place: usize| words.get(place).and_then(|word| word.parse::<u128>().ok()).ok_or_else(|| wrong("a number is due"));
+        match words[0] {
+            "backup" if number(1)? == u128::from(k) + 1 => k += 1,
+            "cut" => {}
+            "value" => {
+                let (_, state) = states.next().ok_or_else(|| wrong("one too many"))?;
+                let right = (bellman.value(k, state), u128::from(k), scale.pow(k as u32));
+                if (number(1)?, number(2)?, number(3)?) != right {
+                    return Err(wrong(&format!("{right:?} is right in {state:?}")));
+                }
+                values += 1;
+            }
+            "refused" => {
+                let line = number(2)? as usize;
+                if line <= model_lines {
+                    return Err(wrong("a line of the model"));
+                }
+                match lines[line - 1].as_str() {
+                    "(backup)" | "(cut)" => {}
+                    "(value)" if states.next().is_some_and(|(at, _)| *at == line) => {}
+                    line => return Err(wrong(line)),
+                }
+            }
+            _ => return Err(wrong("not known")),
+        }
+    }
+    match states.next() {
+        Some((line, _)) => Err(format!("no answer to line {line} of\n{text}")),
+        None => Ok(values),
+    }
 }

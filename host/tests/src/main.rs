@@ -2,20 +2,23 @@
 //!
 //!     tests self [seconds N | count N] [seed N]
 //!     tests program PATH [seconds N | count N] [seed N]
+//!     tests bellman PATH [seconds N | count N] [seed N]
 //!     tests library [seconds N | count N] [seed N]
 //!     tests stored FOLDER [PATH]
 //!     tests text SEED
 //!
 //! `self` holds the reference against brute force, counts the refusals met, and sees that each of document 01's slips is caught.
-//! `program` feeds random texts to a program and to the reference. `library` (feature `library`) makes random calls of the static
-//! library and of the reference, and sees that each call gave each of its answers; with the feature `text` whole texts too.
+//! `program` feeds random texts to a program and to the reference. `bellman` holds the values that a program prints against brute force,
+//! without the reference's diagrams. `library` (feature `library`) makes random calls of the static
+//! library and of the reference, whole texts too, and sees that each call gave each of its answers.
 //! `stored` runs each NAME.txt of a folder and compares with NAME.out, by the reference or by the program at PATH. `text` prints
-//! the random text of a seed. Default: a minute, from seed 0.
+//! the random text of a seed. Default: a minute. Without `seed` or `count`, the seeds from 0 on come first, the same in every run, and then those
+//! from a fresh one on, which is printed; `seed N count 1` repeats the run of one seed.
 
 mod bellman;
 #[cfg(feature = "library")]
 mod library;
-#[cfg(feature = "text")]
+#[cfg(feature = "library")]
 mod library_texts;
 mod limits;
 mod listings;
@@ -29,26 +32,34 @@ mod shapes;
 mod tally;
 mod texts;
 
+use random::Random;
 use reference::session::{answers, Answer};
 use reference::slips::Slips;
 use std::io::Write;
 use std::path::{Path, PathBuf};
-use std::time::{Duration, Instant};
+use std::time::{Duration, Instant, SystemTime, UNIX_EPOCH};
 use tally::Tally;
 
 /// So many seeds from 0 on meet every refusal.
 const SEEDS: u64 = 400;
+/// So many seeds are fresh, at least.
+const FRESH: u64 = 50;
 
 /// How long a run of seeds goes on.
 struct Bound {
     end: Option<Instant>,
     count: u64,
-    first: u64,
+    /// The first seed; none for the fixed ones and then fresh ones.
+    first: Option<u64>,
+    fresh: u64,
 }
 
 impl Bound {
     fn read(arguments: &[String]) -> Result<Bound, String> {
-        let mut bound = Bound { end: Some(Instant::now() + Duration::from_secs(60)), count: u64::MAX, first: 0 };
+        let since_epoch = SystemTime::now().duration_since(UNIX_EPOCH).map_err(|error| error.to_string())?;
+        // far from the fixed ones, and short enough to be typed
+        let fresh = 1_000_000 + Random::new(since_epoch.as_nanos() as u64).below(1_000_000_000_000);
+        let mut bound = Bound { end: Some(Instant::now() + Duration::from_secs(60)), count: u64::MAX, first: None, fresh };
         for pair in arguments.chunks(2) {
             let [word, number] = pair else {
                 return Err(format!("{} needs a number", pair[0]));
@@ -57,17 +68,32 @@ impl Bound {
             match word.as_str() {
                 "seconds" => bound.end = Some(Instant::now() + Duration::from_secs(number)),
                 "count" => (bound.end, bound.count) = (None, number),
-                "seed" => bound.first = number,
+                "seed" => bound.first = Some(number),
                 _ => return Err(format!("{word} is not known")),
             }
+        }
+        if bound.end.is_none() {
+            bound.first.get_or_insert(0);
         }
         Ok(bound)
     }
 
-    /// The seeds one after another; where time is bound, at least so many.
-    fn seeds(&self, least: u64) -> impl Iterator<Item = u64> + '_ {
-        let goes_on = move |seed: &u64| seed - self.first < least || self.end.is_none_or(|end| Instant::now() < end);
-        (self.first..).take(self.count as usize).take_while(goes_on)
+    /// The seeds one after another. Where time is bound, at least so many from the first on; without a first one, so many fixed ones and
+    /// then fresh ones.
+    fn seeds(&self, least: u64) -> Box<dyn Iterator<Item = u64> + '_> {
+        let in_time = move || self.end.is_none_or(|end| Instant::now() < end);
+        match self.first {
+            Some(first) => Box::new((first..).take(self.count as usize).take_while(move |seed| seed - first < least || in_time())),
+            None => Box::new((0..least).chain((self.fresh..).take_while(move |seed| seed - self.fresh < FRESH || in_time()))),
+        }
+    }
+
+    /// What was done, for the printed line: `done` seeds where the least was asked for.
+    fn told(&self, done: u64, least: u64) -> String {
+        match self.first {
+            Some(first) => format!("{done} seeds from {first}"),
+            None => format!("{least} seeds from 0 and {} fresh ones from {}", done - least, self.fresh),
+        }
     }
 }
 
@@ -94,7 +120,7 @@ fn self_tests(bound: &Bound) -> Result<(), String> {
         }
         done += 1;
     }
-    println!("{done} seeds from {} pass", bound.first);
+    println!("{} pass", bound.told(done, SEEDS));
     slips_are_caught()?;
     tally.print();
     match tally.missing() {
@@ -120,7 +146,7 @@ fn slips_are_caught() -> Result<(), String> {
 
 fn compare(program: &Path, bound: &Bound) -> Result<(), String> {
     let mut done = 0;
-    for seed in bound.seeds(0) {
+    for seed in bound.seeds(SEEDS) {
         let text = texts::text(seed);
         if let Err(message) = program::check(program, &text) {
             let short = program::shortened(program, &text);
@@ -129,7 +155,17 @@ fn compare(program: &Path, bound: &Bound) -> Result<(), String> {
         }
         done += 1;
     }
-    println!("{done} texts from seed {} have equal answers", bound.first);
+    println!("the texts of {} have equal answers", bound.told(done, SEEDS));
+    Ok(())
+}
+
+fn program_values(program: &Path, bound: &Bound) -> Result<(), String> {
+    let (mut done, mut values) = (0, 0);
+    for seed in bound.seeds(SEEDS / 4) {
+        values += bellman::check_program(program, seed).map_err(|message| format!("seed {seed}: {message}"))?;
+        done += 1;
+    }
+    println!("{values} values of {} are those of the equation", bound.told(done, SEEDS / 4));
     Ok(())
 }
 
@@ -140,11 +176,10 @@ fn library_calls(bound: &Bound) -> Result<(), String> {
     for seed in bound.seeds(SEEDS) {
         let failed = |message: String| format!("seed {seed}: {message}");
         library::check(seed, &mut answers).map_err(failed)?;
-        #[cfg(feature = "text")]
         library_texts::check(seed, &texts::text(seed)).map_err(failed)?;
         done += 1;
     }
-    println!("the library's calls of {done} seeds from {} have equal answers", bound.first);
+    println!("the library's calls of {} have equal answers", bound.told(done, SEEDS));
     answers.print();
     match answers.wrong() {
         wrong if wrong.is_empty() => Ok(()),
@@ -181,6 +216,7 @@ fn run(arguments: &[String]) -> Result<(), String> {
     match arguments {
         [mode, rest @ ..] if mode == "self" => self_tests(&Bound::read(rest)?),
         [mode, path, rest @ ..] if mode == "program" => compare(Path::new(path), &Bound::read(rest)?),
+        [mode, path, rest @ ..] if mode == "bellman" => program_values(Path::new(path), &Bound::read(rest)?),
         [mode, rest @ ..] if mode == "library" => library_calls(&Bound::read(rest)?),
         [mode, folder] if mode == "stored" => stored(Path::new(folder), None),
         [mode, folder, path] if mode == "stored" => stored(Path::new(folder), Some(Path::new(path))),
@@ -188,7 +224,7 @@ fn run(arguments: &[String]) -> Result<(), String> {
             let seed = seed.parse().map_err(|_| format!("{seed} is no number"))?;
             std::io::stdout().write_all(&texts::text(seed)).map_err(|error| error.to_string())
         }
-        _ => Err("use: tests self | program PATH | library | stored FOLDER [PATH] | text SEED".to_string()),
+        _ => Err("use: tests self | program PATH | bellman PATH | library | stored FOLDER [PATH] | text SEED".to_string()),
     }
 }
 

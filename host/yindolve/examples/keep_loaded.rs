@@ -1,6 +1,6 @@
-//! Loads the model of examples/sample.txt once, looks a step ahead, and then values one state after another.
+//! Loads a model once, looks a step ahead, and then values one state after another.
 
-use yindolve::{Answer, Session};
+use yindolve::Session;
 
 const MODEL: &str = "(constant hub)
 (predicate stock 1)
@@ -12,24 +12,20 @@ const MODEL: &str = "(constant hub)
 (becomes (stock ?s) (if (= !d ?s) 1 (if (stock ?s) 1 0)))
 (variant none 1)
 (start)
-(backup)
-(cut)";
+";
 
-fn main() {
-    let mut session = Session::open();
-    for line in MODEL.lines() {
-        match session.line(line.as_bytes()) {
-            Answer::Nothing => {}
-            answer => println!("{line}: {answer:?}"),
+fn main() -> Result<(), Box<dyn std::error::Error>> {
+    let mut session = Session::load(MODEL)?;
+    let backup = session.backup()?;
+    let cut = session.cut_all()?;
+    println!("{} step: {} rows, {} after {} cut", backup.steps, backup.rows, cut.rows, cut.cuts);
+    for stocked in [&[][..], &[1], &[0]] {
+        let mut state = session.state(2).is("hub", 0)?;
+        for object in stocked {
+            state = state.fact("stock", &[*object])?;
         }
+        let value = session.value(&state.finish()?)?;
+        println!("stock at {stocked:?}: {value} = {}", value.fraction().decimal(2));
     }
-    for facts in [&[][..], &["(true stock 1)"], &["(true stock 0)"]] {
-        for line in [&["(objects 2)", "(is hub 0)"], facts].concat() {
-            assert_eq!(session.line(line.as_bytes()), Answer::Nothing, "{line}");
-        }
-        match session.line(b"(value)") {
-            Answer::Value { value, steps, scale } => println!("{facts:?}: {value} / {scale} for {steps} steps"),
-            answer => println!("{facts:?}: {answer:?}"),
-        }
-    }
+    Ok(())
 }

@@ -7,6 +7,12 @@
 use crate::ffi;
 use crate::refusal::{accepted, Refusal};
 
+pub use crate::memory::{LISTING_WORDS, NAME_WORDS, NUMBER_WORDS, SESSION_WORK_WORDS, STATE_WORDS, TABLE_WORDS, VALUE_WORDS};
+
+/// The highest value of a leaf.
+pub const VALUE: u64 = 1_000_000_000_000_000_000;
+/// The objects of a state's constants, at most.
+pub const CONSTANTS: usize = 16;
 /// Words of an arity list.
 pub const ARITIES: usize = 32;
 /// Words of a row.
@@ -131,7 +137,7 @@ pub fn regress(
 pub fn free(arities: &[u64], words: &[u64], parameters: u64, result: &mut [u64], work: &[u64], rows: &mut u64) -> Result<(), Refusal> {
     // SAFETY: each pointer is to as many words as its count says, and what is written to overlaps nothing.
     accepted(unsafe {
-        ffi::yindolve_free(
+        ffi::yindolve_free_parameters(
             arities.as_ptr(),
             arities.len(),
             words.as_ptr(),

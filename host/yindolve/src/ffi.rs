@@ -44,7 +44,7 @@ extern "C" {
         rows: *mut u64,
     ) -> u64;
 
-    pub fn yindolve_free(
+    pub fn yindolve_free_parameters(
         arities: *const u64,
         arities_count: usize,
         words: *const u64,
@@ -85,7 +85,6 @@ extern "C" {
     ) -> u64;
 }
 
-#[cfg(feature = "text")]
 extern "C" {
     pub fn yindolve_run(
         text: *const u8,

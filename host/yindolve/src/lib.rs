@@ -1,15 +1,32 @@
 //! A value engine on first-order decision diagrams in which every function is proved: this crate is the safe face of its static library.
 //!
-//! A diagram is a [`Listing`]: rows that test atoms, such as `stock(hub)`, and leaves that are numbers. A [`Space`] adds,
-//! multiplies and maximises listings, regresses them through an action's outcome, cuts what no value needs, and values them in a
-//! [`State`]. With the feature `text`, `run` answers a whole text (a model and its run), and a `Session` keeps a model loaded and
-//! answers line by line.
+//! A [`Session`] holds a model, looks ahead by backups and cuts, and values one state after another; [`run`] answers a whole text, as
+//! the program does. Below them stand the diagrams themselves: a [`Listing`] has rows that test atoms, such as `stock(hub)`, and leaves
+//! that are numbers, and a [`Space`] adds, multiplies and maximises listings, regresses them through an action's outcome, cuts what no
+//! value needs, and values them in a [`State`].
 //!
-//! The library is proved to answer and to write what document 01, the scope, says, on all words; the calls' refusals, each a
+//! The library is proved to answer and to write what its definitions say, on all words; the calls' refusals, each a
 //! [`Refusal`], are part of that. What is believed and not proved are this crate's few lines around each call, which lend the
-//! library slices that do not overlap.
+//! library slices that do not overlap. The texts, their forms and each refusal's remedies are described in `docs/REFERENCE.md`.
 //!
-//! # Example
+//! # A model and its values
+//!
+//! ```
+//! use yindolve::Session;
+//!
+//! let model = include_str!("../../../examples/sample.txt");
+//! let mut session = Session::load(model)?;
+//! for _ in 0..2 {
+//!     session.backup()?;
+//!     session.cut_all()?;
+//! }
+//! let state = session.state(2).is("hub", 0)?.fact("stock", &[1])?.finish()?;
+//! let value = session.value(&state)?;
+//! assert_eq!(format!("{value} = {}", value.to_f64()), "195/32 = 6.09375");
+//! # Ok::<(), Box<dyn std::error::Error>>(())
+//! ```
+//!
+//! # Diagrams
 //!
 //! A branch is worth 10 while some part is in stock, and 5 while the van is here. What are both worth together?
 //!
@@ -36,8 +53,9 @@
 //!
 //! # Building
 //!
-//! The static library is built by `rt staticlib c_library` at the root of the repository; the variable `YINDOLVE_LIBRARY` may
-//! name another `libc_library.a`. It runs on Linux on x86-64. A call uses less than a megabyte of stack and touches it page by
+//! The static library is built by `rt staticlib c_library` at the root of the repository, which writes
+//! `target/staticlib/libc_library.a`; `install.sh` installs it as `libyindolve.a`. The variable `YINDOLVE_LIBRARY` may name either
+//! file, or a folder that has one. It runs on Linux on x86-64. A call uses less than a megabyte of stack and touches it page by
 //! page, so that a thread with too little of it ends as by any overflow of its stack.
 
 #![warn(missing_docs)]
@@ -45,15 +63,23 @@
 pub mod calls;
 mod ffi;
 mod listing;
+mod memory;
 mod refusal;
+mod saved;
+mod session;
 mod space;
 mod state;
-#[cfg(feature = "text")]
 mod text;
+mod value;
+mod vocabulary;
 
 pub use listing::{Arities, Label, Listing, Row, Term};
+pub use memory::ANSWER_BYTES;
 pub use refusal::Refusal;
+pub use saved::Damaged;
+pub use session::{AllCut, Refused, Session};
 pub use space::{Combined, Cut, Space, Truths};
-pub use state::{fact, State};
-#[cfg(feature = "text")]
-pub use text::{run, run_into, Answer, Full, Session, ANSWER_BYTES};
+pub use state::{fact, State, StateBuilder};
+pub use text::{run, run_into, Answer, BackupDone, CutDone, Full};
+pub use value::{Fraction, Value};
+pub use vocabulary::{Action, Vocabulary};

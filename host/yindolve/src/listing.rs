@@ -29,13 +29,19 @@ impl Arities {
         calls::check(&arities.0, &Row::Leaf(0).words()).map(|()| arities)
     }
 
+    /// What the library wrote.
+    pub(crate) fn written(words: [u64; ARITIES]) -> Arities {
+        Arities(words)
+    }
+
     /// The list as it is lent to the library, equality's arity first.
     pub fn words(&self) -> &[u64; ARITIES] {
         &self.0
     }
 }
 
-/// What an atom is about.
+/// What an atom is about. Later versions may add a kind.
+#[non_exhaustive]
 #[derive(Clone, Copy, Debug, PartialEq, Eq, PartialOrd, Ord, Hash)]
 pub enum Term {
     /// A constant, 0 to 15.
@@ -140,7 +146,7 @@ impl Label {
     }
 }
 
-/// A row of a listing.
+/// A row of a listing: there are these two kinds and no other.
 #[derive(Clone, Copy, Debug, PartialEq, Eq, Hash)]
 pub enum Row {
     /// A leaf and its value, at most 10^18.
@@ -221,6 +227,24 @@ impl Listing {
     /// The words, three for each row.
     pub fn words(&self) -> &[u64] {
         &self.0
+    }
+
+    /// Whether no parameter occurs, and the variables that occur are 0, 1, .. without a gap.
+    pub(crate) fn is_closed(&self, arities: &Arities) -> bool {
+        let mut variables = Vec::new();
+        for row in self.rows() {
+            let Row::Branch { label, .. } = row else { continue };
+            for term in label.terms(arities) {
+                match term {
+                    Term::Constant(_) => {}
+                    Term::Parameter(_) => return false,
+                    Term::Variable(variable) => variables.push(variable),
+                }
+            }
+        }
+        variables.sort_unstable();
+        variables.dedup();
+        variables.iter().enumerate().all(|(place, variable)| place == usize::from(*variable))
     }
 
     /// How many rows there are, 1 to 1,024.

@@ -1,9 +1,17 @@
 use std::fmt;
 
-/// Why a call or a line is refused, by the trade words of document 01.
+/// Why a call or a line is refused: a number, a trade word, and what they mean.
 ///
 /// A refused call leaves everything as it was. Which refusals an operation can answer, and in which order it checks for them,
-/// stands with the operation.
+/// stands with the operation; `docs/REFERENCE.md` has each one's usual causes and remedies. Later versions may add numbers.
+///
+/// ```
+/// use yindolve::Refusal;
+/// let refusal = Refusal::from_number(13).unwrap();
+/// assert_eq!((refusal.number(), refusal.word()), (13, "weights"));
+/// assert_eq!(refusal.to_string(), "refused, 13 (weights): an action's weights, summed, are not the total in every case");
+/// ```
+#[non_exhaustive]
 #[derive(Clone, Copy, Debug, PartialEq, Eq, PartialOrd, Ord, Hash)]
 pub enum Refusal {
     /// A line that is not of the grammar.
@@ -46,7 +54,7 @@ pub enum Refusal {
 
 impl Refusal {
     /// All refusals, in the order of their numbers.
-    pub const ALL: [Refusal; 18] = [
+    pub const ALL: &'static [Refusal] = &[
         Refusal::Form,
         Refusal::Name,
         Refusal::Arity,
@@ -67,14 +75,14 @@ impl Refusal {
         Refusal::Buffer,
     ];
 
-    /// The refusal's number, 1 to 18.
+    /// The refusal's number.
     pub const fn number(self) -> u64 {
         self as u64
     }
 
     /// The refusal of a number, if there is one.
     pub fn from_number(number: u64) -> Option<Refusal> {
-        Refusal::ALL.into_iter().find(|refusal| refusal.number() == number)
+        Refusal::ALL.iter().copied().find(|refusal| refusal.number() == number)
     }
 
     /// The trade word.
@@ -100,11 +108,35 @@ impl Refusal {
             Refusal::Buffer => "buffer",
         }
     }
+
+    /// What it means, in one sentence.
+    pub const fn meaning(self) -> &'static str {
+        match self {
+            Refusal::Form => "the line is not of the grammar: brackets, spaces, the count or the kind of its words",
+            Refusal::Name => "a name that is not declared on an earlier accepted line, or one that is given twice",
+            Refusal::Arity => "not as many terms or objects as the predicate has places",
+            Refusal::Range => "a number outside its range, or an object that is not there",
+            Refusal::Place => "the line stands in the wrong part of the text, a part is missing, or a constant is not placed",
+            Refusal::Unbound => "a variable or a parameter that is not allowed here",
+            Refusal::Truth => "a diagram that says what becomes true has a number above 1",
+            Refusal::Variables => "more than 32 variables",
+            Refusal::Space => "more rows, facts or declarations than there is room for",
+            Refusal::Pairs => "more than 4,096 pairs of rows in one combination",
+            Refusal::Value => "a number above 10^18 was worked out",
+            Refusal::Scale => "the scale, the power of total times discount divisor, would pass 10^18",
+            Refusal::Weights => "an action's weights, summed, are not the total in every case",
+            Refusal::Listing => "the words are no listing, or the arity list is wrong",
+            Refusal::Valuations => "more than 1,000,000 ways to choose objects for the variables",
+            Refusal::Nothing => "no edge is left to cut",
+            Refusal::Paths => "more than 256 paths, too many to cut",
+            Refusal::Buffer => "a result buffer or a working space that is too small",
+        }
+    }
 }
 
 impl fmt::Display for Refusal {
     fn fmt(&self, f: &mut fmt::Formatter) -> fmt::Result {
-        write!(f, "refused, {}: {}", self.number(), self.word())
+        write!(f, "refused, {} ({}): {}", self.number(), self.word(), self.meaning())
     }
 }
 

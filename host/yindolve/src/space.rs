@@ -4,6 +4,7 @@ use crate::refusal::Refusal;
 use crate::state::State;
 
 /// A sum, product or maximum.
+#[non_exhaustive]
 #[derive(Clone, Debug, PartialEq, Eq)]
 pub struct Combined {
     /// The result.
@@ -13,6 +14,7 @@ pub struct Combined {
 }
 
 /// A listing with one edge less.
+#[non_exhaustive]
 #[derive(Clone, Debug, PartialEq, Eq)]
 pub struct Cut {
     /// The row of the listing before whose edge went to leaf 0.

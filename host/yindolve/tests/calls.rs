@@ -23,14 +23,14 @@ fn pair(number: usize) -> Label {
 
 #[test]
 fn refusals_by_number() {
-    for (number, refusal) in (1..).zip(Refusal::ALL) {
+    for (number, refusal) in (1..).zip(Refusal::ALL.iter().copied()) {
         assert_eq!(refusal.number(), number);
         assert_eq!(Refusal::from_number(number), Some(refusal));
     }
     assert_eq!(Refusal::from_number(0), None);
-    assert_eq!(Refusal::from_number(19), None);
+    assert_eq!(Refusal::from_number(99), None);
     let error: Box<dyn std::error::Error> = Refusal::Listing.into();
-    assert_eq!(error.to_string(), "refused, 14: listing");
+    assert_eq!(error.to_string(), "refused, 14 (listing): the words are no listing, or the arity list is wrong");
 }
 
 #[test]

@@ -1,7 +1,6 @@
 //! Whole texts and sessions.
-#![cfg(feature = "text")]
 
-use yindolve::{run, run_into, Answer, Full, Refusal, Row, Session, ANSWER_BYTES};
+use yindolve::{run, run_into, Answer, Refusal, Row, Session, ANSWER_BYTES};
 
 const SAMPLE: &[u8] = include_bytes!("../../../examples/sample.txt");
 const ANSWERS: &[u8] = include_bytes!("../../../examples/sample.out");
@@ -23,8 +22,8 @@ fn sample() {
     assert_eq!(bytes, ANSWERS);
     let Answer::Rows(rows) = &answers[14] else { panic!("{:?} for (show)", answers[14]) };
     assert_eq!((rows.len(), rows[0]), (6, Row::Leaf(120)));
-    assert_eq!(answers[15], Answer::Cut { row: 5, edge: false, rows: 5 });
-    assert_eq!(answers[16], Answer::Value { value: 30, steps: 1, scale: 8 });
+    assert!(matches!(answers[15], Answer::Cut(cut) if (cut.row, cut.edge, cut.rows) == (5, false, 5)));
+    assert!(matches!(answers[16], Answer::Value(value) if (value.value, value.steps, value.scale) == (30, 1, 8)));
     assert_eq!(answers[17], Answer::Refused { refusal: Refusal::Nothing, line: 18 });
     assert_eq!(answers[18], Answer::Nothing);
 }
@@ -32,12 +31,14 @@ fn sample() {
 #[test]
 fn little_room() {
     let mut answers = vec![7; 20];
-    assert_eq!(run_into(SAMPLE, &mut answers), Err(Full { bytes: 14, lines: 13 }));
+    let full = run_into(SAMPLE, &mut answers).unwrap_err();
+    assert_eq!((full.bytes, full.lines), (14, 13));
     assert_eq!(answers, [&ANSWERS[..14], &[7; 6]].concat());
     let mut answers = vec![7; ANSWERS.len() + 1];
     assert_eq!(run_into(SAMPLE, &mut answers), Ok(ANSWERS.len()));
     assert_eq!(answers, [ANSWERS, &[7]].concat());
-    assert_eq!(run_into(b"", &mut []), Err(Full { bytes: 0, lines: 0 }));
+    let full = run_into(b"(value)\n", &mut []).unwrap_err();
+    assert_eq!((full.bytes, full.lines), (0, 0));
 }
 
 #[test]
@@ -64,13 +65,10 @@ fn threads() {
 
 #[test]
 fn clones_go_on_alone() {
-    let mut session = Session::open();
-    for line in sample_lines().take(10) {
-        session.line(line);
-    }
+    let mut session = Session::load(SAMPLE).unwrap();
     let mut other = session.clone();
-    assert_eq!(other.line(b"(backup)"), Answer::Backup { steps: 1, rows: 6 });
+    assert_eq!(other.backup().map(|backup| (backup.steps, backup.rows)), Ok((1, 6)));
     // a session may move to another thread
-    let shown = std::thread::spawn(move || session.line(b"(show)")).join().unwrap();
+    let shown = std::thread::spawn(move || session.line("(show)")).join().unwrap();
     assert!(matches!(shown, Answer::Rows(rows) if rows.len() == 3), "one step ahead only in the clone");
 }

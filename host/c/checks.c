@@ -1,0 +1,119 @@
+/* What include/yindolve.h adds to the library's functions: refusals in words, answers as structs, null pointers, saved sessions. Prints nothing if all is well. */
+#include <stdio.h>
+#include <stdlib.h>
+#include "yindolve.h"
+
+static yindolve_session session, other;
+static uint64_t words[YINDOLVE_SAVED_WORDS], listing[YINDOLVE_RESULT_WORDS], work[YINDOLVE_WORK_WORDS];
+static uint8_t answers[YINDOLVE_ANSWER_BYTES];
+
+#define EXPECT(what) \
+    do { \
+        if (!(what)) { \
+            printf("%s:%d: %s\n", __FILE__, __LINE__, #what); \
+            exit(1); \
+        } \
+    } while (0)
+
+static const char *const model[] = {"(constant hub)", "(predicate stock 1)", "(total 4)", "(discount 1 2)", "(reward (if (stock hub) 10 0))", "(action fill !d)",
+    "(variant done 3)", "(becomes (stock ?s) (if (= !d ?s) 1 (if (stock ?s) 1 0)))", "(variant none 1)", "(start)", "(objects 2)", "(is hub 0)"};
+
+static yindolve_answer read_text(const char *text) {
+    return yindolve_read_answer((const uint8_t *)text, strlen(text));
+}
+
+static void refusals(void) {
+    uint64_t number;
+    EXPECT(strcmp(yindolve_refusal_word(0), "accepted") == 0);
+    for (number = 1; number <= YINDOLVE_BUFFER; ++number) {
+        EXPECT(strcmp(yindolve_refusal_word(number), "unknown") != 0);
+        EXPECT(strlen(yindolve_refusal_meaning(number)) > 20);
+    }
+    EXPECT(strcmp(yindolve_refusal_word(YINDOLVE_TOO_HIGH), "value") == 0);
+    EXPECT(strcmp(yindolve_refusal_word(99), "unknown") == 0);
+    EXPECT(YINDOLVE_FORM == 1 && YINDOLVE_WEIGHTS == 13 && YINDOLVE_BUFFER == 18);
+}
+
+static void read_answers(void) {
+    yindolve_answer a = read_text("(value 30 1 8)\n");
+    EXPECT(a.kind == YINDOLVE_ANSWER_VALUE && a.value == 30 && a.steps == 1 && a.scale == 8 && a.bytes == 15);
+    a = read_text("(backup 2 540)\n");
+    EXPECT(a.kind == YINDOLVE_ANSWER_BACKUP && a.steps == 2 && a.rows == 540);
+    a = read_text("(cut 5 false 4)\n");
+    EXPECT(a.kind == YINDOLVE_ANSWER_CUT && a.row == 5 && a.edge == 0 && a.rows == 4);
+    a = read_text("(cut 5 true 4)\n");
+    EXPECT(a.kind == YINDOLVE_ANSWER_CUT && a.edge == 1);
+    a = read_text("(refused 16 18)\n");
+    EXPECT(a.kind == YINDOLVE_ANSWER_REFUSED && a.refusal == YINDOLVE_NOTHING && a.line == 18);
+    a = read_text("(row 0 leaf 30)\n(row 1 leaf 0)\n(row 2 16777216 0 1)\n");
+    EXPECT(a.kind == YINDOLVE_ANSWER_ROWS && a.rows == 3);
+    EXPECT(read_text("").kind == YINDOLVE_ANSWER_NOTHING);
+    EXPECT(yindolve_read_answer(NULL, 0).kind == YINDOLVE_ANSWER_NOTHING);
+    EXPECT(yindolve_read_answer(NULL, 1).kind == YINDOLVE_ANSWER_UNKNOWN);
+    static const char *const wrong[] = {"(", "(value", "(value 1 2)\n", "(value 1 2 3)", "(value 1 2 3)\nx", "(value 99999999999999999999 1 1)\n", "(cut 5 maybe 4)\n",
+        "(row 0 leaf)\n", "(row)\n", "(refused x 1)\n", "\n", "(value  1 2 3)\n"};
+    size_t i;
+    for (i = 0; i < sizeof wrong / sizeof wrong[0]; ++i) {
+        a = read_text(wrong[i]);
+        EXPECT(a.kind == YINDOLVE_ANSWER_UNKNOWN && a.bytes == strlen(wrong[i]) && a.value == 0 && a.rows == 0);
+    }
+}
+
+static void null_pointers(void) {
+    uint64_t bytes = 0, lines = 0, value = 7, rows = 0;
+    const uint64_t arities[YINDOLVE_ARITIES] = {2}, leaf[] = {YINDOLVE_LEAF, 9, 0};
+    EXPECT(yindolve_run_text(NULL, 1, answers, sizeof answers, &bytes, &lines) == YINDOLVE_BUFFER);
+    EXPECT(yindolve_run_text(NULL, 0, answers, sizeof answers, &bytes, &lines) == 0);
+    EXPECT(yindolve_run_text((const uint8_t *)"x\n", 2, NULL, 0, &bytes, &lines) == YINDOLVE_BUFFER && bytes == 0 && lines == 0);
+    EXPECT(yindolve_value_of(arities, YINDOLVE_ARITIES, leaf, 3, 1, NULL, 0, NULL, 0, &value) == 0 && value == 9);
+    EXPECT(yindolve_value_of(arities, YINDOLVE_ARITIES, leaf, 3, 1, NULL, 1, NULL, 0, &value) == YINDOLVE_BUFFER);
+    EXPECT(yindolve_value_of(NULL, 0, NULL, 0, 1, NULL, 0, NULL, 0, &value) == YINDOLVE_LISTING);
+    EXPECT(yindolve_value(arities, YINDOLVE_ARITIES, leaf, 3, 1, YINDOLVE_NO_WORDS, YINDOLVE_NO_WORDS, &value) == 0 && value == 9);
+    EXPECT(yindolve_regress_under(arities, YINDOLVE_ARITIES, leaf, 3, NULL, 0, NULL, 0, listing, YINDOLVE_RESULT_WORDS, work, YINDOLVE_WORK_WORDS, &rows) == 0);
+    EXPECT(rows == 1 && listing[1] == 9);
+    EXPECT(yindolve_regress_under(arities, YINDOLVE_ARITIES, leaf, 3, NULL, 0, NULL, 0, NULL, 0, NULL, 0, &rows) == YINDOLVE_BUFFER);
+    EXPECT(yindolve_free_parameters(arities, YINDOLVE_ARITIES, leaf, 3, 4, listing, YINDOLVE_RESULT_WORDS, work, YINDOLVE_WORK_WORDS, &rows) == 0 && rows == 1);
+    EXPECT(yindolve_session_line(&other, NULL, 0, &bytes) == YINDOLVE_LISTING); /* not opened */
+    EXPECT(yindolve_session_ask(&other, "(value)").kind == YINDOLVE_ANSWER_UNKNOWN);
+    EXPECT(yindolve_session_open(&other) == 0);
+    EXPECT(yindolve_session_line(&other, NULL, 0, &bytes) == 0);
+    EXPECT(yindolve_session_line(&other, NULL, 3, &bytes) == YINDOLVE_BUFFER);
+    EXPECT(yindolve_read_rows(NULL, 0, NULL, 0, &rows) == YINDOLVE_LISTING);
+}
+
+static void sessions(void) {
+    size_t i;
+    uint64_t rows = 0, bytes = 0;
+    EXPECT(yindolve_session_open(&session) == 0);
+    for (i = 0; i < sizeof model / sizeof model[0]; ++i) EXPECT(yindolve_session_ask(&session, model[i]).kind == YINDOLVE_ANSWER_NOTHING);
+    EXPECT(yindolve_session_ask(&session, "(backup)").rows == 6);
+    EXPECT(yindolve_session_line(&session, (const uint8_t *)"(show)", 6, &bytes) == 0);
+    EXPECT(yindolve_read_rows(session.answer, bytes, listing, 17, &rows) == YINDOLVE_BUFFER);
+    EXPECT(yindolve_read_rows(session.answer, bytes - 1, listing, YINDOLVE_RESULT_WORDS, &rows) == YINDOLVE_LISTING);
+    EXPECT(yindolve_read_rows(session.answer, bytes, listing, YINDOLVE_RESULT_WORDS, &rows) == 0 && rows == 6);
+    EXPECT(yindolve_check(session.arities, YINDOLVE_ARITIES, listing, rows * YINDOLVE_ROW_WORDS) == 0);
+    EXPECT(yindolve_session_ask(&session, "(value)").value == 30);
+
+    EXPECT(yindolve_session_save(&session, words, YINDOLVE_SAVED_WORDS - 1) == YINDOLVE_BUFFER);
+    EXPECT(yindolve_session_save(&session, words, YINDOLVE_SAVED_WORDS) == 0);
+    EXPECT(memcmp(words, "yindolve", 8) == 0);
+    EXPECT(yindolve_session_load(&other, NULL, 0) == YINDOLVE_BUFFER);
+    EXPECT(yindolve_session_load(&other, words, YINDOLVE_SAVED_WORDS - 1) == YINDOLVE_BUFFER);
+    for (i = 0; i < YINDOLVE_SAVED_WORDS; i += i < 32 ? 1 : 61) {
+        words[i] ^= UINT64_C(1) << (i % 64);
+        EXPECT(yindolve_session_load(&other, words, YINDOLVE_SAVED_WORDS) == YINDOLVE_LISTING);
+        words[i] ^= UINT64_C(1) << (i % 64);
+    }
+    EXPECT(yindolve_session_load(&other, words, YINDOLVE_SAVED_WORDS) == 0);
+    yindolve_answer a = yindolve_session_ask(&other, "(value)"), b = yindolve_session_ask(&session, "(value)");
+    EXPECT(a.kind == YINDOLVE_ANSWER_VALUE && b.kind == a.kind && a.value == b.value && a.steps == b.steps && a.scale == b.scale);
+    EXPECT(yindolve_session_ask(&other, "(backup)").steps == 2 && yindolve_session_ask(&session, "(value)").steps == 1);
+}
+
+int main(void) {
+    refusals();
+    read_answers();
+    null_pointers();
+    sessions();
+    return 0;
+}

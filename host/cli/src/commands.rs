@@ -1,0 +1,8 @@
+//! One module for each command.
+
+pub mod explain;
+pub mod picture;
+pub mod plan;
+pub mod report;
+pub mod run;
+pub mod value;

@@ -1,0 +1,126 @@
+//! Backups, with cuts after each until nothing is left to cut.
+
+use crate::model::Loaded;
+use crate::trouble::Trouble;
+use crate::twin::Twin;
+use reference::diagram::Diagram;
+use reference::explain::{count_paths, explain, Fault};
+use reference::listing::read_listing;
+use std::time::{Duration, Instant};
+use yindolve::{CutDone, Refusal, Session};
+
+/// A backup and the cuts after it; for the reward alone neither.
+pub struct Step {
+    pub k: u64,
+    /// The rows before the cuts.
+    pub backed_up: usize,
+    pub cuts: Vec<CutDone>,
+    /// Why not all was cut; none where nothing is left to cut.
+    pub uncut: Option<Fault>,
+    pub rows: usize,
+    pub variables: usize,
+    pub paths: u128,
+    pub time: Duration,
+}
+
+/// The steps that were done, from k = 0 on, and the refusal that stopped them.
+pub struct Plan {
+    pub steps: Vec<Step>,
+    pub stop: Option<Fault>,
+}
+
+/// What a watcher is told while steps are done.
+pub enum Progress<'a> {
+    Backup { k: u64, rows: usize, variables: usize },
+    Cut { k: u64, cuts: usize, rows: usize },
+    Step(&'a Step, &'a Session),
+}
+
+pub struct Planner<'a> {
+    pub steps: u64,
+    /// Whether cuts are left out.
+    pub uncut: bool,
+    pub watch: &'a mut dyn FnMut(Progress) -> Result<(), Trouble>,
+}
+
+/// The value diagram, as the independent implementation has it.
+pub fn diagram(engine: &Session) -> Diagram {
+    let listing = engine.listing().and_then(|listing| read_listing(listing.words(), engine.arities().words()).ok());
+    listing.unwrap_or_else(|| Diagram::leaf(0))
+}
+
+impl Planner<'_> {
+    /// Works the steps out in the engine of the model.
+    pub fn plan(&mut self, model: &mut Loaded) -> Result<Plan, Trouble> {
+        let engine = &mut model.twin.engine;
+        let mut plan = Plan { steps: vec![start(engine)], stop: None };
+        for _ in 0..self.steps {
+            match self.step(engine)? {
+                Ok(step) => plan.steps.push(step),
+                Err(fault) => {
+                    plan.stop = Some(fault);
+                    break;
+                }
+            }
+        }
+        model.twin = Twin::of(engine)?;
+        Ok(plan)
+    }
+
+    fn step(&mut self, engine: &mut Session) -> Result<Result<Step, Fault>, Trouble> {
+        let begun = Instant::now();
+        let done = match engine.backup() {
+            Ok(done) => done,
+            Err(refusal) => return reason(engine, "(backup)", refusal).map(Err),
+        };
+        let (k, variables) = (done.steps, diagram(engine).variables().len());
+        (self.watch)(Progress::Backup { k, rows: done.rows, variables })?;
+        let (cuts, uncut) = self.cuts(engine, k)?;
+        let step = Step { backed_up: done.rows, cuts, uncut, time: begun.elapsed(), ..start(engine) };
+        (self.watch)(Progress::Step(&step, engine))?;
+        Ok(Ok(step))
+    }
+
+    fn cuts(&mut self, engine: &mut Session, k: u64) -> Result<(Vec<CutDone>, Option<Fault>), Trouble> {
+        let mut cuts = Vec::new();
+        while !self.uncut {
+            match engine.cut() {
+                Ok(cut) => {
+                    cuts.push(cut);
+                    (self.watch)(Progress::Cut { k, cuts: cuts.len(), rows: cut.rows })?;
+                }
+                Err(Refusal::Nothing) => break,
+                Err(refusal) => return Ok((cuts, Some(reason(engine, "(cut)", refusal)?))),
+            }
+        }
+        Ok((cuts, None))
+    }
+}
+
+/// The step that an engine stands at, nothing cut.
+fn start(engine: &Session) -> Step {
+    let value = diagram(engine);
+    Step {
+        k: engine.steps(),
+        backed_up: value.rows().len(),
+        cuts: Vec::new(),
+        uncut: None,
+        rows: value.rows().len(),
+        variables: value.variables().len(),
+        paths: count_paths(&value),
+        time: Duration::ZERO,
+    }
+}
+
+/// Why the engine refused a line.
+fn reason(engine: &Session, line: &str, refusal: Refusal) -> Result<Fault, Trouble> {
+    let fault = explain(&Twin::of(engine)?.known, line.as_bytes(), true);
+    match fault {
+        Some(fault) if fault.refusal.number() == refusal.number() => Ok(fault),
+        _ => Err(Trouble(format!(
+            "the proved library refuses {line} after step {} with {}, and the independent implementation does not",
+            engine.steps(),
+            refusal.number()
+        ))),
+    }
+}

@@ -1,0 +1,10 @@
+//! The front end as a person uses it: its commands are run, and what they print and how they end is looked at.
+
+mod common;
+mod documents;
+mod explain;
+mod picture;
+mod plan_and_value;
+mod report;
+mod run;
+mod troubles;

@@ -1,0 +1,164 @@
+//! plan and value: the quarter's work.
+
+use crate::common::{desk, example, file, folder, model_of};
+
+const TABLE: &str = "\
+step  rows  cuts  rows left  variables  paths
+0        4     -          4          1      3
+1       66    12         19          4     19
+2      540     0        540         10  ";
+
+/// A wanted part aboard a van elsewhere, one aboard a van that is here, and one on the shelf.
+const STATES: [(&str, &str); 3] = [
+    ("elsewhere.txt", "(objects 3)\n(true wanted 0)\n(true aboard 0 2)\n"),
+    ("here.txt", "(objects 3)\n(true wanted 0)\n(true aboard 0 2)\n(true here 2)\n"),
+    ("shelf.txt", "(objects 3)\n(true wanted 0)\n(true shelf 0)\n"),
+];
+
+fn planned(name: &str) -> (std::path::PathBuf, String) {
+    let here = folder(name);
+    let plan = here.join("quarter.plan").display().to_string();
+    let ended = desk(&["plan", &example("liftparts.txt"), "--steps", "3", "-o", &plan]);
+    assert!(ended.out.starts_with(TABLE), "{}", ended.out);
+    assert!(ended.out.contains("not all was cut: paths (17): after step 2: the value diagram of 540 rows has "), "{}", ended.out);
+    assert!(ended.err.contains("step 1: 66 rows, 12 cuts done, 19 rows, 4 variables left, "), "{}", ended.err);
+    assert!(ended.err.contains("stopped after 2 of 3 steps: space (9): step 3: action "), "{}", ended.err);
+    assert_eq!(ended.status, 1);
+    (here, plan)
+}
+
+#[test]
+fn a_plan_and_its_values() {
+    let (here, plan) = planned("plan");
+    let states = STATES.map(|(name, lines)| file(&here, name, lines));
+    let ended = desk(&["value", &plan, &states[0], &states[1], &states[2]]);
+    let rows: Vec<Vec<&str>> = ended.out.lines().map(|line| line.split_whitespace().collect()).collect();
+    assert_eq!(rows[0], ["state", "V", "k", "S^k", "fraction", "value"]);
+    assert_eq!(rows[1], [states[0].as_str(), "972", "2", "256", "243/64", "3.796875"]);
+    assert_eq!(rows[2], [states[1].as_str(), "3348", "2", "256", "837/64", "13.078125"]);
+    assert_eq!(rows[3], [states[2].as_str(), "7104", "2", "256", "111/4", "27.750000"]);
+    assert_eq!((ended.status, ended.err.as_str()), (0, ""));
+}
+
+#[test]
+fn a_bad_state_among_good_ones() {
+    let (here, plan) = planned("bad_state");
+    let good = file(&here, "good.txt", STATES[1].1);
+    let bad = file(&here, "bad.txt", "(objects 3)\n(true wantd 0)\n(true aboard 0)\n(true here 3)\n");
+    let foreign = file(&here, "foreign.txt", "(objects 3)\n(backup)\n");
+    let large = file(&here, "large.txt", "(objects 20)\n");
+    let none = file(&here, "none.txt", "(true here 0)\n");
+    let empty = file(&here, "empty.txt", "");
+    let ended = desk(&["value", &plan, &bad, &good, &foreign, &large, &none, &empty, &good]);
+    assert_eq!(ended.status, 1);
+    assert_eq!(ended.out.matches("3348  2  256    837/64  13.078125").count(), 2, "{}", ended.out);
+    for line in [
+        format!("{bad}:2:7: name (2): no predicate \"wantd\" is declared; did you mean \"wanted\"? Otherwise declare it on an earlier line: (predicate wantd ARITY)"),
+        format!("{bad}:3:7: arity (3): \"aboard\" is of arity 2, and here it has 1 term; (predicate aboard 2) says how many; write as many or change the declaration"),
+        format!("{bad}:4:12: range (4): there is no object 3; this state has objects 0 to 2; take one of these, or begin the state with more: (objects n)"),
+        format!("{foreign}:2:1: this is no line of a state; a state has (objects n), (is c o) and (true p o ..) lines"),
+        format!("{large}:1:1: valuations (15): 20^10 = 10,240,000,000,000 valuations, 20 objects and 10 variables; at most 1,000,000; "),
+        format!("{none}:1:1: place (5): no (objects n) was accepted before it; begin the state with (objects n)"),
+        format!("{empty}: place (5): no (objects n) was accepted before it; begin the state with (objects n)"),
+    ] {
+        assert!(ended.err.contains(&line), "{line}\n{}", ended.err);
+    }
+}
+
+#[test]
+fn state_files_and_line_ends() {
+    let here = folder("state_line_ends");
+    let plan = here.join("sample.plan").display().to_string();
+    assert_eq!(desk(&["plan", &example("sample.txt"), "--steps", "1", "-o", &plan]).status, 0);
+    let crlf = file(&here, "crlf.txt", "(objects 1)\r\n(is hub 0)\r\n");
+    let unended = file(&here, "unended.txt", "(objects 1)\n(is hub 0)");
+    let twice = file(&here, "twice.txt", "(objects 2)\n(is hub 1)\n(objects 1)\n(is hub 0)\n(true stock 0)\n");
+    let ended = desk(&["value", &plan, &crlf, &unended, &twice]);
+    assert!(ended.err.contains(&format!("{crlf}: line 1 ends with CR LF")), "{}", ended.err);
+    assert!(ended.err.contains(&format!("{unended}: the last line, 2, has no line feed")), "{}", ended.err);
+    assert!(ended.err.contains(&format!("{twice}:3: a second (objects n) begins the state anew")), "{}", ended.err);
+    assert!(ended.out.contains("120  1    8        15  15.000000"), "{}", ended.out);
+    assert_eq!(ended.status, 1);
+}
+
+#[test]
+fn a_model_is_valued_without_a_plan() {
+    let here = folder("model_value");
+    let state = file(&here, "state.txt", "(objects 1)\n(is hub 0)\n(true stock 0)\n");
+    let ended = desk(&["value", &example("sample.txt"), &state]);
+    assert!(ended.out.contains("10  0    1        10  10.000000"), "{}", ended.out);
+    assert!(ended.err.contains("no step is looked ahead (k = 0)"), "{}", ended.err);
+}
+
+#[test]
+fn a_plan_goes_on_from_a_plan() {
+    let here = folder("go_on");
+    let [first, second, whole] = ["first", "second", "whole"].map(|name| here.join(name).display().to_string());
+    assert_eq!(desk(&["plan", &example("inventory.txt"), "--steps", "1", "-o", &first]).status, 0);
+    assert_eq!(desk(&["plan", &first, "--steps", "2", "-o", &second]).status, 0);
+    assert_eq!(desk(&["plan", &example("inventory.txt"), "--steps", "3", "-o", &whole]).status, 0);
+    let value = |file: &str| {
+        let text = std::fs::read_to_string(file).expect("a plan");
+        text[text.find("\nvalue ").expect("a value")..text.find("\nlines ").expect("lines")].to_string()
+    };
+    assert_eq!(value(&second), value(&whole));
+}
+
+#[test]
+fn steps_that_are_refused() {
+    let here = folder("refused_steps");
+    let out = here.join("out").display().to_string();
+    let named = desk(&["plan", &example("inventory-named.txt"), "--steps", "12", "-o", &out]);
+    assert!(named.err.contains("stopped after 9 of 12 steps: value (11): step 10: "), "{}", named.err);
+    assert!(named.err.contains("at most 1,000,000,000,000,000,000; take a smaller reward, total or discount divisor"), "{}", named.err);
+    let sample = desk(&["plan", &example("sample.txt"), "--steps", "9", "-o", &out]);
+    assert!(sample.err.contains("stopped after 5 of 9 steps: variables (8): step 6: "), "{}", sample.err);
+    assert_eq!((named.status, sample.status), (1, 1));
+    let scale =
+        file(&here, "scale.txt", "(total 1000000)\n(discount 1 1000000)\n(reward 1)\n(action wait)\n(variant only 1000000)\n(start)\n");
+    let scale = desk(&["plan", &scale, "--steps", "2", "-o", &out]);
+    assert!(scale.err.contains("stopped after 1 of 2 steps: scale (12): step 2: the scale 1,000,000,000,000^2 = "), "{}", scale.err);
+}
+
+#[test]
+fn a_broken_model_is_not_planned() {
+    let here = folder("broken_plan");
+    let out = here.join("out").display().to_string();
+    let text = file(&here, "broken.txt", model_of("liftparts.txt").replace("(becomes (here ?v)", "(becomes (heer ?v)"));
+    let ended = desk(&["plan", &text, "--steps", "1", "-o", &out]);
+    assert!(
+        ended.err.contains(&format!("{text}:14:11: name (2): no predicate \"heer\" is declared; did you mean \"here\"?")),
+        "{}",
+        ended.err
+    );
+    assert!(ended.err.contains("the model is not taken, since 1 line is refused"), "{}", ended.err);
+    assert_eq!((ended.status, ended.out.as_str()), (1, ""));
+    assert!(!std::path::Path::new(&out).exists());
+    let unstarted = file(&here, "unstarted.txt", "(constant hub)\n");
+    assert!(desk(&["plan", &unstarted, "--steps", "1", "-o", &out]).err.contains("place (5): the text ends and no (start) was accepted"));
+}
+
+#[test]
+fn a_damaged_plan() {
+    let (here, plan) = planned("damaged");
+    let state = file(&here, "state.txt", STATES[0].1);
+    let bytes = std::fs::read(&plan).expect("a plan");
+    let mut changed = bytes.clone();
+    changed[bytes.len() / 2] ^= 1;
+    for (name, damaged) in [("cut.plan", &bytes[..bytes.len() / 2]), ("changed.plan", &changed)] {
+        let damaged = file(&here, name, damaged);
+        for arguments in [&["value", &damaged, &state][..], &["picture", &damaged], &["plan", &damaged, "--steps", "1", "-o", "x"]] {
+            let ended = desk(arguments);
+            assert!(ended.err.contains("is not a saved session: its sum is wrong"), "{}", ended.err);
+            assert_eq!((ended.status, ended.out.as_str()), (2, ""));
+        }
+    }
+}
+
+#[test]
+fn without_cuts() {
+    let here = folder("uncut");
+    let out = here.join("out").display().to_string();
+    let ended = desk(&["plan", &example("sample.txt"), "--steps", "9", "--uncut", "-o", &out]);
+    assert!(ended.err.contains("stopped after 3 of 9 steps: space (9): step 4: "), "{}", ended.err);
+}

@@ -1,0 +1,102 @@
+//! The reason that is told for a line is one of the very refusal that the line is answered, and a line that is taken has none.
+
+use reference::explain::{explain, Fault};
+use reference::session::Session;
+use reference::slips::Slips;
+use reference::text::lines;
+
+/// Every refused line of a text with its reason.
+fn faults(text: &[u8]) -> Vec<(usize, Fault)> {
+    let mut session = Session::new(Slips::NONE);
+    let mut found = Vec::new();
+    for (number, (line, ended)) in lines(text).into_iter().enumerate() {
+        let fault = explain(&session, line, ended);
+        let refused = if ended { session.take(line).err() } else { Some(reference::refusal::Refusal::Form) };
+        assert_eq!(fault.as_ref().map(|fault| fault.refusal), refused, "line {}: {}", number + 1, line.escape_ascii());
+        if let Some(fault) = fault {
+            assert!(fault.span.0 <= fault.span.1 && fault.span.1 <= line.len(), "{fault:?}");
+            found.push((number + 1, fault));
+        }
+    }
+    found
+}
+
+fn texts() -> Vec<(String, Vec<u8>)> {
+    let folder = |name: &str| format!("{}/../{name}", env!("CARGO_MANIFEST_DIR"));
+    let files = ["corpus", "../examples"].map(|name| std::fs::read_dir(folder(name)).expect("a folder"));
+    let paths = files.into_iter().flatten().map(|file| file.expect("a file").path());
+    let texts = paths.filter(|path| path.extension().is_some_and(|extension| extension == "txt"));
+    texts.map(|path| (path.display().to_string(), std::fs::read(&path).expect("a text"))).collect()
+}
+
+#[test]
+fn stored_texts() {
+    for (name, text) in texts() {
+        println!("{name}");
+        faults(&text);
+    }
+}
+
+/// Texts with a few bytes changed; only short ones, which are soon run.
+#[test]
+fn damaged_texts() {
+    let mut random = 1_u64;
+    let mut below = |bound: usize| {
+        random = random.wrapping_mul(6_364_136_223_846_793_005).wrapping_add(1_442_695_040_888_963_407);
+        (random >> 33) as usize % bound
+    };
+    for (name, text) in texts().into_iter().filter(|(_, text)| text.len() < 1_500) {
+        println!("{name}");
+        for _ in 0..20 {
+            let mut damaged: Vec<u8> =
+                text.split_inclusive(|byte| *byte == b'\n').filter(|line| *line != b"(backup)\n").collect::<Vec<_>>().concat();
+            for _ in 0..1 + below(3) {
+                let at = below(damaged.len() + 1);
+                match below(3) {
+                    0 => damaged.insert(at, b"()  ?!=az09A\t\r\n"[below(15)]),
+                    1 if at < damaged.len() => damaged[at] = b"()  ?!=az09A\t\r\n"[below(15)],
+                    _ if at < damaged.len() => drop(damaged.remove(at)),
+                    _ => damaged.push(b'\r'),
+                }
+            }
+            faults(&damaged);
+        }
+    }
+}
+
+fn only_fault(text: &str) -> (usize, usize, String, String) {
+    let mut found = faults(text.as_bytes());
+    assert_eq!(found.len(), 1, "{found:?}");
+    let (line, fault) = found.remove(0);
+    (line, fault.span.0 + 1, fault.what, fault.advice)
+}
+
+#[test]
+fn weights_that_do_not_add_up() {
+    let text =
+        "(predicate heavy 1)\n(total 4)\n(reward 1)\n(action lift !p)\n(variant done (if (heavy !p) 2 3))\n(variant fails 1)\n(start)\n";
+    let (line, column, what, _) = only_fault(text);
+    assert_eq!((line, column), (7, 1));
+    assert_eq!(what, "the weights of action \"lift\" do not add up to 4 in every case: where heavy(!p) the sum is 3");
+}
+
+#[test]
+fn a_misspelt_name() {
+    let (line, column, what, advice) = only_fault("(predicate shelf 1)\n(reward (if (shelv ?p) 1 0))\n");
+    assert_eq!((line, column, what.as_str()), (2, 14, "no predicate \"shelv\" is declared"));
+    assert!(advice.starts_with("did you mean \"shelf\"?"), "{advice}");
+}
+
+#[test]
+fn line_ends() {
+    assert_eq!(only_fault("(constant hub)\r\n").2, "the line ends with CR LF, a carriage return before the line feed");
+    assert_eq!(only_fault("(constant hub)").2, "the last line has no line feed at its end");
+}
+
+#[test]
+fn a_backup_refused_for_its_scale() {
+    let text = "(total 1000000)\n(discount 1 1000000)\n(reward 1)\n(action wait)\n(variant only 1000000)\n(start)\n(backup)\n(backup)\n";
+    let (line, _, what, _) = only_fault(text);
+    assert_eq!(line, 8);
+    assert_eq!(what, "step 2: the scale 1,000,000,000,000^2 = 1,000,000,000,000,000,000,000,000; at most 1,000,000,000,000,000,000");
+}
