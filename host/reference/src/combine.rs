@@ -158,6 +158,7 @@ pub fn combine(operator: Operator, names: Names, a: &Diagram, b: &Diagram) -> Re
 pub fn highest_leaf(operator: Operator, a: &Diagram, b: &Diagram, most_pairs: usize) -> Result<u128, Refusal> {
     let leaf = |pair: &Pair| match step(operator, a, b, *pair) {
         Step::Leaves(v, w) => Some(operator.apply(v, w)),
+        Step::Zero => Some(0),
         Step::Descend { .. } => None,
     };
     Ok(reached(operator, a, b, most_pairs)?.iter().filter_map(leaf).max().unwrap_or(0))
