@@ -47,7 +47,6 @@ solve-Inv-loop ord into tab theta₀ n k x total j₀ theta j = Trying ord into 
 abbrev solve-μ-loop : solve-lts.MeasureT-loop
 solve-μ-loop ord into tab theta₀ n k x total j₀ theta j = total - j
 
--- src/lib.rt:260:9
 solve-returns : (t : ℕ) → solve-lts.Need-returns (
   wide-reads.Asked,
   wide-reads.Learnt,
@@ -65,7 +64,6 @@ solve-returns : (t : ℕ) → solve-lts.Need-returns (
 solve-returns t c =
     solve-end (c .if1 .taken)
 
--- src/lib.rt:262:18
 solve-mul-wide : (t : ℕ) → solve-lts.Need-mul-wide (
   wide-reads.Asked,
   wide-reads.Learnt,
@@ -84,7 +82,6 @@ solve-mul-wide t c =
     let p = c .before .before .before .before .before .pre .1 in
     omega (arith, p .0 .room, p .0 .few, p .1 .1 .1, c .if1 .left)
 
--- src/lib.rt:262:18
 solve-shared-slice-read-wide : (t : ℕ) → solve-lts.Need-shared-slice-read-wide (
   wide-reads.Asked,
   wide-reads.Learnt,
@@ -103,7 +100,6 @@ solve-shared-slice-read-wide t c =
     let p = c .before .before .before .before .before .before .pre .1 in
     omega (arith, p .0 .room, p .0 .few, p .1 .1 .1, c .before .if1 .left)
 
--- src/lib.rt:262:9
 solve-wide-requires : (t : ℕ) → solve-lts.Need-wide-requires (
   wide-reads.Asked,
   wide-reads.Learnt,
@@ -121,7 +117,6 @@ solve-wide-requires : (t : ℕ) → solve-lts.Need-wide-requires (
 solve-wide-requires t c κs =
     search needs
 
--- src/lib.rt:263:24
 solve-mul-all-known : (t : ℕ) → solve-lts.Need-mul-all-known (
   wide-reads.Asked,
   wide-reads.Learnt,
@@ -140,7 +135,6 @@ solve-mul-all-known t c =
     let p = c .before .before .before .before .before .before .before .pre .1 in
     omega (arith, p .0 .few, p .1 .1 .1)
 
--- src/lib.rt:263:8
 solve-all-known-requires : (t : ℕ) → solve-lts.Need-all-known-requires (
   wide-reads.Asked,
   wide-reads.Learnt,
@@ -159,7 +153,6 @@ solve-all-known-requires t c κs =
     let p = c .before .before .before .before .before .before .before .pre .1 in
     omega (arith, p .0 .tab-room)
 
--- src/lib.rt:264:13
 solve-is-met-requires : (t : ℕ) → solve-lts.Need-is-met-requires (
   wide-reads.Asked,
   wide-reads.Learnt,
@@ -184,7 +177,6 @@ solve-is-met-requires t c κs =
           (wide .ensures .1),
     )
 
--- src/lib.rt:265:13
 solve-same-length : (t : ℕ) → solve-lts.Need-same-length (
   wide-reads.Asked,
   wide-reads.Learnt,
@@ -202,7 +194,6 @@ solve-same-length : (t : ℕ) → solve-lts.Need-same-length (
 solve-same-length t c =
     search needs
 
--- src/lib.rt:265:13
 solve-returns-2 : (t : ℕ) → solve-lts.Need-returns-2 (
   wide-reads.Asked,
   wide-reads.Learnt,
@@ -226,7 +217,6 @@ solve-returns-2 t c =
     known-no _ (p .0) (p .1 .1 .0) (omega (arith, p .1 .1 .1, if1 .left)) (wide .ensures .0) (all-known .ensures) (if2 .taken) (c .before .is-met .ensures)
     (c .if3 .taken)
 
--- src/lib.rt:267:48
 solve-add-solve : (t : ℕ) → solve-lts.Need-add-solve (
   wide-reads.Asked,
   wide-reads.Learnt,
@@ -245,7 +235,6 @@ solve-add-solve t c =
     let p = c .before .before .before .before .before .before .before .before .before .before .before .before .before .pre .1 in
     omega (arith, p .0 .few, p .1 .1 .1)
 
--- src/lib.rt:267:9
 solve-solve-requires : (t : ℕ) → solve-lts.Need-solve-requires (
   wide-reads.Asked,
   wide-reads.Learnt,
@@ -280,7 +269,6 @@ solve-solve-requires t c κs =
       ),
     )
 
--- src/lib.rt:267:9
 solve-same-length-2 : (t : ℕ) → solve-lts.Need-same-length-2 (
   wide-reads.Asked,
   wide-reads.Learnt,
@@ -298,7 +286,6 @@ solve-same-length-2 : (t : ℕ) → solve-lts.Need-same-length-2 (
 solve-same-length-2 t c =
     search needs
 
--- src/lib.rt:267:9
 solve-returns-3 : (t : ℕ) → solve-lts.Need-returns-3 (
   wide-reads.Asked,
   wide-reads.Learnt,
@@ -325,7 +312,6 @@ solve-returns-3 t c =
     known-yes _ (p .0) (p .1 .1 .0) (omega (arith, p .1 .1 .1, if1 .left)) (wide .ensures .0) (all-known .ensures) (if2 .taken) (is-met .ensures) (if3 .left)
     (solve .ensures)
 
--- src/lib.rt:269:9
 solve-way-count-requires : (t : ℕ) → solve-lts.Need-way-count-requires (
   wide-reads.Asked,
   wide-reads.Learnt,
@@ -344,7 +330,6 @@ solve-way-count-requires t c κs =
     let p = c .before .before .before .before .before .before .before .before .before .pre .1 in
     omega (arith, p .1 .0 .room)
 
--- src/lib.rt:271:5
 solve-loop-holds : (t : ℕ) → solve-lts.Need-loop-holds (
   wide-reads.Asked,
   wide-reads.Learnt,
@@ -362,7 +347,6 @@ solve-loop-holds : (t : ℕ) → solve-lts.Need-loop-holds (
 solve-loop-holds t c =
     trying-start
 
--- src/lib.rt:272:39
 solve-mul-attempt : (t : ℕ) → solve-lts.Need-mul-attempt (
   wide-reads.Asked,
   wide-reads.Learnt,
@@ -381,7 +365,6 @@ solve-mul-attempt t c =
     let p = c .before .before .before .before .before .before .before .before .before .before .before .before .before .pre .1 in
     omega (arith, p .0 .few, p .1 .1 .1)
 
--- src/lib.rt:272:12
 solve-attempt-requires : (t : ℕ) → solve-lts.Need-attempt-requires (
   wide-reads.Asked,
   wide-reads.Learnt,
@@ -418,7 +401,6 @@ solve-attempt-requires t c κs =
       ),
     )
 
--- src/lib.rt:273:48
 solve-add-solve-2 : (t : ℕ) → solve-lts.Need-add-solve-2 (
   wide-reads.Asked,
   wide-reads.Learnt,
@@ -437,7 +419,6 @@ solve-add-solve-2 t c =
     let p = c .before .before .before .before .before .before .before .before .before .before .before .before .before .before .before .before .before .before .pre .1 in
     omega (arith, p .0 .few, p .1 .1 .1)
 
--- src/lib.rt:273:16
 solve-solve-requires-2 : (t : ℕ) → solve-lts.Need-solve-requires-2 (
   wide-reads.Asked,
   wide-reads.Learnt,
@@ -475,7 +456,6 @@ solve-solve-requires-2 t c κs =
       ),
     )
 
--- src/lib.rt:274:17
 solve-same-length-3 : (t : ℕ) → solve-lts.Need-same-length-3 (
   wide-reads.Asked,
   wide-reads.Learnt,
@@ -496,7 +476,6 @@ solve-same-length-3 t c =
     let loop = c .before .before .before .before .before .before .before .before .before .before .before .loop in
     solve2 .kept .1 .1 .1 .0 ∙ attempt .kept .1 .1 .0 ∙ loop .inv .length-kept
 
--- src/lib.rt:274:17
 solve-returns-4 : (t : ℕ) → solve-lts.Need-returns-4 (
   wide-reads.Asked,
   wide-reads.Learnt,
@@ -525,7 +504,6 @@ solve-returns-4 t c =
     trying-hit (p .0) (p .1 .1 .0) (omega (arith, p .1 .1 .1, if1 .left)) (wide .ensures .0) (loop .inv) (way-count .ensures) (loop-test .taken)
     (attempt .ensures) (attempt .kept .1 .1 .0) (if4 .taken) (solve2 .ensures) (solve2 .kept .1 .1 .1 .0) (c .if5 .taken)
 
--- src/lib.rt:276:13
 solve-add-j : (t : ℕ) → solve-lts.Need-add-j (
   wide-reads.Asked,
   wide-reads.Learnt,
@@ -543,7 +521,6 @@ solve-add-j : (t : ℕ) → solve-lts.Need-add-j (
 solve-add-j t c =
     search needs
 
--- src/lib.rt:271:5
 solve-loop-less : (t : ℕ) → solve-lts.Need-loop-less (
   wide-reads.Asked,
   wide-reads.Learnt,
@@ -561,7 +538,6 @@ solve-loop-less : (t : ℕ) → solve-lts.Need-loop-less (
 solve-loop-less t c =
     omega (arith, c .before .before .before .before .before .before .before .before .before .before .loop-test .taken)
 
--- src/lib.rt:271:5
 solve-loop-again : (t : ℕ) → solve-lts.Need-loop-again (
   wide-reads.Asked,
   wide-reads.Learnt,
@@ -590,7 +566,6 @@ solve-loop-again t c =
     trying-failed (p .0) (p .1 .1 .0) (omega (arith, p .1 .1 .1, if1 .left)) (wide .ensures .0) (loop .inv) (way-count .ensures) (loop-test .taken)
     (attempt .ensures) (attempt .kept .1 .1 .0) (if4 .taken) (solve2 .ensures) (solve2 .kept .1 .1 .1 .0) (c .if5 .left)
 
--- src/lib.rt:278:13
 solve-add-j-2 : (t : ℕ) → solve-lts.Need-add-j-2 (
   wide-reads.Asked,
   wide-reads.Learnt,
@@ -608,7 +583,6 @@ solve-add-j-2 : (t : ℕ) → solve-lts.Need-add-j-2 (
 solve-add-j-2 t c =
     search needs
 
--- src/lib.rt:271:5
 solve-loop-less-2 : (t : ℕ) → solve-lts.Need-loop-less-2 (
   wide-reads.Asked,
   wide-reads.Learnt,
@@ -626,7 +600,6 @@ solve-loop-less-2 : (t : ℕ) → solve-lts.Need-loop-less-2 (
 solve-loop-less-2 t c =
     omega (arith, c .before .before .before .before .before .loop-test .taken)
 
--- src/lib.rt:271:5
 solve-loop-again-2 : (t : ℕ) → solve-lts.Need-loop-again-2 (
   wide-reads.Asked,
   wide-reads.Learnt,
@@ -652,7 +625,6 @@ solve-loop-again-2 t c =
     trying-misfit (p .0) (p .1 .1 .0) (omega (arith, p .1 .1 .1, if1 .left)) (wide .ensures .0) (loop .inv) (way-count .ensures) (loop-test .taken)
     (attempt .ensures) (attempt .kept .1 .1 .0) (c .if4 .left)
 
--- src/lib.rt:245:1
 solve-same-length-4 : (t : ℕ) → solve-lts.Need-same-length-4 (
   wide-reads.Asked,
   wide-reads.Learnt,
@@ -670,7 +642,6 @@ solve-same-length-4 : (t : ℕ) → solve-lts.Need-same-length-4 (
 solve-same-length-4 t c =
     c .before .loop .inv .length-kept
 
--- src/lib.rt:245:1
 solve-returns-5 : (t : ℕ) → solve-lts.Need-returns-5 (
   wide-reads.Asked,
   wide-reads.Learnt,

@@ -1,16 +1,13 @@
 use Rattle.matcher.proofs.WayLaws.{alike-not, alike-sign}
 use Rattle.matcher.proofs.alike.Statement.{statement}
 use Rattle.matcher.proofs.alike.Tie as tie
-use Rattle.matcher.proofs.alike.Reads as reads
-use Rattle.matcher.proofs.alike.Lts as lts
 
--- src/lib.rt:82:9
 returns : tie.Need-returns
 returns c = search alike-not
 
--- src/lib.rt:78:1
 returns-2 : tie.Need-returns-2
 returns-2 c = search alike-sign
 
 pub alike-spec : {M : Type 1} → statement M
-alike-spec = tie.close (tie.spec returns returns-2)
+alike-spec =
+    tie.close (tie.spec returns returns-2)

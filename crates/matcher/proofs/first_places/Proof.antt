@@ -5,10 +5,6 @@ use Rattle.matcher.proofs.PlaceLaws.{placing-start, placing-new, placin
 use Rattle.matcher.specs.Search.{Placing}
 use Rattle.matcher.proofs.first_places.Statement.{statement}
 use Rattle.matcher.proofs.first_places.Tie as tie
-use Rattle.matcher.proofs.first_places.Reads as reads
-use Rattle.matcher.proofs.first_places.Lts as lts
-use Rattle.matcher.proofs.term_at.Reads as term-at-reads
-use Rattle.matcher.proofs.wide.Reads as wide-reads
 
 abbrev Inv-loop : tie.InvT-loop
 Inv-loop ord n tab₀ m₀ tab m = (m ≤ n * 4) × Placing ord tab₀ tab m
@@ -16,35 +12,24 @@ Inv-loop ord n tab₀ m₀ tab m = (m ≤ n * 4) × Placing ord tab₀ tab m
 abbrev μ-loop : tie.MeasureT-loop
 μ-loop ord n tab₀ m₀ tab m = n * 4 - m
 
--- src/lib.rt:431:5
 loop-holds : tie.Need-loop-holds Inv-loop μ-loop
 loop-holds c = (omega arith, placing-start _ (c .before .before .pre .1 .1))
 
--- src/lib.rt:431:15
 mul-loop : tie.Need-mul-loop Inv-loop μ-loop
 mul-loop c = omega (arith, c .before .before .before .pre .1 .0)
 
--- src/lib.rt:432:13
 term-at-requires : tie.Need-term-at-requires Inv-loop μ-loop
 term-at-requires c κs = omega (arith, c .loop-test .taken, c .before .before .before .before .pre .0)
 
--- src/lib.rt:433:17
 mul-wide : tie.Need-mul-wide Inv-loop μ-loop
 mul-wide c = omega (arith, c .term-at .ensures .1)
 
--- src/lib.rt:433:17
 slice-read-wide : tie.Need-slice-read-wide Inv-loop μ-loop
 slice-read-wide c = omega (arith, c .before .term-at .ensures .1, c .before .before .before .loop .inv .1 .length-kept, c .before .before .before .before .before .before .pre .1 .1 .room)
 
--- src/lib.rt:433:12
-wide-requires : tie.Need-wide-requires Inv-loop μ-loop
-wide-requires c κs = search needs
-
--- src/lib.rt:433:28
 add-if1 : tie.Need-add-if1 Inv-loop μ-loop
 add-if1 c = omega (arith, c .before .before .before .loop-test .taken, c .before .before .before .before .before .before .before .pre .1 .0)
 
--- src/lib.rt:434:23
 add-tab : tie.Need-add-tab Inv-loop μ-loop
 add-tab c =
     let loop-test = c .before .before .before .before .loop-test in
@@ -52,7 +37,6 @@ add-tab c =
     let entry = c .before .before .before .before .before .before .before .before .pre in
     omega (arith, loop-test .taken, entry .1 .0, entry .0, loop .inv .1 .length-kept, entry .1 .1 .room)
 
--- src/lib.rt:434:22
 cast-tab : tie.Need-cast-tab Inv-loop μ-loop
 cast-tab c =
     let loop-test = c .before .before .before .before .loop-test in
@@ -60,11 +44,9 @@ cast-tab c =
     let entry = c .before .before .before .before .before .before .before .before .pre in
     omega (arith, loop-test .taken, entry .1 .0, entry .0, loop .inv .1 .length-kept, entry .1 .1 .room)
 
--- src/lib.rt:434:13
 mul-tab : tie.Need-mul-tab Inv-loop μ-loop
 mul-tab c = omega (arith, c .before .before .before .term-at .ensures .1)
 
--- src/lib.rt:434:13
 slice-write-tab : tie.Need-slice-write-tab Inv-loop μ-loop
 slice-write-tab c =
     let term-at = c .before .before .before .term-at in
@@ -73,7 +55,6 @@ slice-write-tab c =
     let entry = c .before .before .before .before .before .before .before .before .pre in
     omega (arith, term-at .ensures .1, loop-test .taken, entry .1 .0, entry .0, loop .inv .1 .length-kept, entry .1 .1 .room)
 
--- src/lib.rt:435:13
 add-m : tie.Need-add-m Inv-loop μ-loop
 add-m c =
     let loop-test = c .before .before .before .before .loop-test in
@@ -81,11 +62,9 @@ add-m c =
     let entry = c .before .before .before .before .before .before .before .before .pre in
     omega (arith, loop-test .taken, entry .1 .0, entry .0, loop .inv .1 .length-kept, entry .1 .1 .room)
 
--- src/lib.rt:431:5
 loop-less : tie.Need-loop-less Inv-loop μ-loop
 loop-less c = omega (arith, c .before .before .before .before .loop-test .taken)
 
--- src/lib.rt:431:5
 loop-again : tie.Need-loop-again Inv-loop μ-loop
 loop-again c =
     let term-at = c .before .before .before .term-at in
@@ -98,7 +77,6 @@ loop-again c =
           (omega (arith, c .before .wide .ensures .0, c .if1 .taken)),
     )
 
--- src/lib.rt:437:13
 add-m-2 : tie.Need-add-m-2 Inv-loop μ-loop
 add-m-2 c =
     let loop-test = c .before .before .before .before .loop-test in
@@ -106,11 +84,9 @@ add-m-2 c =
     let entry = c .before .before .before .before .before .before .before .before .pre in
     omega (arith, loop-test .taken, entry .1 .0, entry .0, loop .inv .1 .length-kept, entry .1 .1 .room)
 
--- src/lib.rt:431:5
 loop-less-2 : tie.Need-loop-less-2 Inv-loop μ-loop
 loop-less-2 c = omega (arith, c .before .before .before .before .loop-test .taken)
 
--- src/lib.rt:431:5
 loop-again-2 : tie.Need-loop-again-2 Inv-loop μ-loop
 loop-again-2 c =
     let term-at = c .before .before .before .term-at in
@@ -122,36 +98,14 @@ loop-again-2 c =
           (term-at .ensures .1) (omega (arith, c .before .wide .ensures .0, c .if1 .left)),
     )
 
--- src/lib.rt:424:1
 same-length : tie.Need-same-length Inv-loop μ-loop
 same-length c = c .before .loop .inv .1 .length-kept
 
--- src/lib.rt:424:1
 returns : tie.Need-returns Inv-loop μ-loop
 returns c = placing-end _ (c .before .loop .inv .1) (c .loop-test .left) (c .before .loop .inv .0)
 
 pub first-places-spec : {M : Type 1} → statement M
 first-places-spec =
     tie.close
-    (tie.spec
-    Inv-loop
-    μ-loop
-    loop-holds
-    mul-loop
-    term-at-requires
-    mul-wide
-    slice-read-wide
-    wide-requires
-    add-if1
-    add-tab
-    cast-tab
-    mul-tab
-    slice-write-tab
-    add-m
-    loop-less
-    loop-again
-    add-m-2
-    loop-less-2
-    loop-again-2
-    same-length
-    returns)
+    (tie.spec Inv-loop μ-loop loop-holds mul-loop term-at-requires mul-wide slice-read-wide (λ c κs. search needs) add-if1 add-tab cast-tab mul-tab
+    slice-write-tab add-m loop-less loop-again add-m-2 loop-less-2 loop-again-2 same-length returns)
