@@ -30,8 +30,13 @@ pub struct Said {
     pub answer: Answer,
 }
 
-// W, and G / D, unless they are given.
+// W where no (total) line is accepted.
 const TOTAL: u64 = 100;
+
+// G and D where no (discount) line is accepted.
+const NUMERATOR: u64 = 19;
+
+const DENOMINATOR: u64 = 20;
 
 // Before the first line.
 pub fn opening() -> Numbers
@@ -51,8 +56,8 @@ pub fn opening() -> Numbers
         },
         head: Head {
             total: TOTAL,
-            numerator: 1,
-            denominator: 1,
+            numerator: NUMERATOR,
+            denominator: DENOMINATOR,
             reward_start: 0,
             reward_words: 0,
             actions: 0,
