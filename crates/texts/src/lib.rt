@@ -123,7 +123,7 @@ pub fn reply_line(
 }
 
 // Whether a line with bytes is met, now or before.
-fn met_behind(met: bool, line: &[u8]) -> bool
+pub fn met_behind(met: bool, line: &[u8]) -> bool
     ensures { λ r. ⌜ r ≡ (met || hasBytes (now (line .entry))) ⌝ }
 {
     if met {
