@@ -10,6 +10,7 @@ use refusal::Refusal;
 use regression::Freed;
 use regression::Regressed;
 use state::Valued;
+use texts::Position;
 use texts::Ran;
 ghost use mathlib.Core.Path.{_≡_};
 ghost use Rattle.diagram.specs.Words.{isListing};
@@ -18,7 +19,7 @@ ghost use Rattle.apply.specs.declared.Names.the-variants.{Apart, Shared};
 ghost use Rattle.memory.specs.Memory.{memoryOf};
 ghost use Rattle.c_library.specs.Answers.{listingNumber, edgeNumber};
 ghost use Rattle.c_library.specs.Calls.{Combines, Regresses, Frees, Cuts, Values, Runs};
-ghost use Rattle.c_library.specs.Sessions.{hasRoom, Opens, Lent, Replies};
+ghost use Rattle.c_library.specs.Sessions.{hasRoom, Opens, Lent, Replies, canClose, Closes};
 
 // Whether the words are a listing under the arity list: 0, or 14.
 #[no_mangle]
@@ -360,7 +361,7 @@ pub extern "C" fn yindolve_open(numbers: &mut [u64], arities: &mut [u64], state:
         return Refusal::Buffer.number();
     }
     let n = lines::open(arities, state);
-    memory::store(numbers, n, 0);
+    memory::store(numbers, n, 0, false);
     0
 }
 
@@ -387,6 +388,7 @@ pub extern "C" fn yindolve_line(
     }
     let n = memory::load(numbers);
     let number = memory::lines_of(numbers) + 1;
+    let met = texts::met_behind(memory::met_of(numbers), line);
     let sent = texts::reply_line(
         line,
         number,
@@ -403,10 +405,46 @@ pub extern "C" fn yindolve_line(
     );
     let put = sent.put;
     let after = sent.numbers;
-    memory::store(numbers, after, number);
+    memory::store(numbers, after, number, met);
     let Put::At(end) = put else {
         return Refusal::Buffer.number();
     };
     *bytes = end as u64;
     0
+}
+
+// Whether lent words of these counts are enough to close a session.
+fn can_close(numbers: usize, answer: usize) -> bool
+    ensures { λ r. ⌜ r ≡ canClose numbers answer ⌝ }
+{
+    if numbers < memory::NUMBER_WORDS {
+        return false;
+    }
+    answers::MOST_BYTES <= answer
+}
+
+// The closing answer of a session whose text ends here.
+#[no_mangle]
+pub extern "C" fn yindolve_end(numbers: &[u64], answer: &mut [u8], bytes: &mut u64) -> u64
+    ensures { λ r. ⌜ Closes (now (numbers .entry)) (now (answer .entry)) (now (bytes .entry)) r (now (answer .exit)) (now (bytes .exit)) ⌝ }
+{
+    if !can_close(numbers.len(), answer.len()) {
+        return Refusal::Buffer.number();
+    }
+    let n = memory::load(numbers);
+    let met = memory::met_of(numbers);
+    let last = Position {
+        numbers: n,
+        lines: 0,
+        met: met,
+        end: 0,
+    };
+    let ran = texts::end(0, last, answer);
+    match ran {
+        Ran::Done(end) => {
+            *bytes = end as u64;
+            0
+        }
+        Ran::Full(_, _) => Refusal::Buffer.number(),
+    }
 }

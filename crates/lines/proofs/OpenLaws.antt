@@ -12,7 +12,7 @@ use Rattle.diagram.specs.Listing.{treeAt, diagramOf}
 use Rattle.refusal.specs.Outcome.{ok}
 use Rattle.names.specs.Many.{many}
 use Rattle.names.specs.Keys.{keysAt}
-use Rattle.session.specs.Session.{Session, opening}
+use Rattle.session.specs.Session.{Session, opening, defaultTotal, defaultNumerator, defaultDenominator}
 use Rattle.session.specs.Facts.{objectsLine, cleared}
 use Rattle.session.specs.Good.{GoodSession}
 use Rattle.session_laws.specs.OpeningLaws.{opening-good}
@@ -86,7 +86,7 @@ module _ {ar s t : List ℕ} (e : ar ≡ opening .model .arities) (r : stateWord
   session-opening names listings table value =
       session-ext _ _ refl refl refl
       (begun-model ar listings table (openingNumbers .head) refl refl
-      ∙ ap (λ x. record { arities = x; total = 100; numerator = 1; denominator = 1; reward = leaf 0; actions = [] }) e)
+      ∙ ap (λ x. record { arities = x; total = defaultTotal; numerator = defaultNumerator; denominator = defaultDenominator; reward = leaf 0; actions = [] }) e)
       refl (live-opening r c) refl
 
   stored-opening : {br names listings table value : List ℕ} → Rooms (memoryOf names br listings table s value)

@@ -1,9 +1,10 @@
 -- Laws of the function of any line.
 use mathlib.Core.Path.{_≡_, refl, sym, ap, subst, _∙_}
 use mathlib.Core.Bool.{false}
-use mathlib.Core.List.{List}
+use mathlib.Core.List.{List, [], _∷_}
 use Prim.Native.Nat.{ℕ}
 use native.Mathlib.Omega.{arith}
+use lib.ListN.{length}
 use Rattle.refusal.specs.declared.Refusal.{Refusal}
 use Rattle.refusal.specs.Outcome.{Outcome, ok, refused}
 use Rattle.text.specs.declared.Kind.{Kind}
@@ -16,8 +17,10 @@ use Rattle.session.specs.declared.Part.the-variants.{Model, Run}
 use Rattle.session.specs.declared.Rule.{Rule}
 use Rattle.session.specs.Session.{Session}
 use Rattle.session.specs.Place.{ruleOf}
-use Rattle.session.specs.Replies.{allowed, done, replyTo, reply, wordsOf}
+use Rattle.session.specs.Replies.{Reply, allowed, done, replyTo, reply, wordsOf}
 use Rattle.session.specs.Good.{GoodSession}
+use Rattle.session_laws.specs.CaseLaws.{reply-line}
+use Rattle.session_laws.specs.BlankLaws.{blank-leaves}
 use Rattle.session_laws.specs.MemoryLaws.{kept-good}
 use Rattle.memory.specs.declared.Numbers.{Numbers}
 use Rattle.memory.specs.declared.Said.{Said}
@@ -75,14 +78,21 @@ kept-counted k =
       constants = s .vocabulary .names .constants;
     }
 
-module _ (σ : Session) (number : ℕ) (s : List ℕ) where
+module _ (σ : Session) (number : ℕ) (s : List ℕ) (b : length s ≡ 0 → ⊥) where
   reply-done : allowed σ (ruleOf (lineKind s) (σ .part)) ≡ ok tt → reply σ number s ≡ done σ number (lineKind s) (wordsOf (lineKind s) s)
-  unfolding reply replyTo
-  reply-done e = rw e
+  unfolding replyTo
+  reply-done e = reply-line σ number s b ∙ rw e
 
   reply-refused : (r : Refusal) → allowed σ (ruleOf (lineKind s) (σ .part)) ≡ refused r → reply σ number s ≡ record { session = σ; answer = A.Refused r number }
-  unfolding reply replyTo
-  reply-refused r e = rw e
+  unfolding replyTo
+  reply-refused r e = reply-line σ number s b ∙ rw e
+
+-- a blank line
+pub answer-blank : {n : Numbers} {w : Memory} → Kept n w → (s : List ℕ) (number : ℕ) → length s ≡ 0 → Replied s number n w (record { numbers = n; answer = A.Nothing }) w
+answer-blank {n} {w} h [] number e =
+    let y = sym (blank-leaves (sessionOf n w) number) in
+    record { answer = ap (λ (t : Reply). t .answer) y; session = ap (λ (t : Reply). t .session) y; kept = h }
+answer-blank h (b ∷ s) number e = absurd (omega arith)
 
 place-told : (σ : Session) (k : Kind) (q : Part) {rule : Rule} {p : Placed} → rule ≡ ruleOf k q → p ≡ placedAs (allowed σ rule) → p ≡ placedAs (allowed σ (ruleOf k q))
 place-told σ k q e h = h ∙ ap (λ x. placedAs (allowed σ x)) e
@@ -97,21 +107,22 @@ module _ {n : Numbers} {w : Memory} {k : Kind} {rule : Rule} {p : Placed} (h : K
       let t = l .written (some-kind (sessionOf n w) k (n .part) x) in
       record { line = record { words = t .0; good = t .1; bytes = t .2 }; stored = h .stored; good = h .good; place = x }
 
-  pub answer-refused : (s : List ℕ) (number : ℕ) {r : Refusal} → k ≡ lineKind s → p ≡ Refused r
+  pub answer-refused : (s : List ℕ) (number : ℕ) {r : Refusal} → (length s ≡ 0 → ⊥) → k ≡ lineKind s → p ≡ Refused r
       → Replied s number n w (record { numbers = n; answer = A.Refused r number }) w
   unfolding sessionOf
-  answer-refused s number {r} a e =
+  answer-refused s number {r} o a e =
       let σ = sessionOf n w in
       let x = placed-refused (allowed σ (ruleOf k (n .part))) r (sym e ∙ place-told σ k (n .part) b (c .is (w .names) (w .arities) (w .listings) (w .value))) in
-      let y = sym (reply-refused σ number s r (subst (λ (z : Kind). allowed σ (ruleOf z (n .part)) ≡ refused r) a x)) in
+      let y = sym (reply-refused σ number s o r (subst (λ (z : Kind). allowed σ (ruleOf z (n .part)) ≡ refused r) a x)) in
       record { answer = ap (λ t. t .answer) y; session = ap (λ t. t .session) y; kept = h }
 
-  pub answer-done : {s : List ℕ} {number : ℕ} {r : Said} {w′ : Memory} → k ≡ lineKind s → p ≡ Done → Answers k s number n w r w′ → Replied s number n w r w′
+  pub answer-done : {s : List ℕ} {number : ℕ} {r : Said} {w′ : Memory} → (length s ≡ 0 → ⊥) → k ≡ lineKind s → p ≡ Done → Answers k s number n w r w′
+      → Replied s number n w r w′
   unfolding sessionOf
-  answer-done {s} {number} {r} {w′} a e d =
+  answer-done {s} {number} {r} {w′} o a e d =
       let σ = sessionOf n w in
       let x = place-ok σ k (n .part) b (c .is (w .names) (w .arities) (w .listings) (w .value)) e in
-      let y = sym (reply-done σ number s (subst (λ (z : Kind). allowed σ (ruleOf z (n .part)) ≡ ok tt) a x)) in
+      let y = sym (reply-done σ number s o (subst (λ (z : Kind). allowed σ (ruleOf z (n .part)) ≡ ok tt) a x)) in
       let z = ap (λ x. done σ number x (wordsOf x s)) a ∙ y in
       let m = d .session ∙ ap (λ t. t .session) z in
       record {

@@ -198,7 +198,7 @@ fn perform(
     }
 }
 
-// Line `number` of a text, its line feed left out: the session behind it, and what it is answered.
+// Line `number` of a text, its line feed left out: the session behind it, and what it is answered. A line of no bytes passes without effect.
 pub fn answer(
     line: &[u8],
     number: u64,
@@ -215,6 +215,12 @@ pub fn answer(
     requires { ⌜ workWords ≤ length (now work) ⌝ }
     ensures { λ r. ⌜ Replied (now (line .entry)) number n (memoryOf (now (names .entry)) (now (arities .entry)) (now (listings .entry)) (now (table .entry)) (now (state .entry)) (now (value .entry))) r (memoryOf (now (names .exit)) (now (arities .exit)) (now (listings .exit)) (now (table .exit)) (now (state .exit)) (now (value .exit))) ⌝ }
 {
+    if line.len() == 0 {
+        return Said {
+            numbers: n,
+            answer: Answer::Nothing,
+        };
+    }
     let kind = text::read_line(line);
     let part = n.part;
     let rule = session::rule_of(kind, part);

@@ -15,7 +15,7 @@ use Rattle.text.specs.declared.Kind.{Kind}
 use Rattle.text.specs.Line.{Words, GoodLine, lineBytes}
 use Rattle.text.specs.Line.Line.{line}
 use Rattle.session.specs.declared.Part.the-variants.{Model, Run}
-use Rattle.session.specs.Session.{Session}
+use Rattle.session.specs.Session.{Session, defaultTotal, defaultNumerator, defaultDenominator}
 use Rattle.session.specs.Place.{ruleOf}
 use Rattle.session.specs.Replies.{allowed, done, wordsOf, reply}
 use Rattle.session.specs.Good.{GoodSession}
@@ -129,7 +129,15 @@ openingNumbers = record {
   discount = false;
   reward = false;
   counts = record { constants = 0; predicates = 0; actions = 0; parameters = 0; variants = 0 };
-  head = record { total = 100; numerator = 1; denominator = 1; «reward_start» = 0; «reward_words» = 0; actions = 0; words = 0 };
+  head = record {
+    total = defaultTotal;
+    numerator = defaultNumerator;
+    denominator = defaultDenominator;
+    «reward_start» = 0;
+    «reward_words» = 0;
+    actions = 0;
+    words = 0;
+  };
   live = record { objects = 0; facts = 0 };
   held = record { rows = 0; steps = 0; power = 1 };
 }

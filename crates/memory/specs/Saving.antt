@@ -1,5 +1,5 @@
--- A session's numbers and the lines that it answered as words, for a host that keeps them between two lines.
-use mathlib.Core.Bool.{Bool, true, false}
+-- A session's numbers, the lines that it answered and whether one of them had bytes, as words, for a host that keeps them between two lines.
+use mathlib.Core.Bool.{Bool, true, false, cond}
 use mathlib.Core.List.{List, [], _∷_}
 use Prim.Native.Nat.{ℕ}
 use lib.Dec.{eqb}
@@ -10,19 +10,15 @@ use Rattle.memory.specs.declared.Numbers.{Numbers}
 
 -- how many words they are
 abbrev pub numberWords : ℕ
-numberWords = 22
+numberWords = 23
 
 -- 0 for the model, 1 for the run
 abbrev pub partWord : Part → ℕ
 partWord Model = 0
 partWord Run = 1
 
-abbrev pub pickPart : Bool → Part
-pickPart true = Model
-pickPart false = Run
-
 abbrev pub partOf : ℕ → Part
-partOf v = pickPart (eqb v 0)
+partOf v = cond (eqb v 0) Model Run
 
 abbrev pub flagWord : Bool → ℕ
 flagWord true = 1
@@ -31,9 +27,9 @@ flagWord false = 0
 abbrev pub flagOf : ℕ → Bool
 flagOf v = eqb v 1
 
--- the words in their order: part, single forms (both given), counts of names, head of the model, state, value, lines answered
-abbrev pub savedBehind : ℕ → ℕ → ℕ → ℕ → Numbers → ℕ → List ℕ
-savedBehind part total discount reward n lines =
+-- the words in their order: part, single forms (both given), counts of names, head of the model, state, value, lines answered, whether one had bytes
+abbrev pub savedBehind : ℕ → ℕ → ℕ → ℕ → Numbers → ℕ → ℕ → List ℕ
+savedBehind part total discount reward n lines met =
     part
     ∷ total
     ∷ discount
@@ -56,10 +52,12 @@ savedBehind part total discount reward n lines =
     ∷ n .held .steps
     ∷ n .held .power
     ∷ lines
+    ∷ met
     ∷ []
 
-unfoldable pub savedWords : Numbers → ℕ → List ℕ
-savedWords n lines = savedBehind (partWord (n .part)) (flagWord (n .total)) (flagWord (n .discount)) (flagWord (n .reward)) n lines
+unfoldable pub savedWords : Numbers → ℕ → Bool → List ℕ
+savedWords n lines met =
+    savedBehind (partWord (n .part)) (flagWord (n .total)) (flagWord (n .discount)) (flagWord (n .reward)) n lines (flagWord met)
 
 -- the numbers that words say, the part given
 abbrev pub numbersIn : Part → List ℕ → Numbers
@@ -87,3 +85,6 @@ numbersAt s = numbersIn (partOf (getD s 0 0)) s
 
 abbrev pub linesAt : List ℕ → ℕ
 linesAt s = getD s 21 0
+
+abbrev pub metAt : List ℕ → Bool
+metAt s = flagOf (getD s 22 0)

@@ -10,7 +10,7 @@ ghost use mathlib.Core.List.{_++_};
 ghost use Prim.Native.Nat.{_≤_};
 ghost use lib.ListN.{length, drop};
 ghost use Rattle.memory.specs.Memory.{openingNumbers};
-ghost use Rattle.memory.specs.Saving.{numberWords, partWord, partOf, flagWord, savedWords, numbersAt, linesAt};
+ghost use Rattle.memory.specs.Saving.{numberWords, partWord, partOf, flagWord, savedWords, numbersAt, linesAt, metAt};
 
 // A session's numbers: the part of the text, which single forms were accepted, and how much of each lent table counts.
 pub struct Numbers {
@@ -30,8 +30,13 @@ pub struct Said {
     pub answer: Answer,
 }
 
-// W, and G / D, unless they are given.
+// W where no (total) line is accepted.
 const TOTAL: u64 = 100;
+
+// G and D where no (discount) line is accepted.
+const NUMERATOR: u64 = 19;
+
+const DENOMINATOR: u64 = 20;
 
 // Before the first line.
 pub fn opening() -> Numbers
@@ -51,8 +56,8 @@ pub fn opening() -> Numbers
         },
         head: Head {
             total: TOTAL,
-            numerator: 1,
-            denominator: 1,
+            numerator: NUMERATOR,
+            denominator: DENOMINATOR,
             reward_start: 0,
             reward_words: 0,
             actions: 0,
@@ -70,8 +75,8 @@ pub fn opening() -> Numbers
     }
 }
 
-// The words that a session's numbers and its answered lines take.
-pub const NUMBER_WORDS: usize = 22;
+// The words that a session's numbers, its answered lines and whether one of them had bytes take.
+pub const NUMBER_WORDS: usize = 23;
 
 // The part of the text as a word: 0 for the model, 1 for the run.
 fn part_word(part: Part) -> u64
@@ -115,10 +120,10 @@ fn put_front(words: &mut [u64], list: &[u64])
     }
 }
 
-// Stores a session's numbers, and how many lines were answered; the words behind stay.
-pub fn store(words: &mut [u64], n: Numbers, lines: u64)
+// Stores a session's numbers, how many lines were answered, and whether one of them had bytes; the words behind stay.
+pub fn store(words: &mut [u64], n: Numbers, lines: u64, met: bool)
     requires { ⌜ numberWords ≤ length (now words) ⌝ }
-    ensures { λ _. ⌜ now (words .exit) ≡ savedWords n lines ++ drop numberWords (now (words .entry)) ⌝ }
+    ensures { λ _. ⌜ now (words .exit) ≡ savedWords n lines met ++ drop numberWords (now (words .entry)) ⌝ }
 {
     let part = n.part;
     let part = part_word(part);
@@ -129,6 +134,7 @@ pub fn store(words: &mut [u64], n: Numbers, lines: u64)
     let head = n.head;
     let live = n.live;
     let held = n.held;
+    let met = flag_word(met);
     let list = [
         part,
         total,
@@ -152,6 +158,7 @@ pub fn store(words: &mut [u64], n: Numbers, lines: u64)
         held.steps,
         held.power,
         lines,
+        met,
     ];
     put_front(words, &list);
 }
@@ -200,4 +207,12 @@ pub fn lines_of(words: &[u64]) -> u64
     ensures { λ r. ⌜ r ≡ linesAt (now (words .entry)) ⌝ }
 {
     words[21]
+}
+
+// Whether a line with bytes was met, as it was stored.
+pub fn met_of(words: &[u64]) -> bool
+    requires { ⌜ numberWords ≤ length (now words) ⌝ }
+    ensures { λ r. ⌜ r ≡ metAt (now (words .entry)) ⌝ }
+{
+    words[22] == 1
 }

@@ -159,9 +159,13 @@ withAction σ n =
 abbrev pub refusal : Session → ℕ → Refusal → Reply
 refusal σ number r = record { session = σ; answer = A.Refused r number }
 
+-- nothing is printed
+abbrev pub silent : Session → Reply
+silent τ = record { session = τ; answer = A.Nothing }
+
 -- a line that prints nothing unless it is refused: a refused line leaves the session as it was
 abbrev pub quietly : {A : Type 0} → Session → ℕ → (A → Session) → Outcome A → Reply
-quietly σ number f (ok a) = record { session = f a; answer = A.Nothing }
+quietly σ number f (ok a) = silent (f a)
 quietly σ number f (refused r) = refusal σ number r
 
 -- value, k, S^k
@@ -214,7 +218,8 @@ replyTo σ number k es = placed σ number (allowed σ (ruleOf k (σ .part))) (do
 abbrev pub wordsOf : Kind → List ℕ → List Event
 wordsOf k s = eventsOf (drop (firstWord k) s)
 
--- line `number` of a text, in bytes
+-- line `number` of a text, in bytes: 'a line of no bytes shall pass without effect' (document 02, L1)
 unfoldable pub reply : Session → ℕ → List ℕ → Reply
 unfolding replyTo lineKind eventsOf
-reply σ number s = replyTo σ number (lineKind s) (wordsOf (lineKind s) s)
+reply σ number [] = silent σ
+reply σ number (b ∷ s) = replyTo σ number (lineKind (b ∷ s)) (wordsOf (lineKind (b ∷ s)) (b ∷ s))

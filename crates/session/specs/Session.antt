@@ -45,13 +45,24 @@ pub record Session : Type 0 where
   pub live : Live
   pub held : Held
 
--- before the first line: W is 100 and G D are 1 1 unless they are given; 32 arities, the first of them 2
+-- W where no (total) line is accepted
+abbrev pub defaultTotal : ℕ
+defaultTotal = 100
+
+-- G and D where no (discount) line is accepted: 'the missing line means 19 20' (document 02, L7)
+abbrev pub defaultNumerator : ℕ
+defaultNumerator = 19
+
+abbrev pub defaultDenominator : ℕ
+defaultDenominator = 20
+
+-- before the first line: W, G and D are the defaults; 32 arities, the first of them 2
 unfoldable pub opening : Session
 opening = record {
   part = ModelPart;
   names = record { constants = []; predicates = []; actions = []; parameters = []; variants = [] };
   singles = record { total = false; discount = false; reward = false };
-  model = record { arities = equalityArity ∷ replicate (predicateCount - 1) 0; total = 100; numerator = 1; denominator = 1; reward = leaf 0; actions = [] };
+  model = record { arities = equalityArity ∷ replicate (predicateCount - 1) 0; total = defaultTotal; numerator = defaultNumerator; denominator = defaultDenominator; reward = leaf 0; actions = [] };
   rows = 0;
   live = record { objects = 0; placed = replicate constantCount 0; constants = replicate constantCount 0; facts = [] };
   held = record { diagram = leaf 0; steps = 0 };

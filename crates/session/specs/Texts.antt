@@ -1,5 +1,5 @@
 -- The answers of a whole text: a fold over its lines (document 01, sections 'Text' and 'A run, whole').
-use mathlib.Core.Bool.{Bool, true, false, cond}
+use mathlib.Core.Bool.{Bool, true, false, cond, _||_}
 use mathlib.Core.List.{List, [], _∷_, _++_}
 use Prim.Native.Nat.{ℕ, suc, _+_}
 use lib.ListN.{length}
@@ -28,21 +28,23 @@ abbrev pub behindByte : ℕ → List (List ℕ) → List ℕ → Lines
 behindByte b [] rest = record { whole = []; rest = b ∷ rest }
 behindByte b (l ∷ ls) rest = record { whole = (b ∷ l) ∷ ls; rest = rest }
 
-abbrev pub pickLines : Bool → Lines → Lines → Lines
-pickLines true x y = x
-pickLines false x y = y
-
 unfoldable pub linesOf : List ℕ → Lines
 linesOf [] = record { whole = []; rest = [] }
 linesOf (b ∷ s) =
-    pickLines (eqb b lineFeed)
+    cond (eqb b lineFeed)
     (record { whole = [] ∷ linesOf s .whole; rest = linesOf s .rest })
     (behindByte b (linesOf s .whole) (linesOf s .rest))
 
--- how far a text is read: the session, how many lines were answered, and the bytes of the answers
+-- the line is not blank
+abbrev pub hasBytes : List ℕ → Bool
+hasBytes [] = false
+hasBytes (b ∷ s) = true
+
+-- how far a text is read: the session, how many lines were answered, whether a line with bytes was met, and the bytes of the answers
 pub record Progress : Type 0 where
   pub session : Session
   pub lines : ℕ
+  pub met : Bool
   pub bytes : List ℕ
 
 -- the bytes of a reply; (show) shows the value diagram's listing
@@ -50,14 +52,14 @@ unfoldable pub replyBytes : Reply → List ℕ
 unfolding answerBytes listing
 replyBytes r = answerBytes (listing (r .session .held .diagram)) (r .answer)
 
--- one reply more
-abbrev pub replied : Progress → Reply → Progress
-replied p r = record { session = r .session; lines = suc (p .lines); bytes = p .bytes ++ replyBytes r }
+-- one reply more, to a line with bytes or to a blank one
+abbrev pub replied : Progress → Bool → Reply → Progress
+replied p written r = record { session = r .session; lines = suc (p .lines); met = p .met || written; bytes = p .bytes ++ replyBytes r }
 
--- lines are numbered from 1
+-- lines are numbered from 1, blank ones too
 unfoldable pub afterLine : Progress → List ℕ → Progress
 unfolding reply replyBytes
-afterLine p s = replied p (reply (p .session) (suc (p .lines)) s)
+afterLine p s = replied p (hasBytes s) (reply (p .session) (suc (p .lines)) s)
 
 unfoldable pub afterLines : Progress → List (List ℕ) → Progress
 unfolding afterLine
@@ -68,17 +70,22 @@ afterLines p (l ∷ ls) = afterLines (afterLine p l) ls
 unfoldable pub afterRest : Progress → List ℕ → Progress
 unfolding replyBytes
 afterRest p [] = p
-afterRest p (b ∷ s) = replied p (refusal (p .session) (suc (p .lines)) Form)
+afterRest p (b ∷ s) = replied p true (refusal (p .session) (suc (p .lines)) Form)
 
--- 'Input ending without an accepted (start) prints a last (refused 5 0)'
-unfoldable pub closing : Part → List ℕ
+-- no (start) was accepted, and a line with bytes was met
+abbrev pub unfinished : Part → Bool → Bool
+unfinished Model met = met
+unfinished Run met = false
+
+-- 'Input ending without an accepted (start) prints a last (refused 5 0)'; but a text of blank lines only, or of no bytes, 'is an empty order and prints
+-- nothing' (document 02, L1)
+unfoldable pub closing : Part → Bool → List ℕ
 unfolding answerLine
-closing Model = answerLine (Refused Place 0)
-closing Run = []
+closing part met = cond (unfinished part met) (answerLine (Refused Place 0)) []
 
 unfoldable pub beginning : Progress
 unfolding opening
-beginning = record { session = opening; lines = 0; bytes = [] }
+beginning = record { session = opening; lines = 0; met = false; bytes = [] }
 
 -- the whole text read, but for the closing line
 unfoldable pub textRead : List ℕ → Progress
@@ -88,4 +95,4 @@ textRead s = afterRest (afterLines beginning (linesOf s .whole)) (linesOf s .res
 -- all answers of a text
 unfoldable pub textAnswers : List ℕ → List ℕ
 unfolding textRead closing
-textAnswers s = textRead s .bytes ++ closing (textRead s .session .part)
+textAnswers s = textRead s .bytes ++ closing (textRead s .session .part) (textRead s .met)

@@ -1,7 +1,7 @@
 -- Each line has one answer, of its kind; a refused line leaves the session as it was (document 01, sections 'Text' and 'A run, whole').
 use mathlib.Core.Path.{_≡_, refl, sym, ap, _∙_}
 use mathlib.Core.Bool.{Bool, true, false}
-use mathlib.Core.List.{List}
+use mathlib.Core.List.{List, []}
 use Prim.Native.Nat.{ℕ, _^_}
 use native.Mathlib.Omega.{arith}
 use lib.ListN.{length}
@@ -21,7 +21,7 @@ use Rattle.answers.specs.declared.Answer.the-variants as A
 use Rattle.session.specs.Place.{ruleOf}
 use Rattle.session.specs.Session.{Session}
 use Rattle.session.specs.Running.{withHeld, valueRead, backupLine, cutLine}
-use Rattle.session.specs.Replies.{Reply, refusal, allowed, wordsOf, reply}
+use Rattle.session.specs.Replies.{Reply, refusal, silent, allowed, wordsOf, reply}
 use Rattle.session_laws.specs.CaseLaws.{Cases, done-by, reply-by}
 
 -- lines that print nothing where they are accepted
@@ -55,18 +55,19 @@ pub data Answered (σ : Session) (k : Kind) (y : Reply) : Type 0 where
       → y .session ≡ withHeld σ (σ .part) (cutLine (σ .model .arities) (σ .held)) → y .answer ≡ A.Cut row e n → Answered σ k y
   showing : k ≡ K.Show → y .session ≡ σ → y .answer ≡ A.Show (length (rows (σ .held .diagram))) → Answered σ k y
 
--- the reply y to line `number`, of the kind k: it is refused under its own number and leaves the session as it was, or it stands where it may and is
--- answered as its kind is
-pub data OneAnswer (σ : Session) (number : ℕ) (k : Kind) (y : Reply) : Type 0 where
-  refusing : (r : Refusal) → y ≡ refusal σ number r → OneAnswer σ number k y
-  accepted : allowed σ (ruleOf k (σ .part)) ≡ ok tt → Answered σ k y → OneAnswer σ number k y
+-- the reply y to line `number`, which has the bytes s and is of the kind k: it is blank, prints nothing and leaves the session as it was; or it is
+-- refused under its own number and leaves the session as it was; or it stands where it may and is answered as its kind is
+pub data OneAnswer (σ : Session) (number : ℕ) (s : List ℕ) (k : Kind) (y : Reply) : Type 0 where
+  blank : s ≡ [] → y ≡ silent σ → OneAnswer σ number s k y
+  refusing : (r : Refusal) → y ≡ refusal σ number r → OneAnswer σ number s k y
+  accepted : allowed σ (ruleOf k (σ .part)) ≡ ok tt → Answered σ k y → OneAnswer σ number s k y
 
 -- where a line of the kind k may stand, the reply is y
-abbrev InPlace : Session → ℕ → Kind → Reply → Type 0
-InPlace σ number k y = allowed σ (ruleOf k (σ .part)) ≡ ok tt → OneAnswer σ number k y
+abbrev InPlace : Session → ℕ → List ℕ → Kind → Reply → Type 0
+InPlace σ number s k y = allowed σ (ruleOf k (σ .part)) ≡ ok tt → OneAnswer σ number s k y
 
-cases : (σ : Session) (number : ℕ) (es : List Event) → Cases σ number es (InPlace σ number)
-cases σ number es = record {
+cases : (σ : Session) (number : ℕ) (s : List ℕ) (es : List Event) → Cases σ number es (InPlace σ number s)
+cases σ number s es = record {
   refusing = λ k r a. refusing r refl;
   forConstant = λ n e a. accepted a (quiet refl refl);
   forPredicate = λ v e a. accepted a (quiet refl refl);
@@ -86,10 +87,11 @@ cases σ number es = record {
   forShow = λ a. accepted a (showing refl refl refl);
 }
 
-pub one-answer : (σ : Session) (number : ℕ) (s : List ℕ) → OneAnswer σ number (lineKind s) (reply σ number s)
+pub one-answer : (σ : Session) (number : ℕ) (s : List ℕ) → OneAnswer σ number s (lineKind s) (reply σ number s)
 one-answer σ number s =
     let es = wordsOf (lineKind s) s in
-    reply-by σ number s (OneAnswer σ number) (λ r. refusing r refl) (done-by σ number es (InPlace σ number) (cases σ number es) (lineKind s))
+    reply-by σ number s (OneAnswer σ number s) (λ e. blank e refl) (λ r. refusing r refl)
+    (done-by σ number es (InPlace σ number s) (cases σ number s es) (lineKind s))
 
 -- an accepted line is answered no refusal
 accepted-none : (σ : Session) (k : Kind) (y : Reply) (r : Refusal) (n : ℕ) → Answered σ k y → y .answer ≡ A.Refused r n → ⊥
@@ -104,7 +106,11 @@ pub refused-reply : (σ : Session) (number : ℕ) (s : List ℕ) (r : Refusal) (
     → reply σ number s ≡ refusal σ number r
 refused-reply σ number s r n e = go (reply σ number s) (one-answer σ number s) e
   where
-    go : (y : Reply) → OneAnswer σ number (lineKind s) y → y .answer ≡ A.Refused r n → y ≡ refusal σ number r
+    go : (y : Reply) → OneAnswer σ number s (lineKind s) y → y .answer ≡ A.Refused r n → y ≡ refusal σ number r
+    go y (blank q p) e =
+        let d = sym e ∙ ap (λ (x : Reply). x .answer) p in
+        let z : _≡_ {A = ℕ} 0 1 = cc in
+        absurd (omega arith)
     go y (refusing q p) e =
         let d = sym e ∙ ap (λ (x : Reply). x .answer) p in
         let j : q ≡ r = cc in

@@ -1,6 +1,6 @@
 -- What is shown of the reply to a line by cases: it is refused, or it is accepted as a line of its kind.
 use mathlib.Core.Path.{_≡_, refl}
-use mathlib.Core.List.{List}
+use mathlib.Core.List.{List, [], _∷_}
 use Prim.Native.Nat.{ℕ, _^_}
 use lib.ListN.{length, drop}
 use Rattle.refusal.specs.declared.Refusal.{Refusal}
@@ -25,14 +25,10 @@ use Rattle.session.specs.Declaring.{Vocabulary, constantLine, predicateLine, to
 use Rattle.session.specs.Facts.{objectsLine, isLine, trueLine}
 use Rattle.session.specs.Modelling.{rewardLine, variantLine, becomesLine}
 use Rattle.session.specs.Running.{withHeld, startLine, valueRead, backupLine, cutLine, cutTo, cutSays}
-use Rattle.session.specs.Replies.{Reply, refusal, quietly, valueSays, backupSays, allowed, withNames, withLive, withVocabulary, withTotal, withDiscount, withAction, done, placed, replyTo, wordsOf, reply}
+use Rattle.session.specs.Replies.{Reply, refusal, silent, quietly, valueSays, backupSays, allowed, withNames, withLive, withVocabulary, withTotal, withDiscount, withAction, done, placed, replyTo, wordsOf, reply}
 
 abbrev pub vocabularyOf : Session → Vocabulary
 vocabularyOf σ = record { names = σ .names; arities = σ .model .arities }
-
--- an accepted line that prints nothing
-abbrev pub silent : Session → Reply
-silent τ = record { session = τ; answer = A.Nothing }
 
 -- P holds of a refusal, and of what an accepted line of each kind with the words es is answered
 pub record Cases (σ : Session) (number : ℕ) (es : List Event) (P : Kind → Reply → Type 0) : Type 0 where
@@ -121,10 +117,20 @@ module _ (σ : Session) (number : ℕ) (es : List Event) (P : Kind → Reply →
   done-by K.Show = c .forShow
   done-by K.Bad = c .refusing K.Bad Form
 
--- a line in bytes: refused for its place, or done
+-- a line in bytes: blank, refused for its place, or done
 pub reply-by : (σ : Session) (number : ℕ) (s : List ℕ) (P : Kind → Reply → Type 0)
+    → (s ≡ [] → P (lineKind s) (silent σ))
     → ((r : Refusal) → P (lineKind s) (refusal σ number r))
     → (allowed σ (ruleOf (lineKind s) (σ .part)) ≡ ok tt → P (lineKind s) (done σ number (lineKind s) (wordsOf (lineKind s) s)))
     → P (lineKind s) (reply σ number s)
 unfolding reply replyTo
-reply-by σ number s P r h = placed-by σ number (P (lineKind s)) r (allowed σ (ruleOf (lineKind s) (σ .part))) (done σ number (lineKind s) (wordsOf (lineKind s) s)) h
+reply-by σ number [] P b r h = b refl
+reply-by σ number (c ∷ s) P b r h =
+    let k = lineKind (c ∷ s) in
+    placed-by σ number (P k) r (allowed σ (ruleOf k (σ .part))) (done σ number k (wordsOf k (c ∷ s))) h
+
+-- a line with bytes is answered by its kind and words
+pub reply-line : (σ : Session) (number : ℕ) (s : List ℕ) → (length s ≡ 0 → ⊥) → reply σ number s ≡ replyTo σ number (lineKind s) (wordsOf (lineKind s) s)
+unfolding reply
+reply-line σ number [] h = absurd (h refl)
+reply-line σ number (c ∷ s) h = refl

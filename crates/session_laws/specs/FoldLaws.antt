@@ -6,23 +6,11 @@ use Prim.Native.Nat.{ℕ, suc, _+_}
 use native.Mathlib.Omega.{arith}
 use native.Mathlib.Nat.{zero-add}
 use lib.ListN.{length}
-use Rattle.refusal.specs.declared.Refusal.the-variants.{Form}
-use Rattle.answers.specs.declared.Answer.the-variants.{Refused}
-use Rattle.answers.specs.Answers.{answerLine, answerBytes}
+use Rattle.answers.specs.Answers.{answerBytes}
 use Rattle.session.specs.Session.{Session, opening}
 use Rattle.session.specs.Replies.{Reply, reply}
-use Rattle.session.specs.Texts.{Progress, replyBytes, replied, afterLine, afterLines, afterRest, beginning, linesOf, textRead}
-
--- the replies to lines, of which n stand before them
-unfoldable pub replies : Session → ℕ → List (List ℕ) → List Reply
-unfolding reply
-replies σ n [] = []
-replies σ n (s ∷ ls) = reply σ (suc n) s ∷ replies (reply σ (suc n) s .session) (suc n) ls
-
-unfoldable pub repliesBytes : List Reply → List ℕ
-unfolding replyBytes
-repliesBytes [] = []
-repliesBytes (y ∷ ys) = replyBytes y ++ repliesBytes ys
+use Rattle.session.specs.Texts.{hasBytes, Progress, replyBytes, replied, afterLine, afterLines, afterRest, beginning, linesOf, textRead}
+use Rattle.session_laws.specs.TextReplies.{replies, repliesBytes, restBytes}
 
 -- one for each line
 pub replies-count : (σ : Session) (n : ℕ) (ls : List (List ℕ)) → length (replies σ n ls) ≡ length ls
@@ -36,12 +24,12 @@ unfolding afterLines afterLine replies repliesBytes
 lines-bytes p [] = sym (append-nil (p .bytes))
 lines-bytes p (s ∷ ls) =
     let y = reply (p .session) (suc (p .lines)) s in
-    lines-bytes (replied p y) ls ∙ append-assoc (p .bytes) (replyBytes y) (repliesBytes (replies (y .session) (suc (p .lines)) ls))
+    lines-bytes (replied p (hasBytes s) y) ls ∙ append-assoc (p .bytes) (replyBytes y) (repliesBytes (replies (y .session) (suc (p .lines)) ls))
 
 pub lines-count : (p : Progress) (ls : List (List ℕ)) → afterLines p ls .lines ≡ p .lines + length ls
 unfolding afterLines afterLine
 lines-count p [] = omega arith
-lines-count p (s ∷ ls) = omega (arith, lines-count (replied p (reply (p .session) (suc (p .lines)) s)) ls)
+lines-count p (s ∷ ls) = omega (arith, lines-count (replied p (hasBytes s) (reply (p .session) (suc (p .lines)) s)) ls)
 
 -- the replies to the lines behind ls are those of the session that ls leads to, numbered on
 pub replies-then : (p : Progress) (ls ms : List (List ℕ))
@@ -51,15 +39,9 @@ unfolding replies afterLines afterLine
 replies-then p [] ms = refl
 replies-then p (s ∷ ls) ms =
     let y = reply (p .session) (suc (p .lines)) s in
-    ap (λ ys. y ∷ ys) (replies-then (replied p y) ls ms)
+    ap (λ ys. y ∷ ys) (replies-then (replied p (hasBytes s) y) ls ms)
 
 -- ===== A whole text =====
-
--- what the bytes behind the last line feed, n lines before them, are answered
-unfoldable pub restBytes : ℕ → List ℕ → List ℕ
-unfolding answerLine
-restBytes n [] = []
-restBytes n (b ∷ s) = answerLine (Refused Form (suc n))
 
 rest-bytes : (p : Progress) (s : List ℕ) → afterRest p s .bytes ≡ p .bytes ++ restBytes (p .lines) s
 unfolding afterRest restBytes replyBytes answerBytes

@@ -1,4 +1,5 @@
 -- Every line keeps a session good, and what the answers of a text are.
+pub mod TextReplies
 pub mod PlaceLaws
 pub mod OpeningLaws
 pub mod StateLaws
@@ -11,4 +12,5 @@ pub mod MemoryLaws
 pub mod AnswerLaws
 pub mod ValueLaws
 pub mod FoldLaws
+pub mod BlankLaws
 pub mod TextLaws

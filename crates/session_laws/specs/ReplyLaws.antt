@@ -106,4 +106,4 @@ module _ (σ : Session) (g : GoodSession σ) (whole : WholeRows (σ .live .facts
 
   pub reply-good : (number : ℕ) (s : List ℕ) → GoodSession (reply σ number s .session)
   reply-good number s =
-      reply-by σ number s (λ k y. GoodSession (y .session)) (λ r. g) (λ a. done-good number (lineKind s) (wordsOf (lineKind s) s) (line-standing s a))
+      reply-by σ number s (λ k y. GoodSession (y .session)) (λ e. g) (λ r. g) (λ a. done-good number (lineKind s) (wordsOf (lineKind s) s) (line-standing s a))

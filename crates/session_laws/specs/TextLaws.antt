@@ -17,7 +17,7 @@ use Rattle.session.specs.Session.{Session, opening}
 use Rattle.session.specs.Running.{stateIn}
 use Rattle.session.specs.Replies.{isPlaced, reply}
 use Rattle.session.specs.Good.{GoodSession}
-use Rattle.session.specs.Texts.{Progress, replied, afterLine, afterLines, afterRest, beginning, linesOf, textRead}
+use Rattle.session.specs.Texts.{hasBytes, Progress, replied, afterLine, afterLines, afterRest, beginning, linesOf, textRead}
 use Rattle.session_laws.specs.OpeningLaws.{opening-good}
 use Rattle.session_laws.specs.FactLaws.{WholeRows}
 use Rattle.session_laws.specs.ReplyLaws.{reply-good}
@@ -40,7 +40,7 @@ lines-sound : (p : Progress) → Sound (p .session) → (ls : List (List ℕ)) �
 unfolding afterLines afterLine
 lines-sound p h [] = h
 lines-sound p h (s ∷ ls) =
-    lines-sound (replied p (reply (p .session) (suc (p .lines)) s)) (reply-sound (p .session) h (suc (p .lines)) s) ls
+    lines-sound (replied p (hasBytes s) (reply (p .session) (suc (p .lines)) s)) (reply-sound (p .session) h (suc (p .lines)) s) ls
 
 pub text-sound : (ls : List (List ℕ)) → Sound (afterLines beginning ls .session)
 unfolding beginning

@@ -1,7 +1,7 @@
 -- Demand 3 for one line: what an accepted (value) answers is Mk of the state in hand, k and S^k (document 01, section 'Backup').
 use mathlib.Core.Path.{_≡_, refl, sym, ap, _∙_, subst}
 use mathlib.Core.Bool.{true}
-use mathlib.Core.List.{List, []}
+use mathlib.Core.List.{List, [], _∷_}
 use Prim.Native.Nat.{ℕ, _^_, _≤_, _<_}
 use native.Mathlib.Omega.{arith}
 use lib.ListN.{getD}
@@ -32,7 +32,7 @@ use Rattle.session.specs.Running.{stateIn, valueRead}
 use Rattle.session.specs.Replies.{Reply, isPlaced, allowed, valueSays, done, placed, replyTo, wordsOf, reply}
 use Rattle.session.specs.Good.{GoodSession}
 use Rattle.session_laws.specs.PlaceLaws.{in-run, value-placed, value-allowed, placed-objects}
-use Rattle.session_laws.specs.AnswerLaws.{Answered, quiet, valued, backed, cutting, showing, OneAnswer, refusing, accepted, one-answer}
+use Rattle.session_laws.specs.AnswerLaws.{Answered, quiet, valued, backed, cutting, showing, OneAnswer, blank, refusing, accepted, one-answer}
 use Rattle.session_laws.specs.StateLaws.{Described, described}
 
 -- the answer of (value): Mk of the state in hand, k and S^k
@@ -100,7 +100,8 @@ value-bellman σ g number s v k w e = go (lineKind s) (reply σ number s) (one-a
     valued-is i y a (cutting j d n p r t q) e = let z : _≡_ {A = ℕ} 0 1 = cc in absurd (omega arith)
     valued-is i y a (showing p t q) e = let z : _≡_ {A = ℕ} 0 1 = cc in absurd (omega arith)
 
-    go : (i : Kind) (y : Reply) → OneAnswer σ number i y → y .answer ≡ A.Value v k w → IsValue σ v k w
+    go : (i : Kind) (y : Reply) → OneAnswer σ number s i y → y .answer ≡ A.Value v k w → IsValue σ v k w
+    go i y (blank q p) e = let d = sym (ap (λ (z : Reply). z .answer) p) ∙ e in let z : _≡_ {A = ℕ} 0 1 = cc in absurd (omega arith)
     go i y (refusing r p) e = let d = sym (ap (λ (z : Reply). z .answer) p) ∙ e in let z : _≡_ {A = ℕ} 0 1 = cc in absurd (omega arith)
     go i y (accepted a p) e = valued-is i y a p e
 
@@ -123,7 +124,9 @@ pub value-accepted : (σ : Session) → GoodSession σ → σ .part ≡ Run → 
       session = σ;
       answer = A.Value (bellman (σ .model) (σ .held .steps) (stateIn (σ .model .arities) (σ .live))) (σ .held .steps) (scale (σ .model) ^ σ .held .steps);
     }
-unfolding reply
-value-accepted σ g p h few number s i =
+unfolding reply lineKind
+value-accepted σ g p h few number [] i = let z : _≡_ {A = ℕ} 0 1 = cc in absurd (omega arith)
+value-accepted σ g p h few number (b ∷ t) i =
+    let s = b ∷ t in
     ap (λ k. replyTo σ number k (wordsOf k s)) i
     ∙ value-says σ number (wordsOf K.Value s) (value-allowed σ p h) _ (value-few σ few ∙ ap ok (held-bellman σ g p (placed-objects σ h)))

@@ -78,4 +78,4 @@ module _ (σ : Session) (w : WholeRows (σ .live .facts)) where
   pub reply-whole : (number : ℕ) (s : List ℕ) → WholeRows (reply σ number s .session .live .facts)
   reply-whole number s =
       let es = wordsOf (lineKind s) s in
-      reply-by σ number s KeepsWhole (λ r. w) (λ a. done-by σ number es KeepsWhole (cases number es) (lineKind s))
+      reply-by σ number s KeepsWhole (λ e. w) (λ r. w) (λ a. done-by σ number es KeepsWhole (cases number es) (lineKind s))

@@ -1,23 +1,22 @@
 -- Laws of answers put behind one another in a buffer.
 use mathlib.Core.Path.{_≡_, refl, sym, ap, subst, _∙_}
-use mathlib.Core.Bool.{Bool, true, false, cond}
+use mathlib.Core.Bool.{Bool, true, false, cond, not, _||_}
 use mathlib.Core.List.{List, [], _∷_, _++_, append-nil}
 use Prim.Native.Nat.{ℕ, suc, _+_, _-_, _≤_, _<_}
 use native.Mathlib.Omega.{arith}
 use native.Mathlib.Numerals.{add-one}
-use borrow.Author.Tests.{leb-true, leb-false, le-leb, lt-leb}
+use borrow.Author.Tests.{leb-true, leb-false, le-leb, lt-leb, ne-eqb, not-true, not-false}
 use lib.ListN.{length, take, drop, length-append, take-append-drop, length-drop}
 use lib.Seq.{length-take-le, take-at, drop-at, drop-drop}
-use lib.Dec.{leb}
+use lib.Dec.{leb, eqb}
 use Rattle.refusal.specs.declared.Refusal.the-variants.{Form, Place}
 use Rattle.answers.specs.declared.Answer.the-variants.{Refused}
 use Rattle.answers.specs.declared.Put.{Put}
 use Rattle.answers.specs.declared.Put.the-variants as P
 use Rattle.answers.specs.Answers.{answerLine, answerBytes}
 use Rattle.answers.specs.Writing.{Placed, putAnswer, putResult}
-use Rattle.session.specs.declared.Part.the-variants.{Model, Run}
 use Rattle.session.specs.Replies.{reply}
-use Rattle.session.specs.Texts.{Progress, replyBytes, afterLine, afterRest, closing}
+use Rattle.session.specs.Texts.{hasBytes, Progress, replyBytes, afterLine, afterRest, unfinished, closing}
 use Rattle.memory.specs.Memory.{Memory, sessionOf}
 use Rattle.texts.specs.declared.Ran.{Ran}
 use Rattle.texts.specs.declared.Ran.the-variants.{Done, Full}
@@ -75,6 +74,14 @@ module _ {out : List ℕ} {place : ℕ} {w : List ℕ} {r : Put} {out′ : List 
 
 -- ===== A line =====
 
+-- a line with bytes was met before, or is this one
+pub met-before : {m : Bool} (s : List ℕ) → m ≡ true → true ≡ (m || hasBytes s)
+met-before s e = ap (λ (b : Bool). b || hasBytes s) (sym e)
+
+pub met-now : {m : Bool} (s : List ℕ) → m ≡ false → not (eqb (length s) 0) ≡ (m || hasBytes s)
+met-now [] e = ap (λ (b : Bool). b || false) (sym e)
+met-now (b ∷ s) e = ap not (ne-eqb (suc (length s)) 0 (λ h. omega arith)) ∙ ap (λ (c : Bool). c || true) (sym e)
+
 goes-to : {q : Progress} {out : List ℕ} {p : Position} {w : Memory} {out′ : List ℕ} → Moved q out p w out′ → Goes q out (N.To p) w out′
 goes-to {q} {out} {p} {w} {out′} m = record {
   to = λ p′ e. let k : p ≡ p′ = cc in subst (λ (x : Position). Moved q out x w out′) k m;
@@ -90,14 +97,15 @@ module _ {s : List ℕ} {p : Position} {w : Memory} {out : List ℕ} {r : Sent} 
   sends = subst (λ (k : ℕ). Sends s k (p .numbers) w out (p .end) r w′ out′) (add-one (p .lines)) x
 
   pub next-to : (e : ℕ) → r .put ≡ P.At e
-      → Goes (afterLine (progressOf p w out) s) out (N.To (record { numbers = r .numbers; lines = p .lines + 1; end = e })) w′ out′
+      → {m : Bool} → m ≡ (p .met || hasBytes s)
+      → Goes (afterLine (progressOf p w out) s) out (N.To (record { numbers = r .numbers; lines = p .lines + 1; met = m; end = e })) w′ out′
   unfolding afterLine progressOf
-  next-to e q =
+  next-to e q t =
       let y = sends in
       let a = placed-at (y .placed) e q in
       goes-to (record {
         going = record { kept = y .kept; within = omega (arith, a .within, a .long) };
-        is = λ i. record { session = y .session i; lines = add-one (p .lines) i; bytes = a .front i };
+        is = λ i. record { session = y .session i; lines = add-one (p .lines) i; met = t i; bytes = a .front i };
         behind = a .behind;
       })
 
@@ -109,6 +117,10 @@ module _ {s : List ℕ} {p : Position} {w : Memory} {out : List ℕ} {r : Sent} 
       goes-full (record { room = omega (arith, a .0, length-append (take (p .end) out) (replyBytes (reply (sessionOf (p .numbers) w) (suc (p .lines)) s)), length-take-le (p .end) out (g .within)); result = a .1 })
 
 -- ===== The end of a text =====
+
+or-true : (b : Bool) → (b || true) ≡ true
+or-true true = refl
+or-true false = refl
 
 -- the bytes in front of the place, and w behind them
 in-front : {out : List ℕ} {place : ℕ} {w : List ℕ} {e : ℕ} {out′ : List ℕ} → place ≤ length out → Appended out place w e out′ → out′ ≡ inFront (take place out ++ w) out
@@ -142,38 +154,42 @@ module _ (p : Position) (out : List ℕ) (h : p .end ≤ length out) (w : Memory
   end-long : length (take (p .end) out) ≡ p .end
   end-long = length-take-le (p .end) out h
 
-  pub close-run : p .numbers .part ≡ Run → Fills (fillClosing (length out) (progressOf p w out)) out (Done (p .end)) out
-  unfolding fillClosing closing progressOf sessionOf
-  close-run e =
-      rw (e, append-nil (take (p .end) out), le-leb (length (take (p .end) out)) (length out) (omega (arith, end-long)))
-      (record { answer = ap Done (sym end-long); result = in-place out (p .end) h })
-
-  module _ {r : Put} {out′ : List ℕ} (m : p .numbers .part ≡ Model) (x : Placed out (p .end) (answerLine (Refused Place 0)) r out′) where
-    long : length (take (p .end) out ++ answerLine (Refused Place 0)) ≡ p .end + length (answerLine (Refused Place 0))
-    long = omega (arith, length-append (take (p .end) out) (answerLine (Refused Place 0)), end-long)
-
-    pub close-model : (e : ℕ) → r ≡ P.At e → Fills (fillClosing (length out) (progressOf p w out)) out (Done e) out′
+  module _ {u : Bool} (m : u ≡ unfinished (p .numbers .part) (p .met)) where
+    -- nothing more is answered
+    pub close-none : not u ≡ true → Fills (fillClosing (length out) (progressOf p w out)) out (Done (p .end)) out
     unfolding fillClosing closing progressOf sessionOf
-    close-model e q =
-        let a = placed-at x e q in
-        rw (m, le-leb (length (take (p .end) out ++ answerLine (Refused Place 0))) (length out) (omega (arith, a .end, a .within, long)))
-        (record { answer = ap Done (a .end ∙ sym long); result = in-front h a })
+    close-none e =
+        rw (sym m ∙ not-true u e, append-nil (take (p .end) out), le-leb (length (take (p .end) out)) (length out) (omega (arith, end-long)))
+        (record { answer = ap Done (sym end-long); result = in-place out (p .end) h })
 
-    pub close-full : r ≡ P.Full → Fills (fillClosing (length out) (progressOf p w out)) out (Full (p .end) (p .lines)) out′
-    unfolding fillClosing closing progressOf sessionOf
-    close-full q =
-        let a = placed-full x q in
-        rw (m, lt-leb (length (take (p .end) out ++ answerLine (Refused Place 0))) (length out) (omega (arith, a .0, long)), a .1)
-        (stays (progressOf p w out) h refl)
+    module _ (d : not u ≡ false) {r : Put} {out′ : List ℕ} (x : Placed out (p .end) (answerLine (Refused Place 0)) r out′) where
+      long : length (take (p .end) out ++ answerLine (Refused Place 0)) ≡ p .end + length (answerLine (Refused Place 0))
+      long = omega (arith, length-append (take (p .end) out) (answerLine (Refused Place 0)), end-long)
+
+      pub close-some : (e : ℕ) → r ≡ P.At e → Fills (fillClosing (length out) (progressOf p w out)) out (Done e) out′
+      unfolding fillClosing closing progressOf sessionOf
+      close-some e q =
+          let a = placed-at x e q in
+          rw (sym m ∙ not-false u d, le-leb (length (take (p .end) out ++ answerLine (Refused Place 0))) (length out) (omega (arith, a .end, a .within, long)))
+          (record { answer = ap Done (a .end ∙ sym long); result = in-front h a })
+
+      pub close-full : r ≡ P.Full → Fills (fillClosing (length out) (progressOf p w out)) out (Full (p .end) (p .lines)) out′
+      unfolding fillClosing closing progressOf sessionOf
+      close-full q =
+          let a = placed-full x q in
+          rw (sym m ∙ not-false u d, lt-leb (length (take (p .end) out ++ answerLine (Refused Place 0))) (length out) (omega (arith, a .0, long)), a .1)
+          (stays (progressOf p w out) h refl)
 
   module _ {r : Put} {out′ : List ℕ} (x : Placed out (p .end) (answerLine (Refused Form (p .lines + 1))) r out′) (b : ℕ) (s : List ℕ) where
     pub rest-is : (e : ℕ) → r ≡ P.At e
-        → progressOf (record { numbers = p .numbers; lines = p .lines + 1; end = e }) w out′ ≡ afterRest (progressOf p w out) (b ∷ s)
+        → progressOf (record { numbers = p .numbers; lines = p .lines + 1; met = true; end = e }) w out′ ≡ afterRest (progressOf p w out) (b ∷ s)
     unfolding afterRest progressOf replyBytes answerBytes
     rest-is e q =
         let a = placed-at x e q in
-        ap (λ (v : List ℕ). record { session = sessionOf (p .numbers) w; lines = p .lines + 1; bytes = v }) (a .front)
-        ∙ ap (λ (k : ℕ). record { session = sessionOf (p .numbers) w; lines = k; bytes = take (p .end) out ++ answerLine (Refused Form k) }) (add-one (p .lines))
+        ap (λ (v : List ℕ). record { session = sessionOf (p .numbers) w; lines = p .lines + 1; met = true; bytes = v }) (a .front)
+        ∙ ap (λ (k : ℕ). record { session = sessionOf (p .numbers) w; lines = k; met = true; bytes = take (p .end) out ++ answerLine (Refused Form k) }) (add-one (p .lines))
+        ∙ ap (λ (b : Bool). record { session = sessionOf (p .numbers) w; lines = suc (p .lines); met = b; bytes = take (p .end) out ++ answerLine (Refused Form (suc (p .lines))) })
+        (sym (or-true (p .met)))
 
     rest-long : length (afterRest (progressOf p w out) (b ∷ s) .bytes) ≡ p .end + length (answerLine (Refused Form (p .lines + 1)))
     unfolding afterRest progressOf replyBytes answerBytes
@@ -182,7 +198,7 @@ module _ (p : Position) (out : List ℕ) (h : p .end ≤ length out) (w : Memory
 
     -- the rest is refused, and the text ends
     pub rest-closed : (e : ℕ) → r ≡ P.At e → {q : Ran} {out″ : List ℕ}
-        → ((v : Memory) → Fills (fillClosing (length out′) (progressOf (record { numbers = p .numbers; lines = p .lines + 1; end = e }) v out′)) out′ q out″)
+        → ((v : Memory) → Fills (fillClosing (length out′) (progressOf (record { numbers = p .numbers; lines = p .lines + 1; met = true; end = e }) v out′)) out′ q out″)
         → Fills (fillRest (length out) (progressOf p w out) (b ∷ s)) out q out″
     unfolding fillRest
     rest-closed e i {q} {out″} f =
@@ -190,7 +206,7 @@ module _ (p : Position) (out : List ℕ) (h : p .end ≤ length out) (w : Memory
         let t = rest-is e i in
         let k : Fills (fillClosing (length out) (afterRest (progressOf p w out) (b ∷ s))) out′ q out″ =
         subst (λ (y : Progress). Fills (fillClosing (length out) y) out′ q out″) t
-        (subst (λ (n : ℕ). Fills (fillClosing n (progressOf (record { numbers = p .numbers; lines = p .lines + 1; end = e }) w out′)) out′ q out″) (a .long) (f w)) in
+        (subst (λ (n : ℕ). Fills (fillClosing n (progressOf (record { numbers = p .numbers; lines = p .lines + 1; met = true; end = e }) w out′)) out′ q out″) (a .long) (f w)) in
         let l = rest-long in
         rw (le-leb (length (afterRest (progressOf p w out) (b ∷ s) .bytes)) (length out) (omega (arith, a .end, a .within)))
         (fills-over e (a .behind) (omega (arith, a .end, closing-grows (length out) (afterRest (progressOf p w out) (b ∷ s)))) k)

@@ -1,5 +1,6 @@
 -- Laws of a text answered line by line.
 use mathlib.Core.Path.{_≡_, refl, sym, ap, subst, _∙_}
+use mathlib.Core.Bool.{false}
 use mathlib.Core.List.{List, [], _∷_}
 use Prim.Native.Nat.{ℕ, suc, _+_, _-_, _≤_, _<_}
 use native.Mathlib.Omega.{arith}
@@ -153,14 +154,14 @@ take-none [] = refl
 take-none (b ∷ s) = refl
 
 pub begins : {arities state : List ℕ} {n : Numbers} {arities′ state′ : List ℕ} → Opened arities state n arities′ state′
-    → Starts arities state (record { numbers = n; lines = 0; end = 0 }) arities′ state′
+    → Starts arities state (record { numbers = n; lines = 0; met = false; end = 0 }) arities′ state′
 unfolding progressOf beginning
 begins {arities} {state} {n} {arities′} {state′} x = record {
   says = λ names listings table value out rooms.
       let o = x .says names listings table value rooms in
       record {
         going = record { kept = o .kept; within = omega arith };
-        is = λ i. record { session = o .session i; lines = 0; bytes = take-none out i };
+        is = λ i. record { session = o .session i; lines = 0; met = false; bytes = take-none out i };
         end = refl;
       };
 }

@@ -9,7 +9,7 @@ use lib.ListN.{length, getD, take, drop}
 use lib.Dec.{eqb}
 use Rattle.words.specs.Bytes.{run}
 use Rattle.words.specs.ByteLaws.{run-le, run-more, run-stop, run-end, run-take}
-use Rattle.session.specs.Texts.{lineFeed, Lines, behindByte, pickLines, linesOf}
+use Rattle.session.specs.Texts.{lineFeed, Lines, behindByte, linesOf}
 use Rattle.texts.specs.Ends.{inLine, lineLength}
 
 -- a whole line in front
@@ -43,7 +43,7 @@ lines-first (b ∷ s) h = go (eqb b lineFeed) (lines-first s) h
     go : (t : Bool)
         → (lineLength s < length s → linesOf s ≡ behindLine (take (lineLength s) s) (linesOf (drop (suc (lineLength s)) s)))
         → cond (not t) (suc (lineLength s)) 0 < suc (length s)
-        → pickLines t (behindLine [] (linesOf s)) (behindByte b (linesOf s .whole) (linesOf s .rest))
+        → cond t (behindLine [] (linesOf s)) (behindByte b (linesOf s .whole) (linesOf s .rest))
         ≡ behindLine (take (cond (not t) (suc (lineLength s)) 0) (b ∷ s)) (linesOf (drop (cond (not t) (suc (lineLength s)) 0) s))
     go true ih h = refl
     go false ih h = ap (λ (x : Lines). behindByte b (x .whole) (x .rest)) (ih (omega arith))
@@ -55,7 +55,7 @@ lines-none [] h = refl
 lines-none (b ∷ s) h = go (eqb b lineFeed) (lines-none s) h
   where
     go : (t : Bool) → (lineLength s ≡ length s → linesOf s ≡ record { whole = []; rest = s }) → cond (not t) (suc (lineLength s)) 0 ≡ suc (length s)
-        → pickLines t (behindLine [] (linesOf s)) (behindByte b (linesOf s .whole) (linesOf s .rest)) ≡ record { whole = []; rest = b ∷ s }
+        → cond t (behindLine [] (linesOf s)) (behindByte b (linesOf s .whole) (linesOf s .rest)) ≡ record { whole = []; rest = b ∷ s }
     go true ih h = absurd (omega arith)
     go false ih h = ap (λ (x : Lines). behindByte b (x .whole) (x .rest)) (ih (omega arith))
 

@@ -1,6 +1,6 @@
 -- A text answered in a buffer: the answers behind one another, up to the first that has no room (document 01, section 'A run, whole').
 use mathlib.Core.Path.{_≡_}
-use mathlib.Core.Bool.{Bool, true, false}
+use mathlib.Core.Bool.{Bool, cond}
 use mathlib.Core.List.{List, [], _∷_, _++_}
 use Prim.Native.Nat.{ℕ}
 use lib.ListN.{length, drop}
@@ -14,10 +14,6 @@ pub record Filled : Type 0 where
   pub bytes : List ℕ
   pub answer : Ran
 
-abbrev pub pickFilled : Bool → Filled → Filled → Filled
-pickFilled true x y = x
-pickFilled false x y = y
-
 abbrev pub fits : ℕ → List ℕ → Bool
 fits room s = leb (length s) room
 
@@ -26,23 +22,23 @@ abbrev pub stopped : Progress → Filled
 stopped p = record { bytes = p .bytes; answer = Full (length (p .bytes)) (p .lines) }
 
 abbrev pub allBytes : Progress → List ℕ
-allBytes p = p .bytes ++ closing (p .session .part)
+allBytes p = p .bytes ++ closing (p .session .part) (p .met)
 
 -- behind the last line
 unfoldable pub fillClosing : ℕ → Progress → Filled
 unfolding closing
-fillClosing room p = pickFilled (fits room (allBytes p)) (record { bytes = allBytes p; answer = Done (length (allBytes p)) }) (stopped p)
+fillClosing room p = cond (fits room (allBytes p)) (record { bytes = allBytes p; answer = Done (length (allBytes p)) }) (stopped p)
 
 -- behind the last line feed
 unfoldable pub fillRest : ℕ → Progress → List ℕ → Filled
 unfolding fillClosing afterRest
-fillRest room p s = pickFilled (fits room (afterRest p s .bytes)) (fillClosing room (afterRest p s)) (stopped p)
+fillRest room p s = cond (fits room (afterRest p s .bytes)) (fillClosing room (afterRest p s)) (stopped p)
 
 -- line by line
 unfoldable pub fillLines : ℕ → Progress → List (List ℕ) → List ℕ → Filled
 unfolding fillRest afterLine
 fillLines room p [] rest = fillRest room p rest
-fillLines room p (l ∷ ls) rest = pickFilled (fits room (afterLine p l .bytes)) (fillLines room (afterLine p l) ls rest) (stopped p)
+fillLines room p (l ∷ ls) rest = cond (fits room (afterLine p l .bytes)) (fillLines room (afterLine p l) ls rest) (stopped p)
 
 abbrev pub fillFrom : ℕ → Progress → Lines → Filled
 fillFrom room p t = fillLines room p (t .whole) (t .rest)

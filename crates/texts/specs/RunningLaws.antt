@@ -1,6 +1,6 @@
 -- Laws of texts answered in a buffer: with room for all answers they are the answers of the text, otherwise they begin them.
 use mathlib.Core.Path.{_≡_, refl, sym, ap, _∙_}
-use mathlib.Core.Bool.{Bool, true, false}
+use mathlib.Core.Bool.{Bool, true, false, cond}
 use mathlib.Core.List.{List, [], _∷_, _++_, append-assoc, append-nil}
 use Prim.Native.Nat.{ℕ, suc, _≤_, _<_}
 use native.Mathlib.Omega.{arith}
@@ -10,7 +10,7 @@ use lib.ListN.{length, take, length-append}
 use Rattle.session.specs.Texts.{Progress, afterLine, afterLines, afterRest, closing, beginning, linesOf, textAnswers}
 use Rattle.texts.specs.declared.Ran.{Ran}
 use Rattle.texts.specs.declared.Ran.the-variants.{Done, Full}
-use Rattle.texts.specs.Running.{Filled, pickFilled, fits, stopped, allBytes, fillClosing, fillRest, fillLines, filled, inFront, Fills}
+use Rattle.texts.specs.Running.{Filled, fits, stopped, allBytes, fillClosing, fillRest, fillLines, filled, inFront, Fills}
 
 -- y begins with x
 pub record Begins (x y : List ℕ) : Type 0 where
@@ -38,7 +38,7 @@ rest-begins p [] = begins-all (p .bytes)
 rest-begins p (b ∷ s) = record { more = _; is = refl }
 
 closing-begins : (p : Progress) → Begins (p .bytes) (allBytes p)
-closing-begins p = record { more = closing (p .session .part); is = refl }
+closing-begins p = record { more = closing (p .session .part) (p .met); is = refl }
 
 abbrev whole : Progress → List (List ℕ) → List ℕ → List ℕ
 whole p ls s = allBytes (afterRest (afterLines p ls) s)
@@ -134,7 +134,7 @@ pub closing-grows : (room : ℕ) (p : Progress) → length (p .bytes) ≤ length
 unfolding fillClosing
 closing-grows room p = go (fits room (allBytes p))
   where
-    go : (b : Bool) → length (p .bytes) ≤ length (pickFilled b (record { bytes = allBytes p; answer = Done (length (allBytes p)) }) (stopped p) .bytes)
+    go : (b : Bool) → length (p .bytes) ≤ length (cond b (record { bytes = allBytes p; answer = Done (length (allBytes p)) }) (stopped p) .bytes)
     go true = begins-short (closing-begins p)
     go false = omega arith
 
@@ -142,7 +142,7 @@ pub rest-grows : (room : ℕ) (p : Progress) (s : List ℕ) → length (p .bytes
 unfolding fillRest
 rest-grows room p s = go (fits room (afterRest p s .bytes))
   where
-    go : (b : Bool) → length (p .bytes) ≤ length (pickFilled b (fillClosing room (afterRest p s)) (stopped p) .bytes)
+    go : (b : Bool) → length (p .bytes) ≤ length (cond b (fillClosing room (afterRest p s)) (stopped p) .bytes)
     go true = omega (arith, begins-short (rest-begins p s), closing-grows room (afterRest p s))
     go false = omega arith
 

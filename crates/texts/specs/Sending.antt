@@ -26,7 +26,7 @@ mostLines = 18446744073709551615
 -- how far a text is read
 unfoldable pub progressOf : Position → Memory → List ℕ → Progress
 unfolding sessionOf
-progressOf p w out = record { session = sessionOf (p .numbers) w; lines = p .lines; bytes = take (p .end) out }
+progressOf p w out = record { session = sessionOf (p .numbers) w; lines = p .lines; met = p .met; bytes = take (p .end) out }
 
 -- the words are a session's, and the answers are within the buffer
 pub record Going (p : Position) (w : Memory) (out : List ℕ) : Type 0 where

@@ -1,7 +1,7 @@
 -- What a shown listing is: the rows of the value diagram, which begin the words that hold it.
 use mathlib.Core.Path.{_≡_, refl, sym, ap, subst}
 use mathlib.Core.Bool.{true}
-use mathlib.Core.List.{List}
+use mathlib.Core.List.{List, [], _∷_}
 use Prim.Native.Nat.{ℕ, zero, suc, _+_, _*_, _≤_}
 use native.Mathlib.Omega.{arith}
 use lib.ListN.{length, take, drop}
@@ -158,7 +158,8 @@ reply-shown σ number k es n e =
 
 pub reply-shows : (σ : Session) (number : ℕ) (s : List ℕ) (n : ℕ) → reply σ number s .answer ≡ A.Show n → Shows σ n (reply σ number s)
 unfolding reply
-reply-shows σ number s n = reply-shown σ number (lineKind s) (wordsOf (lineKind s) s) n
+reply-shows σ number [] n e = unequal _ (cc)
+reply-shows σ number (b ∷ s) n e = reply-shown σ number (lineKind (b ∷ s)) (wordsOf (lineKind (b ∷ s)) (b ∷ s)) n e
 
 -- ===== The words that hold it =====
 

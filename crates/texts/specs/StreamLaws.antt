@@ -1,5 +1,5 @@
 -- Laws of a text that comes in: in whatever blocks, its answers are those of the whole text.
-use mathlib.Core.Path.{_≡_, refl, sym, ap, _∙_}
+use mathlib.Core.Path.{_≡_, refl, sym, ap, ap₂, _∙_}
 use mathlib.Core.Bool.{Bool, true, false, cond, not}
 use mathlib.Core.List.{List, [], _∷_, _++_, append-nil, append-assoc}
 use Prim.Native.Nat.{ℕ, suc, _+_, _≤_, _<_}
@@ -19,10 +19,10 @@ use Rattle.session.specs.declared.Part.the-variants.{Model, Run}
 use Rattle.session.specs.Session.{Session}
 use Rattle.session.specs.Place.{ruleOf}
 use Rattle.session.specs.Replies.{allowed, placed, done, replyTo, reply, refusal, wordsOf}
-use Rattle.session.specs.Texts.{lineFeed, Lines, behindByte, pickLines, linesOf, Progress, replyBytes, closing, replied, afterLine, afterLines, afterRest, beginning, textAnswers}
+use Rattle.session.specs.Texts.{lineFeed, Lines, behindByte, linesOf, hasBytes, Progress, replyBytes, closing, replied, afterLine, afterLines, afterRest, beginning, textAnswers}
 use Rattle.texts.specs.Ends.{lineLength}
 use Rattle.texts.specs.Running.{allBytes}
-use Rattle.texts.specs.Streaming.{lineRoom, Stream, pickStream, onByte, onBytes, onBlocks, streamStart, onEnd}
+use Rattle.texts.specs.Streaming.{lineRoom, Stream, onByte, onBytes, onBlocks, streamStart, onEnd}
 
 -- ===== A line that is too long =====
 
@@ -40,7 +40,9 @@ bad-refused σ number es = go (σ .part)
 
 reply-long : (σ : Session) (number : ℕ) (s : List ℕ) → 4095 < length s → reply σ number s ≡ refusal σ number Form
 unfolding reply
-reply-long σ number s h =
+reply-long σ number [] h = absurd (omega arith)
+reply-long σ number (b ∷ t) h =
+    let s = b ∷ t in
     ap (λ (k : Kind). replyTo σ number k (wordsOf k s)) (kind-long s h) ∙ bad-refused σ number (wordsOf K.Bad s)
 
 -- so the bytes past the room do not count
@@ -52,9 +54,13 @@ reply-kept σ number s = go (decLt lineRoom (length s))
         reply-long σ number (take lineRoom s) (omega (arith, length-take-le lineRoom s (omega arith))) ∙ sym (reply-long σ number s (omega arith))
     go (no h) = ap (reply σ number) (take-all lineRoom s (omega arith))
 
+has-kept : (s : List ℕ) → hasBytes (take lineRoom s) ≡ hasBytes s
+has-kept [] = refl
+has-kept (b ∷ s) = refl
+
 after-kept : (p : Progress) (s : List ℕ) → afterLine p (take lineRoom s) ≡ afterLine p s
 unfolding afterLine
-after-kept p s = ap (replied p) (reply-kept (p .session) (suc (p .lines)) s)
+after-kept p s = ap₂ (replied p) (has-kept s) (reply-kept (p .session) (suc (p .lines)) s)
 
 rest-kept : (p : Progress) (s : List ℕ) → afterRest p (take lineRoom s) ≡ afterRest p s
 unfolding afterRest
@@ -90,7 +96,7 @@ on-line q x (b ∷ s) h e = go (eqb b lineFeed) (λ (k : lineLength s ≡ length
         → onBytes (record { progress = q; partial = take lineRoom (x ++ (b ∷ [])) }) s
         ≡ record { progress = q; partial = take lineRoom (take lineRoom (x ++ (b ∷ [])) ++ s) })
         → cond (not t) (suc (lineLength s)) 0 ≡ suc (length s)
-        → onBytes (pickStream t (record { progress = afterLine q x; partial = [] }) (record { progress = q; partial = take lineRoom (x ++ (b ∷ [])) })) s
+        → onBytes (cond t (record { progress = afterLine q x; partial = [] }) (record { progress = q; partial = take lineRoom (x ++ (b ∷ [])) })) s
         ≡ record { progress = q; partial = take lineRoom (x ++ (b ∷ s)) }
     go true ih k = absurd (omega arith)
     go false ih k =
@@ -106,7 +112,7 @@ lines-few t [] = omega arith
 lines-few t (b ∷ s) = go (eqb b lineFeed) (λ (u : Stream). lines-few u s)
   where
     go : (k : Bool) → ((u : Stream) → onBytes u s .progress .lines ≤ u .progress .lines + length s)
-        → onBytes (pickStream k (record { progress = afterLine (t .progress) (t .partial); partial = [] })
+        → onBytes (cond k (record { progress = afterLine (t .progress) (t .partial); partial = [] })
         (record { progress = t .progress; partial = take lineRoom (t .partial ++ (b ∷ [])) })) s .progress .lines
         ≤ t .progress .lines + suc (length s)
     go true ih = omega (arith, ih (record { progress = afterLine (t .progress) (t .partial); partial = [] }))
@@ -154,9 +160,9 @@ stream-from p x (b ∷ s) = go (eqb b lineFeed) (λ (q : Progress) (y : List ℕ
   where
     go : (t : Bool)
         → ((q : Progress) (y : List ℕ) → onEnd (onBytes (record { progress = q; partial = take lineRoom y }) s) ≡ answersFrom q (after y (linesOf s)))
-        → onEnd (onBytes (pickStream t (record { progress = afterLine p (take lineRoom x); partial = [] })
+        → onEnd (onBytes (cond t (record { progress = afterLine p (take lineRoom x); partial = [] })
         (record { progress = p; partial = take lineRoom (take lineRoom x ++ (b ∷ [])) })) s)
-        ≡ answersFrom p (after x (pickLines t (record { whole = [] ∷ linesOf s .whole; rest = linesOf s .rest }) (behindByte b (linesOf s .whole) (linesOf s .rest))))
+        ≡ answersFrom p (after x (cond t (record { whole = [] ∷ linesOf s .whole; rest = linesOf s .rest }) (behindByte b (linesOf s .whole) (linesOf s .rest))))
     go true ih =
         ih (afterLine p (take lineRoom x)) []
         ∙ ap (answersFrom (afterLine p (take lineRoom x))) (none-in-front (linesOf s .whole) (linesOf s .rest))
@@ -180,7 +186,7 @@ stream-blocks bs = ap onEnd (blocks-joined streamStart bs) ∙ stream-whole (joi
 -- the bytes w were written before those of the stream
 abbrev pub behindWritten : List ℕ → Stream → Stream
 behindWritten w t = record {
-  progress = record { session = t .progress .session; lines = t .progress .lines; bytes = w ++ t .progress .bytes };
+  progress = record { session = t .progress .session; lines = t .progress .lines; met = t .progress .met; bytes = w ++ t .progress .bytes };
   partial = t .partial;
 }
 
@@ -195,11 +201,16 @@ byte-apart w t b = go (eqb b lineFeed)
     begun q = record { progress = q; partial = take lineRoom (t .partial ++ (b ∷ [])) }
 
     go : (k : Bool)
-        → pickStream k (answered (behindWritten w t .progress)) (begun (behindWritten w t .progress))
-        ≡ behindWritten w (pickStream k (answered (t .progress)) (begun (t .progress)))
+        → cond k (answered (behindWritten w t .progress)) (begun (behindWritten w t .progress))
+        ≡ behindWritten w (cond k (answered (t .progress)) (begun (t .progress)))
     go true =
         ap (λ (v : List ℕ). record {
-          progress = record { session = afterLine (t .progress) (t .partial) .session; lines = suc (t .progress .lines); bytes = v };
+          progress = record {
+            session = afterLine (t .progress) (t .partial) .session;
+            lines = suc (t .progress .lines);
+            met = afterLine (t .progress) (t .partial) .met;
+            bytes = v;
+          };
           partial = [];
         }) (append-assoc w (t .progress .bytes) (replyBytes (reply (t .progress .session) (suc (t .progress .lines)) (t .partial))))
     go false = refl
@@ -218,5 +229,5 @@ end-apart w t = go (t .partial)
     q = behindWritten w t .progress
 
     go : (s : List ℕ) → allBytes (afterRest q s) ≡ w ++ allBytes (afterRest (t .progress) s)
-    go [] = append-assoc w (t .progress .bytes) (closing (t .progress .session .part))
+    go [] = append-assoc w (t .progress .bytes) (closing (t .progress .session .part) (t .progress .met))
     go (b ∷ s) = simp append-assoc

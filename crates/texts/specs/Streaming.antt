@@ -1,6 +1,6 @@
 -- A text while it comes in: a fold over its bytes (document 01, sections 'Text' and 'A run, whole').
 use mathlib.Core.Path.{_≡_}
-use mathlib.Core.Bool.{Bool, true, false}
+use mathlib.Core.Bool.{cond}
 use mathlib.Core.List.{List, [], _∷_, _++_}
 use Prim.Native.Nat.{ℕ, _-_, _≤_, _<_}
 use lib.ListN.{length, take, drop}
@@ -19,15 +19,11 @@ pub record Stream : Type 0 where
   pub progress : Progress
   pub partial : List ℕ
 
-abbrev pub pickStream : Bool → Stream → Stream → Stream
-pickStream true x y = x
-pickStream false x y = y
-
 -- one byte more: a line feed ends the line
 unfoldable pub onByte : Stream → ℕ → Stream
 unfolding afterLine
 onByte t b =
-    pickStream (eqb b lineFeed)
+    cond (eqb b lineFeed)
     (record { progress = afterLine (t .progress) (t .partial); partial = [] })
     (record { progress = t .progress; partial = take lineRoom (t .partial ++ (b ∷ [])) })
 

@@ -6,13 +6,14 @@ use memory::Numbers;
 use refusal::Refusal;
 use session::Part;
 ghost use mathlib.Core.Path.{_≡_};
+ghost use mathlib.Core.Bool.{_||_};
 ghost use mathlib.Core.List.{List, [], _∷_};
 ghost use Prim.Native.Nat.{ℕ, _+_, _<_, _≤_};
 ghost use lib.ListN.{length, drop};
 ghost use Rattle.answers.specs.declared.Answer.the-variants.{Refused};
 ghost use Rattle.answers.specs.Answers.{answerLine};
 ghost use Rattle.answers.specs.Writing.{Placed};
-ghost use Rattle.session.specs.Texts.{linesOf, afterLine};
+ghost use Rattle.session.specs.Texts.{linesOf, hasBytes, afterLine, unfinished};
 ghost use Rattle.memory.specs.Memory.{Memory, memoryOf, Kept, Rooms, workWords};
 ghost use Rattle.label.specs.Limits.{predicateCount};
 ghost use Rattle.facts.specs.Words.{stateWords};
@@ -40,10 +41,11 @@ pub struct Sent {
     pub put: Put,
 }
 
-// How far a text is read: the session's numbers, the lines answered and the bytes of their answers.
+// How far a text is read: the session's numbers, the lines answered, whether one of them had bytes, and the bytes of their answers.
 pub struct Position {
     pub numbers: Numbers,
     pub lines: u64,
+    pub met: bool,
     pub end: usize,
 }
 
@@ -120,6 +122,16 @@ pub fn reply_line(
     }
 }
 
+// Whether a line with bytes is met, now or before.
+pub fn met_behind(met: bool, line: &[u8]) -> bool
+    ensures { λ r. ⌜ r ≡ (met || hasBytes (now (line .entry))) ⌝ }
+{
+    if met {
+        return true;
+    }
+    line.len() != 0
+}
+
 // Answers the next line, behind the answers before it.
 fn next_line(
     line: &[u8],
@@ -139,6 +151,7 @@ fn next_line(
     ensures { λ r. ⌜ Goes (afterLine (progressOf p (memoryOf (now (names .entry)) (now (arities .entry)) (now (listings .entry)) (now (table .entry)) (now (state .entry)) (now (value .entry))) (now (out .entry))) (now (line .entry))) (now (out .entry)) r (memoryOf (now (names .exit)) (now (arities .exit)) (now (listings .exit)) (now (table .exit)) (now (state .exit)) (now (value .exit))) (now (out .exit)) ⌝ }
 {
     let number = p.lines + 1;
+    let met = met_behind(p.met, line);
     let sent = reply_line(
         line,
         number,
@@ -161,6 +174,7 @@ fn next_line(
     Next::To(Position {
         numbers: numbers,
         lines: number,
+        met: met,
         end: end,
     })
 }
@@ -173,7 +187,17 @@ fn put_refusal(out: &mut [u8], at: usize, why: Refusal, number: u64) -> Put
     answering::put_answer(out, at, &none, Answer::Refused(why, number))
 }
 
-// The end of a text behind its last line: without an accepted (start) it is refused.
+// Whether a text that ends is refused: no (start) was accepted, and a line with bytes was met.
+fn is_unfinished(part: Part, met: bool) -> bool
+    ensures { λ r. ⌜ r ≡ unfinished part met ⌝ }
+{
+    match part {
+        Part::Model => met,
+        Part::Run => false,
+    }
+}
+
+// The end of a text behind its last line: one that is unfinished is refused.
 fn close(p: Position, out: &mut [u8]) -> Ran
     requires { ⌜ p .end ≤ length (now out) ⌝ }
     ensures { λ r. ⌜ ((w : Memory) → Fills (fillClosing (length (now (out .entry))) (progressOf p w (now (out .entry)))) (now (out .entry)) r (now (out .exit))) ⌝ }
@@ -181,15 +205,13 @@ fn close(p: Position, out: &mut [u8]) -> Ran
     let end = p.end;
     let numbers = p.numbers;
     let part = numbers.part;
-    match part {
-        Part::Model => {
-            let Put::At(last) = put_refusal(out, end, Refusal::Place, 0) else {
-                return Ran::Full(end, p.lines);
-            };
-            Ran::Done(last)
-        }
-        Part::Run => Ran::Done(end),
+    if !is_unfinished(part, p.met) {
+        return Ran::Done(end);
     }
+    let Put::At(last) = put_refusal(out, end, Refusal::Place, 0) else {
+        return Ran::Full(end, p.lines);
+    };
+    Ran::Done(last)
 }
 
 // The end of a text with a last line that no line feed ends: it is refused.
@@ -206,6 +228,7 @@ fn close_rest(p: Position, out: &mut [u8]) -> Ran
     let q = Position {
         numbers: numbers,
         lines: number,
+        met: true,
         end: end,
     };
     close(q, out)
@@ -266,6 +289,7 @@ pub fn begin(arities: &mut [u64], state: &mut [u64]) -> Position
     Position {
         numbers: numbers,
         lines: 0,
+        met: false,
         end: 0,
     }
 }

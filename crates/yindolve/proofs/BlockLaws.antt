@@ -1,6 +1,6 @@
 -- Laws of blocks read one after another.
 use mathlib.Core.Path.{_≡_, refl, sym, ap, subst, _∙_}
-use mathlib.Core.Bool.{Bool, true, false}
+use mathlib.Core.Bool.{Bool, true, false, cond}
 use mathlib.Core.List.{List, []}
 use Prim.Native.Nat.{ℕ, _+_, _-_, _<_, _≤_}
 use native.Mathlib.Omega.{arith}
@@ -13,7 +13,7 @@ use Rattle.texts.specs.declared.Fed.{Fed}
 use Rattle.texts.specs.declared.Fed.the-variants as F
 use Rattle.texts.specs.declared.Ran.{Ran}
 use Rattle.texts.specs.declared.Ran.the-variants.{Done}
-use Rattle.texts.specs.Running.{pickFilled, fits, stopped, allBytes, fillClosing, fillRest, Fills}
+use Rattle.texts.specs.Running.{fits, stopped, allBytes, fillClosing, fillRest, Fills}
 use Rattle.texts.specs.Sending.{mostLines, progressOf, Going, Started}
 use Rattle.texts.specs.Streaming.{lineRoom, Stream}
 use Rattle.texts.specs.Feeding.{Feeding, Feeds}
@@ -47,7 +47,7 @@ some-ends long place p w out = record {
 module _ {block : List ℕ} {place : ℕ} {t : Stream} {p : Position} {w : Memory} {out : List ℕ} {r : Fed} {partial′ : List ℕ} {w′ : Memory} {out′ : List ℕ}
     (x : Feeds block place t p w out r partial′ w′ out′) where
   -- a line was answered and written
-  pub some-line : t .progress .lines ≡ p .lines → (next : ℕ) (q : Position) → r ≡ F.Line next q → WentOn (length block) place p (On next 0 (record { numbers = q .numbers; lines = q .lines; end = 0 })) w′ out′
+  pub some-line : t .progress .lines ≡ p .lines → (next : ℕ) (q : Position) → r ≡ F.Line next q → WentOn (length block) place p (On next 0 (record { numbers = q .numbers; lines = q .lines; met = q .met; end = 0 })) w′ out′
   some-line i next q e =
       let l = x .line next q e in
       went-on (l .later) (l .inside) (record { few = omega arith; going = record { kept = l .going .kept; within = omega arith }; lines = omega (arith, fed-lines l) })
@@ -143,8 +143,8 @@ closing-done : (room : ℕ) (q : Progress) (m : ℕ) → fillClosing room q .ans
 unfolding fillClosing
 closing-done room q m = go (fits room (allBytes q))
   where
-    go : (b : Bool) → pickFilled b (record { bytes = allBytes q; answer = Done (length (allBytes q)) }) (stopped q) .answer ≡ Done m
-        → m ≡ length (pickFilled b (record { bytes = allBytes q; answer = Done (length (allBytes q)) }) (stopped q) .bytes)
+    go : (b : Bool) → cond b (record { bytes = allBytes q; answer = Done (length (allBytes q)) }) (stopped q) .answer ≡ Done m
+        → m ≡ length (cond b (record { bytes = allBytes q; answer = Done (length (allBytes q)) }) (stopped q) .bytes)
     go true e = cc
     go false e = absurd (let z : _≡_ {A = ℕ} 0 1 = cc in omega arith)
 
@@ -152,8 +152,8 @@ rest-done : (room : ℕ) (q : Progress) (s : List ℕ) (m : ℕ) → fillRest ro
 unfolding fillRest
 rest-done room q s m = go (fits room (afterRest q s .bytes))
   where
-    go : (b : Bool) → pickFilled b (fillClosing room (afterRest q s)) (stopped q) .answer ≡ Done m
-        → m ≡ length (pickFilled b (fillClosing room (afterRest q s)) (stopped q) .bytes)
+    go : (b : Bool) → cond b (fillClosing room (afterRest q s)) (stopped q) .answer ≡ Done m
+        → m ≡ length (cond b (fillClosing room (afterRest q s)) (stopped q) .bytes)
     go true e = closing-done room (afterRest q s) m e
     go false e = absurd (let z : _≡_ {A = ℕ} 0 1 = cc in omega arith)
 

@@ -66,12 +66,14 @@ fn answer_some(
             }
             let numbers = q.numbers;
             let lines = q.lines;
+            let met = q.met;
             Went::On(
                 next,
                 0,
                 Position {
                     numbers: numbers,
                     lines: lines,
+                    met: met,
                     end: 0,
                 },
             )

@@ -22,6 +22,11 @@ pub struct DeclaredAction {
     pub variants: Vec<DeclaredVariant>,
 }
 
+/// W where no (total) line is accepted.
+pub const DEFAULT_TOTAL: u64 = 100;
+/// G and D where no (discount) line is accepted (document 02, L7).
+pub const DEFAULT_DISCOUNT: (u64, u64) = (19, 20);
+
 #[derive(Clone, Debug, Default)]
 pub struct Declarations {
     pub constants: Vec<String>,

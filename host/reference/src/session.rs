@@ -2,7 +2,7 @@
 
 use crate::combine::{combine, Names, Operator};
 use crate::cut::cut;
-use crate::declarations::{Declarations, DeclaredAction, DeclaredVariant, Lookup, Variables};
+use crate::declarations::{Declarations, DeclaredAction, DeclaredVariant, Lookup, Variables, DEFAULT_DISCOUNT, DEFAULT_TOTAL};
 use crate::diagram::{Diagram, Row};
 use crate::mdp::{backup, power, Action, Model, Variant};
 use crate::refusal::{require, Refusal};
@@ -216,7 +216,7 @@ impl Session {
         let reward = declared.reward.clone().ok_or(Refusal::Place)?;
         require(!declared.actions.is_empty(), Refusal::Place)?;
         require(declared.actions.iter().all(|action| !action.variants.is_empty()), Refusal::Place)?;
-        let total = declared.total.unwrap_or(100);
+        let total = declared.total.unwrap_or(DEFAULT_TOTAL);
         for action in &declared.actions {
             let mut sum = Diagram::leaf(0);
             for variant in &action.variants {
@@ -226,7 +226,7 @@ impl Session {
         }
         let model = Model {
             total,
-            discount: declared.discount.unwrap_or((1, 1)),
+            discount: declared.discount.unwrap_or(DEFAULT_DISCOUNT),
             reward: reward.clone(),
             actions: declared.actions.iter().map(action_of).collect(),
         };

@@ -2,6 +2,7 @@
 
 use crate::random::Random;
 use reference::bellman::{PlainAction, PlainModel, PlainVariant};
+use reference::declarations::DEFAULT_DISCOUNT;
 use reference::state::State;
 use reference::terms::{is_constant, is_parameter, Arities, Term, EQUALITY, FIRST_PARAMETER, FIRST_VARIABLE, PREDICATES};
 use reference::tree::Tree;
@@ -152,7 +153,8 @@ pub fn model(random: &mut Random, size: Size) -> (Signature, PlainModel) {
     let leaves = [0, 0, 1, random.between(0, size.leaf), random.between(0, size.leaf)];
     let reward = signature.tree(random, &terms(&signature, 0, variables), size.depth, &leaves);
     let actions = (0..random.between(1, size.actions)).map(|_| action(random, &signature, size, total)).collect();
-    let model = PlainModel { arities: signature.arities, total, discount: (gain, divisor), reward, actions };
+    let discount = if random.once_in(4) { DEFAULT_DISCOUNT } else { (gain, divisor) };
+    let model = PlainModel { arities: signature.arities, total, discount, reward, actions };
     (signature, model)
 }
 
@@ -238,12 +240,14 @@ pub fn write_tree(tree: &Tree) -> String {
     }
 }
 
-/// The model part of a text, (start) included.
+/// The model part of a text, (start) included; the default discount is left out.
 pub fn write_model(signature: &Signature, model: &PlainModel) -> Vec<String> {
     let mut lines: Vec<String> = (0..signature.constants).map(|c| format!("(constant c{c})")).collect();
     lines.extend((1..=signature.predicates).map(|p| format!("(predicate p{p} {})", signature.arities[p as usize])));
     lines.push(format!("(total {})", model.total));
-    lines.push(format!("(discount {} {})", model.discount.0, model.discount.1));
+    if model.discount != DEFAULT_DISCOUNT {
+        lines.push(format!("(discount {} {})", model.discount.0, model.discount.1));
+    }
     lines.push(format!("(reward {})", write_tree(&model.reward)));
     for (i, action) in model.actions.iter().enumerate() {
         let parameters: String = (0..action.parameters).map(|p| format!(" !a{p}")).collect();

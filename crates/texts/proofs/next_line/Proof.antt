@@ -4,15 +4,19 @@ use Rattle.texts.proofs.next_line.Statement.{statement}
 use Rattle.texts.proofs.next_line.Tie as tie
 
 returns : tie.Need-returns
-returns c = next-full (c .before .before .before .before .before .before .before .before .before .before .before .before .before .before .before .before .before .before .before .before .before .before .before .before .before .before .before .before .before .before .before .before .before .before .before .before .before .before .pre .0) (c .before .before .before .before .before .before .before .before .before .before .before .before .before .before .before .before .before .before .before .reply-line .ensures) (c .enum-told .given .1)
+returns c =
+    let sent = c .before .before .before .before .before .before .before .before .before .before .before .before .before .before .before .before .before .before .before in
+    next-full (sent .before .before .before .before .before .before .before .before .before .before .before .before .before .before .before .before .before .before .before .before .pre .0) (sent .reply-line .ensures) (c .enum-told .given .1)
 
 returns-2 : tie.Need-returns-2
-returns-2 c = next-to (c .before .before .before .before .before .before .before .before .before .before .before .before .before .before .before .before .before .before .before .before .before .before .before .before .before .before .before .before .before .before .before .before .before .before .before .before .before .before .before .pre .0) (c .before .before .before .before .before .before .before .before .before .before .before .before .before .before .before .before .before .before .before .before .reply-line .ensures) _ (c .before .put .given .1)
+returns-2 c =
+    let sent = c .before .before .before .before .before .before .before .before .before .before .before .before .before .before .before .before .before .before .before .before in
+    next-to (sent .before .before .before .before .before .before .before .before .before .before .before .before .before .before .before .before .before .before .before .before .pre .0) (sent .reply-line .ensures) _ (c .before .put .given .1) (sent .before .before .before .before .before .before .before .before .before .met-behind .ensures)
 
 pub next-line-spec : {M : Type 1} → statement M
 next-line-spec =
     tie.close
-    (tie.spec (λ c. search needs) (λ c κs. search needs) (λ c. search needs) (λ c. search needs)
+    (tie.spec (λ c. search needs) (λ c κs. search needs) (λ c κs. search needs) (λ c. search needs) (λ c. search needs)
     (λ c. search needs) (λ c. search needs) (λ c. search needs) (λ c. search needs) (λ c. search needs) (λ c. search needs) (λ c. search needs) (λ c. search needs)
     returns
     (λ c. search needs) (λ c. search needs) (λ c. search needs) (λ c. search needs) (λ c. search needs) (λ c. search needs) (λ c. search needs) (λ c. search needs)
