@@ -26,9 +26,10 @@ use Rattle.steps.specs.declared.Step.{Step}
 use Rattle.steps.specs.declared.Step.the-variants.{Rows, Refused as Stopped}
 use Rattle.planner.specs.declared.Power.{Power}
 use Rattle.planner.specs.declared.Power.the-variants.{Next, Ends}
+use Rattle.planner.specs.declared.Backed.{Backed}
 use Rattle.planner.specs.declared.Backed.the-variants.{Done, Refused}
 use Rattle.steps.specs.Steps.{stepAs, Wrote}
-use Rattle.planner.specs.Backed.{scaleOf, powerAs, Numbers, Powered, backedAs, BackedUp}
+use Rattle.planner.specs.Backed.{backedStep, scaleOf, powerAs, Numbers, Powered, backedAs, BackedUp}
 
 -- ===== The next power =====
 
@@ -130,7 +131,7 @@ module _ {ar listings table : List ℕ} {h : Head} (t : Laid ar listings table h
       good-are : Accepted (Good ar) (backup M k d)
       good-are = subst (Accepted (Good ar)) (sym (backup-is d)) (w .good)
 
-      pub backed-done : {n : ℕ} → r ≡ Rows n → BackedUp ar M k d (Done n s) value value′
+      backed-done : {n : ℕ} → r ≡ Rows n → BackedUp ar M k d (Done n s) value value′
       backed-done {n} x = record {
         answer = go (rowOfCalls M s d) (sym (w .answer) ∙ x) ∙ ap (λ (z : ℕ). backedAs z (rowOfCalls M s d)) (sym power-is)
             ∙ ap (backedAs (scale M ^ suc k)) (sym (backup-is d));
@@ -142,9 +143,16 @@ module _ {ar listings table : List ℕ} {h : Head} (t : Laid ar listings table h
           go (ok c) y = let z : length (rows c) ≡ n = cc in ap (λ (m : ℕ). Done m s) (sym z)
           go (refused f) y = let z : _≡_ {A = ℕ} 0 1 = cc in absurd (omega arith)
 
-      pub backed-refused : {x : Refusal} → r ≡ Stopped x → BackedUp ar M k d (Refused x) value value′
+      backed-refused : {x : Refusal} → r ≡ Stopped x → BackedUp ar M k d (Refused x) value value′
       backed-refused {x} y = record { answer = go (rowOfCalls M s d) (sym (w .answer) ∙ y) ∙ ap (backedAs (scale M ^ suc k)) (sym (backup-is d)); words = words-are; good = good-are }
         where
           go : (o : Outcome Diagram) → stepAs o ≡ Stopped x → Refused x ≡ backedAs (scale M ^ suc k) o
           go (ok c) u = let z : _≡_ {A = ℕ} 0 1 = cc in absurd (omega arith)
           go (refused f) u = let z : f ≡ x = cc in ap Refused (sym z)
+
+      pub backed-told : {b : Backed} → b ≡ backedStep s r → BackedUp ar M k d b value value′
+      backed-told {b} h = subst (λ (x : Backed). BackedUp ar M k d x value value′) (sym h) (go r refl)
+        where
+          go : (x : Step) → r ≡ x → BackedUp ar M k d (backedStep s r) value value′
+          go (Rows n) y = rw y (backed-done y)
+          go (Stopped x) y = rw y (backed-refused y)

@@ -27,7 +27,7 @@ use Rattle.steps.specs.declared.Step.{Step}
 use Rattle.steps.specs.declared.Step.the-variants.{Rows, Refused}
 use Rattle.steps.specs.Steps.{Result, Given, Wrote, Begins, Operands, Scalable, Folding}
 use Rattle.planner.specs.Parts.{variantProduct, variantAdded}
-use Rattle.planner.specs.Tasks.{VariantTask, WeightTask, RewardTask}
+use Rattle.planner.specs.Tasks.{regressedStep, VariantTask, WeightTask, RewardTask}
 use Rattle.steps.specs.GivenLaws.{listing-result, given-ok, given-refused, wrote-given, refused-then, done-then, given-same}
 
 -- ===== A variant regressed =====
@@ -60,13 +60,20 @@ module _ {ar listings table : List ℕ} {place : ℕ} {value out work : List ℕ
     stopped (ok d) e h = let z : _≡_ {A = ℕ} 0 1 = cc in absurd (omega arith)
     stopped (refused r) e h = ap refused (cc)
 
-    pub regress-given : {n : ℕ} → r ≡ RegressedDone n → Given ar O (Rows n) out′
+    regress-given : {n : ℕ} → r ≡ RegressedDone n → Given ar O (Rows n) out′
     regress-given {n} h = done O n (ap regressedAs (sym same) ∙ sym q ∙ h) (λ d p l.
         let u : out′ ≡ listing d ++ drop (length (listing d)) out = w ∙ ap (λ (x : Outcome Diagram). writtenAs x out) (same ∙ p) in
         given-ok p (subst (Result ar (ok d) n) (sym u) (listing-result ar d (drop (length (listing d)) out) n (regressed-good .given d p) l)) l)
 
-    pub regress-stops : {x : Refusal} → r ≡ NotRegressed x → {out″ : List ℕ} → Given ar O (Refused x) out″
+    regress-stops : {x : Refusal} → r ≡ NotRegressed x → {out″ : List ℕ} → Given ar O (Refused x) out″
     regress-stops {x} h = given-refused (stopped O x (ap regressedAs (sym same) ∙ sym q ∙ h))
+
+    pub regress-told : {s : Step} → s ≡ regressedStep r → Given ar O s out′
+    regress-told {s} h = subst (λ (x : Step). Given ar O x out′) (sym h) (go r refl)
+      where
+        go : (x : Regressed) → r ≡ x → Given ar O (regressedStep r) out′
+        go (RegressedDone n) k = rw k (regress-given k)
+        go (NotRegressed x) k = rw k (regress-stops k)
 
 -- ===== A weight =====
 

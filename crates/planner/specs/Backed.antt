@@ -17,6 +17,8 @@ use Rattle.planner.specs.declared.Power.{Power}
 use Rattle.planner.specs.declared.Power.the-variants.{Next, Ends}
 use Rattle.planner.specs.declared.Backed.{Backed}
 use Rattle.planner.specs.declared.Backed.the-variants.{Done, Refused}
+use Rattle.steps.specs.declared.Step.{Step}
+use Rattle.steps.specs.declared.Step.the-variants.{Rows, Refused as Stopped}
 
 -- S = W · D, of the numbers of a model
 abbrev pub scaleOf : Head → ℕ
@@ -41,6 +43,11 @@ pub record Powered (h : Head) (k power : ℕ) : Type 0 where
 abbrev pub backedAs : ℕ → Outcome Diagram → Backed
 backedAs power (ok d) = Done (length (rows d)) power
 backedAs power (refused r) = Refused r
+
+-- the answer of the calls of a backup, with S^(k+1), as that of the backup
+abbrev pub backedStep : ℕ → Step → Backed
+backedStep power (Rows n) = Done n power
+backedStep power (Stopped r) = Refused r
 
 -- the answer is the new value's rows and S^(k+1), and the buffer has its listing; a refusal changes nothing. What is accepted has a listing.
 pub record BackedUp (ar : List ℕ) (m : Model) (k : ℕ) (d : Diagram) (r : Backed) (value value′ : List ℕ) : Type 0 where

@@ -9,10 +9,26 @@ use Rattle.diagram.specs.Sizes.{highestValue, resultWords, spaceWords}
 use Rattle.diagram.specs.Words.{isListing}
 use Rattle.diagram.specs.Listing.{diagramOf}
 use Rattle.state.specs.State.{meaning}
+use Rattle.regression.specs.declared.Regressed.{Regressed}
+use Rattle.regression.specs.declared.Regressed.the-variants.{Done as RegressedDone, Refused as NotRegressed}
+use Rattle.regression.specs.declared.Freed.{Freed}
+use Rattle.regression.specs.declared.Freed.the-variants.{Done as FreedDone, Refused as NotFreed}
 use Rattle.regression.specs.Parameters.{Within, GoodTruths}
 use Rattle.mdp.specs.Model.{GoodAction}
 use Rattle.model.specs.Layout.{variantWords, actionWords, variantAt, actionAt, rewardWords, LaidVariant, LaidAction}
 use Rattle.model.specs.declared.Head.{Head}
+use Rattle.steps.specs.declared.Step.{Step}
+use Rattle.steps.specs.declared.Step.the-variants.{Rows, Refused}
+
+-- the answer of a regression as that of a step
+abbrev pub regressedStep : Regressed → Step
+regressedStep (RegressedDone n) = Rows n
+regressedStep (NotRegressed r) = Refused r
+
+-- the answer of freeing as that of a step
+abbrev pub freedStep : Freed → Step
+freedStep (FreedDone n) = Rows n
+freedStep (NotFreed r) = Refused r
 
 -- the variant at a place of the table, and a value listing
 pub record VariantTask (ar listings table : List ℕ) (place : ℕ) (value out work : List ℕ) : Type 0 where

@@ -20,14 +20,24 @@ ghost use Rattle.model.specs.Layout.{variantAt, actionAt, rewardWords, modelOf,
 ghost use Rattle.mdp.specs.Runs.{aBackup, call, run};
 ghost use Rattle.planner.specs.Run.{callOf, callsOf, heldIn, Holds, Room, Callable, CutTask, CutTo, Takeable, Taken};
 ghost use Rattle.planner.specs.Parts.{variantProduct, variantAdded, freedUp, actionValue, actionTried};
-ghost use Rattle.planner.specs.Backed.{scaleOf, powerAs, Numbers, Powered, BackedUp};
+ghost use Rattle.planner.specs.Backed.{scaleOf, powerAs, Numbers, Powered, BackedUp, backedStep};
 ghost use Rattle.steps.specs.Steps.{Begins, Given, Wrote};
-ghost use Rattle.planner.specs.Tasks.{VariantTask, WeightTask, ActionTask, ValueTask, FreeUp, RewardTask, Standing};
+ghost use Rattle.planner.specs.Tasks.{regressedStep, freedStep, VariantTask, WeightTask, ActionTask, ValueTask, FreeUp, RewardTask, Standing};
 
 // S^(k+1), or that it or k would pass its limit.
 pub enum Power {
     Next(u64),
     Ends,
+}
+
+// The answer of a regression, as that of a step.
+fn regressed_step(r: Regressed) -> Step
+    ensures { λ q. ⌜ q ≡ regressedStep r ⌝ }
+{
+    match r {
+        Regressed::Done(n) => Step::Rows(n),
+        Regressed::Refused(e) => Step::Refused(e),
+    }
 }
 
 // The value regressed by the variant at a place of the table.
@@ -43,18 +53,14 @@ fn regress_variant(
     requires { ⌜ VariantTask (now arities) (now listings) (now table) place (now value) (now out) (now work) ⌝ }
     ensures { λ r. ⌜ Given (now (arities .entry)) (regressed (now (arities .entry)) (variantAt (now (listings .entry)) (now (table .entry)) place .truths) (diagramOf (now (value .entry)))) r (now (out .exit)) ⌝ }
 {
-    let r = regress::regress_checked(
+    regressed_step(regress::regress_checked(
         arities,
         value,
         listings,
         &table[place + 2..place + model::VARIANT_WORDS],
         out,
         work,
-    );
-    match r {
-        Regressed::Done(n) => Step::Rows(n),
-        Regressed::Refused(e) => Step::Refused(e),
-    }
+    ))
 }
 
 // The weight of the variant at a place of the table times leaf G, names shared.
@@ -174,19 +180,27 @@ fn variants_sum(
     Step::Rows(n)
 }
 
+// The answer of freeing, as that of a step.
+fn freed_step(r: Freed) -> Step
+    ensures { λ q. ⌜ q ≡ freedStep r ⌝ }
+{
+    match r {
+        Freed::Done(n) => Step::Rows(n),
+        Freed::Refused(e) => Step::Refused(e),
+    }
+}
+
 // Frees the parameters of an action that has `count` of them, and closes up.
 fn free_up(arities: &[u64], words: &[u64], count: u64, out: &mut [u64]) -> Step
     requires { ⌜ FreeUp (now arities) (now words) count (now out) ⌝ }
     ensures { λ r. ⌜ Given (now (arities .entry)) (freedUp (now (arities .entry)) count (diagramOf (now (words .entry)))) r (now (out .exit)) ⌝ }
 {
-    let r = freeing::free_checked(arities, words, count, out);
-    match r {
-        Freed::Done(n) => {
-            apart::close_up(arities, out, n);
-            Step::Rows(n)
-        }
-        Freed::Refused(e) => Step::Refused(e),
-    }
+    let r = freed_step(freeing::free_checked(arities, words, count, out));
+    let Step::Rows(n) = r else {
+        return r;
+    };
+    apart::close_up(arities, out, n);
+    r
 }
 
 // The sum over the variants of an action, freed and closed up.
@@ -349,6 +363,16 @@ fn next_power(head: Head, k: u64, power: u64) -> Power
     Power::Next(power * scale)
 }
 
+// The answer of the calls of a backup, with S^(k+1), as that of the backup.
+fn backed_step(r: Step, scale: u64) -> Backed
+    ensures { λ q. ⌜ q ≡ backedStep scale r ⌝ }
+{
+    match r {
+        Step::Rows(n) => Backed::Done(n, scale),
+        Step::Refused(e) => Backed::Refused(e),
+    }
+}
+
 // A backup of the value, whose listing is the first rows of the buffer; `power` is S^k. A refusal changes nothing.
 pub fn backup(
     arities: &[u64],
@@ -371,10 +395,7 @@ pub fn backup(
         return Backed::Refused(Refusal::Scale);
     };
     let r = replace_value(arities, listings, table, head, scale, value, rows, work);
-    match r {
-        Step::Rows(n) => Backed::Done(n, scale),
-        Step::Refused(e) => Backed::Refused(e),
-    }
+    backed_step(r, scale)
 }
 
 // What a run holds beside the value's listing: its rows, k and S^k.

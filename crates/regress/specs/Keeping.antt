@@ -5,6 +5,7 @@ use mathlib.Core.List.{List}
 use Prim.Native.Nat.{ℕ, _/_, _%_, _<_}
 use lib.ListN.{length, getD}
 use Rattle.basics.specs.Members.{Within}
+use Rattle.refusal.specs.Outcome.{ok}
 use Rattle.label.specs.Labels.{isLabel}
 use Rattle.diagram.specs.Diagram.{Diagram, same}
 use Rattle.diagram.specs.Validity.{tree}

@@ -1,4 +1,4 @@
-use Rattle.planner.proofs.PowerLaws.{laid-numbers, next-few, backed-ends, backed-done, backed-refused}
+use Rattle.planner.proofs.PowerLaws.{laid-numbers, next-few, backed-ends, backed-told}
 use borrow.Author.Needs.{needs}
 use Rattle.planner.proofs.backup.Statement.{statement}
 use Rattle.planner.proofs.backup.Tie as tie
@@ -17,22 +17,13 @@ replace-value-requires c κs =
 
 returns-2 : tie.Need-returns-2
 returns-2 c =
-    let at-replace-value = c .before .before .before .before .before .before .before in
+    let at-replace-value = c .before .before .before .before .before in
     let at-p = at-replace-value .before .before .before .before in
     let at-next-power = at-p .before .before in
     let entry = at-next-power .before .before .before .before .before .before in
-    backed-done (entry .pre .0) _ (at-next-power .next-power .ensures) (at-p .p .given .1) _ (at-replace-value .replace-value .ensures) (c .before .r .given .1)
-
-returns-3 : tie.Need-returns-3
-returns-3 c =
-    let at-replace-value = c .before .before .before .before .before .before .before in
-    let at-p = at-replace-value .before .before .before .before in
-    let at-next-power = at-p .before .before in
-    let entry = at-next-power .before .before .before .before .before .before in
-    backed-refused (entry .pre .0) _ (at-next-power .next-power .ensures) (at-p .p .given .1) _ (at-replace-value .replace-value .ensures) (c .before .r2 .given .1)
+    backed-told (entry .pre .0) _ (at-next-power .next-power .ensures) (at-p .p .given .1) _ (at-replace-value .replace-value .ensures) (c .backed-step .ensures)
 
 pub backup-spec : {M : Type 1} → statement M
 backup-spec =
     tie.close
-    (tie.spec next-power-requires (λ c. search needs) (λ c. search needs) returns replace-value-requires (λ c. search needs) (λ c. search needs) (λ c. search needs)
-    (λ c. search needs) returns-2 (λ c. search needs) (λ c. search needs) returns-3)
+    (tie.spec next-power-requires (λ c. search needs) (λ c. search needs) returns replace-value-requires (λ c κs. search needs) (λ c. search needs) (λ c. search needs) returns-2)

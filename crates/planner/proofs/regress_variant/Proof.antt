@@ -1,5 +1,5 @@
 use Rattle.model.proofs.CheckLaws.{part-spans}
-use Rattle.planner.proofs.VariantLaws.{regress-able, regress-given, regress-stops}
+use Rattle.planner.proofs.VariantLaws.{regress-able, regress-told}
 use borrow.Author.Needs.{needs}
 use Rattle.planner.proofs.regress_variant.Statement.{statement}
 use Rattle.planner.proofs.regress_variant.Tie as tie
@@ -11,20 +11,13 @@ regress-checked-requires c κs =
 
 returns : tie.Need-returns
 returns c =
-    let at-regress-checked = c .before .before .before .before .before .before .before in
+    let at-regress-checked = c .before .before .before .before .before in
     let entry = at-regress-checked .before .before .before .before .before .before .before .before .before .before in
-    regress-given (entry .pre) (part-spans (entry .args .table .now) (entry .args .place)) (at-regress-checked .regress-checked .ensures .0)
-    (at-regress-checked .regress-checked .ensures .1) (c .before .r .given .1)
-
-returns-2 : tie.Need-returns-2
-returns-2 c =
-    let at-regress-checked = c .before .before .before .before .before .before .before in
-    let entry = at-regress-checked .before .before .before .before .before .before .before .before .before .before in
-    regress-stops (entry .pre) (part-spans (entry .args .table .now) (entry .args .place)) (at-regress-checked .regress-checked .ensures .0)
-    (at-regress-checked .regress-checked .ensures .1) (c .before .r2 .given .1)
+    regress-told (entry .pre) (part-spans (entry .args .table .now) (entry .args .place)) (at-regress-checked .regress-checked .ensures .0)
+    (at-regress-checked .regress-checked .ensures .1) (c .regressed-step .ensures)
 
 pub regress-variant-spec : {M : Type 1} → statement M
 regress-variant-spec =
     tie.close
-    (tie.spec (λ c. search needs) (λ c. search needs) (λ c. search needs) (λ c. search needs) (λ c. search needs) (λ c. search needs) regress-checked-requires (λ c. search needs)
-    (λ c. search needs) (λ c. search needs) (λ c. search needs) returns (λ c. search needs) (λ c. search needs) returns-2)
+    (tie.spec (λ c. search needs) (λ c. search needs) (λ c. search needs) (λ c. search needs) (λ c. search needs) (λ c. search needs) regress-checked-requires
+    (λ c κs. search needs) (λ c. search needs) (λ c. search needs) returns)

@@ -1,0 +1,15 @@
+use Rattle.planner.specs.Backed.{backedStep}
+use mathlib.Core.Path.{sym, ap}
+use borrow.Author.Needs.{needs}
+use Rattle.planner.proofs.backed_step.Statement.{statement}
+use Rattle.planner.proofs.backed_step.Tie as tie
+
+returns : tie.Need-returns
+returns c = ap (backedStep _) (sym (c .before .r .given .1))
+
+returns-2 : tie.Need-returns-2
+returns-2 c = ap (backedStep _) (sym (c .before .r2 .given .1))
+
+pub backed-step-spec : {M : Type 1} → statement M
+backed-step-spec =
+    tie.close (tie.spec (λ c. search needs) (λ c. search needs) returns returns-2)
