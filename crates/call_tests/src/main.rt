@@ -19,9 +19,7 @@ ghost use lib.ListN.{length};
 // What the result buffer and the working space hold before a call.
 const MARK: u64 = 77;
 
-const BYTES: usize = 40960;
-
-// The registers: word r is how many words register r has. A place behind comes the registers' words: 63 for each letter to w, more for x, y and z.
+// The registers: room for 63 words for each letter to w, for more for x, y and z. How many they have stands before them, at 32 and the letter's number.
 const DESK: usize = 34400;
 
 const SMALL: usize = 64;
@@ -131,9 +129,9 @@ fn fill(line: &[u8], desk: &mut [u64], at: usize) -> usize {
     n
 }
 
-// Where the register of a letter begins; its first word is not used.
+// Where the register of a letter begins, with a word that is not used.
 fn place(letter: u64) -> usize
-    ensures { λ r. ⌜ r ≤ 50000 ⌝ }
+    ensures { λ r. ⌜ r ≤ 45000 ⌝ }
 {
     let r = (letter % 32) as usize;
     if r < 24 {
@@ -154,7 +152,7 @@ fn part(desk: &[u64], first: usize, n: usize) -> &[u64] {
 }
 
 fn register(desk: &[u64], letter: u64) -> &[u64] {
-    let n = word_at(desk, (letter % 32) as usize);
+    let n = word_at(desk, (letter % 32 + 32) as usize);
     part(desk, place(letter) + 1, n as usize)
 }
 
@@ -232,7 +230,7 @@ fn chain_word(c: Chain, i: u64) -> u64 {
 fn grow(desk: &mut [u64], c: Chain) {
     let at = place(c.letter) + 1;
     let n = (c.words as usize) % DESK;
-    put_word(desk, (c.letter % 32) as usize, n as u64);
+    put_word(desk, (c.letter % 32 + 32) as usize, n as u64);
     let mut i = 0;
     while i < n {
         put_word(desk, at + i, chain_word(c, i as u64));
@@ -257,15 +255,13 @@ fn tell_rows(rows: usize) -> usize {
     rows
 }
 
-fn tell_pairs(rows: usize, pairs: usize) -> usize {
-    say(b"  rows ", rows as u64);
-    say(b", pairs ", pairs as u64);
-    rows
-}
-
 fn tell_combined(answer: Combined) -> usize {
     match answer {
-        Combined::Done(rows, pairs) => tell_pairs(rows, pairs),
+        Combined::Done(rows, pairs) => {
+            tell_rows(rows);
+            say(b", pairs ", pairs as u64);
+            rows
+        }
         Combined::Refused(why) => tell_refusal(why),
     }
 }
@@ -506,16 +502,21 @@ fn tell_kept(kind: u8, kept: bool) {
     }
 }
 
+fn show_terms(label: u64) {
+    let mut unit = 262144;
+    while unit > 0 {
+        say(b".", label / unit % 64);
+        unit /= 64;
+    }
+}
+
 fn show_label(label: u64) {
     if label == Label::LEAF {
         io::write_all(STDOUT_FILENO, b": leaf");
         return;
     }
     say(b": ", label / 16777216);
-    say(b".", label / 262144 % 64);
-    say(b".", label / 4096 % 64);
-    say(b".", label / 64 % 64);
-    say(b".", label % 64);
+    show_terms(label);
 }
 
 fn show_word(i: usize, word: u64) {
@@ -577,19 +578,17 @@ fn comment(line: &[u8], kind: u8) {
     }
 }
 
-fn count(desk: &mut [u64], kind: u8, end: usize) {
-    let at = place(kind as u64);
-    if kind < b'a' {
-        return;
-    }
-    if at < end {
-        put_word(desk, (kind % 32) as usize, (end - at - 1) as u64);
-    }
+// How many words a line has behind its first, by where they began and ended.
+fn counted(at: usize, end: usize) -> u64
+    requires { ⌜ at ≤ 45000 ⌝ }
+{
+    ((end % 50000 + 49999 - at) % 50000) as u64
 }
 
 fn read_line(line: &[u8], desk: &mut [u64], kind: u8) {
-    let end = fill(line, desk, place(kind as u64));
-    count(desk, kind, end);
+    let at = place(kind as u64);
+    let end = fill(line, desk, at);
+    put_word(desk, (kind % 64) as usize, counted(at, end));
     if kind == b'w' {
         grow(desk, asked_chain(desk));
     }
@@ -634,7 +633,7 @@ fn run(text: &[u8], desk: &mut [u64]) {
 }
 
 fn main() {
-    let mut text = [0u8; BYTES];
+    let mut text = io::large_buffer();
     let mut desk = [0u64; DESK];
     let n = io::read_full(STDIN_FILENO, &mut text);
     run(&text[..n], &mut desk);
