@@ -340,43 +340,18 @@ fn names(word: u64) -> Names {
     Names::Shared
 }
 
-fn combine(desk: &[u64], kind: u8, out: &mut [u64], work: &mut [u64]) -> usize {
+fn combine(
+    desk: &[u64],
+    kind: u8,
+    how: Names,
+    arities: &[u64],
+    out: &mut [u64],
+    work: &mut [u64],
+) -> usize {
     let op = operation(kind);
-    let how = names(argument(desk, kind, 0));
     let x = register(desk, argument(desk, kind, 1));
     let y = register(desk, argument(desk, kind, 2));
-    let arities = register(desk, 1);
     tell_combined(combination::combine(op, how, arities, x, y, out, work))
-}
-
-fn value(desk: &[u64]) -> usize {
-    let n = argument(desk, b'v', 0);
-    let arities = register(desk, 1);
-    let x = register(desk, 24);
-    let y = register(desk, 25);
-    let z = register(desk, 26);
-    tell_value(state::value(arities, x, n, y, z))
-}
-
-fn regress(desk: &[u64], out: &mut [u64], work: &mut [u64]) -> usize {
-    let arities = register(desk, 1);
-    let x = register(desk, 24);
-    let y = register(desk, 25);
-    let z = register(desk, 26);
-    tell_regressed(regress::regress(arities, x, y, z, out, work))
-}
-
-fn free(desk: &[u64], out: &mut [u64], work: &[u64]) -> usize {
-    let arities = register(desk, 1);
-    let x = register(desk, 24);
-    let n = argument(desk, b'f', 0);
-    tell_freed(regress::free(arities, x, n, out, work))
-}
-
-fn cut(desk: &[u64], out: &mut [u64], work: &mut [u64]) -> usize {
-    let arities = register(desk, 1);
-    let x = register(desk, 24);
-    tell_cut(trim::cut(arities, x, out, work))
 }
 
 fn head(words: &[u64]) -> Head {
@@ -391,11 +366,17 @@ fn head(words: &[u64]) -> Head {
     }
 }
 
-fn run_calls(desk: &[u64], calls: &[u8], out: &mut [u64], work: &mut [u64]) -> usize {
-    let arities = register(desk, 1);
-    let x = register(desk, 24);
-    let y = register(desk, 25);
-    let h = head(register(desk, 26));
+// A run on the model of the listings x, the table y and the head z.
+fn run_calls(
+    arities: &[u64],
+    x: &[u64],
+    y: &[u64],
+    z: &[u64],
+    calls: &[u8],
+    out: &mut [u64],
+    work: &mut [u64],
+) -> usize {
+    let h = head(z);
     if out.len() < diagram::RESULT_WORDS {
         return 0;
     }
@@ -437,30 +418,49 @@ fn begin(bytes: &[u8], n: usize) -> &[u8] {
     bytes
 }
 
-fn iterate(desk: &[u64], out: &mut [u64], work: &mut [u64]) -> usize {
+fn iterate(
+    desk: &[u64],
+    arities: &[u64],
+    x: &[u64],
+    y: &[u64],
+    z: &[u64],
+    out: &mut [u64],
+    work: &mut [u64],
+) -> usize {
     let mut calls = [0u8; 32];
     let words = register(desk, b'i' as u64);
     put_calls(words, &mut calls);
-    run_calls(desk, begin(&calls, words.len()), out, work)
+    run_calls(arities, x, y, z, begin(&calls, words.len()), out, work)
 }
 
-fn call(desk: &[u64], kind: u8, out: &mut [u64], work: &mut [u64]) -> usize {
+// One call, of which n is the first word.
+fn call(
+    desk: &[u64],
+    kind: u8,
+    n: u64,
+    arities: &[u64],
+    x: &[u64],
+    y: &[u64],
+    z: &[u64],
+    out: &mut [u64],
+    work: &mut [u64],
+) -> usize {
     if kind == b'v' {
-        return value(desk);
+        return tell_value(state::value(arities, x, n, y, z));
     }
     if kind == b'r' {
-        return regress(desk, out, work);
+        return tell_regressed(regress::regress(arities, x, y, z, out, work));
     }
     if kind == b'f' {
-        return free(desk, out, work);
+        return tell_freed(regress::free(arities, x, n, out, work));
     }
     if kind == b'c' {
-        return cut(desk, out, work);
+        return tell_cut(trim::cut(arities, x, out, work));
     }
     if kind == b'i' {
-        return iterate(desk, out, work);
+        return iterate(desk, arities, x, y, z, out, work);
     }
-    combine(desk, kind, out, work)
+    combine(desk, kind, names(n), arities, out, work)
 }
 
 fn least(n: usize, most: usize) -> usize
@@ -472,35 +472,7 @@ fn least(n: usize, most: usize) -> usize
     most
 }
 
-// A call in parts of two buffers, as long as register b says.
-fn lend(desk: &[u64], kind: u8, out: &mut [u64], work: &mut [u64]) -> usize {
-    let n = least(argument(desk, b'b', 0) as usize, out.len());
-    let m = least(argument(desk, b'b', 1) as usize, work.len());
-    call(desk, kind, &mut out[0..n], &mut work[0..m])
-}
-
 // The result buffer after a call.
-
-fn are_kept(words: &[u64], start: usize) -> bool {
-    let mut i = start;
-    while i < words.len() {
-        if words[i] != MARK {
-            return false;
-        }
-        i += 1;
-    }
-    true
-}
-
-// The words behind the result, or all after a refusal, stay; but a run uses what lies behind its value.
-fn tell_kept(kind: u8, kept: bool) {
-    if kind == b'i' {
-        return;
-    }
-    if !kept {
-        io::write_all(STDOUT_FILENO, b", but other words changed");
-    }
-}
 
 fn show_terms(label: u64) {
     let mut unit = 262144;
@@ -519,7 +491,7 @@ fn show_label(label: u64) {
     show_terms(label);
 }
 
-fn show_word(i: usize, word: u64) {
+fn show_in_row(i: usize, word: u64) {
     if i % 3 != 0 {
         say(b" ", word);
         return;
@@ -528,11 +500,13 @@ fn show_word(i: usize, word: u64) {
     show_label(word);
 }
 
-fn show_words(out: &[u64], start: usize, end: usize) {
-    let mut i = start;
-    while i < end {
-        show_word(i, word_at(out, i));
-        i += 1;
+// A word behind the result, or any after a refusal, has to stay; but a run uses what lies behind its value.
+fn tell_changed(kind: u8, i: usize, word: u64) {
+    if word == MARK {
+        return;
+    }
+    if kind != b'i' {
+        say(b", but changed is word ", i as u64);
     }
 }
 
@@ -544,17 +518,61 @@ fn first_shown(end: usize) -> usize {
     end - 6
 }
 
+fn show_word(kind: u8, i: usize, end: usize, word: u64) {
+    if i >= end {
+        tell_changed(kind, i, word);
+        return;
+    }
+    if i >= first_shown(end) {
+        show_in_row(i, word);
+    }
+}
+
 fn show(kind: u8, out: &[u64], rows: usize) {
     let end = rows % DESK * 3;
-    tell_kept(kind, are_kept(out, end));
-    show_words(out, first_shown(end), end);
+    let mut i = 0;
+    while i < out.len() {
+        show_word(kind, i, end, out[i]);
+        i += 1;
+    }
     io::write_all(STDOUT_FILENO, b"\n");
 }
 
+// A call in parts of two buffers, as long as register b says.
+fn lend(
+    desk: &[u64],
+    kind: u8,
+    arities: &[u64],
+    x: &[u64],
+    y: &[u64],
+    z: &[u64],
+    out: &mut [u64],
+    work: &mut [u64],
+) -> usize {
+    let n = least(argument(desk, b'b', 0) as usize, out.len());
+    let m = least(argument(desk, b'b', 1) as usize, work.len());
+    let first = argument(desk, kind, 0);
+    call(
+        desk,
+        kind,
+        first,
+        arities,
+        x,
+        y,
+        z,
+        &mut out[0..n],
+        &mut work[0..m],
+    )
+}
+
 fn answer(desk: &[u64], kind: u8) {
+    let arities = register(desk, 1);
+    let x = register(desk, 24);
+    let y = register(desk, 25);
+    let z = register(desk, 26);
     let mut out = [MARK; 3073];
     let mut work = [MARK; 6145];
-    let rows = lend(desk, kind, &mut out, &mut work);
+    let rows = lend(desk, kind, arities, x, y, z, &mut out, &mut work);
     show(kind, &out, rows);
 }
 

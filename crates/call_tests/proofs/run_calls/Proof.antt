@@ -10,5 +10,5 @@ run-requires c κs = (said (c .before .before .before .check .ensures) (c .befor
 pub run-calls-spec : {M : Type 1} → statement M
 run-calls-spec =
     tie.close
-    (tie.spec (λ c κs. search needs) (λ c κs. search needs) (λ c κs. search needs) (λ c κs. search needs) (λ c κs. search needs) (λ c. search needs) (λ c. search needs)
+    (tie.spec (λ c κs. search needs) (λ c. search needs) (λ c. search needs)
     (λ c κs. search needs) (λ c κs. search needs) (λ c. search needs) run-requires (λ c κs. search needs) (λ c. search needs) (λ c. search needs) (λ c. search needs))
