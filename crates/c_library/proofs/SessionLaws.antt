@@ -100,6 +100,10 @@ module _ (numbers arities state : List ℕ) {b : Bool} (q : b ≡ hasRoom (lengt
 pub line-kept : {numbers work : List ℕ} {w : Memory} {n : Numbers} → Lent numbers w work → n ≡ numbersAt numbers → Kept n w
 line-kept {w = w} g e = subst (λ (m : Numbers). Kept m w) (sym e) (g .kept)
 
+-- a line with bytes was met before, or is this one
+pub line-met : (line numbers : List ℕ) {before m : Bool} → m ≡ (before || hasBytes line) → before ≡ metAt numbers → m ≡ (metAt numbers || hasBytes line)
+line-met line numbers e d = e ∙ ap (λ (b : Bool). b || hasBytes line) d
+
 module _ {line numbers : List ℕ} {w : Memory} {answer : List ℕ} where
   pub line-refused : {bytes k : ℕ} → length answer < mostBytes → k ≡ numberOf Buffer → Replies line numbers w answer bytes k numbers w answer bytes
   line-refused l e = record {
@@ -174,6 +178,14 @@ take-none : (s : List ℕ) → take 0 s ≡ []
 take-none [] = refl
 take-none (b ∷ s) = refl
 
+-- the position that the end of a text is asked of, its answers given away
+abbrev pub lastAt : Numbers → Bool → Position
+lastAt n m = record { numbers = n; lines = 0; met = m; end = 0 }
+
+-- and how far the text is read
+abbrev hereAt : Numbers → Bool → List ℕ → Progress
+hereAt n m answer = progressOf (lastAt n m) (memoryOf [] [] [] [] [] []) answer
+
 module _ (numbers answer : List ℕ) {b : Bool} (q : b ≡ canClose (length numbers) (length answer)) where
   pub close-left : {bytes k : ℕ} → not b ≡ true → k ≡ numberOf Buffer → Closes numbers answer bytes k answer bytes
   close-left {bytes} {k} f h = record {
@@ -182,16 +194,9 @@ module _ (numbers answer : List ℕ) {b : Bool} (q : b ≡ canClose (length numb
         (record { number = h; answer-left = refl; bytes-left = refl });
   }
 
-  -- the position that the end of the text is asked of
   module _ {n : Numbers} {m : Bool} (f : not b ≡ false) (e : n ≡ numbersAt numbers) (g : m ≡ metAt numbers) where
-    last : Position
-    last = record { numbers = n; lines = 0; met = m; end = 0 }
-
-    module _ {r : Ran} {answer′ : List ℕ} (x : (w : Memory) (s : List ℕ) → length s ≡ 0 → Fills (fillRest (length answer) (progressOf last w answer) s) answer r answer′) where
-      here : Progress
-      here = progressOf last (memoryOf [] [] [] [] [] []) answer
-
-      all : allBytes here ≡ closingAt numbers
+    module _ {r : Ran} {answer′ : List ℕ} (x : (w : Memory) (s : List ℕ) → length s ≡ 0 → Fills (fillRest (length answer) (progressOf (lastAt n m) w answer) s) answer r answer′) where
+      all : allBytes (hereAt n m answer) ≡ closingAt numbers
       unfolding progressOf sessionOf
       all = ap (λ (s : List ℕ). s ++ closing (n .part) m) (take-none answer) ∙ (λ i. closing (e i .part) (g i))
 
@@ -200,15 +205,15 @@ module _ (numbers answer : List ℕ) {b : Bool} (q : b ≡ canClose (length numb
           let c = close-room (length numbers) (length answer) q f in
           omega (arith, c .answer, closing-short (numbersAt numbers .part) (metAt numbers))
 
-      none-long : length (here .bytes) ≡ 0
+      none-long : length (hereAt n m answer .bytes) ≡ 0
       unfolding progressOf
       none-long = ap length (take-none answer)
 
-      filled-is : fillRest (length answer) here [] ≡ record { bytes = closingAt numbers; answer = R.Done (length (closingAt numbers)) }
+      filled-is : fillRest (length answer) (hereAt n m answer) [] ≡ record { bytes = closingAt numbers; answer = R.Done (length (closingAt numbers)) }
       unfolding fillClosing
       filled-is =
-          rest-none (length answer) here (omega (arith, none-long))
-          ∙ rw (le-leb (length (allBytes here)) (length answer) (omega (arith, room, ap length all)))
+          rest-none (length answer) (hereAt n m answer) (omega (arith, none-long))
+          ∙ rw (le-leb (length (allBytes (hereAt n m answer))) (length answer) (omega (arith, room, ap length all)))
           (λ i. record { bytes = all i; answer = R.Done (length (all i)) })
 
       closed : Fills (record { bytes = closingAt numbers; answer = R.Done (length (closingAt numbers)) }) answer r answer′

@@ -108,7 +108,8 @@ lines-under : (σ : Session) (n m : ℕ) (ls : List (List ℕ))
 unfolding replies repliesBytes
 lines-under σ n m [] = refl
 lines-under σ n m ([] ∷ ls) =
-    ap₂ (λ (y : Reply) (bs : List ℕ). replyBytes y ++ bs) (blank-leaves σ (suc n)) (ap (λ (τ : Session). repliesBytes (replies τ (suc n) ls)) (ap (λ (y : Reply). y .session) (blank-leaves σ (suc n))))
+    ap₂ (λ (y : Reply) (bs : List ℕ). replyBytes y ++ bs) (blank-leaves σ (suc n))
+    (ap (λ (τ : Session). repliesBytes (replies τ (suc n) ls)) (ap (λ (y : Reply). y .session) (blank-leaves σ (suc n))))
     ∙ ap (λ (bs : List ℕ). bs ++ repliesBytes (replies σ (suc n) ls)) (silent-bytes σ)
     ∙ lines-under σ (suc n) m ls
 lines-under σ n m ((b ∷ l) ∷ ls) =

@@ -14,8 +14,11 @@ perform-requires : tie.Need-perform-requires
 perform-requires c κs =
     let told = c .before .before .before .before .before .before .before in
     let placed = told .before .before in
-    let start = placed .before .before .before .before .before .before .before .before .before .before .before .before .before .before .pre in
-    (answer-ready (start .0) (placed .before .before .before .rule-of .ensures) (placed .allowed .ensures) (placed .before .before .before .before .read-line .ensures .1) (told .enum-told .given .1), start .1)
+    let start = placed .before .before .before .before .before .before .before .before .before .before .before .before .before .before .pre in (
+      answer-ready (start .0) (placed .before .before .before .rule-of .ensures) (placed .allowed .ensures)
+          (placed .before .before .before .before .read-line .ensures .1) (told .enum-told .given .1),
+      start .1,
+    )
 
 -- it is done
 returns-2 : tie.Need-returns-2
@@ -24,7 +27,8 @@ returns-2 c =
     let told = did .before .before .before .before .before .before .before .before in
     let placed = told .before .before in
     let read = placed .before .before .before .before in
-    answer-done (read .before .before .before .before .before .before .before .before .before .before .pre .0) (placed .before .before .before .rule-of .ensures) (placed .allowed .ensures) (read .before .if1 .left) (read .read-line .ensures .0)
+    let start = read .before .before .before .before .before .before .before .before .before .before .pre in
+    answer-done (start .0) (placed .before .before .before .rule-of .ensures) (placed .allowed .ensures) (read .before .if1 .left) (read .read-line .ensures .0)
     (told .enum-told .given .1) (did .perform .ensures)
 
 -- it is refused for its place
@@ -32,7 +36,8 @@ returns-3 : tie.Need-returns-3
 returns-3 c =
     let placed = c .before .before .before in
     let read = placed .before .before .before .before in
-    answer-refused (read .before .before .before .before .before .before .before .before .before .before .pre .0) (placed .before .before .before .rule-of .ensures) (placed .allowed .ensures) _ _ (read .before .if1 .left) (read .read-line .ensures .0)
+    let start = read .before .before .before .before .before .before .before .before .before .before .pre in
+    answer-refused (start .0) (placed .before .before .before .rule-of .ensures) (placed .allowed .ensures) _ _ (read .before .if1 .left) (read .read-line .ensures .0)
     (c .before .why .given .1)
 
 pub answer-spec : {M : Type 1} → statement M
