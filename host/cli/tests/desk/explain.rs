@@ -71,6 +71,22 @@ fn a_text_that_is_taken_whole() {
     assert_eq!((ended.out.as_str(), ended.err.as_str(), ended.status), ("", "", 0));
 }
 
+/// Blank lines count and pass; a text of such lines only has nothing to explain, one with another line and no (start) has.
+#[test]
+fn blank_lines() {
+    let here = folder("explain_blank_lines");
+    let explained = |text: &str| {
+        let ended = desk(&["explain", &file(&here, "text.txt", text)]);
+        (ended.out.lines().map(|line| line.split_once("text.txt").expect("its name").1.to_string()).collect::<Vec<String>>(), ended.status)
+    };
+    assert_eq!(explained(""), (vec![], 0));
+    assert_eq!(explained("\n\n"), (vec![], 0));
+    let (told, status) = explained("\n\n(constant hub)\n\r\n");
+    assert!(told[0].starts_with(":4:1: form (1): the line is empty but for a carriage return (CR LF); "), "{told:?}");
+    assert!(told[1].starts_with(": place (5): the text ends and no (start) was accepted; "), "{told:?}");
+    assert_eq!((told.len(), status), (2, 1));
+}
+
 #[test]
 fn line_ends_and_standard_input() {
     let here = folder("explain_line_ends");

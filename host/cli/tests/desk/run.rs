@@ -82,9 +82,15 @@ fn long_lines_and_no_lines() {
     assert_eq!(desk(&["run", &long]).out, "(refused 1 1)\n(refused 5 0)\n");
     let limit = file(&here, "limit.txt", format!("(reward {}7)\n({})\n", "0".repeat(0), "a ".repeat(2_046) + "a"));
     assert_eq!(desk(&["run", &limit]).out, "(refused 1 2)\n(refused 5 0)\n");
-    let empty = file(&here, "empty.txt", "");
-    let ended = desk(&["run", &empty]);
-    assert_eq!((ended.out.as_str(), ended.status), ("(refused 5 0)\n", 1));
+    // a text of no bytes, or of blank lines only, is an empty order
+    for text in ["", "\n", "\n\n\n"] {
+        let empty = file(&here, "empty.txt", text);
+        let ended = desk(&["run", &empty]);
+        assert_eq!((ended.out.as_str(), ended.err.as_str(), ended.status), ("", "", 0), "{text:?}");
+    }
+    let bytes = file(&here, "bytes.txt", "\n\nx");
+    let ended = desk(&["run", &bytes]);
+    assert_eq!((ended.out.as_str(), ended.status), ("(refused 1 3)\n(refused 5 0)\n", 1));
 }
 
 #[test]
