@@ -53,7 +53,8 @@ c_value() {
 }
 
 c_session() {
-    build "$1" ../examples/session.c session && target/c/session <../examples/sample.txt | cmp - ../examples/sample.out
+    build "$1" ../examples/session.c session && target/c/session <../examples/sample.txt | cmp - ../examples/sample.out || return 1
+    prints "" target/c/session < <(printf '\n\n') && prints $'(refused 1 3)\n(refused 5 0)' target/c/session < <(printf '\n\nx')
 }
 
 c_checks() {
@@ -138,7 +139,8 @@ program_at_its_ends() {
     printf 'x\n' | "$program" >target/said || return 1
     prints $'(refused 1 1)\n(refused 5 0)' cat target/said || return 1
     if [ -w /dev/full ]; then "$program" <../examples/sample.txt >/dev/full || return 1; fi
-    "$program" <. >target/said || return 1
+    "$program" <. >target/said && prints "" cat target/said || return 1
+    printf '\n\n' | "$program" >target/said && prints "" cat target/said || return 1
     yes '(show)' | head -n 100000 | "$program" | head -n 1 >target/said
     status=("${PIPESTATUS[@]}")
     [ "${status[2]}" -eq 141 ] || { echo "status ${status[2]} at a closed pipe"; return 1; }

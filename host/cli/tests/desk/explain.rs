@@ -48,10 +48,10 @@ FILE:8:14: arity (3): \"stock\" is of arity 1, and here it has 2 terms; (predica
 FILE:9:20: unbound (6): the reward names a parameter, \"!d\"; a reward names constants and variables only: write ?name
 FILE:10:9: form (1): this (if ..) has no false side; the form is (reward DIAGRAM); a diagram is a number or (if ATOM DIAGRAM DIAGRAM)
 FILE:11:30: form (1): 1 bracket is not closed at the end of the line; a form stands on one line; close it there
-FILE:14:26: unbound (6): a weight names a variable, \"?x\"; a weight names constants and the action's parameters only: write !name
-FILE:16:35: truth (7): a truth diagram has the number 2; say 1 where the fact is true afterwards and 0 where it is not
-FILE:17:48: unbound (6): \"?t\" is no argument of this (becomes); a truth diagram names the arguments of its predicate, the action's parameters and constants only
-FILE:19:1: weights (13): the weights of action \"fill\" do not add up to 4 in every case: where not heavy(!d) the sum is 3; mend its weights so that each case adds up to the total; a case may have been forgotten
+FILE:15:26: unbound (6): a weight names a variable, \"?x\"; a weight names constants and the action's parameters only: write !name
+FILE:17:35: truth (7): a truth diagram has the number 2; say 1 where the fact is true afterwards and 0 where it is not
+FILE:18:48: unbound (6): \"?t\" is no argument of this (becomes); a truth diagram names the arguments of its predicate, the action's parameters and constants only
+FILE:21:1: weights (13): the weights of action \"fill\" do not add up to 4 in every case: where not heavy(!d) the sum is 3; mend its weights so that each case adds up to the total; a case may have been forgotten
 FILE: place (5): the text ends and no (start) was accepted; close the model with (start); where there is one, mend the lines that were refused before it
 ";
 
@@ -108,15 +108,15 @@ fn sizes_against_their_limits() {
     let lines: Vec<&str> = ended.out.lines().collect();
     assert_eq!(lines.len(), 3, "{}", ended.out);
     assert!(
-        lines[0].contains(":30:1: nothing (16): after step 1: the value diagram of 19 rows has no edge that may go; all is cut, so go on"),
+        lines[0].contains(":35:1: nothing (16): after step 1: the value diagram of 19 rows has no edge that may go; all is cut, so go on"),
         "{}",
         lines[0]
     );
     assert!(
-        lines[1].contains(":40:1: paths (17): after step 2: the value diagram of 540 rows has ")
+        lines[1].contains(":49:1: paths (17): after step 2: the value diagram of 540 rows has ")
             && lines[1].contains(" paths; at most 256; "),
         "{}",
         lines[1]
     );
-    assert!(lines[2].contains(":50:1: space (9): step 3: action ") && lines[2].contains("; at most "), "{}", lines[2]);
+    assert!(lines[2].contains(":63:1: space (9): step 3: action ") && lines[2].contains("; at most "), "{}", lines[2]);
 }

@@ -39,7 +39,7 @@ fn strict_prints_no_value_of_a_broken_model() {
     let broken = std::fs::read_to_string(example("liftparts.txt")).expect("a text").replace("(becomes (here ?v)", "(becomes (heer ?v)");
     let text = file(&here, "broken.txt", broken);
     let plain = desk(&["run", &text]);
-    assert!(plain.out.starts_with("(refused 2 14)\n(backup 1 "), "{}", plain.out);
+    assert!(plain.out.starts_with("(refused 2 17)\n(backup 1 "), "{}", plain.out);
     assert!(
         plain.err.contains("1 line is refused before (start), so the values are those of a model other than the one written"),
         "{}",
@@ -47,8 +47,8 @@ fn strict_prints_no_value_of_a_broken_model() {
     );
     assert_eq!(plain.status, 1);
     let strict = desk(&["run", "--strict", &text]);
-    assert_eq!((strict.out.as_str(), strict.status), ("(refused 2 14)\n", 1));
-    assert!(strict.err.contains("stopped at line 14"), "{}", strict.err);
+    assert_eq!((strict.out.as_str(), strict.status), ("(refused 2 17)\n", 1));
+    assert!(strict.err.contains("stopped at line 17"), "{}", strict.err);
 }
 
 #[test]
