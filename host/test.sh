@@ -52,9 +52,13 @@ c_value() {
     build "$1" ../examples/value.c value && prints 10 target/c/value
 }
 
+# a session by lines that is closed at the end answers the stored texts as the program does
 c_session() {
-    build "$1" ../examples/session.c session && target/c/session <../examples/sample.txt | cmp - ../examples/sample.out || return 1
-    prints "" target/c/session < <(printf '\n\n') && prints $'(refused 1 3)\n(refused 5 0)' target/c/session < <(printf '\n\nx')
+    local text
+    build "$1" ../examples/session.c session || return 1
+    for text in ../examples/*.txt corpus/*.txt; do
+        target/c/session <"$text" | cmp - "${text%.txt}.out" || return 1
+    done
 }
 
 c_checks() {
