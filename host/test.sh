@@ -158,6 +158,23 @@ step target/release/tests self seconds "$seconds"
 step target/release/tests stored corpus
 step target/release/tests stored ../examples
 
+if [ -n "$program" ] && [ -x "$program" ]; then
+    step target/release/tests stored corpus "$program"
+    step target/release/tests stored ../examples "$program"
+    step target/release/tests program "$program" seconds "$seconds"
+    step target/release/tests bellman "$program" seconds "$((seconds / 2))"
+    step program_at_its_ends
+else
+    echo "no program${program:+ at $program}: its texts are left out"
+fi
+
+# The caller may build the library meanwhile: then this file has the status of its build once that has ended.
+library_built() {
+    until [ -s "$YINDOLVE_LIBRARY_STATUS" ]; do sleep 1; done
+    [ "$(cat "$YINDOLVE_LIBRARY_STATUS")" = 0 ]
+}
+if [ -n "${YINDOLVE_LIBRARY_STATUS:-}" ]; then step library_built; fi
+
 if [ -f "$library" ]; then
     step quiet cargo test --quiet --release --offline -p yindolve
     step quiet cargo build --quiet --release --offline -p tests --features library
@@ -180,18 +197,9 @@ else
     echo "no static library at $library (rt staticlib c_library builds it): its tests are left out"
 fi
 
-if [ -n "$program" ] && [ -x "$program" ]; then
-    step target/release/tests stored corpus "$program"
-    step target/release/tests stored ../examples "$program"
-    step target/release/tests program "$program" seconds "$seconds"
-    step target/release/tests bellman "$program" seconds "$((seconds / 2))"
-    step program_at_its_ends
-    if [ -f ../target/bin/yindolve ] && [ -f ../target/staticlib/libc_library.a ]; then
-        step installed
-        step readme
-    fi
-else
-    echo "no program${program:+ at $program}: its texts are left out"
+if [ -f ../target/bin/yindolve ] && [ -f ../target/staticlib/libc_library.a ]; then
+    step installed
+    step readme
 fi
 echo "$passed passed, $failed failed"
 [ "$failed" -eq 0 ]

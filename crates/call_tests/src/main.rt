@@ -340,15 +340,9 @@ fn names(word: u64) -> Names {
     Names::Shared
 }
 
-fn combine(
-    desk: &[u64],
-    kind: u8,
-    how: Names,
-    arities: &[u64],
-    out: &mut [u64],
-    work: &mut [u64],
-) -> usize {
+fn combine(desk: &[u64], kind: u8, arities: &[u64], out: &mut [u64], work: &mut [u64]) -> usize {
     let op = operation(kind);
+    let how = names(argument(desk, kind, 0));
     let x = register(desk, argument(desk, kind, 1));
     let y = register(desk, argument(desk, kind, 2));
     tell_combined(combination::combine(op, how, arities, x, y, out, work))
@@ -433,11 +427,13 @@ fn iterate(
     run_calls(arities, x, y, z, begin(&calls, words.len()), out, work)
 }
 
-// One call, of which n is the first word.
+fn value(desk: &[u64], arities: &[u64], x: &[u64], y: &[u64], z: &[u64]) -> usize {
+    tell_value(valuing::value(arities, x, argument(desk, b'v', 0), y, z))
+}
+
 fn call(
     desk: &[u64],
     kind: u8,
-    n: u64,
     arities: &[u64],
     x: &[u64],
     y: &[u64],
@@ -446,12 +442,13 @@ fn call(
     work: &mut [u64],
 ) -> usize {
     if kind == b'v' {
-        return tell_value(valuing::value(arities, x, n, y, z));
+        return value(desk, arities, x, y, z);
     }
     if kind == b'r' {
         return tell_regressed(regress::regress(arities, x, y, z, out, work));
     }
     if kind == b'f' {
+        let n = argument(desk, b'f', 0);
         return tell_freed(freeing::free(arities, x, n, out, work));
     }
     if kind == b'c' {
@@ -460,7 +457,7 @@ fn call(
     if kind == b'i' {
         return iterate(desk, arities, x, y, z, out, work);
     }
-    combine(desk, kind, names(n), arities, out, work)
+    combine(desk, kind, arities, out, work)
 }
 
 fn least(n: usize, most: usize) -> usize
@@ -538,7 +535,7 @@ fn show(kind: u8, out: &[u64], rows: usize) {
     io::write_all(STDOUT_FILENO, b"\n");
 }
 
-// A call in parts of two buffers, as long as register b says.
+// A call in the first n and m words of two buffers.
 fn lend(
     desk: &[u64],
     kind: u8,
@@ -546,33 +543,36 @@ fn lend(
     x: &[u64],
     y: &[u64],
     z: &[u64],
+    n: usize,
+    m: usize,
     out: &mut [u64],
     work: &mut [u64],
 ) -> usize {
-    let n = least(argument(desk, b'b', 0) as usize, out.len());
-    let m = least(argument(desk, b'b', 1) as usize, work.len());
-    let first = argument(desk, kind, 0);
+    let k = least(n, out.len());
+    let l = least(m, work.len());
     call(
         desk,
         kind,
-        first,
         arities,
         x,
         y,
         z,
-        &mut out[0..n],
-        &mut work[0..m],
+        &mut out[0..k],
+        &mut work[0..l],
     )
 }
 
+// A call in buffers as long as register b says.
 fn answer(desk: &[u64], kind: u8) {
     let arities = register(desk, 1);
     let x = register(desk, 24);
     let y = register(desk, 25);
     let z = register(desk, 26);
+    let n = argument(desk, b'b', 0) as usize;
+    let m = argument(desk, b'b', 1) as usize;
     let mut out = [MARK; 3073];
     let mut work = [MARK; 6145];
-    let rows = lend(desk, kind, arities, x, y, z, &mut out, &mut work);
+    let rows = lend(desk, kind, arities, x, y, z, n, m, &mut out, &mut work);
     show(kind, &out, rows);
 }
 
@@ -603,21 +603,18 @@ fn counted(at: usize, end: usize) -> u64
     ((end % 50000 + 49999 - at) % 50000) as u64
 }
 
-fn read_line(line: &[u8], desk: &mut [u64], kind: u8) {
-    let at = place(kind as u64);
-    let end = fill(line, desk, at);
-    put_word(desk, (kind % 64) as usize, counted(at, end));
-    if kind == b'w' {
-        grow(desk, asked_chain(desk));
-    }
-}
-
 fn run_line(line: &[u8], desk: &mut [u64], kind: u8) {
     if kind < b'A' {
         comment(line, kind);
         return;
     }
-    read_line(line, desk, kind);
+    let at = place(kind as u64);
+    let end = fill(line, desk, at);
+    put_word(desk, (kind % 64) as usize, counted(at, end));
+    if kind == b'w' {
+        grow(desk, asked_chain(desk));
+        return;
+    }
     if is_call(kind) {
         echo(line);
         answer(desk, kind);

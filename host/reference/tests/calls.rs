@@ -62,6 +62,35 @@ fn listings() {
     assert!(case(&[leaf(1), leaf(0), row(q(2), 0, 1), row(q(1), 2, 1)]));
 }
 
+/// A chain of tests from the label numbered `first` on: leaves `base`, `base` + 1, .. in turn under their true edges, the next one under the last false edge.
+fn chain(first: u64, tests: u64, leaves: u64, base: u64) -> Vec<u64> {
+    let label = |n: u64| Label::pack(1, &[32 + n / 32, 32 + n % 32]).0;
+    let mut words: Vec<u64> = (0..leaves).flat_map(|v| [LEAF_MARK, base + v, 0]).collect();
+    for n in (0..tests).rev() {
+        let below = if n + 1 == tests { tests % leaves } else { words.len() as u64 / 3 - 1 };
+        words.extend([label(first + n), n % leaves, below]);
+    }
+    words
+}
+
+#[test]
+fn a_product_stops_under_a_zero() {
+    let product = |a: &[u64], b: &[u64]| combine(Operator::Product, Names::Shared, a, b, &arities(), Lent::ENOUGH);
+    // Ten tests over 0 and 1, and 102 rows over 5 and 6 below them: 10 pairs above, one of the 0, 102 of the 1; down to the leaves they are 214.
+    let (x, y) = (chain(0, 10, 2, 0), chain(16, 100, 2, 5));
+    assert_eq!(product(&x, &y).map(|(words, pairs)| (words.len() / 3, pairs)), Ok((113, 113)));
+    assert_eq!(sum(&x, &y).map(|(_, pairs)| pairs), Ok(214));
+    // Four tests over 0 to 4, and 820 rows: 4 + 5 · 820 pairs down to the leaves, 4 + 1 + 4 · 820 in a product, which form too many rows or too high a leaf.
+    let x = chain(0, 4, 5, 0);
+    let (rows, high) = (chain(16, 818, 2, 1), chain(16, 818, 2, LARGEST - 1));
+    assert_eq!(product(&x, &rows), Err(Refusal::Space));
+    assert_eq!(product(&x, &high), Err(Refusal::Value));
+    assert_eq!(sum(&x, &rows), Err(Refusal::Pairs));
+    // Five tests over 0 to 5 have 6 + 5 · 818 pairs, 4,096; one row more is too many.
+    assert_eq!(product(&chain(0, 5, 6, 0), &chain(16, 816, 2, 1)), Err(Refusal::Space));
+    assert_eq!(product(&chain(0, 5, 6, 0), &chain(16, 817, 2, 1)), Err(Refusal::Pairs));
+}
+
 #[test]
 fn rows_of_a_listing() {
     // A chain of distinct leaves under ascending labels of arity 2: row count 2 · length + 1.
