@@ -6,8 +6,8 @@
  * examples/value.c, examples/session.c and examples/save.c are whole programs. Linux on x86-64.
  *
  * Where to begin. A desk's program opens a session (yindolve_session_open), gives it the lines of a model and of a state (yindolve_session_ask) and reads the
- * answers as structs. docs/REFERENCE.md says what lines there are, what each answers, and what to do about each refusal. The other functions work on single
- * diagrams.
+ * answers as structs; one that answers a whole text asks for the closing answer at its end (yindolve_session_end). docs/REFERENCE.md says what lines there are,
+ * what each answers, and what to do about each refusal. The other functions work on single diagrams.
  *
  * Memory. The library owns none: the caller lends every word, 64 bits each, as a pointer and a count of words. A pointer is to as many words as its count says
  * and, for the functions that are not inline, is not null, also where the count is 0 (YINDOLVE_NO_WORDS stands for such a pointer and its 0); what a call writes

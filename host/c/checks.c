@@ -104,6 +104,14 @@ static void ends(void) {
     EXPECT(yindolve_session_ask(&other, "y").line == 4);
     EXPECT(yindolve_end(other.numbers, YINDOLVE_NUMBER_WORDS - 1, other.answer, YINDOLVE_ANSWER_BYTES, &bytes) == YINDOLVE_BUFFER && bytes == 99);
     EXPECT(yindolve_end(other.numbers, YINDOLVE_NUMBER_WORDS, other.answer, YINDOLVE_ANSWER_BYTES - 1, &bytes) == YINDOLVE_BUFFER && bytes == 99);
+    uint64_t numbers[YINDOLVE_NUMBER_WORDS]; /* words that are no session's are taken too */
+    memcpy(numbers, other.numbers, sizeof numbers);
+    numbers[0] = 7; /* a run */
+    EXPECT(yindolve_end(numbers, YINDOLVE_NUMBER_WORDS, other.answer, YINDOLVE_ANSWER_BYTES, &bytes) == 0 && bytes == 0);
+    numbers[0] = 0, numbers[22] = 2; /* not 1, so nothing was met */
+    EXPECT(yindolve_end(numbers, YINDOLVE_NUMBER_WORDS, other.answer, YINDOLVE_ANSWER_BYTES, &bytes) == 0 && bytes == 0);
+    memset(numbers, 255, sizeof numbers);
+    EXPECT(yindolve_end(numbers, YINDOLVE_NUMBER_WORDS, other.answer, YINDOLVE_ANSWER_BYTES, &bytes) == 0 && bytes == 0);
     EXPECT(yindolve_run_text((const uint8_t *)"\n\n", 2, NULL, 0, &bytes, &lines) == 0 && bytes == 0);
     EXPECT(yindolve_run_text((const uint8_t *)"\n\nx", 3, answers, sizeof answers, &bytes, &lines) == 0);
     EXPECT(bytes == 28 && memcmp(answers, "(refused 1 3)\n(refused 5 0)\n", 28) == 0);
