@@ -224,7 +224,8 @@ uint64_t yindolve_run(const uint8_t *text, size_t text_count, uint8_t *answers, 
 uint64_t yindolve_open(uint64_t *numbers, size_t numbers_count, uint64_t *arities, size_t arities_count, uint64_t *state, size_t state_count);
 
 /* Answers the next line of a session, which is given without its line feed: the answer's bytes to `answer`, none for a line that prints nothing, their count to
- * *bytes. Where a text ends with bytes that have no line feed, give the line "(" in their place: it is refused with FORM, as they are. Then yindolve_end closes the text.
+ * *bytes. Where a text ends with bytes that have no line feed, give the line "(" in their place: it is refused with FORM, as they are. yindolve_end closes the
+ * text.
  * ASKED OF THE CALLER, and not checked: the session's memory has the sizes above and is as opening or the line before left it, and fewer than 2^64 - 1 lines were
  * answered. The working space may hold anything.
  * Refused: BUFFER where `answer` has fewer than YINDOLVE_ANSWER_BYTES: the line is not answered, and the session stays as it was.
