@@ -52,8 +52,13 @@ c_value() {
     build "$1" ../examples/value.c value && prints 10 target/c/value
 }
 
+# a session by lines that is closed at the end answers the stored texts as the program does
 c_session() {
-    build "$1" ../examples/session.c session && target/c/session <../examples/sample.txt | cmp - ../examples/sample.out
+    local text
+    build "$1" ../examples/session.c session || return 1
+    for text in ../examples/*.txt corpus/*.txt; do
+        target/c/session <"$text" | cmp - "${text%.txt}.out" || return 1
+    done
 }
 
 c_checks() {
@@ -138,7 +143,8 @@ program_at_its_ends() {
     printf 'x\n' | "$program" >target/said || return 1
     prints $'(refused 1 1)\n(refused 5 0)' cat target/said || return 1
     if [ -w /dev/full ]; then "$program" <../examples/sample.txt >/dev/full || return 1; fi
-    "$program" <. >target/said || return 1
+    "$program" <. >target/said && prints "" cat target/said || return 1
+    printf '\n\n' | "$program" >target/said && prints "" cat target/said || return 1
     yes '(show)' | head -n 100000 | "$program" | head -n 1 >target/said
     status=("${PIPESTATUS[@]}")
     [ "${status[2]}" -eq 141 ] || { echo "status ${status[2]} at a closed pipe"; return 1; }

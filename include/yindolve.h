@@ -6,8 +6,8 @@
  * examples/value.c, examples/session.c and examples/save.c are whole programs. Linux on x86-64.
  *
  * Where to begin. A desk's program opens a session (yindolve_session_open), gives it the lines of a model and of a state (yindolve_session_ask) and reads the
- * answers as structs. docs/REFERENCE.md says what lines there are, what each answers, and what to do about each refusal. The other functions work on single
- * diagrams.
+ * answers as structs; one that answers a whole text asks for the closing answer at its end (yindolve_session_end). docs/REFERENCE.md says what lines there are,
+ * what each answers, and what to do about each refusal. The other functions work on single diagrams.
  *
  * Memory. The library owns none: the caller lends every word, 64 bits each, as a pointer and a count of words. A pointer is to as many words as its count says
  * and, for the functions that are not inline, is not null, also where the count is 0 (YINDOLVE_NO_WORDS stands for such a pointer and its 0); what a call writes
@@ -42,9 +42,9 @@ extern "C" {
 
 /* The version of this header and of its library. */
 #define YINDOLVE_VERSION_MAJOR 0
-#define YINDOLVE_VERSION_MINOR 1
+#define YINDOLVE_VERSION_MINOR 2
 #define YINDOLVE_VERSION_PATCH 0
-#define YINDOLVE_VERSION "0.1.0"
+#define YINDOLVE_VERSION "0.2.0"
 
 /* The first word of a leaf's row, and the highest value of a leaf. */
 #define YINDOLVE_LEAF UINT64_C(4294967295)
@@ -61,7 +61,7 @@ extern "C" {
 #define YINDOLVE_SPAN_WORDS 64     /* where truth diagrams stand: two words for each predicate */
 
 /* Sizes of a session's memory, in words, and of its answers, in bytes. */
-#define YINDOLVE_NUMBER_WORDS 22         /* numbers, at least */
+#define YINDOLVE_NUMBER_WORDS 23         /* numbers, at least */
 #define YINDOLVE_NAME_WORDS 136          /* names, at least */
 #define YINDOLVE_LISTING_WORDS 6144      /* the model's listings, at least */
 #define YINDOLVE_TABLE_WORDS 4240        /* where they stand, at least */
@@ -207,9 +207,12 @@ uint64_t yindolve_cut(const uint64_t *arities, size_t arities_count, const uint6
 uint64_t yindolve_value(const uint64_t *arities, size_t arities_count, const uint64_t *words, size_t words_count, uint64_t objects, const uint64_t *constants,
     size_t constants_count, const uint64_t *facts, size_t facts_count, uint64_t *value);
 
-/* Texts. A text is bytes, its lines end with a line feed; docs/REFERENCE.md says what lines there are and what each is answered. */
+/* Texts. A text is bytes, its lines end with a line feed; docs/REFERENCE.md says what lines there are and what each is answered. A blank line, one of no bytes,
+ * passes without effect and counts as a line.
+ */
 
-/* Answers a whole text: the answers behind one another to `answers`, the closing one too, and their bytes to *bytes; bytes behind them stay.
+/* Answers a whole text: the answers behind one another to `answers`, the closing one too, and their bytes to *bytes; bytes behind them stay. A text of blank lines
+ * only, or of no bytes, has no answers at all.
  * Refused: BUFFER where the answer of a line does not fit: the answers before it are written, *bytes of them, and *lines lines are answered.
  */
 uint64_t yindolve_run(const uint8_t *text, size_t text_count, uint8_t *answers, size_t answers_count, uint64_t *bytes, uint64_t *lines);
@@ -221,7 +224,8 @@ uint64_t yindolve_run(const uint8_t *text, size_t text_count, uint8_t *answers, 
 uint64_t yindolve_open(uint64_t *numbers, size_t numbers_count, uint64_t *arities, size_t arities_count, uint64_t *state, size_t state_count);
 
 /* Answers the next line of a session, which is given without its line feed: the answer's bytes to `answer`, none for a line that prints nothing, their count to
- * *bytes. The end of the text and its closing answer are the host's.
+ * *bytes. Where a text ends with bytes that have no line feed, give the line "(" in their place: it is refused with FORM, as they are. yindolve_end closes the
+ * text.
  * ASKED OF THE CALLER, and not checked: the session's memory has the sizes above and is as opening or the line before left it, and fewer than 2^64 - 1 lines were
  * answered. The working space may hold anything.
  * Refused: BUFFER where `answer` has fewer than YINDOLVE_ANSWER_BYTES: the line is not answered, and the session stays as it was.
@@ -230,16 +234,23 @@ uint64_t yindolve_line(const uint8_t *line, size_t line_count, uint64_t *numbers
     size_t arities_count, uint64_t *listings, size_t listings_count, uint64_t *table, size_t table_count, uint64_t *state, size_t state_count, uint64_t *value,
     size_t value_count, uint64_t *work, size_t work_count, uint8_t *answer, size_t answer_count, uint64_t *bytes);
 
+/* The closing answer of a session whose text ends here, to `answer`, its bytes to *bytes: (refused 5 0) where no (start) was accepted, though a line with bytes was
+ * met; else no bytes. The session stays, and more lines may follow. A host that gives the lines of a text one by one and then calls this has the answers of
+ * yindolve_run.
+ * Refused: BUFFER where `numbers` has fewer than YINDOLVE_NUMBER_WORDS or `answer` fewer than YINDOLVE_ANSWER_BYTES: nothing is written.
+ */
+uint64_t yindolve_end(const uint64_t *numbers, size_t numbers_count, uint8_t *answer, size_t answer_count, uint64_t *bytes);
+
 /* ----- Inline functions ----- */
 
 /* An answer as a struct. Which fields count is said with the kinds; the others are 0, but for the count of the answer's bytes, which each kind has. */
 typedef enum {
-    YINDOLVE_ANSWER_NOTHING, /* the line is accepted and has no answer */
+    YINDOLVE_ANSWER_NOTHING, /* the line is accepted, or blank, and has no answer */
     YINDOLVE_ANSWER_VALUE,   /* (value V k S^k): value, steps, scale; the value of the state is value / scale */
     YINDOLVE_ANSWER_BACKUP,  /* (backup k rows): steps, rows */
     YINDOLVE_ANSWER_CUT,     /* (cut row edge rows): row, edge (1 for true, 0 for false), rows */
     YINDOLVE_ANSWER_ROWS,    /* (row ..) lines: rows; yindolve_read_rows reads them */
-    YINDOLVE_ANSWER_REFUSED, /* (refused number line): refusal, line */
+    YINDOLVE_ANSWER_REFUSED, /* (refused number line): refusal, line; line 0 in a closing answer */
     YINDOLVE_ANSWER_UNKNOWN  /* bytes that are no answer of this version; none where no line was answered */
 } yindolve_answer_kind;
 
@@ -410,6 +421,14 @@ static inline yindolve_answer yindolve_session_ask(yindolve_session *s, const ch
     yindolve_answer a = yindolve_read_answer(s->answer, refusal ? 0 : bytes);
     if (refusal) a.kind = YINDOLVE_ANSWER_UNKNOWN;
     return a;
+}
+
+/* The closing answer of an open session whose text ends here: 0, the answer in s->answer, its bytes to *bytes, 0 where there is none. The session stays. Refused:
+ * LISTING for a session that was not opened.
+ */
+static inline uint64_t yindolve_session_end(yindolve_session *s, uint64_t *bytes) {
+    if (s->arities[0] != 2) return YINDOLVE_LISTING;
+    return yindolve_end(s->numbers, YINDOLVE_NUMBER_WORDS, s->answer, YINDOLVE_ANSWER_BYTES, bytes);
 }
 
 /* A session as words, which a program may write to a file and read again, on a machine of the same kind and with a library of the same version: a mark, the

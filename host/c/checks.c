@@ -1,4 +1,4 @@
-/* What include/yindolve.h adds to the library's functions: refusals in words, answers as structs, null pointers, saved sessions. Prints nothing if all is well. */
+/* What include/yindolve.h adds to the library's functions: refusals in words, answers as structs, null pointers, the end of a text, saved sessions. Prints nothing if all is well. */
 #include <stdio.h>
 #include <stdlib.h>
 #include "yindolve.h"
@@ -81,6 +81,42 @@ static void null_pointers(void) {
     EXPECT(yindolve_read_rows(NULL, 0, NULL, 0, &rows) == YINDOLVE_LISTING);
 }
 
+/* Whether a text that ends here is closed by these bytes. */
+static int closes_with(yindolve_session *s, const char *text) {
+    uint64_t bytes = 99;
+    return yindolve_session_end(s, &bytes) == 0 && bytes == strlen(text) && memcmp(s->answer, text, bytes) == 0;
+}
+
+static void ends(void) {
+    static const char last[] = "(refused 5 0)\n";
+    uint64_t bytes = 99, lines = 0;
+    memset(&other, 0, sizeof other);
+    EXPECT(yindolve_session_end(&other, &bytes) == YINDOLVE_LISTING && bytes == 99); /* not opened */
+    EXPECT(yindolve_session_open(&other) == 0 && closes_with(&other, ""));
+    EXPECT(yindolve_session_ask(&other, "").kind == YINDOLVE_ANSWER_NOTHING && closes_with(&other, ""));
+    EXPECT(yindolve_session_ask(&other, "x").line == 2 && closes_with(&other, last));
+    EXPECT(yindolve_session_ask(&other, "").kind == YINDOLVE_ANSWER_NOTHING && closes_with(&other, last));
+    yindolve_answer a = yindolve_read_answer(other.answer, strlen(last));
+    EXPECT(a.kind == YINDOLVE_ANSWER_REFUSED && a.refusal == YINDOLVE_PLACE && a.line == 0);
+    EXPECT(yindolve_session_save(&other, words, YINDOLVE_SAVED_WORDS) == 0);
+    EXPECT(yindolve_session_open(&other) == 0 && closes_with(&other, ""));
+    EXPECT(yindolve_session_load(&other, words, YINDOLVE_SAVED_WORDS) == 0 && closes_with(&other, last));
+    EXPECT(yindolve_session_ask(&other, "y").line == 4);
+    EXPECT(yindolve_end(other.numbers, YINDOLVE_NUMBER_WORDS - 1, other.answer, YINDOLVE_ANSWER_BYTES, &bytes) == YINDOLVE_BUFFER && bytes == 99);
+    EXPECT(yindolve_end(other.numbers, YINDOLVE_NUMBER_WORDS, other.answer, YINDOLVE_ANSWER_BYTES - 1, &bytes) == YINDOLVE_BUFFER && bytes == 99);
+    uint64_t numbers[YINDOLVE_NUMBER_WORDS]; /* words that are no session's are taken too */
+    memcpy(numbers, other.numbers, sizeof numbers);
+    numbers[0] = 7; /* a run */
+    EXPECT(yindolve_end(numbers, YINDOLVE_NUMBER_WORDS, other.answer, YINDOLVE_ANSWER_BYTES, &bytes) == 0 && bytes == 0);
+    numbers[0] = 0, numbers[22] = 2; /* not 1, so nothing was met */
+    EXPECT(yindolve_end(numbers, YINDOLVE_NUMBER_WORDS, other.answer, YINDOLVE_ANSWER_BYTES, &bytes) == 0 && bytes == 0);
+    memset(numbers, 255, sizeof numbers);
+    EXPECT(yindolve_end(numbers, YINDOLVE_NUMBER_WORDS, other.answer, YINDOLVE_ANSWER_BYTES, &bytes) == 0 && bytes == 0);
+    EXPECT(yindolve_run_text((const uint8_t *)"\n\n", 2, NULL, 0, &bytes, &lines) == 0 && bytes == 0);
+    EXPECT(yindolve_run_text((const uint8_t *)"\n\nx", 3, answers, sizeof answers, &bytes, &lines) == 0);
+    EXPECT(bytes == 28 && memcmp(answers, "(refused 1 3)\n(refused 5 0)\n", 28) == 0);
+}
+
 static void sessions(void) {
     size_t i;
     uint64_t rows = 0, bytes = 0;
@@ -93,6 +129,7 @@ static void sessions(void) {
     EXPECT(yindolve_read_rows(session.answer, bytes, listing, YINDOLVE_RESULT_WORDS, &rows) == 0 && rows == 6);
     EXPECT(yindolve_check(session.arities, YINDOLVE_ARITIES, listing, rows * YINDOLVE_ROW_WORDS) == 0);
     EXPECT(yindolve_session_ask(&session, "(value)").value == 30);
+    EXPECT(closes_with(&session, ""));
 
     EXPECT(yindolve_session_save(&session, words, YINDOLVE_SAVED_WORDS - 1) == YINDOLVE_BUFFER);
     EXPECT(yindolve_session_save(&session, words, YINDOLVE_SAVED_WORDS) == 0);
@@ -114,6 +151,7 @@ int main(void) {
     refusals();
     read_answers();
     null_pointers();
+    ends();
     sessions();
     return 0;
 }

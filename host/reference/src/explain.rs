@@ -49,6 +49,9 @@ pub fn explain(session: &Session, line: &[u8], ended: bool) -> Option<Fault> {
 
 fn checked(session: &Session, line: &[u8], ended: bool) -> Checked {
     unless_fault(ended, || form::not_ended(line))?;
+    if line.is_empty() {
+        return Ok(());
+    }
     let words = text::read_words(line).map_err(|flawed| form::flawed(line, flawed))?;
     let form = text::line_of(&words).ok_or_else(|| form::misfit(&words, line.len()))?;
     place::check(session, &form, (0, line.len()))?;

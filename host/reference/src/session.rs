@@ -101,8 +101,11 @@ impl Session {
         self
     }
 
-    /// Takes one line without its line feed. A refused line changes nothing.
+    /// Takes one line without its line feed. A refused line changes nothing, nor does a blank one (document 02, L1).
     pub fn take(&mut self, line: &[u8]) -> Taken {
+        if line.is_empty() {
+            return Ok(NOTHING_PRINTED);
+        }
         let line = read_line(line)?;
         match line {
             Line::Objects(_) | Line::Is(..) | Line::True(..) | Line::Value | Line::Backup | Line::Cut | Line::Show => {
@@ -310,18 +313,20 @@ impl Run {
     }
 }
 
-/// All answers of a text. A last line without its line feed is not the grammar.
+/// All answers of a text. A last line without its line feed is not the grammar. A text of blank lines only is answered nothing at all.
 pub fn answers(text: &[u8], slips: Slips) -> Vec<Answer> {
     let mut session = Session::new(slips);
     let mut answers = Vec::new();
-    for (number, (line, ended)) in lines(text).into_iter().enumerate() {
+    let lines = lines(text);
+    let met = lines.iter().any(|(line, _)| !line.is_empty());
+    for (number, (line, ended)) in lines.into_iter().enumerate() {
         let taken = if ended { session.take(line) } else { Err(Refusal::Form) };
         match taken {
             Ok(printed) => answers.extend(printed),
             Err(refusal) => answers.push(Answer::Refused { refusal, line: number + 1 }),
         }
     }
-    if session.started().is_none() {
+    if met && session.started().is_none() {
         answers.push(Answer::Refused { refusal: Refusal::Place, line: 0 });
     }
     answers

@@ -94,6 +94,16 @@ fn line_ends() {
 }
 
 #[test]
+fn blank_lines() {
+    assert!(faults(b"\n\n(constant hub)\n\n").is_empty());
+    assert_eq!(only_fault("\n\r\n").2, "the line is empty but for a carriage return (CR LF)");
+    let (line, column, what, advice) = only_fault("\n\n \n");
+    assert_eq!((line, column, what.as_str()), (3, 1, "the line begins with a space or a tab"));
+    assert_eq!(advice, "a line is one form in brackets, such as (start), or blank, without even a space; there are no comments");
+    assert_eq!(only_fault("\n\nx").2, "the last line has no line feed at its end");
+}
+
+#[test]
 fn a_backup_refused_for_its_scale() {
     let text = "(total 1000000)\n(discount 1 1000000)\n(reward 1)\n(action wait)\n(variant only 1000000)\n(start)\n(backup)\n(backup)\n";
     let (line, _, what, _) = only_fault(text);

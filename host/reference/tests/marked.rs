@@ -37,9 +37,19 @@ fn run_whole() {
     assert_eq!(String::from_utf8(run(RUN)).unwrap(), PRINTED);
 }
 
+/// Document 02, L1: a line of exactly no bytes passes; a text without any other line is answered nothing at all.
 #[test]
-fn no_input() {
-    assert_eq!(run(b""), b"(refused 5 0)\n");
+fn blank_lines() {
+    let answered = |text: &str| String::from_utf8(run(text.as_bytes())).unwrap();
+    assert_eq!(answered(""), "");
+    assert_eq!(answered("\n\n"), "");
+    assert_eq!(answered("\r\n"), "(refused 1 1)\n(refused 5 0)\n");
+    assert_eq!(answered(" \n"), "(refused 1 1)\n(refused 5 0)\n");
+    assert_eq!(answered("\n\nx"), "(refused 1 3)\n(refused 5 0)\n");
+    assert_eq!(answered("\n(constant hub)\n\n"), "(refused 5 0)\n");
+    // everywhere in the run, which is the same but for the number of the line that is refused
+    let spaced = String::from_utf8(RUN.to_vec()).unwrap().replace('\n', "\n\n");
+    assert_eq!(answered(&spaced), PRINTED.replace("(refused 16 18)", "(refused 16 35)"));
 }
 
 #[test]

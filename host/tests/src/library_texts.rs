@@ -28,7 +28,7 @@ pub fn check(seed: u64, text: &[u8]) -> Result<(), String> {
     let right = reference::session::run(text);
     expect("run", &right, &run(text))?;
 
-    // the answers line by line; what is left over closes a text that has no accepted (start)
+    // the answers line by line, and the one that closes the text
     let random = &mut Random::new(seed);
     let mut session = Session::open();
     let mut answers: Vec<Vec<u8>> = Vec::new();
@@ -45,12 +45,14 @@ pub fn check(seed: u64, text: &[u8]) -> Result<(), String> {
             }
             answers.push(session.answer_bytes().to_vec());
         } else {
-            answers.push(format!("(refused 1 {number})\n").into_bytes());
+            // whatever it is, it is refused as this line is
+            session.line("(");
+            answers.push(session.answer_bytes().to_vec());
         }
     }
-    let together = answers.concat();
-    let closing: &[u8] = if right.len() > together.len() { b"(refused 5 0)\n" } else { b"" };
-    expect("session", &right, &[&together, closing].concat())?;
+    session.end();
+    let closing = session.answer_bytes();
+    expect("session", &right, &[&answers.concat(), closing].concat())?;
 
     // as much as fits
     let room = random.below(right.len() as u64 + 2) as usize;

@@ -4,11 +4,12 @@ use crate::limits;
 use crate::models::{model, state, write_model, write_state, Size};
 use crate::random::Random;
 
-/// The text of a seed: a whole one, a small one damaged, one about a limit, or once in a while plain bytes.
+/// The text of a seed: a whole one, a small one damaged, one about a limit, or once in a while plain bytes or next to nothing. Some are spaced out by
+/// blank lines.
 pub fn text(seed: u64) -> Vec<u8> {
     let random = &mut Random::new(seed);
     if seed % 16 == 15 {
-        return bytes(random);
+        return if random.once_in(8) { next_to_nothing(random) } else { bytes(random) };
     }
     let kind = random.below(7);
     let size = *[Size::LARGE, Size::WIDE].get(kind as usize).unwrap_or(&Size::SMALL);
@@ -23,7 +24,32 @@ pub fn text(seed: u64) -> Vec<u8> {
     if damaged && random.once_in(20) {
         text.pop();
     }
+    if random.once_in(4) {
+        text = spaced(random, &text).0;
+    }
     text
+}
+
+/// The text with blank lines put in here and there, and the number that each line has in it, that of line 0 first.
+pub fn spaced(random: &mut Random, text: &[u8]) -> (Vec<u8>, Vec<usize>) {
+    let often = random.between(1, 8);
+    let (mut spaced, mut numbers, mut lines) = (Vec::new(), vec![0], 0);
+    let mut space = |spaced: &mut Vec<u8>, lines: &mut usize| {
+        while random.once_in(often + 1) {
+            spaced.push(b'\n');
+            *lines += 1;
+        }
+    };
+    for line in text.split_inclusive(|byte| *byte == b'\n') {
+        space(&mut spaced, &mut lines);
+        spaced.extend_from_slice(line);
+        lines += 1;
+        numbers.push(lines);
+    }
+    if text.is_empty() || text.ends_with(b"\n") {
+        space(&mut spaced, &mut lines);
+    }
+    (spaced, numbers)
 }
 
 /// Any bytes at all, or those that texts are made of.
@@ -31,6 +57,12 @@ fn bytes(random: &mut Random) -> Vec<u8> {
     let any = random.once_in(2);
     let count = random.below(20_000);
     (0..count).map(|_| if any { random.next() as u8 } else { *random.pick(b"()  ?!=az09\n") }).collect()
+}
+
+/// A few blank lines or none, and perhaps a line or some bytes behind them.
+fn next_to_nothing(random: &mut Random) -> Vec<u8> {
+    let blank = random.below(4) as usize;
+    [&b"\n".repeat(blank), *random.pick(&[&b""[..], b"", b"x", b" \n", b"\r\n", b"(constant c0)\n", b"(start)\n\n"])].concat()
 }
 
 fn whole(random: &mut Random, size: Size) -> Vec<String> {

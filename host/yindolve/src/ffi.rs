@@ -127,4 +127,6 @@ extern "C" {
         answer_count: usize,
         bytes: *mut u64,
     ) -> u64;
+
+    pub fn yindolve_end(numbers: *const u64, numbers_count: usize, answer: *mut u8, answer_count: usize, bytes: *mut u64) -> u64;
 }

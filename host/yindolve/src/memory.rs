@@ -8,7 +8,7 @@ use crate::refusal::accepted;
 /// The most bytes that the answer of one line has.
 pub const ANSWER_BYTES: usize = 92_160;
 /// Words of a session's numbers.
-pub const NUMBER_WORDS: usize = 22;
+pub const NUMBER_WORDS: usize = 23;
 /// Words of a session's names.
 pub const NAME_WORDS: usize = 136;
 /// Words of the model's listings.
@@ -34,6 +34,7 @@ const ROWS: usize = 18;
 const STEPS: usize = 19;
 const SCALE: usize = 20;
 const LINES: usize = 21;
+const MET: usize = 22;
 
 // Places in the state: the constants' objects, marks of those that are placed, then the facts.
 const MARKS: usize = 16;
@@ -109,6 +110,15 @@ impl Memory {
         bytes as usize
     }
 
+    /// The closing answer of a text that ends here; how many bytes of `answer` that took.
+    pub fn end(&self, answer: &mut [u8]) -> usize {
+        let mut bytes = 0;
+        // SAFETY: each pointer is to as many words or bytes as its count says, and what is written to overlaps nothing.
+        let number = unsafe { ffi::yindolve_end(self.numbers.as_ptr(), self.numbers.len(), answer.as_mut_ptr(), answer.len(), &mut bytes) };
+        accepted(number).expect("the memory is of the size that the library asks for");
+        bytes as usize
+    }
+
     /// Whether a (start) was accepted.
     pub fn started(&self) -> bool {
         self.numbers[PART] == 1
@@ -133,6 +143,11 @@ impl Memory {
 
     pub fn lines(&self) -> u64 {
         self.numbers[LINES]
+    }
+
+    /// Whether a line that is not blank was met.
+    pub fn met(&self) -> bool {
+        self.numbers[MET] == 1
     }
 
     pub fn reward(&self) -> Listing {
@@ -169,7 +184,9 @@ impl Memory {
         self.numbers[SCALE] = scale;
     }
 
-    pub fn set_lines(&mut self, lines: u64) {
+    /// Puts in how many lines were answered, and whether one of them is not blank.
+    pub fn set_lines(&mut self, lines: u64, met: bool) {
         self.numbers[LINES] = lines;
+        self.numbers[MET] = u64::from(met);
     }
 }

@@ -1,8 +1,8 @@
 //! A session as bytes. They are lines: a heading with the format's number, then the parts with the count of their lines, and at the end
-//! the count of answered lines and a sum over everything before it.
+//! the count of answered lines, 1 where one of them is not blank and else 0, and a sum over everything before it. Format 1 had no line `met`.
 //!
 //! ```text
-//! yindolve session 1
+//! yindolve session 2
 //! model 10
 //! (constant hub)
 //! ..
@@ -13,6 +13,7 @@
 //! (row 0 leaf 120)
 //! ..
 //! lines 14
+//! met 1
 //! sum 0123456789abcdef
 //! ```
 
@@ -21,7 +22,7 @@ use crate::text::Answer;
 use std::fmt;
 
 const HEADING: &str = "yindolve session ";
-const FORMAT: &str = "1";
+const FORMAT: &str = "2";
 /// The highest power of the scale, and the most steps.
 const MOST: u64 = 1_000_000_000_000_000_000;
 
@@ -51,6 +52,7 @@ pub struct Parts {
     pub steps: u64,
     pub rows: Vec<Row>,
     pub lines: u64,
+    pub met: bool,
 }
 
 /// The sum FNV-1a of 64 bits.
@@ -71,7 +73,7 @@ pub fn write(parts: &Parts) -> Vec<u8> {
             Row::Branch { label, yes, no } => format!("(row {number} {} {yes} {no})\n", label.word()),
         };
     }
-    text += &format!("lines {}\n", parts.lines);
+    text += &format!("lines {}\nmet {}\n", parts.lines, u64::from(parts.met));
     let sum = sum(text.as_bytes());
     text += &format!("sum {sum:016x}\n");
     text.into_bytes()
@@ -130,8 +132,13 @@ pub fn read(bytes: &[u8]) -> Result<Parts, Damaged> {
     if lines > MOST {
         return Err(Damaged::new("there are too many lines"));
     }
+    let met = match one(&reader.heading("met")?)? {
+        0 => false,
+        1 => true,
+        _ => return Err(Damaged::new("the line 'met ..' has 0 or 1")),
+    };
     match reader.line() {
-        Err(_) => Ok(Parts { model, state, steps, rows, lines }),
+        Err(_) => Ok(Parts { model, state, steps, rows, lines, met }),
         Ok(line) => Err(Damaged::new(format!("{line:?} where the sum is due"))),
     }
 }
@@ -218,7 +225,7 @@ mod tests {
         };
         let restored = |bytes: &[u8]| Session::restore(bytes).unwrap_err().to_string();
         assert_eq!(restored(b"(reward 7)\n"), "not a saved session: it does not begin with 'yindolve session'");
-        assert_eq!(restored(b"yindolve session 2\n"), "not a saved session: its format is 2 and not 1");
+        assert_eq!(restored(b"yindolve session 1\n"), "not a saved session: its format is 1 and not 2");
         assert_eq!(restored(&bytes[..90]), "not a saved session: its sum is wrong, so that bytes were lost or changed");
         assert_eq!(
             wrong("stock ?s", "stok ?s"),
@@ -231,6 +238,8 @@ mod tests {
         assert_eq!(wrong("(start)", "(total 5)"), "not a saved session: the line (total 5) is not accepted there");
         assert_eq!(wrong("model 10", "model 11"), "not a saved session: \"(objects 2)\" where the line 'state ..' is due");
         assert_eq!(wrong("model 10", "model 9"), "not a saved session: \"(start)\" where the line 'state ..' is due");
+        assert_eq!(wrong("met 1", "met 2"), "not a saved session: the line 'met ..' has 0 or 1");
+        assert_eq!(wrong("met 1", "met 0"), "not a saved session: it has lines of a model, but says that none was met");
         assert_eq!(wrong("(is hub 0)", "(constant c)"), "not a saved session: the line (constant c) is not accepted there");
     }
 

@@ -57,6 +57,7 @@ pub struct AllCut {
 /// let Answer::Value(value) = session.line("(value)") else { panic!() };
 /// assert_eq!(value.to_string(), "7");
 /// assert_eq!(session.answer_bytes(), b"(value 7 0 1)\n");
+/// assert_eq!(session.end(), Answer::Nothing);
 /// ```
 ///
 /// By calls, the model as one text:
@@ -121,7 +122,7 @@ impl Session {
     ///
     /// # Errors
     /// The first refused line, with its number: a model of which a line is refused is another model. Line 0 with
-    /// [`Place`](Refusal::Place) where there is no `(start)`.
+    /// [`Place`](Refusal::Place) where there is no `(start)`, in an empty text too.
     ///
     /// ```
     /// use yindolve::{Refusal, Session};
@@ -189,19 +190,44 @@ impl Session {
         }
     }
 
-    /// Answers the next line. The line is given without its line feed.
+    /// Answers the next line. The line is given without its line feed. A blank one, of no bytes, passes without effect and counts as a line.
+    ///
+    /// Bytes behind a text's last line feed are refused with 1, whatever they are; a host that wants the program's answers gives the
+    /// line `(` in their place.
     pub fn line(&mut self, line: impl AsRef<[u8]>) -> Answer {
         let line = line.as_ref();
         let was_started = self.is_started();
         self.bytes = self.memory.line(line, &mut self.answer);
-        let written = self.answer_bytes();
-        let answer = Answer::read(written).unwrap_or_else(|| Answer::Other(String::from_utf8_lossy(written).into_owned()));
+        let answer = self.answer_written();
         if answer == Answer::Nothing && !was_started && !line.is_empty() {
             let line = String::from_utf8_lossy(line).into_owned();
             self.vocabulary.note(&line);
             self.model.push(line);
         }
         answer
+    }
+
+    /// The closing answer of a text that ends here: `(refused 5 0)`, with line 0, where no `(start)` was accepted though a line that is not
+    /// blank was met, and else [`Nothing`](Answer::Nothing). The session stays, and more lines may follow.
+    ///
+    /// ```
+    /// use yindolve::{Answer, Refusal, Session};
+    /// let mut session = Session::open();
+    /// session.line("");
+    /// assert_eq!(session.end(), Answer::Nothing);
+    /// session.line("(constant hub)");
+    /// assert_eq!(session.end(), Answer::Refused { refusal: Refusal::Place, line: 0 });
+    /// assert_eq!(session.answer_bytes(), b"(refused 5 0)\n");
+    /// ```
+    pub fn end(&mut self) -> Answer {
+        self.bytes = self.memory.end(&mut self.answer);
+        self.answer_written()
+    }
+
+    /// The answer that was written last.
+    fn answer_written(&self) -> Answer {
+        let written = self.answer_bytes();
+        Answer::read(written).unwrap_or_else(|| Answer::Other(String::from_utf8_lossy(written).into_owned()))
     }
 
     /// The bytes of the last answer, as the program prints them.
@@ -361,6 +387,7 @@ impl Session {
             steps: self.steps(),
             rows: value.map_or(Vec::new(), |listing| listing.rows().collect()),
             lines: self.lines(),
+            met: self.memory.met(),
         })
     }
 
@@ -403,7 +430,10 @@ impl Session {
         } else if parts.steps != 0 || !parts.rows.is_empty() {
             return Err(Damaged::new("there is a value diagram, but no (start)"));
         }
-        session.memory.set_lines(parts.lines);
+        if session.memory.met() && !parts.met {
+            return Err(Damaged::new("it has lines of a model, but says that none was met"));
+        }
+        session.memory.set_lines(parts.lines, parts.met);
         session.bytes = 0;
         Ok(session)
     }

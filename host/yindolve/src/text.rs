@@ -34,7 +34,7 @@ pub fn run_into(text: &[u8], answers: &mut [u8]) -> Result<usize, Full> {
     accepted(number).map(|()| bytes).map_err(|_| Full { bytes, lines })
 }
 
-/// The answers to a whole text, one line each, as the program prints them.
+/// The answers to a whole text, one line each, as the program prints them. A text of blank lines only has none.
 ///
 /// ```
 /// let answers = yindolve::run(b"(reward 7)\n(action wait)\n(variant only 100)\n(start)\n(objects 1)\n(value)\n");
@@ -79,7 +79,7 @@ pub struct CutDone {
 #[non_exhaustive]
 #[derive(Clone, Debug, PartialEq, Eq)]
 pub enum Answer {
-    /// The line is accepted and has no answer.
+    /// The line is accepted, or blank, and has no answer.
     Nothing,
     /// To `(value)`.
     Value(Value),
@@ -93,7 +93,7 @@ pub enum Answer {
     Refused {
         /// Why.
         refusal: Refusal,
-        /// The line's number, from 1 on.
+        /// The line's number, from 1 on; 0 in the closing answer.
         line: u64,
     },
     /// An answer that this version does not know, as it was written.

@@ -41,7 +41,7 @@ fn load_tells_the_first_refusal() {
     assert_eq!((weights.refusal, weights.line, weights.text.as_str()), (Refusal::Weights, 10, "(start)"));
     let carriage = refused(&SAMPLE.replace('\n', "\r\n"));
     assert_eq!((carriage.refusal, carriage.line), (Refusal::Form, 1));
-    for text in ["", "(constant hub)\n"] {
+    for text in ["", "\n\n", "(constant hub)\n"] {
         let open = refused(text);
         assert_eq!((open.refusal, open.line), (Refusal::Place, 0));
         assert!(open.to_string().ends_with("the text ends without an accepted (start)"));
@@ -136,7 +136,45 @@ fn the_state_in_hand() {
     assert_eq!((refused.refusal, refused.line, refused.text.as_str()), (Refusal::Range, 2, "(is hub 2)"));
     assert_eq!(session.state_lines(), ["(objects 2)"]);
     assert_eq!(session.tell(""), Ok(()));
-    assert_eq!(session.tell("\n\n(value)x\n").unwrap_err().refusal, Refusal::Form);
+    let refused = session.tell("\n\n(value)x\n").unwrap_err();
+    assert_eq!((refused.refusal, refused.line), (Refusal::Form, 3));
+    assert_eq!(session.tell("\n(objects 2)\n\n(is hub 0)\n\n"), Ok(()));
+    assert_eq!(session.state_lines(), ["(objects 2)", "(is hub 0)"]);
+}
+
+/// Blank lines count and are no part of the model; what closes a text is known of a restored session too.
+#[test]
+fn blank_lines_and_the_end_of_a_text() {
+    let spaced = SAMPLE.replace('\n', "\n\n");
+    let (session, rest) = Session::load_part(spaced.as_bytes()).unwrap();
+    assert_eq!((session.lines(), session.model_lines().len()), (19, 10));
+    assert!(rest.starts_with(b"\n(objects 2)\n\n"));
+
+    let last = Answer::Refused { refusal: Refusal::Place, line: 0 };
+    for (lines, closing) in [
+        (&[][..], Answer::Nothing),
+        (&["", ""], Answer::Nothing),
+        (&["", "x"], last.clone()),
+        (&["", " ", ""], last.clone()),
+        (&["\r"], last.clone()),
+        (&["(constant hub)", ""], last),
+        (&["(reward 7)", "(action wait)", "(variant only 100)", "(start)"], Answer::Nothing),
+    ] {
+        let mut session = Session::open();
+        let mut text = String::new();
+        let mut answers: Vec<u8> = Vec::new();
+        for line in lines {
+            session.line(line);
+            answers.extend(session.answer_bytes());
+            text = text + line + "\n";
+        }
+        let mut restored = Session::restore(&session.save()).unwrap();
+        assert_eq!(session.end(), closing, "{lines:?}");
+        assert_eq!(restored.end(), closing, "{lines:?}");
+        assert_eq!(restored.lines(), lines.len() as u64);
+        answers.extend(session.answer_bytes());
+        assert_eq!(answers, yindolve::run(text.as_bytes()), "{lines:?}");
+    }
 }
 
 /// At every line of every example: a session that is saved and restored goes on as the other does.
@@ -150,6 +188,7 @@ fn a_restored_session_goes_on() {
             assert_eq!(restored.vocabulary(), session.vocabulary());
             assert_eq!(restored.line(line), session.line(line), "{name}, {line}");
             assert_eq!((restored.listing(), restored.reward()), (session.listing(), session.reward()), "{name}, {line}");
+            assert_eq!(restored.end(), session.end(), "{name}, {line}");
         }
     }
 }

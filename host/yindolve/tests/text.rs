@@ -29,6 +29,19 @@ fn sample() {
 }
 
 #[test]
+fn blank_lines() {
+    assert_eq!(run(b""), b"");
+    assert_eq!(run(b"\n\n"), b"");
+    assert_eq!(run_into(b"\n\n", &mut []), Ok(0));
+    assert_eq!(run(b"\r\n"), b"(refused 1 1)\n(refused 5 0)\n");
+    assert_eq!(run(b" \n"), b"(refused 1 1)\n(refused 5 0)\n");
+    assert_eq!(run(b"\n\nx"), b"(refused 1 3)\n(refused 5 0)\n");
+    let spaced: Vec<u8> = sample_lines().flat_map(|line| [b"\n", line, b"\n"].concat()).collect();
+    let right = String::from_utf8_lossy(ANSWERS).replace("(refused 16 18)", "(refused 16 36)");
+    assert_eq!(String::from_utf8_lossy(&run(&spaced)), right);
+}
+
+#[test]
 fn little_room() {
     let mut answers = vec![7; 20];
     let full = run_into(SAMPLE, &mut answers).unwrap_err();

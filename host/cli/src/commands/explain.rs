@@ -8,6 +8,7 @@ use crate::trouble::{Outcome, Trouble, Verdict};
 use crate::twin::{told, Twin};
 use reference::explain::no_start;
 use std::io::BufRead;
+use yindolve::Answer;
 
 pub fn explain(arguments: &Arguments, out: &mut Out) -> Outcome {
     let file = arguments.one_file()?.ok_or_else(|| arguments.wrong("no text is named"))?;
@@ -25,7 +26,7 @@ pub fn explain(arguments: &Arguments, out: &mut Out) -> Outcome {
             out.text(&format!("{}\n", told(&name, line.number, &fault)))?;
         }
     }
-    if !twin.engine.is_started() {
+    if twin.engine.end() != Answer::Nothing {
         refused = true;
         out.text(&format!("{}\n", told(&name, 0, &no_start())))?;
     }

@@ -205,7 +205,8 @@ fn diagram_part(model: &Loaded) -> String {
 
 fn states_part(model: &Loaded, samples: &[(Sample, Option<Value>)]) -> String {
     let row = |(sample, value): &(Sample, Option<Value>)| {
-        let lines = sample.lines.iter().map(|line| format!("<code>{}</code>", escaped(line))).collect::<Vec<String>>().join("<br>");
+        let lines = sample.lines.iter().filter(|line| !line.is_empty());
+        let lines = lines.map(|line| format!("<code>{}</code>", escaped(line))).collect::<Vec<String>>().join("<br>");
         let cells = match value {
             Some(value) => format!("<td>{}</td><td>{}</td><td>{}</td>", value.value, value.fraction(), value.fraction().decimal(PLACES)),
             None => "<td class=\"words\" colspan=\"3\">refused; yindolve-desk value tells why</td>".into(),

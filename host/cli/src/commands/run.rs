@@ -9,9 +9,6 @@ use crate::twin::answer;
 use std::io::BufRead;
 use yindolve::{Answer, Session};
 
-/// What a text without an accepted (start) is answered at its end; the library leaves it to its host.
-const NO_START: &[u8] = b"(refused 5 0)\n";
-
 pub fn run(arguments: &Arguments, out: &mut Out) -> Outcome {
     let (name, input) = open(arguments.one_file()?)?;
     let mut running = Running { lines: Lines::new(name, input), engine: Session::open(), in_model: 0, in_run: 0 };
@@ -42,11 +39,10 @@ impl<R: BufRead> Running<R> {
                 return Ok(Verdict::Refused);
             }
         }
-        if !self.engine.is_started() {
-            out.bytes(NO_START)?;
-        }
+        let closing = self.engine.end();
+        out.bytes(self.engine.answer_bytes())?;
         self.tell_refused();
-        Ok(Verdict::refused_if(self.in_model + self.in_run > 0 || !self.engine.is_started()))
+        Ok(Verdict::refused_if(self.in_model + self.in_run > 0 || closing != Answer::Nothing))
     }
 
     fn tell_refused(&self) {

@@ -43,16 +43,15 @@ fn place(line: &str, name: &str) -> (u64, u64) {
 
 const REASONS: &str = "\
 FILE:3:12: form (1): \"Stock\" holds upper-case letters; a name has 1 to 15 lower-case letters or digits, a letter first; ?name is a variable, !name a parameter
-FILE:6:1: form (1): the line is empty; a line is one form in brackets, such as (start); there are no blank lines and no comments
 FILE:7:14: name (2): no predicate \"stok\" is declared; did you mean \"stock\"? Otherwise declare it on an earlier line: (predicate stok ARITY)
 FILE:8:14: arity (3): \"stock\" is of arity 1, and here it has 2 terms; (predicate stock 1) says how many; write as many or change the declaration
 FILE:9:20: unbound (6): the reward names a parameter, \"!d\"; a reward names constants and variables only: write ?name
 FILE:10:9: form (1): this (if ..) has no false side; the form is (reward DIAGRAM); a diagram is a number or (if ATOM DIAGRAM DIAGRAM)
 FILE:11:30: form (1): 1 bracket is not closed at the end of the line; a form stands on one line; close it there
-FILE:14:26: unbound (6): a weight names a variable, \"?x\"; a weight names constants and the action's parameters only: write !name
-FILE:16:35: truth (7): a truth diagram has the number 2; say 1 where the fact is true afterwards and 0 where it is not
-FILE:17:48: unbound (6): \"?t\" is no argument of this (becomes); a truth diagram names the arguments of its predicate, the action's parameters and constants only
-FILE:19:1: weights (13): the weights of action \"fill\" do not add up to 4 in every case: where not heavy(!d) the sum is 3; mend its weights so that each case adds up to the total; a case may have been forgotten
+FILE:15:26: unbound (6): a weight names a variable, \"?x\"; a weight names constants and the action's parameters only: write !name
+FILE:17:35: truth (7): a truth diagram has the number 2; say 1 where the fact is true afterwards and 0 where it is not
+FILE:18:48: unbound (6): \"?t\" is no argument of this (becomes); a truth diagram names the arguments of its predicate, the action's parameters and constants only
+FILE:21:1: weights (13): the weights of action \"fill\" do not add up to 4 in every case: where not heavy(!d) the sum is 3; mend its weights so that each case adds up to the total; a case may have been forgotten
 FILE: place (5): the text ends and no (start) was accepted; close the model with (start); where there is one, mend the lines that were refused before it
 ";
 
@@ -70,6 +69,22 @@ fn a_text_that_is_taken_whole() {
     let text = file(&here, "text.txt", "(reward 7)\n(action wait)\n(variant only 100)\n(start)\n(objects 1)\n(value)\n");
     let ended = desk(&["explain", &text]);
     assert_eq!((ended.out.as_str(), ended.err.as_str(), ended.status), ("", "", 0));
+}
+
+/// Blank lines count and pass; a text of such lines only has nothing to explain, one with another line and no (start) has.
+#[test]
+fn blank_lines() {
+    let here = folder("explain_blank_lines");
+    let explained = |text: &str| {
+        let ended = desk(&["explain", &file(&here, "text.txt", text)]);
+        (ended.out.lines().map(|line| line.split_once("text.txt").expect("its name").1.to_string()).collect::<Vec<String>>(), ended.status)
+    };
+    assert_eq!(explained(""), (vec![], 0));
+    assert_eq!(explained("\n\n"), (vec![], 0));
+    let (told, status) = explained("\n\n(constant hub)\n\r\n");
+    assert!(told[0].starts_with(":4:1: form (1): the line is empty but for a carriage return (CR LF); "), "{told:?}");
+    assert!(told[1].starts_with(": place (5): the text ends and no (start) was accepted; "), "{told:?}");
+    assert_eq!((told.len(), status), (2, 1));
 }
 
 #[test]
@@ -93,15 +108,15 @@ fn sizes_against_their_limits() {
     let lines: Vec<&str> = ended.out.lines().collect();
     assert_eq!(lines.len(), 3, "{}", ended.out);
     assert!(
-        lines[0].contains(":30:1: nothing (16): after step 1: the value diagram of 19 rows has no edge that may go; all is cut, so go on"),
+        lines[0].contains(":35:1: nothing (16): after step 1: the value diagram of 19 rows has no edge that may go; all is cut, so go on"),
         "{}",
         lines[0]
     );
     assert!(
-        lines[1].contains(":40:1: paths (17): after step 2: the value diagram of 540 rows has ")
+        lines[1].contains(":49:1: paths (17): after step 2: the value diagram of 540 rows has ")
             && lines[1].contains(" paths; at most 256; "),
         "{}",
         lines[1]
     );
-    assert!(lines[2].contains(":50:1: space (9): step 3: action ") && lines[2].contains("; at most "), "{}", lines[2]);
+    assert!(lines[2].contains(":63:1: space (9): step 3: action ") && lines[2].contains("; at most "), "{}", lines[2]);
 }

@@ -127,7 +127,7 @@ fn a_broken_model_is_not_planned() {
     let text = file(&here, "broken.txt", model_of("liftparts.txt").replace("(becomes (here ?v)", "(becomes (heer ?v)"));
     let ended = desk(&["plan", &text, "--steps", "1", "-o", &out]);
     assert!(
-        ended.err.contains(&format!("{text}:14:11: name (2): no predicate \"heer\" is declared; did you mean \"here\"?")),
+        ended.err.contains(&format!("{text}:17:11: name (2): no predicate \"heer\" is declared; did you mean \"here\"?")),
         "{}",
         ended.err
     );

@@ -26,7 +26,7 @@ fn the_page_is_whole_and_stands_alone() {
         "rows left after the cuts",
         "branch.txt",
         "made for leaf",
-        "line 34 of the text",
+        "line 40 of the text",
     ] {
         assert!(html.contains(part), "{part}");
     }

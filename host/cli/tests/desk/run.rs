@@ -39,7 +39,7 @@ fn strict_prints_no_value_of_a_broken_model() {
     let broken = std::fs::read_to_string(example("liftparts.txt")).expect("a text").replace("(becomes (here ?v)", "(becomes (heer ?v)");
     let text = file(&here, "broken.txt", broken);
     let plain = desk(&["run", &text]);
-    assert!(plain.out.starts_with("(refused 2 14)\n(backup 1 "), "{}", plain.out);
+    assert!(plain.out.starts_with("(refused 2 17)\n(backup 1 "), "{}", plain.out);
     assert!(
         plain.err.contains("1 line is refused before (start), so the values are those of a model other than the one written"),
         "{}",
@@ -47,8 +47,8 @@ fn strict_prints_no_value_of_a_broken_model() {
     );
     assert_eq!(plain.status, 1);
     let strict = desk(&["run", "--strict", &text]);
-    assert_eq!((strict.out.as_str(), strict.status), ("(refused 2 14)\n", 1));
-    assert!(strict.err.contains("stopped at line 14"), "{}", strict.err);
+    assert_eq!((strict.out.as_str(), strict.status), ("(refused 2 17)\n", 1));
+    assert!(strict.err.contains("stopped at line 17"), "{}", strict.err);
 }
 
 #[test]
@@ -82,9 +82,15 @@ fn long_lines_and_no_lines() {
     assert_eq!(desk(&["run", &long]).out, "(refused 1 1)\n(refused 5 0)\n");
     let limit = file(&here, "limit.txt", format!("(reward {}7)\n({})\n", "0".repeat(0), "a ".repeat(2_046) + "a"));
     assert_eq!(desk(&["run", &limit]).out, "(refused 1 2)\n(refused 5 0)\n");
-    let empty = file(&here, "empty.txt", "");
-    let ended = desk(&["run", &empty]);
-    assert_eq!((ended.out.as_str(), ended.status), ("(refused 5 0)\n", 1));
+    // a text of no bytes, or of blank lines only, is an empty order
+    for text in ["", "\n", "\n\n\n"] {
+        let empty = file(&here, "empty.txt", text);
+        let ended = desk(&["run", &empty]);
+        assert_eq!((ended.out.as_str(), ended.err.as_str(), ended.status), ("", "", 0), "{text:?}");
+    }
+    let bytes = file(&here, "bytes.txt", "\n\nx");
+    let ended = desk(&["run", &bytes]);
+    assert_eq!((ended.out.as_str(), ended.status), ("(refused 1 3)\n(refused 5 0)\n", 1));
 }
 
 #[test]

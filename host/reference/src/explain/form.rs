@@ -4,7 +4,7 @@ use super::{words::nearest, Fault};
 use crate::refusal::Refusal;
 use crate::text::{Flaw, Flawed, Kind, Span, Word, LINE_BYTES, NAME_LETTERS, OPEN_BRACKETS};
 
-const ONE_FORM: &str = "a line is one form in brackets, such as (start); there are no blank lines and no comments";
+const ONE_FORM: &str = "a line is one form in brackets, such as (start), or blank, without even a space; there are no comments";
 const CRLF: &str = "end lines with a line feed alone: sed -i 's/\\r$//' FILE";
 
 fn fault(span: Span, what: impl Into<String>, advice: impl Into<String>) -> Fault {
@@ -59,7 +59,6 @@ fn brackets(count: usize) -> String {
 
 fn no_bracket(line: &[u8]) -> String {
     match line {
-        [] => "the line is empty".into(),
         b"\r" => "the line is empty but for a carriage return (CR LF)".into(),
         [0xef, 0xbb, 0xbf, ..] => "the line begins with a byte order mark".into(),
         [b' ' | b'\t', ..] => "the line begins with a space or a tab".into(),
