@@ -1,13 +1,24 @@
 -- The answers of a text as bytes (document 01, sections 'Text' and 'A run, whole').
 --
--- digits, field             the decimal digits of a number; a number behind a space
--- answerLine                the line of an answer
--- rowLine, rowLines         the line of a row; those of the first n rows of a listing
--- answerBytes               an answer's bytes
--- putAnswer, putResult      the bytes put at a place of a buffer: the place behind them, the buffer then
+-- Definitions
+--   Answer == value, k, S^k; k, rows; row, edge, rows left; rows shown; refusal and line; or nothing (an enum of the code)
+--   digitsWithin, digits == the decimal digits of a number
+--   field, edgeField, leafField == a number, ` true` or ` false`, ` leaf`, a space before each
+--   valueHead, backupHead, cutHead, refusedHead, rowHead, lineEnd == the words of answers, and the end of a line
+--   answerLine == the line of an answer
+--   rowLine, rowLineAt, rowLines == the line of a row; of row k of a listing; of the first n rows
+--   answerBytes == an answer's bytes, (show) with the rows of the value's listing
+--   mostBytes == 92,160, the bytes of any answer at most
+--   IsWord, OfWords == a machine word; an answer of machine words, with at most 1,024 rows to show
+--   Put, putAnswer, putResult == the place behind bytes that are put at a place of a buffer, or that there is no room; the buffer then
 --
--- digits-read, -number      digits read back as their number, and are a number as texts have it
--- answer-fits               a buffer with 92,160 bytes left takes any answer of words
+-- Theorems
+--   digits-read: the digits of a number read back as it
+--   digits-number: and are a number as texts have it
+--   answer-fits: an answer of machine words, of at most 1,024 rows, has at most mostBytes bytes: a buffer with so many left takes it
+--
+-- The rest of Writing has inner contracts.
+
 pub mod Digits
 pub mod Answers
 pub mod Writing

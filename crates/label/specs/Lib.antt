@@ -1,4 +1,55 @@
 -- Terms, atoms and labels (document 01, section 'Terms, labels, listings').
+--
+-- Definitions: numbers
+--   constantCount, firstParameter, parameterCount, firstVariable, variableCount == 16 constants from 0, 4 parameters from 16, 32 variables from 32
+--   termBase == 64: every term is below it; the base in which a label's places are packed
+--   predicateCount, mostPlaces == 32 predicates, with at most 4 places each
+--   equality, equalityArity == equality is predicate 0 and has 2 places
+--   predicateWeight, firstWeight, secondWeight, thirdWeight == 2^24, 2^18, 2^12, 2^6, by which predicate and places are multiplied
+--   leafMark == 4294967295, a leaf's first word: above every label
+--
+-- Definitions: terms, atoms, labels
+--   isConstant, isParameter, isVariable, isTerm == t is the number of a constant, a parameter, a variable; of one of these
+--   Kind, kindOf == the kind of the term with a number, or that no term has it (an enum of the code)
+--   constantTerm, parameterTerm, variableTerm == the number of constant, parameter, variable i
+--   allAtMost, areArities == an arity list: 32 arities, the first of them 2, each at most 4
+--   Atom == a predicate and four places, unused ones 0 (a struct of the code)
+--   packed, Label == the number of an atom: predicate · 2^24 + t1 · 2^18 + t2 · 2^12 + t3 · 2^6 + t4; it as a struct of the code
+--   predicateOf, unpacked == the predicate and the atom of a label
+--   placeFits == place k of a predicate of arity n holds a term, or 0 where it is unused
+--   inOrder == an equality has its smaller term first, so that t = t is no label
+--   isAtom, isLabel == an atom, a label under an arity list
+--   termsOf == the terms of an atom: its used places
+--   Test == what an atom asks: a label, or t = t, which is plain truth (an enum of the code)
+--   testOf, labelOf, equates == what an atom asks: its label; of an equality plain truth, or the label with the smaller term first
+--   pickTest == the first test if true, else the second
+--
+-- Definitions: the order of labels, as the thesis writes it (document 02, L3)
+--   kindRank, termBefore == constants before parameters before variables; two terms by kind, then by number
+--   placesBefore, atomBefore, labelBefore == by the first place that differs; by predicate, then by the used places; of labels
+--   StrictTotal == irreflexive, transitive, trichotomous
+--   isFirstWord, wordBefore, Compared == first words of rows, a leaf after every label; what the comparison of two words answers
+--
+-- Definitions: terms replaced
+--   placed, mapped == a place, an atom with all its terms replaced together; unused places stay 0
+--   moved == what a label asks once its terms are replaced
+--   renamed == the label renamed, by a map that keeps the order of its terms
+--   rank == how many numbers of a list are below t
+--   numbering == the variables vs renamed to m, m + 1, .. in their order: closing up, moving apart
+--   freeing == parameter 16 + i turns into variable 32 + i, the other variables move up by the parameter count
+--
+-- Theorems
+--   packed-unpacked: packing the atom of a label gives the label back
+--   unpacked-packed: unpacking a packed atom gives the atom back
+--   label-packed: the labels are the packed atoms
+--   order-numbers: for every pair of labels under one arity list the order answers as their numbers do
+--   order-strict-total: it is a strict total order on them
+--   word-numbers: first words of rows too are in the order of their numbers
+--   numbering-increasing: closing up and moving apart keep the order of terms
+--   freeing-increasing: so does freeing
+--
+-- Callers has inner contracts.
+
 pub mod Limits
 pub mod Terms
 pub mod Labels

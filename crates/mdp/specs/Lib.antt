@@ -1,14 +1,40 @@
 -- Models, the Bellman values, backups, and runs of backups and cuts (document 01, sections 'Backup' and 'Cut').
---   Variant, Action, Model         a weight and truth diagrams; parameters and variants; arities, weight total, discount, reward, actions
---   scale m                        S: the weight total times the discount's denominator
---   GoodModel m                    what the checks of a model establish
---   bellman m k s                  M k at s: Bellman's values in whole numbers
---   combined op names ar a b       a combination as a step: its result, or the refusal
---   variantsSum, actionsBest       the sum over an action's variants; the best over the actions, freed and closed up
---   backup m k d                   the row of calls that makes V (k + 1) from V k; the first refusal met is the answer
---   Call, Held, call, run          backups and cuts; a diagram and k; one call, and a list of them from the reward and k = 0 on
--- Theorems: in every state the highest leaf of what a run holds is M k (RunLaws `demand-3`); an accepted backup makes M (k + 1) of M k (BackupLaws
--- `backup-is`), an accepted cut keeps it (CutLaws `cut-is`); the ten marked cases of document 01 (Table `table`).
+--
+-- Definitions: models
+--   mostTotal, mostDenominator, mostActions, mostVariants == 1,000,000 each for W and D; 8 actions, 8 variants each
+--   Variant, Action == a weight and truth diagrams by predicate; a parameter count and variants in order
+--   Model == the arity list, W, the discount G / D, the reward as read, and the actions in order
+--   scale == S = W · D
+--   Every == a property of each of a list
+--   GoodTruthDiagram == leaves 0 and 1, the arguments and no other variable, the action's parameters only
+--   GoodVariant, GoodAction, GoodModel == what reading a model establishes, from weights to the reward
+--
+-- Definitions: the Bellman values
+--   weightIn, stateAfter, rewardIn == a weight, the next state and the reward's value in a state, with a tuple for the parameters
+--   bellman == M0 is the reward's value; M(k+1)(s) = S^(k+1) · M0(s) + the best of the sums of G · weight · Mk(next state)
+--
+-- Definitions: backups and runs
+--   given, combined == a combination as an outcome
+--   variantsSum, actionsBest == the sum over an action's variants; the best over the actions, freed and closed up
+--   highestScale, mostSteps, scaleEnds == S^(k+1) is above 10^18, or k is 10^18: 12
+--   rowOfCalls, backup == the best over the actions, plus the reward times S^(k+1), apart; 12 first; the first refusal met is the answer
+--   leaves, cutOutcome == a cut as an outcome
+--   Call, Held, taken, call == a backup or a cut; the value diagram and k; an accepted call replaces them, a refused one leaves them
+--   begin, runFrom, run == the reward and 0, then a list of calls
+--
+-- Definitions: document 01's run
+--   forFirst, noTruths, runModel == its model
+--   nothingTrue, isNought, stockAtHub == its two states
+--   shown, eightModel, ab, ba == what (value) prints; the model and the labels of other marked cases
+--
+-- Theorems
+--   demand-3: after any list of backups and cuts, refused ones among them, the value diagram's highest leaf is Mk in every state
+--   backup-is: a backup takes a diagram of the values Mk to one of the values M(k+1)
+--   cut-is: a cut leaves a diagram of the same values
+--   value-is: so the number that valuing answers after a run is Mk of the lent state
+--   table: the ten marked cases, by computation
+--   run-model-good: the model of document 01's run is one that reading can accept
+
 -- definitions
 pub mod Model
 pub mod Bellman

@@ -1,4 +1,15 @@
--- Every line of a model keeps a session good.
+-- Every line of the model keeps a session good (document 01, section 'Text'). Laws only.
+--
+-- Theorems
+--   constant-good: an accepted (constant n) keeps a session good
+--   predicate-good: so does (predicate n arity): what holds under an arity list holds under one that has grown (GrowthLaws)
+--   total-good: (total W); discount-good: (discount G D)
+--   action-good: (action n !p ..)
+--   reward-good: (reward DIAGRAM)
+--   variant-good: (variant n WEIGHT)
+--   becomes-good: (becomes (p ?a ..) DIAGRAM)
+--   built-read: what a good reading builds is a good diagram, with the terms that the reading names
+
 pub mod OutcomeLaws
 pub mod SessionLaws
 pub mod ActionLaws

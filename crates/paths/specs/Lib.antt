@@ -1,12 +1,21 @@
 -- The paths of a diagram (document 01, section 'Cut').
 --
--- Literal, Step, Path       a label taken as true or false; an edge on a path; a path from the root to its leaf
--- paths, literals, termsIn  the paths of a diagram, true branch first; a path's literals; the terms in literals
--- through                   a path goes through an edge
--- pathAt, codes             path k; its literals as numbers
+-- Definitions
+--   mostPaths == 256: over it, those to leaf 0 included, is 17
+--   Literal, Step, Path == a label and whether it is taken as true; an edge on a path; the edges and the leaf
+--   stepBefore, paths == one edge more in front; the paths of a diagram, true branch first
+--   literalOf, literals, termsIn == the literals of a path, and their terms
+--   isEdge, someStep, through == the path goes through the edge of the row r on the side b
 --
--- paths-are                 the paths are those of the numbers 0, 1, ..
--- rows-paths                a diagram has fewer rows than twice its paths
+-- For proofs
+--   pathAt, codes == path k of a diagram; its literals as numbers
+--
+-- Theorems
+--   paths-are: the paths are those of the numbers 0, 1, ..
+--   rows-paths: a diagram has fewer rows than twice its paths
+--
+-- The rest of Routes, and Walking, have inner contracts.
+
 pub mod Paths
 pub mod Routes
 -- what the code's parts keep

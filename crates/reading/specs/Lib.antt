@@ -1,4 +1,38 @@
 -- The words pass of a line with a diagram (document 01, section 'Text', and the last paragraph under the refusals).
+--
+-- Definitions: what words stand for
+--   Op == an operation: form a leaf, ask a test, make the row step
+--   Names, Binding == the names that stand for something on the line; which variables: any, none, or only the arguments
+--   Judged, andThen, pickJudged == an answer or the refusal; the first refusal decides; the first if true, else the second
+--   constantNumber, parameterNumber == a declared constant, or 2; a parameter of this action, or 6
+--   met, pickKeys == the variables met so far, in the order of their first occurrence; 33 are kept
+--   lastVariable, numberIn, variableNumber == variables are numbered from 32 by first occurrence; an unknown one is 6 where none may be new
+--
+-- Definitions: the pass
+--   Pass, placed, more, pickPass == the atom under way, the terms still due, the operations so far
+--   asked, beginning, begun, filling == an atom begins, its places are filled, and it is asked once no term is due
+--   termWord, numberWord, atomWord == a term, or 1; a leaf, or 4; a declared predicate, or 2, with its arity, or 3
+--   metAt, word == the variables after a word; a word judged
+--   State, with-pass, readWord, readWords == how far the words are read
+--   Written, begin, finished, reading == all words; then more than 32 variables are 8
+--
+-- Definitions: the head of (becomes (p ?a ..) DIAGRAM)
+--   Opening, openingOf, openedNumber, headNumber == its predicate, or 2
+--   Argument, argumentOf, pickArgument, Head, argumentsFrom, openedArguments, headArguments == its arguments: 3 for another count, 2 for a second
+--
+-- Definitions: the same on trees
+--   Reading == a diagram as it is written, each atom as what it asks
+--   resolveTerm, resolveAtom, resolveDiagram == every name resolved, in the order of the words
+--   opsOf == the operations of a diagram: test, part for true, part for false, step
+--   diagramReading == what a diagram's words come to
+--
+-- Theorems
+--   reading-diagram: the words of a diagram, read one after another, come to what its tree stands for
+--   reading-sound: what is accepted names nothing unbound, has labels under the arity list and leaves in range
+--   reading-counts: where any variable may stand, 8 is judged by all of them, though 33 are kept
+--
+-- Callers has inner contracts.
+
 -- definitions
 pub mod Operations
 pub mod Reading

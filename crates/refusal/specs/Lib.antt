@@ -1,8 +1,11 @@
 -- Refusals by trade word (document 01, section 'Refusals by trade word').
---   numberOf r              the number of the trade word r
---   Outcome A               an answer, ok a, or why there is none, refused r
---   andThen o f             one step, then the next; the first refusal met is the answer
---   Accepted P o            if an answer is given, it has P
+--
+-- Definitions
+--   Refusal == a trade word, from form to buffer (an enum of the code)
+--   numberOf == the number of a trade word, 1 to 18
+--   Outcome, andThen == an answer, or why there is none; one step, then the next: the first refusal met is the answer
+--   Accepted == if an answer is given, it has a property
+
 pub mod Numbers
 pub mod Outcome
 -- laws

@@ -1,22 +1,53 @@
 -- Regression, replacement and freeing (document 01, section 'Regression').
---   Run A                          a step of one call: from the rows formed so far to its answer and the rows then
---   form d                         the rows of d are formed; more than 2,048 rows in the call are 9
---   combine op a b                 a combination with names shared: 10, 11, 9
---   testDiagram x, exchanged T     the one-row test of what is asked; 1 - T
---   rowStep T t f                  (T times t) + ((1 - T) times f), in the order of 01's steps
---   argument ts, replacement σ     terms for arguments, all together; a diagram with its terms replaced, row by row
---   truthAt truths l               T for the label l: its predicate's truth diagram, arguments replaced; without one the test of l
---   regression, regressed          the row step for each row in number order; one call of it, a result above 1,024 rows being 9
---   next s os becomes              the next state: p(o..) is true exactly if its truth diagram gives 1 for o.. in s
---   truthsOf, checkTruths          truth diagrams lent as words; 7, then 6, diagram by diagram
---   freedOutcome, freeOwn          freeing of parameters: 8; 6, then 8
---   regressAnswer, regressResult   what the regression call answers, and its result buffer
---   freeAnswer, freeResult         what the freeing call answers, and its result buffer
---   Within c d, GoodTruths         no parameter from the c-th on; truth diagrams that pass the checks
--- Theorems: an accepted regression says of a state what the old diagram says of the next one (NextLaws `regressed-value`, `regressed-tells`,
--- `regressed-highest`; of lent words RegressCallLaws `regress-tells`); the highest leaf after freeing is the highest over all tuples of the highest leaf
--- before it (FreeingLaws `highest-freed`; of lent words FreeCallLaws `free-is`); every pair of a combination forms its reduced diagram, so that the rows
--- formed are the result's (CallLaws `combine-forms`).
+--
+-- Definitions: steps of a call
+--   Run, pure, bind == a step of a call: from the rows formed so far, its answer and the rows then; one step, then the next
+--   form == a diagram's rows formed in the one working space of 2,048 rows (9)
+--   combine == a combination by operation with names shared, as a step: 10, 11, 9
+--
+-- Definitions: the row step
+--   labelTest, testDiagram == the one-row test of a label; of what is asked: leaf 1 where it is t = t
+--   exchanged == 1 - T: T with its leaves exchanged
+--   rowStep == (T times true result) + ((1 - T) times false result), in the order of document 01's steps, the rows of T and 1 - T formed
+--
+-- Definitions: replacement and regression
+--   resultOf, rowResult, rowResults, lastOf, overRows == the rows of a diagram in number order, each by the row step of its T
+--   argument, replacement == the terms of p(t1 ..) for the arguments, all together; a diagram with its terms replaced
+--   Truths, truthOf == the truth diagrams of a variant, by predicate; equality has none
+--   truthFrom, truthAt == T for a label: the truth diagram with its arguments replaced; without one the test of the label
+--   regression, regressed == the rows of the value diagram in one working space; as one call, its result held to 1,024 rows
+--   stepped, rebuilt, replaced, truthGiven, truthDiagram, regressedDiagram == the same diagrams where nothing is refused, without the space
+--   asked == what a test asks of a choice of true or false for all labels
+--
+-- Definitions: the next state
+--   inner, factAfter, next, meanings == p(o ..) is true next exactly if its truth diagram gives 1 for o .. today; without one it stays
+--
+-- Definitions: what diagrams must be
+--   AtMost, Labels == no leaf is above b; every label is one under the arity list
+--   GoodTruth, GoodTruths == a truth diagram has leaves 0 and 1 and labels in their range; each does
+--   Allowed, Within, WithinTruths == no parameter from the c-th on; in no truth diagram
+--   Tells == what an accepted regression gives: a good diagram whose leaves are the old one's in the next state, with no new variable or parameter
+--
+-- Definitions: the calls
+--   truthCount, truthWords, truthsOf == lent truth diagrams: words one after another, and where each begins
+--   areListings, leafAbove, anyOccurs, unboundVariable == the parts of the checks 14, 7, 6
+--   checkTruth, checkTruths, regressOutcome == 7, then 6, diagram by diagram; the call: 14, 18, 7, 6, then its own
+--   Regressed, regressedAs, writtenAs, regressAnswer, regressResult == the answer, and the result buffer then
+--   freedOutcome, freeOwn, freeOutcome == freeing: 8; 6, then 8; the call: 14, 18, 4, then these
+--   Freed, freedAs, freeAnswer, freeResult == the answer, and the result buffer then
+--
+-- Theorems
+--   regressed-value: the regressed diagram's leaf in a state is the old one's leaf in the next state
+--   regressed-tells: so for every regression that is accepted, and the result is a good diagram
+--   regress-tells: so for the call on lent words
+--   regressed-is: an accepted regression is regressedDiagram, of at most 1,024 rows
+--   good-regressed: that diagram is good
+--   eval-stepped: the row step chooses the true result where T is 1, the false one where it is 0
+--   regressed-highest: so the highest leaf after regression is the old one's in the next state
+--   highest-freed: the highest leaf after freeing is the highest, over all tuples, of the highest leaf before
+--   free-is: what an accepted freeing is
+--   combine-forms: every pair of a combination forms its reduced diagram, so the rows formed are the result's
+
 -- definitions
 pub mod Calls
 pub mod Step

@@ -1,4 +1,59 @@
--- Sessions: what a text's lines declare and ask for.
+-- Sessions: what a text's lines declare and ask for (document 01, sections 'Text' and 'A run, whole').
+--
+-- Definitions: a session
+--   Names == the names declared: constants, predicates, actions; parameters and variants of the last action
+--   Singles, Live == which single forms were accepted; the state as it is lent: objects, constants placed, facts
+--   Session, opening == part, names, single forms, model, model rows, state, value diagram and k; before the first line
+--   defaultTotal, defaultNumerator, defaultDenominator == W is 100 and the discount 19 20 where no line gives them (document 02, L7)
+--   refuseIf == refused if true, else what follows
+--
+-- Definitions: where a line may stand
+--   Part, Rule, ruleOf == model or run; what each kind of line asks for in each part
+--   eachVaried, isWhole == a reward, an action, and a variant of each
+--   eachPlaced, hasObjects, isPlaced == an accepted (objects n), and every declared constant placed
+--   unless, allowed == what a rule asks for is there, or 5
+--
+-- Definitions: lines of the model
+--   isDeclared, constantLine == (constant n)
+--   Vocabulary, predicateLine == (predicate n arity), with the arity list
+--   isTotal, totalLine, isDiscount, discountLine == (total W), (discount G D)
+--   repeated, actionLine == (action n !p ..)
+--   mostModelRows, rowsWith == all model listings together have 2,048 rows
+--   outcomeOf, namesFor == a word's checks as an outcome; the names that a diagram of the line may have
+--   rewardRead, withReward, rewardLine == (reward DIAGRAM)
+--   weightRead, addVariant, noTruths, withVariant, variantLine == (variant n WEIGHT), of the last action
+--   truthRead, isSome, withTruthAt, lastTruths, lastVariant, truthsOfLast, truthsNow, withTruth, becomesLine == (becomes (p ?a ..) DIAGRAM)
+--   weightsSum, weighed, startLine == (start): an action's weights, summed, are the one leaf W, or 13; then the run begins
+--   pickOption == the first if true, else the second
+--
+-- Definitions: lines of the run
+--   mostObjects, cleared, objectsLine == (objects n)
+--   placed, isLine == (is c o): a constant's object. In Replies placed is what follows once a line's place is judged
+--   mostFacts, factRow, withFact, sameWord, isFact, factLine, predicateOf, trueLine == (true p o ..)
+--   stateIn, valueRead == (value): the state in hand, and its highest leaf, or 15
+--   withHeld, backupLine == (backup)
+--   cutTo, cutLine, cutSays == (cut)
+--
+-- Definitions: replies
+--   Reply == the session behind a line, and what the line is answered
+--   withModel, withNames, withLive, withVocabulary, withTotal, withDiscount, withAction == a session with one part new
+--   refusal, silent, quietly == a refused line leaves the session as it was; nothing is printed; a line that prints nothing unless it is refused
+--   valueSays, backupSays == value, k, S^k; k, rows
+--   done == what each kind of line does and is answered, where it stands where it may
+--   replyTo, wordsOf, reply == 1, 5, then the line's own checks; a line in bytes, of which one of none passes (document 02, L1)
+--
+-- Definitions: texts
+--   lineFeed, Lines, behindByte, linesOf == the lines of a text, and the bytes behind the last line feed
+--   hasBytes, Progress, replyBytes, replied, afterLine, afterLines == how far a text is read, from line to line, numbered from 1, blank ones too
+--   afterRest, unfinished, closing == a last line without a line feed is 1; without an accepted (start) a last (refused 5 0), if a line with bytes was met
+--   beginning, textRead, textAnswers == all answers of a text
+--
+-- Definitions: what holds from line to line
+--   GoodTables, LastAction, Agreeing, GoodReward, GoodParts == names within limits, names and actions agree, what is read of a model is good
+--   Begun, GoodSession == the run has begun with a good model, and what is held is what some backups and cuts lead to
+--
+-- The theorems are in model_laws and session_laws.
+
 pub mod Place
 pub mod Session
 pub mod Declaring

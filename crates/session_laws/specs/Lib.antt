@@ -1,4 +1,33 @@
--- Every line keeps a session good, and what the answers of a text are.
+-- What holds of every session from line to line, and demands 1 and 3 for texts (document 01, sections 'Text', 'Backup' and 'A run, whole').
+--
+-- Definitions
+--   isQuiet == kinds of lines that print nothing where they are accepted
+--   Answered == the reply to an accepted line is of its kind; (value) and (show) leave the session
+--   OneAnswer == a line is blank, prints nothing and leaves the session; or is refused under its own number, the session left; or stands where it may and is Answered
+--   replies, repliesBytes, restBytes == the replies to lines in order; their bytes; what bytes behind the last line feed are answered
+--   unspaced, squeezed == lines without the blank ones; a text without its blank lines
+--   numbersFrom, under, replyUnder, renumbered == the numbers of lines with bytes; refusals under other line numbers
+--   Spacing == the answers of a text and of the same text without its blank lines: those of one list of replies, each under its line's number
+--   IsValue == v is Mk of the state in hand, k that of the session, w is S^k
+--
+-- Theorems: demand 1 for texts
+--   one-answer: every line has exactly one reply: none where it is blank, a refusal, or the answer of its kind
+--   refused-leaves: a refused line leaves the session as it was
+--   text-bytes: a text's answers are those of its lines, one after another
+--   blank-leaves: a blank line prints nothing and leaves the session as it was
+--   spacing: blank lines move the line numbers of refusals and change no other answer (document 02, L1)
+--
+-- Theorems: demand 3 for texts
+--   text-bellman: after any lines, an answered (value) is Mk of the state in hand, k and S^k
+--   text-value: and a (value) that stands where it may, with at most 1,000,000 valuations, is answered so
+--
+-- Theorems: what holds from line to line
+--   opening-good: the session before the first line is good
+--   reply-good: every line keeps a session good
+--   objects-good: (objects n); is-good: (is c o); true-good: (true p o ..)
+--   start-good: (start); backup-good: (backup); cut-good: (cut)
+--   kept-good: so for a session that is kept in lent words
+
 pub mod TextReplies
 pub mod PlaceLaws
 pub mod OpeningLaws

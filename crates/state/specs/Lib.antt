@@ -1,17 +1,41 @@
--- States and the value of a diagram (document 01, section 'States and value').
+-- States and the value of a diagram in one (document 01, section 'States and value').
 --
--- atom, atomOf, meaning     what a label says under an arity list; a diagram over what its labels say
--- State, Good               objects, the constants' objects, the facts; there is an object, and constants are objects
--- holds, value              an atomic formula's truth under a valuation; the leaf that a valuation leads to
--- Fits                      a valuation of the state, with a tuple of objects for the parameters
--- IsMax, maxTo, maxTuples   a highest value, attained; the highest over numbers, and over tuples, computed
--- Highest, highest          x is the highest leaf over all valuations; that leaf, computed
--- stateOf, isState          the state that lent words are; no object named is out of range
--- valueAnswer               what the value call answers, every refusal in its order
+-- Definitions: states
+--   Atomic, atomOf, meaning == a predicate and its terms; what a label says; a diagram over what its labels say
+--   State == how many objects, an object for each constant, and which facts are true
+--   Good == there is an object, and the constants are objects
+--   equated, truth == two objects are one; whether a predicate holds of objects, predicate 0 being equality
+--   holds, value == the truth of an atomic formula, the leaf of a diagram, where each term has the object that θ gives it
+--   low, fixed == x below m and y from m on; a term that is no variable: constants by the state, parameters by a tuple
+--   Fits == a valuation: θ gives every term an object of the state, what is no variable as placed
+--   Each, args, Terms == a property of every term of a list, of an atomic formula, of a diagram
 --
--- highest-is                the leaf computed is the highest leaf
--- highest-by .. -tuples     highest leaves compared, summed, and over tuples: all that crates above use
--- same-facts                neither order nor repetition of lent facts matters
+-- Definitions: the highest leaf
+--   IsMax, Highest == x is the highest of f on P: attained, and nothing above; the highest leaf over all valuations
+--   maxTo, maxTuples == the highest over the numbers below n; over all tuples of c objects
+--   maxOf, sumOf == the highest over a list; the sum
+--   insert, varsOf, varsIn, vars == the used variables, ascending
+--   put, start, maxVals == θ with another object for v; object 0 for each variable; the highest over all choices for a list of variables
+--   highest == the highest leaf, computed
+--   Bound == each object of a tuple is one of the state
+--
+-- Definitions: the call
+--   factWords, factCount, predicateAt, objectsAt == a fact is five words: its predicate and four objects
+--   saysFact, someBelow, saidBy == row i says that p holds of objects; some row does
+--   stateOf == the state that lent words are
+--   allBelow, namesBelow, constantsBelow, isState == there is an object, and no object that the lent words name is n or beyond
+--   mostValuations, parameters, valuations == 1,000,000; the parameters of a diagram; n to the number of its variables
+--   Valued == the value, or the refusal
+--   valueAnswer == the call: its checks in order (14, 4, 6, 15), then the highest leaf
+--
+-- Theorems
+--   highest-is: the highest leaf computed is the highest leaf
+--   rename-value: a renamed diagram is valued through the renaming
+--   highest-by: highest leaves compared; highest-same: of diagrams with the same leaves; highest-one: there is one
+--   highest-scale: times a number; highest-max: of two diagrams' highest; highest-sum: over disjoint variables the sum of the highest
+--   highest-tuples: the highest over all tuples
+--   same-facts: neither order nor repetition of lent facts matters
+
 pub mod Max
 pub mod State
 pub mod Terms
