@@ -7,7 +7,7 @@ cd "$(dirname "$0")" || exit 2
 rt fmt --check || { echo "rt fmt --check is not clean"; exit 1; }
 
 # Crates of a layer are checked so many at a time, and the next ones wait for all of them: with more than the processors fewer stand idle. A check takes up to 5 GB.
-export RT_JOBS="${RT_JOBS:-4}"
+export RT_JOBS="${RT_JOBS:-6}"
 
 log=$(mktemp)
 host_log=$(mktemp)
