@@ -222,7 +222,8 @@ module _ {ar x y out work : List ℕ} (g : Callable ar x y out work) {usedX used
 
   pub apart-many : (op : Operation) → variableCount < n + m → Answered op Apart ar x y out (Refused Variables) out
   apart-many op h = record {
-    answer = sym (diagrams-variables op Apart ar (diagramOf x) (diagramOf y) (lt-ltb variableCount (length (variables ar (diagramOf x)) + length (variables ar (diagramOf y))) (omega (arith, count-x, count-y))));
+    answer = sym (diagrams-variables op Apart ar (diagramOf x) (diagramOf y)
+        (lt-ltb variableCount (length (variables ar (diagramOf x)) + length (variables ar (diagramOf y))) (omega (arith, count-x, count-y))));
     words = refl;
   }
 

@@ -153,7 +153,8 @@ module _ (x y : List ℕ) (m n : ℕ) (tx ty : ℕ → Diagram) (ox : Operand x 
   unfolding exceedsAt
   exceeds-step k h = go (flag (isEnd op x y (getD ps k origin)))
     where
-      go : Flag (isEnd op x y (getD ps k origin)) → (isEndAt ws k && ltb highestValue (operate op (firstAt ws k) (secondAt ws k))) ≡ overflows (operate op) (pairTree x y m n tx ty ox oy (getD ps k origin) ∷ [])
+      go : Flag (isEnd op x y (getD ps k origin))
+          → (isEndAt ws k && ltb highestValue (operate op (firstAt ws k) (secondAt ws k))) ≡ overflows (operate op) (pairTree x y m n tx ty ox oy (getD ps k origin) ∷ [])
       go (isTrue e) =
           let v = plan .entry k h .end e in
           let z = end-forms x y m n tx ty ox oy op (getD ps k origin) (at-inside ps inside k h) e in

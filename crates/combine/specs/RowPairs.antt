@@ -175,7 +175,8 @@ module _ (x y : List ℕ) (m n : ℕ) (tx ty : ℕ → Diagram) (ox : Operand x 
             let y₂ = le-leb (labelAt y (p .1)) (labelAt x (p .0)) (omega arith) in
             let r₁ = h .0 in
             let r₂ = h .1 in
-            make p (highAt x (p .0), highAt y (p .1)) (lowAt x (p .0), lowAt y (p .1)) (labelAt x (p .0)) (rw (y₁, y₂)) (rw (y₁, y₂)) (low ∙ lesser-le _ _ (omega arith)) (omega (arith, ox .most (p .0) (h .0)))
+            make p (highAt x (p .0), highAt y (p .1)) (lowAt x (p .0), lowAt y (p .1)) (labelAt x (p .0)) (rw (y₁, y₂)) (rw (y₁, y₂))
+            (low ∙ lesser-le _ _ (omega arith)) (omega (arith, ox .most (p .0) (h .0)))
             g (omega arith, omega arith) (omega arith, omega arith) (omega arith) (omega arith) s
         go (above q) =
             let b : labelAt y (p .1) ≢ leafMark = λ z. omega (arith, ox .most (p .0) (h .0)) in

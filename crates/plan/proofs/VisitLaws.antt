@@ -269,7 +269,8 @@ planned op x y limit p a Full ws heads v =
     let o : Overrun limit (walked op x y p []) ws heads = v .full refl in
     record { answer = sym (went-many limit (walked op x y p []) (o .many)); plan = λ h. absurd (omega (arith, o .many)); touched = λ h. o .touched }
 
-pub walk-out : (ws : List ℕ) {op : Operation} {x y ws′ heads′ : List ℕ} {limit i j : ℕ} {z w : Went} → Leading x y (i, j) → w ≡ z → Visited op x y limit (i, j) (walked op x y (i, j) (pairsAt ws 0)) w ws′ heads′
+pub walk-out : (ws : List ℕ) {op : Operation} {x y ws′ heads′ : List ℕ} {limit i j : ℕ} {z w : Went} → Leading x y (i, j) → w ≡ z
+    → Visited op x y limit (i, j) (walked op x y (i, j) (pairsAt ws 0)) w ws′ heads′
     → Planned op x y limit (walked op x y (i, j) []) z ws′ heads′
 unfolding pairsAt
 walk-out ws {op} {x} {y} {ws′} {heads′} {limit} {i} {j} {z} a e v =

@@ -280,7 +280,8 @@ nodup-more p (q ∷ l) d m = go (flag (samePair p q)) (flag (mem samePair p l)) 
     go (isFalse e) (isFalse n) u = (mem-append samePair q l (p ∷ []) ∙ rw (d .0, pair-turned p q e), u n)
 
 -- any depth above the sum of the pair's rows will do
-pub finish-depth : (op : Operation) (x y : List ℕ) (f g : ℕ) (p : Pair) (done : List Pair) → Leading x y p → p .0 + p .1 < f → p .0 + p .1 < g → finishPairs op x y f p done ≡ finishPairs op x y g p done
+pub finish-depth : (op : Operation) (x y : List ℕ) (f g : ℕ) (p : Pair) (done : List Pair) → Leading x y p → p .0 + p .1 < f → p .0 + p .1 < g
+    → finishPairs op x y f p done ≡ finishPairs op x y g p done
 finish-depth op x y zero g p done a lf lg = absurd (omega arith)
 finish-depth op x y (suc f) zero p done a lf lg = absurd (omega arith)
 finish-depth op x y (suc f) (suc g) p done a lf lg = go (flag (mem samePair p done)) (flag (isEnd op x y p)) (λ q l. finish-depth op x y f g q l)

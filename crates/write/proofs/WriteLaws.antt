@@ -140,7 +140,8 @@ module _ {s marks order out₀ out : List ℕ} {m j : ℕ} (g : Emitting s marks
     places = g .places;
     room = rw (e, length-put out j r) (g .room);
     front = rw e (take-put out j r (omega (arith, g .room)) ∙ ap₂ _++_ (g .front) (ap rowWords (q ∙ ap (renumbered s marks) p))
-        ∙ sym (listed-snoc s marks (take j order) (getD order j 0)) ∙ ap (listedRows s marks) (sym (take-suc order j 0 (omega (arith, g .few, g .places)))) ∙ ap (λ (n : ℕ). listedRows s marks (take n order)) (sym (add-one j)));
+        ∙ sym (listed-snoc s marks (take j order) (getD order j 0)) ∙ ap (listedRows s marks) (sym (take-suc order j 0 (omega (arith, g .few, g .places))))
+        ∙ ap (λ (n : ℕ). listedRows s marks (take n order)) (sym (add-one j)));
     rest = rw e (drop-put out j r ((j + 1) * 3) (omega arith) ∙ on);
   }
     where

@@ -8,10 +8,17 @@ close-map-requires : tie.Need-close-map-requires
 close-map-requires c κs = enter-closable (c .before .before .before .before .before .before .before .before .pre) _ (lit≤ tt)
 
 load-requires : tie.Need-load-requires
-load-requires c κs = enter-loadable (c .before .before .before .before .before .before .before .before .before .before .before .before .before .before .before .pre) _ (c .before .before .before .before .before .before .close-map .ensures)
+load-requires c κs =
+    let mapped = c .before .before .before .before .before .before in
+    let start = mapped .before .before .before .before .before .before .before .before .before in
+    enter-loadable (start .pre) _ (mapped .close-map .ensures)
 
 returns : tie.Need-returns
-returns c = enter-formed (c .before .before .before .before .before .before .before .before .before .before .before .before .before .before .before .before .before .before .before .before .before .before .before .before .pre) _ (c .before .before .before .before .before .before .before .before .before .before .before .before .before .before .before .close-map .ensures) (c .before .before .before .before .before .before .before .before .load .ensures)
+returns c =
+    let loaded = c .before .before .before .before .before .before .before .before in
+    let mapped = loaded .before .before .before .before .before .before .before in
+    let start = mapped .before .before .before .before .before .before .before .before .before in
+    enter-formed (start .pre) _ (mapped .close-map .ensures) (loaded .load .ensures)
 
 pub enter-spec : {M : Type 1} → statement M
 enter-spec =

@@ -17,7 +17,9 @@ write-result-requires c κs =
 returns : tie.Need-returns
 returns c =
     let j = c .before .before .before .before .before .before .before .before .before .before .before .before .before .before .before .before in
-    join-done (j .before .before .before .before .before .before .before .before .before .before .before .pre) (lit≤ tt) (j .join-rows .ensures) (c .before .before .before .before .before .before .joined .given .1) (c .before .before .write-result .ensures)
+    let start = j .before .before .before .before .before .before .before .before .before .before .before in
+    let joined-at = c .before .before .before .before .before .before in
+    join-done (start .pre) (lit≤ tt) (j .join-rows .ensures) (joined-at .joined .given .1) (c .before .before .write-result .ensures)
 
 returns-2 : tie.Need-returns-2
 returns-2 c =
@@ -37,4 +39,28 @@ returns-4 c =
 pub join-many-spec : {M : Type 1} → statement M
 join-many-spec =
     tie.close
-    (tie.spec (λ c. search needs) (λ c. search needs) join-rows-requires (λ c. search needs) write-result-requires (λ c. search needs) (λ c. search needs) (λ c. search needs) (λ c. search needs) (λ c. search needs) (λ c. search needs) (λ c. search needs) returns (λ c. search needs) (λ c. search needs) (λ c. search needs) returns-2 (λ c. search needs) (λ c. search needs) (λ c. search needs) returns-3 (λ c. search needs) (λ c. search needs) (λ c. search needs) returns-4)
+    (tie.spec (λ c. search needs)
+    (λ c. search needs)
+    join-rows-requires
+    (λ c. search needs)
+    write-result-requires
+    (λ c. search needs)
+    (λ c. search needs)
+    (λ c. search needs)
+    (λ c. c .before .before .before .before .before .before .before .before .before .before .before .before .before .before .before .before .join-rows .kept .1 .1 .1 .1 .1 .1 .0)
+    (λ c. c .before .before .before .before .before .before .before .before .before .before .before .before .before .before .before .before .join-rows .kept .1 .1 .1 .1 .1 .1 .1 .0)
+    (λ c. c .before .before .before .before .before .before .before .before .before .before .before .before .before .before .before .before .join-rows .kept .1 .1 .1 .1 .1 .1 .1 .1 .0)
+    (λ c. c .before .before .write-result .kept .1 .1 .1 .1 .1 .0)
+    returns
+    (λ c. c .before .before .before .before .before .before .before .before .before .before .join-rows .kept .1 .1 .1 .1 .1 .1 .0)
+    (λ c. c .before .before .before .before .before .before .before .before .before .before .join-rows .kept .1 .1 .1 .1 .1 .1 .1 .0)
+    (λ c. c .before .before .before .before .before .before .before .before .before .before .join-rows .kept .1 .1 .1 .1 .1 .1 .1 .1 .0)
+    returns-2
+    (λ c. c .before .before .before .before .before .before .before .before .before .before .join-rows .kept .1 .1 .1 .1 .1 .1 .0)
+    (λ c. c .before .before .before .before .before .before .before .before .before .before .join-rows .kept .1 .1 .1 .1 .1 .1 .1 .0)
+    (λ c. c .before .before .before .before .before .before .before .before .before .before .join-rows .kept .1 .1 .1 .1 .1 .1 .1 .1 .0)
+    returns-3
+    (λ c. c .before .before .before .before .before .before .before .before .before .before .join-rows .kept .1 .1 .1 .1 .1 .1 .0)
+    (λ c. c .before .before .before .before .before .before .before .before .before .before .join-rows .kept .1 .1 .1 .1 .1 .1 .1 .0)
+    (λ c. c .before .before .before .before .before .before .before .before .before .before .join-rows .kept .1 .1 .1 .1 .1 .1 .1 .1 .0)
+    returns-4)

@@ -4,7 +4,10 @@ use Rattle.combination.proofs.combine_many.Statement.{statement}
 use Rattle.combination.proofs.combine_many.Tie as tie
 
 finish-requires : tie.Need-finish-requires
-finish-requires c κs = shared-finishable (c .before .before .before .before .shared-many .ensures) (c .before .before .before .before .before .before .before .before .before .before .before .pre .out-room)
+finish-requires c κs =
+    let shared = c .before .before .before .before in
+    let start = shared .before .before .before .before .before .before .before in
+    shared-finishable (shared .shared-many .ensures) (start .pre .out-room)
 
 returns : tie.Need-returns
 returns c = shared-out _ _ _ _ (c .before .before .before .before .before .before .before .shared-many .ensures) (c .before .before .finish .ensures)

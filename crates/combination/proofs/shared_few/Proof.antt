@@ -5,10 +5,17 @@ use Rattle.combination.proofs.shared_few.Statement.{statement}
 use Rattle.combination.proofs.shared_few.Tie as tie
 
 join-listings-requires : tie.Need-join-listings-requires
-join-listings-requires c κs = (shared-pairable _ 1600 4096 320 (c .before .before .before .before .before .before .before .before .before .pre .first) (c .before .before .before .before .before .before .before .before .before .pre .second) (lit≤ tt) (lit≤ tt) (lit≤ tt), shared-holds _ 2048 2048 (c .before .before .before .before .before .before .before .before .before .pre .room) (lit≤ tt) (lit≤ tt))
+join-listings-requires c κs =
+    let start = c .before .before .before .before .before .before .before .before .before in (
+      shared-pairable _ 1600 4096 320 (start .pre .first) (start .pre .second) (lit≤ tt) (lit≤ tt) (lit≤ tt),
+      shared-holds _ 2048 2048 (start .pre .room) (lit≤ tt) (lit≤ tt),
+    )
 
 returns : tie.Need-returns
-returns c = shared-in _ _ _ _ _ _ (c .before .before .before .before .before .before .before .before .before .before .before .before .before .before .before .before .pre) (c .before .before .before .before .before .before .join-listings .ensures)
+returns c =
+    let joined = c .before .before .before .before .before .before in
+    let start = joined .before .before .before .before .before .before .before .before .before .before in
+    shared-in _ _ _ _ _ _ (start .pre) (joined .join-listings .ensures)
 
 pub shared-few-spec : {M : Type 1} → statement M
 shared-few-spec =

@@ -17,43 +17,109 @@ loop-holds : tie.Need-loop-holds Inv-loop μ-loop
 loop-holds c = loop-start (c .before .before .before .before .pre .1)
 
 form-at-requires : tie.Need-form-at-requires Inv-loop μ-loop
-form-at-requires c κs = (loop-formable (c .before .before .before .before .before .before .before .before .before .before .pre .0) (c .before .before .before .before .before .loop .inv) (c .before .before .before .before .loop-test .taken), loop-space (c .before .before .before .before .before .before .before .before .before .before .pre .0) (c .before .before .before .before .before .loop .inv))
+form-at-requires c κs =
+    let asked = c .before .before .before .before in
+    let looped = asked .before in
+    let start = looped .before .before .before .before .before in
+    (loop-formable (start .pre .0) (looped .loop .inv) (asked .loop-test .taken), loop-space (start .pre .0) (looped .loop .inv))
 
 same-length : tie.Need-same-length Inv-loop μ-loop
 same-length c = c .before .before .before .before .before .before .before .before .before .before .before .before .before .before .loop .inv .plan-length
 
 same-length-2 : tie.Need-same-length-2 Inv-loop μ-loop
-same-length-2 c = c .before .before .before .before .before .before .before .before .form-at .kept .1 .1 .1 .1 .0 ∙ c .before .before .before .before .before .before .before .before .before .before .before .before .before .before .loop .inv .space-length
+same-length-2 c =
+    let formed = c .before .before .before .before .before .before .before .before in
+    let looped = formed .before .before .before .before .before .before in
+    formed .form-at .kept .1 .1 .1 .1 .0 ∙ looped .loop .inv .space-length
 
 same-length-3 : tie.Need-same-length-3 Inv-loop μ-loop
-same-length-3 c = c .before .before .before .before .before .before .before .before .form-at .kept .1 .1 .1 .1 .1 .0 ∙ c .before .before .before .before .before .before .before .before .before .before .before .before .before .before .loop .inv .heads-length
+same-length-3 c =
+    let formed = c .before .before .before .before .before .before .before .before in
+    let looped = formed .before .before .before .before .before .before in
+    formed .form-at .kept .1 .1 .1 .1 .1 .0 ∙ looped .loop .inv .heads-length
 
 same-length-4 : tie.Need-same-length-4 Inv-loop μ-loop
-same-length-4 c = c .before .before .before .before .before .before .before .before .form-at .kept .1 .1 .1 .1 .1 .1 .0 ∙ c .before .before .before .before .before .before .before .before .before .before .before .before .before .before .loop .inv .links-length
+same-length-4 c =
+    let formed = c .before .before .before .before .before .before .before .before in
+    let looped = formed .before .before .before .before .before .before in
+    formed .form-at .kept .1 .1 .1 .1 .1 .1 .0 ∙ looped .loop .inv .links-length
 
 returns : tie.Need-returns Inv-loop μ-loop
-returns c = loop-full (c .before .before .before .before .before .before .before .before .before .before .before .before .before .before .before .before .before .before .before .pre .0) (c .before .before .before .before .before .before .before .before .before .before .before .before .before .before .loop .inv) (c .before .before .before .before .before .before .before .before .before .before .before .before .before .loop-test .taken) (c .before .before .before .before .before .before .before .before .form-at .ensures) (c .enum-told .given .1)
+returns c =
+    let formed = c .before .before .before .before .before .before .before .before in
+    let asked = formed .before .before .before .before .before in
+    let looped = asked .before in
+    let start = looped .before .before .before .before .before in
+    loop-full (start .pre .0) (looped .loop .inv) (asked .loop-test .taken) (formed .form-at .ensures) (c .enum-told .given .1)
 
 mul-plan : tie.Need-mul-plan Inv-loop μ-loop
-mul-plan c = let r = loop-room (c .before .before .before .before .before .before .before .before .before .before .before .before .before .before .before .before .before .before .before .before .pre .0) (c .before .before .before .before .before .before .before .before .before .before .before .before .before .before .before .loop .inv) in let t = c .before .before .before .before .before .before .before .before .before .before .before .before .before .before .loop-test .taken in let q = c .before .before .before .before .before .before .before .before .before .before .before .before .before .before .before .loop .inv .plan-length in omega arith
+mul-plan c =
+    let asked = c .before .before .before .before .before .before .before .before .before .before .before .before .before .before in
+    let looped = asked .before in
+    let start = looped .before .before .before .before .before in
+    let r = loop-room (start .pre .0) (looped .loop .inv) in
+    let t = asked .loop-test .taken in
+    let q = looped .loop .inv .plan-length in
+    omega arith
 
 add-plan : tie.Need-add-plan Inv-loop μ-loop
-add-plan c = let r = loop-room (c .before .before .before .before .before .before .before .before .before .before .before .before .before .before .before .before .before .before .before .before .pre .0) (c .before .before .before .before .before .before .before .before .before .before .before .before .before .before .before .loop .inv) in let t = c .before .before .before .before .before .before .before .before .before .before .before .before .before .before .loop-test .taken in let q = c .before .before .before .before .before .before .before .before .before .before .before .before .before .before .before .loop .inv .plan-length in omega arith
+add-plan c =
+    let asked = c .before .before .before .before .before .before .before .before .before .before .before .before .before .before in
+    let looped = asked .before in
+    let start = looped .before .before .before .before .before in
+    let r = loop-room (start .pre .0) (looped .loop .inv) in
+    let t = asked .loop-test .taken in
+    let q = looped .loop .inv .plan-length in
+    omega arith
 
 mul-plan-2 : tie.Need-mul-plan-2 Inv-loop μ-loop
-mul-plan-2 c = let r = loop-room (c .before .before .before .before .before .before .before .before .before .before .before .before .before .before .before .before .before .before .before .before .pre .0) (c .before .before .before .before .before .before .before .before .before .before .before .before .before .before .before .loop .inv) in let t = c .before .before .before .before .before .before .before .before .before .before .before .before .before .before .loop-test .taken in let q = c .before .before .before .before .before .before .before .before .before .before .before .before .before .before .before .loop .inv .plan-length in omega arith
+mul-plan-2 c =
+    let asked = c .before .before .before .before .before .before .before .before .before .before .before .before .before .before in
+    let looped = asked .before in
+    let start = looped .before .before .before .before .before in
+    let r = loop-room (start .pre .0) (looped .loop .inv) in
+    let t = asked .loop-test .taken in
+    let q = looped .loop .inv .plan-length in
+    omega arith
 
 slice-write-plan : tie.Need-slice-write-plan Inv-loop μ-loop
-slice-write-plan c = let r = loop-room (c .before .before .before .before .before .before .before .before .before .before .before .before .before .before .before .before .before .before .before .before .pre .0) (c .before .before .before .before .before .before .before .before .before .before .before .before .before .before .before .loop .inv) in let t = c .before .before .before .before .before .before .before .before .before .before .before .before .before .before .loop-test .taken in let q = c .before .before .before .before .before .before .before .before .before .before .before .before .before .before .before .loop .inv .plan-length in omega arith
+slice-write-plan c =
+    let asked = c .before .before .before .before .before .before .before .before .before .before .before .before .before .before in
+    let looped = asked .before in
+    let start = looped .before .before .before .before .before in
+    let r = loop-room (start .pre .0) (looped .loop .inv) in
+    let t = asked .loop-test .taken in
+    let q = looped .loop .inv .plan-length in
+    omega arith
 
 add-k : tie.Need-add-k Inv-loop μ-loop
-add-k c = let r = loop-room (c .before .before .before .before .before .before .before .before .before .before .before .before .before .before .before .before .before .before .before .before .pre .0) (c .before .before .before .before .before .before .before .before .before .before .before .before .before .before .before .loop .inv) in let t = c .before .before .before .before .before .before .before .before .before .before .before .before .before .before .loop-test .taken in let q = c .before .before .before .before .before .before .before .before .before .before .before .before .before .before .before .loop .inv .plan-length in omega arith
+add-k c =
+    let asked = c .before .before .before .before .before .before .before .before .before .before .before .before .before .before in
+    let looped = asked .before in
+    let start = looped .before .before .before .before .before in
+    let r = loop-room (start .pre .0) (looped .loop .inv) in
+    let t = asked .loop-test .taken in
+    let q = looped .loop .inv .plan-length in
+    omega arith
 
 loop-less : tie.Need-loop-less Inv-loop μ-loop
-loop-less c = let r = loop-room (c .before .before .before .before .before .before .before .before .before .before .before .before .before .before .before .before .before .before .before .before .pre .0) (c .before .before .before .before .before .before .before .before .before .before .before .before .before .before .before .loop .inv) in let t = c .before .before .before .before .before .before .before .before .before .before .before .before .before .before .loop-test .taken in let q = c .before .before .before .before .before .before .before .before .before .before .before .before .before .before .before .loop .inv .plan-length in omega arith
+loop-less c =
+    let asked = c .before .before .before .before .before .before .before .before .before .before .before .before .before .before in
+    let looped = asked .before in
+    let start = looped .before .before .before .before .before in
+    let r = loop-room (start .pre .0) (looped .loop .inv) in
+    let t = asked .loop-test .taken in
+    let q = looped .loop .inv .plan-length in
+    omega arith
 
 loop-again : tie.Need-loop-again Inv-loop μ-loop
-loop-again c = loop-step (c .before .before .before .before .before .before .before .before .before .before .before .before .before .before .before .before .before .before .before .before .pre .0) (c .before .before .before .before .before .before .before .before .before .before .before .before .before .before .before .loop .inv) (c .before .before .before .before .before .before .before .before .before .before .before .before .before .before .loop-test .taken) (c .before .before .before .before .before .before .before .before .before .form-at .ensures) (c .before .row .given .1) (c .before .before .before .before .before .before .before .before .before .form-at .kept .1 .1 .1 .1 .0) (c .before .before .before .before .before .before .before .before .before .form-at .kept .1 .1 .1 .1 .1 .0) (c .before .before .before .before .before .before .before .before .before .form-at .kept .1 .1 .1 .1 .1 .1 .0)
+loop-again c =
+    let formed = c .before .before .before .before .before .before .before .before .before in
+    let asked = formed .before .before .before .before .before in
+    let looped = asked .before in
+    let start = looped .before .before .before .before .before in
+    loop-step (start .pre .0) (looped .loop .inv) (asked .loop-test .taken) (formed .form-at .ensures) (c .before .row .given .1)
+    (formed .form-at .kept .1 .1 .1 .1 .0) (formed .form-at .kept .1 .1 .1 .1 .1 .0) (formed .form-at .kept .1 .1 .1 .1 .1 .1 .0)
 
 same-length-5 : tie.Need-same-length-5 Inv-loop μ-loop
 same-length-5 c = c .before .loop .inv .plan-length
@@ -73,4 +139,6 @@ returns-2 c = loop-end (c .before .before .before .before .before .before .pre .
 pub form-spec : {M : Type 1} → statement M
 form-spec =
     tie.close
-    (tie.spec Inv-loop μ-loop loop-holds form-at-requires (λ c. search needs) (λ c. search needs) same-length same-length-2 same-length-3 same-length-4 returns mul-plan add-plan mul-plan-2 slice-write-plan add-k loop-less loop-again same-length-5 same-length-6 same-length-7 same-length-8 returns-2)
+    (tie.spec Inv-loop μ-loop loop-holds form-at-requires (λ c. search needs) (λ c. search needs) same-length same-length-2 same-length-3
+    same-length-4 returns mul-plan add-plan mul-plan-2 slice-write-plan add-k loop-less loop-again same-length-5 same-length-6 same-length-7
+    same-length-8 returns-2)

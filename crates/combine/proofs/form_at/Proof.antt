@@ -25,4 +25,6 @@ returns-2 c = search branch-out
 pub form-at-spec : {M : Type 1} → statement M
 form-at-spec =
     tie.close
-    (tie.spec (λ c κs. search needs) (λ c κs. search needs) (λ c κs. search needs) result-requires (λ c κs. search needs) (λ c. search needs) (λ c. search needs) (λ c. search needs) returns second-at-requires-2 second-at-requires-3 branch-requires (λ c. search needs) (λ c. search needs) (λ c. search needs) returns-2)
+    (tie.spec (λ c κs. search needs) (λ c κs. search needs) (λ c κs. search needs) result-requires (λ c κs. search needs) (λ c. search needs)
+    (λ c. search needs) (λ c. search needs) returns second-at-requires-2 second-at-requires-3 branch-requires (λ c. search needs) (λ c. search needs)
+    (λ c. search needs) returns-2)

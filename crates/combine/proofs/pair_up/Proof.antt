@@ -38,4 +38,5 @@ returns-3 c =
 pub pair-up-spec : {M : Type 1} → statement M
 pair-up-spec =
     tie.close
-    (tie.spec (λ c κs. search needs) (λ c. search needs) (λ c. search needs) clear-requires (λ c. search needs) (λ c. search needs) returns clear-requires-2 overflow-requires (λ c. search needs) (λ c. search needs) returns-2 (λ c. search needs) (λ c. search needs) returns-3)
+    (tie.spec (λ c κs. search needs) (λ c. search needs) (λ c. search needs) clear-requires (λ c. search needs) (λ c. search needs) returns
+    clear-requires-2 overflow-requires (λ c. search needs) (λ c. search needs) returns-2 (λ c. search needs) (λ c. search needs) returns-3)

@@ -134,7 +134,9 @@ below-key-requires-2 : (t : ℕ) → below-lts.Need-key-requires-2
     (pair-label-reads.Asked, pair-label-reads.Learnt, key-reads.Asked, key-reads.Learnt, add-reads.Asked, add-reads.Learnt, successors-reads.Asked, successors-reads.Learnt, visit-below t, visit.Post)
     (below-at t) below.Post
 below-key-requires-2 t c κs =
-    let start = c .before .before .before .before .before .before .before .before .before .before .before .before .before .before .before .before .before .before .before .before .before .before .before .before .before in
+    let at-at-on = c .before .before .before .before .before .before .before .before .before .before .before .before .before .before .before .before in
+    let at-at = at-at-on .before .before .before .before .before .before .before .before .before in
+    let start = at-at in
     ready-few (start .pre .1 .0)
 
 below-add-requires-2 : (t : ℕ) → below-lts.Need-add-requires-2
@@ -219,7 +221,13 @@ visit-returns-2 t c = c .before .before .before .before .below .ensures
 pub +below+visit-spec : {M : Type 1} → statement M
 +below+visit-spec =
     close μ-below μ-visit
-    (λ t. below-lts.spec (pair-label-reads.Asked, pair-label-reads.Learnt, key-reads.Asked, key-reads.Learnt, add-reads.Asked, add-reads.Learnt, successors-reads.Asked, successors-reads.Learnt, visit-below t, visit.Post) (below-at t) below.Post (below-pair-label-requires t) (below-key-requires t) (λ c. search needs) (λ c. search needs) (λ c. search needs) (λ c. search needs) (λ c. search needs) (λ c. search needs) (λ c. search needs) (λ c. search needs) (below-add-requires t) (λ c. search needs) (λ c. search needs) (below-returns t) (below-successors-requires t) (below-visit-requires t) (λ c. search needs) (λ c. search needs) (below-returns-2 t) (below-visit-requires-2 t) (λ c. search needs) (λ c. search needs) (below-returns-3 t) (below-key-requires-2 t) (below-add-requires-2 t) (λ c. search needs) (λ c. search needs) (below-returns-4 t))
+    (λ t. below-lts.spec
+    (pair-label-reads.Asked, pair-label-reads.Learnt, key-reads.Asked, key-reads.Learnt, add-reads.Asked, add-reads.Learnt, successors-reads.Asked, successors-reads.Learnt, visit-below t, visit.Post)
+    (below-at t) below.Post (below-pair-label-requires t) (below-key-requires t) (λ c. search needs) (λ c. search needs) (λ c. search needs)
+    (λ c. search needs) (λ c. search needs) (λ c. search needs) (λ c. search needs) (λ c. search needs) (below-add-requires t) (λ c. search needs)
+    (λ c. search needs) (below-returns t) (below-successors-requires t) (below-visit-requires t) (λ c. search needs) (λ c. search needs)
+    (below-returns-2 t) (below-visit-requires-2 t) (λ c. search needs) (λ c. search needs) (below-returns-3 t) (below-key-requires-2 t)
+    (below-add-requires-2 t) (λ c. search needs) (λ c. search needs) (below-returns-4 t))
     λ t. visit-lts.spec
     (key-reads.Asked, key-reads.Learnt, find-reads.Asked, find-reads.Learnt, packed-reads.Asked, packed-reads.Learnt, below-below t, below.Post)
     (visit-at t) visit.Post (visit-key-requires t) (visit-find-requires t) (λ c. search needs) (visit-packed-requires t) (λ c. search needs)

@@ -26,4 +26,8 @@ returns-2 c = search add-answer
 pub add-spec : {M : Type 1} → statement M
 add-spec =
     tie.close
-    (tie.spec returns (λ c κs. search needs) (λ c. search needs) (λ c. search needs) (λ c. search needs) (λ c. search needs) (λ c. search needs) (λ c κs. search needs) (λ c. search needs) (λ c. search needs) (λ c. search needs) slice-write-plan-2 (λ c. search needs) (λ c. search needs) (λ c. search needs) slice-write-plan-3 (λ c. search needs) (λ c. search needs) (λ c. search needs) slice-write-plan-4 (λ c. search needs) (λ c. search needs) (λ c. search needs) slice-write-plan-5 (λ c. search needs) (λ c. search needs) (λ c. search needs) (λ c. search needs) (λ c. search needs) (λ c κs. search needs) (λ c. search needs) (λ c. search needs) returns-2)
+    (tie.spec returns (λ c κs. search needs) (λ c. search needs) (λ c. search needs) (λ c. search needs) (λ c. search needs) (λ c. search needs)
+    (λ c κs. search needs) (λ c. search needs) (λ c. search needs) (λ c. search needs) slice-write-plan-2 (λ c. search needs) (λ c. search needs)
+    (λ c. search needs) slice-write-plan-3 (λ c. search needs) (λ c. search needs) (λ c. search needs) slice-write-plan-4 (λ c. search needs)
+    (λ c. search needs) (λ c. search needs) slice-write-plan-5 (λ c. search needs) (λ c. search needs) (λ c. search needs) (λ c. search needs)
+    (λ c. search needs) (λ c κs. search needs) (λ c. search needs) (λ c. search needs) returns-2)

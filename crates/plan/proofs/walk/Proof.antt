@@ -8,10 +8,16 @@ below-requires : tie.Need-below-requires
 below-requires c κs = let h = c .before .before .before .before .before .before .pre in (walk-ready (h .0) (h .1), walk-new _ _)
 
 returns : tie.Need-returns
-returns c = walk-out _ (c .before .before .before .before .before .before .before .before .before .before .before .before .pre .0) (word-full _ (c .if1 .taken)) (c .before .before .before .before .before .below .ensures)
+returns c =
+    let went = c .before .before .before .before .before in
+    let start = went .before .before .before .before .before .before .before in
+    walk-out _ (start .pre .0) (word-full _ (c .if1 .taken)) (went .below .ensures)
 
 returns-2 : tie.Need-returns-2
-returns-2 c = walk-out _ (c .before .before .before .before .before .before .before .before .before .before .before .before .pre .0) (word-to _ (c .if1 .left)) (c .before .before .before .before .before .below .ensures)
+returns-2 c =
+    let went = c .before .before .before .before .before in
+    let start = went .before .before .before .before .before .before .before in
+    walk-out _ (start .pre .0) (word-to _ (c .if1 .left)) (went .below .ensures)
 
 pub walk-spec : {M : Type 1} → statement M
 walk-spec =

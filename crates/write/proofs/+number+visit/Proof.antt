@@ -53,13 +53,24 @@ number-visit-requires-2 t c κs =
 
 number-place-requires-2 : (t : ℕ) → number-lts.Need-place-requires-2 (place-reads.Asked, place-reads.Learnt, visit-below t, visit.Post) (number-at t) number.Post
 number-place-requires-2 t c κs =
-    let h = c .before .before .before .before .before .before .before .before .before .before .before .before .before .before .before .before .before .before .before .before .before .before .before .pre .1 in
-    branch-placeable (h .0) (h .1) (c .before .before .before .before .before .before .before .before .before .before .before .before .before .before .before .before .before .before .if1 .left) (c .before .before .before .before .before .before .before .before .before .before .before .before .before .visit .ensures) (c .before .before .before .before .before .before .visit2 .ensures)
+    let start-on = c .before .before .before .before .before .before .before .before .before .before .before .before .before .before .before .before in
+    let start = start-on .before .before .before .before .before .before .before in
+    let h = start .pre .1 in
+    let low = c .before .before .before .before .before .before in
+    let high = low .before .before .before .before .before .before .before in
+    let tested = high .before .before .before .before .before in
+    branch-placeable (h .0) (h .1) (tested .if1 .left) (high .visit .ensures) (low .visit2 .ensures)
 
 number-returns-2 : (t : ℕ) → number-lts.Need-returns-2 (place-reads.Asked, place-reads.Learnt, visit-below t, visit.Post) (number-at t) number.Post
 number-returns-2 t c =
-    let h = c .before .before .before .before .before .before .before .before .before .before .before .before .before .before .before .before .before .before .before .before .before .before .before .before .before .before .before .before .pre .1 in
-    number-branch (h .0) (h .1) (c .before .before .before .before .before .before .before .before .before .before .before .before .before .before .before .before .before .before .before .before .before .before .before .if1 .left) (c .before .before .before .before .before .before .before .before .before .before .before .before .before .before .before .before .before .before .visit .ensures) (c .before .before .before .before .before .before .before .before .before .before .before .visit2 .ensures) (c .before .before .before .before .place2 .ensures)
+    let start-on = c .before .before .before .before .before .before .before .before .before .before .before .before .before .before .before .before in
+    let start = start-on .before .before .before .before .before .before .before .before .before .before .before .before in
+    let h = start .pre .1 in
+    let place-at = c .before .before .before .before in
+    let low = place-at .before .before .before .before .before .before .before in
+    let high = low .before .before .before .before .before .before .before in
+    let tested = high .before .before .before .before .before in
+    number-branch (h .0) (h .1) (tested .if1 .left) (high .visit .ensures) (low .visit2 .ensures) (place-at .place2 .ensures)
 
 visit-returns : (t : ℕ) → visit-lts.Need-returns (wide-reads.Asked, wide-reads.Learnt, number-below t, number.Post) (visit-at t) visit.Post
 visit-returns t c = search number-old
@@ -72,6 +83,9 @@ visit-number-requires t c κs =
 pub +number+visit-spec : {M : Type 1} → statement M
 +number+visit-spec =
     close μ-number μ-visit
-    (λ t. number-lts.spec (place-reads.Asked, place-reads.Learnt, visit-below t, visit.Post) (number-at t) number.Post (λ c. search needs) (λ c. search needs) (λ c. search needs) (number-place-requires t) (λ c. search needs) (λ c. search needs) (number-returns t) (λ c. search needs) (λ c. search needs) (λ c. search needs) (λ c. search needs) (λ c. search needs) (λ c. search needs) (λ c. search needs) (λ c. search needs) (number-visit-requires t) (number-visit-requires-2 t) (number-place-requires-2 t) (λ c. search needs) (λ c. search needs) (number-returns-2 t))
+    (λ t. number-lts.spec (place-reads.Asked, place-reads.Learnt, visit-below t, visit.Post) (number-at t) number.Post (λ c. search needs)
+    (λ c. search needs) (λ c. search needs) (number-place-requires t) (λ c. search needs) (λ c. search needs) (number-returns t) (λ c. search needs)
+    (λ c. search needs) (λ c. search needs) (λ c. search needs) (λ c. search needs) (λ c. search needs) (λ c. search needs) (λ c. search needs)
+    (number-visit-requires t) (number-visit-requires-2 t) (number-place-requires-2 t) (λ c. search needs) (λ c. search needs) (number-returns-2 t))
     λ t. visit-lts.spec (wide-reads.Asked, wide-reads.Learnt, number-below t, number.Post) (visit-at t) visit.Post (λ c. search needs)
     (λ c. search needs) (λ c κs. search needs) (visit-returns t) (visit-number-requires t) (λ c. search needs) (λ c. search needs) (λ c. search needs)

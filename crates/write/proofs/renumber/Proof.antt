@@ -30,4 +30,6 @@ returns-2 c = search renumber-branch
 pub renumber-spec : {M : Type 1} → statement M
 renumber-spec =
     tie.close
-    (tie.spec (λ c. search needs) (λ c. search needs) (λ c. search needs) (λ c. search needs) (λ c. search needs) (λ c. search needs) (λ c. search needs) returns (λ c. search needs) (λ c. search needs) (λ c. search needs) (λ c. search needs) mul-wide shared-slice-read-wide (λ c κs. search needs) mul-wide-2 shared-slice-read-wide-2 (λ c κs. search needs) sub-t10 sub-t9 returns-2)
+    (tie.spec (λ c. search needs) (λ c. search needs) (λ c. search needs) (λ c. search needs) (λ c. search needs) (λ c. search needs)
+    (λ c. search needs) returns (λ c. search needs) (λ c. search needs) (λ c. search needs) (λ c. search needs) mul-wide shared-slice-read-wide
+    (λ c κs. search needs) mul-wide-2 shared-slice-read-wide-2 (λ c κs. search needs) sub-t10 sub-t9 returns-2)

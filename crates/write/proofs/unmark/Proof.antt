@@ -30,4 +30,5 @@ returns c = search unmark-end
 pub unmark-spec : {M : Type 1} → statement M
 unmark-spec =
     tie.close
-    (tie.spec Inv-loop μ-loop loop-holds (λ c. search needs) (λ c. search needs) (λ c κs. search needs) mul-marks slice-write-marks (λ c. search needs) (λ c. search needs) loop-again (λ c. search needs) returns)
+    (tie.spec Inv-loop μ-loop loop-holds (λ c. search needs) (λ c. search needs) (λ c κs. search needs) mul-marks slice-write-marks
+    (λ c. search needs) (λ c. search needs) loop-again (λ c. search needs) returns)

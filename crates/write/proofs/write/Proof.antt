@@ -18,4 +18,5 @@ returns-2 c = search write-rows
 pub write-spec : {M : Type 1} → statement M
 write-spec =
     tie.close
-    (tie.spec number-requires (λ c κs. search needs) (λ c. search needs) (λ c. search needs) returns emit-requires (λ c κs. search needs) (λ c. search needs) (λ c. search needs) (λ c. search needs) returns-2)
+    (tie.spec number-requires (λ c κs. search needs) (λ c. search needs) (λ c. search needs) returns emit-requires (λ c κs. search needs)
+    (λ c. search needs) (λ c. search needs) (λ c. search needs) returns-2)
