@@ -167,7 +167,8 @@ module _ {ar : List ℕ} {d : Diagram} {p : ℕ} {out : List ℕ} {q : Combined}
           let y : CombinedDone m n ≡ CombinedRefused NoSpace = sym e ∙ x .answer ∙ ap (λ (b : Bool). cond b (CombinedRefused NoSpace) (CombinedDone (length (rows (closed ar d))) p)) f in
           absurd (let z : _≡_ {A = ℕ} 0 1 = cc in omega arith)
       go false f =
-          let y : CombinedDone m n ≡ CombinedDone (length (rows (closed ar d))) p = sym e ∙ x .answer ∙ ap (λ (b : Bool). cond b (CombinedRefused NoSpace) (CombinedDone (length (rows (closed ar d))) p)) f in
+          let y : CombinedDone m n ≡ CombinedDone (length (rows (closed ar d))) p =
+          sym e ∙ x .answer ∙ ap (λ (b : Bool). cond b (CombinedRefused NoSpace) (CombinedDone (length (rows (closed ar d))) p)) f in
           let k : m ≡ length (rows (closed ar d)) = cc in
           record { answer = rw f (ap Done k); words = rw f (x .words ∙ ap (λ (c : Combined). written c (listing (closed ar d)) out) e) }
 
@@ -181,7 +182,8 @@ module _ {ar : List ℕ} {d : Diagram} {p : ℕ} {out : List ℕ} {q : Combined}
           let k : w ≡ NoSpace = cc in
           record { answer = rw f (ap Refused k); words = rw f (x .words ∙ ap (λ (c : Combined). written c (listing (closed ar d)) out) e) }
       go false f =
-          let y : CombinedRefused w ≡ CombinedDone (length (rows (closed ar d))) p = sym e ∙ x .answer ∙ ap (λ (b : Bool). cond b (CombinedRefused NoSpace) (CombinedDone (length (rows (closed ar d))) p)) f in
+          let y : CombinedRefused w ≡ CombinedDone (length (rows (closed ar d))) p =
+          sym e ∙ x .answer ∙ ap (λ (b : Bool). cond b (CombinedRefused NoSpace) (CombinedDone (length (rows (closed ar d))) p)) f in
           absurd (let z : _≡_ {A = ℕ} 0 1 = cc in omega arith)
 
 -- `build_closed`

@@ -115,7 +115,9 @@ module _ {s : List ℕ} {n : Numbers} {names ar work : List ℕ} (x : Lent Varia
     unfolding namesOf
     weight-known h =
         draws-none (weight-drawn (namesOf names (n .counts)) ar (n .head .words / 3) k (eventsOf (drop at s))
-        ∙ ap (λ (b : Bool). cond b (refused Name) (roomed (leb mostVariants (length (namesOf names (n .counts) .variants))) (n .head .words / 3) (drawn (namesFor (namesOf names (n .counts)) ar None (namesOf names (n .counts) .parameters)) (eventsOf (drop at s)) []))) (among-at names variantsAt (n .counts .variants) k p h))
+        ∙ ap (λ (b : Bool). cond b (refused Name) (roomed (leb mostVariants (length (namesOf names (n .counts) .variants))) (n .head .words / 3)
+        (drawn (namesFor (namesOf names (n .counts)) ar None (namesOf names (n .counts) .parameters)) (eventsOf (drop at s)) [])))
+        (among-at names variantsAt (n .counts .variants) k p h))
 
     pub weight-reads : (vs : List ℕ) {out : List ℕ} {b r : Built} → n .counts .variants ≤ i
         → Draws ar (drawn (tableNames names ar (actionScope n None)) (eventsOf (drop at s)) (keysAt vs 0 0)) b out

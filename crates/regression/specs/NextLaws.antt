@@ -32,7 +32,8 @@ use Rattle.regression.specs.Regression.{argument, Truths, truthOf, regre
 use Rattle.regression.specs.RegressionLaws.{regressed-is}
 use Rattle.regression.specs.Result.{replaced, truthGiven, truthDiagram, regressedDiagram}
 use Rattle.regression.specs.Parameters.{Allowed, Within, Labels, GoodTruth, GoodTruths, WithinTruths}
-use Rattle.regression.specs.ResultLaws.{value-meaning, eval-rebuilt, value-replaced, label-terms, argument-low, argument-high, argument-terms, bit, terms-regressed, good-regressed, label-predicate}
+use Rattle.regression.specs.ResultLaws.{value-meaning, eval-rebuilt, value-replaced, label-terms, argument-low, argument-high}
+use Rattle.regression.specs.ResultLaws.{argument-terms, bit, terms-regressed, good-regressed, label-predicate}
 use Rattle.regression.specs.FreeingLaws.{fixed-constant}
 use Rattle.regression.specs.Next.{inner, factAfter, next, meanings}
 

@@ -28,7 +28,8 @@ use Rattle.regression.specs.Regression.{Truths, regressed}
 use Rattle.regression.specs.Result.{AtMost}
 use Rattle.regression.specs.Parameters.{GoodTruth, GoodTruths}
 use Rattle.regression.specs.NextLaws.{Tells, regressed-tells}
-use Rattle.regression.specs.RegressCall.{truthCount, truthWords, truthsOf, areListings, leafAbove, anyOccurs, unboundVariable, checkTruth, checkTruths, regressOutcome, regressAnswer, regressResult}
+use Rattle.regression.specs.RegressCall.{truthCount, truthWords, truthsOf, areListings, leafAbove, anyOccurs}
+use Rattle.regression.specs.RegressCall.{unboundVariable, checkTruth, checkTruths, regressOutcome, regressAnswer, regressResult}
 
 -- the laws of `truthsOf`, `areListings`, `leafAbove`, `anyOccurs` and `checkTruths`: nothing else unfolds them
 pub truths-none : (truths spans : List ℕ) (p : ℕ) → truthCount spans p ≡ 0 → truthsOf truths spans p ≡ none

@@ -41,7 +41,8 @@ use Rattle.regression.specs.Result.{AtMost}
 use Rattle.row_steps.specs.declared.Stepped.{Stepped}
 use Rattle.row_steps.specs.declared.Stepped.the-variants.{Row, Refused}
 use Rattle.row_steps.specs.Running.{Ready, Two, Three, Gave, Ran, Noted, Exchangeable, Exchanged, Testable}
-use Rattle.row_steps.specs.RunLaws.{row-label, row-leaf, row-kids, row-branch, there-mem, in-room, formed-gave, formed-space, full-ran, ran-bind, ran-stop, gave-old, leaf-onto, row-known, full-known, one-most, ran-cast, ran-answer}
+use Rattle.row_steps.specs.RunLaws.{row-label, row-leaf, row-kids, row-branch, there-mem, in-room, formed-gave, formed-space, full-ran}
+use Rattle.row_steps.specs.RunLaws.{ran-bind, ran-stop, gave-old, leaf-onto, row-known, full-known, one-most, ran-cast, ran-answer}
 
 -- what forming a row leaves of the rows before
 pub record Grew (s₀ : List ℕ) (count : ℕ) (d : Diagram) (i n : ℕ) (s : List ℕ) : Type 0 where

@@ -25,8 +25,10 @@ use Rattle.session.specs.Declaring.{constantLine, predicateLine, totalLine, dis
 use Rattle.session.specs.Facts.{objectsLine, isLine, trueLine}
 use Rattle.session.specs.Modelling.{rewardLine, variantLine, becomesLine}
 use Rattle.session.specs.Running.{startLine, valueRead, backupLine, cutSays}
-use Rattle.session.specs.Replies.{Reply, silent, quietly, valueSays, backupSays, allowed, withNames, withLive, withVocabulary, withTotal, withDiscount, withAction, done, placed, replyTo, wordsOf, reply}
-use Rattle.session.specs.Texts.{lineFeed, Lines, behindByte, linesOf, hasBytes, Progress, replyBytes, replied, afterLine, afterLines, afterRest, closing, beginning, textRead, textAnswers}
+use Rattle.session.specs.Replies.{Reply, silent, quietly, valueSays, backupSays, allowed, withNames, withLive, withVocabulary}
+use Rattle.session.specs.Replies.{withTotal, withDiscount, withAction, done, placed, replyTo, wordsOf, reply}
+use Rattle.session.specs.Texts.{lineFeed, Lines, behindByte, linesOf, hasBytes, Progress, replyBytes, replied}
+use Rattle.session.specs.Texts.{afterLine, afterLines, afterRest, closing, beginning, textRead, textAnswers}
 use Rattle.session_laws.specs.CaseLaws.{vocabularyOf}
 use Rattle.session_laws.specs.TextReplies.{replies, repliesBytes, restBytes, unspaced, squeezed, numbersFrom, under, replyUnder, renumbered}
 use Rattle.session_laws.specs.FoldLaws.{text-bytes}

@@ -25,7 +25,8 @@ use Rattle.session.specs.Declaring.{Vocabulary, constantLine, predicateLine, to
 use Rattle.session.specs.Facts.{objectsLine, isLine, trueLine}
 use Rattle.session.specs.Modelling.{rewardLine, variantLine, becomesLine}
 use Rattle.session.specs.Running.{withHeld, startLine, valueRead, backupLine, cutLine, cutTo, cutSays}
-use Rattle.session.specs.Replies.{Reply, refusal, silent, quietly, valueSays, backupSays, allowed, withNames, withLive, withVocabulary, withTotal, withDiscount, withAction, done, placed, replyTo, wordsOf, reply}
+use Rattle.session.specs.Replies.{Reply, refusal, silent, quietly, valueSays, backupSays, allowed, withNames, withLive}
+use Rattle.session.specs.Replies.{withVocabulary, withTotal, withDiscount, withAction, done, placed, replyTo, wordsOf, reply}
 
 abbrev pub vocabularyOf : Session → Vocabulary
 vocabularyOf σ = record { names = σ .names; arities = σ .model .arities }

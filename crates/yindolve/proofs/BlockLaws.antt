@@ -47,7 +47,8 @@ some-ends long place p w out = record {
 module _ {block : List ℕ} {place : ℕ} {t : Stream} {p : Position} {w : Memory} {out : List ℕ} {r : Fed} {partial′ : List ℕ} {w′ : Memory} {out′ : List ℕ}
     (x : Feeds block place t p w out r partial′ w′ out′) where
   -- a line was answered and written
-  pub some-line : t .progress .lines ≡ p .lines → (next : ℕ) (q : Position) → r ≡ F.Line next q → WentOn (length block) place p (On next 0 (record { numbers = q .numbers; lines = q .lines; met = q .met; end = 0 })) w′ out′
+  pub some-line : t .progress .lines ≡ p .lines → (next : ℕ) (q : Position) → r ≡ F.Line next q
+      → WentOn (length block) place p (On next 0 (record { numbers = q .numbers; lines = q .lines; met = q .met; end = 0 })) w′ out′
   some-line i next q e =
       let l = x .line next q e in
       went-on (l .later) (l .inside) (record { few = omega arith; going = record { kept = l .going .kept; within = omega arith }; lines = omega (arith, fed-lines l) })

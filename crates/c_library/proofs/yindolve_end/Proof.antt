@@ -42,4 +42,5 @@ returns-3 c =
 pub yindolve-end-spec : {M : Type 1} → statement M
 yindolve-end-spec =
     tie.close
-    (tie.spec (λ c κs. search needs) (λ c κs. search needs) returns load-requires met-of-requires end-requires (λ c. search needs) (λ c. search needs) (λ c κs. search needs) (λ c. search needs) returns-2 (λ c. search needs) returns-3)
+    (tie.spec (λ c κs. search needs) (λ c κs. search needs) returns load-requires met-of-requires end-requires
+    (λ c. search needs) (λ c. search needs) (λ c κs. search needs) (λ c. search needs) returns-2 (λ c. search needs) returns-3)

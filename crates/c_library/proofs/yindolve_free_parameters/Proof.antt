@@ -7,7 +7,9 @@ returns : tie.Need-returns
 returns c = freed-done _ (c .before .before .before .before .before .free .ensures .0) (c .before .before .before .before .before .free .ensures .1) (c .before .answer .given .1)
 
 returns-2 : tie.Need-returns-2
-returns-2 c = freed-refused _ (c .before .before .before .before .before .before .free .ensures .0) (c .before .before .before .before .before .before .free .ensures .1) (c .before .before .answer2 .given .1) (c .number .ensures)
+returns-2 c =
+    freed-refused _ (c .before .before .before .before .before .before .free .ensures .0) (c .before .before .before .before .before .before .free .ensures .1)
+    (c .before .before .answer2 .given .1) (c .number .ensures)
 
 pub yindolve-free-parameters-spec : {M : Type 1} → statement M
 yindolve-free-parameters-spec =

@@ -36,4 +36,9 @@ returns-10 c = search good-branch
 pub is-valid-row-spec : {M : Type 1} → statement M
 is-valid-row-spec =
     tie.close
-    (tie.spec (λ c. search needs) (λ c. search needs) (λ c. search needs) (λ c. search needs) (λ c. search needs) (λ c. search needs) (λ c. search needs) returns (λ c. search needs) (λ c. search needs) (λ c. search needs) (λ c. search needs) returns-2 returns-3 (λ c κs. search needs) returns-4 (λ c. search needs) (λ c. search needs) (λ c. search needs) (λ c. search needs) (λ c. search needs) (λ c. search needs) (λ c. search needs) (λ c. search needs) returns-5 returns-6 returns-7 (λ c. search needs) (λ c. search needs) (λ c. search needs) (λ c κs. search needs) returns-8 (λ c. search needs) (λ c. search needs) (λ c. search needs) (λ c κs. search needs) returns-9 returns-10)
+    (tie.spec (λ c. search needs) (λ c. search needs) (λ c. search needs) (λ c. search needs) (λ c. search needs) (λ c. search needs)
+    (λ c. search needs) returns (λ c. search needs) (λ c. search needs) (λ c. search needs) (λ c. search needs) returns-2 returns-3
+    (λ c κs. search needs) returns-4 (λ c. search needs) (λ c. search needs) (λ c. search needs) (λ c. search needs) (λ c. search needs)
+    (λ c. search needs) (λ c. search needs) (λ c. search needs) returns-5 returns-6 returns-7 (λ c. search needs) (λ c. search needs)
+    (λ c. search needs) (λ c κs. search needs) returns-8 (λ c. search needs) (λ c. search needs) (λ c. search needs) (λ c κs. search needs) returns-9
+    returns-10)
