@@ -11,6 +11,7 @@ if [ -z "$folder" ]; then
     folder=$(mktemp -d)
     trap 'rm -rf "$folder"' EXIT
 fi
+mkdir -p "$folder"
 cd "$folder"
 
 # random BOUND: the next number below BOUND, to $drawn.
