@@ -7,8 +7,6 @@ use cutting::Edge;
 use label::Label;
 use libc::STDIN_FILENO;
 use libc::STDOUT_FILENO;
-use model::Head;
-use planner::Held;
 use refusal::Refusal;
 use regression::Freed;
 use regression::Regressed;
@@ -32,8 +30,6 @@ const LEAF: u64 = 398374;
 const MOST: u64 = 441972;
 
 const APART: u64 = 1574484;
-
-const BACKUP: u64 = 2;
 
 // Numbers that stay in a word when they are added, and when they are multiplied by 32 or 64.
 const ADDED: u64 = 9000000000000000000;
@@ -308,19 +304,6 @@ fn tell_value(answer: Valued) -> usize {
     }
 }
 
-fn tell_held(held: Held) -> usize {
-    let rows = held.rows;
-    say(b"  rows ", rows as u64);
-    say(b", k ", held.steps);
-    say(b", power ", held.power);
-    rows
-}
-
-fn no_model() -> usize {
-    io::write_all(STDOUT_FILENO, b"  no model");
-    0
-}
-
 // Calls.
 
 fn operation(kind: u8) -> Operation {
@@ -346,85 +329,6 @@ fn combine(desk: &[u64], kind: u8, arities: &[u64], out: &mut [u64], work: &mut 
     let x = register(desk, argument(desk, kind, 1));
     let y = register(desk, argument(desk, kind, 2));
     tell_combined(combination::combine(op, how, arities, x, y, out, work))
-}
-
-fn head(words: &[u64]) -> Head {
-    Head {
-        total: word_at(words, 0),
-        numerator: word_at(words, 1),
-        denominator: word_at(words, 2),
-        reward_start: word_at(words, 3) as usize,
-        reward_words: word_at(words, 4) as usize,
-        actions: word_at(words, 5) as usize,
-        words: word_at(words, 6) as usize,
-    }
-}
-
-// A run on the model of the listings x, the table y and the head z.
-fn run_calls(
-    arities: &[u64],
-    x: &[u64],
-    y: &[u64],
-    z: &[u64],
-    calls: &[u8],
-    out: &mut [u64],
-    work: &mut [u64],
-) -> usize {
-    let h = head(z);
-    if out.len() < diagram::RESULT_WORDS {
-        return 0;
-    }
-    if work.len() < diagram::SPACE_WORDS {
-        return 0;
-    }
-    if !model::check(arities, x, y, h) {
-        return no_model();
-    }
-    tell_held(planner::run(arities, x, y, h, calls, out, work))
-}
-
-fn call_of(word: u64) -> u8 {
-    if word == BACKUP {
-        return 0;
-    }
-    1
-}
-
-fn put_byte(bytes: &mut [u8], i: usize, byte: u8) {
-    if i < bytes.len() {
-        bytes[i] = byte;
-    }
-}
-
-fn put_calls(words: &[u64], calls: &mut [u8]) {
-    let mut i = 0;
-    while i < words.len() {
-        put_byte(calls, i, call_of(words[i]));
-        i += 1;
-    }
-}
-
-// The first n bytes, or all.
-fn begin(bytes: &[u8], n: usize) -> &[u8] {
-    if n < bytes.len() {
-        return &bytes[..n];
-    }
-    bytes
-}
-
-fn iterate(
-    desk: &[u64],
-    arities: &[u64],
-    x: &[u64],
-    y: &[u64],
-    z: &[u64],
-    out: &mut [u64],
-    work: &mut [u64],
-) -> usize {
-    let mut calls = [0u8; 32];
-    let words = register(desk, b'i' as u64);
-    put_calls(words, &mut calls);
-    run_calls(arities, x, y, z, begin(&calls, words.len()), out, work)
 }
 
 fn value(desk: &[u64], arities: &[u64], x: &[u64], y: &[u64], z: &[u64]) -> usize {
@@ -453,9 +357,6 @@ fn call(
     }
     if kind == b'c' {
         return tell_cut(cut::cut(arities, x, out, work));
-    }
-    if kind == b'i' {
-        return iterate(desk, arities, x, y, z, out, work);
     }
     combine(desk, kind, arities, out, work)
 }

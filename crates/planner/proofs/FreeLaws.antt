@@ -55,38 +55,23 @@ module _ {ar words : List ℕ} {c : ℕ} {out : List ℕ} (t : FreeUp ar words c
         subst (λ (z : Outcome Diagram). Result ar z n out′) (sym p)
         (subst (Result ar (ok d) n) (sym u) (listing-result ar d (drop (length (listing d)) out) n (good .given d p) l)))
 
-    module _ {s : Step} (told : s ≡ freedStep r) where
-      rows-known : {n : ℕ} → s ≡ Rows n → r ≡ FreedDone n
-      rows-known {n} e = go r refl (sym told ∙ e)
-        where
-          go : (x : Freed) → r ≡ x → freedStep r ≡ Rows n → r ≡ FreedDone n
-          go (FreedDone m) k q = let z : Rows m ≡ Rows n = ap freedStep (sym k) ∙ q in let y : m ≡ n = cc in k ∙ ap FreedDone y
-          go (NotFreed x) k q = let z : Refused x ≡ Rows n = ap freedStep (sym k) ∙ q in let y : _≡_ {A = ℕ} 0 1 = cc in absurd (omega arith)
+    pub freed-closable : {n : ℕ} → r ≡ FreedDone n → Closable ar out′ n
+    freed-closable {n} e = let x = freed-result e in record { valid = listing-is-valid ar (take (n * 3) out′) (x .listing); room = x .room }
 
-      refusal-known : {x : Refusal} → s ≡ Refused x → r ≡ NotFreed x
-      refusal-known {x} e = go r refl (sym told ∙ e)
-        where
-          go : (y : Freed) → r ≡ y → freedStep r ≡ Refused x → r ≡ NotFreed x
-          go (FreedDone m) k q = let z : Rows m ≡ Refused x = ap freedStep (sym k) ∙ q in let y : _≡_ {A = ℕ} 0 1 = cc in absurd (omega arith)
-          go (NotFreed y) k q = let z : Refused y ≡ Refused x = ap freedStep (sym k) ∙ q in let w : y ≡ x = cc in k ∙ ap NotFreed w
+    pub freed-given : {n : ℕ} → r ≡ FreedDone n → {out″ : List ℕ} → out″ ≡ listing (closed ar (listedIn out′ n)) ++ drop (n * 3) out′
+        → Given ar (freedUp ar c (diagramOf words)) (Rows n) out″
+    unfolding freedUp
+    freed-given {n} e {out″} q =
+        let x = freed-result e in
+        let d = listedIn out′ n in
+        let g : Good ar d = is-listing-good ar (take (n * 3) out′) (x .listing) in
+        let l : length (rows (closed ar d)) ≡ n = closed-count ar d (g .arities) (g .fine) ∙ result-count x in
+        given-ok (ap (λ (z : Outcome Diagram). andThen z (λ f. ok (closed ar f))) (x .is))
+        (subst (Result ar (ok (closed ar d)) n) (sym q) (listing-result ar (closed ar d) (drop (n * 3) out′) n (closed-good ar d g) l)) l
 
-      pub freed-closable : {n : ℕ} → s ≡ Rows n → Closable ar out′ n
-      freed-closable {n} e = let x = freed-result (rows-known e) in record { valid = listing-is-valid ar (take (n * 3) out′) (x .listing); room = x .room }
-
-      pub freed-given : {n : ℕ} → s ≡ Rows n → {out″ : List ℕ} → out″ ≡ listing (closed ar (listedIn out′ n)) ++ drop (n * 3) out′
-          → Given ar (freedUp ar c (diagramOf words)) (Rows n) out″
-      unfolding freedUp
-      freed-given {n} e {out″} q =
-          let x = freed-result (rows-known e) in
-          let d = listedIn out′ n in
-          let g : Good ar d = is-listing-good ar (take (n * 3) out′) (x .listing) in
-          let l : length (rows (closed ar d)) ≡ n = closed-count ar d (g .arities) (g .fine) ∙ result-count x in
-          given-ok (ap (λ (z : Outcome Diagram). andThen z (λ f. ok (closed ar f))) (x .is))
-          (subst (Result ar (ok (closed ar d)) n) (sym q) (listing-result ar (closed ar d) (drop (n * 3) out′) n (closed-good ar d g) l)) l
-
-      pub freed-stops : {e : Refusal} → s ≡ Refused e → {out″ : List ℕ} → Given ar (freedUp ar c (diagramOf words)) s out″
-      unfolding freedUp
-      freed-stops {e} h {out″} =
-          let k : freedOutcome ar c (diagramOf words) ≡ refused e = sym own-is ∙ freed-refused (freeOwn ar words c) e (sym (w .answer) ∙ refusal-known h) in
-          subst (λ (x : Step). Given ar (andThen (freedOutcome ar c (diagramOf words)) (λ f. ok (closed ar f))) x out″) (sym h)
-          (given-refused (ap (λ (z : Outcome Diagram). andThen z (λ f. ok (closed ar f))) k))
+    pub freed-stops : {e : Refusal} → r ≡ NotFreed e → {s : Step} → s ≡ freedStep r → {out″ : List ℕ} → Given ar (freedUp ar c (diagramOf words)) s out″
+    unfolding freedUp
+    freed-stops {e} h {s} told {out″} =
+        let k : freedOutcome ar c (diagramOf words) ≡ refused e = sym own-is ∙ freed-refused (freeOwn ar words c) e (sym (w .answer) ∙ h) in
+        subst (λ (x : Step). Given ar (andThen (freedOutcome ar c (diagramOf words)) (λ f. ok (closed ar f))) x out″) (sym (told ∙ ap freedStep h))
+        (given-refused (ap (λ (z : Outcome Diagram). andThen z (λ f. ok (closed ar f))) k))

@@ -1,15 +1,15 @@
--- Laws of the calls of a run.
+-- Laws of what is held: behind a backup, behind a cut, and where a run begins.
 use mathlib.Core.Path.{_≡_, refl, sym, ap, subst, _∙_}
 use mathlib.Core.Bool.{Bool, true, false, cond}
-use mathlib.Core.List.{List, [], _∷_, _++_}
-use Prim.Native.Nat.{ℕ, suc, _+_, _*_, _/_, _^_, _≤_, _<_}
+use mathlib.Core.List.{List, _++_}
+use Prim.Native.Nat.{ℕ, suc, _+_, _*_, _/_, _^_, _≤_}
 use native.Mathlib.Omega.{arith}
 use native.Mathlib.Nat.{pow-zero}
 use native.Mathlib.Numerals.{add-one}
-use lib.ListN.{length, getD, take, drop, replicate, length-replicate, length-drop, length-append}
-use lib.Seq.{take-at, take-all, take-suc, length-take-le}
+use lib.ListN.{length, take, drop, replicate, length-replicate, length-drop, length-append}
+use lib.Seq.{take-at, take-all, length-take-le}
 use lib.Dec.{ltb}
-use borrow.Author.Tests.{ne-eqb, ltb-false}
+use borrow.Author.Tests.{ltb-false}
 use Rattle.refusal.specs.declared.Refusal.{Refusal}
 use Rattle.refusal.specs.declared.Refusal.the-variants.{Paths}
 use Rattle.refusal.specs.Outcome.{Outcome, ok, refused, Accepted}
@@ -23,9 +23,7 @@ use Rattle.diagram.specs.Listing.{listing, diagramOf, Good}
 use Rattle.diagram.specs.ListingValid.{listing-is-valid}
 use Rattle.diagram.specs.Listings.{is-listing-good}
 use Rattle.rename.specs.ClosingLaws.{closed-good}
-use Rattle.state.specs.State.{meaning}
 use Rattle.regression.specs.RegressCall.{writtenAs}
-use Rattle.regression.specs.Parameters.{Within}
 use Rattle.cutting.specs.declared.Edge.{Edge}
 use Rattle.cutting.specs.declared.Cut.{Cut}
 use Rattle.cutting.specs.declared.Cut.the-variants.{Done as CutDone, Refused as NotCut}
@@ -35,9 +33,8 @@ use Rattle.cutting.specs.ReduceLaws.{cut-good}
 use Rattle.cut.specs.Calls.{Cuttable}
 use Rattle.mdp.specs.Model.{Model, scale}
 use Rattle.mdp.specs.Backup.{backup}
-use Rattle.mdp.specs.Runs.{Call, aBackup, aCut, Held as Value, leaves, cutOutcome, taken, call, runFrom, begin, run}
-use Rattle.mdp.specs.StepLaws.{cut-done, cut-refused, call-backup, call-cut, run-none, run-next, run-range}
-use Rattle.mdp.specs.RunLaws.{run-right}
+use Rattle.mdp.specs.Runs.{aBackup, Held as Value, leaves, cutOutcome, taken, call, begin, run}
+use Rattle.mdp.specs.StepLaws.{cut-done, cut-refused, call-backup}
 use Rattle.model.specs.declared.Head.{Head}
 use Rattle.model.specs.Layout.{rewardWords, modelOf, Laid}
 use Rattle.steps.specs.declared.Step.the-variants.{Rows}
@@ -47,7 +44,7 @@ use Rattle.planner.specs.declared.Held.{Held}
 use Rattle.steps.specs.Steps.{stepAs, Result, Wrote}
 use Rattle.planner.specs.Backed.{Powered, backedAs, BackedUp}
 use Rattle.planner.specs.Tasks.{Standing}
-use Rattle.planner.specs.Run.{callOf, callsOf, heldIn, Holds, Room, Callable, CutTask, CutTo, Takeable, Taken}
+use Rattle.planner.specs.Run.{heldIn, Holds, Room, Callable, CutTask, CutTo, Takeable, Taken}
 use Rattle.steps.specs.GivenLaws.{listing-result, wrote-given, result-few, fold-there, fold-given}
 
 -- two held values are equal by their parts
@@ -89,17 +86,6 @@ module _ {ar : List ℕ} {m : Model} {h : Held} {value : List ℕ} (c : Callable
         room = x .room;
         is = same-held (sym y) (add-one (h .steps)) ∙ sym (call-backup m (heldIn h value) ∙ ap (λ (o : Outcome Diagram). taken (heldIn h value) o (suc (h .steps))) q);
         power = sym s ∙ ap (λ (k : ℕ). scale m ^ k) (sym (add-one (h .steps)));
-      })
-
-  pub backup-stays : {x : Refusal} → r ≡ NotBacked x → Holds ar m (call m aBackup (heldIn h value)) h value′
-  backup-stays {x} e =
-      let q : backup m (h .steps) D ≡ refused x = stopped (backup m (h .steps) D) x (sym (b .answer) ∙ e) in
-      let u : value′ ≡ value = b .words ∙ ap (λ (o : Outcome Diagram). writtenAs o value) q in
-      subst (Holds ar m (call m aBackup (heldIn h value)) h) (sym u) (record {
-        listing = c .listing;
-        room = c .room;
-        is = sym (call-backup m (heldIn h value) ∙ ap (λ (o : Outcome Diagram). taken (heldIn h value) o (suc (h .steps))) q);
-        power = c .power;
       })
 
 -- ===== A cut =====
@@ -180,27 +166,6 @@ module _ {ar : List ℕ} {h : Held} {value work : List ℕ} (t : CutTask ar h va
             power = refl;
           }
 
--- ===== A call =====
-
-pub called-backup : {ar : List ℕ} {m : Model} (v : Value) {h : Held} {value : List ℕ} (x : ℕ) → x ≡ 0 → Holds ar m (call m aBackup v) h value → Holds ar m (call m (callOf x) v) h value
-called-backup {ar} {m} v {h} {value} x e c = subst (λ (y : ℕ). Holds ar m (call m (callOf y) v) h value) (sym e) c
-
-call-is : (x : ℕ) → (x ≡ 0 → ⊥) → callOf x ≡ aCut
-call-is x e = rw (ne-eqb x 0 e)
-
-pub called-cut : {ar listings table : List ℕ} {n : Head} → Laid ar listings table n → {h : Held} {value : List ℕ}
-    → Callable ar (modelOf ar listings table n) h value → (x : ℕ) → (x ≡ 0 → ⊥) → {h′ : Held} {value′ : List ℕ}
-    → CutTo ar h value h′ value′ → Holds ar (modelOf ar listings table n) (call (modelOf ar listings table n) (callOf x) (heldIn h value)) h′ value′
-unfolding modelOf
-called-cut {ar} {listings} {table} {n} l {h} {value} c x e {h′} {value′} t =
-    let m = modelOf ar listings table n in
-    subst (λ (y : Call). Holds ar m (call m y (heldIn h value)) h′ value′) (sym (call-is x e)) (record {
-      listing = t .listing;
-      room = t .room;
-      is = t .is ∙ sym (call-cut m (heldIn h value));
-      power = t .power ∙ c .power ∙ ap (λ (k : ℕ). scale m ^ k) (sym (t .steps));
-    })
-
 -- ===== The reward =====
 
 part-long : (s : List ℕ) (i n : ℕ) → i + n ≤ length s → length (take n (drop i s)) ≡ n
@@ -227,75 +192,13 @@ laid-takeable {ar} {listings} {table} {h} t r =
     let l = part-long listings (h .«reward_start») (h .«reward_words») (t .inside) in
     record { inside = t .inside; whole = subst (λ (n : ℕ). n / 3 * 3 ≡ n) l (sym (v .whole)); room = omega (arith, v .whole, v .few, l, r .value-room) }
 
--- ===== A run =====
-
--- i calls of the list are made
-pub record Running (ar : List ℕ) (m : Model) (calls : List ℕ) (h : Held) (value : List ℕ) (i : ℕ) : Type 0 where
-  pub within : i ≤ length calls
-  pub holds : Holds ar m (run m (callsOf (take i calls))) h value
-
-from-last : (m : Model) (l : List Call) (c : Call) (v : Value) → runFrom m (l ++ (c ∷ [])) v ≡ call m c (runFrom m l v)
-from-last m [] c v = run-next m c [] v ∙ run-none m (call m c v) ∙ ap (call m c) (sym (run-none m v))
-from-last m (d ∷ l) c v = run-next m d (l ++ (c ∷ [])) v ∙ from-last m l c (call m d v) ∙ ap (call m c) (sym (run-next m d l v))
-
-run-last : (m : Model) (l : List Call) (c : Call) → run m (l ++ (c ∷ [])) ≡ call m c (run m l)
-unfolding run
-run-last m l c = from-last m l c (begin m)
-
-calls-last : (xs : List ℕ) (x : ℕ) → callsOf (xs ++ (x ∷ [])) ≡ callsOf xs ++ (callOf x ∷ [])
-unfolding callsOf
-calls-last [] x = refl
-calls-last (y ∷ xs) x = ap (λ (l : List Call). callOf y ∷ l) (calls-last xs x)
-
-pub running-start : {ar listings table : List ℕ} {n : Head} → Laid ar listings table n → {k : ℕ} {value : List ℕ} → Taken listings n k value → (calls : List ℕ)
-    → Running ar (modelOf ar listings table n) calls (record { rows = k; steps = 0; power = 1 }) value 0
-unfolding modelOf run runFrom begin callsOf
-running-start {ar} {listings} {table} {n} t {k} {value} w calls = record {
-  within = omega arith;
-  holds = record {
-    listing = ap (isListing ar) (w .words) ∙ t .reward;
-    room = w .room;
-    is = same-held (ap diagramOf (w .words)) refl;
-    power = sym (pow-zero (scale (modelOf ar listings table n)));
-  };
+-- the reward taken is what a run begins with
+pub reward-holds : {ar listings table : List ℕ} {n : Head} → Laid ar listings table n → {k : ℕ} {value : List ℕ} → Taken listings n k value
+    → Holds ar (modelOf ar listings table n) (begin (modelOf ar listings table n)) (record { rows = k; steps = 0; power = 1 }) value
+unfolding modelOf begin
+reward-holds {ar} {listings} {table} {n} t {k} {value} w = record {
+  listing = ap (isListing ar) (w .words) ∙ t .reward;
+  room = w .room;
+  is = same-held (ap diagramOf (w .words)) refl;
+  power = sym (pow-zero (scale (modelOf ar listings table n)));
 }
-
-module _ {ar listings table : List ℕ} {n : Head} (t : Laid ar listings table n) {calls : List ℕ} {h : Held} {value : List ℕ} {i : ℕ}
-    (x : Running ar (modelOf ar listings table n) calls h value i) where
-  abbrev M : Model
-  M = modelOf ar listings table n
-
-  abbrev L : List Call
-  L = callsOf (take i calls)
-
-  right-within : Within 0 (meaning ar (run M L .diagram))
-  unfolding modelOf
-  right-within = run-right M (t .good) L .within
-
-  pub running-callable : Callable ar M h value
-  running-callable =
-      let y = x .holds in
-      let s : h .steps ≡ run M L .steps = ap (λ (v : Value). v .steps) (y .is) in
-      let d : diagramOf (take (h .rows * 3) value) ≡ run M L .diagram = ap (λ (v : Value). v .diagram) (y .is) in
-      record {
-        listing = y .listing;
-        room = y .room;
-        within = subst (λ (z : Diagram). Within 0 (meaning ar z)) (sym d) right-within;
-        steps = omega (arith, s, run-range M L .steps);
-        power = y .power;
-      }
-
-  pub running-on : i < length calls → {h′ : Held} {value′ : List ℕ} → Holds ar M (call M (callOf (getD calls i 0)) (heldIn h value)) h′ value′ → Running ar M calls h′ value′ (i + 1)
-  running-on l {h′} {value′} y = record {
-    within = omega (arith, l);
-    holds = subst (λ (v : Value). Holds ar M v h′ value′) (
-        ap (call M (callOf (getD calls i 0))) (x .holds .is)
-        ∙ sym (run-last M L (callOf (getD calls i 0)))
-        ∙ ap (run M) (sym (ap (λ (j : ℕ). callsOf (take j calls)) (add-one i) ∙ ap callsOf (take-suc calls i 0 l) ∙ calls-last (take i calls) (getD calls i 0)))) y;
-  }
-
-  pub running-end : length calls ≤ i → Holds ar M (run M (callsOf calls)) h value
-  running-end l = subst (λ (xs : List ℕ). Holds ar M (run M (callsOf xs)) h value) (take-all i calls l) (x .holds)
-
-pub room-next : {value work value′ work′ : List ℕ} → Room value work → length value′ ≡ length value → length work′ ≡ length work → Room value′ work′
-room-next r p q = record { value-room = omega (arith, p, r .value-room); work-room = omega (arith, q, r .work-room) }

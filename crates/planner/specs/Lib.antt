@@ -1,7 +1,6 @@
--- Backups, and runs of backups and cuts, on models in lent words.
+-- Backups on models in lent words, and what a run holds in words.
 pub mod Backed
 pub mod Parts
 pub mod PartLaws
 pub mod Run
-pub mod RunLaws
 pub mod Tasks

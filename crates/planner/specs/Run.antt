@@ -18,14 +18,6 @@ use Rattle.model.specs.declared.Head.{Head}
 use Rattle.model.specs.Layout.{rewardWords}
 use Rattle.planner.specs.declared.Held.{Held}
 
--- 0: a backup; any other number: a cut
-abbrev pub callOf : ℕ → Call
-callOf x = cond (eqb x 0) aBackup aCut
-
-unfoldable pub callsOf : List ℕ → List Call
-callsOf [] = []
-callsOf (x ∷ xs) = callOf x ∷ callsOf xs
-
 -- what the words hold: the value's listing is the first rows of the buffer, and k stands beside it
 abbrev pub heldIn : Held → List ℕ → mdp.Held
 heldIn h value = record { diagram = diagramOf (take (h .rows * 3) value); steps = h .steps }

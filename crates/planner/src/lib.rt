@@ -1,6 +1,5 @@
-// Backups, and runs of backups and cuts, on models in lent words. What they are stands in crate mdp and in specs/.
+// Backups on models in lent words. What they are stands in crate mdp and in specs/.
 use apply::Operation;
-use cutting::Cut;
 use model::Head;
 use refusal::Refusal;
 use regression::Freed;
@@ -17,8 +16,7 @@ ghost use Rattle.apply.specs.declared.Names.the-variants.{Shared};
 ghost use Rattle.regression.specs.Regression.{regressed};
 ghost use Rattle.mdp.specs.Backup.{combined, variantsSum, actionsBest, rowOfCalls};
 ghost use Rattle.model.specs.Layout.{variantAt, actionAt, rewardWords, modelOf, Laid};
-ghost use Rattle.mdp.specs.Runs.{aBackup, call, run};
-ghost use Rattle.planner.specs.Run.{callOf, callsOf, heldIn, Holds, Room, Callable, CutTask, CutTo, Takeable, Taken};
+ghost use Rattle.planner.specs.Run.{Takeable, Taken};
 ghost use Rattle.planner.specs.Parts.{variantProduct, variantAdded, freedUp, actionValue, actionTried};
 ghost use Rattle.planner.specs.Backed.{scaleOf, powerAs, Numbers, Powered, BackedUp, backedStep};
 ghost use Rattle.steps.specs.Steps.{Begins, Given, Wrote};
@@ -53,14 +51,18 @@ fn regress_variant(
     requires { ⌜ VariantTask (now arities) (now listings) (now table) place (now value) (now out) (now work) ⌝ }
     ensures { λ r. ⌜ Given (now (arities .entry)) (regressed (now (arities .entry)) (variantAt (now (listings .entry)) (now (table .entry)) place .truths) (diagramOf (now (value .entry)))) r (now (out .exit)) ⌝ }
 {
-    regressed_step(regress::regress_checked(
+    let r = regress::regress_checked(
         arities,
         value,
         listings,
         &table[place + 2..place + model::VARIANT_WORDS],
         out,
         work,
-    ))
+    );
+    let Regressed::Done(n) = r else {
+        return regressed_step(r);
+    };
+    Step::Rows(n)
 }
 
 // The weight of the variant at a place of the table times leaf G, names shared.
@@ -195,12 +197,12 @@ fn free_up(arities: &[u64], words: &[u64], count: u64, out: &mut [u64]) -> Step
     requires { ⌜ FreeUp (now arities) (now words) count (now out) ⌝ }
     ensures { λ r. ⌜ Given (now (arities .entry)) (freedUp (now (arities .entry)) count (diagramOf (now (words .entry)))) r (now (out .exit)) ⌝ }
 {
-    let r = freed_step(freeing::free_checked(arities, words, count, out));
-    let Step::Rows(n) = r else {
-        return r;
+    let r = freeing::free_checked(arities, words, count, out);
+    let Freed::Done(n) = r else {
+        return freed_step(r);
     };
     apart::close_up(arities, out, n);
-    r
+    Step::Rows(n)
 }
 
 // The sum over the variants of an action, freed and closed up.
@@ -395,7 +397,10 @@ pub fn backup(
         return Backed::Refused(Refusal::Scale);
     };
     let r = replace_value(arities, listings, table, head, scale, value, rows, work);
-    backed_step(r, scale)
+    let Step::Rows(n) = r else {
+        return backed_step(r, scale);
+    };
+    Backed::Done(n, scale)
 }
 
 // What a run holds beside the value's listing: its rows, k and S^k.
@@ -403,78 +408,6 @@ pub struct Held {
     pub rows: usize,
     pub steps: u64,
     pub power: u64,
-}
-
-// A backup of what is held: an accepted one replaces the value and adds 1 to k, a refused one leaves both.
-fn call_backup(
-    arities: &[u64],
-    listings: &[u64],
-    table: &[u64],
-    head: Head,
-    held: Held,
-    value: &mut [u64],
-    work: &mut [u64],
-) -> Held
-    requires { ⌜ Laid (now arities) (now listings) (now table) head ⌝ }
-    requires { ⌜ Callable (now arities) (modelOf (now arities) (now listings) (now table) head) held (now value) ⌝ }
-    requires { ⌜ Room (now value) (now work) ⌝ }
-    ensures { λ h. ⌜ Holds (now (arities .entry)) (modelOf (now (arities .entry)) (now (listings .entry)) (now (table .entry)) head) (call (modelOf (now (arities .entry)) (now (listings .entry)) (now (table .entry)) head) aBackup (heldIn held (now (value .entry)))) h (now (value .exit)) ⌝ }
-{
-    let k = held.steps;
-    let power = held.power;
-    let rows = held.rows;
-    let r = backup(arities, listings, table, head, k, power, value, rows, work);
-    match r {
-        Backed::Done(n, next) => Held {
-            rows: n,
-            steps: k + 1,
-            power: next,
-        },
-        Backed::Refused(_) => held,
-    }
-}
-
-// A cut of what is held: an accepted one replaces the value, a refused one leaves it.
-fn call_cut(arities: &[u64], held: Held, value: &mut [u64], work: &mut [u64]) -> Held
-    requires { ⌜ CutTask (now arities) held (now value) (now work) ⌝ }
-    ensures { λ h. ⌜ CutTo (now (arities .entry)) held (now (value .entry)) h (now (value .exit)) ⌝ }
-{
-    let mut left = [0u64; diagram::RESULT_WORDS];
-    let rows = held.rows;
-    let steps = held.steps;
-    let power = held.power;
-    let r = cut::cut_checked(arities, &value[..rows * 3], &mut left, work);
-    let Cut::Done(_, _, n) = r else {
-        return held;
-    };
-    write::copy(&left, n, value);
-    Held {
-        rows: n,
-        steps: steps,
-        power: power,
-    }
-}
-
-// A call: 0 is a backup, any other number a cut.
-fn call(
-    arities: &[u64],
-    listings: &[u64],
-    table: &[u64],
-    head: Head,
-    what: u8,
-    held: Held,
-    value: &mut [u64],
-    work: &mut [u64],
-) -> Held
-    requires { ⌜ Laid (now arities) (now listings) (now table) head ⌝ }
-    requires { ⌜ Callable (now arities) (modelOf (now arities) (now listings) (now table) head) held (now value) ⌝ }
-    requires { ⌜ Room (now value) (now work) ⌝ }
-    ensures { λ h. ⌜ Holds (now (arities .entry)) (modelOf (now (arities .entry)) (now (listings .entry)) (now (table .entry)) head) (call (modelOf (now (arities .entry)) (now (listings .entry)) (now (table .entry)) head) (callOf what) (heldIn held (now (value .entry)))) h (now (value .exit)) ⌝ }
-{
-    if what == 0 {
-        return call_backup(arities, listings, table, head, held, value, work);
-    }
-    call_cut(arities, held, value, work)
 }
 
 // Writes the reward's listing to the value's buffer; its rows.
@@ -487,49 +420,4 @@ pub fn take_reward(listings: &[u64], head: Head, value: &mut [u64]) -> usize
     let rows = words / 3;
     write::copy(&listings[start..start + words], rows, value);
     rows
-}
-
-// A run of backups and cuts, begun with the model's reward and k = 0: 0 is a backup, any other number a cut. The value's listing is then in its buffer.
-pub fn run(
-    arities: &[u64],
-    listings: &[u64],
-    table: &[u64],
-    head: Head,
-    calls: &[u8],
-    value: &mut [u64],
-    work: &mut [u64],
-) -> Held
-    requires { ⌜ Laid (now arities) (now listings) (now table) head ⌝ }
-    requires { ⌜ Room (now value) (now work) ⌝ }
-    ensures { λ h. ⌜ Holds (now (arities .entry)) (modelOf (now (arities .entry)) (now (listings .entry)) (now (table .entry)) head) (run (modelOf (now (arities .entry)) (now (listings .entry)) (now (table .entry)) head) (callsOf (now (calls .entry)))) h (now (value .exit)) ⌝ }
-{
-    let mut rows = take_reward(listings, head, value);
-    let mut steps = 0;
-    let mut power = 1;
-    let mut i = 0;
-    while i < calls.len() {
-        let held = call(
-            arities,
-            listings,
-            table,
-            head,
-            calls[i],
-            Held {
-                rows: rows,
-                steps: steps,
-                power: power,
-            },
-            value,
-            work,
-        );
-        rows = held.rows;
-        steps = held.steps;
-        power = held.power;
-        i += 1;
-    }
-    Held {
-        rows: rows,
-        steps: steps,
-        power: power,
-    }
 }

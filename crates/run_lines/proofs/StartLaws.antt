@@ -1,13 +1,13 @@
 -- Laws of (start).
 use mathlib.Core.Path.{_≡_, refl, sym, ap, subst, _∙_}
-use mathlib.Core.List.{List, []}
+use mathlib.Core.List.{List}
 use Prim.Native.Nat.{ℕ}
 use native.Mathlib.Omega.{arith}
 use lib.ListN.{length}
 use Rattle.refusal.specs.declared.Refusal.{Refusal}
 use Rattle.refusal.specs.Outcome.{Outcome, ok, refused, andThen}
 use Rattle.mdp.specs.Model.{Model}
-use Rattle.mdp.specs.Runs.{runFrom, begin, run}
+use Rattle.mdp.specs.Runs.{begin}
 use Rattle.answers.specs.declared.Answer.the-variants as A
 use Rattle.text.specs.declared.Kind.the-variants as K
 use Rattle.session.specs.declared.Part.the-variants.{Run}
@@ -17,8 +17,8 @@ use Rattle.session.specs.Running.{withHeld, startLine}
 use Rattle.session.specs.Replies.{Reply, quietly, done}
 use Rattle.model.specs.Layout.{modelOf}
 use Rattle.planner.specs.declared.Held.{Held}
-use Rattle.planner.specs.Run.{callsOf, Holds, Takeable, Taken}
-use Rattle.planner.proofs.HeldLaws.{laid-takeable, running-start}
+use Rattle.planner.specs.Run.{Holds, Takeable, Taken}
+use Rattle.planner.proofs.HeldLaws.{laid-takeable, reward-holds}
 use Rattle.weights.specs.declared.Weighed.{Weighed}
 use Rattle.weights.specs.declared.Weighed.the-variants.{Done, Refused}
 use Rattle.weights.specs.Weighing.{weighedAs, Weighable}
@@ -64,10 +64,6 @@ module _ (σ τ : Session) (number : ℕ) where
 abbrev first : ℕ → Held
 first m = record { rows = m; steps = 0; power = 1 }
 
-run-first : (m : Model) → run m (callsOf []) ≡ begin m
-unfolding run runFrom callsOf
-run-first m = refl
-
 module _ {s : List ℕ} (number : ℕ) {n : Numbers} {w : Memory} (r : Ready K.Start s n w) {work : List ℕ}
     (t : StartTask n (w .arities) (w .listings) (w .table) (w .value) work) {q : Weighed}
     (a : q ≡ weighedAs (weighed (w .arities) (n .head .total) (modelOf (w .arities) (w .listings) (w .table) (n .head) .actions))) where
@@ -84,11 +80,11 @@ module _ {s : List ℕ} (number : ℕ) {n : Numbers} {w : Memory} (r : Ready K.S
       → Answers K.Start s number n w (record { numbers = runningWith n (first m); answer = A.Nothing }) (withValue w value)
   unfolding sessionOf done startLine modelOf
   begins-answers e {m} {value} k l =
-      let h : Holds (w .arities) M (run M (callsOf [])) (first m) value = running-start (t .laid) k [] .holds in
+      let h : Holds (w .arities) M (begin M) (first m) value = reward-holds (t .laid) k in
       let p = passed (sessionOf n w) T number O (sym a ∙ e) in
       record {
         answer = p .0;
-        session = ap (withHeld (sessionOf n w) Run) (h .is ∙ run-first M) ∙ p .1;
+        session = ap (withHeld (sessionOf n w) Run) (h .is) ∙ p .1;
         stored = running-stored (r .stored) (first m) value l (h .room) (record {
           reward = r .stored .reward (start-reward r);
           listing = h .listing;

@@ -1,4 +1,6 @@
 use Rattle.planner.proofs.PowerLaws.{laid-numbers, next-few, backed-ends, backed-told}
+use mathlib.Core.Path.{sym, ap}
+use Rattle.planner.specs.Backed.{backedStep}
 use borrow.Author.Needs.{needs}
 use Rattle.planner.proofs.backup.Statement.{statement}
 use Rattle.planner.proofs.backup.Tie as tie
@@ -17,13 +19,23 @@ replace-value-requires c κs =
 
 returns-2 : tie.Need-returns-2
 returns-2 c =
-    let at-replace-value = c .before .before .before .before .before in
+    let at-replace-value = c .before .before .before .before .before .before .before in
     let at-p = at-replace-value .before .before .before .before in
     let at-next-power = at-p .before .before in
     let entry = at-next-power .before .before .before .before .before .before in
     backed-told (entry .pre .0) _ (at-next-power .next-power .ensures) (at-p .p .given .1) _ (at-replace-value .replace-value .ensures) (c .backed-step .ensures)
 
+returns-3 : tie.Need-returns-3
+returns-3 c =
+    let at-replace-value = c .before .before .before .before .before .before .before in
+    let at-p = at-replace-value .before .before .before .before in
+    let at-next-power = at-p .before .before in
+    let entry = at-next-power .before .before .before .before .before .before in
+    backed-told (entry .pre .0) _ (at-next-power .next-power .ensures) (at-p .p .given .1) _ (at-replace-value .replace-value .ensures)
+    (ap (backedStep _) (sym (c .before .r .given .1)))
+
 pub backup-spec : {M : Type 1} → statement M
 backup-spec =
     tie.close
-    (tie.spec next-power-requires (λ c. search needs) (λ c. search needs) returns replace-value-requires (λ c κs. search needs) (λ c. search needs) (λ c. search needs) returns-2)
+    (tie.spec next-power-requires (λ c. search needs) (λ c. search needs) returns replace-value-requires (λ c. search needs) (λ c. search needs)
+    (λ c κs. search needs) (λ c. search needs) (λ c. search needs) returns-2 (λ c. search needs) (λ c. search needs) returns-3)
