@@ -67,7 +67,7 @@ extern "C" {
 #define YINDOLVE_TABLE_WORDS 4240        /* where they stand, at least */
 #define YINDOLVE_STATE_WORDS 5152        /* the state, at least */
 #define YINDOLVE_VALUE_WORDS 3072        /* the value's listing, at least */
-#define YINDOLVE_SESSION_WORK_WORDS 8190 /* a session's working space, at least */
+#define YINDOLVE_SESSION_WORK_WORDS 6144 /* a session's working space, at least */
 #define YINDOLVE_ANSWER_BYTES 92160      /* the answer of a line: 90 bytes for each of 1,024 rows */
 
 /* The refusals. Calls on diagrams answer 4, 6 to 11 and 14 to 18; lines of a text 1 to 13 and 15 to 17. Later versions add numbers from 19 on. */

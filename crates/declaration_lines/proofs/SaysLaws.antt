@@ -2,7 +2,7 @@
 use mathlib.Core.Path.{_≡_, refl, sym, ap, ap₂, subst, _∙_}
 use mathlib.Core.Bool.{Bool, true, false, not, _||_}
 use mathlib.Core.List.{List, [], _∷_, _++_}
-use Prim.Native.Nat.{ℕ, _/_, _<_}
+use Prim.Native.Nat.{ℕ, _*_, _/_, _<_, _≤_}
 use native.Mathlib.Omega.{arith}
 use lib.Dec.{ltb, leb}
 use lib.ListN.{length, drop}
@@ -230,6 +230,11 @@ unfolding actionLine
 few-actions m k ps e =
     let f = passed (ltb parameterCount (length ps) || leb mostActions (length (m .actions))) Space _ (passed (isAmong k (m .actions) || repeated [] ps) Name _ e .1) .0 in
     leb-false mostActions (length (m .actions)) (or-false-other (ltb parameterCount (length ps)) _ f)
+
+-- two words for each word behind the action's name
+pub action-keys : {s : List ℕ} {n : Numbers} {names table work : List ℕ} {i : ℕ} {x : Next} → i ≡ firstWord Action → x ≡ nextAt s i
+    → ForAction s n names table work → length (eventsOf (drop (x .place) s)) * 2 ≤ length work
+action-keys {s} p q r = let e = ap (λ (y : Next). y .place) (q ∙ ap (nextAt s) p) in rw e (r .keys)
 
 module _ (s : List ℕ) (n : Numbers) {names names′ : List ℕ} {i : ℕ} {x : Next} {k : Key} {d : Declared} (p : i ≡ firstWord Action) (q : x ≡ nextAt s i) (u : k ≡ keyIn (x .event))
     (g : Naming (actionLine (namesOf names (n .counts)) k (keysIn (eventsOf (drop (x .place) s)))) names d names′) where

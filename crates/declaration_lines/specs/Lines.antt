@@ -4,9 +4,10 @@ use mathlib.Core.Path.{_≡_}
 use mathlib.Core.Bool.{Bool}
 use mathlib.Core.List.{List}
 use Prim.Native.Nat.{ℕ, _*_, _≤_}
-use lib.ListN.{length}
+use lib.ListN.{length, drop}
 use Rattle.text.specs.declared.Kind.the-variants.{Constant, Predicate, Total, Discount, Action}
 use Rattle.events.specs.Events.{firstWord}
+use Rattle.events.specs.Front.{nextAt, eventsOf}
 use Rattle.declare.specs.declared.Counts.{Counts}
 use Rattle.declare.specs.Tables.{GoodNames, GoodVocabulary}
 use Rattle.model.specs.declared.Head.{Head}
@@ -85,10 +86,10 @@ pub record DiscountSays (s : List ℕ) (number : ℕ) (n : Numbers) (r : Said) :
 
 -- ===== (action n !p ..) =====
 
--- two words of working space for each byte of the line; the model has as many actions as there are names of actions
+-- two words of working space for each parameter; the model has as many actions as there are names of actions
 pub record ForAction (s : List ℕ) (n : Numbers) (names table work : List ℕ) : Type 0 where
   pub begins : firstWord Action ≤ length s
-  pub keys : length s * 2 ≤ length work
+  pub keys : length (eventsOf (drop (nextAt s (firstWord Action) .place) s)) * 2 ≤ length work
   pub good : GoodNames names (n .counts)
   pub spanned : Spanned table (n .head)
   pub agreeing : n .head .actions ≡ n .counts .actions

@@ -1,11 +1,11 @@
 -- Laws of an action's parameters: read one after another, each among those before it or not, and copied into the table of names.
-use mathlib.Core.Path.{_≡_, refl, sym, ap, subst, _∙_}
+use mathlib.Core.Path.{_≡_, refl, sym, ap, ap₂, subst, _∙_}
 use mathlib.Core.Bool.{Bool, true, false}
 use mathlib.Core.List.{List, [], _∷_, _++_, append-nil, append-assoc}
 use Prim.Native.Nat.{ℕ, _+_, _*_, _-_, _<_, _≤_}
 use native.Mathlib.Omega.{arith}
 use borrow.Author.Tests.{lt-ltb, le-ltb, le-leb, lt-leb}
-use lib.ListN.{length, drop, length-drop}
+use lib.ListN.{length, drop, length-drop, length-append, length-map}
 use Rattle.label.specs.Limits.{parameterCount}
 use Rattle.words.specs.declared.Key.{Key}
 use Rattle.names.specs.Keys.{keyAt, keysAt, placeOf, isAmong, putKey}
@@ -55,11 +55,11 @@ pub record Naming-on (line : List ℕ) (start : ℕ) (keys : List ℕ) (place n 
   pub so-far : repeated [] (keysIn (eventsOf (drop start line))) ≡ repeated (keysAt keys 0 n) (keysIn (eventsOf (drop place line)))
   pub all : keysIn (eventsOf (drop start line)) ≡ keysAt keys 0 n ++ keysIn (eventsOf (drop place line))
   pub within : place ≤ length line
-  pub few : n ≤ place
-  pub room : length line * 2 ≤ length keys
+  pub few : n * 2 ≤ length keys
+  pub room : length (eventsOf (drop start line)) * 2 ≤ length keys
 
 module _ (line : List ℕ) (start : ℕ) where
-  pub parameters-start : (keys : List ℕ) → start ≤ length line → length line * 2 ≤ length keys → Naming-on line start keys start 0
+  pub parameters-start : (keys : List ℕ) → start ≤ length line → length (eventsOf (drop start line)) * 2 ≤ length keys → Naming-on line start keys start 0
   parameters-start keys h r = record {
     so-far = ap (λ (vs : List Key). repeated vs (keysIn (eventsOf (drop start line)))) (sym (no-keys keys));
     all = ap (λ (vs : List Key). vs ++ keysIn (eventsOf (drop start line))) (sym (no-keys keys));
@@ -69,11 +69,17 @@ module _ (line : List ℕ) (start : ℕ) where
   }
 
   module _ (keys : List ℕ) (place n : ℕ) (c : Naming-on line start keys place n) where
+    -- the names read and those that are left
+    counted : length (eventsOf (drop start line)) ≡ n + length (eventsOf (drop place line))
+    counted =
+        sym (length-map (eventsOf (drop start line)) keyIn)
+        ∙ ap length (c .all)
+        ∙ length-append (keysAt keys 0 n) (keysIn (eventsOf (drop place line)))
+        ∙ ap₂ (λ (x y : ℕ). x + y) (length-keys keys 0 n) (length-map (eventsOf (drop place line)) keyIn)
+
     ended : eventsOf (drop place line) ≡ [] → ParametersOf (keysIn (eventsOf (drop start line))) (Distinct n) keys
     ended e =
         let f = c .few in
-        let w = c .within in
-        let r = c .room in
         record {
           told = (
             c .so-far ∙ ap (λ (es : List Event). repeated (keysAt keys 0 n) (keysIn es)) e ∙ repeated-none (keysAt keys 0 n),
@@ -86,10 +92,7 @@ module _ (line : List ℕ) (start : ℕ) where
     parameters-out h = ended (events-short (drop place line) (rw length-drop (omega arith)))
 
     pub parameters-find : 0 + n * 2 ≤ length keys
-    parameters-find = let f = c .few in let w = c .within in let r = c .room in omega arith
-
-    pub parameters-put : place < length line → n * 2 + 2 ≤ length keys
-    parameters-put h = let f = c .few in let r = c .room in omega arith
+    parameters-find = omega (arith, c .few)
 
     module _ {x : Next} (q : x ≡ nextAt line place) {b : Bool} (p : b ≡ isEnd (x .event)) where
       pub parameters-end : b ≡ true → ParametersOf (keysIn (eventsOf (drop start line))) (Distinct n) keys
@@ -101,6 +104,9 @@ module _ (line : List ℕ) (start : ℕ) where
 
         after : eventsOf (drop place line) ≡ x .event ∷ eventsOf (drop (x .place) line)
         after = next-more line place ongoing ∙ ap (λ (y : Next). y .event ∷ eventsOf (drop (y .place) line)) (sym q)
+
+        pub parameters-put : n * 2 + 2 ≤ length keys
+        parameters-put = omega (arith, counted, c .room, ap length after)
 
         pub parameters-shrink : length line - x .place < length line - place
         parameters-shrink =
@@ -118,14 +124,12 @@ module _ (line : List ℕ) (start : ℕ) where
                 ∙ repeated-here (keysAt keys 0 n) (keysIn (eventsOf (drop (x .place) line))) k (among-at keys 0 n k z h);
           }
 
-          pub parameters-on : {t : List ℕ} → n ≤ i → place < length line → t ≡ putKey keys (n * 2) k → Naming-on line start t (x .place) (n + 1)
-          parameters-on {t} h v u =
-              let f = c .few in
+          pub parameters-on : {t : List ℕ} → n ≤ i → t ≡ putKey keys (n * 2) k → Naming-on line start t (x .place) (n + 1)
+          parameters-on {t} h u =
               let r = c .room in
               let m = next-moves line place (c .within) in
-              let l = m .1 ongoing in
               let y = ap (λ (y : Next). y .place) q in
-              let g : keysAt t 0 (n + 1) ≡ keysAt keys 0 n ++ (k ∷ []) = ap (λ (s : List ℕ). keysAt s 0 (n + 1)) u ∙ ap (λ (j : ℕ). keysAt (putKey keys j k) 0 (n + 1)) (from-zero (n * 2)) ∙ keys-more keys 0 n k (omega arith) in
+              let g : keysAt t 0 (n + 1) ≡ keysAt keys 0 n ++ (k ∷ []) = ap (λ (s : List ℕ). keysAt s 0 (n + 1)) u ∙ ap (λ (j : ℕ). keysAt (putKey keys j k) 0 (n + 1)) (from-zero (n * 2)) ∙ keys-more keys 0 n k (omega (arith, parameters-put)) in
               record {
                 so-far = c .so-far ∙ ap (λ (es : List Event). repeated (keysAt keys 0 n) (keysIn es)) after
                     ∙ ap (λ (j : Key). repeated (keysAt keys 0 n) (j ∷ keysIn (eventsOf (drop (x .place) line)))) (sym w)
@@ -136,7 +140,7 @@ module _ (line : List ℕ) (start : ℕ) where
                     ∙ sym (append-assoc (keysAt keys 0 n) (k ∷ []) (keysIn (eventsOf (drop (x .place) line))))
                     ∙ ap (λ (vs : List Key). vs ++ keysIn (eventsOf (drop (x .place) line))) (sym g);
                 within = rw y (m .0);
-                few = omega arith;
+                few = rw (u, length-put) (omega (arith, parameters-put));
                 room = rw (u, length-put) r;
               }
 

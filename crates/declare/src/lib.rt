@@ -105,7 +105,7 @@ pub enum Parameters {
 // The names from the place `at` on, as keys.
 fn read_parameters(line: &[u8], at: usize, keys: &mut [u64]) -> Parameters
     requires { ⌜ at ≤ length (now line) ⌝ }
-    requires { ⌜ length (now line) * 2 ≤ length (now keys) ⌝ }
+    requires { ⌜ length (eventsOf (drop at (now line))) * 2 ≤ length (now keys) ⌝ }
     ensures { λ r. ⌜ ParametersOf (keysIn (eventsOf (drop at (now (line .entry))))) r (now (keys .exit)) ⌝ }
 {
     let mut place = at;
@@ -153,7 +153,7 @@ pub fn action(
 ) -> Declared
     requires { ⌜ GoodNames (now table) n ⌝ }
     requires { ⌜ at ≤ length (now line) ⌝ }
-    requires { ⌜ length (now line) * 2 ≤ length (now keys) ⌝ }
+    requires { ⌜ length (eventsOf (drop at (now line))) * 2 ≤ length (now keys) ⌝ }
     ensures { λ r. ⌜ Naming (actionLine (namesOf (now (table .entry)) n) key (keysIn (eventsOf (drop at (now (line .entry)))))) (now (table .entry)) r (now (table .exit)) ⌝ }
 {
     if names::find(table, names::ACTIONS, n.actions, key) < n.actions {

@@ -5,7 +5,7 @@ use mathlib.Core.List.{List}
 use Prim.Native.Nat.{ℕ, _*_, _/_, _^_, _≤_}
 use lib.ListN.{length, take}
 use Rattle.label.specs.Limits.{predicateCount}
-use Rattle.diagram.specs.Sizes.{resultWords}
+use Rattle.diagram.specs.Sizes.{resultWords, spaceWords}
 use Rattle.diagram.specs.Words.{isListing}
 use Rattle.refusal.specs.Outcome.{ok}
 use Rattle.mdp.specs.Model.{scale}
@@ -108,9 +108,9 @@ pub record Replied (s : List ℕ) (number : ℕ) (n : Numbers) (w : Memory) (r :
   pub session : sessionOf (r .numbers) w′ ≡ reply (sessionOf n w) number s .session
   pub kept : Kept (r .numbers) w′
 
--- working space of a session: the rows that a call forms, or two words for each byte of a line
+-- working space of a session: the rows that a call forms, or two words for each parameter of a line
 abbrev pub workWords : ℕ
-workWords = 8190
+workWords = spaceWords
 
 -- room for a session
 pub record Rooms (w : Memory) : Type 0 where

@@ -24,7 +24,7 @@ ghost use Rattle.texts.specs.Feeding.{streamOf, Feeding, Feeds};
 ghost use Rattle.texts.specs.Sending.{Sends, mostLines, progressOf, Going, Goes, Starts};
 
 // Words of working space for a session.
-pub const WORK_WORDS: usize = 8190;
+pub const WORK_WORDS: usize = diagram::SPACE_WORDS;
 
 // The bytes of a line that are kept: one more than a line may have.
 pub const LINE_ROOM: usize = 4096;

@@ -20,7 +20,7 @@ pub const STATE_WORDS: usize = 5_152;
 /// Words of the value's listing.
 pub const VALUE_WORDS: usize = RESULT_WORDS;
 /// Words of a session's working space.
-pub const SESSION_WORK_WORDS: usize = 8_190;
+pub const SESSION_WORK_WORDS: usize = 6_144;
 
 // Places among the numbers.
 const PART: usize = 0;

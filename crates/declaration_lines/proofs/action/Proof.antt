@@ -1,12 +1,12 @@
 use Rattle.memory.specs.WordLaws.{second-in}
 use Rattle.text.specs.declared.Kind.the-variants.{Action}
-use Rattle.declaration_lines.proofs.SaysLaws.{action-fits, action-done, action-refused}
+use Rattle.declaration_lines.proofs.SaysLaws.{action-keys, action-fits, action-done, action-refused}
 use borrow.Author.Needs.{needs}
 use Rattle.declaration_lines.proofs.action.Statement.{statement}
 use Rattle.declaration_lines.proofs.action.Tie as tie
 
 action-requires : tie.Need-action-requires
-action-requires c κs = (search needs, (search (second-in Action), search needs))
+action-requires c κs = (search needs, (search (second-in Action), search action-keys))
 
 add-action-requires : tie.Need-add-action-requires
 add-action-requires c κs = search action-fits
