@@ -1,0 +1,233 @@
+-- Ground listings have equal numbers exactly if they are equal: where each constant has an object of its own, facts decide each ground label freely.
+use mathlib.Core.Path.{_≡_, refl, ap, ap₂, sym, _∙_}
+use mathlib.Core.Logic.{_≢_, _⊎_, inl, inr}
+use mathlib.Core.Bool.{Bool, true, false, not, _&&_, _||_, cond}
+use mathlib.Core.List.{List, [], _∷_, map}
+use Prim.Native.Nat.{ℕ, zero, suc, pred, _<_}
+use native.Mathlib.Omega.{arith}
+use native.Mathlib.Nat.{le-of-eq}
+use lib.Dec.{eqb, ltb}
+use borrow.Author.Tests.{ltb-true, eqb-true, eqb-false, eq-eqb, ne-eqb}
+use Rattle.basics.specs.Tests.{and-left, and-right, Flag, isTrue, isFalse, flag}
+use Rattle.basics.specs.Members.{clash}
+use Rattle.label.specs.Limits.{constantCount, equality, firstParameter, leafMark}
+use Rattle.label.specs.Terms.{isConstant}
+use Rattle.label.specs.Labels.{predicateOf, unpacked, termsOf, isLabel}
+use Rattle.label.specs.LabelLaws.{label-below}
+use Rattle.label.specs.Order.{placesBefore, atomBefore, labelBefore}
+use Rattle.label.specs.OrderLaws.{order-strict-total}
+use Rattle.diagram.specs.Diagram.{Diagram, leaf, branch, eval}
+use Rattle.diagram.specs.Words.{labelAt, highAt, lowAt, rowCount, equalLists, isListing}
+use Rattle.diagram.specs.Listing.{treeAt, diagramOf}
+use Rattle.diagram.specs.Validity.{Valid}
+use Rattle.diagram.specs.WordLaws.{below-every, lists-equal, equal-lists}
+use Rattle.diagram.specs.ListingLaws.{tree-leaf, tree-branch}
+use Rattle.diagram.specs.RowLaws.{same-tests}
+use Rattle.diagram.specs.RowDiagrams.{branch-row}
+use Rattle.diagram.specs.DiagramOfListing.{valid-rows}
+use Rattle.diagram.specs.ListingValid.{listing-is-valid}
+use Rattle.diagram.specs.Listings.{is-one-listing}
+use Rattle.rename.specs.Relabelling.{Labels}
+use Rattle.rename.specs.RelabelLaws.{eval-relabel, eval-agree, labels-weaken}
+use Rattle.state.specs.Max.{none}
+use Rattle.state.specs.State.{atomOf, meaning, State, Good, truth, holds, value, low, fixed}
+use Rattle.state.specs.Terms.{Each, Terms}
+use Rattle.state.specs.Highest.{start, highest}
+use Rattle.state.specs.Lent.{someBelow}
+use Rattle.state.specs.LentLaws.{some-made, some-found}
+use Rattle.state.specs.ValueLaws.{low-lt, low-ge, by-low, value-same}
+use Rattle.state.specs.HighestLaws.{bound-tuple, start-fits, highest-is, highest-one}
+use Rattle.ground.specs.Ground.{allConstants, isGroundLabel, isGround, valueIn, Apart, named, EqualNumbers}
+
+-- ===== Labels =====
+
+-- a label is its predicate and its terms
+pub label-one : (ar : List ℕ) (l k : ℕ) → isLabel ar l ≡ true → isLabel ar k ≡ true → predicateOf l ≡ predicateOf k
+    → termsOf ar (unpacked l) ≡ termsOf ar (unpacked k) → l ≡ k
+unfolding atomBefore unpacked predicateOf
+label-one ar l k el ek p t = go (order-strict-total ar .trichotomous l k el ek)
+  where
+    same : (j i : ℕ) → predicateOf j ≡ predicateOf i → termsOf ar (unpacked j) ≡ termsOf ar (unpacked i) → isLabel ar j ≡ true → labelBefore ar j i ≡ false
+    same j i q u e =
+        ap₂ (λ (x : ℕ) (xs : List ℕ). cond (eqb (predicateOf j) x) (placesBefore (termsOf ar (unpacked j)) xs) (ltb (predicateOf j) x)) (sym q) (sym u)
+        ∙ order-strict-total ar .irreflexive j e
+
+    go : (labelBefore ar l k ≡ true) ⊎ ((l ≡ k) ⊎ (labelBefore ar k l ≡ true)) → l ≡ k
+    go (inl h) = clash h (same l k p t el)
+    go (inr (inl h)) = h
+    go (inr (inr h)) = clash h (same k l (sym p) (sym t) ek)
+
+-- the labels of a row's diagram are labels of rows
+tree-labels : (Q : ℕ → Type 0) (ar ws : List ℕ) → Valid ar ws → ((i : ℕ) → i < rowCount ws → labelAt ws i ≢ leafMark → Q (labelAt ws i))
+    → (depth i : ℕ) → i < rowCount ws → Labels Q (treeAt ws depth i)
+unfolding treeAt
+tree-labels Q ar ws v q zero i h = tt
+tree-labels Q ar ws v q (suc depth) i h = go (flag (eqb (labelAt ws i) leafMark)) (tree-labels Q ar ws v q depth)
+  where
+    go : Flag (eqb (labelAt ws i) leafMark) → ((j : ℕ) → j < rowCount ws → Labels Q (treeAt ws depth j)) → Labels Q (treeAt ws (suc depth) i)
+    go (isTrue e) ih = rw (tree-leaf ws depth i (eqb-true _ _ e)) tt
+    go (isFalse e) ih =
+        let e′ = eqb-false _ _ e in
+        let r = branch-row ar ws (rowCount ws) (valid-rows ar ws v) i h e′ in
+        rw (tree-branch ws depth i e′) (q i h e′, ih (highAt ws i) (omega arith), ih (lowAt ws i) (omega arith))
+
+-- a ground label under the arity list ar
+abbrev GroundLabel : List ℕ → ℕ → Type 0
+GroundLabel ar l = (isLabel ar l ≡ true) × (isGroundLabel ar l ≡ true)
+
+-- the diagram of a ground listing has such labels only
+ground-labels : (ar ws : List ℕ) → isListing ar ws ≡ true → isGround ar ws ≡ true → Labels (GroundLabel ar) (diagramOf ws)
+unfolding isGround diagramOf
+ground-labels ar ws e g = tree-labels (GroundLabel ar) ar ws v each (rowCount ws) (pred (rowCount ws)) (let h = v .some in omega arith)
+  where
+    v : Valid ar ws
+    v = listing-is-valid ar ws e
+
+    each : (i : ℕ) → i < rowCount ws → labelAt ws i ≢ leafMark → GroundLabel ar (labelAt ws i)
+    each i h n =
+        let t : (eqb (labelAt ws i) leafMark || isGroundLabel ar (labelAt ws i)) ≡ true
+        = below-every (rowCount ws) (λ j. eqb (labelAt ws j) leafMark || isGroundLabel ar (labelAt ws j)) i g h in
+        (branch-row ar ws (rowCount ws) (valid-rows ar ws v) i h n .label, rw (ne-eqb (labelAt ws i) leafMark n) at t)
+
+-- ===== With no variable there is one leaf =====
+
+constants-each : (ts : List ℕ) → allConstants ts ≡ true → Each (λ t. t < constantCount) ts
+unfolding isConstant
+constants-each [] e = tt
+constants-each (t ∷ ts) e = (ltb-true t constantCount (and-left (ltb t constantCount) _ e), constants-each ts (and-right (ltb t constantCount) _ e))
+
+ground-constants : (ar : List ℕ) (l : ℕ) → isGroundLabel ar l ≡ true → Each (λ t. t < constantCount) (termsOf ar (unpacked l))
+unfolding isGroundLabel
+ground-constants ar l g = constants-each (termsOf ar (unpacked l)) (and-left (allConstants (termsOf ar (unpacked l))) _ g)
+
+ground-terms : (ar : List ℕ) (d : Diagram) → Labels (GroundLabel ar) d → Terms (λ t. t < constantCount) (meaning ar d)
+unfolding meaning
+ground-terms ar (leaf v) w = tt
+ground-terms ar (branch l t f) w = (ground-constants ar l (w .0 .1), ground-terms ar t (w .1), ground-terms ar f (w .2))
+
+-- the highest leaf of a ground diagram is the leaf that the facts lead to
+ground-highest : (ar : List ℕ) (d : Diagram) → Labels (GroundLabel ar) d → (s : State) → Good s
+    → highest s [] (meaning ar d) ≡ eval (λ l. holds s (start s []) (atomOf ar l)) d
+unfolding value meaning
+ground-highest ar d w s g =
+    let m = meaning ar d in
+    let b = bound-tuple g none in
+    let fits = start-fits s [] g b in
+    highest-one m (highest-is s [] g b m) (record {
+      point = start s [];
+      inside = fits;
+      value = refl;
+      bound = λ θ f. le-of-eq (value-same (λ t. t < constantCount) s m θ (start s []) (ground-terms ar d w)
+          (λ t h. f .low t (omega arith) ∙ sym (fits .low t (omega arith))));
+    })
+    ∙ eval-relabel (holds s (start s [])) (atomOf ar) d
+
+-- ===== Facts chosen freely =====
+
+-- p holds of os exactly if it does so by a label below n that the choice c has as true
+chosen : List ℕ → (ℕ → Bool) → ℕ → ℕ → List ℕ → Bool
+chosen ar c n p os = someBelow n (λ l. isLabel ar l && (c l && (eqb (predicateOf l) p && equalLists (termsOf ar (unpacked l)) os)))
+
+chosen-is : (ar : List ℕ) (c : ℕ → Bool) (n l : ℕ) → l < n → isLabel ar l ≡ true → chosen ar c n (predicateOf l) (termsOf ar (unpacked l)) ≡ c l
+unfolding chosen
+chosen-is ar c n l h e = same-tests _ (c l) there back
+  where
+    q : ℕ → Bool
+    q k = isLabel ar k && (c k && (eqb (predicateOf k) (predicateOf l) && equalLists (termsOf ar (unpacked k)) (termsOf ar (unpacked l))))
+
+    there : chosen ar c n (predicateOf l) (termsOf ar (unpacked l)) ≡ true → c l ≡ true
+    there t =
+        let f = some-found n q t in
+        let k = f .0 in
+        let a = f .2 in
+        let b = and-right (isLabel ar k) _ a in
+        let d = and-right (c k) _ b in
+        let one = label-one ar k l (and-left (isLabel ar k) _ a) e (eqb-true _ _ (and-left (eqb (predicateOf k) (predicateOf l)) _ d))
+        (lists-equal _ _ (and-right (eqb (predicateOf k) (predicateOf l)) _ d)) in
+        ap c (sym one) ∙ and-left (c k) _ b
+
+    back : c l ≡ true → chosen ar c n (predicateOf l) (termsOf ar (unpacked l)) ≡ true
+    back t = some-made n q l h (rw (e, t, eq-eqb (predicateOf l) (predicateOf l) refl, equal-lists (termsOf ar (unpacked l))))
+
+-- the state in which each ground label has the truth that c gives it
+freely : List ℕ → (ℕ → Bool) → State
+freely ar c = named (chosen ar c leafMark)
+
+pub named-good : (facts : ℕ → List ℕ → Bool) → Good (named facts)
+unfolding named
+named-good facts = record {
+  some = omega arith;
+  placed = λ c. by-low (low constantCount c c 0 < constantCount) constantCount c
+      (λ h. rw (low-lt constantCount c c 0 h) h)
+      (λ h. rw (low-ge constantCount c c 0 h) (omega arith));
+}
+
+-- each constant is at its own number
+named-own : (facts : ℕ → List ℕ → Bool) (c : ℕ) → c < constantCount → named facts .constant c ≡ c
+unfolding named
+named-own facts c h = low-lt constantCount c c 0 h
+
+pub named-apart : (facts : ℕ → List ℕ → Bool) → Apart (named facts)
+named-apart facts = record { good = named-good facts; different = λ c d h k e. sym (named-own facts c h) ∙ e ∙ named-own facts d k }
+
+named-start : (facts : ℕ → List ℕ → Bool) (t : ℕ) → t < constantCount → start (named facts) [] t ≡ t
+unfolding fixed
+named-start facts t h =
+    start-fits (named facts) [] (named-good facts) (bound-tuple (named-good facts) none) .low t (omega arith)
+    ∙ low-lt firstParameter t (named facts .constant t) _ (omega arith)
+    ∙ named-own facts t h
+
+map-own : (θ : ℕ → ℕ) (ts : List ℕ) → Each (λ t. t < constantCount) ts → ((t : ℕ) → t < constantCount → θ t ≡ t) → map θ ts ≡ ts
+map-own θ [] w e = refl
+map-own θ (t ∷ ts) w e = ap₂ _∷_ (e t (w .0)) (map-own θ ts (w .1) e)
+
+-- what is not equality holds by the facts
+truth-fact : (s : State) (p : ℕ) (os : List ℕ) → eqb p equality ≡ false → truth s p os ≡ s .fact p os
+truth-fact s zero os e = clash refl e
+truth-fact s (suc p) os e = refl
+
+named-fact : (facts : ℕ → List ℕ → Bool) (p : ℕ) (os : List ℕ) → named facts .fact p os ≡ facts p os
+unfolding named
+named-fact facts p os = refl
+
+not-true : (b : Bool) → not b ≡ true → b ≡ false
+not-true true e = sym e
+not-true false e = refl
+
+ground-other : (ar : List ℕ) (l : ℕ) → isGroundLabel ar l ≡ true → eqb (predicateOf l) equality ≡ false
+unfolding isGroundLabel
+ground-other ar l g = not-true _ (and-right (allConstants (termsOf ar (unpacked l))) _ g)
+
+-- facts decide each ground label freely
+freely-holds : (ar : List ℕ) (c : ℕ → Bool) (l : ℕ) → GroundLabel ar l → holds (freely ar c) (start (freely ar c) []) (atomOf ar l) ≡ c l
+unfolding holds atomOf freely
+freely-holds ar c l g =
+    let facts = chosen ar c leafMark in
+    let ts = termsOf ar (unpacked l) in
+    ap (truth (named facts) (predicateOf l)) (map-own (start (named facts) []) ts (ground-constants ar l (g .1)) (named-start facts))
+    ∙ truth-fact (named facts) (predicateOf l) ts (ground-other ar l (g .1))
+    ∙ named-fact facts (predicateOf l) ts
+    ∙ chosen-is ar c leafMark l (label-below ar l (g .0)) (g .0)
+
+-- so the value of a ground diagram in that state is its leaf under c
+freely-value : (ar ws : List ℕ) → Labels (GroundLabel ar) (diagramOf ws) → (c : ℕ → Bool) → valueIn ar ws (freely ar c) ≡ eval c (diagramOf ws)
+unfolding valueIn freely
+freely-value ar ws w c =
+    let s = freely ar c in
+    ground-highest ar (diagramOf ws) w s (named-good (chosen ar c leafMark))
+    ∙ eval-agree _ c (diagramOf ws) (labels-weaken (GroundLabel ar) _ (diagramOf ws) (freely-holds ar c) w)
+
+-- ===== L14, whole =====
+
+pub equal-numbers : (ar x y : List ℕ) → isListing ar x ≡ true → isListing ar y ≡ true → isGround ar x ≡ true → isGround ar y ≡ true → EqualNumbers ar x y
+unfolding freely
+equal-numbers ar x y lx ly gx gy = record {
+  values = λ e s g. ap (λ ws. valueIn ar ws s) e;
+  rows = λ h. by-named (λ facts. h (named facts) (named-good facts));
+  rows-apart = λ h. by-named (λ facts. h (named facts) (named-apart facts));
+  rows-named = by-named;
+}
+  where
+    by-named : ((facts : ℕ → List ℕ → Bool) → valueIn ar x (named facts) ≡ valueIn ar y (named facts)) → x ≡ y
+    by-named h = is-one-listing ar x y lx ly (λ c.
+        sym (freely-value ar x (ground-labels ar x lx gx) c) ∙ h (chosen ar c leafMark) ∙ freely-value ar y (ground-labels ar y ly gy) c)

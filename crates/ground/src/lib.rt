@@ -1,0 +1,1 @@
+// Ground listings with equal numbers. What they are stands in specs/.
