@@ -7,8 +7,8 @@
 //!     tests stored FOLDER [PATH]
 //!     tests text SEED
 //!
-//! `self` holds the reference against brute force, sees that blank lines change nothing but line numbers, counts the refusals met, and sees that each
-//! of document 01's slips is caught.
+//! `self` holds the reference against brute force, compares ground listings by their values, sees that blank lines change nothing but line numbers, counts
+//! the refusals met, and sees that each of document 01's slips is caught.
 //! `program` feeds random texts to a program and to the reference. `bellman` holds the values that a program prints against brute force,
 //! without the reference's diagrams. `library` (feature `library`) makes random calls of the static
 //! library and of the reference, whole texts too, and sees that each call gave each of its answers.
@@ -18,6 +18,7 @@
 
 mod bellman;
 mod blanks;
+mod ground;
 #[cfg(feature = "library")]
 mod library;
 #[cfg(feature = "library")]
@@ -115,6 +116,7 @@ fn self_tests(bound: &Bound) -> Result<(), String> {
         meaning::check_combination(seed, &mut tally).map_err(|message| format!("seed {seed}, combination: {message}"))?;
         listings::check(seed, &mut tally).map_err(|message| format!("seed {seed}, listing: {message}"))?;
         order::check(seed).map_err(|message| format!("seed {seed}, order of labels: {message}"))?;
+        ground::check(seed).map_err(|message| format!("seed {seed}, ground listings: {message}"))?;
         blanks::check(seed).map_err(|message| format!("seed {seed}, blank lines: {message}"))?;
         for answer in answers(&texts::text(seed), Slips::NONE) {
             if let Answer::Refused { refusal, .. } = answer {

@@ -160,7 +160,7 @@ pub fn check_cut(seed: u64, slips: Slips, tally: &mut Tally) -> Result<(), Strin
 }
 
 /// Every state of so many objects, constants placed in every way.
-fn every_state(signature: &Signature, objects: u64) -> Vec<State> {
+pub fn every_state(signature: &Signature, objects: u64) -> Vec<State> {
     let facts = ground_facts(signature, objects);
     let mut places: Vec<Vec<u64>> = vec![Vec::new()];
     for _ in 0..signature.constants {
