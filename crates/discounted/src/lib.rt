@@ -1,0 +1,1 @@
+// The discounted value in fractions. What it is stands in specs/.
