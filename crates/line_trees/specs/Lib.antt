@@ -1,0 +1,33 @@
+-- The reply to a line by its tree, and the answers of a text by the trees of its lines (document 01, sections 'Text', 'Refusals by trade word' and 'A run, whole').
+-- A reader of these believes how trees are written (text Line, forms Tree), what a diagram's words stand for (reading Tree), the row step (build Build) and what an
+-- accepted line does (session), and no reader of bytes and no machine with stacks.
+--
+-- Definitions: one line
+--   readTree == the words of a diagram in order, each by 2, 3, 6, 4; then more than 32 variables are 8
+--   rewardTree == (reward DIAGRAM): words, row steps, closed up; last 9 for model rows
+--   weightTree == (variant n WEIGHT): 2 at its name; words, row steps; last 9 for variants and model rows
+--   truthTree == (becomes (p ?a ..) DIAGRAM): 2, 3 at p, 2 at a repeated argument; words, row steps, 7; last 9 for model rows
+--   treeDone == what a line of each kind does and is answered, where it stands where it may
+--   treeReply == the reply to a line: 5, then its own checks
+--
+-- Definitions: lines in bytes, and texts
+--   TreeAnswer == a blank line passes; what a well-formed tree writes is answered as the tree says; bytes that no tree writes are 1
+--   TreeAnswers == how far a text is read after some lines, each answered so
+--   TextTrees == the answers of a text: of its lines, of the bytes behind the last line feed, and the closing one
+--
+-- Theorems
+--   reply-tree: the reply to what a well-formed line writes is what its tree says
+--   reply-unwritten: the reply to bytes that no well-formed line writes is refusal 1
+--   reply-answers, reply-only: so every line in bytes has the reply of TreeAnswer, and no other
+--   text-trees, text-only: textAnswers are the answers of TextTrees, and no others are
+--
+-- The arity list that reply-tree asks for is kept from line to line (session_laws, reply-sound); text-trees asks for nothing.
+
+-- definitions
+pub mod TreeReplies
+pub mod TextTrees
+-- laws
+pub mod TreeReadLaws
+pub mod TreeHeadLaws
+pub mod TreeReplyLaws
+pub mod TextTreesLaws

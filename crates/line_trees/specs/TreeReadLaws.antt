@@ -1,0 +1,67 @@
+-- The words of a diagram, read one after another and built by the machine with two stacks, come to what the diagram's tree says.
+use mathlib.Core.Path.{_≡_, refl, ap, subst, _∙_}
+use mathlib.Core.Bool.{Bool, true, false, not}
+use mathlib.Core.List.{List}
+use Prim.Native.Nat.{ℕ, _≤_}
+use native.Mathlib.Omega.{arith}
+use lib.Dec.{leb}
+use lib.ListN.{length}
+use Rattle.refusal.specs.declared.Refusal.the-variants.{Range, Variables}
+use Rattle.refusal.specs.Outcome.{Outcome, ok, andThen}
+use Rattle.label.specs.Limits.{variableCount}
+use Rattle.diagram.specs.Sizes.{highestValue}
+use Rattle.diagram.specs.Diagram.{Diagram}
+use Rattle.words.specs.Bytes.{valueOf}
+use Rattle.words.specs.declared.Key.{Key}
+use Rattle.forms.specs.Tree as T
+use Rattle.forms.specs.Tree.Diagram.{number as numeral, branch as conditional}
+use Rattle.events.specs.Events.{diagramEvents}
+use Rattle.reading.specs.Operations.{Op}
+use Rattle.reading.specs.Reading.{Names, Judged, pickJudged, Written, reading}
+use Rattle.reading.specs.Reading.{andThen as judgedThen}
+use Rattle.reading.specs.Reading.Judged.{fine, refused}
+use Rattle.reading.specs.JudgedLaws.{fine-one, passed, chained}
+use Rattle.reading.specs.Tree.{Reading, Result, resolveAtom, branching, resolveDiagram, opsOf, writing, diagramReading, depth}
+use Rattle.reading.specs.Tree.Reading.{branch}
+use Rattle.reading.specs.TreeLaws.{Arities, reading-diagram}
+use Rattle.build.specs.Machine.{mostTests}
+use Rattle.session.specs.Session.{refuseIf}
+use Rattle.session.specs.Modelling.{outcomeOf}
+use Rattle.line_trees.specs.TreeReplies.{readTree}
+
+-- of what a diagram stands for no more (if ..) are open together than brackets
+resolved-depth : (ν : Names) (d : T.Diagram) (vs : List Key) (g : Result Reading) → resolveDiagram ν vs d ≡ fine g → depth (g .value) ≤ T.brackets d
+resolved-depth ν (numeral n) vs g e =
+    let c = passed (leb (valueOf n) highestValue) _ Range g e in
+    subst (λ (x : Result Reading). depth (x .value) ≤ 0) (c .1) (omega arith)
+resolved-depth ν (conditional a d e) vs g z =
+    let c = chained (resolveAtom ν vs a) _ g z in
+    let c₁ = chained (resolveDiagram ν (c .first .variables) d) _ g (c .then) in
+    let c₂ = chained (resolveDiagram ν (c₁ .first .variables) e) (branching (c .first .value) (c₁ .first .value)) g (c₁ .then) in
+    let u : _≡_ {A = Result Reading} (record { value = branch (c .first .value) (c₁ .first .value) (c₂ .first .value); variables = c₂ .first .variables }) g = fine-one (c₂ .then) in
+    subst (λ (x : Result Reading). depth (x .value) ≤ T.brackets (conditional a d e)) u
+    (omega (arith, resolved-depth ν d (c .first .variables) (c₁ .first) (c₁ .answers), resolved-depth ν e (c₁ .first .variables) (c₂ .first) (c₂ .answers)))
+
+-- a diagram that is built, in either way, and what follows
+pub read-built : {A : Type 0} (machine : List Op → Outcome Diagram) (tree : Reading → Outcome Diagram) → ((r : Reading) → depth r ≤ mostTests → machine (opsOf r) ≡ tree r)
+    → (ν : Names) → Arities ν → (d : T.Diagram) → T.brackets d ≤ mostTests → (vs : List Key) (k : Diagram → Outcome A)
+    → andThen (outcomeOf (reading ν (diagramEvents d) vs)) (λ w. andThen (machine (w .operations)) k) ≡ andThen (readTree ν vs d) (λ r. andThen (tree r) k)
+unfolding diagramReading readTree
+read-built machine tree law ν few d shallow vs k =
+    ap (λ (j : Judged Written). andThen (outcomeOf j) (λ w. andThen (machine (w .operations)) k)) (reading-diagram ν few d vs)
+    ∙ go (resolveDiagram ν vs d) (λ g e. omega (arith, resolved-depth ν d vs g e))
+  where
+    wrote : Result Reading → Written
+    wrote g = record { variables = g .variables; operations = opsOf (g .value) }
+
+    counted : (g : Result Reading) → depth (g .value) ≤ mostTests → (b : Bool)
+        → andThen (outcomeOf (pickJudged b (fine (wrote g)) (refused Variables))) (λ w. andThen (machine (w .operations)) k)
+        ≡ andThen (refuseIf (not b) Variables (ok (g .value))) (λ r. andThen (tree r) k)
+    counted g h true = ap (λ (o : Outcome Diagram). andThen o k) (law (g .value) h)
+    counted g h false = refl
+
+    go : (j : Judged (Result Reading)) → ((g : Result Reading) → j ≡ fine g → depth (g .value) ≤ mostTests)
+        → andThen (outcomeOf (judgedThen j writing)) (λ w. andThen (machine (w .operations)) k)
+        ≡ andThen (andThen (outcomeOf j) (λ g. refuseIf (not (leb (length (g .variables)) variableCount)) Variables (ok (g .value)))) (λ r. andThen (tree r) k)
+    go (fine g) h = counted g (h g refl) (leb (length (g .variables)) variableCount)
+    go (refused r) h = refl
