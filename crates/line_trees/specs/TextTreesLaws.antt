@@ -17,7 +17,6 @@ use Rattle.session.specs.Session.{Session}
 use Rattle.session.specs.Replies.{Reply, reply}
 use Rattle.session.specs.Texts.{linesOf, hasBytes, Progress, replied, afterLine, afterLines, afterRest, closing, beginning, textRead, textAnswers}
 use Rattle.session_laws.specs.TextLaws.{Sound, reply-sound, text-sound}
-use Rattle.line_trees.specs.TreeReplies.{treeReply}
 use Rattle.line_trees.specs.TextTrees.{TreeAnswer, TreeAnswers, TextTrees}
 use Rattle.line_trees.specs.TextTrees.TreeAnswer.{blank, written, unwritten}
 use Rattle.line_trees.specs.TextTrees.TreeAnswers.{none, next}

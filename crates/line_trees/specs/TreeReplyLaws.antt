@@ -1,14 +1,13 @@
 -- The reply to the bytes of a well-formed line is what its tree says, and bytes that no tree writes are 1.
-use mathlib.Core.Path.{_≡_, refl, sym, ap, _∙_}
+use mathlib.Core.Path.{_≡_, refl, ap, _∙_}
 use mathlib.Core.Logic.{_≢_}
 use mathlib.Core.Bool.{Bool, true, false, not, _||_}
 use mathlib.Core.List.{List, [], _∷_, map}
-use Prim.Native.Nat.{ℕ, suc, _+_, _≤_}
+use Prim.Native.Nat.{ℕ, _+_, _≤_}
 use native.Mathlib.Omega.{arith}
 use native.Mathlib.Numerals.{add-one}
 use lib.Dec.{ltb, leb, eqb}
 use lib.ListN.{length, getD}
-use Rattle.refusal.specs.declared.Refusal.{Refusal}
 use Rattle.refusal.specs.declared.Refusal.the-variants.{Form, Name, Arity, Truth, Space}
 use Rattle.refusal.specs.Outcome.{Outcome, ok, refused, andThen}
 use Rattle.label.specs.Labels.{areArities}
@@ -31,7 +30,7 @@ use Rattle.events.specs.Events.{parameterEvent, numberEvent, diagramEvents, wor
 use Rattle.events.specs.LineEvents.{line-events}
 use Rattle.events.specs.Contents.{keysIn, numbersIn}
 use Rattle.reading.specs.declared.Binding.the-variants.{Any, None, Only}
-use Rattle.reading.specs.Reading.{Names as ReadingNames, Judged, pickJudged, reading}
+use Rattle.reading.specs.Reading.{Names as ReadingNames, pickJudged, reading}
 use Rattle.reading.specs.Reading.Judged.{fine, refused as judged}
 use Rattle.reading.specs.ArityLaws.{arity-most}
 use Rattle.reading.specs.Head.{headNumber, openedNumber, headArguments}
