@@ -175,14 +175,23 @@ last a h p = omega arith
 pub bound-none : (s : State) → Good s → Bound s []
 bound-none s g = record { each = λ i. g .placed 0 }
 
-pub backup-is : (m : Model) → GoodModel m → (k : ℕ) (d : Diagram) → Values (m .arities) (bellman m k) d → Accepted (Values (m .arities) (bellman m (suc k))) (backup m k d)
-unfolding backup rowOfCalls bellman rewardIn
-backup-is m gm k d vals =
+-- what a backup makes of the values x: S^(k+1) · M0(s) + the best of the sums of G · weight · x(next state)
+abbrev pub stepped : Model → ℕ → (State → ℕ) → State → ℕ
+stepped m k x s =
+    scale m ^ suc k * rewardIn m s
+    + maxOf (m .actions) (λ a.
+    maxTuples (s .size) (a .count) (λ os.
+    gain (m .arities) (m .numerator) x s os (a .variants)))
+
+-- whatever values the diagram has
+pub backup-steps : (m : Model) → GoodModel m → (k : ℕ) (x : State → ℕ) (d : Diagram) → Values (m .arities) x d → Accepted (Values (m .arities) (stepped m k x)) (backup m k d)
+unfolding backup rowOfCalls rewardIn
+backup-steps m gm k x d vals =
     let ar = m .arities in
     let p = scale m ^ suc k in
     accepted-cond (scaleEnds m k) Scale _ (λ e.
     accepted-then (actionsBest ar (m .numerator) d (leaf 0) (m .actions))
-    (actions-best ar (gm .arities) (m .numerator) (let u = gm .numerator-few in let v = gm .denominator-few in omega arith) (bellman m k) d vals (m .actions) (gm .actions)
+    (actions-best ar (gm .arities) (m .numerator) (let u = gm .numerator-few in let v = gm .denominator-few in omega arith) x d vals (m .actions) (gm .actions)
     (λ s. 0) (leaf 0) (leaf-has ar 0 0 (gm .arities) (omega arith))) (λ best hb.
     accepted-then (combined Product Shared ar (m .reward) (leaf p))
     (shared-made Product ar (m .reward) (leaf p) (gm .reward-listed) (leaf-listed ar p (gm .arities) (scale-room m k e))) (λ r hr.
@@ -195,3 +204,8 @@ backup-is m gm k d vals =
           (max-scale p (highest-is s [] gd (bound-none s gd) (meaning ar (m .reward)))
           (λ θ f. hr .values s θ ∙ ap (λ (n : ℕ). value s (meaning ar (m .reward)) θ * n) (leaf-value ar s p θ))));
     }))))
+
+-- from Mk to M(k+1)
+pub backup-is : (m : Model) → GoodModel m → (k : ℕ) (d : Diagram) → Values (m .arities) (bellman m k) d → Accepted (Values (m .arities) (bellman m (suc k))) (backup m k d)
+unfolding bellman
+backup-is m gm k d vals = backup-steps m gm k (bellman m k) d vals

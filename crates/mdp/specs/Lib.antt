@@ -29,7 +29,8 @@
 --
 -- Theorems
 --   demand-3: after any list of backups and cuts, refused ones among them, the value diagram's highest leaf is Mk in every state
---   backup-is: a backup takes a diagram of the values Mk to one of the values M(k+1)
+--   backup-steps: a backup takes a diagram of whatever values x to one of S^(k+1) · M0 + the best of the sums of G · weight · x
+--   backup-is: so it takes a diagram of the values Mk to one of the values M(k+1)
 --   cut-is: a cut leaves a diagram of the same values
 --   value-is: so the number that valuing answers after a run is Mk of the lent state
 --   table: the ten marked cases, by computation
