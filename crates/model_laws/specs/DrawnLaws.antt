@@ -31,7 +31,7 @@ use Rattle.reading.specs.Tree.Reading.{branch as conditional, number}
 use Rattle.build.specs.Machine.{mostTests, built, builtClosed}
 use Rattle.build.specs.MachineLaws.{built-text, built-reward}
 use Rattle.build.specs.ReadingLaws.{diagramFor, text-held, reward-held}
-use Rattle.session.specs.Good.{GoodReward}
+use Rattle.session.specs.Good.{GoodValue}
 
 -- a label under the arity list that has only terms of P
 abbrev Labelled : List ℕ → (ℕ → Type 0) → ℕ → Type 0
@@ -107,14 +107,14 @@ module _ (ar : List ℕ) (arities : areArities ar ≡ true) where
       subst (Read ar c n) (sym (h .is)) (drawn-read c n (diagramFor r) (drawn ar (Named c n) r good) (h .few))
 
   -- closed up it is a reward
-  pub built-good : (n : ℕ) (r : Reading) → GoodReading ar (Named 0 n) r → depth r ≤ mostTests → (d : Diagram) → builtClosed ar (opsOf r) ≡ ok d → GoodReward ar d
+  pub built-good : (n : ℕ) (r : Reading) → GoodReading ar (Named 0 n) r → depth r ≤ mostTests → (d : Diagram) → builtClosed ar (opsOf r) ≡ ok d → GoodValue ar d
   built-good n r good shallow d e =
       let h = reward-held ar r .given d (sym (built-reward ar r shallow) ∙ e) in
       let x : Diagram = diagramFor r in
       let g = drawn ar (Named 0 n) r good in
       let count = closed-count ar x arities (labelled-fine ar (Named 0 n) x (g .labels) (g .most)) in
       let y = drawn-read 0 n x g (omega (arith, h .few)) in
-      subst (GoodReward ar) (sym (h .is))
+      subst (GoodValue ar) (sym (h .is))
       (record {
         listed = closed-good ar x (y .listed);
         is-closed = closed-twice ar x (y .listed);

@@ -25,7 +25,7 @@ use Rattle.state.specs.Terms.{Each, Terms}
 use Rattle.state.specs.ValueLaws.{Terms-mono}
 use Rattle.regression.specs.Parameters.{Allowed, Within}
 use Rattle.mdp.specs.Model.{Variant, Action, Every, GoodTruthDiagram, GoodVariant, GoodAction}
-use Rattle.session.specs.Good.{GoodReward}
+use Rattle.session.specs.Good.{GoodValue}
 use Rattle.model_laws.specs.ArityLaws.{Grown, grown-more}
 use Rattle.model_laws.specs.ActionLaws.{every-mono}
 
@@ -155,7 +155,7 @@ module _ (ar br : List ℕ) (grown : Grown ar br) where
 
   -- ===== Parts of a model =====
 
-  pub reward-grown : (d : Diagram) → GoodReward ar d → GoodReward br d
+  pub reward-grown : (d : Diagram) → GoodValue ar d → GoodValue br d
   reward-grown d g = record {
     listed = good-grown d (g .listed);
     is-closed = closed-grown d (g .listed) (g .is-closed);

@@ -18,7 +18,7 @@ use Rattle.reading.specs.GoodLaws.{reading-sound}
 use Rattle.build.specs.Machine.{mostTests, built, builtClosed}
 use Rattle.session.specs.Session.{Names}
 use Rattle.session.specs.Modelling.{namesFor}
-use Rattle.session.specs.Good.{GoodTables, GoodReward}
+use Rattle.session.specs.Good.{GoodTables, GoodValue}
 use Rattle.model_laws.specs.DrawnLaws.{Read, built-read, built-good}
 
 module _ (n : Names) (ar : List ℕ) (good : GoodTables n ar) where
@@ -34,7 +34,7 @@ module _ (n : Names) (ar : List ℕ) (good : GoodTables n ar) where
         built-read ar (good .arities) (length ps) (reach b vs) (s .tree) (s .good) (omega (arith, s .shallow)) x (ap built (sym (s .operations)) ∙ m)
 
     -- a reward, which has no parameters
-    pub line-reward : reading (namesFor n ar b []) (diagramEvents d) vs ≡ fine w → builtClosed ar (w .operations) ≡ ok x → GoodReward ar x
+    pub line-reward : reading (namesFor n ar b []) (diagramEvents d) vs ≡ fine w → builtClosed ar (w .operations) ≡ ok x → GoodValue ar x
     line-reward e m =
         let s = reading-sound (namesFor n ar b []) (names-fit b [] (omega arith)) d vs w e in
         built-good ar (good .arities) (reach b vs) (s .tree) (s .good) (omega (arith, s .shallow)) x (ap (builtClosed ar) (sym (s .operations)) ∙ m)

@@ -17,14 +17,14 @@ use Rattle.build.specs.Machine.{mostTests, builtClosed}
 use Rattle.session.specs.declared.Part.the-variants.{Model as ModelPart}
 use Rattle.session.specs.Session.{Names, Session}
 use Rattle.session.specs.Modelling.{mostModelRows, namesFor, rowsWith, withReward, rewardRead, rewardLine}
-use Rattle.session.specs.Good.{GoodTables, GoodReward, GoodSession}
+use Rattle.session.specs.Good.{GoodTables, GoodValue, GoodSession}
 use Rattle.model_laws.specs.OutcomeLaws.{accepted-read}
 use Rattle.model_laws.specs.SessionLaws.{while-model, parts-with}
 use Rattle.model_laws.specs.ReadLaws.{line-reward}
 
 -- an accepted reward
 record Rewarded (ar : List ℕ) (r : ℕ) (d : Diagram) : Type 0 where
-  good : GoodReward ar d
+  good : GoodValue ar d
   few : rowsWith r d ≤ mostModelRows
 
 rewarded : (n : Names) (ar : List ℕ) → GoodTables n ar → (r : ℕ) (w : T.Diagram) → T.brackets w ≤ mostTests → Accepted (Rewarded ar r) (rewardRead n ar r (diagramEvents w))

@@ -9,7 +9,7 @@ use Rattle.mdp.specs.Model.{Action, Model, Every, GoodAction}
 use Rattle.session.specs.declared.Part.the-variants.{Model as ModelPart, Run}
 use Rattle.session.specs.Session.{Singles, Session}
 use Rattle.session.specs.Modelling.{mostModelRows}
-use Rattle.session.specs.Good.{GoodTables, Agreeing, GoodReward, GoodParts, GoodSession}
+use Rattle.session.specs.Good.{GoodTables, Agreeing, GoodValue, GoodParts, GoodSession}
 
 pub while-model : (σ : Session) → σ .part ≡ ModelPart → σ .live .objects ≡ 0 → GoodTables (σ .names) (σ .model .arities)
     → Agreeing (σ .names) (σ .model .actions) → GoodParts (σ .singles) (σ .model) → σ .rows ≤ mostModelRows → GoodSession σ
@@ -24,7 +24,7 @@ while-model σ part none tables agreeing parts few = record {
 }
 
 -- a model with other arities, reward and actions: its numbers stay good
-pub parts-with : (s t : Singles) (m : Model) (ar : List ℕ) (r : Diagram) (l : List Action) → GoodParts s m → (t .reward ≡ true → GoodReward ar r) → Every (GoodAction ar) l
+pub parts-with : (s t : Singles) (m : Model) (ar : List ℕ) (r : Diagram) (l : List Action) → GoodParts s m → (t .reward ≡ true → GoodValue ar r) → Every (GoodAction ar) l
     → GoodParts t (record { arities = ar; total = m .total; numerator = m .numerator; denominator = m .denominator; reward = r; actions = l })
 parts-with s t m ar r l g reward actions = record {
   total-some = g .total-some;

@@ -1,5 +1,5 @@
 -- What holds where a line stands where it may: the part of the text, and what the line's function requires.
-use mathlib.Core.Path.{_≡_, refl, sym, ap, subst, _∙_}
+use mathlib.Core.Path.{_≡_, refl, sym, ap, _∙_}
 use mathlib.Core.Bool.{Bool, true, false, not}
 use mathlib.Core.List.{List}
 use Prim.Native.Nat.{ℕ, _*_, _≤_}
@@ -9,15 +9,12 @@ use lib.Dec.{leb}
 use borrow.Author.Tests.{leb-true}
 use Rattle.basics.specs.Tests.{and-left}
 use Rattle.refusal.specs.declared.Refusal.the-variants.{Place}
-use Rattle.diagram.specs.Diagram.{Diagram}
 use Rattle.diagram.specs.Listing.{diagramOf}
 use Rattle.state.specs.State.{meaning}
 use Rattle.state.specs.Lent.{isState}
 use Rattle.refusal.specs.Outcome.{ok, refused}
 use Rattle.regression.specs.Parameters.{Within}
 use Rattle.mdp.specs.Model.{GoodModel}
-use Rattle.mdp.specs.Runs.{Held}
-use Rattle.mdp.specs.RunLaws.{run-right}
 use Rattle.text.specs.declared.Kind.{Kind}
 use Rattle.text.specs.declared.Kind.the-variants.{Start, Value, Backup, Cut}
 use Rattle.session.specs.declared.Part.{Part}
@@ -26,7 +23,6 @@ use Rattle.session.specs.declared.Rule.the-variants.{Misplaced}
 use Rattle.session.specs.Session.{Session}
 use Rattle.session.specs.Place.{ruleOf}
 use Rattle.session.specs.Replies.{isWhole, isPlaced, unless, allowed}
-use Rattle.session.specs.Good.{Begun}
 use Rattle.facts.specs.Words.{liveOf}
 use Rattle.model.specs.Layout.{modelOf, Laid}
 use Rattle.modelling.specs.BuildingLaws.{building-laid}
@@ -57,10 +53,7 @@ run-holding e r = r .stored .holding (in-run e r)
 pub run-within : {k : Kind} {s : List ℕ} {n : Numbers} {w : Memory} → ruleOf k Model ≡ Misplaced → Ready k s n w
     → Within 0 (meaning (w .arities) (diagramOf (take (n .held .rows * 3) (w .value))))
 unfolding sessionOf
-run-within {k} {s} {n} {w} e r =
-    let b : Begun (sessionOf n w) = r .good .begun (in-run e r) in
-    let m = modelOf (w .arities) (w .listings) (w .table) (n .head) in
-    subst (λ (d : Diagram). Within 0 (meaning (w .arities) d)) (sym (ap (λ (h : Held). h .diagram) (b .held))) (run-right m (b .good) (b .calls) .within)
+run-within e r = r .good .begun (in-run e r) .value .within
 
 -- ===== Words =====
 

@@ -13,7 +13,6 @@ use Rattle.state.specs.State.{meaning}
 use Rattle.state.specs.Lent.{isState}
 use Rattle.regression.specs.Parameters.{Within}
 use Rattle.mdp.specs.Model.{Action, Model, Every, GoodAction, GoodModel, mostTotal, mostDenominator, mostActions, mostVariants}
-use Rattle.mdp.specs.Runs.{Call, run}
 use Rattle.session.specs.declared.Part.the-variants.{Model as ModelPart, Run}
 use Rattle.session.specs.Session.{Names, Singles, Session}
 use Rattle.session.specs.Modelling.{mostModelRows}
@@ -39,8 +38,8 @@ pub record Agreeing (n : Names) (l : List Action) : Type 0 where
   pub count : length (n .actions) ≡ length l
   pub last : LastAction l (length (n .parameters)) (length (n .variants))
 
--- a reward that is read
-pub record GoodReward (ar : List ℕ) (d : Diagram) : Type 0 where
+-- a reward that is read, or a value diagram: it has a listing, is closed up and has no parameter
+pub record GoodValue (ar : List ℕ) (d : Diagram) : Type 0 where
   pub listed : Good ar d
   pub is-closed : closed ar d ≡ d
   pub within : Within 0 (meaning ar d)
@@ -52,15 +51,15 @@ pub record GoodParts (s : Singles) (m : Model) : Type 0 where
   pub denominator-some : 1 ≤ m .denominator
   pub denominator-few : m .denominator ≤ mostDenominator
   pub numerator-few : m .numerator ≤ m .denominator
-  pub reward : s .reward ≡ true → GoodReward (m .arities) (m .reward)
+  pub reward : s .reward ≡ true → GoodValue (m .arities) (m .reward)
   pub actions : Every (GoodAction (m .arities)) (m .actions)
 
--- the run has begun: the model is good, and what is held is what some list of backups and cuts leads to
+-- the run has begun: the model and the value diagram are good
 pub record Begun (σ : Session) : Type 0 where
   pub good : GoodModel (σ .model)
-  pub calls : List Call
-  pub held : σ .held ≡ run (σ .model) calls
+  pub value : GoodValue (σ .model .arities) (σ .held .diagram)
 
+-- all of it can be told from the session alone
 pub record GoodSession (σ : Session) : Type 0 where
   pub tables : GoodTables (σ .names) (σ .model .arities)
   pub agreeing : Agreeing (σ .names) (σ .model .actions)

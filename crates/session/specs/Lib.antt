@@ -49,8 +49,8 @@
 --   beginning, textRead, textAnswers == all answers of a text
 --
 -- Definitions: what holds from line to line
---   GoodTables, LastAction, Agreeing, GoodReward, GoodParts == names within limits, names and actions agree, what is read of a model is good
---   Begun, GoodSession == the run has begun with a good model, and what is held is what some backups and cuts lead to
+--   GoodTables, LastAction, Agreeing, GoodValue, GoodParts == names within limits, names and actions agree, what is read of a model is good
+--   Begun, GoodSession == the run has begun with a good model and a good value diagram; what can be told of a good session from itself alone
 --
 -- The theorems are in model_laws and session_laws.
 

@@ -1,23 +1,33 @@
 -- What holds of every session from line to line, and demands 1 and 3 for texts (document 01, sections 'Text', 'Backup' and 'A run, whole').
 --
--- Definitions
---   isQuiet == kinds of lines that print nothing where they are accepted
+-- Definitions: a line
+--   Makes, LeadsTo == the session behind an accepted line that prints nothing, kind by kind: a line of the model, (start), (objects), (is), (true)
 --   Answered == the reply to an accepted line is of its kind; (value) and (show) leave the session
 --   OneAnswer == a line is blank, prints nothing and leaves the session; or is refused under its own number, the session left; or stands where it may and is Answered
+--   IsValue == v is Mk of the state in hand, k that of the session, w is S^k
+--
+-- Definitions: lines and texts
 --   replies, repliesBytes, restBytes == the replies to lines in order; their bytes; what bytes behind the last line feed are answered
 --   unspaced, squeezed == lines without the blank ones; a text without its blank lines
 --   numbersFrom, under, replyUnder, renumbered == the numbers of lines with bytes; refusals under other line numbers
 --   Spacing == the answers of a text and of the same text without its blank lines: those of one list of replies, each under its line's number
---   IsValue == v is Mk of the state in hand, k that of the session, w is S^k
+--
+-- Definitions: the run behind lines
+--   callOf, callThen, callsOf == the backups and cuts that lines ask for, in order, accepted or refused
+--   isRefused, oneIfBackup, acceptedBackup, acceptedBackups == how many of the lines, with their replies, are accepted (backup) lines
+--   HoldsValues == in every state the highest leaf of the value diagram is Mk
+--   RunOf == the model is the one accepted at (start); value diagram and k are those of a run of it, of the very backups and cuts asked for behind it; k counts
+--            the accepted (backup) lines; HoldsValues
 --
 -- Theorems: demand 1 for texts
---   one-answer: every line has exactly one reply: none where it is blank, a refusal, or the answer of its kind
+--   one-answer: every line has exactly one reply: none where it is blank, a refusal, or the answer of its kind; and the session behind it, by its kind
 --   refused-leaves: a refused line leaves the session as it was
 --   text-bytes: a text's answers are those of its lines, one after another
 --   blank-leaves: a blank line prints nothing and leaves the session as it was
 --   spacing: blank lines move the line numbers of refusals and change no other answer (document 02, L1)
 --
 -- Theorems: demand 3 for texts
+--   text-run: behind any lines, once the run has begun, RunOf; read-run: so behind any text
 --   text-bellman: after any lines, an answered (value) is Mk of the state in hand, k and S^k
 --   text-value: and a (value) that stands where it may, with at most 1,000,000 valuations, is answered so
 --
@@ -26,13 +36,17 @@
 --   reply-good: every line keeps a session good
 --   objects-good: (objects n); is-good: (is c o); true-good: (true p o ..)
 --   start-good: (start); backup-good: (backup); cut-good: (cut)
+--   call-good: a backup or a cut leaves a good value diagram
 --   kept-good: so for a session that is kept in lent words
 
+pub mod LineAnswers
 pub mod TextReplies
+pub mod TextRuns
 pub mod PlaceLaws
 pub mod OpeningLaws
 pub mod StateLaws
 pub mod FactLaws
+pub mod HeldLaws
 pub mod RunLaws
 pub mod CaseLaws
 pub mod ReplyLaws
@@ -42,4 +56,5 @@ pub mod AnswerLaws
 pub mod ValueLaws
 pub mod FoldLaws
 pub mod BlankLaws
+pub mod TextRunLaws
 pub mod TextLaws

@@ -1,7 +1,7 @@
 -- (start), (backup) and (cut) keep a session good (document 01, sections 'Text', 'Backup' and 'Cut').
-use mathlib.Core.Path.{_≡_, refl, sym, ap, _∙_}
+use mathlib.Core.Path.{_≡_, refl, sym}
 use mathlib.Core.Bool.{true}
-use mathlib.Core.List.{List, [], _∷_, _++_}
+use mathlib.Core.List.{List}
 use Prim.Native.Nat.{ℕ, suc}
 use native.Mathlib.Omega.{arith}
 use Rattle.basics.specs.Tests.{and-left}
@@ -13,7 +13,7 @@ use Rattle.cutting.specs.declared.Cut.the-variants as C
 use Rattle.cutting.specs.Cut.{diagramAnswer}
 use Rattle.mdp.specs.Model.{Model, GoodModel}
 use Rattle.mdp.specs.Backup.{backup}
-use Rattle.mdp.specs.Runs.{Call, aBackup, aCut, Held, leaves, cutOutcome, taken, call, runFrom, begin, run}
+use Rattle.mdp.specs.Runs.{Call, aBackup, aCut, Held, leaves, cutOutcome, taken, call, begin}
 use Rattle.text.specs.declared.Kind.the-variants as K
 use Rattle.session.specs.declared.Part.the-variants.{Model as ModelPart, Run}
 use Rattle.session.specs.Place.{ruleOf}
@@ -21,8 +21,9 @@ use Rattle.session.specs.Session.{Session}
 use Rattle.session.specs.Modelling.{weighed}
 use Rattle.session.specs.Running.{withHeld, startLine, backupLine, cutTo, cutLine}
 use Rattle.session.specs.Replies.{isWhole, allowed}
-use Rattle.session.specs.Good.{Begun, GoodSession}
+use Rattle.session.specs.Good.{GoodValue, Begun, GoodSession}
 use Rattle.session_laws.specs.PlaceLaws.{model-run, start-model}
+use Rattle.session_laws.specs.HeldLaws.{call-good}
 
 -- ===== (start) =====
 
@@ -43,6 +44,10 @@ model-good σ g w =
       actions = g .parts .actions;
     }
 
+-- the value diagram starts as the reward
+reward-value : (m : Model) → GoodModel m → GoodValue (m .arities) (m .reward)
+reward-value m g = record { listed = g .reward-listed; is-closed = g .reward-closed; within = g .reward }
+
 -- another value diagram, in the run
 held-good : (σ : Session) → GoodSession σ → (h : Held) → Begun (withHeld σ Run h) → GoodSession (withHeld σ Run h)
 held-good σ g h b = record {
@@ -55,10 +60,6 @@ held-good σ g h b = record {
   begun = λ e. b;
 }
 
-begins : (m : Model) → begin m ≡ run m []
-unfolding run runFrom
-begins m = refl
-
 -- a session made from what a line reads
 pub made-by : {A : Type 0} (Q : Session → Type 0) (o : Outcome A) (f : A → Session) → ((a : A) → Q (f a)) → (τ : Session) → andThen o (λ a. ok (f a)) ≡ ok τ
     → Q τ
@@ -66,22 +67,13 @@ made-by Q o f h τ e = accepted-then {P = λ a. Unit {0}} {Q = Q} o (record { gi
 
 pub start-good : (σ : Session) → GoodSession σ → σ .part ≡ ModelPart → allowed σ (ruleOf K.Start (σ .part)) ≡ ok tt → (τ : Session)
     → startLine σ ≡ ok τ → GoodSession τ
-unfolding startLine
+unfolding startLine begin
 start-good σ g p a τ e =
     let m = model-good σ g (start-model σ p a) in
     made-by GoodSession (weighed (σ .model .arities) (σ .model .total) (σ .model .actions)) (λ u. withHeld σ Run (begin (σ .model)))
-    (λ u. held-good σ g (begin (σ .model)) (record { good = m; calls = []; held = begins (σ .model) })) τ e
+    (λ u. held-good σ g (begin (σ .model)) (record { good = m; value = reward-value (σ .model) m })) τ e
 
 -- ===== (backup) and (cut): one call more =====
-
-call-last : (m : Model) (c : Call) (l : List Call) (h : Held) → runFrom m (l ++ (c ∷ [])) h ≡ call m c (runFrom m l h)
-unfolding runFrom
-call-last m c [] h = refl
-call-last m c (d ∷ l) h = call-last m c l (call m d h)
-
-run-last : (m : Model) (c : Call) (l : List Call) → run m (l ++ (c ∷ [])) ≡ call m c (run m l)
-unfolding run
-run-last m c l = call-last m c l (begin m)
 
 -- the session that one call more leads to
 called-good : (σ : Session) → GoodSession σ → (c : Call) → GoodSession (withHeld σ (σ .part) (call (σ .model) c (σ .held)))
@@ -92,11 +84,7 @@ called-good σ g c = record {
   few = g .few;
   state = g .state;
   quiet = g .quiet;
-  begun = λ e. let b = g .begun e in record {
-    good = b .good;
-    calls = b .calls ++ (c ∷ []);
-    held = ap (call (σ .model) c) (b .held) ∙ sym (run-last (σ .model) c (b .calls));
-  };
+  begun = λ e. let b = g .begun e in record { good = b .good; value = call-good (σ .model) (b .good) c (σ .held) (b .value) };
 }
 
 backup-taken : (h : Held) (o : Outcome Diagram) (h′ : Held) → andThen o (λ d. ok (record { diagram = d; steps = suc (h .steps) })) ≡ ok h′

@@ -59,7 +59,7 @@ live-good σ g p l h = record {
   few = g .few;
   state = h;
   quiet = λ e. model-run (sym e ∙ p);
-  begun = λ e. let b = g .begun e in record { good = b .good; calls = b .calls; held = b .held };
+  begun = λ e. let b = g .begun e in record { good = b .good; value = b .value };
 }
 
 -- ===== (objects n) =====

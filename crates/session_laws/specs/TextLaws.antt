@@ -22,7 +22,10 @@ use Rattle.session_laws.specs.OpeningLaws.{opening-good}
 use Rattle.session_laws.specs.FactLaws.{WholeRows}
 use Rattle.session_laws.specs.ReplyLaws.{reply-good}
 use Rattle.session_laws.specs.WholeLaws.{reply-whole}
-use Rattle.session_laws.specs.ValueLaws.{IsValue, value-bellman, value-accepted}
+use Rattle.session_laws.specs.TextRuns.{RunOf}
+use Rattle.session_laws.specs.LineAnswers.{IsValue}
+use Rattle.session_laws.specs.ValueLaws.{value-bellman, value-accepted}
+use Rattle.session_laws.specs.TextRunLaws.{run-of}
 
 -- what holds of a session from line to line: it is good, and its facts are whole rows
 pub record Sound (σ : Session) : Type 0 where
@@ -46,19 +49,27 @@ pub text-sound : (ls : List (List ℕ)) → Sound (afterLines beginning ls .sess
 unfolding beginning
 text-sound ls = lines-sound beginning opening-sound ls
 
-rest-good : (p : Progress) → GoodSession (p .session) → (s : List ℕ) → GoodSession (afterRest p s .session)
-unfolding afterRest
-rest-good p g [] = g
-rest-good p g (b ∷ s) = g
+-- behind whatever lines, once the run has begun
+pub text-run : (ls : List (List ℕ)) → afterLines beginning ls .session .part ≡ Run → RunOf ls (afterLines beginning ls .session)
+text-run ls p = run-of ls p (text-sound ls .good .begun p .good)
 
-pub read-good : (s : List ℕ) → GoodSession (textRead s .session)
+-- bytes behind the last line feed leave the session as it was
+rest-session : (p : Progress) (s : List ℕ) → afterRest p s .session ≡ p .session
+unfolding afterRest
+rest-session p [] = refl
+rest-session p (b ∷ s) = refl
+
+-- so behind whatever text
+pub read-run : (s : List ℕ) → textRead s .session .part ≡ Run → RunOf (linesOf s .whole) (textRead s .session)
 unfolding textRead
-read-good s = rest-good (afterLines beginning (linesOf s .whole)) (text-sound (linesOf s .whole) .good) (linesOf s .rest)
+read-run s =
+    let ls = linesOf s .whole in
+    subst (λ (σ : Session). σ .part ≡ Run → RunOf ls σ) (sym (rest-session (afterLines beginning ls) (linesOf s .rest))) (text-run ls)
 
 -- after whatever lines, whatever line is answered (value v k w)
 pub text-bellman : (ls : List (List ℕ)) (number : ℕ) (s : List ℕ) (v k w : ℕ) → reply (afterLines beginning ls .session) number s .answer ≡ A.Value v k w
     → IsValue (afterLines beginning ls .session) v k w
-text-bellman ls number s v k w e = value-bellman (afterLines beginning ls .session) (text-sound ls .good) number s v k w e
+text-bellman ls number s v k w e = value-bellman (afterLines beginning ls .session) (text-sound ls .good) (λ p. text-run ls p .values) number s v k w e
 
 -- and a (value) that stands where it may, with few valuations, is answered so
 pub text-value : (ls : List (List ℕ)) (σ : Session) → σ ≡ afterLines beginning ls .session → σ .part ≡ Run → isPlaced σ ≡ true
@@ -68,5 +79,5 @@ pub text-value : (ls : List (List ℕ)) (σ : Session) → σ ≡ afterLines beg
       answer = A.Value (bellman (σ .model) (σ .held .steps) (stateIn (σ .model .arities) (σ .live))) (σ .held .steps) (scale (σ .model) ^ σ .held .steps);
     }
 text-value ls σ q p h few number =
-    value-accepted σ (subst GoodSession (sym q) (text-sound ls .good)) p h few number (lineBytes (line K.Value tt))
+    value-accepted σ (subst GoodSession (sym q) (text-sound ls .good)) (subst (λ (τ : Session). τ .part ≡ Run → RunOf ls τ) (sym q) (text-run ls) p .values) p h few number (lineBytes (line K.Value tt))
     (line-complete (line K.Value tt) (tt, omega arith, omega arith))

@@ -18,8 +18,6 @@ use Rattle.refusal.specs.Outcome.{ok}
 use Rattle.refusal.specs.OutcomeLaws.{accepted-ok, accepted-cond}
 use Rattle.mdp.specs.Model.{scale}
 use Rattle.mdp.specs.Bellman.{bellman}
-use Rattle.mdp.specs.Runs.{Held}
-use Rattle.mdp.specs.RunLaws.{demand-3}
 use Rattle.text.specs.declared.Kind.{Kind}
 use Rattle.text.specs.declared.Kind.the-variants as K
 use Rattle.text.specs.LineForm.{lineKind}
@@ -31,15 +29,11 @@ use Rattle.session.specs.Session.{Session}
 use Rattle.session.specs.Running.{stateIn, valueRead}
 use Rattle.session.specs.Replies.{Reply, isPlaced, allowed, valueSays, done, placed, replyTo, wordsOf, reply}
 use Rattle.session.specs.Good.{GoodSession}
+use Rattle.session_laws.specs.TextRuns.{HoldsValues}
 use Rattle.session_laws.specs.PlaceLaws.{in-run, value-placed, value-allowed, placed-objects}
-use Rattle.session_laws.specs.AnswerLaws.{Answered, quiet, valued, backed, cutting, showing, OneAnswer, blank, refusing, accepted, one-answer}
+use Rattle.session_laws.specs.LineAnswers.{Answered, quiet, valued, backed, cutting, showing, OneAnswer, blank, refusing, accepted, IsValue}
+use Rattle.session_laws.specs.AnswerLaws.{one-answer}
 use Rattle.session_laws.specs.StateLaws.{Described, described}
-
--- the answer of (value): Mk of the state in hand, k and S^k
-pub record IsValue (σ : Session) (v k w : ℕ) : Type 0 where
-  pub value : v ≡ bellman (σ .model) k (stateIn (σ .model .arities) (σ .live))
-  pub steps : k ≡ σ .held .steps
-  pub power : w ≡ scale (σ .model) ^ k
 
 state-good : (ar : List ℕ) (n : ℕ) (constants facts : List ℕ) → Described ar n constants facts → Good (stateOf ar n constants facts)
 unfolding stateOf
@@ -50,19 +44,15 @@ state-good ar n constants facts d = record {
       (λ h. rw (low-ge constantCount c (getD constants c 0) 0 h) (d .some));
 }
 
--- once the run has begun and there are objects, the highest leaf of the value diagram is Mk
-pub held-bellman : (σ : Session) → GoodSession σ → σ .part ≡ Run → 1 ≤ σ .live .objects
+-- once there are objects, in the state in hand
+pub held-bellman : (σ : Session) → GoodSession σ → HoldsValues σ → 1 ≤ σ .live .objects
     → highest (stateIn (σ .model .arities) (σ .live)) [] (meaning (σ .model .arities) (σ .held .diagram))
     ≡ bellman (σ .model) (σ .held .steps) (stateIn (σ .model .arities) (σ .live))
 unfolding stateIn
-held-bellman σ g p some =
-    let m = σ .model in
+held-bellman σ g v some =
+    let ar = σ .model .arities in
     let l = σ .live in
-    let b = g .begun p in
-    let s = stateIn (m .arities) l in
-    subst (λ (h : Held). highest s [] (meaning (m .arities) (h .diagram)) ≡ bellman m (h .steps) s) (sym (b .held))
-    (demand-3 m (b .good) (b .calls) s (state-good (m .arities) (l .objects) (l .constants) (l .facts)
-    (described (m .arities) (l .objects) (l .constants) (l .facts) (g .state some))))
+    v .each (stateIn ar l) (state-good ar (l .objects) (l .constants) (l .facts) (described ar (l .objects) (l .constants) (l .facts) (g .state some)))
 
 -- ===== The line =====
 
@@ -74,20 +64,21 @@ value-found σ v e =
     (ltb mostValuations (valuations (σ .model .arities) (σ .live .objects) (σ .held .diagram))) Valuations _ (λ d. accepted-ok refl) .given v e
 
 -- where the place of a (value) is right and it reads v, v is Mk
-read-bellman : (σ : Session) → GoodSession σ → allowed σ (ruleOf K.Value (σ .part)) ≡ ok tt → (v : ℕ)
+read-bellman : (σ : Session) → GoodSession σ → (σ .part ≡ Run → HoldsValues σ) → allowed σ (ruleOf K.Value (σ .part)) ≡ ok tt → (v : ℕ)
     → valueRead (σ .model .arities) (σ .live) (σ .held .diagram) ≡ ok v → v ≡ bellman (σ .model) (σ .held .steps) (stateIn (σ .model .arities) (σ .live))
-read-bellman σ g a v e =
+read-bellman σ g h a v e =
     let p = in-run σ (ruleOf K.Value) refl (σ .part) a in
-    value-found σ v e ∙ held-bellman σ g p (placed-objects σ (value-placed σ p a))
+    value-found σ v e ∙ held-bellman σ g (h p) (placed-objects σ (value-placed σ p a))
 
 -- whatever line is answered (value v k w)
-pub value-bellman : (σ : Session) → GoodSession σ → (number : ℕ) (s : List ℕ) (v k w : ℕ) → reply σ number s .answer ≡ A.Value v k w → IsValue σ v k w
-value-bellman σ g number s v k w e = go (lineKind s) (reply σ number s) (one-answer σ number s) e
+pub value-bellman : (σ : Session) → GoodSession σ → (σ .part ≡ Run → HoldsValues σ) → (number : ℕ) (s : List ℕ) (v k w : ℕ)
+    → reply σ number s .answer ≡ A.Value v k w → IsValue σ v k w
+value-bellman σ g holds number s v k w e = go (lineKind s) (reply σ number s) (one-answer σ number s) e
   where
-    valued-is : (i : Kind) (y : Reply) → allowed σ (ruleOf i (σ .part)) ≡ ok tt → Answered σ i y → y .answer ≡ A.Value v k w → IsValue σ v k w
+    valued-is : (i : Kind) (y : Reply) → allowed σ (ruleOf i (σ .part)) ≡ ok tt → Answered σ (wordsOf i s) i y → y .answer ≡ A.Value v k w → IsValue σ v k w
     valued-is i y a (quiet p q) e = let z : _≡_ {A = ℕ} 0 1 = cc in absurd (omega arith)
     valued-is i y a (valued x p h t q) e =
-        let b = read-bellman σ g (subst (λ j. allowed σ (ruleOf j (σ .part)) ≡ ok tt) p a) x h in
+        let b = read-bellman σ g holds (subst (λ j. allowed σ (ruleOf j (σ .part)) ≡ ok tt) p a) x h in
         let vs : x ≡ v = cc in
         let ks : σ .held .steps ≡ k = cc in
         let ws : scale (σ .model) ^ σ .held .steps ≡ w = cc in
@@ -118,15 +109,15 @@ value-few : (σ : Session) → valuations (σ .model .arities) (σ .live .object
 unfolding valueRead
 value-few σ few = rw (le-ltb mostValuations (valuations (σ .model .arities) (σ .live .objects) (σ .held .diagram)) few)
 
-pub value-accepted : (σ : Session) → GoodSession σ → σ .part ≡ Run → isPlaced σ ≡ true
+pub value-accepted : (σ : Session) → GoodSession σ → HoldsValues σ → σ .part ≡ Run → isPlaced σ ≡ true
     → valuations (σ .model .arities) (σ .live .objects) (σ .held .diagram) ≤ mostValuations → (number : ℕ) (s : List ℕ) → lineKind s ≡ K.Value
     → reply σ number s ≡ record {
       session = σ;
       answer = A.Value (bellman (σ .model) (σ .held .steps) (stateIn (σ .model .arities) (σ .live))) (σ .held .steps) (scale (σ .model) ^ σ .held .steps);
     }
 unfolding reply lineKind
-value-accepted σ g p h few number [] i = let z : _≡_ {A = ℕ} 0 1 = cc in absurd (omega arith)
-value-accepted σ g p h few number (b ∷ t) i =
+value-accepted σ g v p h few number [] i = let z : _≡_ {A = ℕ} 0 1 = cc in absurd (omega arith)
+value-accepted σ g v p h few number (b ∷ t) i =
     let s = b ∷ t in
     ap (λ k. replyTo σ number k (wordsOf k s)) i
-    ∙ value-says σ number (wordsOf K.Value s) (value-allowed σ p h) _ (value-few σ few ∙ ap ok (held-bellman σ g p (placed-objects σ h)))
+    ∙ value-says σ number (wordsOf K.Value s) (value-allowed σ p h) _ (value-few σ few ∙ ap ok (held-bellman σ g v (placed-objects σ h)))

@@ -1,0 +1,75 @@
+-- What a line is answered, and the session behind it, kind by kind (document 01, sections 'Text' and 'A run, whole').
+use mathlib.Core.Path.{_≡_}
+use mathlib.Core.List.{List, []}
+use Prim.Native.Nat.{ℕ, _^_}
+use lib.ListN.{length, drop}
+use Rattle.refusal.specs.declared.Refusal.{Refusal}
+use Rattle.diagram.specs.Rows.{rows}
+use Rattle.refusal.specs.Outcome.{Outcome, ok}
+use Rattle.cutting.specs.declared.Edge.{Edge}
+use Rattle.cutting.specs.declared.Cut.the-variants as C
+use Rattle.cutting.specs.Cut.{diagramAnswer}
+use Rattle.mdp.specs.Model.{scale}
+use Rattle.mdp.specs.Bellman.{bellman}
+use Rattle.mdp.specs.Runs.{Held}
+use Rattle.text.specs.declared.Kind.{Kind}
+use Rattle.text.specs.declared.Kind.the-variants as K
+use Rattle.events.specs.declared.Event.{Event}
+use Rattle.events.specs.Contents.{keyIn, numberIn, wordAt, keysIn, numbersIn}
+use Rattle.answers.specs.declared.Answer.the-variants as A
+use Rattle.session.specs.Place.{ruleOf}
+use Rattle.session.specs.Session.{Session}
+use Rattle.session.specs.Declaring.{constantLine, predicateLine, totalLine, discountLine, actionLine}
+use Rattle.session.specs.Facts.{objectsLine, isLine, trueLine}
+use Rattle.session.specs.Modelling.{rewardLine, variantLine, becomesLine}
+use Rattle.session.specs.Running.{withHeld, startLine, stateIn, valueRead, backupLine, cutLine}
+use Rattle.session.specs.Replies.{Reply, refusal, silent, allowed, withNames, withLive, withVocabulary, withTotal, withDiscount, withAction, wordsOf}
+
+-- the outcome is accepted, and the session is made of it
+abbrev pub Makes : {A : Type 0} → Outcome A → (A → Session) → Session → Type 0
+Makes {A} o f τ = (a : A) × (o ≡ ok a) × (τ ≡ f a)
+
+-- τ is the session behind an accepted line of the kind k with the words es, one that prints nothing: a line of the model, (start), (objects), (is) or (true)
+abbrev pub LeadsTo : Session → List Event → Kind → Session → Type 0
+LeadsTo σ es K.Constant τ = Makes (constantLine (σ .names) (keyIn (wordAt es 0))) (withNames σ) τ
+LeadsTo σ es K.Predicate τ =
+    Makes (predicateLine (record { names = σ .names; arities = σ .model .arities }) (keyIn (wordAt es 0)) (numberIn (wordAt es 1))) (withVocabulary σ) τ
+LeadsTo σ es K.Total τ = Makes (totalLine (numberIn (wordAt es 0))) (withTotal σ) τ
+LeadsTo σ es K.Discount τ = Makes (discountLine (numberIn (wordAt es 0)) (numberIn (wordAt es 1))) (withDiscount σ) τ
+LeadsTo σ es K.Reward τ = rewardLine σ es ≡ ok τ
+LeadsTo σ es K.Action τ = Makes (actionLine (σ .names) (keyIn (wordAt es 0)) (keysIn (drop 1 es))) (withAction σ) τ
+LeadsTo σ es K.Variant τ = variantLine σ (keyIn (wordAt es 0)) (drop 1 es) ≡ ok τ
+LeadsTo σ es K.Becomes τ = becomesLine σ es ≡ ok τ
+LeadsTo σ es K.Start τ = startLine σ ≡ ok τ
+LeadsTo σ es K.Objects τ = Makes (objectsLine (numberIn (wordAt es 0))) (withLive σ) τ
+LeadsTo σ es K.Is τ = Makes (isLine (σ .names) (σ .live) (keyIn (wordAt es 0)) (numberIn (wordAt es 1))) (withLive σ) τ
+LeadsTo σ es K.True τ = Makes (trueLine (σ .model .arities) (σ .names) (σ .live) (keyIn (wordAt es 0)) (numbersIn (drop 1 es))) (withLive σ) τ
+LeadsTo σ es K.Value τ = ⊥
+LeadsTo σ es K.Backup τ = ⊥
+LeadsTo σ es K.Cut τ = ⊥
+LeadsTo σ es K.Show τ = ⊥
+LeadsTo σ es K.Bad τ = ⊥
+
+-- the reply y to an accepted line of the kind k with the words es; (value) and (show) leave the session as it was
+pub data Answered (σ : Session) (es : List Event) (k : Kind) (y : Reply) : Type 0 where
+  quiet : LeadsTo σ es k (y .session) → y .answer ≡ A.Nothing → Answered σ es k y
+  valued : (v : ℕ) → k ≡ K.Value → valueRead (σ .model .arities) (σ .live) (σ .held .diagram) ≡ ok v
+      → y .session ≡ σ → y .answer ≡ A.Value v (σ .held .steps) (scale (σ .model) ^ σ .held .steps) → Answered σ es k y
+  backed : (h : Held) → k ≡ K.Backup → backupLine (σ .model) (σ .held) ≡ ok h
+      → y .session ≡ withHeld σ (σ .part) h → y .answer ≡ A.Backup (h .steps) (length (rows (h .diagram))) → Answered σ es k y
+  cutting : (row : ℕ) (e : Edge) (n : ℕ) → k ≡ K.Cut → diagramAnswer (σ .model .arities) (σ .held .diagram) ≡ C.Done row e n
+      → y .session ≡ withHeld σ (σ .part) (cutLine (σ .model .arities) (σ .held)) → y .answer ≡ A.Cut row e n → Answered σ es k y
+  showing : k ≡ K.Show → y .session ≡ σ → y .answer ≡ A.Show (length (rows (σ .held .diagram))) → Answered σ es k y
+
+-- the reply y to line `number`, which has the bytes s and is of the kind k: it is blank, prints nothing and leaves the session as it was; or it is
+-- refused under its own number and leaves the session as it was; or it stands where it may and is answered as its kind is
+pub data OneAnswer (σ : Session) (number : ℕ) (s : List ℕ) (k : Kind) (y : Reply) : Type 0 where
+  blank : s ≡ [] → y ≡ silent σ → OneAnswer σ number s k y
+  refusing : (r : Refusal) → y ≡ refusal σ number r → OneAnswer σ number s k y
+  accepted : allowed σ (ruleOf k (σ .part)) ≡ ok tt → Answered σ (wordsOf k s) k y → OneAnswer σ number s k y
+
+-- the answer of (value): Mk of the state in hand, k and S^k
+pub record IsValue (σ : Session) (v k w : ℕ) : Type 0 where
+  pub value : v ≡ bellman (σ .model) k (stateIn (σ .model .arities) (σ .live))
+  pub steps : k ≡ σ .held .steps
+  pub power : w ≡ scale (σ .model) ^ k
