@@ -1,4 +1,8 @@
--- Every line of the model keeps a session good (document 01, section 'Text'). Laws only.
+-- Every line of the model keeps a session good, and the count of the model's rows right (document 01, section 'Text').
+--
+-- Definitions
+--   rowsIn, truthRows, variantRows, actionRows, modelRows == the rows of all model listings: the reward's, the weights' and the truth diagrams'
+--   Counted == `rows` of a session is that sum
 --
 -- Theorems
 --   constant-good: an accepted (constant n) keeps a session good
@@ -8,8 +12,10 @@
 --   reward-good: (reward DIAGRAM)
 --   variant-good: (variant n WEIGHT)
 --   becomes-good: (becomes (p ?a ..) DIAGRAM)
+--   reward-counted, action-counted, variant-counted, becomes-counted: each keeps `rows` the sum of the rows of all model listings
 --   built-read: what a good reading builds is a good diagram, with the terms that the reading names
 
+pub mod ModelRows
 pub mod OutcomeLaws
 pub mod SessionLaws
 pub mod ActionLaws
@@ -23,3 +29,4 @@ pub mod RewardLaws
 pub mod VariantLaws
 pub mod HeadLaws
 pub mod BecomesLaws
+pub mod RowLaws

@@ -2,12 +2,11 @@
 -- (document 02, L1).
 use mathlib.Core.Path.{_≡_, refl, sym, ap, ap₂, _∙_}
 use mathlib.Core.Bool.{Bool, true, false, cond, _||_}
-use mathlib.Core.List.{List, [], _∷_, _++_, append-assoc}
+use mathlib.Core.List.{List, [], _∷_, _++_}
 use Prim.Native.Nat.{ℕ, suc}
 use lib.ListN.{length, drop}
 use lib.Dec.{eqb}
 use Rattle.basics.specs.Tests.{Flag, isTrue, isFalse, flag}
-use Rattle.diagram.specs.Listing.{listing}
 use Rattle.refusal.specs.Outcome.{Outcome, ok, refused}
 use Rattle.cutting.specs.declared.Cut.{Cut}
 use Rattle.cutting.specs.declared.Cut.the-variants as C
@@ -27,10 +26,10 @@ use Rattle.session.specs.Modelling.{rewardLine, variantLine, becomesLine}
 use Rattle.session.specs.Running.{startLine, valueRead, backupLine, cutSays}
 use Rattle.session.specs.Replies.{Reply, silent, quietly, valueSays, backupSays, allowed, withNames, withLive, withVocabulary}
 use Rattle.session.specs.Replies.{withTotal, withDiscount, withAction, done, placed, replyTo, wordsOf, reply}
-use Rattle.session.specs.Texts.{lineFeed, Lines, behindByte, linesOf, hasBytes, Progress, replyBytes, replied}
+use Rattle.session.specs.Texts.{lineFeed, Lines, behindByte, linesOf, hasBytes, Progress, replyBytes}
 use Rattle.session.specs.Texts.{afterLine, afterLines, afterRest, closing, beginning, textRead, textAnswers}
 use Rattle.session_laws.specs.CaseLaws.{vocabularyOf}
-use Rattle.session_laws.specs.TextReplies.{replies, repliesBytes, restBytes, unspaced, squeezed, numbersFrom, under, replyUnder, renumbered}
+use Rattle.session_laws.specs.TextReplies.{replies, repliesBytes, restBytes, unspaced, squeezed, numbersFrom, under, replyUnder, renumbered, Spacing}
 use Rattle.session_laws.specs.FoldLaws.{text-bytes}
 
 -- ===== One line =====
@@ -218,11 +217,6 @@ squeezed-lines (b ∷ s) = go (flag (eqb b lineFeed)) (squeezed-lines s)
           within =
               ap linesOf (squeezed-byte b s false q) ∙ t ∙ byte-behind b (linesOf s .whole) (linesOf s .rest) ∙ sym (ap unspacedBehind (lines-byte b s q));
         }
-
--- the answers of a text and of the same text without its blank lines: ys are the replies to the lines with bytes
-pub record Spacing (s : List ℕ) (ys : List Reply) (end : List ℕ) : Type 0 where
-  pub spaced : textAnswers s ≡ (repliesBytes (renumbered (numbersFrom 0 (linesOf s .whole)) ys) ++ restBytes (length (linesOf s .whole)) (linesOf s .rest)) ++ end
-  pub plain : textAnswers (squeezed true s) ≡ (repliesBytes ys ++ restBytes (length (unspaced (linesOf s .whole))) (linesOf s .rest)) ++ end
 
 plain-read : (s : List ℕ) → textRead (squeezed true s) ≡ afterRest (afterLines beginning (unspaced (linesOf s .whole))) (linesOf s .rest)
 unfolding textRead

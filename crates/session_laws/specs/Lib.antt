@@ -37,7 +37,9 @@
 --   objects-good: (objects n); is-good: (is c o); true-good: (true p o ..)
 --   start-good: (start); backup-good: (backup); cut-good: (cut)
 --   call-good: a backup or a cut leaves a good value diagram
---   kept-good: so for a session that is kept in lent words
+--   reply-counted: every line keeps `rows` the sum of the rows of all model listings
+--   text-sound: so behind any lines a session is good, its facts are whole rows and `rows` is that sum
+--   kept-good: every line keeps a session good that is kept in lent words
 
 pub mod LineAnswers
 pub mod TextReplies
@@ -51,6 +53,7 @@ pub mod RunLaws
 pub mod CaseLaws
 pub mod ReplyLaws
 pub mod WholeLaws
+pub mod CountLaws
 pub mod MemoryLaws
 pub mod AnswerLaws
 pub mod ValueLaws

@@ -36,7 +36,19 @@ unless-passed : (b : Bool) → unless (not b) ≡ ok tt → b ≡ true
 unless-passed true e = refl
 unless-passed false e = let z : _≡_ {A = ℕ} 0 1 = cc in absurd (omega arith)
 
+unless-off : (b : Bool) → unless b ≡ ok tt → b ≡ false
+unless-off true e = let z : _≡_ {A = ℕ} 0 1 = cc in absurd (omega arith)
+unless-off false e = refl
+
 module _ (σ : Session) where
+  pub reward-new : σ .part ≡ Model → allowed σ (ruleOf K.Reward (σ .part)) ≡ ok tt → σ .singles .reward ≡ false
+  unfolding allowed
+  reward-new p a = unless-off (σ .singles .reward) (subst (λ q. allowed σ (ruleOf K.Reward q) ≡ ok tt) p a)
+
+  pub becomes-variant : σ .part ≡ Model → allowed σ (ruleOf K.Becomes (σ .part)) ≡ ok tt → 1 ≤ length (σ .names .variants)
+  unfolding allowed
+  becomes-variant p a = leb-true 1 _ (unless-passed (leb 1 (length (σ .names .variants))) (subst (λ q. allowed σ (ruleOf K.Becomes q) ≡ ok tt) p a))
+
   pub start-model : σ .part ≡ Model → allowed σ (ruleOf K.Start (σ .part)) ≡ ok tt → isWhole σ ≡ true
   unfolding allowed
   start-model p a = unless-passed (isWhole σ) (subst (λ q. allowed σ (ruleOf K.Start q) ≡ ok tt) p a)

@@ -18,26 +18,33 @@ use Rattle.session.specs.Running.{stateIn}
 use Rattle.session.specs.Replies.{isPlaced, reply}
 use Rattle.session.specs.Good.{GoodSession}
 use Rattle.session.specs.Texts.{hasBytes, Progress, replied, afterLine, afterLines, afterRest, beginning, linesOf, textRead}
+use Rattle.model_laws.specs.ModelRows.{Counted}
 use Rattle.session_laws.specs.OpeningLaws.{opening-good}
 use Rattle.session_laws.specs.FactLaws.{WholeRows}
 use Rattle.session_laws.specs.ReplyLaws.{reply-good}
 use Rattle.session_laws.specs.WholeLaws.{reply-whole}
 use Rattle.session_laws.specs.TextRuns.{RunOf}
+use Rattle.session_laws.specs.CountLaws.{opening-counted, reply-counted}
 use Rattle.session_laws.specs.LineAnswers.{IsValue}
 use Rattle.session_laws.specs.ValueLaws.{value-bellman, value-accepted}
 use Rattle.session_laws.specs.TextRunLaws.{run-of}
 
--- what holds of a session from line to line: it is good, and its facts are whole rows
+-- what holds of a session from line to line: it is good, its facts are whole rows, and `rows` counts the rows of its model
 pub record Sound (σ : Session) : Type 0 where
   pub good : GoodSession σ
   pub whole : WholeRows (σ .live .facts)
+  pub counted : Counted σ
 
 opening-sound : Sound opening
 unfolding opening
-opening-sound = record { good = opening-good; whole = refl }
+opening-sound = record { good = opening-good; whole = refl; counted = opening-counted }
 
 pub reply-sound : (σ : Session) → Sound σ → (number : ℕ) (s : List ℕ) → Sound (reply σ number s .session)
-reply-sound σ h number s = record { good = reply-good σ (h .good) (h .whole) number s; whole = reply-whole σ (h .whole) number s }
+reply-sound σ h number s = record {
+  good = reply-good σ (h .good) (h .whole) number s;
+  whole = reply-whole σ (h .whole) number s;
+  counted = reply-counted σ (h .good) (h .counted) number s;
+}
 
 lines-sound : (p : Progress) → Sound (p .session) → (ls : List (List ℕ)) → Sound (afterLines p ls .session)
 unfolding afterLines afterLine
@@ -79,5 +86,6 @@ pub text-value : (ls : List (List ℕ)) (σ : Session) → σ ≡ afterLines beg
       answer = A.Value (bellman (σ .model) (σ .held .steps) (stateIn (σ .model .arities) (σ .live))) (σ .held .steps) (scale (σ .model) ^ σ .held .steps);
     }
 text-value ls σ q p h few number =
-    value-accepted σ (subst GoodSession (sym q) (text-sound ls .good)) (subst (λ (τ : Session). τ .part ≡ Run → RunOf ls τ) (sym q) (text-run ls) p .values) p h few number (lineBytes (line K.Value tt))
-    (line-complete (line K.Value tt) (tt, omega arith, omega arith))
+    let sound = subst Sound (sym q) (text-sound ls) in
+    let run = subst (λ (τ : Session). τ .part ≡ Run → RunOf ls τ) (sym q) (text-run ls) p in
+    value-accepted σ (sound .good) (run .values) p h few number (lineBytes (line K.Value tt)) (line-complete (line K.Value tt) (tt, omega arith, omega arith))

@@ -1,7 +1,9 @@
 -- The replies of a text one after another, and the same text without its blank lines (document 01, sections 'Text' and 'A run, whole'; document 02, L1).
+use mathlib.Core.Path.{_≡_}
 use mathlib.Core.Bool.{Bool, true, false, cond}
 use mathlib.Core.List.{List, [], _∷_, _++_}
 use Prim.Native.Nat.{ℕ, suc}
+use lib.ListN.{length}
 use lib.Dec.{eqb}
 use Rattle.refusal.specs.declared.Refusal.the-variants.{Form}
 use Rattle.answers.specs.declared.Answer.{Answer}
@@ -9,7 +11,7 @@ use Rattle.answers.specs.declared.Answer.the-variants as A
 use Rattle.answers.specs.Answers.{answerLine}
 use Rattle.session.specs.Session.{Session}
 use Rattle.session.specs.Replies.{Reply, reply}
-use Rattle.session.specs.Texts.{lineFeed, hasBytes, replyBytes}
+use Rattle.session.specs.Texts.{lineFeed, linesOf, hasBytes, replyBytes, textAnswers}
 
 -- the replies to lines, of which n stand before them
 unfoldable pub replies : Session → ℕ → List (List ℕ) → List Reply
@@ -62,3 +64,8 @@ abbrev pub renumbered : List ℕ → List Reply → List Reply
 renumbered [] ys = []
 renumbered (i ∷ is) [] = []
 renumbered (i ∷ is) (y ∷ ys) = replyUnder i y ∷ renumbered is ys
+
+-- the answers of a text and of the same text without its blank lines: ys are the replies to the lines with bytes
+pub record Spacing (s : List ℕ) (ys : List Reply) (end : List ℕ) : Type 0 where
+  pub spaced : textAnswers s ≡ (repliesBytes (renumbered (numbersFrom 0 (linesOf s .whole)) ys) ++ restBytes (length (linesOf s .whole)) (linesOf s .rest)) ++ end
+  pub plain : textAnswers (squeezed true s) ≡ (repliesBytes ys ++ restBytes (length (unspaced (linesOf s .whole))) (linesOf s .rest)) ++ end
