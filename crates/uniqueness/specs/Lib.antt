@@ -1,0 +1,7 @@
+-- Demand 2.
+
+-- definitions
+pub mod Meaning
+-- laws
+pub mod OnlyLaws
+pub mod RegressLaws

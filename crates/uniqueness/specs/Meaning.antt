@@ -1,0 +1,71 @@
+-- What a result means, choice by choice, and what it is to be the only diagram with a meaning (document 01, sections 'Terms, labels, listings',
+-- 'Combination' and 'Regression').
+use mathlib.Core.Path.{_≡_}
+use mathlib.Core.Bool.{Bool, true}
+use mathlib.Core.List.{List}
+use mathlib.Core.Option.{Option, some, none}
+use Prim.Native.Nat.{ℕ}
+use lib.Dec.{eqb}
+use Rattle.label.specs.Limits.{firstVariable}
+use Rattle.label.specs.Labels.{predicateOf, unpacked, termsOf}
+use Rattle.label.specs.Renamings.{moved, numbering, freeing}
+use Rattle.diagram.specs.Diagram.{Diagram, eval, Ordered, Reduced}
+use Rattle.diagram.specs.Words.{isListing}
+use Rattle.diagram.specs.Listing.{diagramOf, Good}
+use Rattle.diagram.specs.Variables.{variables}
+use Rattle.regression.specs.Regression.{argument, Truths, truthOf}
+use Rattle.regression.specs.Result.{asked}
+
+-- 'A diagram's meaning is the leaf that each choice of true or false for all labels leads to, choices against equality included'
+abbrev pub Choice : Type 0
+Choice = ℕ → Bool
+
+abbrev pub Meaning : Type 0
+Meaning = Choice → ℕ
+
+-- d is good, means M, and is the only ordered reduced diagram that does
+pub record TheOnly (ar : List ℕ) (M : Meaning) (d : Diagram) : Type 0 where
+  pub good : Good ar d
+  pub means : (c : Choice) → eval c d ≡ M c
+  pub only : (x : Diagram) → Ordered x → Reduced x → ((c : Choice) → eval c x ≡ M c) → x ≡ d
+
+-- the words are a listing that means M, and the only one
+pub record TheOnlyListing (ar : List ℕ) (M : Meaning) (words : List ℕ) : Type 0 where
+  pub listed : isListing ar words ≡ true
+  pub means : (c : Choice) → eval c (diagramOf words) ≡ M c
+  pub only : (other : List ℕ) → isListing ar other ≡ true → ((c : Choice) → eval c (diagramOf other) ≡ M c) → other ≡ words
+
+-- ===== Terms replaced =====
+
+-- a choice for the new labels as one for the old: each label has the truth of what it asks once all of its terms are replaced together by ρ; 't = t is no
+-- label but plain truth'
+abbrev pub through : List ℕ → (ℕ → ℕ) → Choice → Choice
+through ar ρ c l = asked c (moved ar ρ l)
+
+-- 'Closing up renames the used variables to 32, 33, .. in their order': those of d
+abbrev pub closing : List ℕ → Diagram → ℕ → ℕ
+closing ar d = numbering (variables ar d) firstVariable
+
+-- 'Freeing turns parameter 16 + i into variable 32 + i and moves the other variables up by the action's parameter count'
+unfoldable pub freeMeaning : List ℕ → ℕ → Diagram → Meaning
+unfolding eval
+freeMeaning ar count d c = eval (through ar (freeing count) c) d
+
+-- ===== Regression =====
+
+-- the truth of the label l, a p(t1 ..), in the next state, where c has the truths in the old one: 'exactly if its truth diagram gives 1', and 'to use it at
+-- p(t1..), all arguments are replaced together'; 'a predicate without one .. stay[s]'
+unfoldable pub usedAt : List ℕ → Option Diagram → Choice → Choice
+unfolding eval
+usedAt ar none c l = c l
+usedAt ar (some d) c l = eqb (eval (through ar (argument (termsOf ar (unpacked l))) c) d) 1
+
+-- the choice in the next state: each label by the truth diagram of its predicate; equality has none
+unfoldable pub nextChoice : List ℕ → Truths → Choice → Choice
+unfolding usedAt truthOf
+nextChoice ar truths c l = usedAt ar (truthOf truths (predicateOf l)) c l
+
+-- what the regression of d means: the leaf that d leads to in the next state
+unfoldable pub regressMeaning : List ℕ → Truths → Diagram → Meaning
+unfolding nextChoice
+regressMeaning ar truths d c = eval (nextChoice ar truths c) d

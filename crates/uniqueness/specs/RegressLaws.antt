@@ -1,0 +1,107 @@
+-- A regression is the only reduced ordered diagram with its meaning (demand 2).
+use mathlib.Core.Path.{_≡_, refl, ap, sym, _∙_, subst, fun-ext}
+use mathlib.Core.Bool.{Bool, true, false, cond, not, _||_}
+use mathlib.Core.List.{List}
+use mathlib.Core.Option.{Option, some, none}
+use Prim.Native.Nat.{ℕ, _+_, _*_, _-_, _≤_, _<_}
+use native.Mathlib.Omega.{arith}
+use lib.ListN.{length, take}
+use lib.Dec.{eqb, ltb}
+use borrow.Author.Tests.{eqb-true, eq-eqb, not-false}
+use Rattle.basics.specs.Tests.{Flag, isTrue, isFalse, flag}
+use Rattle.basics.specs.Members.{clash}
+use Rattle.refusal.specs.declared.Refusal.the-variants.{Listing, Buffer}
+use Rattle.refusal.specs.Outcome.{Outcome, ok, refused, Accepted}
+use Rattle.refusal.specs.OutcomeLaws.{accepted-mono, accepted-cond}
+use Rattle.label.specs.Limits.{predicateCount}
+use Rattle.label.specs.Labels.{predicateOf, unpacked, termsOf}
+use Rattle.diagram.specs.Sizes.{mostRows, resultWords, spaceWords}
+use Rattle.diagram.specs.Diagram.{Diagram, eval}
+use Rattle.diagram.specs.Rows.{rows}
+use Rattle.diagram.specs.Words.{isListing}
+use Rattle.diagram.specs.Listing.{diagramOf, Good}
+use Rattle.diagram.specs.Listings.{is-listing-good}
+use Rattle.apply.specs.GoodLaws.{fine-every}
+use Rattle.regression.specs.declared.Regressed.the-variants.{Done}
+use Rattle.regression.specs.Regression.{argument, Truths, truthOf, regressed}
+use Rattle.regression.specs.RegressionLaws.{regressed-is}
+use Rattle.regression.specs.Result.{truthGiven, truthDiagram, regressedDiagram}
+use Rattle.regression.specs.ResultLaws.{eval-replaced, eval-regressed, good-regressed}
+use Rattle.regression.specs.Parameters.{Labels, GoodTruth, GoodTruths}
+use Rattle.regression.specs.RegressCall.{truthCount, truthWords, truthsOf, areListings, regressedAs, writtenAs, regressOutcome, regressAnswer, regressResult}
+use Rattle.regression.specs.RegressCallLaws.{PassAll, accepted-checks, truths-none, truths-some, listings-at, above-most}
+use Rattle.uniqueness.specs.Meaning.{Choice, TheOnly, TheOnlyListing, usedAt, nextChoice, regressMeaning}
+use Rattle.uniqueness.specs.OnlyLaws.{good-only, only-written}
+
+-- ===== The meaning =====
+
+-- T gives 1 exactly where the label is true in the next state
+given-used : (ar : List ℕ) (o : Option Diagram) (c : Choice) (l : ℕ) → eqb (eval c (truthGiven ar o l)) 1 ≡ usedAt ar o c l
+unfolding truthGiven usedAt eval
+given-used ar none c l = go (c l)
+  where
+    go : (b : Bool) → eqb (cond b 1 0) 1 ≡ b
+    go true = refl
+    go false = refl
+given-used ar (some d) c l = ap (λ (v : ℕ). eqb v 1) (eval-replaced c ar (argument (termsOf ar (unpacked l))) d)
+
+truth-next : (ar : List ℕ) (truths : Truths) (c : Choice) (l : ℕ) → eqb (eval c (truthDiagram ar truths l)) 1 ≡ nextChoice ar truths c l
+unfolding truthDiagram nextChoice
+truth-next ar truths c l = given-used ar (truthOf truths (predicateOf l)) c l
+
+pub regressed-means : (ar : List ℕ) (truths : Truths) → GoodTruths ar truths → (d : Diagram) → Labels ar d → (c : Choice)
+    → eval c (regressedDiagram ar truths d) ≡ regressMeaning ar truths d c
+unfolding regressMeaning
+regressed-means ar truths g d w c = eval-regressed ar truths g c d w ∙ ap (λ (b : Choice). eval b d) (fun-ext (truth-next ar truths c))
+
+-- ===== The regression =====
+
+pub regressed-only : (ar : List ℕ) (truths : Truths) (d : Diagram) → GoodTruths ar truths → Good ar d
+    → Accepted (TheOnly ar (regressMeaning ar truths d)) (regressed ar truths d)
+regressed-only ar truths d g h = accepted-mono (regressed-is ar truths d) (λ r i.
+    subst (TheOnly ar (regressMeaning ar truths d)) (sym (i .is)) (good-only ar (regressMeaning ar truths d) (regressedDiagram ar truths d)
+    (good-regressed ar truths d g h (subst (λ (x : Diagram). length (rows x) ≤ mostRows) (i .is) (i .few)))
+    (regressed-means ar truths g d (fine-every ar d (h .fine)))))
+
+-- ===== The call on lent words =====
+
+module _ (ar value truths spans : List ℕ) where
+  -- what passes the checks are good truth diagrams
+  truths-good : areListings ar truths spans 1 (predicateCount - 1) ≡ true → PassAll ar (truthsOf truths spans) 1 (predicateCount - 1) → GoodTruths ar (truthsOf truths spans)
+  truths-good h pass = record { each = λ p d i j e. go p d i j e (flag (eqb (truthCount spans p) 0)) }
+    where
+      go : (p : ℕ) (d : Diagram) → 0 < p → p < predicateCount → truthsOf truths spans p ≡ some d → Flag (eqb (truthCount spans p) 0) → GoodTruth ar d
+      go p d i j e (isTrue k) =
+          let z : none ≡ some d = sym (truths-none truths spans p (eqb-true _ _ k)) ∙ e in
+          let w : _≡_ {A = ℕ} 0 1 = cc in
+          absurd (omega arith)
+      go p d i j e (isFalse k) =
+          let n : truthCount spans p ≡ 0 → ⊥ = λ q. clash (eq-eqb _ _ q) k in
+          let z : some (diagramOf (truthWords truths spans p)) ≡ some d = sym (truths-some truths spans p n) ∙ e in
+          let q : diagramOf (truthWords truths spans p) ≡ d = cc in
+          let g = is-listing-good ar (truthWords truths spans p) (listings-at ar truths spans 1 (predicateCount - 1) h p (omega arith) (omega arith) n) in
+          record {
+            labels = subst (Labels ar) q (fine-every ar (diagramOf (truthWords truths spans p)) (g .fine));
+            bits = above-most 1 d (pass .each p d (omega arith) (omega arith) e .bits);
+          }
+
+  pub outcome-only : (outLength workLength : ℕ)
+      → Accepted (TheOnly ar (regressMeaning ar (truthsOf truths spans) (diagramOf value))) (regressOutcome ar value truths spans outLength workLength)
+  unfolding regressOutcome
+  outcome-only outLength workLength =
+      accepted-cond (not (isListing ar value)) Listing _ (λ v.
+      accepted-cond (not (areListings ar truths spans 1 (predicateCount - 1))) Listing _ (λ l.
+      accepted-cond (ltb outLength resultWords || ltb workLength spaceWords) Buffer _ (λ b.
+      accepted-checks ar (truthsOf truths spans) 1 (predicateCount - 1) _ (λ pass.
+      regressed-only ar (truthsOf truths spans) (diagramOf value) (truths-good (not-false _ l) pass) (is-listing-good ar value (not-false _ v))))))
+
+  -- where the call is answered with n rows, the result buffer begins with the only listing that means the regression
+  pub regress-only : (workLength : ℕ) (out : List ℕ) (n : ℕ) → regressAnswer ar value truths spans (length out) workLength ≡ Done n
+      → TheOnlyListing ar (regressMeaning ar (truthsOf truths spans) (diagramOf value)) (take (n * 3) (regressResult ar value truths spans workLength out))
+  unfolding regressAnswer regressResult
+  regress-only workLength out n e = go (regressOutcome ar value truths spans (length out) workLength) (outcome-only (length out) workLength) e
+    where
+      go : (o : Outcome Diagram) → Accepted (TheOnly ar (regressMeaning ar (truthsOf truths spans) (diagramOf value))) o → regressedAs o ≡ Done n
+          → TheOnlyListing ar (regressMeaning ar (truthsOf truths spans) (diagramOf value)) (take (n * 3) (writtenAs o out))
+      go (ok d) a q = let z : length (rows d) ≡ n = cc in only-written ar _ d n out z (a .given d refl)
+      go (refused r) a q = let z : _≡_ {A = ℕ} 0 1 = cc in absurd (omega arith)
