@@ -5,3 +5,5 @@ pub mod Meaning
 -- laws
 pub mod OnlyLaws
 pub mod RegressLaws
+pub mod ThroughLaws
+pub mod FreeLaws
