@@ -7,3 +7,5 @@ pub mod OnlyLaws
 pub mod RegressLaws
 pub mod ThroughLaws
 pub mod FreeLaws
+pub mod Text
+pub mod WrittenLaws

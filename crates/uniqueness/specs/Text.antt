@@ -1,0 +1,95 @@
+-- What the diagram on a line means, and what an accepted line with one leaves behind (document 01, section 'Text').
+use mathlib.Core.Path.{_≡_}
+use mathlib.Core.Bool.{true}
+use mathlib.Core.List.{List, []}
+use Prim.Native.Nat.{ℕ, _+_}
+use lib.ListN.{getD}
+use Rattle.words.specs.Keys.{keyOf}
+use Rattle.words.specs.declared.Key.{Key}
+use Rattle.forms.specs.Tree as T
+use Rattle.text.specs.declared.Kind.the-variants as K
+use Rattle.text.specs.Line.{Words, Line, lineBytes, GoodLine}
+use Rattle.text.specs.Line.Line.{line}
+use Rattle.names.specs.Keys.{placeOf, isAmong}
+use Rattle.diagram.specs.Diagram.{Diagram}
+use Rattle.reading.specs.declared.Binding.the-variants.{Any, None, Only}
+use Rattle.reading.specs.Reading.{Names}
+use Rattle.reading.specs.Reading.Judged.{fine}
+use Rattle.reading.specs.Head.{headKeys}
+use Rattle.reading.specs.Tree.{Reading, resolveDiagram}
+use Rattle.build.specs.Build.{meaning}
+use Rattle.answers.specs.declared.Answer.the-variants as A
+use Rattle.session.specs.Session.{Session}
+use Rattle.session.specs.Modelling.{namesFor, withReward, withVariant, withTruth}
+use Rattle.session.specs.Replies.{reply}
+use Rattle.uniqueness.specs.Meaning.{Meaning, TheOnly, through, closing}
+
+-- ===== What is written =====
+
+-- the tree t of a diagram, each name resolved in the order of the words, is r; the variables vs stand before it
+pub record StandsFor (names : Names) (vs : List Key) (t : T.Diagram) (r : Reading) : Type 0 where
+  pub met : List Key
+  pub resolved : resolveDiagram names vs t ≡ fine (record { value = r; variables = met })
+
+-- 'A diagram is a number, or (if ATOM DIAGRAM DIAGRAM)': the leaf that the choice leads to, by the truth of each ATOM
+abbrev pub writtenMeaning : Reading → Meaning
+writtenMeaning r c = meaning c r
+
+-- 'a reward is closed up when read': the same, the variables that d uses renamed to 32, 33, .. in their order
+abbrev pub closedMeaning : List ℕ → Diagram → Reading → Meaning
+closedMeaning ar d r c = writtenMeaning r (through ar (closing ar d) c)
+
+-- d is the only diagram that means what t writes
+pub record Writes (names : Names) (vs : List Key) (t : T.Diagram) (d : Diagram) : Type 0 where
+  pub tree : Reading
+  pub stands : StandsFor names vs t tree
+  pub one : TheOnly (names .arities) (writtenMeaning tree) d
+
+-- d is the only diagram that means what t writes, closed up: `before` is the diagram before that
+pub record WritesClosed (names : Names) (vs : List Key) (t : T.Diagram) (d : Diagram) : Type 0 where
+  pub before : Diagram
+  pub written : Writes names vs t before
+  pub one : TheOnly (names .arities) (closedMeaning (names .arities) before (written .tree)) d
+
+-- ===== Accepted lines =====
+
+-- (reward DIAGRAM): any variables, no parameter
+pub record RewardOf (σ : Session) (t : T.Diagram) (τ : Session) : Type 0 where
+  pub diagram : Diagram
+  pub behind : τ ≡ withReward σ diagram
+  pub is : WritesClosed (namesFor (σ .names) (σ .model .arities) Any []) [] t diagram
+
+-- (variant n WEIGHT): no variable, the parameters of the last action
+pub record WeightOf (σ : Session) (n : List ℕ) (t : T.Diagram) (τ : Session) : Type 0 where
+  pub diagram : Diagram
+  pub behind : τ ≡ withVariant σ (keyOf n) diagram
+  pub is : Writes (namesFor (σ .names) (σ .model .arities) None (σ .names .parameters)) [] t diagram
+
+-- (becomes (p ?a ..) DIAGRAM): the arguments, numbered from 32 in their order, and the parameters of the last action
+abbrev pub predicateNumber : Session → List ℕ → ℕ
+predicateNumber σ p = placeOf (keyOf p) (σ .names .predicates) + 1
+
+pub record TruthOf (σ : Session) (p : List ℕ) (vs : List (List ℕ)) (t : T.Diagram) (τ : Session) : Type 0 where
+  pub declared : isAmong (keyOf p) (σ .names .predicates) ≡ true
+  pub arguments : List Key
+  pub head : headKeys (getD (σ .model .arities) (predicateNumber σ p) 0) vs ≡ fine arguments
+  pub diagram : Diagram
+  pub behind : τ ≡ withTruth σ (predicateNumber σ p) diagram
+  pub is : Writes (namesFor (σ .names) (σ .model .arities) Only (σ .names .parameters)) arguments t diagram
+
+-- ===== Demand 2 for texts =====
+
+-- the line l, as line `number` of a text, is accepted in the session σ: such lines print nothing
+abbrev pub Accepts : Session → ℕ → Line → Type 0
+Accepts σ number l = reply σ number (lineBytes l) .answer ≡ A.Nothing
+
+abbrev pub behindLine : Session → ℕ → Line → Session
+behindLine σ number l = reply σ number (lineBytes l) .session
+
+-- an accepted reward, weight or truth diagram is good, means what its tree writes (closed up for a reward), and is the only such diagram
+pub record OnlyOnes (σ : Session) (number : ℕ) : Type 0 where
+  pub reward : (t : Words K.Reward) → GoodLine (line K.Reward t) → Accepts σ number (line K.Reward t) → RewardOf σ t (behindLine σ number (line K.Reward t))
+  pub weight : (w : Words K.Variant) → GoodLine (line K.Variant w) → Accepts σ number (line K.Variant w)
+      → WeightOf σ (w .0) (w .1) (behindLine σ number (line K.Variant w))
+  pub truth : (w : Words K.Becomes) → GoodLine (line K.Becomes w) → Accepts σ number (line K.Becomes w)
+      → TruthOf σ (w .0) (w .1) (w .2) (behindLine σ number (line K.Becomes w))
