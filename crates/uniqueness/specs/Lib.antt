@@ -9,3 +9,4 @@ pub mod ThroughLaws
 pub mod FreeLaws
 pub mod Text
 pub mod WrittenLaws
+pub mod TextLaws
