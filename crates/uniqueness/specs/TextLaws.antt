@@ -41,8 +41,10 @@ use Rattle.session.specs.Modelling.{mostModelRows, namesFor, rowsWith, withRewa
 use Rattle.session.specs.Modelling.{isSome, truthsNow, withTruth, truthRead, becomesLine}
 use Rattle.session.specs.Replies.{Reply, quietly, placed, allowed, done, replyTo, wordsOf, reply}
 use Rattle.session.specs.Good.{GoodTables, GoodSession}
+use Rattle.session.specs.Texts.{beginning, afterLines}
 use Rattle.mdp.specs.Model.{mostVariants}
 use Rattle.model_laws.specs.OutcomeLaws.{accepted-read}
+use Rattle.session_laws.specs.TextLaws.{text-sound}
 use Rattle.uniqueness.specs.Text.{Writes, WritesClosed, RewardOf, WeightOf, predicateNumber, TruthOf, Accepts, behindLine, OnlyOnes}
 use Rattle.uniqueness.specs.WrittenLaws.{resolved, built-writes, built-closed}
 
@@ -165,12 +167,16 @@ module _ (σ : Session) (number : ℕ) where
       let q = placed-quiet (allowed σ (ruleOf k (σ .part))) o (ap (λ (y : Reply). y .answer) (sym r) ∙ e) in
       subst P (ap (λ (y : Reply). y .session) (sym r)) (a .given _ q)
 
-  pub text-only : GoodSession σ → OnlyOnes σ number
+  pub line-only : GoodSession σ → OnlyOnes σ number
   unfolding done
-  text-only good = record {
+  line-only good = record {
     reward = λ t g. accepted-line K.Reward t g (rewardLine σ (diagramEvents t)) refl (RewardOf σ t) (reward-read σ good t (omega (arith, g .1)));
     weight = λ w g. accepted-line K.Variant w g (variantLine σ (keyOf (w .0)) (diagramEvents (w .1))) refl (WeightOf σ (w .0) (w .1))
         (weight-read σ good (w .0) (w .1) (omega (arith, g .1)));
     truth = λ w g. accepted-line K.Becomes w g (becomesLine σ (wordsEvents K.Becomes w)) refl (TruthOf σ (w .0) (w .1) (w .2))
         (truth-read σ good w (g .0) (omega (arith, g .1)));
   }
+
+-- after whatever lines
+pub text-only : (ls : List (List ℕ)) (number : ℕ) → OnlyOnes (afterLines beginning ls .session) number
+text-only ls number = line-only (afterLines beginning ls .session) number (text-sound ls .good)
