@@ -2,11 +2,12 @@
 
 -- definitions
 pub mod Meaning
+pub mod Text
 -- laws
 pub mod OnlyLaws
-pub mod RegressLaws
 pub mod ThroughLaws
+pub mod CombineLaws
+pub mod RegressLaws
 pub mod FreeLaws
-pub mod Text
 pub mod WrittenLaws
 pub mod TextLaws

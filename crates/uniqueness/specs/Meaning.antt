@@ -4,7 +4,8 @@ use mathlib.Core.Path.{_≡_}
 use mathlib.Core.Bool.{Bool, true}
 use mathlib.Core.List.{List}
 use mathlib.Core.Option.{Option, some, none}
-use Prim.Native.Nat.{ℕ}
+use Prim.Native.Nat.{ℕ, _+_}
+use lib.ListN.{length}
 use lib.Dec.{eqb}
 use Rattle.label.specs.Limits.{firstVariable}
 use Rattle.label.specs.Labels.{predicateOf, unpacked, termsOf}
@@ -13,6 +14,10 @@ use Rattle.diagram.specs.Diagram.{Diagram, eval, Ordered, Reduced}
 use Rattle.diagram.specs.Words.{isListing}
 use Rattle.diagram.specs.Listing.{diagramOf, Good}
 use Rattle.diagram.specs.Variables.{variables}
+use Rattle.apply.specs.declared.Operation.{Operation}
+use Rattle.apply.specs.declared.Names.{Names}
+use Rattle.apply.specs.declared.Names.the-variants.{Apart, Shared}
+use Rattle.apply.specs.Combination.{operate}
 use Rattle.regression.specs.Regression.{argument, Truths, truthOf}
 use Rattle.regression.specs.Result.{asked}
 
@@ -46,10 +51,39 @@ through ar ρ c l = asked c (moved ar ρ l)
 abbrev pub closing : List ℕ → Diagram → ℕ → ℕ
 closing ar d = numbering (variables ar d) firstVariable
 
--- 'Freeing turns parameter 16 + i into variable 32 + i and moves the other variables up by the action's parameter count'
-unfoldable pub freeMeaning : List ℕ → ℕ → Diagram → Meaning
-unfolding eval
-freeMeaning ar count d c = eval (through ar (freeing count) c) d
+-- M where the variables that d uses are closed up
+abbrev pub closedMeaning : List ℕ → Diagram → Meaning → Meaning
+closedMeaning ar d M c = M (through ar (closing ar d) c)
+
+-- d is the only diagram that means M closed up: `before` is the only one that means M, and its variables are the used ones
+pub record TheOnlyClosed (ar : List ℕ) (M : Meaning) (d : Diagram) : Type 0 where
+  pub before : Diagram
+  pub first : TheOnly ar M before
+  pub one : TheOnly ar (closedMeaning ar before M) d
+
+-- the same of words
+pub record TheOnlyClosedListing (ar : List ℕ) (M : Meaning) (words : List ℕ) : Type 0 where
+  pub before : Diagram
+  pub first : TheOnly ar M before
+  pub one : TheOnlyListing ar (closedMeaning ar before M) words
+
+-- ===== Combination =====
+
+-- 'Shared: names stay': the operation on the two leaves
+abbrev pub sharedMeaning : Operation → Diagram → Diagram → Meaning
+sharedMeaning op a b c = operate op (eval c a) (eval c b)
+
+-- 'Apart: the first operand is closed up, the second's variables follow after'
+abbrev pub following : List ℕ → Diagram → Diagram → ℕ → ℕ
+following ar a b = numbering (variables ar b) (firstVariable + length (variables ar a))
+
+abbrev pub apartMeaning : Operation → List ℕ → Diagram → Diagram → Meaning
+apartMeaning op ar a b c = operate op (eval (through ar (closing ar a) c) a) (eval (through ar (following ar a b) c) b)
+
+-- the words are the combination of a and b: 'results are closed up only when apart'
+abbrev pub OnlyCombined : Operation → Names → List ℕ → Diagram → Diagram → List ℕ → Type 0
+OnlyCombined op Shared ar a b words = TheOnlyListing ar (sharedMeaning op a b) words
+OnlyCombined op Apart ar a b words = TheOnlyClosedListing ar (apartMeaning op ar a b) words
 
 -- ===== Regression =====
 
@@ -69,3 +103,10 @@ nextChoice ar truths c l = usedAt ar (truthOf truths (predicateOf l)) c l
 unfoldable pub regressMeaning : List ℕ → Truths → Diagram → Meaning
 unfolding nextChoice
 regressMeaning ar truths d c = eval (nextChoice ar truths c) d
+
+-- ===== Freeing =====
+
+-- 'Freeing turns parameter 16 + i into variable 32 + i and moves the other variables up by the action's parameter count'
+unfoldable pub freeMeaning : List ℕ → ℕ → Diagram → Meaning
+unfolding eval
+freeMeaning ar count d c = eval (through ar (freeing count) c) d

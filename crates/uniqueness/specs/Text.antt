@@ -22,7 +22,7 @@ use Rattle.answers.specs.declared.Answer.the-variants as A
 use Rattle.session.specs.Session.{Session}
 use Rattle.session.specs.Modelling.{namesFor, withReward, withVariant, withTruth}
 use Rattle.session.specs.Replies.{reply}
-use Rattle.uniqueness.specs.Meaning.{Meaning, TheOnly, through, closing}
+use Rattle.uniqueness.specs.Meaning.{Meaning, TheOnly, TheOnlyClosed}
 
 -- ===== What is written =====
 
@@ -35,21 +35,17 @@ pub record StandsFor (names : Names) (vs : List Key) (t : T.Diagram) (r : Readin
 abbrev pub writtenMeaning : Reading → Meaning
 writtenMeaning r c = meaning c r
 
--- 'a reward is closed up when read': the same, the variables that d uses renamed to 32, 33, .. in their order
-abbrev pub closedMeaning : List ℕ → Diagram → Reading → Meaning
-closedMeaning ar d r c = writtenMeaning r (through ar (closing ar d) c)
-
 -- d is the only diagram that means what t writes
 pub record Writes (names : Names) (vs : List Key) (t : T.Diagram) (d : Diagram) : Type 0 where
   pub tree : Reading
   pub stands : StandsFor names vs t tree
   pub one : TheOnly (names .arities) (writtenMeaning tree) d
 
--- d is the only diagram that means what t writes, closed up: `before` is the diagram before that
+-- 'a reward is closed up when read'
 pub record WritesClosed (names : Names) (vs : List Key) (t : T.Diagram) (d : Diagram) : Type 0 where
-  pub before : Diagram
-  pub written : Writes names vs t before
-  pub one : TheOnly (names .arities) (closedMeaning (names .arities) before (written .tree)) d
+  pub tree : Reading
+  pub stands : StandsFor names vs t tree
+  pub one : TheOnlyClosed (names .arities) (writtenMeaning tree) d
 
 -- ===== Accepted lines =====
 

@@ -18,7 +18,6 @@ use Rattle.diagram.specs.Diagram.{Diagram, leaf, branch, eval, relabel, Ordered
 use Rattle.diagram.specs.Rows.{rows}
 use Rattle.diagram.specs.Listing.{Fine, Good}
 use Rattle.diagram.specs.Variables.{closedFrom, closed}
-use Rattle.rename.specs.ClosingLaws.{closed-good}
 use Rattle.apply.specs.GoodLaws.{EveryLabel}
 use Rattle.regression.specs.Step.{testDiagram}
 use Rattle.regression.specs.StepLaws.{ordered-test, from-stepped, reduced-stepped}
@@ -37,10 +36,10 @@ use Rattle.reading.specs.GoodLaws.{reading-sound}
 use Rattle.build.specs.Machine.{mostTests, built, builtClosed}
 use Rattle.build.specs.MachineLaws.{built-text, built-reward}
 use Rattle.build.specs.ReadingLaws.{diagramFor, EachAsked, EachValue, eval-for, labels-for, text-held, reward-held, text-good, reward-good}
-use Rattle.uniqueness.specs.Meaning.{Choice, TheOnly, through, closing}
-use Rattle.uniqueness.specs.Text.{StandsFor, writtenMeaning, closedMeaning, Writes, WritesClosed}
+use Rattle.uniqueness.specs.Meaning.{TheOnlyClosed}
+use Rattle.uniqueness.specs.Text.{StandsFor, writtenMeaning, Writes, WritesClosed}
 use Rattle.uniqueness.specs.OnlyLaws.{good-only}
-use Rattle.uniqueness.specs.ThroughLaws.{closed-means}
+use Rattle.uniqueness.specs.ThroughLaws.{closed-only}
 
 -- ===== The tree of operations =====
 
@@ -161,13 +160,8 @@ module _ (names : Names) (fit : NamesFit names) (t : T.Diagram) (shallow : T.bra
         few = subst (λ (n : ℕ). n ≤ mostRows) (closed-count (names .arities) u (fit .arity-list) fine-u) (h .few);
       } in
       record {
-        before = u;
-        written = record {
-          tree = x .tree;
-          stands = x .stands;
-          one = good-only (names .arities) (writtenMeaning (x .tree)) u good-u (λ c. eval-for c (x .tree));
-        };
-        one = subst (TheOnly (names .arities) (closedMeaning (names .arities) u (x .tree))) (sym (h .is))
-            (good-only (names .arities) (closedMeaning (names .arities) u (x .tree)) (closed (names .arities) u) g
-            (λ c. closed-means (names .arities) u good-u c ∙ eval-for (through (names .arities) (closing (names .arities) u) c) (x .tree)));
+        tree = x .tree;
+        stands = x .stands;
+        one = subst (TheOnlyClosed (names .arities) (writtenMeaning (x .tree))) (sym (h .is))
+            (closed-only (names .arities) (writtenMeaning (x .tree)) u (good-only (names .arities) (writtenMeaning (x .tree)) u good-u (λ c. eval-for c (x .tree))));
       }
