@@ -12,7 +12,6 @@ use Rattle.refusal.specs.declared.Refusal.the-variants.{Listing, Buffer}
 use Rattle.label.specs.Limits.{firstVariable, variableCount}
 use Rattle.diagram.specs.Sizes.{mostRows, resultWords, spaceWords}
 use Rattle.diagram.specs.Diagram.{Diagram, eval}
-use Rattle.diagram.specs.Rows.{rows}
 use Rattle.diagram.specs.Words.{isListing}
 use Rattle.diagram.specs.Listing.{Fine, Good, listing, diagramOf}
 use Rattle.diagram.specs.Listings.{is-listing-good}

@@ -1,22 +1,22 @@
 -- What freeing gives is the only reduced ordered diagram with its meaning (demand 2).
 use mathlib.Core.Path.{_≡_, refl, sym, subst}
-use mathlib.Core.Bool.{true, false, _&&_, _||_}
+use mathlib.Core.Bool.{true, _||_}
 use mathlib.Core.List.{List}
 use Prim.Native.Nat.{ℕ, _+_, _*_, _<_}
 use native.Mathlib.Omega.{arith}
 use lib.ListN.{length, take}
-use lib.Dec.{ltb, leb}
+use lib.Dec.{leb}
 use borrow.Author.Tests.{ltb-true, leb-true}
 use Rattle.basics.specs.Tests.{and-left, and-right, Flag, isTrue, isFalse, flag, Either, one, other, either, Cmp, below, equal, above, cmp}
 use Rattle.basics.specs.Members.{clash}
 use Rattle.refusal.specs.Outcome.{Outcome, ok, refused, Accepted}
 use Rattle.refusal.specs.OutcomeLaws.{accepted-mono, accepted-refused}
-use Rattle.label.specs.Limits.{constantCount, firstParameter, parameterCount, firstVariable, variableCount, termBase}
+use Rattle.label.specs.Limits.{constantCount, firstParameter, parameterCount, firstVariable, termBase}
 use Rattle.label.specs.Terms.{isConstant, isParameter, isVariable, isTerm}
 use Rattle.label.specs.LabelLaws.{term-below}
 use Rattle.label.specs.Renamings.{freeing}
 use Rattle.label.specs.RenamingLaws.{Freed, freeing-increasing}
-use Rattle.diagram.specs.Diagram.{Diagram, eval}
+use Rattle.diagram.specs.Diagram.{Diagram}
 use Rattle.diagram.specs.Rows.{rows}
 use Rattle.diagram.specs.Words.{isListing}
 use Rattle.diagram.specs.Listing.{diagramOf, Good}
@@ -28,7 +28,7 @@ use Rattle.rename.specs.VariableLaws.{occurs-term}
 use Rattle.regression.specs.declared.Freed.the-variants.{Done}
 use Rattle.regression.specs.RegressCall.{freedAs, writtenAs, freeOutcome, freeAnswer, freeResult}
 use Rattle.regression.specs.FreeCallLaws.{IsFreed, free-is, free-listing}
-use Rattle.uniqueness.specs.Meaning.{Choice, TheOnly, TheOnlyListing, through, freeMeaning}
+use Rattle.uniqueness.specs.Meaning.{TheOnly, TheOnlyListing, freeMeaning}
 use Rattle.uniqueness.specs.OnlyLaws.{good-only, only-written}
 use Rattle.uniqueness.specs.ThroughLaws.{renamed-means}
 
@@ -73,7 +73,7 @@ module _ (ar : List ℕ) (count : ℕ) (d r : Diagram) (g : Good ar d) (f : IsFr
       (renamed-means ar (Freed count) (freeing count) (freeing-increasing count (f .few)) d g (terms-freed ar count d g freeable)))
 
 module _ (ar words : List ℕ) (count : ℕ) where
-  pub outcome-only : (outLength workLength : ℕ) → Accepted (TheOnly ar (freeMeaning ar count (diagramOf words))) (freeOutcome ar words count outLength workLength)
+  outcome-only : (outLength workLength : ℕ) → Accepted (TheOnly ar (freeMeaning ar count (diagramOf words))) (freeOutcome ar words count outLength workLength)
   outcome-only outLength workLength = go (flag (isListing ar words))
     where
       go : Flag (isListing ar words) → Accepted (TheOnly ar (freeMeaning ar count (diagramOf words))) (freeOutcome ar words count outLength workLength)

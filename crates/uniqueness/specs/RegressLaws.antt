@@ -3,7 +3,7 @@ use mathlib.Core.Path.{_≡_, refl, ap, sym, _∙_, subst, fun-ext}
 use mathlib.Core.Bool.{Bool, true, false, cond, not, _||_}
 use mathlib.Core.List.{List}
 use mathlib.Core.Option.{Option, some, none}
-use Prim.Native.Nat.{ℕ, _+_, _*_, _-_, _≤_, _<_}
+use Prim.Native.Nat.{ℕ, _*_, _-_, _≤_, _<_}
 use native.Mathlib.Omega.{arith}
 use lib.ListN.{length, take}
 use lib.Dec.{eqb, ltb}
@@ -85,7 +85,7 @@ module _ (ar value truths spans : List ℕ) where
             bits = above-most 1 d (pass .each p d (omega arith) (omega arith) e .bits);
           }
 
-  pub outcome-only : (outLength workLength : ℕ)
+  outcome-only : (outLength workLength : ℕ)
       → Accepted (TheOnly ar (regressMeaning ar (truthsOf truths spans) (diagramOf value))) (regressOutcome ar value truths spans outLength workLength)
   unfolding regressOutcome
   outcome-only outLength workLength =

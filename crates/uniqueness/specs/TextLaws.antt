@@ -19,7 +19,6 @@ use Rattle.text.specs.Line.{Words, lineBytes, GoodWords, GoodLine}
 use Rattle.text.specs.Line.Line.{line}
 use Rattle.text.specs.LineLaws.{line-complete}
 use Rattle.names.specs.Keys.{placeOf, isAmong}
-use Rattle.events.specs.declared.Event.{Event}
 use Rattle.events.specs.Events.{diagramEvents, wordsEvents}
 use Rattle.events.specs.LineEvents.{line-events}
 use Rattle.diagram.specs.Diagram.{Diagram}
@@ -27,8 +26,8 @@ use Rattle.regression.specs.Regression.{Truths}
 use Rattle.regression.specs.RegressCall.{leafAbove}
 use Rattle.reading.specs.declared.Binding.{Binding}
 use Rattle.reading.specs.declared.Binding.the-variants.{Any, None, Only}
-use Rattle.reading.specs.Reading.{Judged, reading}
-use Rattle.reading.specs.Reading.Judged.{fine, refused as judged}
+use Rattle.reading.specs.Reading.{reading}
+use Rattle.reading.specs.Reading.Judged.{fine}
 use Rattle.reading.specs.Head.{Head, openedNumber, headNumber, headArguments, headKeys}
 use Rattle.reading.specs.JudgedLaws.{fine-one, passed, chained}
 use Rattle.reading.specs.LineLaws.{becomes-arguments}
@@ -37,7 +36,7 @@ use Rattle.build.specs.Machine.{mostTests, built, builtClosed}
 use Rattle.answers.specs.declared.Answer.the-variants as A
 use Rattle.session.specs.Place.{ruleOf}
 use Rattle.session.specs.Session.{Names, Session}
-use Rattle.session.specs.Modelling.{mostModelRows, namesFor, rowsWith, withReward, rewardRead, rewardLine, withVariant, weightRead, variantLine}
+use Rattle.session.specs.Modelling.{mostModelRows, namesFor, rowsWith, rewardRead, rewardLine, weightRead, variantLine}
 use Rattle.session.specs.Modelling.{isSome, truthsNow, withTruth, truthRead, becomesLine}
 use Rattle.session.specs.Replies.{Reply, quietly, placed, allowed, done, replyTo, wordsOf, reply}
 use Rattle.session.specs.Good.{GoodTables, GoodSession}
@@ -45,7 +44,7 @@ use Rattle.session.specs.Texts.{beginning, afterLines}
 use Rattle.mdp.specs.Model.{mostVariants}
 use Rattle.model_laws.specs.OutcomeLaws.{accepted-read}
 use Rattle.session_laws.specs.TextLaws.{text-sound}
-use Rattle.uniqueness.specs.Text.{Writes, WritesClosed, RewardOf, WeightOf, predicateNumber, TruthOf, Accepts, behindLine, OnlyOnes}
+use Rattle.uniqueness.specs.Text.{Writes, WritesClosed, RewardOf, WeightOf, TruthOf, Accepts, behindLine, OnlyOnes}
 use Rattle.uniqueness.specs.WrittenLaws.{resolved, built-writes, built-closed}
 
 -- ===== The words of a line =====

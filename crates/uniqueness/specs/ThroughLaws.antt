@@ -1,12 +1,10 @@
 -- A diagram whose terms are renamed in their order means what the old one means under the choice that is seen through the renaming.
 use mathlib.Core.Path.{_≡_, ap, sym, _∙_}
-use mathlib.Core.Bool.{true}
 use mathlib.Core.List.{List}
 use Prim.Native.Nat.{ℕ, _+_, _≤_}
 use native.Mathlib.Omega.{arith}
 use lib.ListN.{length}
 use Rattle.label.specs.Limits.{firstVariable, termBase}
-use Rattle.label.specs.Labels.{areArities}
 use Rattle.label.specs.Renamings.{renamed, numbering, Increasing}
 use Rattle.label.specs.RenamingLaws.{Numbered, moved-renamed, numbering-increasing}
 use Rattle.diagram.specs.Diagram.{Diagram, eval, relabel}

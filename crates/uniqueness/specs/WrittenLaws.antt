@@ -1,5 +1,5 @@
 -- The diagram that is built from a line's words is the only one that means what its tree writes.
-use mathlib.Core.Path.{_≡_, refl, ap, sym, _∙_, subst}
+use mathlib.Core.Path.{_≡_, ap, sym, _∙_, subst}
 use mathlib.Core.Bool.{true}
 use mathlib.Core.List.{List, [], _∷_, _++_, append-assoc}
 use Prim.Native.Nat.{ℕ, _≤_}
@@ -15,7 +15,6 @@ use Rattle.words.specs.declared.Key.{Key}
 use Rattle.forms.specs.Tree as T
 use Rattle.diagram.specs.Sizes.{mostRows}
 use Rattle.diagram.specs.Diagram.{Diagram, leaf, branch, eval, relabel, Ordered, Reduced}
-use Rattle.diagram.specs.Rows.{rows}
 use Rattle.diagram.specs.Listing.{Fine, Good}
 use Rattle.diagram.specs.Variables.{closedFrom, closed}
 use Rattle.apply.specs.GoodLaws.{EveryLabel}
@@ -24,7 +23,7 @@ use Rattle.regression.specs.StepLaws.{ordered-test, from-stepped, reduced-stepp
 use Rattle.mdp.specs.CallLaws.{closed-count}
 use Rattle.events.specs.Events.{diagramEvents}
 use Rattle.reading.specs.Operations.{Op}
-use Rattle.reading.specs.Operations.Op.{leafOp, ask, step}
+use Rattle.reading.specs.Operations.Op.{step}
 use Rattle.reading.specs.Reading.{Names, Written, reading}
 use Rattle.reading.specs.Reading.Judged.{fine}
 use Rattle.reading.specs.Tree.{Reading, resolveDiagram, opsOf, writing, diagramReading, depth, Named, reach, GoodReading, NamesFit}
