@@ -25,6 +25,7 @@
 -- Theorems
 --   combine-only: where a combination is answered, the result buffer begins with the only listing that means it
 --   regress-only: so for a regression; regressed-only: so for diagrams
+--   valuation-next: the next choice of a valuation in a state is the choice that it makes in the next state
 --   free-only: so for freeing
 --   text-only: after whatever lines, an accepted reward, weight or truth diagram is good, means what its tree writes (closed up for a reward), and is the only one
 --   line-only: so in every good session

@@ -87,14 +87,14 @@ OnlyCombined op Apart ar a b words = TheOnlyClosedListing ar (apartMeaning op ar
 
 -- ===== Regression =====
 
--- the truth of the label l, a p(t1 ..), in the next state, where c has the truths in the old one: 'exactly if its truth diagram gives 1', and 'to use it at
--- p(t1..), all arguments are replaced together'; 'a predicate without one .. stay[s]'
+-- the truth of the label l, a p(t1 ..), in the next state, c being the truths in the old one: by p's truth diagram, if it has one, 'exactly if [it] gives 1';
+-- 'to use it at p(t1..), all arguments are replaced together'
 unfoldable pub usedAt : List ℕ → Option Diagram → Choice → Choice
 unfolding eval
 usedAt ar none c l = c l
 usedAt ar (some d) c l = eqb (eval (through ar (argument (termsOf ar (unpacked l))) c) d) 1
 
--- the choice in the next state: each label by the truth diagram of its predicate; equality has none
+-- the choice in the next state: each label by the truth diagram of its predicate; 'a predicate without one, and equality, stay'
 unfoldable pub nextChoice : List ℕ → Truths → Choice → Choice
 unfolding usedAt truthOf
 nextChoice ar truths c l = usedAt ar (truthOf truths (predicateOf l)) c l

@@ -14,7 +14,7 @@ use Rattle.refusal.specs.declared.Refusal.the-variants.{Listing, Buffer}
 use Rattle.refusal.specs.Outcome.{Outcome, ok, refused, Accepted}
 use Rattle.refusal.specs.OutcomeLaws.{accepted-mono, accepted-cond}
 use Rattle.label.specs.Limits.{predicateCount}
-use Rattle.label.specs.Labels.{predicateOf, unpacked, termsOf}
+use Rattle.label.specs.Labels.{areArities, predicateOf, unpacked, isLabel, termsOf}
 use Rattle.diagram.specs.Sizes.{mostRows, resultWords, spaceWords}
 use Rattle.diagram.specs.Diagram.{Diagram, eval}
 use Rattle.diagram.specs.Rows.{rows}
@@ -22,11 +22,14 @@ use Rattle.diagram.specs.Words.{isListing}
 use Rattle.diagram.specs.Listing.{diagramOf, Good}
 use Rattle.diagram.specs.Listings.{is-listing-good}
 use Rattle.apply.specs.GoodLaws.{fine-every}
+use Rattle.state.specs.State.{State, atomOf, holds, Fits}
 use Rattle.regression.specs.declared.Regressed.the-variants.{Done}
 use Rattle.regression.specs.Regression.{argument, Truths, truthOf, regressed}
 use Rattle.regression.specs.RegressionLaws.{regressed-is}
 use Rattle.regression.specs.Result.{truthGiven, truthDiagram, regressedDiagram}
 use Rattle.regression.specs.ResultLaws.{eval-replaced, eval-regressed, good-regressed}
+use Rattle.regression.specs.Next.{next, meanings}
+use Rattle.regression.specs.NextLaws.{truth-value}
 use Rattle.regression.specs.Parameters.{Labels, GoodTruth, GoodTruths}
 use Rattle.regression.specs.RegressCall.{truthCount, truthWords, truthsOf, areListings, regressedAs, writtenAs, regressOutcome, regressAnswer, regressResult}
 use Rattle.regression.specs.RegressCallLaws.{PassAll, accepted-checks, truths-none, truths-some, listings-at, above-most}
@@ -35,14 +38,14 @@ use Rattle.uniqueness.specs.OnlyLaws.{good-only, only-written}
 
 -- ===== The meaning =====
 
+bit-true : (b : Bool) → eqb (cond b 1 0) 1 ≡ b
+bit-true true = refl
+bit-true false = refl
+
 -- T gives 1 exactly where the label is true in the next state
 given-used : (ar : List ℕ) (o : Option Diagram) (c : Choice) (l : ℕ) → eqb (eval c (truthGiven ar o l)) 1 ≡ usedAt ar o c l
 unfolding truthGiven usedAt eval
-given-used ar none c l = go (c l)
-  where
-    go : (b : Bool) → eqb (cond b 1 0) 1 ≡ b
-    go true = refl
-    go false = refl
+given-used ar none c l = bit-true (c l)
 given-used ar (some d) c l = ap (λ (v : ℕ). eqb v 1) (eval-replaced c ar (argument (termsOf ar (unpacked l))) d)
 
 truth-next : (ar : List ℕ) (truths : Truths) (c : Choice) (l : ℕ) → eqb (eval c (truthDiagram ar truths l)) 1 ≡ nextChoice ar truths c l
@@ -53,6 +56,13 @@ pub regressed-means : (ar : List ℕ) (truths : Truths) → GoodTruths ar truths
     → eval c (regressedDiagram ar truths d) ≡ regressMeaning ar truths d c
 unfolding regressMeaning
 regressed-means ar truths g d w c = eval-regressed ar truths g c d w ∙ ap (λ (b : Choice). eval b d) (fun-ext (truth-next ar truths c))
+
+-- 'A valuation in a state makes one such choice': the next choice is then the one that it makes in the next state
+pub valuation-next : (ar : List ℕ) → areArities ar ≡ true → (truths : Truths) → GoodTruths ar truths → (s : State) (os : List ℕ) (θ : ℕ → ℕ) → Fits s os θ
+    → (l : ℕ) → isLabel ar l ≡ true → nextChoice ar truths (λ k. holds s θ (atomOf ar k)) l ≡ holds (next s os (meanings ar truths)) θ (atomOf ar l)
+valuation-next ar good truths g s os θ f l h =
+    sym (truth-next ar truths (λ k. holds s θ (atomOf ar k)) l) ∙ ap (λ (v : ℕ). eqb v 1) (truth-value ar good truths g s os θ f l h)
+    ∙ bit-true (holds (next s os (meanings ar truths)) θ (atomOf ar l))
 
 -- ===== The regression =====
 
