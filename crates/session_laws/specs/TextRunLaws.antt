@@ -106,8 +106,8 @@ module _ (σ : Session) (p : σ .part ≡ Run) (number : ℕ) where
   elsewhere : {A : Type 0} (k : Kind) → ruleOf k Run ≡ R.Misplaced → allowed σ (ruleOf k (σ .part)) ≡ ok tt → A
   elsewhere k q a = model-run (sym (in-model σ (ruleOf k) q (σ .part) a) ∙ p)
 
-  called : {A : Type 0} (c : Call) → some c ≡ none → A
-  called c e = let z : _≡_ {A = ℕ} 0 1 = cc in absurd (omega arith)
+  called : {A : Type 0} {c : Call} → some c ≡ none → A
+  called e = let z : _≡_ {A = ℕ} 0 1 = cc in absurd (omega arith)
 
   run-cases : (es : List Event) → Cases σ number es Uncalled
   run-cases es = record {
@@ -125,8 +125,8 @@ module _ (σ : Session) (p : σ .part ≡ Run) (number : ℕ) where
     forIs = λ l e a c. no-call K.Is _ c refl refl refl;
     forTrue = λ l e a c. no-call K.True _ c refl refl refl;
     forValue = λ v e a c. no-call K.Value _ c refl refl refl;
-    forBackup = λ h e a c. called aBackup c;
-    forCut = λ row e n q a c. called aCut c;
+    forBackup = λ h e a c. called c;
+    forCut = λ row e n q a c. called c;
     forShow = λ a c. no-call K.Show _ c refl refl refl;
   }
 
