@@ -1,9 +1,15 @@
 -- The reply to a line by its tree, and the answers of a text by the trees of its lines (document 01, sections 'Text', 'Refusals by trade word' and 'A run, whole').
--- A reader of these believes how trees are written (text Line, forms Tree), what a diagram's words stand for (reading Tree), the row step (build Build) and what an
--- accepted line does (session), and no reader of bytes and no machine with stacks.
+-- A reader of these believes how trees are written (text Line, forms Tree), the row step (build Build) and what an accepted line does (session), and no reader of bytes,
+-- no pass over words and no machine with stacks.
+--
+-- Definitions: a diagram's words
+--   atomTerms, diagramTerms == its terms in the order of the words
+--   variablesAfter == variables in the order of their first occurrence
+--   numbered, termNumber, termNumbers == a declared constant, or 2; a parameter or variable that is allowed here, or 6
+--   atomTest == what an atom asks: a declared predicate, or 2, with its arity, or 3; then its terms
+--   diagramWords, readTree == a number in its range, or 4; atom, part for true, part for false; after all words more than 32 variables are 8
 --
 -- Definitions: one line
---   readTree == the words of a diagram in order, each by 2, 3, 6, 4; then more than 32 variables are 8
 --   rewardTree == (reward DIAGRAM): words, row steps, closed up; last 9 for model rows
 --   weightTree == (variant n WEIGHT): 2 at its name; words, row steps; last 9 for variants and model rows
 --   truthTree == (becomes (p ?a ..) DIAGRAM): 2, 3 at p, 2 at a repeated argument; words, row steps, 7; last 9 for model rows
@@ -18,15 +24,18 @@
 -- Theorems
 --   reply-tree: the reply to what a well-formed line writes is what its tree says
 --   reply-unwritten: the reply to bytes that no well-formed line writes is refusal 1
---   reply-answers, reply-only: so every line in bytes has the reply of TreeAnswer, and no other
---   text-trees, text-only: textAnswers are the answers of TextTrees, and no others are
+--   reply-answers: so every line in bytes has the reply of TreeAnswer; reply-only: and no other
+--   text-trees: the answers of a text are those of TextTrees; text-only: and no others are
 --
 -- The arity list that reply-tree asks for is kept from line to line (session_laws, reply-sound); text-trees asks for nothing.
 
 -- definitions
+pub mod TreeReading
 pub mod TreeReplies
 pub mod TextTrees
 -- laws
+pub mod VariableLaws
+pub mod ResolvedLaws
 pub mod TreeReadLaws
 pub mod TreeHeadLaws
 pub mod TreeReplyLaws

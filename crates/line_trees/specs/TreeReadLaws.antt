@@ -6,8 +6,10 @@ use Prim.Native.Nat.{_≤_}
 use native.Mathlib.Omega.{arith}
 use lib.Dec.{leb}
 use lib.ListN.{length}
+use borrow.Author.Tests.{leb-true}
 use Rattle.refusal.specs.declared.Refusal.the-variants.{Range, Variables}
 use Rattle.refusal.specs.Outcome.{Outcome, ok, andThen}
+use Rattle.refusal.specs.Outcome.Outcome.{refused as refusedWith}
 use Rattle.label.specs.Limits.{variableCount}
 use Rattle.diagram.specs.Sizes.{highestValue}
 use Rattle.diagram.specs.Diagram.{Diagram}
@@ -16,6 +18,7 @@ use Rattle.words.specs.declared.Key.{Key}
 use Rattle.forms.specs.Tree as T
 use Rattle.forms.specs.Tree.Diagram.{number as numeral, branch as conditional}
 use Rattle.events.specs.Events.{diagramEvents}
+use Rattle.reading.specs.declared.Binding.{Binding}
 use Rattle.reading.specs.Operations.{Op}
 use Rattle.reading.specs.Reading.{Names, Judged, pickJudged, Written, reading}
 use Rattle.reading.specs.Reading.{andThen as judgedThen}
@@ -25,9 +28,10 @@ use Rattle.reading.specs.Tree.{Reading, Result, resolveAtom, branching, resolve
 use Rattle.reading.specs.Tree.Reading.{branch}
 use Rattle.reading.specs.TreeLaws.{Arities, reading-diagram}
 use Rattle.build.specs.Machine.{mostTests}
-use Rattle.session.specs.Session.{refuseIf}
-use Rattle.session.specs.Modelling.{outcomeOf}
-use Rattle.line_trees.specs.TreeReplies.{readTree}
+use Rattle.session.specs.Session.{Session, refuseIf}
+use Rattle.session.specs.Modelling.{outcomeOf, namesFor}
+use Rattle.line_trees.specs.TreeReading.{diagramWords, readTree}
+use Rattle.line_trees.specs.ResolvedLaws.{Match, Counted, Reads}
 
 -- of what a diagram stands for no more (if ..) are open together than brackets
 resolved-depth : (ν : Names) (d : T.Diagram) (vs : List Key) (g : Result Reading) → resolveDiagram ν vs d ≡ fine g → depth (g .value) ≤ T.brackets d
@@ -44,24 +48,33 @@ resolved-depth ν (conditional a d e) vs g z =
 
 -- a diagram that is built, in either way, and what follows
 pub read-built : {A : Type 0} (machine : List Op → Outcome Diagram) (tree : Reading → Outcome Diagram) → ((r : Reading) → depth r ≤ mostTests → machine (opsOf r) ≡ tree r)
-    → (ν : Names) → Arities ν → (d : T.Diagram) → T.brackets d ≤ mostTests → (vs : List Key) (k : Diagram → Outcome A)
-    → andThen (outcomeOf (reading ν (diagramEvents d) vs)) (λ w. andThen (machine (w .operations)) k) ≡ andThen (readTree ν vs d) (λ r. andThen (tree r) k)
+    → (σ : Session) (b : Binding) (ps vs ws : List Key) → Arities (namesFor (σ .names) (σ .model .arities) b ps)
+    → (d : T.Diagram) → T.brackets d ≤ mostTests → Reads σ b ps vs ws d → (k : Diagram → Outcome A)
+    → andThen (outcomeOf (reading (namesFor (σ .names) (σ .model .arities) b ps) (diagramEvents d) ws)) (λ w. andThen (machine (w .operations)) k)
+    ≡ andThen (readTree σ ps vs d) (λ r. andThen (tree r) k)
 unfolding diagramReading readTree
-read-built machine tree law ν few d shallow vs k =
-    ap (λ (j : Judged Written). andThen (outcomeOf j) (λ w. andThen (machine (w .operations)) k)) (reading-diagram ν few d vs)
-    ∙ go (resolveDiagram ν vs d) (λ g e. omega (arith, resolved-depth ν d vs g e))
+read-built machine tree law σ b ps vs ws few d shallow reads k =
+    ap (λ (j : Judged Written). andThen (outcomeOf j) (λ w. andThen (machine (w .operations)) k)) (reading-diagram ν few d ws)
+    ∙ go (resolveDiagram ν ws d) (diagramWords σ ps vs d) (λ g e. omega (arith, resolved-depth ν d ws g e)) reads
   where
+    ν : Names
+    ν = namesFor (σ .names) (σ .model .arities) b ps
+
     wrote : Result Reading → Written
     wrote g = record { variables = g .variables; operations = opsOf (g .value) }
 
-    counted : (g : Result Reading) → depth (g .value) ≤ mostTests → (b : Bool)
-        → andThen (outcomeOf (pickJudged b (fine (wrote g)) (refused Variables))) (λ w. andThen (machine (w .operations)) k)
-        ≡ andThen (refuseIf (not b) Variables (ok (g .value))) (λ r. andThen (tree r) k)
-    counted g h true = ap (λ (o : Outcome Diagram). andThen o k) (law (g .value) h)
-    counted g h false = refl
+    counted : (g : Result Reading) (r : Reading) → depth (g .value) ≤ mostTests → (c : Bool) → (c ≡ true → g .value ≡ r)
+        → andThen (outcomeOf (pickJudged c (fine (wrote g)) (refused Variables))) (λ w. andThen (machine (w .operations)) k)
+        ≡ andThen (refuseIf (not c) Variables (ok r)) (λ x. andThen (tree x) k)
+    counted g r h true e = ap (λ (o : Outcome Diagram). andThen o k) (law (g .value) h ∙ ap tree (e refl))
+    counted g r h false e = refl
 
-    go : (j : Judged (Result Reading)) → ((g : Result Reading) → j ≡ fine g → depth (g .value) ≤ mostTests)
+    go : (j : Judged (Result Reading)) (o : Outcome Reading) → ((g : Result Reading) → j ≡ fine g → depth (g .value) ≤ mostTests) → Match (Counted vs) j o
         → andThen (outcomeOf (judgedThen j writing)) (λ w. andThen (machine (w .operations)) k)
-        ≡ andThen (andThen (outcomeOf j) (λ g. refuseIf (not (leb (length (g .variables)) variableCount)) Variables (ok (g .value)))) (λ r. andThen (tree r) k)
-    go (fine g) h = counted g (h g refl) (leb (length (g .variables)) variableCount)
-    go (refused r) h = refl
+        ≡ andThen (andThen o (λ r. refuseIf (not (leb (length vs) variableCount)) Variables (ok r))) (λ r. andThen (tree r) k)
+    go (fine g) (ok r) h m =
+        ap (λ (c : Bool). andThen (outcomeOf (pickJudged c (fine (wrote g)) (refused Variables))) (λ w. andThen (machine (w .operations)) k)) (m .1)
+        ∙ counted g r (h g refl) (leb (length vs) variableCount) (λ e. m .0 (leb-true (length vs) variableCount e))
+    go (fine g) (refusedWith r) h m = absurd m
+    go (refused r) (ok x) h m = absurd m
+    go (refused r) (refusedWith s) h m = ap refusedWith m

@@ -6,9 +6,8 @@ use mathlib.Core.List.{List, [], map}
 use Prim.Native.Nat.{ℕ}
 use lib.ListN.{length, getD}
 use lib.Dec.{ltb, leb, eqb}
-use Rattle.refusal.specs.declared.Refusal.the-variants.{Form, Name, Arity, Truth, Variables, Space}
+use Rattle.refusal.specs.declared.Refusal.the-variants.{Form, Name, Arity, Truth, Space}
 use Rattle.refusal.specs.Outcome.{Outcome, ok, andThen}
-use Rattle.label.specs.Limits.{variableCount}
 use Rattle.words.specs.Bytes.{valueOf}
 use Rattle.words.specs.Keys.{keyOf}
 use Rattle.words.specs.declared.Key.{Key}
@@ -22,9 +21,6 @@ use Rattle.diagram.specs.Diagram.{Diagram}
 use Rattle.diagram.specs.Rows.{rows}
 use Rattle.regression.specs.RegressCall.{leafAbove}
 use Rattle.cutting.specs.Cut.{diagramAnswer}
-use Rattle.reading.specs.declared.Binding.the-variants.{Any, None, Only}
-use Rattle.reading.specs.Reading.{Names as ReadingNames}
-use Rattle.reading.specs.Tree.{Reading, resolveDiagram}
 use Rattle.build.specs.Build.{textDiagram, rewardDiagram}
 use Rattle.mdp.specs.Model.{mostVariants}
 use Rattle.answers.specs.declared.Answer.the-variants as A
@@ -32,22 +28,16 @@ use Rattle.session.specs.Place.{ruleOf}
 use Rattle.session.specs.Session.{Session, refuseIf}
 use Rattle.session.specs.Declaring.{constantLine, predicateLine, totalLine, discountLine, repeated, actionLine}
 use Rattle.session.specs.Facts.{predicateOf, objectsLine, isLine, trueLine}
-use Rattle.session.specs.Modelling.{mostModelRows, outcomeOf, namesFor, rowsWith, withReward, withVariant, truthsNow, isSome, withTruth}
+use Rattle.session.specs.Modelling.{mostModelRows, rowsWith, withReward, withVariant, truthsNow, isSome, withTruth}
 use Rattle.session.specs.Running.{withHeld, startLine, valueRead, backupLine, cutLine, cutSays}
 use Rattle.session.specs.Replies.{Reply, allowed, withNames, withLive, withVocabulary, withTotal, withDiscount, withAction, refusal, quietly, valueSays, backupSays, placed}
+use Rattle.line_trees.specs.TreeReading.{diagramTerms, variablesAfter, readTree}
 
--- the words of a diagram in order, each by 2, 3, 6, 4, the variables vs known before them; then more than 32 variables are 8
-unfoldable pub readTree : ReadingNames → List Key → T.Diagram → Outcome Reading
-readTree names vs d =
-    andThen (outcomeOf (resolveDiagram names vs d)) (λ g.
-    refuseIf (not (leb (length (g .variables)) variableCount)) Variables
-    (ok (g .value)))
-
--- (reward DIAGRAM): no parameter; its row steps, closed up; last 9 for model rows
+-- (reward DIAGRAM): no parameter, any variables; its row steps, closed up; last 9 for model rows
 unfoldable pub rewardTree : Session → T.Diagram → Outcome Diagram
 unfolding readTree rewardDiagram rows
 rewardTree σ d =
-    andThen (readTree (namesFor (σ .names) (σ .model .arities) Any []) [] d) (λ r.
+    andThen (readTree σ [] (variablesAfter [] (diagramTerms d)) d) (λ r.
     andThen (rewardDiagram (σ .model .arities) r) (λ x.
     refuseIf (ltb mostModelRows (rowsWith (σ .rows) x)) Space
     (ok x)))
@@ -57,7 +47,7 @@ unfoldable pub weightTree : Session → Key → T.Diagram → Outcome Diagram
 unfolding isAmong readTree textDiagram rows
 weightTree σ k d =
     refuseIf (isAmong k (σ .names .variants)) Name
-    (andThen (readTree (namesFor (σ .names) (σ .model .arities) None (σ .names .parameters)) [] d) (λ r.
+    (andThen (readTree σ (σ .names .parameters) [] d) (λ r.
     andThen (textDiagram r) (λ x.
     refuseIf (leb mostVariants (length (σ .names .variants)) || ltb mostModelRows (rowsWith (σ .rows) x)) Space
     (ok x))))
@@ -70,7 +60,7 @@ truthTree σ k vs d =
     refuseIf (not (isAmong k (σ .names .predicates)) || isSome (truthsNow (σ .model .actions) (predicateOf (σ .names) k))) Name
     (refuseIf (not (eqb (length vs) (getD (σ .model .arities) (predicateOf (σ .names) k) 0))) Arity
     (refuseIf (repeated [] vs) Name
-    (andThen (readTree (namesFor (σ .names) (σ .model .arities) Only (σ .names .parameters)) vs d) (λ r.
+    (andThen (readTree σ (σ .names .parameters) vs d) (λ r.
     andThen (textDiagram r) (λ x.
     refuseIf (leafAbove 1 x) Truth
     (refuseIf (ltb mostModelRows (rowsWith (σ .rows) x)) Space

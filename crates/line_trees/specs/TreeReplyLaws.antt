@@ -47,7 +47,9 @@ use Rattle.session.specs.Facts.{predicateOf}
 use Rattle.session.specs.Modelling.{mostModelRows, outcomeOf, namesFor, rowsWith, withReward, rewardRead, rewardLine, withVariant, weightRead, variantLine}
 use Rattle.session.specs.Modelling.{truthsNow, isSome, withTruth, truthRead, becomesLine}
 use Rattle.session.specs.Replies.{Reply, allowed, refusal, quietly, done, placed, replyTo, wordsOf, reply}
-use Rattle.line_trees.specs.TreeReplies.{readTree, rewardTree, weightTree, truthTree, treeDone, treeReply}
+use Rattle.line_trees.specs.TreeReading.{diagramTerms, variablesAfter, readTree}
+use Rattle.line_trees.specs.TreeReplies.{rewardTree, weightTree, truthTree, treeDone, treeReply}
+use Rattle.line_trees.specs.ResolvedLaws.{reads-none, reads-only, reads-any}
 use Rattle.line_trees.specs.TreeReadLaws.{read-built}
 use Rattle.line_trees.specs.TreeHeadLaws.{head-tree}
 
@@ -87,14 +89,14 @@ module _ (σ : Session) (few : areArities (σ .model .arities) ≡ true) where
   unfolding rewardRead rewardTree
   reward-tree d shallow =
       read-built (builtClosed (σ .model .arities)) (rewardDiagram (σ .model .arities)) (built-reward (σ .model .arities))
-      (namesFor (σ .names) (σ .model .arities) Any []) (λ i. arity-most (σ .model .arities) i few) d shallow []
+      σ Any [] (variablesAfter [] (diagramTerms d)) [] (λ i. arity-most (σ .model .arities) i few) d shallow (reads-any σ [] d)
       (λ x. refuseIf (ltb mostModelRows (rowsWith (σ .rows) x)) Space (ok x))
 
   weight-tree : (k : Key) (d : T.Diagram) → T.brackets d ≤ mostTests → weightRead (σ .names) (σ .model .arities) (σ .rows) k (diagramEvents d) ≡ weightTree σ k d
   unfolding weightRead weightTree
   weight-tree k d shallow =
       ap (refuseIf (isAmong k (σ .names .variants)) Name)
-      (read-built built textDiagram built-text (namesFor (σ .names) (σ .model .arities) None (σ .names .parameters)) (λ i. arity-most (σ .model .arities) i few) d shallow []
+      (read-built built textDiagram built-text σ None (σ .names .parameters) [] [] (λ i. arity-most (σ .model .arities) i few) d shallow (reads-none σ (σ .names .parameters) d)
       (λ x. refuseIf (leb mostVariants (length (σ .names .variants)) || ltb mostModelRows (rowsWith (σ .rows) x)) Space (ok x)))
 
   truth-tree : (w : Words K.Becomes) → GoodWords K.Becomes w → T.brackets (w .2) ≤ mostTests
@@ -106,8 +108,11 @@ module _ (σ : Session) (few : areArities (σ .model .arities) ≡ true) where
       ar : List ℕ
       ar = σ .model .arities
 
+      ps : List Key
+      ps = σ .names .parameters
+
       ν : ReadingNames
-      ν = namesFor (σ .names) ar Only (σ .names .parameters)
+      ν = namesFor (σ .names) ar Only ps
 
       -- the predicate's number, and its arguments
       p : ℕ
@@ -133,12 +138,12 @@ module _ (σ : Session) (few : areArities (σ .model .arities) ≡ true) where
       by-words q es us = andThen (outcomeOf (reading ν es us)) (λ u. andThen (built (u .operations)) (checks {A = ℕ × Diagram} (λ x. (q, x))))
 
       by-tree : Outcome Diagram
-      by-tree = andThen (readTree ν vs (w .2)) (λ r. andThen (textDiagram r) (checks (λ x. x)))
+      by-tree = andThen (readTree σ ps vs (w .2)) (λ r. andThen (textDiagram r) (checks (λ x. x)))
 
       diagram : by-words p (diagramEvents (w .2)) vs ≡ andThen by-tree (λ x. ok (paired x))
       diagram =
-          read-built built textDiagram built-text ν (λ i. arity-most ar i few) (w .2) shallow vs (checks paired)
-          ∙ steps-then (readTree ν vs (w .2)) textDiagram (checks (λ x. x)) (λ x. ok (paired x)) (checks paired)
+          read-built built textDiagram built-text σ Only ps vs vs (λ i. arity-most ar i few) (w .2) shallow (reads-only σ ps vs (w .2)) (checks paired)
+          ∙ steps-then (readTree σ ps vs (w .2)) textDiagram (checks (λ x. x)) (λ x. ok (paired x)) (checks paired)
           (λ x. last x (leafAbove 1 x) (ltb mostModelRows (rowsWith (σ .rows) x)))
 
       -- the head

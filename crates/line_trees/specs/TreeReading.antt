@@ -1,0 +1,85 @@
+-- What the words of a diagram's tree stand for, and the first fault among them (document 01, section 'Text', and under the refusals: 'word by word 2, 3, 6, 4, with 3
+-- found at the predicate's own word; then its diagram 8').
+use mathlib.Core.Bool.{not, cond}
+use mathlib.Core.List.{List, [], _∷_, _++_}
+use Prim.Native.Nat.{ℕ}
+use lib.ListN.{length, getD}
+use lib.Dec.{leb, eqb}
+use Rattle.refusal.specs.declared.Refusal.{Refusal}
+use Rattle.refusal.specs.declared.Refusal.the-variants.{Name, Arity, Range, Unbound, Variables}
+use Rattle.refusal.specs.Outcome.{Outcome, ok, andThen}
+use Rattle.label.specs.Limits.{equality, variableCount}
+use Rattle.label.specs.Terms.{constantTerm, parameterTerm, variableTerm}
+use Rattle.label.specs.Labels.{testOf}
+use Rattle.label.specs.declared.Test.{Test}
+use Rattle.diagram.specs.Sizes.{highestValue}
+use Rattle.words.specs.Bytes.{valueOf}
+use Rattle.words.specs.Keys.{keyOf}
+use Rattle.words.specs.declared.Key.{Key}
+use Rattle.names.specs.Keys.{placeOf, isAmong}
+use Rattle.forms.specs.Tree as T
+use Rattle.forms.specs.Tree.Mark.{plain, variable, parameter}
+use Rattle.forms.specs.Tree.Term.{term}
+use Rattle.forms.specs.Tree.Atom.{equal, holds}
+use Rattle.forms.specs.Tree.Diagram.{number as numeral, branch as conditional}
+use Rattle.reading.specs.Tree.{Reading, atomFrom}
+use Rattle.reading.specs.Tree.Reading.{number, branch}
+use Rattle.session.specs.Session.{Session, refuseIf}
+use Rattle.session.specs.Facts.{predicateOf}
+
+-- ===== Variables: 'numbered from 32 by first occurrence on the line' =====
+
+-- the terms of an atom and of a diagram in the order of the words
+abbrev pub atomTerms : T.Atom → List T.Term
+atomTerms (equal a b) = a ∷ b ∷ []
+atomTerms (holds p ts) = ts
+
+abbrev pub diagramTerms : T.Diagram → List T.Term
+diagramTerms (numeral n) = []
+diagramTerms (conditional a d e) = atomTerms a ++ (diagramTerms d ++ diagramTerms e)
+
+-- the variables vs, and behind them those of the terms, each once
+abbrev pub variablesAfter : List Key → List T.Term → List Key
+variablesAfter vs [] = vs
+variablesAfter vs (term plain n ∷ ts) = variablesAfter vs ts
+variablesAfter vs (term parameter n ∷ ts) = variablesAfter vs ts
+variablesAfter vs (term variable n ∷ ts) = variablesAfter (cond (isAmong (keyOf n) vs) vs (vs ++ (keyOf n ∷ []))) ts
+
+-- ===== Names =====
+
+-- a name among ks has the number of its place there, any other is refused
+abbrev pub numbered : (ℕ → ℕ) → List Key → Refusal → List ℕ → Outcome ℕ
+numbered f ks r n = refuseIf (not (isAmong (keyOf n) ks)) r (ok (f (placeOf (keyOf n) ks)))
+
+-- on a line of the session σ that may name the parameters ps and the variables vs
+module _ (σ : Session) (ps vs : List Key) where
+  -- a declared constant, or 2; a parameter or a variable that is allowed here, or 6
+  abbrev pub termNumber : T.Term → Outcome ℕ
+  termNumber (term plain n) = numbered constantTerm (σ .names .constants) Name n
+  termNumber (term parameter n) = numbered parameterTerm ps Unbound n
+  termNumber (term variable n) = numbered variableTerm vs Unbound n
+
+  abbrev pub termNumbers : List T.Term → Outcome (List ℕ)
+  termNumbers [] = ok []
+  termNumbers (t ∷ ts) = andThen (termNumber t) (λ x. andThen (termNumbers ts) (λ xs. ok (x ∷ xs)))
+
+  -- what an atom asks: a declared predicate, or 2, with its arity, or 3; then its terms
+  abbrev pub atomTest : T.Atom → Outcome Test
+  atomTest (equal a b) = andThen (termNumbers (a ∷ b ∷ [])) (λ ts. ok (testOf (atomFrom equality ts)))
+  atomTest (holds p ts) =
+      refuseIf (not (isAmong (keyOf p) (σ .names .predicates))) Name
+      (refuseIf (not (eqb (length ts) (getD (σ .model .arities) (predicateOf (σ .names) (keyOf p)) 0))) Arity
+      (andThen (termNumbers ts) (λ us. ok (testOf (atomFrom (predicateOf (σ .names) (keyOf p)) us)))))
+
+  -- a number in its range, or 4; the atom, the diagram for true, the diagram for false
+  abbrev pub diagramWords : T.Diagram → Outcome Reading
+  diagramWords (numeral n) = refuseIf (not (leb (valueOf n) highestValue)) Range (ok (number (valueOf n)))
+  diagramWords (conditional a d e) =
+      andThen (atomTest a) (λ t.
+      andThen (diagramWords d) (λ h.
+      andThen (diagramWords e) (λ f.
+      ok (branch t h f))))
+
+  -- after all words more than 32 variables are 8
+  unfoldable pub readTree : T.Diagram → Outcome Reading
+  readTree d = andThen (diagramWords d) (λ r. refuseIf (not (leb (length vs) variableCount)) Variables (ok r))
