@@ -2,7 +2,7 @@
 use mathlib.Core.Bool.{true, false}
 use mathlib.Core.Path.{_≡_, refl, sym, ap, subst, _∙_}
 use mathlib.Core.List.{List, [], _∷_, _++_}
-use Prim.Native.Nat.{ℕ, _+_, _-_, _*_, _<_, _≤_}
+use Prim.Native.Nat.{ℕ, _+_, _-_, _*_, _/_, _%_, _<_, _≤_}
 use native.Mathlib.Omega.{arith}
 use borrow.Author.Tests.{le-leb, lt-leb}
 use lib.ListN.{length, getD, set, length-append}
@@ -16,8 +16,8 @@ use Rattle.diagram.specs.Words.{highAt}
 use Rattle.apply.specs.declared.Operation.{Operation}
 use Rattle.plan.specs.Walk.{Pair, samePair, isEnd, pairLabel, onHigh, onLow, walked, mostRows, Leading}
 use Rattle.plan.specs.WalkLaws.{mem-at, mem-nowhere, place-one, end-label, branch-label, high-below, low-below, high-leading, low-leading, extends-length, extends-getD, walked-old, walked-end, walked-branch, walked-extends, walked-fresh, walked-root}
-use Rattle.plan.specs.Plan.{keyCount, keyOf, hashOf, keyAt, putEntry, Index, origin, Entry, Plan, Touched, wentTo, packBase, Ready, Planned, pairsAt, Reached, Overrun, Visited, Entered}
-use Rattle.plan.specs.PlanLaws.{key-one, length-pairs, plan-pairs, plan-added, index-touched}
+use Rattle.plan.specs.Plan.{keyCount, keyOf, pairOf, hashOf, keyAt, putEntry, Index, origin, Entry, Plan, Touched, wentTo, packBase, Ready, Planned, pairsAt, Reached, Overrun, Visited, Entered}
+use Rattle.plan.specs.PlanLaws.{pair-of-key, key-one, length-pairs, plan-pairs, plan-added, index-touched}
 use Rattle.plan.specs.declared.Went.{Went}
 use Rattle.plan.specs.declared.Went.the-variants.{To, Full}
 
@@ -76,6 +76,14 @@ module _ (op : Operation) (x y ws heads : List ℕ) (limit : ℕ) (ps : List Pai
       entered z ws′ heads′
       (subst (λ (m : ℕ). Entered ws heads limit m (keyOf p) label first second z ws′ heads′) (sym c)
       (subst (λ (m : ℕ). Entered ws heads limit n m label first second z ws′ heads′) d e))
+
+-- the pair of a key
+at-key : {k : ℕ} (p : Pair) → p .1 < mostRows → k ≡ keyOf p → pairOf k ≡ p
+at-key p h e = ap (λ (z : ℕ). pairOf z) e ∙ pair-of-key p h
+
+pub ready-key : {op : Operation} {x y ws heads : List ℕ} {limit count k : ℕ} → Ready op x y ws heads limit count (pairOf k) → (k ≡ keyOf (pairOf k)) × (k < keyCount)
+unfolding keyOf
+ready-key {k = k} r = (omega arith, omega (arith, r .leading .first .few))
 
 module _ {op : Operation} {x y ws heads : List ℕ} {limit count i j : ℕ} (r : Ready op x y ws heads limit count (i, j)) where
   pub ready-few : (i < mostRows) × (j < mostRows)
@@ -152,92 +160,119 @@ module _ {op : Operation} {x y ws heads : List ℕ} {limit count i j : ℕ} (r :
 
     -- a branch pair
     module _ {hi hj li lj : ℕ} (branch : l ≡ leafMark → ⊥) (s : ((hi, hj) ≡ onHigh x y (i, j)) × ((li, lj) ≡ onLow x y (i, j))) where
-      us : List Pair
-      us = walked op x y (onHigh x y (i, j)) (pairsAt ws count)
+      lead-high : Leading x y (hi, hj)
+      lead-high = subst (Leading x y) (sym (s .0)) (high-leading op x y (i, j) (r .leading) (is-branch branch))
 
-      vs : List Pair
-      vs = walked op x y (onLow x y (i, j)) (walked op x y (onHigh x y (i, j)) (pairsAt ws count))
+      lead-low : Leading x y (li, lj)
+      lead-low = subst (Leading x y) (sym (s .1)) (low-leading op x y (i, j) (r .leading) (is-branch branch))
 
-      after : walked op x y (i, j) (pairsAt ws count) ≡ vs ++ ((i, j) ∷ [])
-      unfolding vs
-      after = walked-branch op x y (i, j) (pairsAt ws count) (r .leading) new (is-branch branch)
+      pub high-few : (hi < mostRows) × (hj < mostRows)
+      high-few = (lead-high .first .few, lead-high .second .few)
 
-      after-length : length (walked op x y (i, j) (pairsAt ws count)) ≡ length vs + 1
-      after-length = ap length after ∙ length-append vs ((i, j) ∷ [])
+      pub low-few : (li < mostRows) × (lj < mostRows)
+      low-few = (lead-low .first .few, lead-low .second .few)
 
-      pub high-less : hi + hj < i + j
-      high-less = subst (λ (q : Pair). q .0 + q .1 < i + j) (sym (s .0)) (high-below op x y (i, j) (r .leading) (is-branch branch) .less)
+      -- its successors by their keys
+      module _ {h o : ℕ} (h-key : (h ≡ keyOf (hi, hj)) × (h < keyCount)) (o-key : (o ≡ keyOf (li, lj)) × (o < keyCount)) where
+        high-is : pairOf h ≡ onHigh x y (i, j)
+        high-is = at-key (hi, hj) (high-few .1) (h-key .0) ∙ s .0
 
-      pub low-less : li + lj < i + j
-      low-less = subst (λ (q : Pair). q .0 + q .1 < i + j) (sym (s .1)) (low-below op x y (i, j) (r .leading) (is-branch branch) .less)
+        low-is : pairOf o ≡ onLow x y (i, j)
+        low-is = at-key (li, lj) (low-few .1) (o-key .0) ∙ s .1
 
-      pub high-ready : Ready op x y ws heads limit count (hi, hj)
-      high-ready = record { leading = subst (Leading x y) (sym (s .0)) (high-leading op x y (i, j) (r .leading) (is-branch branch)); plan = r .plan }
+        us : List Pair
+        us = walked op x y (onHigh x y (i, j)) (pairsAt ws count)
 
-      module _ {z : Went} {ws₁ heads₁ : List ℕ} (v : Visited op x y limit (hi, hj) (walked op x y (hi, hj) (pairsAt ws count)) z ws₁ heads₁) where
-        pub high-full : z ≡ Full → Visited op x y limit (i, j) (walked op x y (i, j) (pairsAt ws count)) Full ws₁ heads₁
-        unfolding us vs
-        high-full e = visited-full (record {
-          many =
-              let a : limit < length us = subst (λ (q : Pair). limit < length (walked op x y q (pairsAt ws count))) (s .0) (v .full e .many) in
-              omega (arith, after-length, extends-length (walked-extends op x y (onLow x y (i, j)) us));
-          touched = v .full e .touched;
-        })
+        vs : List Pair
+        vs = walked op x y (onLow x y (i, j)) (walked op x y (onHigh x y (i, j)) (pairsAt ws count))
 
-        module _ {t n : ℕ} (to : z ≡ To t n) where
-          high-reached : Reached op x y limit (onHigh x y (i, j)) us t n ws₁ heads₁
-          unfolding us
-          high-reached = subst (λ (q : Pair). Reached op x y limit q (walked op x y q (pairsAt ws count)) t n ws₁ heads₁) (s .0) (v .to t n to)
+        after : walked op x y (i, j) (pairsAt ws count) ≡ vs ++ ((i, j) ∷ [])
+        unfolding vs
+        after = walked-branch op x y (i, j) (pairsAt ws count) (r .leading) new (is-branch branch)
 
-          pairs-high : pairsAt ws₁ n ≡ us
-          pairs-high = ap (pairsAt ws₁) (sym (high-reached .count-is)) ∙ plan-pairs (high-reached .plan)
+        after-length : length (walked op x y (i, j) (pairsAt ws count)) ≡ length vs + 1
+        after-length = ap length after ∙ length-append vs ((i, j) ∷ [])
 
-          pub low-ready : Ready op x y ws₁ heads₁ limit n (li, lj)
-          low-ready = record {
-            leading = subst (Leading x y) (sym (s .1)) (low-leading op x y (i, j) (r .leading) (is-branch branch));
-            plan = subst (Plan op x y ws₁ heads₁ limit) (sym pairs-high) (high-reached .plan);
-          }
+        pub high-less : h / mostRows + h % mostRows < i + j
+        high-less = subst (λ (q : Pair). q .0 + q .1 < i + j) (sym high-is) (high-below op x y (i, j) (r .leading) (is-branch branch) .less)
 
-          module _ {z₂ : Went} {ws₂ heads₂ : List ℕ} (v₂ : Visited op x y limit (li, lj) (walked op x y (li, lj) (pairsAt ws₁ n)) z₂ ws₂ heads₂) where
-            low-visited : Visited op x y limit (onLow x y (i, j)) vs z₂ ws₂ heads₂
-            unfolding us vs
-            low-visited =
-                subst (λ (qs : List Pair). Visited op x y limit (onLow x y (i, j)) (walked op x y (onLow x y (i, j)) qs) z₂ ws₂ heads₂) pairs-high
-                (subst (λ (q : Pair). Visited op x y limit q (walked op x y q (pairsAt ws₁ n)) z₂ ws₂ heads₂) (s .1) v₂)
+        pub low-less : o / mostRows + o % mostRows < i + j
+        low-less = subst (λ (q : Pair). q .0 + q .1 < i + j) (sym low-is) (low-below op x y (i, j) (r .leading) (is-branch branch) .less)
 
-            pub low-full : z₂ ≡ Full → Visited op x y limit (i, j) (walked op x y (i, j) (pairsAt ws count)) Full ws₂ heads₂
-            low-full e = visited-full (record { many = omega (arith, after-length, low-visited .full e .many); touched = low-visited .full e .touched })
+        pub high-ready : Ready op x y ws heads limit count (pairOf h)
+        high-ready = record { leading = subst (Leading x y) (sym high-is) (high-leading op x y (i, j) (r .leading) (is-branch branch)); plan = r .plan }
 
-            module _ {f m : ℕ} (to₂ : z₂ ≡ To f m) where
-              low-reached : Reached op x y limit (onLow x y (i, j)) vs f m ws₂ heads₂
-              low-reached = low-visited .to f m to₂
+        module _ {z : Went} {ws₁ heads₁ : List ℕ} (v : Visited op x y limit (pairOf h) (walked op x y (pairOf h) (pairsAt ws count)) z ws₁ heads₁) where
+          pub high-full : z ≡ Full → Visited op x y limit (i, j) (walked op x y (i, j) (pairsAt ws count)) Full ws₁ heads₁
+          unfolding us vs
+          high-full e = visited-full (record {
+            many =
+                let a : limit < length us = subst (λ (q : Pair). limit < length (walked op x y q (pairsAt ws count))) high-is (v .full e .many) in
+                omega (arith, after-length, extends-length (walked-extends op x y (onLow x y (i, j)) us));
+            touched = v .full e .touched;
+          })
 
-              pub low-index : Index ws₂ heads₂ limit m
-              low-index = subst (Index ws₂ heads₂ limit) (low-reached .count-is) (low-reached .plan .index)
+          module _ {t n : ℕ} (to : z ≡ To t n) where
+            high-reached : Reached op x y limit (onHigh x y (i, j)) us t n ws₁ heads₁
+            unfolding us
+            high-reached = subst (λ (q : Pair). Reached op x y limit q (walked op x y q (pairsAt ws count)) t n ws₁ heads₁) high-is (v .to t n to)
 
-              first-less : t < length vs
+            pairs-high : pairsAt ws₁ n ≡ us
+            pairs-high = ap (pairsAt ws₁) (sym (high-reached .count-is)) ∙ plan-pairs (high-reached .plan)
+
+            pub low-ready : Ready op x y ws₁ heads₁ limit n (pairOf o)
+            low-ready = record {
+              leading = subst (Leading x y) (sym low-is) (low-leading op x y (i, j) (r .leading) (is-branch branch));
+              plan = subst (Plan op x y ws₁ heads₁ limit) (sym pairs-high) (high-reached .plan);
+            }
+
+            module _ {z₂ : Went} {ws₂ heads₂ : List ℕ} (v₂ : Visited op x y limit (pairOf o) (walked op x y (pairOf o) (pairsAt ws₁ n)) z₂ ws₂ heads₂) where
+              low-visited : Visited op x y limit (onLow x y (i, j)) vs z₂ ws₂ heads₂
               unfolding us vs
-              first-less = omega (arith, high-reached .less, high-reached .count-is, extends-length (walked-extends op x y (onLow x y (i, j)) us))
+              low-visited =
+                  subst (λ (qs : List Pair). Visited op x y limit (onLow x y (i, j)) (walked op x y (onLow x y (i, j)) qs) z₂ ws₂ heads₂) pairs-high
+                  (subst (λ (q : Pair). Visited op x y limit q (walked op x y q (pairsAt ws₁ n)) z₂ ws₂ heads₂) low-is v₂)
 
-              first-is : getD vs t origin ≡ onHigh x y (i, j)
-              unfolding us vs
-              first-is = extends-getD (walked-extends op x y (onLow x y (i, j)) us) origin t (omega (arith, high-reached .less, high-reached .count-is)) ∙ high-reached .number-is
+              pub low-full : z₂ ≡ Full → Visited op x y limit (i, j) (walked op x y (i, j) (pairsAt ws count)) Full ws₂ heads₂
+              low-full e = visited-full (record { many = omega (arith, after-length, low-visited .full e .many); touched = low-visited .full e .touched })
 
-              pub below-branch : {k : ℕ} {z₃ : Went} {ws₃ heads₃ : List ℕ} → (k ≡ keyOf (i, j)) × (k < keyCount) → Entered ws₂ heads₂ limit m k l t f z₃ ws₃ heads₃
-                  → Visited op x y limit (i, j) (walked op x y (i, j) (pairsAt ws count)) z₃ ws₃ heads₃
-              unfolding vs
-              below-branch {k} {z₃} {ws₃} {heads₃} key a =
-                  subst (λ (qs : List Pair). Visited op x y limit (i, j) qs z₃ ws₃ heads₃) (sym after)
-                  (entered-at op x y ws₂ heads₂ limit vs (low-reached .plan) (i, j) (ready-few .0) (ready-few .1)
-                  (walked-fresh op x y (i, j) (pairsAt ws count) (r .leading) (is-branch branch) new) l t f label-is
-                  (λ h. clash h (is-branch branch))
-                  (λ h. (first-less, omega (arith, low-reached .less, low-reached .count-is), first-is, low-reached .number-is))
-                  (low-reached .count-is) (key .0) a)
+              module _ {f m : ℕ} (to₂ : z₂ ≡ To f m) where
+                low-reached : Reached op x y limit (onLow x y (i, j)) vs f m ws₂ heads₂
+                low-reached = low-visited .to f m to₂
+
+                pub low-index : Index ws₂ heads₂ limit m
+                low-index = subst (Index ws₂ heads₂ limit) (low-reached .count-is) (low-reached .plan .index)
+
+                first-less : t < length vs
+                unfolding us vs
+                first-less = omega (arith, high-reached .less, high-reached .count-is, extends-length (walked-extends op x y (onLow x y (i, j)) us))
+
+                first-is : getD vs t origin ≡ onHigh x y (i, j)
+                unfolding us vs
+                first-is = extends-getD (walked-extends op x y (onLow x y (i, j)) us) origin t (omega (arith, high-reached .less, high-reached .count-is)) ∙ high-reached .number-is
+
+                pub below-branch : {k : ℕ} {z₃ : Went} {ws₃ heads₃ : List ℕ} → (k ≡ keyOf (i, j)) × (k < keyCount) → Entered ws₂ heads₂ limit m k l t f z₃ ws₃ heads₃
+                    → Visited op x y limit (i, j) (walked op x y (i, j) (pairsAt ws count)) z₃ ws₃ heads₃
+                unfolding vs
+                below-branch {k} {z₃} {ws₃} {heads₃} key a =
+                    subst (λ (qs : List Pair). Visited op x y limit (i, j) qs z₃ ws₃ heads₃) (sym after)
+                    (entered-at op x y ws₂ heads₂ limit vs (low-reached .plan) (i, j) (ready-few .0) (ready-few .1)
+                    (walked-fresh op x y (i, j) (pairsAt ws count) (r .leading) (is-branch branch) new) l t f label-is
+                    (λ h. clash h (is-branch branch))
+                    (λ h. (first-less, omega (arith, low-reached .less, low-reached .count-is), first-is, low-reached .number-is))
+                    (low-reached .count-is) (key .0) a)
 
 -- the ways through `walk`
-pub walk-ready : {op : Operation} {x y ws heads : List ℕ} {limit i j : ℕ} → Leading x y (i, j) → Index ws heads limit 0 → Ready op x y ws heads limit 0 (i, j)
+pub walk-few : {x y : List ℕ} {i j : ℕ} → Leading x y (i, j) → (i < mostRows) × (j < mostRows)
+walk-few a = (a .first .few, a .second .few)
+
+pub walk-ready : {op : Operation} {x y ws heads : List ℕ} {limit i j k : ℕ} → Leading x y (i, j) → Index ws heads limit 0 → (k ≡ keyOf (i, j)) × (k < keyCount)
+    → Ready op x y ws heads limit 0 (pairOf k)
 unfolding pairsAt
-walk-ready a t = record { leading = a; plan = record { index = t; entry = λ k h. absurd (omega arith); apart = tt } }
+walk-ready {x = x} {y = y} {i = i} {j = j} a t e = record {
+  leading = subst (Leading x y) (sym (at-key (i, j) (walk-few a .1) (e .0))) a;
+  plan = record { index = t; entry = λ n h. absurd (omega arith); apart = tt };
+}
 
 pub walk-new : (ws : List ℕ) (p : Pair) → mem samePair p (pairsAt ws 0) ≡ false
 unfolding pairsAt
@@ -269,9 +304,11 @@ planned op x y limit p a Full ws heads v =
     let o : Overrun limit (walked op x y p []) ws heads = v .full refl in
     record { answer = sym (went-many limit (walked op x y p []) (o .many)); plan = λ h. absurd (omega (arith, o .many)); touched = λ h. o .touched }
 
-pub walk-out : (ws : List ℕ) {op : Operation} {x y ws′ heads′ : List ℕ} {limit i j : ℕ} {z w : Went} → Leading x y (i, j) → w ≡ z
-    → Visited op x y limit (i, j) (walked op x y (i, j) (pairsAt ws 0)) w ws′ heads′
+pub walk-out : (ws : List ℕ) {op : Operation} {x y ws′ heads′ : List ℕ} {limit i j k : ℕ} {z w : Went} → Leading x y (i, j) → (k ≡ keyOf (i, j)) × (k < keyCount) → w ≡ z
+    → Visited op x y limit (pairOf k) (walked op x y (pairOf k) (pairsAt ws 0)) w ws′ heads′
     → Planned op x y limit (walked op x y (i, j) []) z ws′ heads′
 unfolding pairsAt
-walk-out ws {op} {x} {y} {ws′} {heads′} {limit} {i} {j} {z} a e v =
-    planned op x y limit (i, j) a z ws′ heads′ (subst (λ (t : Went). Visited op x y limit (i, j) (walked op x y (i, j) []) t ws′ heads′) e v)
+walk-out ws {op} {x} {y} {ws′} {heads′} {limit} {i} {j} {k} {z} {w} a d e v =
+    planned op x y limit (i, j) a z ws′ heads′
+    (subst (λ (t : Went). Visited op x y limit (i, j) (walked op x y (i, j) []) t ws′ heads′) e
+    (subst (λ (q : Pair). Visited op x y limit q (walked op x y q []) w ws′ heads′) (at-key (i, j) (walk-few a .1) (d .0)) v))

@@ -28,7 +28,7 @@ keyCount = mostRows * mostRows
 unfoldable pub keyOf : Pair → ℕ
 keyOf p = p .0 * mostRows + p .1
 
-unfoldable pub pairOf : ℕ → Pair
+abbrev pub pairOf : ℕ → Pair
 pairOf k = (k / mostRows, k % mostRows)
 
 -- the bucket of a key

@@ -24,7 +24,7 @@ unfolding keyOf
 key-less p a b = omega arith
 
 pub pair-of-key : (p : Pair) → p .1 < mostRows → pairOf (keyOf p) ≡ p
-unfolding keyOf pairOf
+unfolding keyOf
 pair-of-key p b = pair-ext _ p (omega arith) (omega arith)
 
 pub key-one : (p q : Pair) → p .1 < mostRows → q .1 < mostRows → keyOf p ≡ keyOf q → p ≡ q

@@ -9,7 +9,7 @@ ghost use Rattle.basics.specs.Members.{mem};
 ghost use Rattle.table.specs.Chains.{prev};
 ghost use Rattle.apply.specs.Pairs.{absorbs};
 ghost use Rattle.plan.specs.Walk.{samePair, isEnd, lesser, pairLabel, onHigh, onLow, walked, mostRows, Leading};
-ghost use Rattle.plan.specs.Plan.{buckets, keyCount, keyOf, hashOf, keyAt, Index, Plan, Clean, Touched, Ready, Planned, packBase, wentOf, pairsAt, Visited, Entered};
+ghost use Rattle.plan.specs.Plan.{buckets, keyCount, keyOf, pairOf, hashOf, keyAt, Index, Plan, Clean, Touched, Ready, Planned, packBase, wentOf, pairsAt, Visited, Entered};
 ghost use Rattle.plan.specs.declared.Went.the-variants.{To};
 
 // The number of buckets of the index.
@@ -189,7 +189,7 @@ fn add(
     packed(count, count + 1)
 }
 
-// Walks from a pair, which may be in the plan already.
+// Walks from the pair of a key, which may be in the plan already. The key and not two rows: with an argument more this is no longer inlined.
 fn visit(
     x: &[u64],
     y: &[u64],
@@ -197,21 +197,20 @@ fn visit(
     heads: &mut [u16],
     limit: usize,
     count: usize,
-    i: usize,
-    j: usize,
+    k: u64,
     op: Operation,
 ) -> usize
-    requires { ⌜ Ready op (now x) (now y) (now plan) (now heads) limit count (i, j) ⌝ }
-    ensures { λ r. ⌜ Visited op (now (x .entry)) (now (y .entry)) limit (i, j) (walked op (now (x .entry)) (now (y .entry)) (i, j) (pairsAt (now (plan .entry)) count)) (wentOf r) (now (plan .exit)) (now (heads .exit)) ⌝ }
+    requires { ⌜ Ready op (now x) (now y) (now plan) (now heads) limit count (pairOf k) ⌝ }
+    ensures { λ r. ⌜ Visited op (now (x .entry)) (now (y .entry)) limit (pairOf k) (walked op (now (x .entry)) (now (y .entry)) (pairOf k) (pairsAt (now (plan .entry)) count)) (wentOf r) (now (plan .exit)) (now (heads .exit)) ⌝ }
 {
-    let at = find(plan, heads, limit, count, key(i, j));
+    let at = find(plan, heads, limit, count, k);
     if at != 0 {
         return packed(at - 1, count);
     }
-    below(x, y, plan, heads, limit, count, i, j, op)
+    below(x, y, plan, heads, limit, count, k, op)
 }
 
-// Walks from a pair that is not in the plan.
+// Walks from the pair of a key that is not in the plan.
 fn below(
     x: &[u64],
     y: &[u64],
@@ -219,41 +218,35 @@ fn below(
     heads: &mut [u16],
     limit: usize,
     count: usize,
-    i: usize,
-    j: usize,
+    k: u64,
     op: Operation,
 ) -> usize
-    requires { ⌜ Ready op (now x) (now y) (now plan) (now heads) limit count (i, j) ⌝ }
-    requires { ⌜ mem samePair (i, j) (pairsAt (now plan) count) ≡ false ⌝ }
-    ensures { λ r. ⌜ Visited op (now (x .entry)) (now (y .entry)) limit (i, j) (walked op (now (x .entry)) (now (y .entry)) (i, j) (pairsAt (now (plan .entry)) count)) (wentOf r) (now (plan .exit)) (now (heads .exit)) ⌝ }
+    requires { ⌜ Ready op (now x) (now y) (now plan) (now heads) limit count (pairOf k) ⌝ }
+    requires { ⌜ mem samePair (pairOf k) (pairsAt (now plan) count) ≡ false ⌝ }
+    ensures { λ r. ⌜ Visited op (now (x .entry)) (now (y .entry)) limit (pairOf k) (walked op (now (x .entry)) (now (y .entry)) (pairOf k) (pairsAt (now (plan .entry)) count)) (wentOf r) (now (plan .exit)) (now (heads .exit)) ⌝ }
 {
+    let i = k as usize / diagram::SPACE_ROWS;
+    let j = k as usize % diagram::SPACE_ROWS;
     let l = pair_label(x, y, i, j, op);
     if l == LEAF {
-        return add(
-            plan,
-            heads,
-            limit,
-            count,
-            key(i, j),
-            l,
-            x[i * 3 + 1],
-            y[j * 3 + 1],
-        );
+        return add(plan, heads, limit, count, k, l, x[i * 3 + 1], y[j * 3 + 1]);
     }
     let s = successors(x, y, i, j);
-    let high = visit(x, y, plan, heads, limit, count, s.hi, s.hj, op);
+    let on_high = key(s.hi, s.hj);
+    let on_low = key(s.li, s.lj);
+    let high = visit(x, y, plan, heads, limit, count, on_high, op);
     if high == FULL {
         return FULL;
     }
     let n = high / PACK_BASE;
-    let low = visit(x, y, plan, heads, limit, n, s.li, s.lj, op);
+    let low = visit(x, y, plan, heads, limit, n, on_low, op);
     if low == FULL {
         return FULL;
     }
     let m = low / PACK_BASE;
     let t = high % PACK_BASE;
     let f = low % PACK_BASE;
-    add(plan, heads, limit, m, key(i, j), l, t as u64, f as u64)
+    add(plan, heads, limit, m, k, l, t as u64, f as u64)
 }
 
 // Walks the pairs of an operation on two row spaces from row i of x and row j of y, and writes their plan. The index must be clean, and is in use after.
@@ -271,7 +264,8 @@ pub fn walk(
     requires { ⌜ Index (now plan) (now heads) limit 0 ⌝ }
     ensures { λ r. ⌜ Planned op (now (x .entry)) (now (y .entry)) limit (walked op (now (x .entry)) (now (y .entry)) (i, j) []) r (now (plan .exit)) (now (heads .exit)) ⌝ }
 {
-    let r = below(x, y, plan, heads, limit, 0, i, j, op);
+    let k = key(i, j);
+    let r = below(x, y, plan, heads, limit, 0, k, op);
     if r == FULL {
         return Went::Full;
     }
