@@ -1,0 +1,1 @@
+// Paths that contradict themselves by equality. What they are stands in specs/.
