@@ -92,14 +92,14 @@ unfolding moved
 affirms ar r k l = l .sign && asksFor k (asked ar r l)
 
 -- plain truth, or what a literal says is true
-abbrev pub isTrue : List ℕ → (ℕ → ℕ) → List Literal → Test → Bool
-isTrue ar r ls Always = true
-isTrue ar r ls (Is k) = someLiteral (affirms ar r (k .packed)) ls
+abbrev pub isSaid : List ℕ → (ℕ → ℕ) → List Literal → Test → Bool
+isSaid ar r ls Always = true
+isSaid ar r ls (Is k) = someLiteral (affirms ar r (k .packed)) ls
 
 -- the literal says that it is false
 unfoldable pub clashes : List ℕ → (ℕ → ℕ) → List Literal → Literal → Bool
 unfolding affirms moved
-clashes ar r ls l = not (l .sign) && isTrue ar r ls (asked ar r l)
+clashes ar r ls l = not (l .sign) && isSaid ar r ls (asked ar r l)
 
 unfoldable pub clashUnder : List ℕ → (ℕ → ℕ) → List Literal → Bool
 unfolding clashes

@@ -1,4 +1,4 @@
--- Every line of the model keeps a session good, and the count of the model's rows right (document 01, section 'Text').
+-- Every line of the model keeps a session good, and the count of the model's rows right (document 01, section 'Text'); weights that pass add up.
 --
 -- Definitions
 --   rowsIn, truthRows, variantRows, actionRows, modelRows == the rows of all model listings: the reward's, the weights' and the truth diagrams'
@@ -13,6 +13,7 @@
 --   variant-good: (variant n WEIGHT)
 --   becomes-good: (becomes (p ?a ..) DIAGRAM)
 --   reward-counted, action-counted, variant-counted, becomes-counted: each keeps `rows` the sum of the rows of all model listings
+--   weighed-adds-up: where (start) accepts the weights, those of each action add up to W in every state, for every tuple (document 02, L5)
 --   built-read: what a good reading builds is a good diagram, with the terms that the reading names
 
 pub mod ModelRows
@@ -30,3 +31,4 @@ pub mod VariantLaws
 pub mod HeadLaws
 pub mod BecomesLaws
 pub mod RowLaws
+pub mod WeightLaws

@@ -5,15 +5,17 @@ use mathlib.Core.Option.{Option, some, none}
 use Prim.Native.Nat.{ℕ, suc, _+_}
 use lib.ListN.{length, getD}
 use lib.Dec.{ltb, leb, eqb}
-use Rattle.refusal.specs.declared.Refusal.the-variants.{Name, Truth, Space, Weights}
+use Rattle.refusal.specs.declared.Refusal.the-variants.{Name, Truth, Space, Weights, Paths}
 use Rattle.words.specs.Keys.{keyOf}
 use Rattle.words.specs.declared.Key.{Key}
 use Rattle.names.specs.Keys.{placeOf, isAmong}
-use Rattle.diagram.specs.Diagram.{Diagram, leaf, same}
+use Rattle.diagram.specs.Diagram.{Diagram, leaf}
 use Rattle.diagram.specs.Rows.{rows}
 use Rattle.apply.specs.declared.Operation.the-variants.{Sum}
 use Rattle.apply.specs.declared.Names.the-variants.{Shared}
 use Rattle.refusal.specs.Outcome.{Outcome, ok, refused, andThen}
+use Rattle.paths.specs.Paths.{paths, mostPaths}
+use Rattle.contradiction.specs.Contradiction.{leadsTo}
 use Rattle.regression.specs.Regression.{Truths}
 use Rattle.regression.specs.RegressCall.{leafAbove}
 use Rattle.forms.specs.Tree as T
@@ -216,11 +218,13 @@ unfolding combined
 weightsSum ar sum [] = ok sum
 weightsSum ar sum (v ∷ vs) = andThen (combined Sum Shared ar sum (v .weight)) (λ sum′. weightsSum ar sum′ vs)
 
--- action by action: the sum of its weights is the one leaf W, or 13
+-- action by action: 17 if its summed weights have over 256 paths, "just before" 13; 13 unless "every path of the summed weights that has a leaf other than W
+-- contradicts itself by equality" (document 02, L5)
 unfoldable pub weighed : List ℕ → ℕ → List Action → Outcome (Unit {0})
-unfolding weightsSum same
+unfolding weightsSum paths leadsTo
 weighed ar total [] = ok tt
 weighed ar total (a ∷ l) =
     andThen (weightsSum ar (leaf 0) (a .variants)) (λ sum.
-    refuseIf (not (same sum (leaf total))) Weights
-    (weighed ar total l))
+    refuseIf (ltb mostPaths (length (paths sum))) Paths
+    (refuseIf (not (leadsTo ar total sum)) Weights
+    (weighed ar total l)))

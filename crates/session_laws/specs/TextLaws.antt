@@ -5,7 +5,7 @@ use mathlib.Core.List.{List, [], _∷_}
 use Prim.Native.Nat.{ℕ, suc, _^_, _≤_}
 use native.Mathlib.Omega.{arith}
 use Rattle.state.specs.ValueCall.{valuations, mostValuations}
-use Rattle.mdp.specs.Model.{scale}
+use Rattle.mdp.specs.Model.{Every, scale}
 use Rattle.mdp.specs.Bellman.{bellman}
 use Rattle.text.specs.declared.Kind.the-variants as K
 use Rattle.text.specs.Line.{lineBytes}
@@ -19,6 +19,7 @@ use Rattle.session.specs.Replies.{isPlaced, reply}
 use Rattle.session.specs.Good.{GoodSession}
 use Rattle.session.specs.Texts.{hasBytes, Progress, replied, afterLine, afterLines, afterRest, beginning, linesOf, textRead}
 use Rattle.model_laws.specs.ModelRows.{Counted}
+use Rattle.model_laws.specs.WeightLaws.{AddsUp, weighed-adds-up}
 use Rattle.session_laws.specs.OpeningLaws.{opening-good}
 use Rattle.session_laws.specs.FactLaws.{WholeRows}
 use Rattle.session_laws.specs.ReplyLaws.{reply-good}
@@ -89,3 +90,11 @@ text-value ls σ q p h few number =
     let sound = subst Sound (sym q) (text-sound ls) in
     let run = subst (λ (τ : Session). τ .part ≡ Run → RunOf ls τ) (sym q) (text-run ls) p in
     value-accepted σ (sound .good) (run .values) p h few number (lineBytes (line K.Value tt)) (line-complete (line K.Value tt) (tt, omega arith, omega arith))
+
+-- and once (start) was accepted, the weights of each action add up to W in every state, for every tuple (document 02, L5)
+pub text-adds-up : (ls : List (List ℕ)) (σ : Session) → σ ≡ afterLines beginning ls .session → σ .part ≡ Run
+    → Every (AddsUp (σ .model .arities) (σ .model .total)) (σ .model .actions)
+text-adds-up ls σ q p =
+    let sound = subst Sound (sym q) (text-sound ls) in
+    let run = subst (λ (τ : Session). τ .part ≡ Run → RunOf ls τ) (sym q) (text-run ls) p in
+    weighed-adds-up (σ .model .arities) (sound .good .tables .arities) (σ .model .total) (σ .model .actions) (run .weights)

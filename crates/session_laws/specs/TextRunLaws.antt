@@ -10,6 +10,7 @@ use native.Mathlib.Nat.{zero-add}
 use lib.ListN.{length}
 use Rattle.diagram.specs.Diagram.{Diagram}
 use Rattle.refusal.specs.Outcome.{Outcome, ok, refused, andThen}
+use Rattle.refusal.specs.OutcomeLaws.{accepted-ok, accepted-next}
 use Rattle.cutting.specs.declared.Cut.{Cut}
 use Rattle.cutting.specs.declared.Cut.the-variants as C
 use Rattle.cutting.specs.Cut.{diagramAnswer}
@@ -202,10 +203,11 @@ lines-run q e (s ∷ ls) =
 
 -- ===== A line of the model =====
 
--- the model goes on, and no backup is accepted; or it is the accepted (start)
+-- the model goes on, and no backup is accepted; or it is the accepted (start), whose sums of weights passed
 data Modelled (σ : Session) (k : Kind) (y : Reply) : Type 0 where
   stays : y .session .part ≡ ModelPart → y .session .held ≡ σ .held → acceptedBackup k (y .answer) ≡ 0 → Modelled σ k y
-  starts : k ≡ K.Start → y ≡ silent (withHeld σ Run (begin (σ .model))) → Modelled σ k y
+  starts : k ≡ K.Start → y ≡ silent (withHeld σ Run (begin (σ .model))) → weighed (σ .model .arities) (σ .model .total) (σ .model .actions) ≡ ok tt
+      → Modelled σ k y
 
 module _ (σ : Session) (p : σ .part ≡ ModelPart) (number : ℕ) where
   abbrev InModel : Kind → Reply → Type 0
@@ -233,8 +235,8 @@ module _ (σ : Session) (p : σ .part ≡ ModelPart) (number : ℕ) where
   start-starts : (τ : Session) → startLine σ ≡ ok τ → Modelled σ K.Start (silent τ)
   unfolding startLine
   start-starts τ e =
-      made-by (λ ρ. Modelled σ K.Start (silent ρ)) (weighed (σ .model .arities) (σ .model .total) (σ .model .actions))
-      (λ u. withHeld σ Run (begin (σ .model))) (λ u. starts refl refl) τ e
+      accepted-next {P = λ ρ. Modelled σ K.Start (silent ρ)} (weighed (σ .model .arities) (σ .model .total) (σ .model .actions))
+      (λ u. ok (withHeld σ Run (begin (σ .model)))) (λ u q. accepted-ok (starts refl refl q)) .given τ e
 
   model-cases : (es : List Event) → Cases σ number es InModel
   unfolding withVocabulary withTotal withDiscount withAction acceptedBackup
@@ -301,7 +303,7 @@ steps-behind q p z (s ∷ ls) =
         → afterLines (replied q (hasBytes s) y) ls .session .held .steps ≡ acceptedBackups ls (replies (y .session) (suc (q .lines)) ls))
         → afterLines (replied q (hasBytes s) y) ls .session .held .steps ≡ acceptedBackup (lineKind s) (y .answer) + acceptedBackups ls (replies (y .session) (suc (q .lines)) ls)
     go (stays a b c) ih = omega (arith, ih a (ap (λ (h : Held). h .steps) b ∙ z))
-    go (starts k e) ih =
+    go (starts k e passed) ih =
         let n : acceptedBackup (lineKind s) (y .answer) ≡ 0 = ap₂ acceptedBackup k (ap (λ (x : Reply). x .answer) e) in
         omega (arith, start-run q s e ls .steps)
 
@@ -315,6 +317,7 @@ record RunBehind (q : Progress) (ls : List (List ℕ)) (σ : Session) : Type 0 w
   accepted : reply (afterLines q before .session) (suc (afterLines q before .lines)) start
       ≡ silent (withHeld (afterLines q before .session) Run (begin (afterLines q before .session .model)))
   model : σ .model ≡ afterLines q before .session .model
+  weights : weighed (σ .model .arities) (σ .model .total) (σ .model .actions) ≡ ok tt
   held : σ .held ≡ run (σ .model) (callsOf behind)
 
 run-behind : (q : Progress) → q .session .part ≡ ModelPart → (ls : List (List ℕ)) → afterLines q ls .session .part ≡ Run → RunBehind q ls (afterLines q ls .session)
@@ -340,9 +343,10 @@ run-behind q p (s ∷ ls) r =
           is-start = w .is-start;
           accepted = w .accepted;
           model = w .model;
+          weights = w .weights;
           held = w .held;
         }
-    go (starts k e) ih =
+    go (starts k e passed) ih =
         let w = start-run q s e ls in
         record {
           before = [];
@@ -352,6 +356,7 @@ run-behind q p (s ∷ ls) r =
           is-start = k;
           accepted = e;
           model = w .model;
+          weights = ap (λ (m : Model). weighed (m .arities) (m .total) (m .actions)) (w .model) ∙ passed;
           held = w .held ∙ ap (λ (m : Model). run m (callsOf ls)) (sym (w .model));
         }
 
@@ -379,6 +384,7 @@ run-of ls r g =
       accepted = subst (λ (i : ℕ). reply (afterLines beginning (w .before) .session) (suc i) (w .start)
           ≡ silent (withHeld (afterLines beginning (w .before) .session) Run (begin (afterLines beginning (w .before) .session .model)))) n (w .accepted);
       model = w .model;
+      weights = w .weights;
       held = w .held;
       steps = steps-behind beginning refl refl ls;
       values = run-values (afterLines beginning ls .session) g (callsOf (w .behind)) (w .held);

@@ -5,6 +5,7 @@ use mathlib.Core.List.{List, [], _∷_, _++_}
 use mathlib.Core.Option.{Option, some, none}
 use Prim.Native.Nat.{ℕ, suc, _+_}
 use lib.ListN.{length}
+use Rattle.refusal.specs.Outcome.{ok}
 use Rattle.state.specs.State.{State, Good, meaning}
 use Rattle.state.specs.Highest.{highest}
 use Rattle.mdp.specs.Bellman.{bellman}
@@ -16,6 +17,7 @@ use Rattle.answers.specs.declared.Answer.{Answer}
 use Rattle.answers.specs.declared.Answer.the-variants as A
 use Rattle.session.specs.declared.Part.the-variants.{Run}
 use Rattle.session.specs.Session.{Session, opening}
+use Rattle.session.specs.Modelling.{weighed}
 use Rattle.session.specs.Running.{withHeld}
 use Rattle.session.specs.Replies.{Reply, silent, reply}
 use Rattle.session.specs.Texts.{afterLines, beginning}
@@ -85,8 +87,8 @@ acceptedBackups (s ∷ ls) (y ∷ ys) = acceptedBackup (lineKind s) (y .answer) 
 pub record HoldsValues (σ : Session) : Type 0 where
   pub each : (s : State) → Good s → highest s [] (meaning (σ .model .arities) (σ .held .diagram)) ≡ bellman (σ .model) (σ .held .steps) s
 
--- the session σ behind the lines ls, one of which, `start`, is the accepted (start): its model is the one that stands before that line; its value diagram
--- and k are those that a run of this model leads to, of the very backups and cuts that the lines behind it ask for; k is the number of accepted (backup)
+-- the session σ behind the lines ls, one of which, `start`, is the accepted (start): its model is the one that stands before that line, and its sums of
+-- weights passed; its value diagram and k are those that a run of this model leads to, of the very backups and cuts that the lines behind it ask for; k is the number of accepted (backup)
 -- lines; and in every state the highest leaf of the value diagram is Mk
 pub record RunOf (ls : List (List ℕ)) (σ : Session) : Type 0 where
   pub before : List (List ℕ)
@@ -97,6 +99,7 @@ pub record RunOf (ls : List (List ℕ)) (σ : Session) : Type 0 where
   pub accepted : reply (afterLines beginning before .session) (suc (length before)) start
       ≡ silent (withHeld (afterLines beginning before .session) Run (begin (afterLines beginning before .session .model)))
   pub model : σ .model ≡ afterLines beginning before .session .model
+  pub weights : weighed (σ .model .arities) (σ .model .total) (σ .model .actions) ≡ ok tt
   pub held : σ .held ≡ run (σ .model) (callsOf behind)
   pub steps : σ .held .steps ≡ acceptedBackups ls (replies opening 0 ls)
   pub values : HoldsValues σ

@@ -1,0 +1,84 @@
+-- Weights that (start) accepts add up to W in every state (document 02, L5).
+use mathlib.Core.Path.{_≡_, refl, sym, ap, ap₂, _∙_}
+use mathlib.Core.Bool.{Bool, true, false, not}
+use mathlib.Core.List.{List, [], _∷_}
+use Prim.Native.Nat.{ℕ, _+_}
+use native.Mathlib.Omega.{arith}
+use lib.ListN.{length}
+use lib.Dec.{ltb}
+use Rattle.refusal.specs.declared.Refusal.the-variants.{Paths, Weights}
+use Rattle.refusal.specs.Outcome.{Outcome, ok, andThen, Accepted}
+use Rattle.refusal.specs.OutcomeLaws.{accepted-ok, accepted-refused, accepted-then, accepted-cond, accepted-mono}
+use Rattle.label.specs.Labels.{areArities}
+use Rattle.diagram.specs.Diagram.{Diagram, leaf}
+use Rattle.state.specs.State.{State, meaning, value}
+use Rattle.state.specs.Max.{sumOf}
+use Rattle.state.specs.Highest.{start}
+use Rattle.apply.specs.declared.Operation.the-variants.{Sum}
+use Rattle.apply.specs.declared.Names.the-variants.{Shared}
+use Rattle.apply.specs.declared.Combined.{Combined}
+use Rattle.apply.specs.declared.Combined.the-variants.{Done, Refused}
+use Rattle.apply.specs.Combination.{operate, combination, diagramAnswer}
+use Rattle.apply.specs.ApplyLaws.{eval-apply}
+use Rattle.paths.specs.Paths.{paths, mostPaths}
+use Rattle.cutting.specs.TruthLaws.{says, value-says}
+use Rattle.contradiction.specs.Contradiction.{leadsTo}
+use Rattle.contradiction.specs.StateLaws.{leads-value-test}
+use Rattle.mdp.specs.Model.{Variant, Action, Every}
+use Rattle.mdp.specs.Bellman.{weightIn}
+use Rattle.mdp.specs.Backup.{given, combined}
+use Rattle.mdp.specs.CallLaws.{leaf-value}
+use Rattle.session.specs.Modelling.{weightsSum, weighed}
+
+-- the weights of an action's variants, read in a state with a tuple for the parameters, add up to w: over W they are probabilities
+abbrev pub AddsUp : List ℕ → ℕ → Action → Type 0
+AddsUp ar w a = (s : State) (os : List ℕ) → sumOf (a .variants) (weightIn ar s os) ≡ w
+
+-- ===== Sums =====
+
+-- what a diagram says in every state, under every valuation
+abbrev Says : List ℕ → (State → (ℕ → ℕ) → ℕ) → Diagram → Type 0
+Says ar f d = (s : State) (θ : ℕ → ℕ) → value s (meaning ar d) θ ≡ f s θ
+
+sum-two : (ar : List ℕ) (a b : Diagram) → Accepted (Says ar (λ s θ. value s (meaning ar a) θ + value s (meaning ar b) θ)) (combined Sum Shared ar a b)
+unfolding combined combination
+sum-two ar a b = go (diagramAnswer Sum Shared ar a b)
+  where
+    go : (o : Combined) → Accepted (Says ar (λ s θ. value s (meaning ar a) θ + value s (meaning ar b) θ)) (given o (combination Sum Shared ar a b))
+    go (Done n m) = accepted-ok (λ s θ.
+      value-says ar s θ _ ∙ eval-apply (operate Sum) (says ar s θ) a b ∙ ap₂ _+_ (sym (value-says ar s θ a)) (sym (value-says ar s θ b)))
+    go (Refused r) = accepted-refused
+
+sum-all : (ar : List ℕ) (vs : List Variant) (sum : Diagram)
+    → Accepted (Says ar (λ s θ. value s (meaning ar sum) θ + sumOf vs (λ v. value s (meaning ar (v .weight)) θ))) (weightsSum ar sum vs)
+unfolding weightsSum sumOf
+sum-all ar [] sum = accepted-ok (λ s θ. omega arith)
+sum-all ar (v ∷ vs) sum =
+    accepted-then (combined Sum Shared ar sum (v .weight)) (sum-two ar sum (v .weight)) (λ d h.
+    accepted-mono (sum-all ar vs d) (λ e k s θ. omega (arith, k s θ, h s θ)))
+
+-- ===== Actions =====
+
+not-false : (b : Bool) → not b ≡ false → b ≡ true
+not-false true e = refl
+not-false false e = sym e
+
+module _ (ar : List ℕ) (good : areArities ar ≡ true) (w : ℕ) where
+  action-adds-up : (a : Action) (d : Diagram) → Says ar (λ s θ. value s (meaning ar (leaf 0)) θ + sumOf (a .variants) (λ v. value s (meaning ar (v .weight)) θ)) d
+      → leadsTo ar w d ≡ true → AddsUp ar w a
+  unfolding weightIn
+  action-adds-up a d h e s os =
+      omega (arith, h s (start s os), leaf-value ar s 0 (start s os), leads-value-test ar good w d e s (start s os))
+
+  -- an action's weights that pass add up to W, in every state and for every tuple
+  adds-up : (l : List Action) → Accepted (λ u. Every (AddsUp ar w) l) (weighed ar w l)
+  unfolding weighed
+  adds-up [] = accepted-ok tt
+  adds-up (a ∷ l) =
+      accepted-then (weightsSum ar (leaf 0) (a .variants)) (sum-all ar (a .variants) (leaf 0)) (λ d h.
+      accepted-cond (ltb mostPaths (length (paths d))) Paths _ (λ p.
+      accepted-cond (not (leadsTo ar w d)) Weights (weighed ar w l) (λ q.
+      accepted-mono (adds-up l) (λ u k. (action-adds-up a d h (not-false (leadsTo ar w d) q), k)))))
+
+  pub weighed-adds-up : (l : List Action) → weighed ar w l ≡ ok tt → Every (AddsUp ar w) l
+  weighed-adds-up l e = adds-up l .given tt e
