@@ -13,7 +13,7 @@ use Rattle.cutting.specs.MovedLaws.{terms-below}
 use Rattle.contradiction.specs.Contradiction.{placesOf, Names, Joined, named, itself, turned, along, Agree, joining, joinTerms, joinLiteral, representative}
 
 -- a literal joins two terms, or leaves the representatives as they are
-data Joins (ar : List ℕ) (l : Literal) : Type 0 where
+pub data Joins (ar : List ℕ) (l : Literal) : Type 0 where
   joins : (t u : ℕ) → l .sign ≡ true → Names ar l t u → ((r : ℕ → ℕ) (x : ℕ) → joinLiteral ar l r x ≡ joining t u r x) → Joins ar l
   leaves : ((r : ℕ → ℕ) (x : ℕ) → joinLiteral ar l r x ≡ r x) → Joins ar l
 
@@ -30,7 +30,7 @@ literal-names ar l t u s n = literal-is ar l true (t ∷ u ∷ []) (rw (s, n .eq
 pub literal-stays : (ar : List ℕ) (l : Literal) → (l .sign && eqb (predicateOf (l .label)) equality) ≡ false → (r : ℕ → ℕ) (x : ℕ) → joinLiteral ar l r x ≡ r x
 literal-stays ar l e = literal-is ar l false (placesOf ar l) e refl
 
-joins-is : (ar : List ℕ) (l : Literal) → Joins ar l
+pub joins-is : (ar : List ℕ) (l : Literal) → Joins ar l
 joins-is ar l = go (flag (l .sign)) (flag (eqb (predicateOf (l .label)) equality)) (placesOf ar l) refl
   where
     go : Flag (l .sign) → Flag (eqb (predicateOf (l .label)) equality) → (ts : List ℕ) → placesOf ar l ≡ ts → Joins ar l
@@ -54,7 +54,7 @@ joining-same : (t u : ℕ) (r : ℕ → ℕ) (x y : ℕ) → r x ≡ r y → joi
 unfolding joining
 joining-same t u r x y e = ap (λ (z : ℕ). cond (eqb z (r t)) (r u) z) e
 
-representative-more : (ar : List ℕ) (l : Literal) (ls : List Literal) (x : ℕ) → representative ar (l ∷ ls) x ≡ joinLiteral ar l (representative ar ls) x
+pub representative-more : (ar : List ℕ) (l : Literal) (ls : List Literal) (x : ℕ) → representative ar (l ∷ ls) x ≡ joinLiteral ar l (representative ar ls) x
 unfolding representative
 representative-more ar l ls x = refl
 

@@ -25,3 +25,4 @@ pub mod Contradiction
 pub mod JoinLaws
 pub mod ContradictionLaws
 pub mod StateLaws
+pub mod AgreeLaws

@@ -1,0 +1,4 @@
+-- Laws of the code.
+pub mod TableLaws
+pub mod LiteralLaws
+pub mod PathLaws

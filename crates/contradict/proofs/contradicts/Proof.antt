@@ -1,0 +1,20 @@
+use native.Mathlib.Omega.{arith}
+use borrow.Author.Needs.{needs}
+use Rattle.contradict.proofs.LiteralLaws.{represented-readable, contradicts-is}
+use Rattle.contradict.proofs.contradicts.Statement.{statement}
+use Rattle.contradict.proofs.contradicts.Tie as tie
+
+clash-requires : tie.Need-clash-requires
+clash-requires c κs =
+    let at-join-all = c .before .before in
+    let entry = at-join-all .before .before .before .before in
+    represented-readable (entry .pre) (omega (arith, at-join-all .join-all .kept .1 .0)) (at-join-all .join-all .ensures)
+
+returns : tie.Need-returns
+returns c =
+    let at-join-all = c .before .before .before in
+    let entry = at-join-all .before .before .before .before in
+    contradicts-is (entry .pre) (omega (arith, at-join-all .join-all .kept .1 .0)) (at-join-all .join-all .ensures) (c .clash .ensures)
+
+pub contradicts-spec : {M : Type 1} → statement M
+contradicts-spec = tie.close (tie.spec (λ c. search needs) (λ c κs. search needs) (λ c. search needs) clash-requires returns)
