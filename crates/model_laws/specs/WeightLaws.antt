@@ -46,7 +46,7 @@ sum-two ar a b = go (diagramAnswer Sum Shared ar a b)
   where
     go : (o : Combined) → Accepted (Says ar (λ s θ. value s (meaning ar a) θ + value s (meaning ar b) θ)) (given o (combination Sum Shared ar a b))
     go (Done n m) = accepted-ok (λ s θ.
-      value-says ar s θ _ ∙ eval-apply (operate Sum) (says ar s θ) a b ∙ ap₂ _+_ (sym (value-says ar s θ a)) (sym (value-says ar s θ b)))
+        value-says ar s θ _ ∙ eval-apply (operate Sum) (says ar s θ) a b ∙ ap₂ _+_ (sym (value-says ar s θ a)) (sym (value-says ar s θ b)))
     go (Refused r) = accepted-refused
 
 sum-all : (ar : List ℕ) (vs : List Variant) (sum : Diagram)

@@ -2,20 +2,22 @@
 use mathlib.Core.Path.{_≡_, refl, sym, ap, subst, _∙_}
 use mathlib.Core.Bool.{Bool, true, false, not, cond}
 use mathlib.Core.List.{List, [], _∷_, _++_}
-use Prim.Native.Nat.{ℕ, suc, pred, _+_, _*_, _-_, _/_, _≤_, _<_}
+use Prim.Native.Nat.{ℕ, suc, _+_, _*_, _≤_, _<_}
 use native.Mathlib.Omega.{arith}
 use native.Mathlib.Numerals.{add-one}
-use lib.ListN.{length, getD, take}
-use lib.Seq.{getD-take, length-take-le}
-use lib.Dec.{eqb}
+use lib.ListN.{length, take}
+use lib.Dec.{ltb}
 use Rattle.refusal.specs.declared.Refusal.{Refusal}
-use Rattle.refusal.specs.declared.Refusal.the-variants.{Weights}
-use Rattle.label.specs.Limits.{leafMark}
-use Rattle.diagram.specs.Diagram.{Diagram, leaf, branch, same}
-use Rattle.diagram.specs.Words.{labelAt, highAt, lowAt}
-use Rattle.diagram.specs.Listing.{treeAt, diagramOf}
-use Rattle.diagram.specs.ListingLaws.{tree-leaf, tree-branch}
-use Rattle.diagram.specs.ListingValid.{listing-is-valid}
+use Rattle.refusal.specs.declared.Refusal.the-variants.{Weights, Paths}
+use Rattle.diagram.specs.Sizes.{resultWords}
+use Rattle.diagram.specs.Diagram.{Diagram, leaf}
+use Rattle.diagram.specs.Words.{isListing}
+use Rattle.diagram.specs.Listing.{diagramOf}
+use Rattle.paths.specs.Paths.{paths, mostPaths}
+use Rattle.contradiction.specs.Contradiction.{leadsTo}
+use Rattle.contradict.specs.declared.Led.{Led}
+use Rattle.contradict.specs.declared.Led.the-variants.{Only, Others, Many}
+use Rattle.contradict.specs.Leading.{leadAnswer}
 use Rattle.refusal.specs.Outcome.{Outcome, ok, refused, andThen}
 use Rattle.mdp.specs.Model.{Action}
 use Rattle.model.specs.declared.Head.{Head}
@@ -24,63 +26,19 @@ use Rattle.model.specs.Layout.{actionAt, modelOf}
 use Rattle.steps.specs.declared.Step.{Step}
 use Rattle.steps.specs.declared.Step.the-variants.{Rows, Refused as Stopped}
 use Rattle.steps.specs.Steps.{Given}
-use Rattle.steps.specs.GivenLaws.{then-then, then-same, step-refused, result-long}
+use Rattle.steps.specs.GivenLaws.{then-then, then-same, step-refused, result-long, result-few}
 use Rattle.steps.specs.FoldLaws.{many-more, refused-stays}
 use Rattle.session.specs.Modelling.{weightsSum, weighed}
 use Rattle.weights.specs.declared.Weighed.{Weighed}
 use Rattle.weights.specs.declared.Weighed.the-variants.{Done, Refused}
-use Rattle.weights.specs.Weighing.{weighedAs, Rooted, ActionTask, Weighable}
-
--- ===== The root of a listing =====
-
-root-is : (ws : List ℕ) (m : ℕ) → length ws ≡ suc m * 3 → diagramOf ws ≡ treeAt ws (suc m) m
-unfolding diagramOf
-root-is ws m e = let k : length ws / 3 ≡ suc m = omega (arith, e) in ap (λ (c : ℕ). treeAt ws c (pred c)) k
-
-module _ (words : List ℕ) (m : ℕ) (h : suc m * 3 ≤ length words) where
-  abbrev W : List ℕ
-  W = take (suc m * 3) words
-
-  root : diagramOf W ≡ treeAt W (suc m) m
-  root = root-is W m (length-take-le (suc m * 3) words h)
-
-  label-is : labelAt W m ≡ getD words (m * 3) 0
-  unfolding labelAt
-  label-is = getD-take (suc m * 3) words (m * 3) 0 (omega arith)
-
-  high-is : highAt W m ≡ getD words (m * 3 + 1) 0
-  unfolding highAt
-  high-is = getD-take (suc m * 3) words (m * 3 + 1) 0 (omega arith)
-
-  root-leaf : getD words (m * 3) 0 ≡ leafMark → diagramOf W ≡ leaf (getD words (m * 3 + 1) 0)
-  root-leaf e = root ∙ tree-leaf W m m (label-is ∙ e) ∙ ap leaf high-is
-
-  root-branch : (getD words (m * 3) 0 ≡ leafMark → ⊥) → diagramOf W ≡ branch (labelAt W m) (treeAt W m (highAt W m)) (treeAt W m (lowAt W m))
-  root-branch n = root ∙ tree-branch W m m (λ e. n (sym label-is ∙ e))
-
-module _ {words : List ℕ} {n : ℕ} (r : Rooted words n) (w : ℕ) where
-  count-is : suc (n - 1) ≡ n
-  count-is = omega (arith, r .some)
-
-  inside-is : suc (n - 1) * 3 ≤ length words
-  inside-is = omega (arith, r .some, r .inside)
-
-  pub leaf-root : getD words ((n - 1) * 3) 0 ≡ 4294967295 → eqb (getD words ((n - 1) * 3 + 1) 0) w ≡ same (diagramOf (take (n * 3) words)) (leaf w)
-  unfolding same
-  leaf-root e = subst (λ (k : ℕ). eqb (getD words ((n - 1) * 3 + 1) 0) w ≡ same (diagramOf (take (k * 3) words)) (leaf w)) count-is
-      (sym (ap (λ (d : Diagram). same d (leaf w)) (root-leaf words (n - 1) inside-is e)))
-
-  pub branch-root : (getD words ((n - 1) * 3) 0 ≡ 4294967295 → ⊥) → false ≡ same (diagramOf (take (n * 3) words)) (leaf w)
-  unfolding same
-  branch-root e = subst (λ (k : ℕ). false ≡ same (diagramOf (take (k * 3) words)) (leaf w)) count-is
-      (sym (ap (λ (d : Diagram). same d (leaf w)) (root-branch words (n - 1) inside-is e)))
+use Rattle.weights.specs.Weighing.{weighedAs, judgedAs, ActionTask, Weighable}
 
 -- ===== One action more, at the end =====
 
 module _ (ar : List ℕ) (total : ℕ) where
-  -- a sum is the one leaf W, or 13; then o
+  -- a sum has few paths, or 17; it leads to W, or 13; then o
   abbrev judged : Outcome (Unit {0}) → Diagram → Outcome (Unit {0})
-  judged o sum = cond (not (same sum (leaf total))) (refused Weights) o
+  judged o sum = cond (ltb mostPaths (length (paths sum))) (refused Paths) (cond (not (leadsTo ar total sum)) (refused Weights) o)
 
   weighed-none : weighed ar total [] ≡ ok tt
   unfolding weighed
@@ -90,9 +48,11 @@ module _ (ar : List ℕ) (total : ℕ) where
   unfolding weighed
   weighed-next a l = refl
 
-  pick-then : (b : Bool) (r : Refusal) (o p : Outcome (Unit {0})) → cond b (refused r) (andThen o (λ u. p)) ≡ andThen (cond b (refused r) o) (λ u. p)
-  pick-then true r o p = refl
-  pick-then false r o p = refl
+  judged-then : (b c : Bool) (o p : Outcome (Unit {0}))
+      → cond b (refused Paths) (cond c (refused Weights) (andThen o (λ u. p))) ≡ andThen (cond b (refused Paths) (cond c (refused Weights) o)) (λ u. p)
+  judged-then true c o p = refl
+  judged-then false true o p = refl
+  judged-then false false o p = refl
 
   weighed-more : (l : List Action) (a : Action) → weighed ar total (l ++ (a ∷ [])) ≡ andThen (weighed ar total l) (λ u. weighed ar total (a ∷ []))
   weighed-more [] a = ap (λ (o : Outcome (Unit {0})). andThen o (λ u. weighed ar total (a ∷ []))) (sym weighed-none)
@@ -100,7 +60,7 @@ module _ (ar : List ℕ) (total : ℕ) where
       weighed-next b (l ++ (a ∷ []))
       ∙ then-same (weightsSum ar (leaf 0) (b .variants)) (judged (weighed ar total (l ++ (a ∷ [])))) (λ sum. andThen (judged (weighed ar total l) sum) (λ u. weighed ar total (a ∷ []))) (λ sum.
       ap (λ (o : Outcome (Unit {0})). judged o sum) (weighed-more l a)
-      ∙ pick-then (not (same sum (leaf total))) Weights (weighed ar total l) (weighed ar total (a ∷ [])))
+      ∙ judged-then (ltb mostPaths (length (paths sum))) (not (leadsTo ar total sum)) (weighed ar total l) (weighed ar total (a ∷ [])))
       ∙ sym (then-then (weightsSum ar (leaf 0) (b .variants)) (judged (weighed ar total l)) (λ u. weighed ar total (a ∷ [])))
       ∙ ap (λ (o : Outcome (Unit {0})). andThen o (λ u. weighed ar total (a ∷ []))) (sym (weighed-next b l))
 
@@ -122,21 +82,30 @@ module _ {ar listings table : List ℕ} {a : ℕ} {work : List ℕ} (t : ActionT
       action-stops {e} h = sym (ap weighedAs (action-is ∙ ap (λ (o : Outcome Diagram). andThen o (judged ar total (ok tt))) (step-refused Q e (sym (x .answer) ∙ h))))
 
       module _ {n : ℕ} (h : r ≡ Rows n) where
-        pub action-rooted : Rooted sum n
-        action-rooted =
-            let v = listing-is-valid ar (take (n * 3) sum) (x .result n h .listing) in
-            record { some = omega (arith, v .whole, v .some, result-long (x .result n h)); inside = x .result n h .room }
+        pub action-listed : isListing ar (take (n * 3) sum) ≡ true
+        action-listed = x .result n h .listing
 
-        judged-is : {b : Bool} → b ≡ same (diagramOf (take (n * 3) sum)) (leaf total) → A ≡ cond (not b) (refused Weights) (ok tt)
-        judged-is e =
-            action-is ∙ ap (λ (o : Outcome Diagram). andThen o (judged ar total (ok tt))) (x .result n h .is)
-            ∙ ap (λ (q : Bool). cond {A = Outcome (Unit {0})} (not q) (refused Weights) (ok tt)) (sym e)
+        pub action-inside : n * 3 ≤ length sum
+        action-inside = x .result n h .room
 
-        pub action-fails : {b : Bool} → b ≡ same (diagramOf (take (n * 3) sum)) (leaf total) → not b ≡ true → Refused Weights ≡ weighedAs A
-        action-fails e k = sym (ap weighedAs (judged-is e ∙ ap (λ (q : Bool). cond {A = Outcome (Unit {0})} q (refused Weights) (ok tt)) k))
+        pub action-long : n * 3 ≡ length (take (n * 3) sum)
+        action-long = result-long (x .result n h)
 
-        pub action-passes : {b : Bool} → b ≡ same (diagramOf (take (n * 3) sum)) (leaf total) → not b ≡ false → Done ≡ weighedAs A
-        action-passes e k = sym (ap weighedAs (judged-is e ∙ ap (λ (q : Bool). cond {A = Outcome (Unit {0})} q (refused Weights) (ok tt)) k))
+        pub action-few : n * 3 ≤ resultWords
+        action-few = result-few (x .result n h)
+
+        pub action-judged : {q : Led} {b : Weighed} → q ≡ leadAnswer ar total (diagramOf (take (n * 3) sum)) → b ≡ judgedAs q → b ≡ weighedAs A
+        action-judged {q} {b} e d =
+            d ∙ ap judgedAs e ∙ led-judged (diagramOf (take (n * 3) sum))
+            ∙ sym (ap weighedAs (action-is ∙ ap (λ (o : Outcome Diagram). andThen o (judged ar total (ok tt))) (x .result n h .is)))
+          where
+            led-as : (y z : Bool) → judgedAs (cond y Many (cond z Only Others)) ≡ weighedAs (cond y (refused Paths) (cond (not z) (refused Weights) (ok tt)))
+            led-as true z = refl
+            led-as false true = refl
+            led-as false false = refl
+
+            led-judged : (d : Diagram) → judgedAs (leadAnswer ar total d) ≡ weighedAs (judged ar total (ok tt) d)
+            led-judged d = unfold leadAnswer in (led-as (ltb mostPaths (length (paths d))) (leadsTo ar total d))
 
 weighed-refused : (o : Outcome (Unit {0})) (e : Refusal) → weighedAs o ≡ Refused e → o ≡ refused e
 weighed-refused (ok u) e h = let z : _≡_ {A = ℕ} 0 1 = cc in absurd (omega arith)

@@ -1,5 +1,5 @@
 -- What the check of a model's weights requires and answers (document 01, section 'Refusals by trade word': "(start) checks .. action by action the sum of
--- weights, begun at leaf 0, each added in order with names shared, with its own 10, 11, 9, then 13").
+-- weights, begun at leaf 0, each added in order with names shared, with its own 10, 11, 9, then 13"; document 02, L5: 17 just before it).
 use mathlib.Core.Path.{_≡_}
 use mathlib.Core.Bool.{true}
 use mathlib.Core.List.{List}
@@ -7,7 +7,10 @@ use Prim.Native.Nat.{ℕ, _+_, _*_, _≤_, _<_}
 use lib.ListN.{length}
 use Rattle.label.specs.Labels.{areArities}
 use Rattle.diagram.specs.Sizes.{resultWords, spaceWords}
+use Rattle.refusal.specs.declared.Refusal.the-variants.{Paths, Weights}
 use Rattle.refusal.specs.Outcome.{Outcome, ok, refused}
+use Rattle.contradict.specs.declared.Led.{Led}
+use Rattle.contradict.specs.declared.Led.the-variants.{Only, Others, Many}
 use Rattle.mdp.specs.Model.{mostActions}
 use Rattle.model.specs.declared.Head.{Head}
 use Rattle.model.specs.Layout.{variantWords, actionWords, tableWords, LaidVariant, LaidAction}
@@ -19,12 +22,13 @@ abbrev pub weighedAs : Outcome (Unit {0}) → Weighed
 weighedAs (ok u) = Done
 weighedAs (refused r) = Refused r
 
--- ===== What the functions require =====
+-- what is said of a sum by where its paths lead
+abbrev pub judgedAs : Led → Weighed
+judgedAs Many = Refused Paths
+judgedAs Others = Refused Weights
+judgedAs Only = Done
 
--- the words have n rows, and at least one
-pub record Rooted (words : List ℕ) (n : ℕ) : Type 0 where
-  pub some : 1 ≤ n
-  pub inside : n * 3 ≤ length words
+-- ===== What the functions require =====
 
 -- the weight of the variant at a place of the table, and a sum in the first n rows of a buffer
 pub record AddTask (ar listings table : List ℕ) (place : ℕ) (sum : List ℕ) (n : ℕ) (work : List ℕ) : Type 0 where

@@ -1,6 +1,6 @@
 // The weights of a model in lent words, as (start) checks them. What is checked stands in crate session, specs/Modelling.
 use apply::Operation;
-use label::Label;
+use contradict::Led;
 use model::Head;
 use refusal::Refusal;
 use steps::Step;
@@ -8,7 +8,7 @@ ghost use mathlib.Core.Path.{_≡_};
 ghost use mathlib.Core.List.{[], _∷_};
 ghost use Prim.Native.Nat.{_*_};
 ghost use lib.ListN.{take};
-ghost use Rattle.diagram.specs.Diagram.{leaf, same};
+ghost use Rattle.diagram.specs.Diagram.{leaf};
 ghost use Rattle.diagram.specs.Listing.{diagramOf};
 ghost use Rattle.apply.specs.declared.Operation.the-variants.{Sum};
 ghost use Rattle.apply.specs.declared.Names.the-variants.{Shared};
@@ -16,9 +16,9 @@ ghost use Rattle.mdp.specs.Backup.{combined};
 ghost use Rattle.model.specs.Layout.{variantAt, actionAt, modelOf};
 ghost use Rattle.steps.specs.Steps.{Given};
 ghost use Rattle.session.specs.Modelling.{weightsSum, weighed};
-ghost use Rattle.weights.specs.Weighing.{weighedAs, Rooted, AddTask, SumTask, ActionTask, Weighable};
+ghost use Rattle.weights.specs.Weighing.{weighedAs, judgedAs, AddTask, SumTask, ActionTask, Weighable};
 
-// What the check of the weights answers: each action's sum is the one leaf W, or the first refusal met.
+// What the check of the weights answers: each action's sum leads to W only, or the first refusal met.
 pub enum Weighed {
     Done,
     Refused(Refusal),
@@ -69,19 +69,18 @@ fn weights_sum(
     Step::Rows(n)
 }
 
-// Whether the diagram of the first n rows is the one leaf w: its root, the last row, says.
-fn is_leaf(words: &[u64], n: usize, w: u64) -> bool
-    requires { ⌜ Rooted (now words) n ⌝ }
-    ensures { λ r. ⌜ r ≡ same (diagramOf (take (n * 3) (now (words .entry)))) (leaf w) ⌝ }
+// What is said of a sum by where its paths lead: 17, 13, or nothing.
+fn judge(led: Led) -> Weighed
+    ensures { λ r. ⌜ r ≡ judgedAs led ⌝ }
 {
-    let root = (n - 1) * 3;
-    if words[root] != Label::LEAF {
-        return false;
+    match led {
+        Led::Many => Weighed::Refused(Refusal::Paths),
+        Led::Others => Weighed::Refused(Refusal::Weights),
+        Led::Only => Weighed::Done,
     }
-    words[root + 1] == w
 }
 
-// An action: the sum of its weights is the one leaf W, or 13.
+// An action: its sum has at most 256 paths, or 17; each of them has the leaf W or contradicts itself by equality, or 13.
 fn weigh_action(
     arities: &[u64],
     listings: &[u64],
@@ -96,17 +95,12 @@ fn weigh_action(
     let mut sum = [0u64; diagram::RESULT_WORDS];
     let r = weights_sum(arities, listings, table, action, &mut sum, work);
     match r {
-        Step::Rows(n) => {
-            if !is_leaf(&sum, n, total) {
-                return Weighed::Refused(Refusal::Weights);
-            }
-            Weighed::Done
-        }
+        Step::Rows(n) => judge(contradict::leads_to(arities, &sum[..n * 3], total)),
         Step::Refused(e) => Weighed::Refused(e),
     }
 }
 
-// The check of the weights, action by action: the sum of an action's weights, with its own 10, 11, 9, then 13.
+// The check of the weights, action by action: the sum of an action's weights, with its own 10, 11, 9, then 17, then 13.
 pub fn weigh(
     arities: &[u64],
     listings: &[u64],
