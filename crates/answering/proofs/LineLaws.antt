@@ -12,6 +12,7 @@ use lib.Seq.{take-at, length-take-le}
 use Rattle.refusal.specs.declared.Refusal.{Refusal}
 use Rattle.refusal.specs.Numbers.{numberOf}
 use Rattle.label.specs.Limits.{leafMark}
+use Rattle.diagram.specs.Sizes.{mostRows}
 use Rattle.diagram.specs.Words.{labelAt, highAt, lowAt}
 use Rattle.cutting.specs.declared.Edge.{Edge}
 use Rattle.answers.specs.declared.Answer.{Answer}
@@ -19,7 +20,8 @@ use Rattle.answers.specs.declared.Answer.the-variants.{Value, Backup, Cut, Refu
 use Rattle.answers.specs.declared.Put.{Put}
 use Rattle.answers.specs.declared.Put.the-variants.{At, Full}
 use Rattle.answers.specs.Answers.{field, edgeField, leafField, lineEnd, valueHead, backupHead, cutHead, refusedHead, rowHead, answerLine, rowLine, rowLineAt, rowLines, answerBytes}
-use Rattle.answers.specs.Writing.{lineBytes, putAnswer, putResult, Placed, Showable}
+use Rattle.answers.specs.Writing.{IsWord, lineBytes, mostBytes, putAnswer, putResult, Placed, Showable}
+use Rattle.answers.specs.AnswerLaws.{answer-short}
 use Rattle.answering.specs.Wrote.{Wrote, WroteWithin}
 use Rattle.answering.proofs.WriteLaws.{wrote-nothing, wrote-then, three-fields, four-fields, of-word, wider}
 
@@ -229,31 +231,51 @@ module _ (s w : List ℕ) (place : ℕ) {x : Put} (p : x ≡ putAnswer (length s
   pub measured-at : {s′ : List ℕ} {n r : ℕ} → x ≡ At n → Wrote s place w r s′ → Placed s place w (At r) s′
   measured-at e q = let g = measured-room e in placed-at (omega arith) (omega arith) q
 
--- an answer's bytes
+-- the rows of a listing, in bytes
+pub rows-short : (ws : List ℕ) (n : ℕ) → ((i : ℕ) → IsWord (getD ws i 0)) → n ≤ mostRows → length (rowLines ws n) ≤ mostBytes
+unfolding answerBytes
+rows-short ws n g h = answer-short ws (Show n) g h
+
+-- an answer's bytes are put, and are at most as many as any answer's
+abbrev pub PutShort : List ℕ → ℕ → List ℕ → Answer → Put → List ℕ → Type 0
+PutShort s place ws answer r s′ =
+    Placed s place (answerBytes ws answer) r s′ × (((n : ℕ) → answer ≡ Show n → n ≤ mostRows) → length (answerBytes ws answer) ≤ mostBytes)
+
+abbrev LineShort : List ℕ → ℕ → Answer → Put → List ℕ → Type 0
+LineShort s place answer r s′ = Placed s place (answerLine answer) r s′ × (length (answerLine answer) ≤ lineBytes)
+
+-- one line: its bytes are the answer's
+as-line : {s s′ : List ℕ} (ws : List ℕ) {place : ℕ} (answer : Answer) {r : Put} → answerBytes ws answer ≡ answerLine answer → LineShort s place answer r s′ → PutShort s place ws answer r s′
+as-line {s} {s′} ws {place} answer {r} e p =
+    (subst (λ (w : List ℕ). Placed s place w r s′) (sym e) (p .0), λ few. omega (arith, p .1, ap length e))
+
 module _ {s s′ : List ℕ} (ws : List ℕ) {place : ℕ} {answer : Answer} {r : Put} where
-  pub put-value : {v k n : ℕ} → answer ≡ Value v k n → Placed s place (answerLine answer) r s′ → Placed s place (answerBytes ws answer) r s′
+  pub put-value : {v k n : ℕ} → answer ≡ Value v k n → LineShort s place answer r s′ → PutShort s place ws answer r s′
   unfolding answerBytes
-  put-value e p = rw e (subst (λ (a : Answer). Placed s place (answerLine a) r s′) e p)
+  put-value e p = as-line ws answer (ap (answerBytes ws) e ∙ sym (ap answerLine e)) p
 
-  pub put-backup : {k n : ℕ} → answer ≡ Backup k n → Placed s place (answerLine answer) r s′ → Placed s place (answerBytes ws answer) r s′
+  pub put-backup : {k n : ℕ} → answer ≡ Backup k n → LineShort s place answer r s′ → PutShort s place ws answer r s′
   unfolding answerBytes
-  put-backup e p = rw e (subst (λ (a : Answer). Placed s place (answerLine a) r s′) e p)
+  put-backup e p = as-line ws answer (ap (answerBytes ws) e ∙ sym (ap answerLine e)) p
 
-  pub put-cut : {i n : ℕ} {g : Edge} → answer ≡ Cut i g n → Placed s place (answerLine answer) r s′ → Placed s place (answerBytes ws answer) r s′
+  pub put-cut : {i n : ℕ} {g : Edge} → answer ≡ Cut i g n → LineShort s place answer r s′ → PutShort s place ws answer r s′
   unfolding answerBytes
-  put-cut e p = rw e (subst (λ (a : Answer). Placed s place (answerLine a) r s′) e p)
+  put-cut e p = as-line ws answer (ap (answerBytes ws) e ∙ sym (ap answerLine e)) p
 
-  pub put-refused : {w : Refusal} {n : ℕ} → answer ≡ Refused w n → Placed s place (answerLine answer) r s′ → Placed s place (answerBytes ws answer) r s′
+  pub put-refused : {w : Refusal} {n : ℕ} → answer ≡ Refused w n → LineShort s place answer r s′ → PutShort s place ws answer r s′
   unfolding answerBytes
-  put-refused e p = rw e (subst (λ (a : Answer). Placed s place (answerLine a) r s′) e p)
+  put-refused e p = as-line ws answer (ap (answerBytes ws) e ∙ sym (ap answerLine e)) p
 
-  pub put-none : answer ≡ Nothing → Placed s place (answerLine answer) r s′ → Placed s place (answerBytes ws answer) r s′
+  pub put-none : answer ≡ Nothing → LineShort s place answer r s′ → PutShort s place ws answer r s′
   unfolding answerBytes answerLine
-  put-none e p = rw e (subst (λ (a : Answer). Placed s place (answerLine a) r s′) e p)
+  put-none e p = as-line ws answer (ap (answerBytes ws) e ∙ sym (ap answerLine e)) p
 
-  pub put-show : {n : ℕ} → answer ≡ Show n → Placed s place (rowLines ws n) r s′ → Placed s place (answerBytes ws answer) r s′
+  -- the rows of a listing
+  pub put-show : {n : ℕ} → answer ≡ Show n → Placed s place (rowLines ws n) r s′ × (n ≤ mostRows → length (rowLines ws n) ≤ mostBytes) → PutShort s place ws answer r s′
   unfolding answerBytes
-  put-show e p = rw e p
+  put-show {n} e p =
+      let b : answerBytes ws answer ≡ rowLines ws n = ap (answerBytes ws) e in
+      (subst (λ (w : List ℕ). Placed s place w r s′) (sym b) (p .0), λ few. omega (arith, p .1 (few n e), ap length b))
 
 pub shown-there : (ws : List ℕ) {answer : Answer} {n : ℕ} → Showable ws answer → answer ≡ Show n → n * 3 ≤ length ws
 shown-there ws p e = subst (Showable ws) e p

@@ -4,12 +4,14 @@ use answers::Put;
 use cutting::Edge;
 use label::Label;
 ghost use mathlib.Core.Path.{_≡_};
-ghost use Prim.Native.Nat.{_+_, _*_, _≤_};
+ghost use Prim.Native.Nat.{ℕ, _+_, _*_, _≤_};
 ghost use mathlib.Core.List.{_++_};
 ghost use lib.ListN.{length};
+ghost use Rattle.diagram.specs.Sizes.{mostRows};
+ghost use Rattle.answers.specs.declared.Answer.the-variants.{Show};
 ghost use Rattle.answers.specs.Digits.{digits};
 ghost use Rattle.answers.specs.Answers.{field, edgeField, leafField, valueHead, cutHead, rowHead, lineEnd, rowLineAt, rowLines, answerLine, answerBytes};
-ghost use Rattle.answers.specs.Writing.{lineBytes, putAnswer, Placed, Showable};
+ghost use Rattle.answers.specs.Writing.{lineBytes, mostBytes, putAnswer, Placed, Showable};
 ghost use Rattle.answering.specs.Wrote.{Wrote, WroteWithin};
 
 // The bytes of a line at most: a word, four numbers and the signs between them.
@@ -206,10 +208,11 @@ fn write_rows(out: &mut [u8], at: usize, words: &[u64], n: usize) -> usize
     end
 }
 
-// Puts the lines of the first n rows of a listing, if there is room for all.
+// Puts the lines of the first n rows of a listing, if there is room for all; as many rows as a listing may have have at most MOST_BYTES.
 pub fn put_rows(out: &mut [u8], at: usize, words: &[u64], n: usize) -> Put
     requires { ⌜ n * 3 ≤ length (now words) ⌝ }
     ensures { λ r. ⌜ Placed (now (out .entry)) at (rowLines (now (words .entry)) n) r (now (out .exit)) ⌝ }
+    ensures { λ r. ⌜ (n ≤ mostRows → length (rowLines (now (words .entry)) n) ≤ mostBytes) ⌝ }
 {
     let Put::At(_) = rows_end(words, n, at, out.len()) else {
         return Put::Full;
@@ -221,16 +224,19 @@ pub fn put_rows(out: &mut [u8], at: usize, words: &[u64], n: usize) -> Put
 // Puts the line of an answer, if there is room.
 fn put_one(out: &mut [u8], at: usize, answer: Answer) -> Put
     ensures { λ r. ⌜ Placed (now (out .entry)) at (answerLine answer) r (now (out .exit)) ⌝ }
+    ensures { λ r. ⌜ length (answerLine answer) ≤ lineBytes ⌝ }
 {
     let mut line = [0u8; LINE_BYTES];
     let n = answer_line(&mut line, answer);
     put_line(out, at, &line[..n])
 }
 
-// Puts an answer's bytes at a place, if there is room; the value's listing begins the words.
+// Puts an answer's bytes at a place, if there is room; the value's listing begins the words. An answer that shows as many rows as a listing may have, or
+// none, has at most MOST_BYTES.
 pub fn put_answer(out: &mut [u8], at: usize, words: &[u64], answer: Answer) -> Put
     requires { ⌜ Showable (now words) answer ⌝ }
     ensures { λ r. ⌜ Placed (now (out .entry)) at (answerBytes (now (words .entry)) answer) r (now (out .exit)) ⌝ }
+    ensures { λ r. ⌜ (((n : ℕ) → answer ≡ Show n → n ≤ mostRows) → length (answerBytes (now (words .entry)) answer) ≤ mostBytes) ⌝ }
 {
     match answer {
         Answer::Value(_, _, _) => put_one(out, at, answer),

@@ -7,22 +7,22 @@ put-rows-requires : tie.Need-put-rows-requires
 put-rows-requires c κs = search shown-there
 
 returns : tie.Need-returns
-returns c = search put-value
+returns c = put-value _ (c .before .before .before .before .enum-told .given .1) (c .before .before .put-one .ensures)
 
 returns-2 : tie.Need-returns-2
-returns-2 c = search put-backup
+returns-2 c = put-backup _ (c .before .before .before .before .enum-told2 .given .1) (c .before .before .put-one2 .ensures)
 
 returns-3 : tie.Need-returns-3
-returns-3 c = search put-cut
+returns-3 c = put-cut _ (c .before .before .before .before .enum-told3 .given .1) (c .before .before .put-one3 .ensures)
 
 returns-4 : tie.Need-returns-4
-returns-4 c = search put-refused
+returns-4 c = put-refused _ (c .before .before .before .before .enum-told4 .given .1) (c .before .before .put-one4 .ensures)
 
 returns-5 : tie.Need-returns-5
-returns-5 c = search put-show
+returns-5 c = put-show _ (c .before .before .before .before .before .answer .given .1) (c .before .before .put-rows .ensures)
 
 returns-6 : tie.Need-returns-6
-returns-6 c = search put-none
+returns-6 c = put-none _ (c .before .before .before .before .enum-told5 .given .1) (c .before .before .put-one5 .ensures)
 
 pub put-answer-spec : {M : Type 1} → statement M
 put-answer-spec =

@@ -7,7 +7,7 @@ slice-aggregate-put-line : tie.Need-slice-aggregate-put-line
 slice-aggregate-put-line c = let a = c .before .before .before .answer-line in line-taken (a .kept .0) (a .ensures)
 
 returns : tie.Need-returns
-returns c = search placed-line
+returns c = (search placed-line, c .before .before .before .before .before .before .answer-line .ensures .within)
 
 pub put-one-spec : {M : Type 1} → statement M
 put-one-spec =
