@@ -2,4 +2,3 @@ pub mod SendLaws
 pub mod MoveLaws
 pub mod RunLaws
 pub mod KeepLaws
-pub mod FeedLaws

@@ -14,18 +14,20 @@ use Rattle.answers.specs.declared.Answer.the-variants.{Refused}
 use Rattle.answers.specs.declared.Put.{Put}
 use Rattle.answers.specs.declared.Put.the-variants as P
 use Rattle.answers.specs.Answers.{answerLine, answerBytes}
-use Rattle.answers.specs.Writing.{Placed, putAnswer, putResult}
+use Rattle.answers.specs.Writing.{mostBytes, Placed, putAnswer, putResult}
 use Rattle.session.specs.Replies.{reply}
 use Rattle.session.specs.Texts.{hasBytes, Progress, replyBytes, afterLine, afterRest, unfinished, closing}
+use Rattle.memory.specs.declared.Numbers.{Numbers}
 use Rattle.memory.specs.Memory.{Memory, sessionOf}
 use Rattle.texts.specs.declared.Ran.{Ran}
 use Rattle.texts.specs.declared.Ran.the-variants.{Done, Full}
 use Rattle.texts.specs.declared.Sent.{Sent}
 use Rattle.texts.specs.declared.Position.{Position}
-use Rattle.texts.specs.declared.Next.the-variants as N
-use Rattle.texts.specs.Running.{Filled, stopped, fillClosing, fillRest, inFront, Fills}
+use Rattle.texts.specs.declared.Answered.{Answered}
+use Rattle.texts.specs.Running.{Filled, fits, stopped, fillClosing, fillRest, filledBehind, inFront, Fills}
 use Rattle.texts.specs.RunningLaws.{rest-none, closing-grows}
-use Rattle.texts.specs.Sending.{Sends, progressOf, Going, Moved, NoRoom, Goes}
+use Rattle.texts.specs.Sending.{Sends, progressOf, Going}
+use Rattle.texts.specs.Whole.{unwritten, behindReply, Steps}
 
 -- ===== An answer that has room, or none =====
 
@@ -82,39 +84,79 @@ pub met-now : {m : Bool} (s : List ℕ) → m ≡ false → not (eqb (length s) 
 met-now [] e = ap (λ (b : Bool). b || false) (sym e)
 met-now (b ∷ s) e = ap not (ne-eqb (suc (length s)) 0 (λ h. omega arith)) ∙ ap (λ (c : Bool). c || true) (sym e)
 
-goes-to : {q : Progress} {out : List ℕ} {p : Position} {w : Memory} {out′ : List ℕ} → Moved q out p w out′ → Goes q out (N.To p) w out′
-goes-to {q} {out} {p} {w} {out′} m = record {
-  to = λ p′ e. let k : p ≡ p′ = cc in subst (λ (x : Position). Moved q out x w out′) k m;
-  full = λ e. absurd (let z : _≡_ {A = ℕ} 0 1 = cc in omega arith);
+-- where a reply leads
+module _ (n : Numbers) (number : ℕ) (met : Bool) (next : ℕ) (r : Answered) {put : Put} where
+  pub reply-at : {e : ℕ} → put ≡ P.At e → behindReply (P.At e) n number met next r ≡ behindReply put n number met next r
+  reply-at i = ap (λ (z : Put). behindReply z n number met next r) (sym i)
+
+  pub reply-full : put ≡ P.Full → behindReply P.Full n number met next r ≡ behindReply put n number met next r
+  reply-full i = ap (λ (z : Put). behindReply z n number met next r) (sym i)
+
+steps-by : {l : List ℕ} {next : ℕ} {r : Answered} {q : Progress} {out : List ℕ} {r′ : Answered} {w : Memory} {out′ : List ℕ} (b : Bool)
+    → fits (length out) (afterLine q l .bytes) ≡ b → Going (r′ .position) w out′ → r′ .full ≡ not b → r′ .at ≡ cond b next (r .at)
+    → progressOf (r′ .position) w out′ ≡ cond b (afterLine q l) (unwritten q l) → length (afterLine q l .bytes) ≤ length (q .bytes) + mostBytes
+    → drop (r′ .position .end) out′ ≡ drop (r′ .position .end) out → Steps l next r q out r′ w out′
+steps-by {l} {next} {r} {q} b e g f a p h d = record {
+  going = g;
+  full = f ∙ ap not (sym e);
+  place = a ∙ ap (λ (c : Bool). cond c next (r .at)) (sym e);
+  is = p ∙ ap (λ (c : Bool). cond c (afterLine q l) (unwritten q l)) (sym e);
+  short = h;
+  behind = d;
 }
 
-goes-full : {q : Progress} {out : List ℕ} {w : Memory} {out′ : List ℕ} → NoRoom q out out′ → Goes q out N.Full w out′
-goes-full m = record { to = λ p e. absurd (let z : _≡_ {A = ℕ} 0 1 = cc in omega arith); full = λ e. m }
+module _ {s : List ℕ} (r : Answered) {w : Memory} {out : List ℕ} {sent : Sent} {w′ : Memory} {out′ : List ℕ} (g : Going (r .position) w out)
+    (x : Sends s (r .position .lines + 1) (r .position .numbers) w out (r .position .end) sent w′ out′) where
+  sends : Sends s (suc (r .position .lines)) (r .position .numbers) w out (r .position .end) sent w′ out′
+  sends = subst (λ (k : ℕ). Sends s k (r .position .numbers) w out (r .position .end) sent w′ out′) (add-one (r .position .lines)) x
 
-module _ {s : List ℕ} {p : Position} {w : Memory} {out : List ℕ} {r : Sent} {w′ : Memory} {out′ : List ℕ} (g : Going p w out)
-    (x : Sends s (p .lines + 1) (p .numbers) w out (p .end) r w′ out′) where
-  sends : Sends s (suc (p .lines)) (p .numbers) w out (p .end) r w′ out′
-  sends = subst (λ (k : ℕ). Sends s k (p .numbers) w out (p .end) r w′ out′) (add-one (p .lines)) x
+  bytes : List ℕ
+  bytes = replyBytes (reply (sessionOf (r .position .numbers) w) (suc (r .position .lines)) s)
 
-  pub next-to : (e : ℕ) → r .put ≡ P.At e
-      → {m : Bool} → m ≡ (p .met || hasBytes s)
-      → Goes (afterLine (progressOf p w out) s) out (N.To (record { numbers = r .numbers; lines = p .lines + 1; met = m; end = e })) w′ out′
-  unfolding afterLine progressOf
-  next-to e q t =
-      let y = sends in
-      let a = placed-at (y .placed) e q in
-      goes-to (record {
-        going = record { kept = y .kept; within = omega (arith, a .within, a .long) };
-        is = λ i. record { session = y .session i; lines = add-one (p .lines) i; met = t i; bytes = a .front i };
-        behind = a .behind;
-      })
+  bytes-long : length (afterLine (progressOf (r .position) w out) s .bytes) ≡ r .position .end + length bytes
+  unfolding afterLine progressOf bytes
+  bytes-long = omega (arith, length-append (take (r .position .end) out) bytes, length-take-le (r .position .end) out (g .within))
 
-  pub next-full : r .put ≡ P.Full → Goes (afterLine (progressOf p w out) s) out N.Full w′ out′
-  unfolding afterLine progressOf
-  next-full q =
-      let y = sends in
-      let a = placed-full (y .placed) q in
-      goes-full (record { room = omega (arith, a .0, length-append (take (p .end) out) (replyBytes (reply (sessionOf (p .numbers) w) (suc (p .lines)) s)), length-take-le (p .end) out (g .within)); result = a .1 })
+  here-long : length (progressOf (r .position) w out .bytes) ≡ r .position .end
+  unfolding progressOf
+  here-long = length-take-le (r .position .end) out (g .within)
+
+  short : length (afterLine (progressOf (r .position) w out) s .bytes) ≤ length (progressOf (r .position) w out .bytes) + mostBytes
+  unfolding bytes
+  short = omega (arith, bytes-long, here-long, sends .short)
+
+  pub stepped : (next : ℕ) {m : Bool} → m ≡ (r .position .met || hasBytes s) → {a : Answered}
+      → a ≡ behindReply (sent .put) (sent .numbers) (r .position .lines + 1) m next r → Steps s next r (progressOf (r .position) w out) out a w′ out′
+  unfolding afterLine progressOf bytes
+  stepped next {m} t {a} j = subst (λ (z : Answered). Steps s next r (progressOf (r .position) w out) out z w′ out′) (sym j) (go (sent .put) refl)
+    where
+      at : (e : ℕ) → sent .put ≡ P.At e
+          → Steps s next r (progressOf (r .position) w out) out (behindReply (P.At e) (sent .numbers) (r .position .lines + 1) m next r) w′ out′
+      at e i =
+          let y = sends in
+          let a = placed-at (y .placed) e i in
+          steps-by true
+          (le-leb (length (afterLine (progressOf (r .position) w out) s .bytes)) (length out) (omega (arith, bytes-long, a .end, a .within)))
+          (record { kept = y .kept; within = omega (arith, a .within, a .long) })
+          refl refl
+          (λ i. record { session = y .session i; lines = add-one (r .position .lines) i; met = t i; bytes = a .front i })
+          short (a .behind)
+
+      full : sent .put ≡ P.Full
+          → Steps s next r (progressOf (r .position) w out) out (behindReply P.Full (sent .numbers) (r .position .lines + 1) m next r) w′ out′
+      full i =
+          let y = sends in
+          let a = placed-full (y .placed) i in
+          steps-by false
+          (lt-leb (length (afterLine (progressOf (r .position) w out) s .bytes)) (length out) (omega (arith, bytes-long, a .0)))
+          (record { kept = y .kept; within = omega (arith, g .within, ap length (a .1)) })
+          refl refl
+          (λ i. record { session = y .session i; lines = r .position .lines; met = r .position .met; bytes = take (r .position .end) (a .1 i) })
+          short (ap (drop (r .position .end)) (a .1))
+
+      go : (put : Put) → sent .put ≡ put → Steps s next r (progressOf (r .position) w out) out (behindReply put (sent .numbers) (r .position .lines + 1) m next r) w′ out′
+      go (P.At e) i = at e i
+      go P.Full i = full i
 
 -- ===== The end of a text =====
 
@@ -232,3 +274,14 @@ module _ (p : Position) (out : List ℕ) {r : Ran} {out′ : List ℕ} where
       → (w : Memory) (s : List ℕ) → length s ≡ n → Fills (fillRest (length out) (progressOf p w out) s) out r out′
   end-rest e f w [] l = absurd (e (sym l))
   end-rest e f w (b ∷ s) l = f w b s
+
+-- behind the whole lines of a text
+module _ (r : Answered) {out : List ℕ} where
+  pub behind-full : r .full ≡ true → r .position .end ≤ length out → (w : Memory) (s : List ℕ)
+      → Fills (filledBehind (length out) (r .full) (progressOf (r .position) w out) s) out (Full (r .position .end) (r .position .lines)) out
+  unfolding progressOf
+  behind-full f h w s = rw f (stays (progressOf (r .position) w out) h refl)
+
+  pub behind-end : {a : Ran} {out′ : List ℕ} {n : ℕ} → r .full ≡ false → ((w : Memory) (s : List ℕ) → length s ≡ n → Fills (fillRest (length out) (progressOf (r .position) w out) s) out a out′)
+      → (w : Memory) (s : List ℕ) → length s ≡ n → Fills (filledBehind (length out) (r .full) (progressOf (r .position) w out) s) out a out′
+  behind-end f x w s l = rw f (x w s l)

@@ -6,13 +6,14 @@ use Prim.Native.Nat.{ℕ, _*_, _≤_}
 use native.Mathlib.Omega.{arith}
 use lib.ListN.{length, take}
 use Rattle.diagram.specs.Rows.{rows}
+use Rattle.diagram.specs.Sizes.{mostRows}
 use Rattle.diagram.specs.Words.{isListing}
 use Rattle.diagram.specs.Listing.{listing, diagramOf}
-use Rattle.diagram.specs.Listings.{is-listing-diagram}
+use Rattle.diagram.specs.Listings.{is-listing-diagram, is-listing-good}
 use Rattle.answers.specs.declared.Put.{Put}
 use Rattle.answers.specs.declared.Answer.the-variants.{Show}
 use Rattle.answers.specs.Answers.{rowLines, answerBytes}
-use Rattle.answers.specs.Writing.{Placed, Showable}
+use Rattle.answers.specs.Writing.{mostBytes, Placed, Showable}
 use Rattle.session.specs.declared.Part.the-variants.{Run}
 use Rattle.session.specs.Session.{Session}
 use Rattle.session.specs.Replies.{reply}
@@ -27,6 +28,7 @@ use Rattle.texts.specs.Sending.{Sends}
 record Held (r : Said) (w : Memory) (m : ℕ) : Type 0 where
   count : m ≡ r .numbers .held .rows
   listed : isListing (w .arities) (take (r .numbers .held .rows * 3) (w .value)) ≡ true
+  few : m ≤ mostRows
   room : r .numbers .held .rows * 3 ≤ length (w .value)
 
 module _ {s : List ℕ} {number : ℕ} {n : Numbers} {w : Memory} {r : Said} {w′ : Memory} (x : Replied s number n w r w′) where
@@ -40,7 +42,12 @@ module _ {s : List ℕ} {number : ℕ} {n : Numbers} {w : Memory} {r : Said} {w�
       let l = g .holding p .listing in
       let e : m ≡ length (rows (diagramOf (take (r .numbers .held .rows * 3) (w′ .value)))) =
       v .count ∙ ap (λ (σ : Session). length (rows (σ .held .diagram))) (sym q) in
-      record { count = e ∙ held-count (w′ .arities) (w′ .value) (r .numbers .held .rows) l (g .value-rows); listed = l; room = g .value-rows }
+      record {
+        count = e ∙ held-count (w′ .arities) (w′ .value) (r .numbers .held .rows) l (g .value-rows);
+        listed = l;
+        few = omega (arith, e, is-listing-good (w′ .arities) (take (r .numbers .held .rows * 3) (w′ .value)) l .few);
+        room = g .value-rows;
+      }
 
   pub sent-showable : Showable (w′ .value) (r .answer)
   sent-showable = showable (w′ .value) (r .answer) (λ m h. let v = held-shown m h in omega (arith, v .count, v .room))
@@ -56,10 +63,12 @@ module _ {s : List ℕ} {number : ℕ} {n : Numbers} {w : Memory} {r : Said} {w�
       ap (λ (vs : List ℕ). rowLines vs m) (is-listing-diagram (w′ .arities) ws (v .listed))
       ∙ rows-begin (r .numbers .held .rows * 3) (w′ .value) m (omega (arith, v .count)))
 
-  pub sent : {put : Put} {out out′ : List ℕ} {place : ℕ} → Placed out place (answerBytes (w′ .value) (r .answer)) put out′
+  pub sent : {put : Put} {out out′ : List ℕ} {place : ℕ}
+      → Placed out place (answerBytes (w′ .value) (r .answer)) put out′ × (((m : ℕ) → r .answer ≡ Show m → m ≤ mostRows) → length (answerBytes (w′ .value) (r .answer)) ≤ mostBytes)
       → Sends s number n w out place (record { numbers = r .numbers; put = put }) w′ out′
   sent {put} {out} {out′} {place} p = record {
     session = x .session;
     kept = x .kept;
-    placed = subst (λ (b : List ℕ). Placed out place b put out′) (sym sent-bytes) p;
+    placed = subst (λ (b : List ℕ). Placed out place b put out′) (sym sent-bytes) (p .0);
+    short = omega (arith, ap length sent-bytes, p .1 (λ m h. held-shown m h .few));
   }

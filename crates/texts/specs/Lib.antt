@@ -3,9 +3,10 @@ pub mod Ends
 pub mod Running
 pub mod Sending
 pub mod Streaming
-pub mod Feeding
+pub mod Whole
 -- laws
 pub mod LineLaws
 pub mod RunningLaws
 pub mod ShowLaws
 pub mod StreamLaws
+pub mod WholeLaws

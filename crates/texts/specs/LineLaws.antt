@@ -2,7 +2,7 @@
 use mathlib.Core.Path.{_≡_, refl, ap}
 use mathlib.Core.Bool.{Bool, true, false, cond, not}
 use mathlib.Core.List.{List, [], _∷_}
-use Prim.Native.Nat.{ℕ, suc, _+_, _≤_, _<_}
+use Prim.Native.Nat.{ℕ, zero, suc, _+_, _≤_, _<_}
 use native.Mathlib.Omega.{arith}
 use borrow.Author.Tests.{eq-eqb, ne-eqb, eqb-true}
 use lib.ListN.{length, getD, take, drop}
@@ -73,3 +73,28 @@ line-ends (b ∷ s) h = go (eqb b lineFeed) refl (line-ends s) h
         → getD (b ∷ s) (cond (not t) (suc (lineLength s)) 0) 0 ≡ lineFeed
     go true e ih h = eqb-true b lineFeed e
     go false e ih h = ih (omega arith)
+
+-- no line feed in the first bytes of a line
+pub line-front : (n : ℕ) (s : List ℕ) → lineLength s ≡ length s → lineLength (take n s) ≡ length (take n s)
+unfolding lineLength run
+line-front zero [] h = refl
+line-front zero (b ∷ s) h = refl
+line-front (suc n) [] h = refl
+line-front (suc n) (b ∷ s) h = go (eqb b lineFeed) (line-front n s) h
+  where
+    go : (t : Bool) → (lineLength s ≡ length s → lineLength (take n s) ≡ length (take n s)) → cond (not t) (suc (lineLength s)) 0 ≡ suc (length s)
+        → cond (not t) (suc (lineLength (take n s))) 0 ≡ suc (length (take n s))
+    go true ih h = absurd (omega arith)
+    go false ih h = ap suc (ih (omega arith))
+
+-- without a whole line all bytes are the rest
+pub rest-all : (s : List ℕ) → linesOf s .whole ≡ [] → linesOf s .rest ≡ s
+unfolding linesOf
+rest-all [] e = refl
+rest-all (b ∷ s) e = go (eqb b lineFeed) (linesOf s .whole) (linesOf s .rest) (rest-all s) e
+  where
+    go : (t : Bool) (ls : List (List ℕ)) (r : List ℕ) → (ls ≡ [] → r ≡ s)
+        → cond t (record { whole = [] ∷ ls; rest = r }) (behindByte b ls r) .whole ≡ [] → cond t (record { whole = [] ∷ ls; rest = r }) (behindByte b ls r) .rest ≡ b ∷ s
+    go true ls r ih e = absurd (let z = ap length e in omega arith)
+    go false [] r ih e = ap (λ (x : List ℕ). b ∷ x) (ih refl)
+    go false (l ∷ ls) r ih e = absurd (let z = ap length e in omega arith)

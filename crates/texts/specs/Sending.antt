@@ -1,23 +1,22 @@
 -- A line answered in a buffer: the session in lent words moves on, and the answer's bytes stand behind what was written.
 use mathlib.Core.Path.{_≡_}
 use mathlib.Core.List.{List}
-use Prim.Native.Nat.{ℕ, _<_, _≤_}
-use lib.ListN.{length, take, drop}
-use Rattle.answers.specs.Writing.{Placed}
+use Prim.Native.Nat.{ℕ, _≤_}
+use lib.ListN.{length, take}
+use Rattle.answers.specs.Writing.{mostBytes, Placed}
 use Rattle.session.specs.Replies.{reply}
 use Rattle.session.specs.Texts.{Progress, replyBytes, beginning}
 use Rattle.memory.specs.declared.Numbers.{Numbers}
 use Rattle.memory.specs.Memory.{Memory, memoryOf, sessionOf, Kept, Rooms}
 use Rattle.texts.specs.declared.Sent.{Sent}
 use Rattle.texts.specs.declared.Position.{Position}
-use Rattle.texts.specs.declared.Next.{Next}
-use Rattle.texts.specs.declared.Next.the-variants.{To, Full}
 
--- the session behind the line, and the answer's bytes put at a place, if there is room
+-- the session behind the line, and the answer's bytes put at a place, if there is room; one reply fits mostBytes
 pub record Sends (s : List ℕ) (number : ℕ) (n : Numbers) (w : Memory) (out : List ℕ) (place : ℕ) (r : Sent) (w′ : Memory) (out′ : List ℕ) : Type 0 where
   pub session : sessionOf (r .numbers) w′ ≡ reply (sessionOf n w) number s .session
   pub kept : Kept (r .numbers) w′
   pub placed : Placed out place (replyBytes (reply (sessionOf n w) number s)) (r .put) out′
+  pub short : length (replyBytes (reply (sessionOf n w) number s)) ≤ mostBytes
 
 -- the lines that a number counts
 abbrev pub mostLines : ℕ
@@ -32,22 +31,6 @@ progressOf p w out = record { session = sessionOf (p .numbers) w; lines = p .lin
 pub record Going (p : Position) (w : Memory) (out : List ℕ) : Type 0 where
   pub kept : Kept (p .numbers) w
   pub within : p .end ≤ length out
-
--- the text is read as far as q says, and the bytes behind the answers stay
-pub record Moved (q : Progress) (out : List ℕ) (p : Position) (w : Memory) (out′ : List ℕ) : Type 0 where
-  pub going : Going p w out′
-  pub is : progressOf p w out′ ≡ q
-  pub behind : drop (p .end) out′ ≡ drop (p .end) out
-
--- no room for the answer
-pub record NoRoom (q : Progress) (out out′ : List ℕ) : Type 0 where
-  pub room : length out < length (q .bytes)
-  pub result : out′ ≡ out
-
--- q is reached, or there is no room for the answer that leads to it
-pub record Goes (q : Progress) (out : List ℕ) (r : Next) (w : Memory) (out′ : List ℕ) : Type 0 where
-  pub to : (p : Position) → r ≡ To p → Moved q out p w out′
-  pub full : r ≡ Full → NoRoom q out out′
 
 -- before the first line
 pub record Started (p : Position) (w : Memory) (out : List ℕ) : Type 0 where

@@ -5,10 +5,10 @@ use mathlib.Core.List.{List, [], _∷_, _++_, append-nil, append-assoc}
 use Prim.Native.Nat.{ℕ, suc, _+_, _≤_, _<_}
 use native.Mathlib.Omega.{arith}
 use native.Mathlib.Decide.{decLt}
-use borrow.Author.Tests.{lt-leb}
+use borrow.Author.Tests.{lt-leb, ltb-false}
 use lib.ListN.{length, take}
-use lib.Seq.{take-all, take-at, length-take-le, take-append-le}
-use lib.Dec.{eqb}
+use lib.Seq.{take-all, take-at, take-take, take-suc, length-take-le, take-append-le}
+use lib.Dec.{eqb, ltb}
 use Rattle.refusal.specs.declared.Refusal.the-variants.{Form}
 use Rattle.text.specs.declared.Kind.{Kind}
 use Rattle.text.specs.declared.Kind.the-variants as K
@@ -21,8 +21,9 @@ use Rattle.session.specs.Place.{ruleOf}
 use Rattle.session.specs.Replies.{allowed, placed, done, replyTo, reply, refusal, wordsOf}
 use Rattle.session.specs.Texts.{lineFeed, Lines, behindByte, linesOf, hasBytes, Progress, replyBytes, closing, replied, afterLine, afterLines, afterRest, beginning, textAnswers}
 use Rattle.texts.specs.Ends.{lineLength}
+use Rattle.texts.specs.LineLaws.{line-within, line-whole, line-ends, line-front}
 use Rattle.texts.specs.Running.{allBytes}
-use Rattle.texts.specs.Streaming.{lineRoom, Stream, onByte, onBytes, onBlocks, streamStart, onEnd}
+use Rattle.texts.specs.Streaming.{lineRoom, Stream, fresh, onByte, onBytes, onBlocks, streamStart, onEnd, restOf}
 
 -- ===== A line that is too long =====
 
@@ -58,7 +59,7 @@ has-kept : (s : List ℕ) → hasBytes (take lineRoom s) ≡ hasBytes s
 has-kept [] = refl
 has-kept (b ∷ s) = refl
 
-after-kept : (p : Progress) (s : List ℕ) → afterLine p (take lineRoom s) ≡ afterLine p s
+pub after-kept : (p : Progress) (s : List ℕ) → afterLine p (take lineRoom s) ≡ afterLine p s
 unfolding afterLine
 after-kept p s = ap₂ (replied p) (has-kept s) (reply-kept (p .session) (suc (p .lines)) s)
 
@@ -103,6 +104,38 @@ on-line q x (b ∷ s) h e = go (eqb b lineFeed) (λ (k : lineLength s ≡ length
         ih (omega arith)
         ∙ ap (λ (z : List ℕ). record { progress = q; partial = z }) (take-again lineRoom (x ++ (b ∷ [])) s ∙ ap (take lineRoom) (append-assoc x (b ∷ []) s))
 
+-- a line feed ends it
+feed-ends : (p : Progress) (u : List ℕ) → onBytes (record { progress = p; partial = u }) (lineFeed ∷ []) ≡ fresh (afterLine p u)
+unfolding onBytes onByte
+feed-ends p u = refl
+
+pub bytes-append : (t : Stream) (x y : List ℕ) → onBytes t (x ++ y) ≡ onBytes (onBytes t x) y
+unfolding onBytes
+bytes-append t [] y = refl
+bytes-append t (b ∷ x) y = bytes-append (onByte t b) x y
+
+-- a whole line is answered
+pub whole-line : (q : Progress) (s : List ℕ) → lineLength s < length s → onBytes (fresh q) (take (suc (lineLength s)) s) ≡ fresh (afterLine q (take (lineLength s) s))
+whole-line q s h =
+    let l : List ℕ = take (lineLength s) s in
+    let t : take (suc (lineLength s)) s ≡ l ++ (lineFeed ∷ []) = take-suc s (lineLength s) 0 h ∙ ap (λ (b : ℕ). l ++ (b ∷ [])) (line-ends s h) in
+    ap (onBytes (fresh q)) t ∙ bytes-append (fresh q) l (lineFeed ∷ [])
+    ∙ ap (λ (u : Stream). onBytes u (lineFeed ∷ [])) (on-line q [] l (omega arith) (line-whole s))
+    ∙ feed-ends q (take lineRoom l) ∙ ap fresh (after-kept q l)
+
+-- the bytes that are not kept do not count
+pub rest-line : (q : Progress) (s : List ℕ) → onBytes (fresh q) (restOf s) ≡ onBytes (fresh q) s
+unfolding restOf
+rest-line q s = go (ltb (lineLength s) (length s)) refl
+  where
+    go : (b : Bool) → ltb (lineLength s) (length s) ≡ b → onBytes (fresh q) (cond b s (take lineRoom s)) ≡ onBytes (fresh q) s
+    go true e = refl
+    go false e =
+        let h : lineLength s ≡ length s = omega (arith, ltb-false (lineLength s) (length s) e, line-within s) in
+        on-line q [] (take lineRoom s) (omega arith) (line-front lineRoom s h)
+        ∙ ap (λ (x : List ℕ). record { progress = q; partial = x }) (take-take lineRoom lineRoom s (omega arith))
+        ∙ sym (on-line q [] s (omega arith) h)
+
 -- ===== The whole text =====
 
 -- a byte ends one line at most
@@ -117,11 +150,6 @@ lines-few t (b ∷ s) = go (eqb b lineFeed) (λ (u : Stream). lines-few u s)
         ≤ t .progress .lines + suc (length s)
     go true ih = omega (arith, ih (record { progress = afterLine (t .progress) (t .partial); partial = [] }))
     go false ih = omega (arith, ih (record { progress = t .progress; partial = take lineRoom (t .partial ++ (b ∷ [])) }))
-
-pub bytes-append : (t : Stream) (x y : List ℕ) → onBytes t (x ++ y) ≡ onBytes (onBytes t x) y
-unfolding onBytes
-bytes-append t [] y = refl
-bytes-append t (b ∷ x) y = bytes-append (onByte t b) x y
 
 -- one list of all blocks
 abbrev pub joined : List (List ℕ) → List ℕ

@@ -7,21 +7,21 @@ use refusal::Refusal;
 use session::Part;
 ghost use mathlib.Core.Path.{_≡_};
 ghost use mathlib.Core.Bool.{_||_};
-ghost use mathlib.Core.List.{List, [], _∷_};
-ghost use Prim.Native.Nat.{ℕ, _+_, _<_, _≤_};
-ghost use lib.ListN.{length, drop};
+ghost use mathlib.Core.List.{List, _∷_};
+ghost use Prim.Native.Nat.{ℕ, _+_, _-_, _<_, _≤_};
+ghost use lib.ListN.{length, take, drop};
 ghost use Rattle.answers.specs.declared.Answer.the-variants.{Refused};
 ghost use Rattle.answers.specs.Answers.{answerLine};
 ghost use Rattle.answers.specs.Writing.{Placed};
-ghost use Rattle.session.specs.Texts.{linesOf, hasBytes, afterLine, unfinished};
+ghost use Rattle.session.specs.Texts.{hasBytes, unfinished};
 ghost use Rattle.memory.specs.Memory.{Memory, memoryOf, Kept, Rooms, workWords};
 ghost use Rattle.label.specs.Limits.{predicateCount};
 ghost use Rattle.facts.specs.Words.{stateWords};
 ghost use Rattle.texts.specs.Ends.{lineLength};
-ghost use Rattle.texts.specs.Running.{fillClosing, fillRest, fillFrom, filled, Fills};
-ghost use Rattle.texts.specs.Streaming.{lineRoom, Keeps, Takes};
-ghost use Rattle.texts.specs.Feeding.{streamOf, Feeding, Feeds};
-ghost use Rattle.texts.specs.Sending.{Sends, mostLines, progressOf, Going, Goes, Starts};
+ghost use Rattle.texts.specs.Running.{fillClosing, fillRest, filledBehind, filled, Fills};
+ghost use Rattle.texts.specs.Streaming.{restBy, Keeps};
+ghost use Rattle.texts.specs.Sending.{Sends, mostLines, progressOf, Going, Starts};
+ghost use Rattle.texts.specs.Whole.{Answerable, Reaches, wholeOf, nextEnd, behindReply, Steps, Ending};
 
 // Words of working space for a session.
 pub const WORK_WORDS: usize = diagram::SPACE_WORDS;
@@ -49,23 +49,17 @@ pub struct Position {
     pub end: usize,
 }
 
-// Where a line leads, or that its answer has no room.
-pub enum Next {
-    To(Position),
-    Full,
+// How far the lines of a block are answered: the place behind the last of them, the position, and whether the answer of the next has no room.
+pub struct Answered {
+    pub at: usize,
+    pub position: Position,
+    pub full: bool,
 }
 
-// What taking in a block answers: a line is whole, the next begins at a place; or the block has ended. With them the bytes that are kept of the line.
-pub enum Taken {
-    Line(usize, usize),
-    More(usize),
-}
-
-// Where feeding a block leads: a line was answered, the next begins at a place; the block has ended, so many bytes of a line are kept; or an answer has no room.
-pub enum Fed {
-    Line(usize, Position),
-    More(usize),
-    Full,
+// The bytes that are left of a block, and whether there is a whole line among them.
+pub struct Rest {
+    pub count: usize,
+    pub whole: bool,
 }
 
 // The place of the first line feed from a place on, or behind the last byte.
@@ -132,10 +126,42 @@ pub fn met_behind(met: bool, line: &[u8]) -> bool
     line.len() != 0
 }
 
+// Where a reply leads: behind its line, or to that line again, if its answer has no room.
+fn behind_reply(sent: Sent, number: u64, met: bool, next: usize, r: Answered) -> Answered
+    ensures { λ a. ⌜ a ≡ behindReply (sent .put) (sent .numbers) number met next r ⌝ }
+{
+    let numbers = sent.numbers;
+    let p = r.position;
+    let put = sent.put;
+    match put {
+        Put::At(end) => Answered {
+            at: next,
+            position: Position {
+                numbers: numbers,
+                lines: number,
+                met: met,
+                end: end,
+            },
+            full: false,
+        },
+        Put::Full => Answered {
+            at: r.at,
+            position: Position {
+                numbers: numbers,
+                lines: p.lines,
+                met: p.met,
+                end: p.end,
+            },
+            full: true,
+        },
+    }
+}
+
 // Answers the next line, behind the answers before it.
 fn next_line(
     line: &[u8],
-    p: Position,
+    next: usize,
+    r: Answered,
     names: &mut [u64],
     arities: &mut [u64],
     listings: &mut [u64],
@@ -144,12 +170,13 @@ fn next_line(
     value: &mut [u64],
     work: &mut [u64],
     out: &mut [u8],
-) -> Next
-    requires { ⌜ Going p (memoryOf (now names) (now arities) (now listings) (now table) (now state) (now value)) (now out) ⌝ }
-    requires { ⌜ p .lines < mostLines ⌝ }
+) -> Answered
+    requires { ⌜ Going (r .position) (memoryOf (now names) (now arities) (now listings) (now table) (now state) (now value)) (now out) ⌝ }
+    requires { ⌜ r .position .lines < mostLines ⌝ }
     requires { ⌜ workWords ≤ length (now work) ⌝ }
-    ensures { λ r. ⌜ Goes (afterLine (progressOf p (memoryOf (now (names .entry)) (now (arities .entry)) (now (listings .entry)) (now (table .entry)) (now (state .entry)) (now (value .entry))) (now (out .entry))) (now (line .entry))) (now (out .entry)) r (memoryOf (now (names .exit)) (now (arities .exit)) (now (listings .exit)) (now (table .exit)) (now (state .exit)) (now (value .exit))) (now (out .exit)) ⌝ }
+    ensures { λ a. ⌜ Steps (now (line .entry)) next r (progressOf (r .position) (memoryOf (now (names .entry)) (now (arities .entry)) (now (listings .entry)) (now (table .entry)) (now (state .entry)) (now (value .entry))) (now (out .entry))) (now (out .entry)) a (memoryOf (now (names .exit)) (now (arities .exit)) (now (listings .exit)) (now (table .exit)) (now (state .exit)) (now (value .exit))) (now (out .exit)) ⌝ }
 {
+    let p = r.position;
     let number = p.lines + 1;
     let met = met_behind(p.met, line);
     let sent = reply_line(
@@ -166,17 +193,69 @@ fn next_line(
         out,
         p.end,
     );
-    let numbers = sent.numbers;
-    let put = sent.put;
-    let Put::At(end) = put else {
-        return Next::Full;
+    behind_reply(sent, number, met, next, r)
+}
+
+// Where the next line ends that is to be answered; behind the last byte, if no line feed is left, too few bytes of the buffer are free or an answer had no
+// room.
+fn next_end(block: &[u8], r: Answered, free: usize, room: usize) -> usize
+    requires { ⌜ r .position .end ≤ room ⌝ }
+    ensures { λ e. ⌜ e ≡ nextEnd (now (block .entry)) r free room ⌝ }
+{
+    if r.full {
+        return block.len();
+    }
+    let p = r.position;
+    if room - p.end < free {
+        return block.len();
+    }
+    line_end(block, r.at)
+}
+
+// Answers the whole lines of a block from a place on, as long as so many bytes of the buffer are free.
+pub fn answer_whole(
+    block: &[u8],
+    from: usize,
+    first: Position,
+    free: usize,
+    names: &mut [u64],
+    arities: &mut [u64],
+    listings: &mut [u64],
+    table: &mut [u64],
+    state: &mut [u64],
+    value: &mut [u64],
+    work: &mut [u64],
+    out: &mut [u8],
+) -> Answered
+    requires { ⌜ Answerable (now block) from first (memoryOf (now names) (now arities) (now listings) (now table) (now state) (now value)) (now work) (now out) ⌝ }
+    ensures { λ r. ⌜ Reaches (now (block .entry)) from free (progressOf first (memoryOf (now (names .entry)) (now (arities .entry)) (now (listings .entry)) (now (table .entry)) (now (state .entry)) (now (value .entry))) (now (out .entry))) (wholeOf (now (block .entry)) from free (progressOf first (memoryOf (now (names .entry)) (now (arities .entry)) (now (listings .entry)) (now (table .entry)) (now (state .entry)) (now (value .entry))) (now (out .entry))) (now (out .entry))) (now (out .entry)) r (memoryOf (now (names .exit)) (now (arities .exit)) (now (listings .exit)) (now (table .exit)) (now (state .exit)) (now (value .exit))) (now (out .exit)) ⌝ }
+{
+    let room = out.len();
+    let mut r = Answered {
+        at: from,
+        position: first,
+        full: false,
     };
-    Next::To(Position {
-        numbers: numbers,
-        lines: number,
-        met: met,
-        end: end,
-    })
+    let mut end = next_end(block, r, free, room);
+    while end < block.len() {
+        let at = r.at;
+        let next = end + 1;
+        r = next_line(
+            &block[at..end],
+            next,
+            r,
+            names,
+            arities,
+            listings,
+            table,
+            state,
+            value,
+            work,
+            out,
+        );
+        end = next_end(block, r, free, room);
+    }
+    r
 }
 
 // Puts a refusal's line at a place, if there is room.
@@ -234,49 +313,28 @@ fn close_rest(p: Position, out: &mut [u8]) -> Ran
     close(q, out)
 }
 
-// Answers a text line by line, and its end.
-fn answer_lines(
-    text: &[u8],
-    first: Position,
-    names: &mut [u64],
-    arities: &mut [u64],
-    listings: &mut [u64],
-    table: &mut [u64],
-    state: &mut [u64],
-    value: &mut [u64],
-    work: &mut [u64],
-    out: &mut [u8],
-) -> Ran
-    requires { ⌜ Going first (memoryOf (now names) (now arities) (now listings) (now table) (now state) (now value)) (now out) ⌝ }
-    requires { ⌜ first .lines + length (now text) ≤ mostLines ⌝ }
-    requires { ⌜ workWords ≤ length (now work) ⌝ }
-    ensures { λ r. ⌜ Fills (fillFrom (length (now (out .entry))) (progressOf first (memoryOf (now (names .entry)) (now (arities .entry)) (now (listings .entry)) (now (table .entry)) (now (state .entry)) (now (value .entry))) (now (out .entry))) (linesOf (now (text .entry)))) (now (out .entry)) r (now (out .exit)) ⌝ }
+// The end of a text that came in blocks, of whose last line so many bytes are kept.
+pub fn end(count: usize, p: Position, out: &mut [u8]) -> Ran
+    requires { ⌜ p .end ≤ length (now out) ⌝ }
+    requires { ⌜ p .lines < mostLines ⌝ }
+    ensures { λ r. ⌜ ((w : Memory) (s : List ℕ) → length s ≡ count → Fills (fillRest (length (now (out .entry))) (progressOf p w (now (out .entry))) s) (now (out .entry)) r (now (out .exit))) ⌝ }
 {
-    let mut p = first;
-    let mut at = 0;
-    while at < text.len() {
-        let end = line_end(text, at);
-        if text.len() <= end {
-            return close_rest(p, out);
-        }
-        let Next::To(q) = next_line(
-            &text[at..end],
-            p,
-            names,
-            arities,
-            listings,
-            table,
-            state,
-            value,
-            work,
-            out,
-        ) else {
-            return Ran::Full(p.end, p.lines);
-        };
-        p = q;
-        at = end + 1;
+    if count == 0 {
+        return close(p, out);
     }
-    close(p, out)
+    close_rest(p, out)
+}
+
+// The end of a text of so many bytes whose lines are answered, or an answer had no room.
+fn end_behind(long: usize, r: Answered, out: &mut [u8]) -> Ran
+    requires { ⌜ Ending long r (now out) ⌝ }
+    ensures { λ a. ⌜ ((w : Memory) (s : List ℕ) → length s ≡ long - r .at → Fills (filledBehind (length (now (out .entry))) (r .full) (progressOf (r .position) w (now (out .entry))) s) (now (out .entry)) a (now (out .exit))) ⌝ }
+{
+    let p = r.position;
+    if r.full {
+        return Ran::Full(p.end, p.lines);
+    }
+    end(long - r.at, p, out)
 }
 
 // Before the first line.
@@ -311,9 +369,11 @@ fn run_in(
     ensures { λ r. ⌜ Fills (filled (length (now (out .entry))) (now (text .entry))) (now (out .entry)) r (now (out .exit)) ⌝ }
 {
     let first = begin(arities, state);
-    answer_lines(
+    let r = answer_whole(
         text,
+        0,
         first,
+        0,
         names,
         arities,
         listings,
@@ -322,7 +382,8 @@ fn run_in(
         value,
         work,
         out,
-    )
+    );
+    end_behind(text.len(), r, out)
 }
 
 // Answers a whole text: all answers behind one another, or those before the first that has no room.
@@ -349,100 +410,50 @@ pub fn run(text: &[u8], out: &mut [u8]) -> Ran
     )
 }
 
-// Keeps a byte of a line behind n others, if there is room.
-fn keep_byte(partial: &mut [u8], n: usize, b: u8) -> usize
-    requires { ⌜ lineRoom ≤ length (now partial) ⌝ }
-    requires { ⌜ n ≤ lineRoom ⌝ }
-    ensures { λ r. ⌜ Keeps (now (partial .entry)) n (b ∷ []) r (now (partial .exit)) ⌝ }
+// Of so many bytes that are left those that are needed: all, where there is a whole line among them.
+fn rest_of(left: usize, whole: bool) -> Rest
+    ensures { λ r. ⌜ r ≡ restBy left whole ⌝ }
 {
-    if LINE_ROOM <= n {
-        return n;
+    if whole {
+        return Rest {
+            count: left,
+            whole: true,
+        };
     }
-    partial[n] = b;
-    n + 1
+    if left <= LINE_ROOM {
+        return Rest {
+            count: left,
+            whole: false,
+        };
+    }
+    Rest {
+        count: LINE_ROOM,
+        whole: false,
+    }
 }
 
-// Keeps the bytes of a line behind those that came before, as far as there is room.
-fn keep(partial: &mut [u8], count: usize, bytes: &[u8]) -> usize
-    requires { ⌜ lineRoom ≤ length (now partial) ⌝ }
-    requires { ⌜ count ≤ lineRoom ⌝ }
-    ensures { λ r. ⌜ Keeps (now (partial .entry)) count (now (bytes .entry)) r (now (partial .exit)) ⌝ }
+// Moves bytes from a place on to the front.
+fn move_front(block: &mut [u8], at: usize, n: usize)
+    requires { ⌜ at + n ≤ length (now block) ⌝ }
+    ensures { λ _. ⌜ take n (now (block .exit)) ≡ take n (drop at (now (block .entry))) ⌝ }
 {
-    let mut n = count;
     let mut i = 0;
-    while i < bytes.len() {
-        n = keep_byte(partial, n, bytes[i]);
+    while i < n {
+        block[i] = block[at + i];
         i += 1;
     }
-    n
 }
 
-// Takes in a block from a place on, to the end of the line or of the block.
-pub fn take_in(block: &[u8], at: usize, partial: &mut [u8], count: usize) -> Taken
-    requires { ⌜ at ≤ length (now block) ⌝ }
-    requires { ⌜ lineRoom ≤ length (now partial) ⌝ }
-    requires { ⌜ count ≤ lineRoom ⌝ }
-    ensures { λ r. ⌜ Takes (now (block .entry)) at (now (partial .entry)) count r (now (partial .exit)) ⌝ }
+// Keeps the bytes of a block from a place on that are not answered yet, at its front; of a line that no line feed ends as many as are needed.
+pub fn keep_rest(block: &mut [u8], at: usize, n: usize) -> Rest
+    requires { ⌜ at ≤ n ⌝ }
+    requires { ⌜ n ≤ length (now block) ⌝ }
+    ensures { λ r. ⌜ Keeps (drop at (take n (now (block .entry)))) r (now (block .exit)) ⌝ }
 {
-    let end = line_end(block, at);
-    let kept = keep(partial, count, &block[at..end]);
-    if end < block.len() {
-        let next = end + 1;
-        return Taken::Line(next, kept);
-    }
-    Taken::More(kept)
-}
-
-// Takes in a block from a place on, to the end of the line or of the block, and answers the line if it is whole.
-pub fn feed(
-    block: &[u8],
-    at: usize,
-    partial: &mut [u8],
-    count: usize,
-    p: Position,
-    names: &mut [u64],
-    arities: &mut [u64],
-    listings: &mut [u64],
-    table: &mut [u64],
-    state: &mut [u64],
-    value: &mut [u64],
-    work: &mut [u64],
-    out: &mut [u8],
-) -> Fed
-    requires { ⌜ Feeding (now block) at (now partial) count p (memoryOf (now names) (now arities) (now listings) (now table) (now state) (now value)) (now work) (now out) ⌝ }
-    ensures { λ r. ⌜ Feeds (now (block .entry)) at (streamOf p (memoryOf (now (names .entry)) (now (arities .entry)) (now (listings .entry)) (now (table .entry)) (now (state .entry)) (now (value .entry))) (now (out .entry)) (now (partial .entry)) count) p (memoryOf (now (names .entry)) (now (arities .entry)) (now (listings .entry)) (now (table .entry)) (now (state .entry)) (now (value .entry))) (now (out .entry)) r (now (partial .exit)) (memoryOf (now (names .exit)) (now (arities .exit)) (now (listings .exit)) (now (table .exit)) (now (state .exit)) (now (value .exit))) (now (out .exit)) ⌝ }
-{
-    let taken = take_in(block, at, partial, count);
-    match taken {
-        Taken::Line(next, kept) => {
-            let Next::To(q) = next_line(
-                &partial[..kept],
-                p,
-                names,
-                arities,
-                listings,
-                table,
-                state,
-                value,
-                work,
-                out,
-            ) else {
-                return Fed::Full;
-            };
-            Fed::Line(next, q)
-        }
-        Taken::More(kept) => Fed::More(kept),
-    }
-}
-
-// The end of a text that came in blocks, of whose last line so many bytes are kept.
-pub fn end(count: usize, p: Position, out: &mut [u8]) -> Ran
-    requires { ⌜ p .end ≤ length (now out) ⌝ }
-    requires { ⌜ p .lines < mostLines ⌝ }
-    ensures { λ r. ⌜ ((w : Memory) (s : List ℕ) → length s ≡ count → Fills (fillRest (length (now (out .entry))) (progressOf p w (now (out .entry))) s) (now (out .entry)) r (now (out .exit))) ⌝ }
-{
-    if count == 0 {
-        return close(p, out);
-    }
-    close_rest(p, out)
+    let end = line_end(&block[..n], at);
+    let left = n - at;
+    let whole = end < n;
+    let rest = rest_of(left, whole);
+    move_front(block, at, rest.count);
+    rest
 }

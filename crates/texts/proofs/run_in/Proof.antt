@@ -1,24 +1,42 @@
+use mathlib.Core.Path.{_∙_}
 use native.Mathlib.Omega.{arith}
 use borrow.Author.Needs.{needs}
-use Rattle.texts.proofs.RunLaws.{started-few, run-starts}
+use Rattle.texts.proofs.RunLaws.{run-answerable, run-ending, run-ends}
 use Rattle.texts.proofs.run_in.Statement.{statement}
 use Rattle.texts.proofs.run_in.Tie as tie
 
-answer-lines-requires : tie.Need-answer-lines-requires
-answer-lines-requires c κs =
+answer-whole-requires : tie.Need-answer-whole-requires
+answer-whole-requires c κs =
     let s = c .before .before .before .before .before .before .before .before .before .before .before .before .before .before .before .before .before .before .before .before .before .before .before .before in
     let a = s .args in
-    let g = c .before .before .before .before .before .before .before .before .before .before .before .before .begin .ensures .says (a .names .now) (a .listings .now) (a .table .now) (a .value .now) (a .out .now) (s .pre .0) in
-    (g .going, (started-few (a .text .now) g (omega (arith, s .good)), s .pre .1))
+    run-answerable (c .before .before .before .before .before .before .before .before .before .before .before .before .begin .ensures .says (a .names .now) (a .listings .now) (a .table .now) (a .value .now) (a .out .now) (s .pre .0)) (omega (arith, s .good)) (s .pre .1)
+
+end-behind-requires : tie.Need-end-behind-requires
+end-behind-requires c κs =
+    let s = c .before .before .before .before .before .before .before .before .before .before .before .before .before .before .before .before .before .before .before .before .before .before .before .before .before .before .before .before .before .before .before .before .before .before .before .before .before .before .before .before .before .before in
+    let a = s .args in
+    run-ending (c .before .before .before .before .before .before .before .before .before .before .before .before .before .before .before .before .before .before .before .before .before .before .before .before .before .before .before .before .before .before .begin .ensures .says (a .names .now) (a .listings .now) (a .table .now) (a .value .now) (a .out .now) (s .pre .0)) (omega (arith, s .good)) (c .before .before .before .before .before .before .before .before .before .before .before .before .before .before .before .before .before .answer-whole .ensures)
 
 returns : tie.Need-returns
 returns c =
-    let s = c .before .before .before .before .before .before .before .before .before .before .before .before .before .before .before .before .before .before .before .before .before .before .before .before .before .before .before .before .before .before .before .before .before .before .before .before .before .before .before .before .before in
+    let s = c .before .before .before .before .before .before .before .before .before .before .before .before .before .before .before .before .before .before .before .before .before .before .before .before .before .before .before .before .before .before .before .before .before .before .before .before .before .before .before .before .before .before .before .before .before in
     let a = s .args in
-    let g = c .before .before .before .before .before .before .before .before .before .before .before .before .before .before .before .before .before .before .before .before .before .before .before .before .before .before .before .before .before .begin .ensures .says (a .names .now) (a .listings .now) (a .table .now) (a .value .now) (a .out .now) (s .pre .0) in
-    run-starts (a .text .now) g (c .before .before .before .before .before .before .before .before .before .before .before .before .before .before .before .before .answer-lines .ensures)
+    let x = c .before .before .before .before .before .before .before .before .before .before .before .before .before .before .before .before .before .before .before .before .answer-whole in
+    run-ends (c .before .before .before .before .before .before .before .before .before .before .before .before .before .before .before .before .before .before .before .before .before .before .before .before .before .before .before .before .before .before .before .before .before .begin .ensures .says (a .names .now) (a .listings .now) (a .table .now) (a .value .now) (a .out .now) (s .pre .0)) (x .ensures) (x .kept .1 .1 .1 .1 .1 .1 .1 .1 .1 .1 .1 .0) (c .before .before .end-behind .ensures)
 
 pub run-in-spec : {M : Type 1} → statement M
 run-in-spec =
     tie.close
-    (tie.spec (λ c κs. search needs) answer-lines-requires (λ c. search needs) (λ c. search needs) (λ c. search needs) (λ c. search needs) (λ c. search needs) (λ c. search needs) (λ c. search needs) (λ c. search needs) returns)
+    (tie.spec
+    (λ c κs. (c .before .before .before .before .before .before .before .before .before .before .before .pre .0 .arities, c .before .before .before .before .before .before .before .before .before .before .before .pre .0 .state))
+    answer-whole-requires
+    end-behind-requires
+    (λ c. c .before .before .before .before .before .before .before .before .before .before .before .before .before .before .before .before .before .before .before .before .answer-whole .kept .1 .1 .1 .1 .0)
+    (λ c. c .before .before .before .before .before .before .before .before .before .before .before .before .before .before .before .before .before .before .before .before .answer-whole .kept .1 .1 .1 .1 .1 .0 ∙ c .before .before .before .before .before .before .before .before .before .before .before .before .before .before .before .before .before .before .before .before .before .before .before .before .before .before .before .before .before .before .before .before .before .begin .kept .0)
+    (λ c. c .before .before .before .before .before .before .before .before .before .before .before .before .before .before .before .before .before .before .before .before .answer-whole .kept .1 .1 .1 .1 .1 .1 .0)
+    (λ c. c .before .before .before .before .before .before .before .before .before .before .before .before .before .before .before .before .before .before .before .before .answer-whole .kept .1 .1 .1 .1 .1 .1 .1 .0)
+    (λ c. c .before .before .before .before .before .before .before .before .before .before .before .before .before .before .before .before .before .before .before .before .answer-whole .kept .1 .1 .1 .1 .1 .1 .1 .1 .0 ∙ c .before .before .before .before .before .before .before .before .before .before .before .before .before .before .before .before .before .before .before .before .before .before .before .before .before .before .before .before .before .before .before .before .before .begin .kept .1 .0)
+    (λ c. c .before .before .before .before .before .before .before .before .before .before .before .before .before .before .before .before .before .before .before .before .answer-whole .kept .1 .1 .1 .1 .1 .1 .1 .1 .1 .0)
+    (λ c. c .before .before .before .before .before .before .before .before .before .before .before .before .before .before .before .before .before .before .before .before .answer-whole .kept .1 .1 .1 .1 .1 .1 .1 .1 .1 .1 .0)
+    (λ c. c .before .before .end-behind .kept .1 .1 .0 ∙ c .before .before .before .before .before .before .before .before .before .before .before .before .before .before .before .before .before .before .before .before .answer-whole .kept .1 .1 .1 .1 .1 .1 .1 .1 .1 .1 .1 .0)
+    returns)
