@@ -250,6 +250,11 @@ pub fn follow(repository: &Repository, roots: &[Root]) -> Reached {
         if reached.things.insert(thing.clone()) {
             let statement = matches!(&thing, Thing::Spec(krate, file, name) if repository.roots.is_statement(krate, file, name));
             open.extend(reached.names_of(repository, &thing, statement));
+            if let Thing::Spec(krate, file, name) = &thing {
+                for (krate, file, name) in repository.roots.tellers(krate, file, name) {
+                    open.extend(reached.begin(repository, &Root::Theorem(krate.clone(), file.clone(), name.clone())));
+                }
+            }
         }
     }
     reached.check_fields(repository);

@@ -150,7 +150,7 @@ pub fn page(repository: &Repository, reached: &Reached) -> String {
     let _ = writeln!(text, "## By file\n");
     let _ = writeln!(
         text,
-        "Each definition with its lines; of those marked \\* the statement says all, and their lines are the statement's.\n"
+        "Each definition with its lines; of those marked \\* the statement says all, or the theorems that `roots.txt` names beside it do, and their lines are the statement's.\n"
     );
     let _ = writeln!(text, "| File | Definitions | Lines |\n|---|---|---|");
     for ((krate, file), names) in &files {

@@ -13,6 +13,8 @@ pub struct Roots {
     /// Each with what it says, in words.
     pub roots: Vec<(Root, String)>,
     statements: Vec<(String, String, String)>,
+    /// A definition, and a theorem that is read in place of its body.
+    told: Vec<((String, String, String), (String, String, String))>,
     pub to_move: Vec<(String, String, String)>,
     pub libraries: Vec<String>,
     pub prelude: Vec<String>,
@@ -42,6 +44,7 @@ impl Roots {
                 }
                 ["exports", krate] => found.roots.push((Root::Function(krate.to_string(), None), says.to_string())),
                 ["statement", rest @ ..] if rest.len() == 3 => found.statements.push(three(rest)),
+                ["told", a, b, c, "by", d, e, f] => found.told.push((three(&[a, b, c]), three(&[d, e, f]))),
                 ["to-move", rest @ ..] if rest.len() == 3 => found.to_move.push(three(rest)),
                 ["libraries", ..] => found.libraries.extend(many()),
                 ["prelude", ..] => found.prelude.extend(many()),
@@ -57,5 +60,12 @@ impl Roots {
     /// Whether only the statement of this declaration counts.
     pub fn is_statement(&self, krate: &str, file: &str, name: &str) -> bool {
         self.statements.iter().any(|found| (found.0.as_str(), found.1.as_str(), found.2.as_str()) == (krate, file, name))
+            || self.tellers(krate, file, name).next().is_some()
+    }
+
+    /// The theorems that are read in place of this definition's body.
+    pub fn tellers<'a>(&'a self, krate: &'a str, file: &'a str, name: &'a str) -> impl Iterator<Item = &'a (String, String, String)> {
+        let same = move |found: &(String, String, String)| (found.0.as_str(), found.1.as_str(), found.2.as_str()) == (krate, file, name);
+        self.told.iter().filter(move |(what, _)| same(what)).map(|(_, by)| by)
     }
 }

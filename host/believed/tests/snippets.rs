@@ -210,6 +210,21 @@ fn records_sections_and_statements() {
 }
 
 #[test]
+fn a_theorem_in_place_of_a_body() {
+    let mut found = repository();
+    found.add("a", "Top.antt", "use lib.Nat.{ℕ}\nuse Rattle.a.specs.Base.{size}\nabbrev top : ℕ\ntop = size\n").unwrap();
+    found.roots = Roots::read(&format!("{DATA}told a Base size by a Base law\n")).unwrap();
+    let from = [Root::Theorem("a".into(), "Top".into(), "top".into())];
+    let reached = follow(&found, &from);
+    assert_eq!(names(&reached), ["a.Base.Tree", "a.Base.extra", "a.Base.size", "a.Top.top", "lib.Nat._≤_", "lib.Nat.ℕ"]);
+    assert_eq!(faults(&found, &reached), Vec::<String>::new());
+    // Tree 3, extra 2, size 1, top 2
+    assert_eq!(total(&by_file(&found, &reached)), (4, 8));
+    found.roots = Roots::read(&format!("{DATA}told a Base size by a Base gone\n")).unwrap();
+    assert!(follow(&found, &from).faults.iter().any(|fault| fault.contains("there is no gone")));
+}
+
+#[test]
 fn types_of_code_and_contracts() {
     let (_, reached) = reach(
         "use Rattle.a.specs.declared.Answer.{Answer}\nuse Rattle.a.specs.declared.Answer.the-variants as A\nuse lib.Nat.{ℕ}\nabbrev top : Answer → ℕ\ntop (A.Done w n) = w .«high_part»\ntop A.Nothing = 0\n",
