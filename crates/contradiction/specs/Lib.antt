@@ -12,13 +12,15 @@
 --   asked, asksFor == what a literal asks with representatives for its terms; it asks for the label k
 --   affirms, isSaid, clashes, someLiteral, clashUnder == a true literal says it; it is plain truth or said so; a false literal says otherwise; some literal does
 --   contradicts, passes, leadsTo == the literals contradict themselves; a path has the leaf w or does; all paths do
-
+--
 -- Theorems
 --   one-joined, joined-one: terms have one representative exactly if the true equalities join them
 --   contradicts-sound: what the test finds contradicts itself by equality; contradicts-complete: and it finds what does
 --   leads-sound, leads-complete: so for the paths of a diagram
 --   not-followed: no state and no valuation gives each literal of such a path its truth
 --   leads-value: a diagram whose paths to leaves other than w contradict themselves has the value w in every state, under every valuation
+--
+-- Examples has document 02's example and its neighbours, by computation; AgreeLaws are for proofs of the code.
 
 pub mod Contradiction
 -- laws
@@ -26,3 +28,4 @@ pub mod JoinLaws
 pub mod ContradictionLaws
 pub mod StateLaws
 pub mod AgreeLaws
+pub mod Examples
