@@ -45,7 +45,7 @@ agree-one ar ls [] (u ∷ us) a = absurd a
 agree-one ar ls (t ∷ ts) [] a = absurd a
 agree-one ar ls (t ∷ ts) (u ∷ us) a = ap₂ _∷_ (joined-one (a .0)) (agree-one ar ls ts us (a .1))
 
-one-agree : (ar : List ℕ) (ls : List Literal) (ts us : List ℕ) → map (representative ar ls) ts ≡ map (representative ar ls) us → Agree ar ls ts us
+pub one-agree : (ar : List ℕ) (ls : List Literal) (ts us : List ℕ) → map (representative ar ls) ts ≡ map (representative ar ls) us → Agree ar ls ts us
 one-agree ar ls [] [] e = tt
 one-agree ar ls [] (u ∷ us) e = let z : _≡_ {A = ℕ} 0 1 = cc in omega arith
 one-agree ar ls (t ∷ ts) [] e = let z : _≡_ {A = ℕ} 0 1 = cc in omega arith

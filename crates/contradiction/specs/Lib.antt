@@ -19,7 +19,10 @@
 --   leads-sound, leads-complete: so for the paths of a diagram
 --   not-followed: no state and no valuation gives each literal of such a path its truth
 --   leads-value: a diagram whose paths to leaves other than w contradict themselves has the value w in every state, under every valuation
+--   satisfied: a path over constants and parameters that does not contradict itself is followed in some state, for some tuple
+--   leads-exact: so a diagram over them that has the value w in every state, for every tuple, passes: the rule asks no more
 --
+-- For proofs: tells, described, objects == the state that literals describe, and its objects for the parameters; PathTerms
 -- Examples has document 02's example and its neighbours, by computation; AgreeLaws are for proofs of the code.
 
 pub mod Contradiction
@@ -27,5 +30,6 @@ pub mod Contradiction
 pub mod JoinLaws
 pub mod ContradictionLaws
 pub mod StateLaws
+pub mod ExactLaws
 pub mod AgreeLaws
 pub mod Examples

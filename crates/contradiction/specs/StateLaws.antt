@@ -17,7 +17,7 @@ use Rattle.contradiction.specs.ContradictionLaws.{leads-sound}
 
 module _ (ar : List ℕ) (s : State) (θ : ℕ → ℕ) where
   -- a literal's truth, by its predicate and the objects of its terms
-  says-terms : (l : Literal) → says ar s θ (l .label) ≡ truth s (predicateOf (l .label)) (map θ (placesOf ar l))
+  pub says-terms : (l : Literal) → says ar s θ (l .label) ≡ truth s (predicateOf (l .label)) (map θ (placesOf ar l))
   unfolding holds atomOf
   says-terms l = refl
 
