@@ -12,10 +12,10 @@ pub const PATHS: usize = 256;
 pub type Edge = (usize, bool);
 
 #[derive(Clone, Debug, PartialEq, Eq)]
-struct Path {
-    edges: Vec<Edge>,
-    literals: Vec<(Label, bool)>,
-    leaf: u64,
+pub struct Path {
+    pub edges: Vec<Edge>,
+    pub literals: Vec<(Label, bool)>,
+    pub leaf: u64,
 }
 
 #[derive(Clone, Debug, PartialEq, Eq)]
@@ -24,8 +24,8 @@ pub struct Cut {
     pub diagram: Diagram,
 }
 
-/// All paths, those to leaf 0 included; or 17.
-fn paths(diagram: &Diagram) -> Result<Vec<Path>, Refusal> {
+/// All paths, those to leaf 0 included, true side first; or 17.
+pub fn paths(diagram: &Diagram) -> Result<Vec<Path>, Refusal> {
     let mut found = Vec::new();
     let mut open = vec![(diagram.root(), Path { edges: Vec::new(), literals: Vec::new(), leaf: 0 })];
     while let Some((at, path)) = open.pop() {

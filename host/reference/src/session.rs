@@ -1,6 +1,5 @@
 //! A text from its first line to its last: the checks of each line in document 01's order, and the answers as bytes.
 
-use crate::combine::{combine, Names, Operator};
 use crate::cut::cut;
 use crate::declarations::{Declarations, DeclaredAction, DeclaredVariant, Lookup, Variables, DEFAULT_DISCOUNT, DEFAULT_TOTAL};
 use crate::diagram::{Diagram, Row};
@@ -10,6 +9,7 @@ use crate::slips::Slips;
 use crate::state::{value, State};
 use crate::terms::{Arities, CONSTANTS, LARGEST_ARITY, PARAMETERS, PREDICATES, VARIABLES};
 use crate::text::{lines, read_line, Line, WrittenDiagram};
+use crate::weights;
 use std::collections::BTreeSet;
 
 pub const TOTAL: u64 = 1_000_000;
@@ -221,11 +221,8 @@ impl Session {
         require(declared.actions.iter().all(|action| !action.variants.is_empty()), Refusal::Place)?;
         let total = declared.total.unwrap_or(DEFAULT_TOTAL);
         for action in &declared.actions {
-            let mut sum = Diagram::leaf(0);
-            for variant in &action.variants {
-                sum = combine(Operator::Sum, Names::Shared, &sum, &variant.weight)?.diagram;
-            }
-            require(sum == Diagram::leaf(total), Refusal::Weights)?;
+            let sum = weights::sum(action.variants.iter().map(|variant| &variant.weight))?;
+            weights::check(&sum, total, &declared.arities())?;
         }
         let model = Model {
             total,

@@ -3,10 +3,10 @@
 
 use super::{backup, counted, grouped, measure, unless_fault, Checked, Fault};
 use crate::combine::{combine, Names, Operator};
-use crate::cut::{cut, PATHS};
-use crate::declarations::{Declarations, DeclaredAction, Lookup, Variables};
+use crate::cut::{cut, Path, PATHS};
+use crate::declarations::{Declarations, DeclaredAction, Lookup, Variables, DEFAULT_TOTAL};
 use crate::diagram::{Diagram, Row, Space};
-use crate::names::{first_paths, Names as TermNames};
+use crate::names::Names as TermNames;
 use crate::refusal::Refusal;
 use crate::regress::row_step;
 use crate::session::{Run, Session, ACTIONS, FACTS, MODEL_ROWS, VARIANTS};
@@ -15,6 +15,8 @@ use crate::state::{value, VALUATIONS};
 use crate::terms::{Test, CONSTANTS, PARAMETERS, PREDICATES, VARIABLES};
 use crate::text::{Kind, Line, Span, Word, WrittenDiagram};
 use crate::tree::Tree;
+use crate::weights::wrong_paths;
+use std::collections::BTreeSet;
 
 /// What a line's operation refuses, its words being right.
 pub fn check(session: &Session, words: &[Word], line: &Line) -> Checked {
@@ -172,12 +174,21 @@ fn weights(declared: &Declarations, action: &DeclaredAction, span: Span) -> Chec
             )
         })?;
     }
-    let total = declared.total.unwrap_or(100);
-    unless_fault(sum == Diagram::leaf(total), || {
+    let total = declared.total.unwrap_or(DEFAULT_TOTAL);
+    let wrong = wrong_paths(&sum, total, &declared.arities()).map_err(|refusal| {
+        let paths = grouped(measure::count_paths(&sum));
+        Fault::new(
+            refusal,
+            span,
+            format!("the weights of action \"{}\", added up, have {paths} paths; at most {PATHS}", action.name),
+            "use simpler weights: cases that all variants share, adding up to the total in each, make no path of their own",
+        )
+    })?;
+    unless_fault(wrong.is_empty(), || {
         let what = format!(
             "the weights of action \"{}\" do not add up to {total} in every case: {}",
             action.name,
-            wrong_cases(declared, action, &sum, total)
+            wrong_cases(declared, action, wrong)
         );
         let default = if declared.total.is_none() { " (100, since there is no (total W))" } else { "" };
         Fault::new(
@@ -189,22 +200,18 @@ fn weights(declared: &Declarations, action: &DeclaredAction, span: Span) -> Chec
     })
 }
 
-/// The first few cases with a wrong sum.
-fn wrong_cases(declared: &Declarations, action: &DeclaredAction, sum: &Diagram, total: u64) -> String {
+/// The first few cases with a wrong sum, one for each sum.
+fn wrong_cases(declared: &Declarations, action: &DeclaredAction, mut wrong: Vec<Path>) -> String {
     const TOLD: usize = 3;
     let names = TermNames { declarations: declared, parameters: &action.parameters };
-    let paths = first_paths(sum);
-    let wrong = paths.iter().filter_map(|(row, path)| match sum.rows()[*row] {
-        Row::Leaf(leaf) if leaf != total => Some((leaf, path)),
-        _ => None,
-    });
-    let told = |(leaf, path): (u64, &Vec<_>)| match path.is_empty() {
-        true => format!("the sum is {}", grouped(leaf.into())),
-        false => format!("where {} the sum is {}", names.path(path), grouped(leaf.into())),
+    let mut sums = BTreeSet::new();
+    wrong.retain(|path| sums.insert(path.leaf));
+    let told = |path: &Path| match path.literals.is_empty() {
+        true => format!("the sum is {}", grouped(path.leaf.into())),
+        false => format!("where {} the sum is {}", names.path(&path.literals), grouped(path.leaf.into())),
     };
-    let count = wrong.clone().count();
-    let more = if count > TOLD { format!("; and {} more", count - TOLD) } else { String::new() };
-    wrong.take(TOLD).map(told).collect::<Vec<String>>().join("; ") + &more
+    let more = if wrong.len() > TOLD { format!("; and {} more", wrong.len() - TOLD) } else { String::new() };
+    wrong.iter().take(TOLD).map(told).collect::<Vec<String>>().join("; ") + &more
 }
 
 /// What a run form's operation refuses.
