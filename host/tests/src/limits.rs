@@ -4,7 +4,7 @@ use crate::random::Random;
 
 /// The lines of a text about one limit.
 pub fn lines(random: &mut Random) -> Vec<String> {
-    match random.below(10) {
+    match random.below(11) {
         0 => declarations(random),
         1 => variables(random),
         2 => brackets(random),
@@ -14,6 +14,7 @@ pub fn lines(random: &mut Random) -> Vec<String> {
         6 => largest_value(random),
         7 => valuations(random),
         8 => pairs(random),
+        9 => paths_of_weights(random),
         _ => variants_apart(random),
     }
 }
@@ -141,5 +142,17 @@ fn pairs(random: &mut Random) -> Vec<String> {
     lines.push(format!("(variant above {})", tree(0, &above)));
     lines.push(format!("(variant below {})", tree(5, &below)));
     lines.push("(start)".to_string());
+    lines
+}
+
+/// Weights of about 256 paths, wrong where no state goes or where one does: 253 ends of a tree and three ways past it.
+fn paths_of_weights(random: &mut Random) -> Vec<String> {
+    let ends: Vec<u64> = (0..about(random, 253)).map(|i| if i % 2 == 0 { i } else { 500 }).collect();
+    let last = *random.pick(&["c2", "c2", "c3"]);
+    let mut lines: Vec<String> = numbered(4, |i| format!("(constant c{i})")).collect();
+    lines.extend(numbered(8, |i| format!("(predicate p{i} 0)")));
+    lines.extend(["(total 500)", "(reward 1)", "(action go)"].map(str::to_string));
+    lines.push(format!("(variant only (if (= c0 c1) (if (= c1 c2) (if (= c0 {last}) 500 {}) 500) 500))", tree(0, &ends)));
+    lines.extend(["(start)", "(backup)"].map(str::to_string));
     lines
 }

@@ -7,8 +7,8 @@
 //!     tests stored FOLDER [PATH]
 //!     tests text SEED
 //!
-//! `self` holds the reference against brute force, compares ground listings by their values, sees that blank lines change nothing but line numbers, counts
-//! the refusals met, and sees that each of document 01's slips is caught.
+//! `self` holds the reference against brute force, the weight rule over all states that matter, compares ground listings by their values, sees that blank
+//! lines change nothing but line numbers, counts the refusals met, and sees that each of document 01's slips is caught.
 //! `program` feeds random texts to a program and to the reference. `bellman` holds the values that a program prints against brute force,
 //! without the reference's diagrams. `library` (feature `library`) makes random calls of the static
 //! library and of the reference, whole texts too, and sees that each call gave each of its answers.
@@ -18,6 +18,7 @@
 
 mod bellman;
 mod blanks;
+mod follows;
 mod ground;
 #[cfg(feature = "library")]
 mod library;
@@ -34,6 +35,7 @@ mod random;
 mod shapes;
 mod tally;
 mod texts;
+mod weights;
 
 use random::Random;
 use reference::session::{answers, Answer};
@@ -110,7 +112,7 @@ fn values_and_meanings(seed: u64, slips: Slips, tally: &mut Tally) -> Result<(),
 
 fn self_tests(bound: &Bound) -> Result<(), String> {
     let mut tally = Tally::default();
-    let mut done = 0;
+    let (mut done, mut by_equality) = (0, 0);
     for seed in bound.seeds(SEEDS) {
         values_and_meanings(seed, Slips::NONE, &mut tally)?;
         meaning::check_combination(seed, &mut tally).map_err(|message| format!("seed {seed}, combination: {message}"))?;
@@ -118,6 +120,7 @@ fn self_tests(bound: &Bound) -> Result<(), String> {
         order::check(seed).map_err(|message| format!("seed {seed}, order of labels: {message}"))?;
         ground::check(seed).map_err(|message| format!("seed {seed}, ground listings: {message}"))?;
         blanks::check(seed).map_err(|message| format!("seed {seed}, blank lines: {message}"))?;
+        by_equality += weights::check(seed, &mut tally).map_err(|message| format!("seed {seed}, weights: {message}"))?;
         for answer in answers(&texts::text(seed), Slips::NONE) {
             if let Answer::Refused { refusal, .. } = answer {
                 tally.meet(refusal);
@@ -125,7 +128,7 @@ fn self_tests(bound: &Bound) -> Result<(), String> {
         }
         done += 1;
     }
-    println!("{} pass", bound.told(done, SEEDS));
+    println!("{} pass; weights with impossible paths were accepted {by_equality} times", bound.told(done, SEEDS));
     slips_are_caught()?;
     tally.print();
     match tally.missing() {

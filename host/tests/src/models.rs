@@ -1,8 +1,10 @@
 //! Random models and states, and their texts.
 
+use crate::follows::{self, Literal};
 use crate::random::Random;
 use reference::bellman::{PlainAction, PlainModel, PlainVariant};
 use reference::declarations::DEFAULT_DISCOUNT;
+use reference::diagram::LARGEST;
 use reference::state::State;
 use reference::terms::{is_constant, is_parameter, Arities, Term, EQUALITY, FIRST_PARAMETER, FIRST_VARIABLE, PREDICATES};
 use reference::tree::Tree;
@@ -16,6 +18,10 @@ pub struct Size {
     pub arity: u64,
     pub variables: u64,
     pub depth: u64,
+    /// Conditions inside one another in a weight.
+    pub weight_depth: u64,
+    /// One case of weights in so many is wrong; none where this is 0.
+    pub wrong: u64,
     pub actions: u64,
     pub parameters: u64,
     pub variants: u64,
@@ -33,6 +39,8 @@ impl Size {
         arity: 2,
         variables: 2,
         depth: 3,
+        weight_depth: 3,
+        wrong: 0,
         actions: 2,
         parameters: 2,
         variants: 2,
@@ -49,6 +57,8 @@ impl Size {
         arity: 4,
         variables: 5,
         depth: 5,
+        weight_depth: 3,
+        wrong: 0,
         actions: 3,
         parameters: 4,
         variants: 4,
@@ -69,6 +79,9 @@ impl Size {
         divisor: 1_000_000,
         ..Size::SMALL
     };
+
+    /// Weights with many equalities, some of them wrong.
+    pub const EQUALITIES: Size = Size { constants: 3, predicates: 2, depth: 1, weight_depth: 5, wrong: 20, parameters: 4, ..Size::SMALL };
 }
 
 /// The predicates, numbered from 1, and the number of constants.
@@ -99,6 +112,14 @@ impl Signature {
         Some((predicate, (0..arity).map(|_| *random.pick(terms)).collect()))
     }
 
+    /// An atom for a weight: an equality half the time.
+    fn weight_atom(&self, random: &mut Random, terms: &[Term]) -> Option<(u64, Vec<Term>)> {
+        if terms.len() > 1 && random.once_in(2) {
+            return Some((EQUALITY, vec![*random.pick(terms), *random.pick(terms)]));
+        }
+        self.atom(random, terms)
+    }
+
     pub fn tree(&self, random: &mut Random, terms: &[Term], depth: u64, leaves: &[u64]) -> Tree {
         if depth > 0 && !random.once_in(5) {
             if let Some((predicate, terms_of_atom)) = self.atom(random, terms) {
@@ -122,24 +143,35 @@ pub fn terms(signature: &Signature, parameters: u64, variables: u64) -> Vec<Term
     signature.constants().into_iter().chain(parameters).chain(variables).collect()
 }
 
-/// Weights, one for each variant, that add up to the total under every choice.
-fn weights(random: &mut Random, signature: &Signature, terms: &[Term], depth: u64, count: u64, total: u64) -> Vec<Tree> {
-    if depth > 0 && random.once_in(2) {
-        if let Some((predicate, terms_of_atom)) = signature.atom(random, terms) {
-            let yes = weights(random, signature, terms, depth - 1, count, total);
-            let no = weights(random, signature, terms, depth - 1, count, total);
+/// Weights, one for each variant, below a path of literals: they add up to the total where a state follows that path, but for wrong cases.
+pub fn weights(random: &mut Random, signature: &Signature, terms: &[Term], size: Size, parts: (u64, u64), path: &[Literal]) -> Vec<Tree> {
+    let depth = size.weight_depth;
+    if !random.once_in(depth + 1) {
+        if let Some((predicate, terms_of_atom)) = signature.weight_atom(random, terms) {
+            let size = Size { weight_depth: depth - 1, ..size };
+            let mut side = |truth: bool| {
+                let literal = Literal { predicate, terms: terms_of_atom.clone(), truth };
+                weights(random, signature, terms, size, parts, &[path, &[literal]].concat())
+            };
+            let (yes, no) = (side(true), side(false));
             let join = |(yes, no)| Tree::If { predicate, terms: terms_of_atom.clone(), yes: Box::new(yes), no: Box::new(no) };
             return yes.into_iter().zip(no).map(join).collect();
         }
     }
-    let mut left = total;
-    let mut parts = Vec::new();
+    let (count, total) = parts;
+    let wrong = size.wrong > 0 && random.once_in(size.wrong);
+    let mut left = match wrong || !follows::possible(path) {
+        false => total,
+        true if random.once_in(20) => LARGEST,
+        true => *random.pick(&[0, total, total + 1, 3 * total]),
+    };
+    let mut numbers = Vec::new();
     for i in 0..count {
-        let part = if i + 1 == count { left } else { random.between(0, left) };
-        left -= part;
-        parts.push(Tree::Number(part));
+        let number = if i + 1 == count { left } else { random.between(0, left) };
+        left -= number;
+        numbers.push(Tree::Number(number));
     }
-    parts
+    numbers
 }
 
 pub fn model(random: &mut Random, size: Size) -> (Signature, PlainModel) {
@@ -161,7 +193,7 @@ pub fn model(random: &mut Random, size: Size) -> (Signature, PlainModel) {
 fn action(random: &mut Random, signature: &Signature, size: Size, total: u64) -> PlainAction {
     let parameters = random.between(0, size.parameters);
     let count = random.between(1, size.variants);
-    let weights = weights(random, signature, &terms(signature, parameters, 0), 2, count, total);
+    let weights = weights(random, signature, &terms(signature, parameters, 0), size, (count, total), &[]);
     let variants = weights.into_iter().map(|weight| variant(random, signature, size, parameters, weight)).collect();
     PlainAction { parameters, variants }
 }

@@ -4,17 +4,17 @@ use crate::limits;
 use crate::models::{model, state, write_model, write_state, Size};
 use crate::random::Random;
 
-/// The text of a seed: a whole one, a small one damaged, one about a limit, or once in a while plain bytes or next to nothing. Some are spaced out by
+/// The text of a seed: a whole one, one about weights, a small one damaged, one about a limit, or once in a while plain bytes or next to nothing. Some are spaced out by
 /// blank lines.
 pub fn text(seed: u64) -> Vec<u8> {
     let random = &mut Random::new(seed);
     if seed % 16 == 15 {
         return if random.once_in(8) { next_to_nothing(random) } else { bytes(random) };
     }
-    let kind = random.below(7);
-    let size = *[Size::LARGE, Size::WIDE].get(kind as usize).unwrap_or(&Size::SMALL);
-    let damaged = (3..6).contains(&kind);
-    let mut lines = if kind == 6 { limits::lines(random) } else { whole(random, size) }.into_iter().map(String::into_bytes).collect();
+    let kind = random.below(8);
+    let size = *[Size::LARGE, Size::WIDE, Size::EQUALITIES].get(kind as usize).unwrap_or(&Size::SMALL);
+    let damaged = (4..7).contains(&kind);
+    let mut lines = if kind == 7 { limits::lines(random) } else { whole(random, size) }.into_iter().map(String::into_bytes).collect();
     if damaged {
         for _ in 0..random.between(1, 6) {
             damage(random, &mut lines);
