@@ -84,11 +84,11 @@ enum {
     YINDOLVE_PAIRS = 10,      /* more than 4,096 pairs */
     YINDOLVE_TOO_HIGH = 11,   /* a leaf above YINDOLVE_VALUE; its trade word is "value" */
     YINDOLVE_SCALE = 12,      /* a power of the scale above 10^18, or 10^18 backups */
-    YINDOLVE_WEIGHTS = 13,    /* an action's weights, summed, are not the total in every case */
+    YINDOLVE_WEIGHTS = 13,    /* an action's weights, summed, are not the total in a case that equality does not rule out */
     YINDOLVE_LISTING = 14,    /* words that are no listing, or a wrong arity list */
     YINDOLVE_VALUATIONS = 15, /* more than 1,000,000 valuations */
     YINDOLVE_NOTHING = 16,    /* no edge to cut */
-    YINDOLVE_PATHS = 17,      /* more than 256 paths */
+    YINDOLVE_PATHS = 17,      /* more than 256 paths: of a diagram to cut, or at (start) of an action's summed weights */
     YINDOLVE_BUFFER = 18      /* a result buffer or a working space that is too small */
 };
 
@@ -134,11 +134,11 @@ static inline const char *yindolve_refusal_meaning(uint64_t refusal) {
     case YINDOLVE_PAIRS: return "more than 4,096 pairs of rows in one combination";
     case YINDOLVE_TOO_HIGH: return "a number above 10^18 was worked out";
     case YINDOLVE_SCALE: return "the scale, the power of total times discount divisor, would pass 10^18";
-    case YINDOLVE_WEIGHTS: return "an action's weights, summed, are not the total in every case";
+    case YINDOLVE_WEIGHTS: return "an action's weights, summed, are not the total in a case that equality does not rule out";
     case YINDOLVE_LISTING: return "the words are no listing, or the arity list is wrong";
     case YINDOLVE_VALUATIONS: return "more than 1,000,000 ways to choose objects for the variables";
     case YINDOLVE_NOTHING: return "no edge is left to cut";
-    case YINDOLVE_PATHS: return "more than 256 paths, too many to cut";
+    case YINDOLVE_PATHS: return "more than 256 paths, in the diagram to cut or in an action's summed weights";
     case YINDOLVE_BUFFER: return "a result buffer or a working space that is too small";
     default: return "a refusal that this version does not have";
     }

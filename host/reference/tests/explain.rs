@@ -80,6 +80,28 @@ fn weights_that_do_not_add_up() {
     assert_eq!(what, "the weights of action \"lift\" do not add up to 4 in every case: where heavy(!p) the sum is 3");
 }
 
+/// The wrong case that is told is one that a state goes to: the path through a = b, a = c and b differs from c has the same sum and is passed over.
+#[test]
+fn weights_where_no_state_goes() {
+    let constants = "(constant a)\n(constant b)\n(constant c)\n(total 4)\n(reward 1)\n(action lift)\n";
+    let impossible = "(if (= a c) (if (= b c) 4 3) 4)";
+    assert!(faults(format!("{constants}(variant done (if (= a b) {impossible} 4))\n(start)\n").as_bytes()).is_empty());
+    let weight = format!("(if (= a b) {impossible} (if (= a c) 4 (if (= b c) 3 4)))");
+    let (line, _, what, _) = only_fault(&format!("{constants}(variant done {weight})\n(start)\n"));
+    assert_eq!(line, 8);
+    assert_eq!(what, "the weights of action \"lift\" do not add up to 4 in every case: where a is not b, a is not c, b = c the sum is 3");
+}
+
+#[test]
+fn weights_of_many_paths() {
+    let predicates: String = (0..9).map(|i| format!("(predicate p{i} 0)\n")).collect();
+    let variants: String = (0..7).map(|i| format!("(variant v{i} (if (p{i}) 1 0))\n")).collect();
+    let text = format!("{predicates}(reward 1)\n(action lift)\n{variants}(variant v7 (if (p7) (if (p8) 1 2) 0))\n(start)\n");
+    let (line, column, what, _) = only_fault(&text);
+    assert_eq!((line, column), (20, 1));
+    assert_eq!(what, "the weights of action \"lift\", added up, have 384 paths; at most 256");
+}
+
 #[test]
 fn a_misspelt_name() {
     let (line, column, what, advice) = only_fault("(predicate shelf 1)\n(reward (if (shelv ?p) 1 0))\n");

@@ -9,7 +9,7 @@ use std::fmt;
 /// use yindolve::Refusal;
 /// let refusal = Refusal::from_number(13).unwrap();
 /// assert_eq!((refusal.number(), refusal.word()), (13, "weights"));
-/// assert_eq!(refusal.to_string(), "refused, 13 (weights): an action's weights, summed, are not the total in every case");
+/// assert_eq!(refusal.to_string(), "refused, 13 (weights): an action's weights, summed, are not the total in a case that equality does not rule out");
 /// ```
 #[non_exhaustive]
 #[derive(Clone, Copy, Debug, PartialEq, Eq, PartialOrd, Ord, Hash)]
@@ -38,7 +38,7 @@ pub enum Refusal {
     Value = 11,
     /// A power of the scale above 10^18, or 10^18 steps.
     Scale = 12,
-    /// Weights of an action that do not add up to the total.
+    /// Weights of an action that do not add up to the total, on a path that does not contradict itself by equality.
     Weights = 13,
     /// Words that are no listing, or a wrong arity list.
     Listing = 14,
@@ -46,7 +46,7 @@ pub enum Refusal {
     Valuations = 15,
     /// No edge to cut.
     Nothing = 16,
-    /// More than 256 paths.
+    /// More than 256 paths: of a diagram to cut, or at `(start)` of an action's summed weights.
     Paths = 17,
     /// A result buffer or a working space that is too small.
     Buffer = 18,
@@ -124,11 +124,11 @@ impl Refusal {
             Refusal::Pairs => "more than 4,096 pairs of rows in one combination",
             Refusal::Value => "a number above 10^18 was worked out",
             Refusal::Scale => "the scale, the power of total times discount divisor, would pass 10^18",
-            Refusal::Weights => "an action's weights, summed, are not the total in every case",
+            Refusal::Weights => "an action's weights, summed, are not the total in a case that equality does not rule out",
             Refusal::Listing => "the words are no listing, or the arity list is wrong",
             Refusal::Valuations => "more than 1,000,000 ways to choose objects for the variables",
             Refusal::Nothing => "no edge is left to cut",
-            Refusal::Paths => "more than 256 paths, too many to cut",
+            Refusal::Paths => "more than 256 paths, in the diagram to cut or in an action's summed weights",
             Refusal::Buffer => "a result buffer or a working space that is too small",
         }
     }

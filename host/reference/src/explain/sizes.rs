@@ -181,7 +181,7 @@ fn weights(declared: &Declarations, action: &DeclaredAction, span: Span) -> Chec
             refusal,
             span,
             format!("the weights of action \"{}\", added up, have {paths} paths; at most {PATHS}", action.name),
-            "use simpler weights: cases that all variants share, adding up to the total in each, make no path of their own",
+            "mend its weights so that they add up to the total, which leaves one path, or test fewer atoms in them",
         )
     })?;
     unless_fault(wrong.is_empty(), || {
