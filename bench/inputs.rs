@@ -111,6 +111,34 @@ pub fn operands(r: &mut Random, pairs: usize) -> (Vec<u64>, Vec<u64>) {
     (one(true), one(false))
 }
 
+/// A random operand whose edges lead to leaf 0 with the given chance in 10.
+pub fn with_zeros(r: &mut Random, chance: u64) -> Vec<u64> {
+    let labels = labels(r, 8, 0);
+    let mut rows: Vec<[u64; 3]> = [0, 1, 2, 3].map(|v| [LEAF, v, 0]).to_vec();
+    let mut seen = HashSet::new();
+    for (k, &l) in labels.iter().enumerate().rev() {
+        let below = rows.len() as u64;
+        for _ in 0..if k == 0 { 1 } else { 3 } {
+            let mut child = || if r.below(10) < chance { 0 } else { below - 1 - r.below(below.min(6)) };
+            let row = [l, child(), child()];
+            if row[1] != row[2] && seen.insert(row) {
+                rows.push(row);
+            }
+        }
+    }
+    in_order(&rows.concat())
+}
+
+/// A chain of tests from the label numbered `first` on, over the leaves `base` and `base` + 1 in turn.
+pub fn chain(first: u64, tests: u64, base: u64) -> Vec<u64> {
+    let mut words = vec![LEAF, base, 0, LEAF, base + 1, 0];
+    for n in (0..tests).rev() {
+        let below = if n + 1 == tests { tests % 2 } else { words.len() as u64 / 3 - 1 };
+        words.extend([1 << 24 | (32 + (first + n) / 32) << 18 | (32 + (first + n) % 32) << 12, n % 2, below]);
+    }
+    words
+}
+
 /// A diagram that tells the parity of p(x1), .., p(x6): every valuation is needed where no fact is true.
 pub fn parity() -> Vec<u64> {
     let mut out = vec![LEAF, 0, 0, LEAF, 1, 0];
