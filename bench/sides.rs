@@ -2,10 +2,8 @@
 //! `sides count TEXT..` makes each call once, between marks for callgrind. `sides time COUNTS TEXT..` takes times and prints the table, with what callgrind counted:
 //! lines of a line's number, a side, instructions and pairs. Answers and result buffers are compared first: the two may differ in pairs alone.
 
+mod engine;
 mod inputs;
-mod engine {
-    pub const LEAF: u64 = 4294967295;
-}
 
 use inputs::{Random, ARITIES};
 use std::ffi::{c_char, CString};

@@ -2,7 +2,7 @@
 
 use reference::calls::{combine, cut, free, regress, value, Lent, RESULT_WORDS, SPACE_WORDS};
 use reference::combine::{Names, Operator};
-use reference::diagram::{Diagram, LARGEST};
+use reference::diagram::{Diagram, Row, Space, LARGEST};
 use reference::listing::{write_listing, LEAF_MARK};
 use reference::refusal::Refusal;
 use reference::terms::{Label, Test, EQUALITY};
@@ -62,15 +62,45 @@ fn listings() {
     assert!(case(&[leaf(1), leaf(0), row(q(2), 0, 1), row(q(1), 2, 1)]));
 }
 
+/// The labels that tests are numbered by.
+fn label(n: u64) -> Label {
+    Label::pack(1, &[32 + n / 32, 32 + n % 32])
+}
+
 /// A chain of tests from the label numbered `first` on: leaves `base`, `base` + 1, .. in turn under their true edges, the next one under the last false edge.
 fn chain(first: u64, tests: u64, leaves: u64, base: u64) -> Vec<u64> {
-    let label = |n: u64| Label::pack(1, &[32 + n / 32, 32 + n % 32]).0;
     let mut words: Vec<u64> = (0..leaves).flat_map(|v| [LEAF_MARK, base + v, 0]).collect();
     for n in (0..tests).rev() {
         let below = if n + 1 == tests { tests % leaves } else { words.len() as u64 / 3 - 1 };
-        words.extend([label(first + n), n % leaves, below]);
+        words.extend([label(first + n).0, n % leaves, below]);
     }
     words
+}
+
+/// Tests from the label numbered `first` on, the given rows under their true edges and under the last false edge.
+fn chain_over(space: &mut Space, first: u64, ends: &[usize]) -> usize {
+    let (last, others) = ends.split_last().unwrap();
+    let tests = others.iter().enumerate().rev();
+    tests.fold(*last, |no, (n, &yes)| space.form(Row::Branch { label: label(first + n as u64), yes, no }).unwrap())
+}
+
+#[test]
+fn a_product_that_met_10_succeeds() {
+    let mut space = Space::new();
+    let leaves: Vec<usize> = (0..=103).map(|v| space.form(Row::Leaf(v)).unwrap()).collect();
+    let either = |space: &mut Space, yes, no| space.form(Row::Branch { label: label(200), yes, no }).unwrap();
+    // 44 ends each, below 43 tests: where the test 200 is true those of x are 0, where it is false those of y. The last of y has 150 tests below it.
+    let x: Vec<usize> = (1..=44).map(|v| either(&mut space, 0, leaves[v])).collect();
+    let x = chain_over(&mut space, 0, &x);
+    let deep: Vec<usize> = (0..151).map(|n| leaves[102 + n % 2]).collect();
+    let deep = chain_over(&mut space, 300, &deep);
+    let y: Vec<usize> = leaves[50..93].iter().chain([&deep]).map(|&end| either(&mut space, end, 0)).collect();
+    let y = chain_over(&mut space, 100, &y);
+    let [x, y] = [x, y].map(|root| write_listing(&space.diagram(root)));
+    // 43 + 44 · 43 + 44 · 44 pairs above and at the test 200, 44 of the 0 and an end of y, 44 of an end of x and the 0. Down to the leaves 151 more, 4,110.
+    let product = combine(Operator::Product, Names::Shared, &x, &y, &arities(), Lent::ENOUGH);
+    assert_eq!(product, Ok((leaf(0), 3_959)));
+    assert_eq!(sum(&x, &y), Err(Refusal::Pairs));
 }
 
 #[test]
