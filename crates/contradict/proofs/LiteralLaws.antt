@@ -1,18 +1,18 @@
 -- Laws of the tests of literals.
 use mathlib.Core.Path.{_≡_, refl, sym, ap, _∙_}
 use mathlib.Core.Bool.{Bool, true, false, not, _&&_, _||_}
-use mathlib.Core.List.{List, [], _∷_}
+use mathlib.Core.List.{List}
 use Prim.Native.Nat.{ℕ, suc, _+_, _/_, _%_, _≤_, _<_}
 use native.Mathlib.Omega.{arith}
 use native.Mathlib.Numerals.{add-one}
 use lib.ListN.{length, getD, drop}
 use lib.Dec.{eqb}
-use borrow.Author.Tests.{eqb-true, eq-eqb, ne-eqb}
+use borrow.Author.Tests.{eqb-true, ne-eqb}
 use Rattle.basics.specs.Tests.{and-left}
 use Rattle.label.specs.Limits.{termBase, predicateCount}
 use Rattle.label.specs.Labels.{areArities, isLabel}
 use Rattle.label.specs.Renamings.{mapOf, moved}
-use Rattle.label.specs.Callers.{TermMap, Movable}
+use Rattle.label.specs.Callers.{Movable}
 use Rattle.label.specs.declared.Label.{Label}
 use Rattle.label.specs.declared.Test.{Test}
 use Rattle.label.specs.declared.Test.the-variants.{Always, Is}

@@ -4,12 +4,13 @@ use mathlib.Core.Bool.{Bool, true, false, not, _||_, cond}
 use mathlib.Core.List.{List, [], _∷_, map, List·Memᴰ, List·Memᴰ·head, List·Memᴰ·tail}
 use Prim.Native.Nat.{ℕ, zero, suc, pred, _+_, _-_, _*_, _/_, _%_, _≤_, _<_, min}
 use native.Mathlib.Omega.{arith}
-use lib.ListN.{length, getD, take, drop, replicate, length-replicate, length-map}
-use lib.Dec.{eqb, ltb}
+use lib.ListN.{length, getD, take, drop, replicate, length-replicate}
+use lib.Dec.{eqb}
 use borrow.Author.Tests.{eq-eqb, ne-eqb, lt-ltb, le-ltb}
 use Rattle.basics.specs.Tests.{Flag, isTrue, isFalse, flag, or-one, Cmp, cmp, below, equal, above}
 use Rattle.basics.specs.Members.{clash, mem}
-use Rattle.label.specs.Labels.{areArities, isLabel}
+use Rattle.label.specs.Limits.{termBase}
+use Rattle.label.specs.Labels.{isLabel}
 use Rattle.diagram.specs.Sizes.{mostRows}
 use Rattle.diagram.specs.Diagram.{Diagram}
 use Rattle.diagram.specs.Words.{rowCount, upTo, isListing}
@@ -25,10 +26,9 @@ use Rattle.paths.specs.PathLaws.{mem-unmap, path-in, paths-are, listing-rows}
 use Rattle.cutting.specs.Searchable.{PathLabels}
 use Rattle.cutting.specs.CoverLaws.{path-labels, every-path-in, every-path-out}
 use Rattle.contradiction.specs.Contradiction.{contradicts, passes, leadsTo}
-use Rattle.contradict.specs.declared.Led.{Led}
 use Rattle.contradict.specs.declared.Led.the-variants.{Only, Others, Many}
 use Rattle.contradict.specs.Representing.{literalAt, literalsIn, Labelled}
-use Rattle.contradict.specs.Leading.{leadAnswer, Mapped, Route, Routed}
+use Rattle.contradict.specs.Leading.{leadAnswer, Route, Routed}
 
 -- ===== Literals and their numbers =====
 
@@ -72,7 +72,8 @@ module _ {ar ws counts : List ℕ} {n k : ℕ} (r : Route ar ws counts n k) wher
   labelled = path-labels ar (tree ws (n - 1)) (tree-fine ar ws (rowCount ws) (valid-rows ar ws valid) (n - 1) (omega (arith, r .path .row, r .mapped .whole))) P
       (path-in (tree ws (n - 1)) k (r .path .path))
 
-  pub route-into : (x : ℕ) → 320 ≤ x → Rows ws n × (Counted ws counts n × (At ws n (n - 1) k × (320 ≤ length {A = ℕ} (replicate x 0))))
+  pub route-into : (x : ℕ) → termBase + mostPaths ≤ x
+      → Rows ws n × (Counted ws counts n × (At ws n (n - 1) k × (termBase + mostPaths ≤ length {A = ℕ} (replicate x 0))))
   route-into x h = (r .mapped .rows, (r .mapped .counted, (r .path, rw length-replicate h)))
 
   pub route-leaf : Rows ws n × (Counted ws counts n × At ws n (n - 1) k)
@@ -80,10 +81,10 @@ module _ {ar ws counts : List ℕ} {n k : ℕ} (r : Route ar ws counts n k) wher
 
   module _ {out₀ out : List ℕ} {j : ℕ} (e : Entered ws (n - 1) k out₀ out j) where
     abbrev Xs : List ℕ
-    Xs = take (64 + j - 64) (drop 64 out)
+    Xs = take (termBase + j - termBase) (drop termBase out)
 
     words-are : Xs ≡ codes P
-    words-are = let q : 64 + j - 64 ≡ j = omega arith in ap (λ (i : ℕ). take i (drop 64 out)) q ∙ e .are
+    words-are = let q : termBase + j - termBase ≡ j = omega arith in ap (λ (i : ℕ). take i (drop termBase out)) q ∙ e .are
 
     pub route-labelled : Labelled ar Xs
     unfolding codes
@@ -125,7 +126,7 @@ module _ {ar ws counts : List ℕ} {n m : ℕ} (r : Routed ar ws counts n m) (w 
   pub passed-none : Passed ar ws n m w 0
   passed-none = (omega arith, λ i h. absurd (omega arith))
 
-  pub path-small : {k : ℕ} → k < m → k < 256
+  pub path-small : {k : ℕ} → k < m → k < mostPaths
   path-small h = omega (arith, r .few)
 
   pub path-route : {k : ℕ} → k < m → Route ar ws counts n k
@@ -191,14 +192,14 @@ module _ (ar ws : List ℕ) (l : isListing ar ws ≡ true) where
     abbrev M : ℕ
     M = getD counts (length ws / 3 - 1) 0
 
-    count-is : M ≡ min 257 (length (paths D))
-    count-is = c .each (length ws / 3 - 1) (omega (arith, leads-some)) ∙ ap (λ (d : Diagram). min 257 (length (paths d))) root-is
+    count-is : M ≡ min (suc mostPaths) (length (paths D))
+    count-is = c .each (length ws / 3 - 1) (omega (arith, leads-some)) ∙ ap (λ (d : Diagram). min (suc mostPaths) (length (paths d))) root-is
 
-    pub leads-many : 256 < M → Many ≡ leadAnswer ar w (diagramOf ws)
+    pub leads-many : mostPaths < M → Many ≡ leadAnswer ar w (diagramOf ws)
     unfolding leadAnswer
     leads-many h = rw (lt-ltb mostPaths (length (paths D)) (omega (arith, count-is)))
 
-    module _ (h : M ≤ 256) where
+    module _ (h : M ≤ mostPaths) where
       few : length (paths D) ≡ M
       few = omega (arith, count-is)
 

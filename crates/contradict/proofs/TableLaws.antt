@@ -15,7 +15,7 @@ use Rattle.label.specs.Renamings.{mapOf}
 use Rattle.label.specs.declared.Atom.{Atom}
 use Rattle.paths.specs.Paths.{Literal}
 use Rattle.cutting.specs.MovedLaws.{arity-two}
-use Rattle.contradiction.specs.Contradiction.{Names, joining, joinLiteral, representative}
+use Rattle.contradiction.specs.Contradiction.{Names, joining, representative}
 use Rattle.contradiction.specs.JoinLaws.{literal-names, literal-stays, representative-more}
 use Rattle.contradiction.specs.AgreeLaws.{join-agree}
 use Rattle.contradict.specs.Representing.{literalAt, literalsIn, Own, Merged, Taken, Represented}

@@ -9,7 +9,6 @@ ghost use Prim.Native.Nat.{_-_, _/_, _<_, _≤_};
 ghost use lib.ListN.{length};
 ghost use lib.Dec.{eqb};
 ghost use Rattle.label.specs.Limits.{termBase};
-ghost use Rattle.label.specs.Labels.{isLabel};
 ghost use Rattle.label.specs.Renamings.{mapOf};
 ghost use Rattle.label.specs.Callers.{Movable};
 ghost use Rattle.diagram.specs.Words.{isListing};
@@ -22,7 +21,7 @@ ghost use Rattle.contradict.specs.Representing.{literalAt, literalsIn, O
 ghost use Rattle.contradict.specs.Leading.{Routed, Route, leadAnswer};
 
 // A word for each term.
-const TERMS: usize = 64;
+const TERMS: usize = Term::BASE as usize;
 
 // The words of a path: one for each term, which are free here, and behind them at most 255 literals.
 const PATH_WORDS: usize = TERMS + PATHS;

@@ -11,7 +11,7 @@ use Rattle.label.specs.declared.Test.{Test}
 use Rattle.label.specs.declared.Test.the-variants.{Always, Is}
 use Rattle.paths.specs.Paths.{Literal}
 use Rattle.cutting.specs.MovedLaws.{asks, moved-asks, terms-below}
-use Rattle.contradiction.specs.Contradiction.{placesOf, Names, joining, joinLiteral, someLiteral, asked, asksFor, affirms, isSaid, clashes, clashUnder}
+use Rattle.contradiction.specs.Contradiction.{placesOf, joining, joinLiteral, someLiteral, asked, asksFor, affirms, isSaid, clashes, clashUnder}
 use Rattle.contradiction.specs.JoinLaws.{Joins, joins, leaves, joins-is}
 
 module _ (f g : ℕ → ℕ) (same : (t : ℕ) → t < termBase → f t ≡ g t) where

@@ -1,13 +1,12 @@
 -- The test says of literals that they contradict themselves exactly if they do.
 use mathlib.Core.Path.{_≡_, refl, sym, ap, ap₂, subst, _∙_}
-use mathlib.Core.Logic.{_≢_}
-use mathlib.Core.Bool.{Bool, true, false, not, _&&_, _||_}
+use mathlib.Core.Bool.{Bool, true, false, not, _&&_}
 use mathlib.Core.List.{List, [], _∷_, map, List·Memᴰ, List·Memᴰ·head, List·Memᴰ·tail}
 use Prim.Native.Nat.{ℕ, _<_}
 use native.Mathlib.Omega.{arith}
 use lib.ListN.{length, getD, length-map}
 use lib.Dec.{eqb}
-use borrow.Author.Tests.{eqb-true, eqb-false, eq-eqb, ne-eqb}
+use borrow.Author.Tests.{eqb-true, eqb-false, eq-eqb}
 use Rattle.basics.specs.Tests.{and-left, and-right, Flag, isTrue, isFalse, flag, Either, one, other, either, or-one, or-other, Cmp, cmp, below, equal, above}
 use Rattle.basics.specs.Members.{clash}
 use Rattle.label.specs.Limits.{termBase}
@@ -19,7 +18,7 @@ use Rattle.paths.specs.Paths.{Literal, Path, paths, literals}
 use Rattle.paths.specs.PathLaws.{mem-unmap}
 use Rattle.cutting.specs.MovedLaws.{asks, asks-twice, moved-asks, terms-length, terms-below, arity-two, Two, two, length-two, Asked, straight, across, ask-is, ask-always}
 use Rattle.cutting.specs.CoverLaws.{every-path-out, every-path-in}
-use Rattle.contradiction.specs.Contradiction.{placesOf, Names, Joined, Agree, Contradicts, unequal, differ, LeadsTo, representative, someLiteral, asked, asksFor}
+use Rattle.contradiction.specs.Contradiction.{placesOf, Names, Agree, Contradicts, unequal, differ, LeadsTo, representative, someLiteral, asked, asksFor}
 use Rattle.contradiction.specs.Contradiction.{affirms, isSaid, clashes, clashUnder, contradicts, passes, leadsTo}
 use Rattle.contradiction.specs.JoinLaws.{one-joined, named-one, joined-one, representative-below}
 

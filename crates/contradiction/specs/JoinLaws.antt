@@ -10,7 +10,7 @@ use Rattle.label.specs.Limits.{equality, termBase}
 use Rattle.label.specs.Labels.{predicateOf}
 use Rattle.paths.specs.Paths.{Literal}
 use Rattle.cutting.specs.MovedLaws.{terms-below}
-use Rattle.contradiction.specs.Contradiction.{placesOf, Names, Joined, named, itself, turned, along, Agree, joining, joinTerms, joinLiteral, representative}
+use Rattle.contradiction.specs.Contradiction.{placesOf, Names, Joined, named, itself, turned, along, joining, joinTerms, joinLiteral, representative}
 
 -- a literal joins two terms, or leaves the representatives as they are
 pub data Joins (ar : List ℕ) (l : Literal) : Type 0 where

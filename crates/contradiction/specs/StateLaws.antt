@@ -1,13 +1,12 @@
 -- No state goes along a path that contradicts itself: so a diagram that leads to one leaf has that value everywhere.
-use mathlib.Core.Path.{_≡_, refl, sym, ap, ap₂, _∙_}
-use mathlib.Core.Bool.{Bool, true, false, true≢false}
-use mathlib.Core.List.{List, [], _∷_, map, List·Memᴰ}
+use mathlib.Core.Path.{_≡_, refl, sym, ap₂, _∙_}
+use mathlib.Core.Bool.{true, true≢false}
+use mathlib.Core.List.{List, [], _∷_, map}
 use Prim.Native.Nat.{ℕ}
 use lib.Dec.{eqb}
-use borrow.Author.Tests.{eqb-true, eqb-false, ne-eqb}
+use borrow.Author.Tests.{eqb-true, eqb-false}
 use Rattle.basics.specs.Tests.{Flag, isTrue, isFalse, flag}
-use Rattle.basics.specs.Members.{clash}
-use Rattle.label.specs.Labels.{areArities, predicateOf, unpacked, termsOf}
+use Rattle.label.specs.Labels.{areArities, predicateOf}
 use Rattle.diagram.specs.Diagram.{Diagram, leaf}
 use Rattle.state.specs.State.{State, atomOf, meaning, truth, holds, value}
 use Rattle.paths.specs.Paths.{Literal, Path, paths, literals}

@@ -14,6 +14,7 @@
 --   becomes-good: (becomes (p ?a ..) DIAGRAM)
 --   reward-counted, action-counted, variant-counted, becomes-counted: each keeps `rows` the sum of the rows of all model listings
 --   weighed-adds-up: where (start) accepts the weights, those of each action add up to W in every state, for every tuple (document 02, L5)
+--   adds-up-leads: and an action whose weights add up to W in every state, for every tuple, is not refused 13
 --   built-read: what a good reading builds is a good diagram, with the terms that the reading names
 
 pub mod ModelRows

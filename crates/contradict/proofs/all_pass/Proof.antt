@@ -1,6 +1,5 @@
 use native.Mathlib.Omega.{arith}
 use Prim.Native.Nat.{_-_}
-use borrow.Author.Needs.{needs}
 use Rattle.contradict.proofs.PathLaws.{Passed, passed-none, path-small, path-route, passed-more, passed-stop, passed-all}
 use Rattle.contradict.proofs.all_pass.Statement.{statement}
 use Rattle.contradict.proofs.all_pass.Tie as tie

@@ -1,4 +1,3 @@
-use mathlib.Core.Path.{refl}
 use Prim.Native.Nat.{_/_}
 use borrow.Author.Needs.{needs}
 use Rattle.contradict.proofs.TableLaws.{first-below, second-below, taken-even, taken-other, taken-equality}

@@ -1,4 +1,5 @@
 use lib.Dec.{lit≤}
+use Rattle.diagram.specs.Sizes.{mostRows}
 use borrow.Author.Needs.{needs}
 use Rattle.contradict.proofs.PathLaws.{leads-some, leads-count, leads-many, leads-routed, leads-only, leads-others}
 use Rattle.contradict.proofs.leads_to.Statement.{statement}
@@ -7,7 +8,7 @@ use Rattle.contradict.proofs.leads_to.Tie as tie
 count-paths-requires : tie.Need-count-paths-requires
 count-paths-requires c κs =
     let entry = c .before .before .before in
-    leads-count (entry .args .arities .now) (entry .args .words .now) (entry .pre) 1024 (lit≤ tt)
+    leads-count (entry .args .arities .now) (entry .args .words .now) (entry .pre) mostRows (lit≤ tt)
 
 sub-m : tie.Need-sub-m
 sub-m c = let entry = c .before .before .before .before .before in leads-some (entry .args .arities .now) (entry .args .words .now) (entry .pre)

@@ -1,6 +1,5 @@
 use native.Mathlib.Omega.{arith}
 use Prim.Native.Nat.{_-_}
-use borrow.Author.Needs.{needs}
 use Rattle.label.specs.Limits.{termBase}
 use Rattle.contradict.specs.Representing.{Own}
 use Rattle.contradict.proofs.TableLaws.{own-start, own-next, own-end}
