@@ -81,7 +81,7 @@ impl Size {
     };
 
     /// Weights with many equalities, some of them wrong.
-    pub const EQUALITIES: Size = Size { constants: 3, predicates: 2, depth: 1, weight_depth: 5, wrong: 20, parameters: 4, ..Size::SMALL };
+    pub const EQUALITIES: Size = Size { constants: 3, predicates: 2, depth: 1, weight_depth: 5, wrong: 40, parameters: 4, ..Size::SMALL };
 }
 
 /// The predicates, numbered from 1, and the number of constants.
