@@ -331,6 +331,14 @@ fn combine(desk: &[u64], kind: u8, arities: &[u64], out: &mut [u64], work: &mut 
     tell_combined(combination::combine(op, how, arities, x, y, out, work))
 }
 
+// The first n bytes, or all.
+fn begin(bytes: &[u8], n: usize) -> &[u8] {
+    if n < bytes.len() {
+        return &bytes[..n];
+    }
+    bytes
+}
+
 fn value(desk: &[u64], arities: &[u64], x: &[u64], y: &[u64], z: &[u64]) -> usize {
     tell_value(valuing::value(arities, x, argument(desk, b'v', 0), y, z))
 }
