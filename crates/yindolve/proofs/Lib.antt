@@ -1,1 +1,3 @@
-pub mod BlockLaws
+pub mod HandLaws
+pub mod EndLaws
+pub mod FinishLaws

@@ -1,147 +1,82 @@
-// The program: reads a text from standard input to its end, in blocks, and writes each line's answer before it reads on.
+// The program: reads a text from standard input to its end, in blocks, and writes the answers of the lines in hand before it reads on.
 use answers::MOST_BYTES;
 use label::Label;
-use libc::STDIN_FILENO;
-use libc::STDOUT_FILENO;
-use texts::Fed;
+use pipes::Tally;
 use texts::Position;
 use texts::Ran;
-ghost use Prim.Native.Nat.{_+_, _<_, _≤_};
+use texts::Rest;
+ghost use mathlib.Core.Path.{_≡_};
+ghost use mathlib.Core.Bool.{false};
+ghost use Prim.Native.Nat.{_<_, _≤_};
 ghost use lib.ListN.{length};
+ghost use Rattle.answers.specs.Writing.{mostBytes};
 ghost use Rattle.memory.specs.Memory.{memoryOf, Rooms, workWords};
 ghost use Rattle.texts.specs.Sending.{mostLines};
 ghost use Rattle.texts.specs.Streaming.{lineRoom};
-ghost use Rattle.texts.specs.Feeding.{Feeding};
-ghost use Rattle.yindolve.specs.Blocks.{WentOn, Answered};
+ghost use Rattle.yindolve.specs.Program.{Refills, emptyAt, Finishes, Ends};
 
-// Bytes that are read at a time.
+// Bytes that are held at a time: the line that has begun, and those that are read behind it.
 const BLOCK_BYTES: usize = 65536;
 
-// How far a block is read: the place, the bytes kept of the line that has begun, and the position; or that the output takes no more.
-enum Went {
-    On(usize, usize, Position),
-    Ends,
+// Bytes of answers that are held at a time: any one answer, and those before it.
+const OUT_BYTES: usize = 157696;
+
+// What is read, and how many bytes are in hand.
+struct Refilled {
+    tally: Tally,
+    n: usize,
 }
 
-// Reads a block from a place on to the end of the line or of the block, and writes the line's answer.
-fn answer_some(
-    block: &[u8],
-    at: usize,
-    partial: &mut [u8],
-    count: usize,
-    p: Position,
-    names: &mut [u64],
-    arities: &mut [u64],
-    listings: &mut [u64],
-    table: &mut [u64],
-    state: &mut [u64],
-    value: &mut [u64],
-    work: &mut [u64],
-    out: &mut [u8],
-) -> Went
-    requires { ⌜ Feeding (now block) at (now partial) count p (memoryOf (now names) (now arities) (now listings) (now table) (now state) (now value)) (now work) (now out) ⌝ }
-    requires { ⌜ at < length (now block) ⌝ }
-    ensures { λ r. ⌜ WentOn (length (now (block .entry))) at p r (memoryOf (now (names .exit)) (now (arities .exit)) (now (listings .exit)) (now (table .exit)) (now (state .exit)) (now (value .exit))) (now (out .exit)) ⌝ }
+// Reads on behind the bytes in hand, where there is no whole line among them.
+fn refill(t: Tally, block: &mut [u8], rest: Rest) -> Refilled
+    requires { ⌜ (rest .whole ≡ false → rest .count < length (now block)) ⌝ }
+    requires { ⌜ rest .count ≤ length (now block) ⌝ }
+    ensures { λ r. ⌜ Refills t rest (now (block .entry)) r (now (block .exit)) ⌝ }
 {
-    let fed = texts::feed(
-        block,
-        at,
-        partial,
-        count,
-        p,
-        names,
-        arities,
-        listings,
-        table,
-        state,
-        value,
-        work,
-        out,
-    );
-    match fed {
-        Fed::Line(next, q) => {
-            let end = q.end;
-            if !io::write_all(STDOUT_FILENO, &out[..end]) {
-                return Went::Ends;
-            }
-            let numbers = q.numbers;
-            let lines = q.lines;
-            let met = q.met;
-            Went::On(
-                next,
-                0,
-                Position {
-                    numbers: numbers,
-                    lines: lines,
-                    met: met,
-                    end: 0,
-                },
-            )
-        }
-        Fed::More(kept) => Went::On(block.len(), kept, p),
-        Fed::Full => Went::Ends,
+    let from = rest.count;
+    if rest.whole {
+        return Refilled { tally: t, n: from };
+    }
+    let u = pipes::read(t, block, from);
+    let more = pipes::last(u);
+    let n = from + more;
+    Refilled { tally: u, n: n }
+}
+
+// The position behind answers that are written.
+fn emptied(p: Position) -> Position
+    ensures { λ r. ⌜ r ≡ emptyAt p ⌝ }
+{
+    let numbers = p.numbers;
+    Position {
+        numbers: numbers,
+        lines: p.lines,
+        met: p.met,
+        end: 0,
     }
 }
 
-// Reads a block, and writes the answers of the lines that end in it.
-fn answer_block(
-    block: &[u8],
-    partial: &mut [u8],
-    count: usize,
-    first: Position,
-    names: &mut [u64],
-    arities: &mut [u64],
-    listings: &mut [u64],
-    table: &mut [u64],
-    state: &mut [u64],
-    value: &mut [u64],
-    work: &mut [u64],
-    out: &mut [u8],
-) -> Went
-    requires { ⌜ Feeding (now block) 0 (now partial) count first (memoryOf (now names) (now arities) (now listings) (now table) (now state) (now value)) (now work) (now out) ⌝ }
-    requires { ⌜ first .lines + length (now block) ≤ mostLines ⌝ }
-    ensures { λ r. ⌜ Answered (first .lines + length (now (block .entry))) r (memoryOf (now (names .exit)) (now (arities .exit)) (now (listings .exit)) (now (table .exit)) (now (state .exit)) (now (value .exit))) (now (out .exit)) ⌝ }
-{
-    let mut at = 0;
-    let mut n = count;
-    let mut p = first;
-    while at < block.len() {
-        let Went::On(next, kept, q) = answer_some(
-            block,
-            at,
-            partial,
-            n,
-            p,
-            names,
-            arities,
-            listings,
-            table,
-            state,
-            value,
-            work,
-            out,
-        ) else {
-            return Went::Ends;
-        };
-        at = next;
-        n = kept;
-        p = q;
-    }
-    Went::On(at, n, p)
-}
-
-// Writes the answer at the end of the input.
-fn finish(count: usize, p: Position, out: &mut [u8])
-    requires { ⌜ p .end ≤ length (now out) ⌝ }
+// Where the input ended, the answer of its end; where it could not be read, a line on descriptor 2.
+fn finish(t: Tally, count: usize, p: Position, out: &mut [u8]) -> Tally
+    requires { ⌜ p .end ≡ 0 ⌝ }
     requires { ⌜ p .lines < mostLines ⌝ }
+    requires { ⌜ mostBytes ≤ length (now out) ⌝ }
+    ensures { λ r. ⌜ Finishes t count p (now (out .entry)) r ⌝ }
 {
+    if pipes::is_unread(t) {
+        pipes::say_unread();
+        return t;
+    }
+    if !pipes::is_ended(t) {
+        return t;
+    }
     let Ran::Done(n) = texts::end(count, p, out) else {
-        return;
+        return t;
     };
-    io::write_all(STDOUT_FILENO, &out[..n]);
+    pipes::write(t, &out[..n])
 }
 
-// Reads the input to its end. A loop has to end, and nothing says that the input does: so it counts down, from a number of bytes that no input has.
+// Answers the input: reads, answers the whole lines in hand, writes their answers, until the input ends.
 fn answer_input(
     names: &mut [u64],
     arities: &mut [u64],
@@ -150,32 +85,30 @@ fn answer_input(
     state: &mut [u64],
     value: &mut [u64],
     work: &mut [u64],
-    partial: &mut [u8],
     block: &mut [u8],
     out: &mut [u8],
-)
+) -> Tally
     requires { ⌜ Rooms (memoryOf (now names) (now arities) (now listings) (now table) (now state) (now value)) ⌝ }
     requires { ⌜ workWords ≤ length (now work) ⌝ }
-    requires { ⌜ lineRoom ≤ length (now partial) ⌝ }
+    requires { ⌜ lineRoom < length (now block) ⌝ }
+    requires { ⌜ mostBytes ≤ length (now out) ⌝ }
+    ensures { λ r. ⌜ Ends (length (now (block .entry))) r ⌝ }
 {
     let mut p = texts::begin(arities, state);
-    let mut count = 0;
-    let mut left = u64::MAX;
-    while 0 < left {
-        let got = libc::read(STDIN_FILENO, block);
-        let n = io::count(got, block);
-        if n == 0 {
-            finish(count, p, out);
-            return;
-        }
-        if left <= n as u64 {
-            return;
-        }
-        let Went::On(_, kept, q) = answer_block(
+    let mut t = pipes::start();
+    let mut rest = Rest {
+        count: 0,
+        whole: false,
+    };
+    let mut open = true;
+    while open {
+        let f = refill(t, block, rest);
+        let n = f.n;
+        let r = texts::answer_whole(
             &block[..n],
-            partial,
-            count,
+            0,
             p,
+            MOST_BYTES,
             names,
             arities,
             listings,
@@ -184,13 +117,15 @@ fn answer_input(
             value,
             work,
             out,
-        ) else {
-            return;
-        };
-        left -= n as u64;
-        count = kept;
-        p = q;
+        );
+        let q = r.position;
+        let end = q.end;
+        t = pipes::write(f.tally, &out[..end]);
+        p = emptied(q);
+        rest = texts::keep_rest(block, r.at, n);
+        open = pipes::is_open(t);
     }
+    finish(t, rest.count, p, out)
 }
 
 fn main() {
@@ -201,9 +136,8 @@ fn main() {
     let mut state = [0u64; facts::WORDS];
     let mut value = [0u64; diagram::RESULT_WORDS];
     let mut work = [0u64; texts::WORK_WORDS];
-    let mut partial = [0u8; texts::LINE_ROOM];
     let mut block = [0u8; BLOCK_BYTES];
-    let mut out = [0u8; MOST_BYTES];
+    let mut out = [0u8; OUT_BYTES];
     answer_input(
         &mut names,
         &mut arities,
@@ -212,7 +146,6 @@ fn main() {
         &mut state,
         &mut value,
         &mut work,
-        &mut partial,
         &mut block,
         &mut out,
     );
