@@ -4,7 +4,7 @@ use mathlib.Core.Bool.{Bool, true, false, not, _||_}
 use mathlib.Core.List.{List, [], _∷_, _++_}
 use Prim.Native.Nat.{ℕ, _*_, _/_, _<_, _≤_}
 use native.Mathlib.Omega.{arith}
-use lib.Dec.{ltb, leb}
+use lib.Dec.{eqb, ltb, leb}
 use lib.ListN.{length, drop}
 use borrow.Author.Tests.{leb-false}
 use Rattle.refusal.specs.declared.Refusal.{Refusal}
@@ -52,7 +52,7 @@ stored-tables names′ ar′ t′ c h g m v b p q = record {
   building = b;
   listing-room = g .listing-room;
   whole = omega (arith, p, g .whole);
-  reward = λ e z. g .reward e (sym q ∙ z);
+  reward = g .reward ∙ ap (λ (x : ℕ). not (eqb x 0)) (sym q);
   live = g .live;
   value-room = g .value-room;
   value-rows = g .value-rows;

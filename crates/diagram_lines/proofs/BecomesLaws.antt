@@ -1,11 +1,11 @@
 -- Laws of (becomes (p ?a ..) DIAGRAM): the session behind it.
 use mathlib.Core.Path.{_≡_, refl, sym, ap, subst, _∙_}
-use mathlib.Core.Bool.{Bool, true, false, cond}
+use mathlib.Core.Bool.{Bool, true, false, not, cond}
 use mathlib.Core.List.{List}
 use Prim.Native.Nat.{ℕ, _+_, _*_, _/_, _≤_, _<_}
 use native.Mathlib.Omega.{arith}
 use lib.ListN.{length, getD}
-use lib.Dec.{ltb}
+use lib.Dec.{eqb, ltb}
 use Rattle.refusal.specs.declared.Refusal.{Refusal}
 use Rattle.refusal.specs.declared.Refusal.the-variants.{Name, Truth, Space}
 use Rattle.label.specs.Limits.{predicateCount}
@@ -238,7 +238,7 @@ module _ (s : List ℕ) (n : Numbers) (names ar listings table : List ℕ) where
                 building = a .building (q .stored .building) (drew-canonical D);
                 size = l;
                 words = words-are;
-                reward = λ u z. q .stored .reward u (sym (ap (λ (g : ModelHead). g .«reward_words») (a .answer)) ∙ z);
+                reward = q .stored .reward ∙ ap (λ (g : ModelHead). not (eqb (g .«reward_words») 0)) (sym (a .answer));
               }
 
             pub becomes-accepted : (number : ℕ) → BecomesSays s number n names ar listings table (record { numbers = numbersWith n (n .reward) (n .counts) h; answer = A.Nothing }) listings′ table′

@@ -1,6 +1,7 @@
 -- Laws that the lines share: where a diagram stands on a line, what is lent to draw it, and the session behind a line that prints nothing.
 use mathlib.Core.Path.{_≡_, refl, sym, ap, subst, _∙_}
-use mathlib.Core.Bool.{Bool, true}
+use mathlib.Core.Bool.{Bool, true, not}
+use lib.Dec.{eqb}
 use mathlib.Core.List.{List, [], _∷_, _++_}
 use Prim.Native.Nat.{ℕ, _+_, _*_, _≤_}
 use native.Mathlib.Omega.{arith}
@@ -102,7 +103,7 @@ pub record Grown (n : Numbers) (ar listings names′ listings′ table′ : List
   pub building : Building listings′ table′ h
   pub size : length listings′ ≡ length listings
   pub words : h .words ≡ n .head .words + k * 3
-  pub reward : f ≡ true → h .«reward_words» ≡ 0 → ⊥
+  pub reward : f ≡ not (eqb (h .«reward_words») 0)
 
 pub grown-stored : {k : Kind} {s names ar listings table state value names′ listings′ table′ : List ℕ} {n : Numbers} {f : Bool} {c : Counts} {h : Head} {m : ℕ}
     → Ready k s n (memoryOf names ar listings table state value) → ruleOf k Run ≡ Misplaced → Grown n ar listings names′ listings′ table′ f c h m

@@ -1,6 +1,7 @@
 -- Laws of (reward DIAGRAM).
 use mathlib.Core.Path.{_≡_, refl, sym, ap, subst, _∙_}
-use mathlib.Core.Bool.{true, false}
+use mathlib.Core.Bool.{true, false, not}
+use borrow.Author.Tests.{ne-eqb}
 use mathlib.Core.List.{List, []}
 use Prim.Native.Nat.{ℕ, _+_, _*_, _/_, _≤_}
 use native.Mathlib.Omega.{arith}
@@ -162,7 +163,7 @@ module _ (s : List ℕ) (n : Numbers) (names ar listings : List ℕ) where
             building = a .building table (q .stored .building) (drew-canonical D);
             size = l;
             words = words-are;
-            reward = λ y z. absurd (omega (arith, z, ap (λ (g : Head). g .«reward_words») (a .answer), drew-some D));
+            reward = sym (ap not (ne-eqb (h .«reward_words») 0 (λ z. omega (arith, z, ap (λ (g : Head). g .«reward_words») (a .answer), drew-some D))));
           }
 
         pub reward-accepted : (number : ℕ) → RewardSays s number n names ar listings (record { numbers = numbersWith n true (n .counts) h; answer = A.Nothing }) listings′

@@ -1,12 +1,12 @@
 -- Laws of (variant n WEIGHT).
 use mathlib.Core.Path.{_≡_, refl, sym, ap, ap₂, subst, _∙_}
-use mathlib.Core.Bool.{Bool, true, false, cond}
+use mathlib.Core.Bool.{Bool, true, false, not, cond}
 use mathlib.Core.List.{List, [], _∷_, _++_}
 use Prim.Native.Nat.{ℕ, _+_, _*_, _/_, _≤_, _<_}
 use native.Mathlib.Omega.{arith}
 use borrow.Author.Tests.{leb-false}
 use lib.ListN.{length, drop, replicate}
-use lib.Dec.{leb}
+use lib.Dec.{eqb, leb}
 use Rattle.refusal.specs.declared.Refusal.{Refusal}
 use Rattle.refusal.specs.declared.Refusal.the-variants.{Name}
 use Rattle.label.specs.Limits.{variableCount}
@@ -280,7 +280,7 @@ module _ (s : List ℕ) (n : Numbers) (names ar listings table : List ℕ) {k : 
             building = a .building (q .stored .building) (drew-canonical D);
             size = l;
             words = used-are;
-            reward = λ u z. q .stored .reward u (sym (ap (λ (g : Head). g .«reward_words») (a .answer)) ∙ z);
+            reward = q .stored .reward ∙ ap (λ (g : Head). not (eqb (g .«reward_words») 0)) (sym (a .answer));
           }
 
         pub variant-accepted : (number : ℕ)

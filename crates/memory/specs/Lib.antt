@@ -4,4 +4,5 @@ pub mod Saving
 -- laws
 pub mod WordLaws
 pub mod QuietLaws
+pub mod StoredLaws
 pub mod SavingLaws

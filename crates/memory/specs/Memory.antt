@@ -1,9 +1,10 @@
 -- The session that numbers and lent words stand for, what is kept of them from line to line, and what a line's function promises.
 use mathlib.Core.Path.{_≡_}
-use mathlib.Core.Bool.{true, false}
+use mathlib.Core.Bool.{true, false, not}
 use mathlib.Core.List.{List}
 use Prim.Native.Nat.{ℕ, _*_, _/_, _^_, _≤_}
 use lib.ListN.{length, take}
+use lib.Dec.{eqb}
 use Rattle.label.specs.Limits.{predicateCount}
 use Rattle.diagram.specs.Sizes.{resultWords, spaceWords}
 use Rattle.diagram.specs.Words.{isListing}
@@ -72,7 +73,7 @@ pub record Stored (n : Numbers) (w : Memory) : Type 0 where
   pub building : Building (w .listings) (w .table) (n .head)
   pub listing-room : listingWords ≤ length (w .listings)
   pub whole : n .head .words / 3 * 3 ≡ n .head .words
-  pub reward : n .reward ≡ true → n .head .«reward_words» ≡ 0 → ⊥
+  pub reward : n .reward ≡ not (eqb (n .head .«reward_words») 0)
   pub live : GoodLive (w .state) (n .live)
   pub value-room : resultWords ≤ length (w .value)
   pub value-rows : n .held .rows * 3 ≤ length (w .value)

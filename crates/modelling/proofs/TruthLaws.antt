@@ -273,18 +273,18 @@ module _ {l l′ t out : List ℕ} {h : Head} {rows p : ℕ} (r : RowsRoom l h o
     old : ListedVariant l t i
     old = b .variants a n (omega (arith, actions-some)) (omega (arith, variants-some))
 
-    truth-listed : (k : ℕ) → k < predicateCount → (getD t′ (truthPlace i k + 1) 0 ≡ 0 → ⊥) → Flag (eqb k p) → Canonical (weightWords l′ t′ (truthPlace i k))
-    truth-listed k y s (isTrue z) =
+    truth-listed : (k : ℕ) → 0 < k → k < predicateCount → (getD t′ (truthPlace i k + 1) 0 ≡ 0 → ⊥) → Flag (eqb k p) → Canonical (weightWords l′ t′ (truthPlace i k))
+    truth-listed k f y s (isTrue z) =
         subst (λ (x : ℕ). Canonical (weightWords l′ t′ (truthPlace i x))) (sym (eqb-true k p z)) (canonical-on new-words listed)
-    truth-listed k y s (isFalse z) =
+    truth-listed k f y s (isFalse z) =
         let x = other-truth k (eqb-false k p z) in
-        canonical-on (span-same l l′ t t′ (h .words) (c .before) (truthPlace i k) (x .0) (x .1) (last-variant .truths k y)) (old .truths k y (λ g. s (x .1 ∙ g)))
+        canonical-on (span-same l l′ t t′ (h .words) (c .before) (truthPlace i k) (x .0) (x .1) (last-variant .truths k y)) (old .truths k f y (λ g. s (x .1 ∙ g)))
 
     new-listed : ListedVariant l′ t′ i
     new-listed = record {
       weight =
           canonical-on (span-same l l′ t t′ (h .words) (c .before) i (before i (omega arith)) (before (i + 1) (omega arith)) (last-variant .weight)) (old .weight);
-      truths = λ k y s. truth-listed k y s (flag (eqb k p));
+      truths = λ k f y s. truth-listed k f y s (flag (eqb k p));
     }
 
     variant-listed : (u : ℕ) → u < suc n → ListedVariant l′ t′ (variantPlace a u)

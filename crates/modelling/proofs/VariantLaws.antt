@@ -184,7 +184,7 @@ module _ {l l′ t t′ out : List ℕ} {h : Head} {rows : ℕ} (r : RowsRoom l 
       let m : variantsOf t (h .actions - 1) ≡ u = omega arith in
       subst (λ (x : ℕ). ListedVariant l′ t′ (variantPlace (h .actions - 1) x)) m (record {
         weight = canonical-on (ap₂ (part l′) (o .begins) (o .counts) ∙ p .there) i;
-        truths = λ q y n. absurd (n (o .zeros (truthPlace (newPlace t (h .actions - 1)) q + 1) (omega arith) (omega arith)));
+        truths = λ q f y n. absurd (n (o .zeros (truthPlace (newPlace t (h .actions - 1)) q + 1) (omega arith) (omega arith)));
       }))
 
   all-listed : Listed l t h → Canonical (take (rows * 3) out) → (k u : ℕ) → k < h .actions → u < variantsOf t′ k

@@ -87,7 +87,7 @@ Canonical ws = listing (diagramOf ws) ≡ ws
 
 pub record ListedVariant (listings table : List ℕ) (i : ℕ) : Type 0 where
   pub weight : Canonical (weightWords listings table i)
-  pub truths : (p : ℕ) → p < predicateCount → (getD table (truthPlace i p + 1) 0 ≡ 0 → ⊥) → Canonical (weightWords listings table (truthPlace i p))
+  pub truths : (p : ℕ) → 0 < p → p < predicateCount → (getD table (truthPlace i p + 1) 0 ≡ 0 → ⊥) → Canonical (weightWords listings table (truthPlace i p))
 
 -- the reward, if there is one, every weight and every truth diagram are listings
 pub record Listed (listings table : List ℕ) (h : Head) : Type 0 where

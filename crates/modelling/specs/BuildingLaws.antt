@@ -76,7 +76,7 @@ variant-laid ar l t w i c h s x g = record {
       (λ q y z n.
       let k : q < predicateCount = omega arith in
       let e : truthWords l (spansAt t i) q ≡ weightWords l t (truthPlace i q) = ap₂ (part l) (span-start t i q k) (span-count t i q k) in
-      listed-under ar (truthWords l (spansAt t i) q) (canonical-on e (x .truths q k (λ o. n (span-count t i q k ∙ o))))
+      listed-under ar (truthWords l (spansAt t i) q) (canonical-on e (x .truths q (omega arith) k (λ o. n (span-count t i q k ∙ o))))
       (g .truths q (diagramOf (truthWords l (spansAt t i) q)) (omega arith) k (truths-some l (spansAt t i) q n) .listed));
 }
 

@@ -180,8 +180,8 @@ module _ (l l′ t t′ : List ℕ) (w w′ : ℕ) (e : take w l′ ≡ take w l
   pub listed-variant : (i : ℕ) → Same t t′ i variantWords → SpannedVariant t w i → ListedVariant l t i → ListedVariant l′ t′ i
   listed-variant i s v x = record {
     weight = canonical-on (span-same l l′ t t′ w e i (s i (omega arith) (omega arith)) (s (i + 1) (omega arith) (omega arith)) (v .weight)) (x .weight);
-    truths = λ p h n.
+    truths = λ p f h n.
         let y = s (truthPlace i p) (omega arith) (omega arith) in
         let z = s (truthPlace i p + 1) (omega arith) (omega arith) in
-        canonical-on (span-same l l′ t t′ w e (truthPlace i p) y z (v .truths p h)) (x .truths p h (λ o. n (z ∙ o)));
+        canonical-on (span-same l l′ t t′ w e (truthPlace i p) y z (v .truths p h)) (x .truths p f h (λ o. n (z ∙ o)));
   }

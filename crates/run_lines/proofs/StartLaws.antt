@@ -24,6 +24,7 @@ use Rattle.weights.specs.declared.Weighed.the-variants.{Done, Refused}
 use Rattle.weights.specs.Weighing.{weighedAs, Weighable}
 use Rattle.memory.specs.declared.Numbers.{Numbers}
 use Rattle.memory.specs.Memory.{Memory, sessionOf, Ready, Answers}
+use Rattle.memory.specs.StoredLaws.{stored-reward}
 use Rattle.run_lines.specs.Lines.{runningWith, StartTask, StartAnswered}
 use Rattle.run_lines.specs.ReadyLaws.{start-reward}
 use Rattle.run_lines.proofs.HoldLaws.{withValue, running-stored}
@@ -86,7 +87,7 @@ module _ {s : List ℕ} (number : ℕ) {n : Numbers} {w : Memory} (r : Ready K.S
         answer = p .0;
         session = ap (withHeld (sessionOf n w) Run) (h .is) ∙ p .1;
         stored = running-stored (r .stored) (first m) value l (h .room) (record {
-          reward = r .stored .reward (start-reward r);
+          reward = stored-reward (r .stored) (start-reward r);
           listing = h .listing;
           steps = omega arith;
           power = h .power;

@@ -29,6 +29,7 @@ use Rattle.modelling.specs.BuildingLaws.{building-laid}
 use Rattle.planner.specs.Run.{Room, CutTask}
 use Rattle.memory.specs.declared.Numbers.{Numbers}
 use Rattle.memory.specs.Memory.{Memory, sessionOf, Holding, Stored, Ready, workWords}
+use Rattle.memory.specs.StoredLaws.{stored-reward}
 use Rattle.run_lines.specs.Lines.{StartTask, ValueTask, BackupTask}
 
 -- ===== The run =====
@@ -102,7 +103,7 @@ module _ {s : List ℕ} {n : Numbers} {w : Memory} (r : Ready Start s n w) where
       }
 
   pub start-task : {work : List ℕ} → workWords ≤ length work → StartTask n (w .arities) (w .listings) (w .table) (w .value) work
-  start-task l = record { laid = stored-laid (r .stored) start-good (r .stored .reward start-reward); room = stored-room (r .stored) l }
+  start-task l = record { laid = stored-laid (r .stored) start-good (stored-reward (r .stored) start-reward); room = stored-room (r .stored) l }
 
 -- ===== (value) =====
 

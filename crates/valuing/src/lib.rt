@@ -509,7 +509,7 @@ fn constants_fit(n: u64, constants: &[u64]) -> bool
 }
 
 // Whether there is an object, and no object named is n or beyond.
-fn state_fits(arities: &[u64], n: u64, constants: &[u64], facts: &[u64]) -> bool
+pub fn state_fits(arities: &[u64], n: u64, constants: &[u64], facts: &[u64]) -> bool
     ensures { λ r. ⌜ r ≡ isState (now (arities .entry)) n (now (constants .entry)) (now (facts .entry)) ⌝ }
 {
     if n == 0 {
