@@ -58,7 +58,7 @@ pub record CountsFit (n : Counts) : Type 0 where
   pub parameters : n .parameters ≤ parameterCount
   pub variants : n .variants ≤ mostVariants
 
-counts-are : (n : Counts) → Decides (countsFit n) (CountsFit n)
+pub counts-are : (n : Counts) → Decides (countsFit n) (CountsFit n)
 unfolding countsFit
 counts-are n =
     on (both (at-most (n .constants) constantCount)
@@ -83,7 +83,7 @@ pub arities-long : (ar : List ℕ) → areArities ar ≡ true → length ar ≡ 
 unfolding areArities
 arities-long ar e = eqb-true (length ar) predicateCount (and-left (eqb (length ar) predicateCount) _ e)
 
-arities-are : (ar : List ℕ) (n : ℕ) → Decides (aritiesFit ar n) (AritiesFit ar n)
+pub arities-are : (ar : List ℕ) (n : ℕ) → Decides (aritiesFit ar n) (AritiesFit ar n)
 unfolding aritiesFit
 arities-are ar n =
     on (both (is-true (areArities ar))
