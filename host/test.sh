@@ -77,6 +77,11 @@ c_save() {
     ! target/c/save value target/c/cut_off <target/c/state 2>target/c/said && grep -q 'is no saved session' target/c/said
 }
 
+# sessions whose words were damaged at random
+c_damage() {
+    build "$1" c/damage.c damage && quiet target/c/damage "$((RANDOM + 1))" "$2"
+}
+
 rust_example() {
     cargo run --quiet --release --offline -p yindolve --example "$1"
 }
@@ -184,6 +189,7 @@ if [ -f "$library" ]; then
         step c_session "$compiler"
         step c_save "$compiler"
         step c_checks "$compiler"
+        step c_damage "$compiler" "$((seconds / 8 + 1))"
     done
     step rust_add_apart
     step rust_keep_loaded

@@ -12,8 +12,7 @@
  * Memory. The library owns none: the caller lends every word, 64 bits each, as a pointer and a count of words. A pointer is to as many words as its count says
  * and, for the functions that are not inline, is not null, also where the count is 0 (YINDOLVE_NO_WORDS stands for such a pointer and its 0); what a call writes
  * to (result, work, rows, pairs, row, edge, value) overlaps nothing else that the call is lent. The inline functions take null where the count is 0, and answer
- * BUFFER for null with a higher count. Nothing else is asked of the words: any are taken, and those that are not what they should be are refused. Only
- * yindolve_line asks more: a session's words are as the library left them.
+ * BUFFER for null with a higher count. Nothing else is asked of the words, a session's too: any are taken, and those that are not what they should be are refused.
  *
  * Listings. A row is three words: a leaf is YINDOLVE_LEAF, its value, 0; a branch is its label, true row, false row. A label is predicate * 2^24 + t1 * 2^18 +
  * t2 * 2^12 + t3 * 2^6 + t4, unused places 0. Terms: constants 0 to 15, parameters 16 to 19, variables 32 to 63. Predicate 0 is equality, its smaller term
@@ -21,13 +20,12 @@
  * YINDOLVE_ARITIES arities, the first of them 2, each at most 4.
  *
  * Answers. Each function answers 0, or the number of the refusal. After a refusal the result buffer and what the other pointers are to, the working space
- * apart, are as they were (yindolve_run says what it leaves). Words of the result buffer behind a result stay. The working space may hold anything before a call
- * and holds nothing of use after it.
+ * apart, are as they were. yindolve_run may also answer YINDOLVE_FULL, which is no refusal: the answers so far are written. Words of the result buffer behind a
+ * result stay. The working space may hold anything before a call and holds nothing of use after it.
  *
  * Stack and threads. A call uses less than a megabyte of stack. The library has no memory of its own, so calls on different memory may run at the same time.
  *
- * Proofs. Each function that is not inline is proved to answer and to write what its definition says, on all words (yindolve_line: on the words of a session). The
- * inline functions are plain C around them.
+ * Proofs. Each function that is not inline is proved to answer and to write what its definition says, on all words. The inline functions are plain C around them.
  */
 #ifndef YINDOLVE_H
 #define YINDOLVE_H
@@ -89,8 +87,11 @@ enum {
     YINDOLVE_VALUATIONS = 15, /* more than 1,000,000 valuations */
     YINDOLVE_NOTHING = 16,    /* no edge to cut */
     YINDOLVE_PATHS = 17,      /* more than 256 paths: of a diagram to cut, or at (start) of an action's summed weights */
-    YINDOLVE_BUFFER = 18      /* a result buffer or a working space that is too small */
+    YINDOLVE_BUFFER = 18      /* a result buffer or a working space that is too small: nothing is done */
 };
+
+/* No refusal: the answers of a text do not fit the buffer. Those before the first that does not are written, and their bytes and lines are told. */
+#define YINDOLVE_FULL 100
 
 /* The trade word of a refusal; "accepted" for 0, and "unknown" for a number that this version does not have. */
 static inline const char *yindolve_refusal_word(uint64_t refusal) {
@@ -213,7 +214,7 @@ uint64_t yindolve_value(const uint64_t *arities, size_t arities_count, const uin
 
 /* Answers a whole text: the answers behind one another to `answers`, the closing one too, and their bytes to *bytes; bytes behind them stay. A text of blank lines
  * only, or of no bytes, has no answers at all.
- * Refused: BUFFER where the answer of a line does not fit: the answers before it are written, *bytes of them, and *lines lines are answered.
+ * Never refused. YINDOLVE_FULL where the answer of a line does not fit: the answers before it are written, *bytes of them, and *lines lines are answered.
  */
 uint64_t yindolve_run(const uint8_t *text, size_t text_count, uint8_t *answers, size_t answers_count, uint64_t *bytes, uint64_t *lines);
 
@@ -223,12 +224,21 @@ uint64_t yindolve_run(const uint8_t *text, size_t text_count, uint8_t *answers, 
  */
 uint64_t yindolve_open(uint64_t *numbers, size_t numbers_count, uint64_t *arities, size_t arities_count, uint64_t *state, size_t state_count);
 
-/* Answers the next line of a session, which is given without its line feed: the answer's bytes to `answer`, none for a line that prints nothing, their count to
- * *bytes. Where a text ends with bytes that have no line feed, give the line "(" in their place: it is refused with FORM, as they are. yindolve_end closes the
- * text.
- * ASKED OF THE CALLER, and not checked: the session's memory has the sizes above and is as opening or the line before left it, and fewer than 2^64 - 1 lines were
- * answered. The working space may hold anything.
- * Refused: BUFFER where `answer` has fewer than YINDOLVE_ANSWER_BYTES: the line is not answered, and the session stays as it was.
+/* Answers the next lines of a session: the whole lines of a block, one after another, as long as YINDOLVE_ANSWER_BYTES of the buffer are free, so that every answer
+ * fits. The answers' bytes to `answers`, their count to *bytes; how many bytes of the block were read, line feeds too, to *read. At least one line is answered where
+ * there is one. Give the rest of the block again, with what comes behind it: more lines where the buffer was the end, else bytes of a line that is not whole yet.
+ * The session's memory is tested once for a call, so that lines are best given many at a time. It passes the test if it is a session's, as opening or lines can
+ * leave one: names, a model laid out well, a state, a value diagram and numbers that agree. So a session may be written to a file, read again and go on
+ * (examples/save.c), whatever happened to its bytes: the call answers by the session that they are, or LISTING.
+ * Refused, in this order: BUFFER where a table, the working space or the buffer is smaller than the sizes above, or there are not YINDOLVE_ARITIES arities; LISTING
+ * where the memory is no session's, or its count of lines and the block's bytes together pass 2^64 - 1. Nothing is written then, the working space too.
+ */
+uint64_t yindolve_lines(const uint8_t *block, size_t block_count, uint64_t *numbers, size_t numbers_count, uint64_t *names, size_t names_count, uint64_t *arities,
+    size_t arities_count, uint64_t *listings, size_t listings_count, uint64_t *table, size_t table_count, uint64_t *state, size_t state_count, uint64_t *value,
+    size_t value_count, uint64_t *work, size_t work_count, uint8_t *answers, size_t answers_count, uint64_t *bytes, uint64_t *read);
+
+/* The same with one line, which is given without its line feed: the answer's bytes to `answer`, none for a line that prints nothing, their count to *bytes. Where a
+ * text ends with bytes that have no line feed, give the line "(" in their place: it is refused with FORM, as they are. yindolve_end closes the text.
  */
 uint64_t yindolve_line(const uint8_t *line, size_t line_count, uint64_t *numbers, size_t numbers_count, uint64_t *names, size_t names_count, uint64_t *arities,
     size_t arities_count, uint64_t *listings, size_t listings_count, uint64_t *table, size_t table_count, uint64_t *state, size_t state_count, uint64_t *value,
@@ -403,14 +413,23 @@ static inline uint64_t yindolve_session_open(yindolve_session *s) {
 }
 
 /* Answers the next line of an open session, given without its line feed: 0, the answer in s->answer, its bytes to *bytes. The line may be null where its count
- * is 0. Refused, and the line is not answered: BUFFER for null with a higher count, LISTING for a session that was not opened (its arity list is none).
+ * is 0. Refused, and the line is not answered: BUFFER for null with a higher count, LISTING for words that are no session's, as before it was opened.
  */
 static inline uint64_t yindolve_session_line(yindolve_session *s, const uint8_t *line, size_t line_count, uint64_t *bytes) {
     if (!line && line_count) return YINDOLVE_BUFFER;
-    if (s->arities[0] != 2) return YINDOLVE_LISTING;
     return yindolve_line(line ? line : (const uint8_t *)yindolve_no_words, line_count, s->numbers, YINDOLVE_NUMBER_WORDS, s->names, YINDOLVE_NAME_WORDS,
         s->arities, YINDOLVE_ARITIES, s->listings, YINDOLVE_LISTING_WORDS, s->table, YINDOLVE_TABLE_WORDS, s->state, YINDOLVE_STATE_WORDS, s->value,
         YINDOLVE_VALUE_WORDS, s->work, YINDOLVE_SESSION_WORK_WORDS, s->answer, YINDOLVE_ANSWER_BYTES, bytes);
+}
+
+/* Answers the whole lines of a block, the next of an open session, as far as s->answer takes their answers: 0, their bytes to *bytes, and how many bytes of the
+ * block were read to *read. The block may be null where its count is 0. Refused as a line is.
+ */
+static inline uint64_t yindolve_session_lines(yindolve_session *s, const uint8_t *block, size_t block_count, uint64_t *bytes, uint64_t *read) {
+    if (!block && block_count) return YINDOLVE_BUFFER;
+    return yindolve_lines(block ? block : (const uint8_t *)yindolve_no_words, block_count, s->numbers, YINDOLVE_NUMBER_WORDS, s->names, YINDOLVE_NAME_WORDS,
+        s->arities, YINDOLVE_ARITIES, s->listings, YINDOLVE_LISTING_WORDS, s->table, YINDOLVE_TABLE_WORDS, s->state, YINDOLVE_STATE_WORDS, s->value,
+        YINDOLVE_VALUE_WORDS, s->work, YINDOLVE_SESSION_WORK_WORDS, s->answer, YINDOLVE_ANSWER_BYTES, bytes, read);
 }
 
 /* Answers the next line of an open session, a C string without its line feed, as a struct: yindolve_session_ask(s, "(value)"). The answer's bytes stay in s->answer.
@@ -467,8 +486,8 @@ static inline uint64_t yindolve_session_save(const yindolve_session *s, uint64_t
 }
 
 /* The session that was saved, to *s: 0; BUFFER where there are not YINDOLVE_SAVED_WORDS words; LISTING where the mark, the version or the sum is wrong. After a
- * refusal *s is as it was. The sum tells words that were damaged by accident. It does not tell words that someone made up, and the library trusts a session's
- * words: load what you saved, and nothing from strangers (the Rust crate's format is read anew line by line, and is safe for that).
+ * refusal *s is as it was. The sum tells words that were damaged by accident. Words that someone made up do no harm either: the library tests a session's words
+ * before it answers lines, and LISTING is the answer where they are no session's.
  */
 static inline uint64_t yindolve_session_load(yindolve_session *s, const uint64_t *words, size_t words_count) {
     const uint64_t *from = words;

@@ -31,6 +31,7 @@ static void refusals(void) {
     }
     EXPECT(strcmp(yindolve_refusal_word(YINDOLVE_TOO_HIGH), "value") == 0);
     EXPECT(strcmp(yindolve_refusal_word(99), "unknown") == 0);
+    EXPECT(strcmp(yindolve_refusal_word(YINDOLVE_FULL), "unknown") == 0); /* no refusal */
     EXPECT(YINDOLVE_FORM == 1 && YINDOLVE_WEIGHTS == 13 && YINDOLVE_BUFFER == 18);
 }
 
@@ -64,7 +65,7 @@ static void null_pointers(void) {
     const uint64_t arities[YINDOLVE_ARITIES] = {2}, leaf[] = {YINDOLVE_LEAF, 9, 0};
     EXPECT(yindolve_run_text(NULL, 1, answers, sizeof answers, &bytes, &lines) == YINDOLVE_BUFFER);
     EXPECT(yindolve_run_text(NULL, 0, answers, sizeof answers, &bytes, &lines) == 0);
-    EXPECT(yindolve_run_text((const uint8_t *)"x\n", 2, NULL, 0, &bytes, &lines) == YINDOLVE_BUFFER && bytes == 0 && lines == 0);
+    EXPECT(yindolve_run_text((const uint8_t *)"x\n", 2, NULL, 0, &bytes, &lines) == YINDOLVE_FULL && bytes == 0 && lines == 0);
     EXPECT(yindolve_value_of(arities, YINDOLVE_ARITIES, leaf, 3, 1, NULL, 0, NULL, 0, &value) == 0 && value == 9);
     EXPECT(yindolve_value_of(arities, YINDOLVE_ARITIES, leaf, 3, 1, NULL, 1, NULL, 0, &value) == YINDOLVE_BUFFER);
     EXPECT(yindolve_value_of(NULL, 0, NULL, 0, 1, NULL, 0, NULL, 0, &value) == YINDOLVE_LISTING);

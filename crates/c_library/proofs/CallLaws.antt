@@ -5,7 +5,7 @@ use mathlib.Core.List.{List}
 use Prim.Native.Nat.{ℕ}
 use lib.ListN.{length}
 use Rattle.refusal.specs.declared.Refusal.{Refusal}
-use Rattle.refusal.specs.declared.Refusal.the-variants.{Listing, Buffer}
+use Rattle.refusal.specs.declared.Refusal.the-variants.{Listing}
 use Rattle.refusal.specs.Numbers.{numberOf}
 use Rattle.apply.specs.declared.Operation.{Operation}
 use Rattle.apply.specs.declared.Names.{Names}
@@ -27,7 +27,7 @@ use Rattle.state.specs.ValueCall.{valueAnswer}
 use Rattle.texts.specs.declared.Ran.{Ran}
 use Rattle.texts.specs.declared.Ran.the-variants.{Done as RanDone, Full}
 use Rattle.texts.specs.Running.{filled, Fills}
-use Rattle.c_library.specs.Answers.{combinedNumber, combinedRows, combinedPairs, regressedNumber, regressedRows, freedNumber, freedRows, cutNumber, cutRow, edgeNumber, cutEdge, cutRows, valuedNumber, valuedValue, listingNumber, ranNumber, ranBytes, ranLines}
+use Rattle.c_library.specs.Answers.{combinedNumber, combinedRows, combinedPairs, regressedNumber, regressedRows, freedNumber, freedRows, cutNumber, cutRow, edgeNumber, cutEdge, cutRows, valuedNumber, valuedValue, listingNumber, fullNumber, ranNumber, ranBytes, ranLines}
 use Rattle.c_library.specs.Calls.{Combines, Regresses, Frees, Cuts, Values, Runs}
 
 module _ {op : Operation} {names : Names} {ar x y out work : List ℕ} (rows pairs : ℕ) {a : Combined} {out′ : List ℕ}
@@ -107,9 +107,9 @@ module _ (text : List ℕ) {out : List ℕ} (lines : ℕ) {a : Ran} {out′ : Li
     line-count = ap (λ (z : Ran). ranLines z lines) (sym e ∙ x .answer);
   }
 
-  pub ran-full : {n k v : ℕ} → a ≡ Full n k → v ≡ numberOf Buffer → Runs text out lines v out′ n k
-  ran-full e h = record {
-    answer = h ∙ ap ranNumber (sym e ∙ x .answer);
+  pub ran-full : {n k : ℕ} → a ≡ Full n k → Runs text out lines fullNumber out′ n k
+  ran-full e = record {
+    answer = ap ranNumber (sym e ∙ x .answer);
     buffer = x .result;
     byte-count = ap ranBytes (sym e ∙ x .answer);
     line-count = ap (λ (z : Ran). ranLines z lines) (sym e ∙ x .answer);

@@ -1,26 +1,28 @@
 -- Laws of a session that a host keeps in words, on the ways through the calls.
-use mathlib.Core.Path.{_≡_, refl, sym, ap, subst, _∙_}
+use mathlib.Core.Path.{_≡_, refl, sym, ap, ap₂, subst, _∙_}
 use mathlib.Core.Bool.{Bool, true, false, cond, not, _&&_, _||_}
 use mathlib.Core.List.{List, [], _∷_, _++_}
-use Prim.Native.Nat.{ℕ, suc, _+_, _≤_, _<_}
+use Prim.Native.Nat.{ℕ, suc, _+_, _-_, _≤_, _<_}
 use native.Mathlib.Omega.{arith}
 use native.Mathlib.Numerals.{add-one}
-use borrow.Author.Tests.{eq-eqb, ne-eqb, le-leb, lt-leb, leb-true, eqb-true, not-true, not-false}
+use native.Mathlib.Nat.{zero-add}
+use borrow.Author.Tests.{eq-eqb, ne-eqb, le-leb, lt-leb, leb-true, leb-false, eqb-true, not-true, not-false}
 use lib.Dec.{leb, eqb}
-use lib.ListN.{length, take, drop}
-use Rattle.basics.specs.Tests.{and-left, and-right}
-use Rattle.refusal.specs.declared.Refusal.the-variants.{Place, Buffer}
+use lib.ListN.{length, take, drop, take-append-drop}
+use lib.Seq.{length-take-le}
+use Rattle.basics.specs.Tests.{and-left, and-right, Flag, isTrue, isFalse, flag}
+use Rattle.refusal.specs.declared.Refusal.the-variants.{Place, Buffer, Listing}
 use Rattle.refusal.specs.Numbers.{numberOf}
 use Rattle.label.specs.Limits.{predicateCount}
 use Rattle.answers.specs.declared.Answer.the-variants.{Refused}
 use Rattle.answers.specs.declared.Put.{Put}
 use Rattle.answers.specs.declared.Put.the-variants.{At, Full}
-use Rattle.answers.specs.Writing.{mostBytes}
+use Rattle.answers.specs.Writing.{mostBytes, putAnswer, putResult, Placed}
 use Rattle.session.specs.declared.Part.{Part}
-use Rattle.session.specs.Texts.{hasBytes, Progress, unfinished, closing, afterLine}
+use Rattle.session.specs.Texts.{hasBytes, linesOf, Progress, unfinished, closing, afterLine}
 use Rattle.facts.specs.Words.{stateWords}
 use Rattle.memory.specs.declared.Numbers.{Numbers}
-use Rattle.memory.specs.Memory.{Memory, memoryOf, sessionOf, Kept}
+use Rattle.memory.specs.Memory.{Memory, memoryOf, sessionOf, Kept, workWords}
 use Rattle.memory.specs.Saving.{numberWords, savedWords, numbersAt, linesAt, metAt}
 use Rattle.memory.specs.SavingLaws.{saved-numbers, saved-lines, saved-met}
 use Rattle.lines.specs.Lines.{Opening, Opened}
@@ -31,9 +33,15 @@ use Rattle.texts.specs.declared.Ran.the-variants as R
 use Rattle.texts.specs.declared.Position.{Position}
 use Rattle.texts.specs.Running.{Filled, fits, stopped, allBytes, fillClosing, fillRest, Fills}
 use Rattle.texts.specs.RunningLaws.{rest-none}
-use Rattle.texts.specs.Sending.{Sends, progressOf}
-use Rattle.c_library.specs.Answers.{roomNumber, putNumber, putBytes}
-use Rattle.c_library.specs.Sessions.{hasRoom, OpenOrLeft, Opens, Lent, Replies, canClose, closingAt, ClosedOrNot, Closes}
+use Rattle.texts.specs.declared.Answered.{Answered}
+use Rattle.texts.specs.Sending.{Sends, mostLines, progressOf}
+use Rattle.texts.specs.Whole.{Whole, wholeFrom, wholeOf, Answerable, Reaches}
+use Rattle.restoring.specs.Restoring.{roomsFit, isSession}
+use Rattle.restoring.specs.KeptLaws.{session-is}
+use Rattle.checking.specs.DecisionLaws.{decided}
+use Rattle.checking.proofs.TestLaws.{stops, goes, refused, passed}
+use Rattle.c_library.specs.Answers.{roomNumber, entryNumber}
+use Rattle.c_library.specs.Sessions.{hasRoom, OpenOrLeft, Opens, canAnswer, isOpen, progressAt, positionAt, putEnd, IsAnswered, IsUntouched, DoneOrLeft, Replies, answeredLines, AreAnswered, AreUntouched, RepliesAll, canClose, closingAt, ClosedOrNot, Closes}
 
 -- ===== Room =====
 
@@ -95,53 +103,258 @@ module _ (numbers arities state : List ℕ) {b : Bool} (q : b ≡ hasRoom (lengt
             });
       }
 
+-- ===== Room for lines =====
+
+module _ (numbers names arities listings table state value work answer : ℕ) where
+  abbrev roomy : Bool
+  roomy = leb numberWords numbers && (roomsFit names arities listings table state value && (leb workWords work && leb mostBytes answer))
+
+  pub answer-numbers : numbers < numberWords → false ≡ roomy
+  answer-numbers h = stops _ (lt-leb numberWords numbers h)
+
+  module _ (a : numberWords ≤ numbers) {b : Bool} (e : b ≡ roomsFit names arities listings table state value) where
+    pub answer-rooms : not b ≡ true → false ≡ roomy
+    answer-rooms f = goes (le-leb numberWords numbers a) (stops _ (refused e f))
+
+    module _ (f : not b ≡ false) where
+      pub answer-work : work < workWords → false ≡ roomy
+      answer-work h = goes (le-leb numberWords numbers a) (goes (passed e f) (stops _ (lt-leb workWords work h)))
+
+      pub answer-rest : workWords ≤ work → leb mostBytes answer ≡ roomy
+      answer-rest h = goes (le-leb numberWords numbers a) (goes (passed e f) (goes (le-leb workWords work h) refl))
+
+pub roomy-numbers : (n : ℕ) (y : Bool) {b : Bool} → b ≡ (leb numberWords n && y) → not b ≡ false → numberWords ≤ n
+roomy-numbers n y e f = leb-true numberWords n (and-left (leb numberWords n) y (passed e f))
+
+-- ===== A session's words =====
+
+module _ (numbers : List ℕ) (w : Memory) (more : ℕ) {n : Numbers} (en : n ≡ numbersAt numbers) {b : Bool} (e : b ≡ isSession n w) where
+  session-test : b ≡ isSession (numbersAt numbers) w
+  session-test = e ∙ ap (λ (m : Numbers). isSession m w) en
+
+  pub open-none : not b ≡ true → false ≡ isOpen numbers w more
+  open-none f = stops _ (refused session-test f)
+
+  pub open-rest : {k : ℕ} → not b ≡ false → more ≤ mostLines → k ≡ linesAt numbers → leb k (mostLines - more) ≡ isOpen numbers w more
+  open-rest {k} f h q = goes (passed session-test f) (go (flag (leb k (mostLines - more))))
+    where
+      go : Flag (leb k (mostLines - more)) → leb k (mostLines - more) ≡ leb (linesAt numbers + more) mostLines
+      go (isTrue z) = z ∙ sym (le-leb (linesAt numbers + more) mostLines (let l = leb-true k (mostLines - more) z in omega (arith, l, q)))
+      go (isFalse z) = z ∙ sym (lt-leb (linesAt numbers + more) mostLines (let l = leb-false k (mostLines - more) z in omega (arith, l, q)))
+
+module _ {a : Bool} (x y : Bool) (e : a ≡ x) where
+  pub enter-small : {k : ℕ} → not a ≡ true → k ≡ numberOf Buffer → k ≡ entryNumber x y
+  unfolding entryNumber
+  enter-small f q = q ∙ sym (ap (λ (t : Bool). entryNumber t y) (refused e f))
+
+  module _ (f : not a ≡ false) {b : Bool} (d : b ≡ y) where
+    pub enter-none : {k : ℕ} → not b ≡ true → k ≡ numberOf Listing → k ≡ entryNumber x y
+    unfolding entryNumber
+    enter-none g q = q ∙ sym (ap₂ entryNumber (passed e f) (refused d g))
+
+    pub enter-in : not b ≡ false → 0 ≡ entryNumber x y
+    unfolding entryNumber
+    enter-in g = sym (ap₂ entryNumber (passed e f) (passed d g))
+
+-- both tests are passed, or one is not
+entered : (a b : Bool) {k : ℕ} → k ≡ entryNumber a b → k ≡ 0 → (a ≡ true) × (b ≡ true)
+unfolding entryNumber
+entered true true e z = (refl, refl)
+entered true false e z = absurd (omega (arith, e, z))
+entered false b e z = absurd (omega (arith, e, z))
+
+turned-away : (a b : Bool) {k : ℕ} → k ≡ entryNumber a b → (k ≡ 0 → ⊥) → (a && b) ≡ false
+unfolding entryNumber
+turned-away true true e f = absurd (f e)
+turned-away true false e f = refl
+turned-away false b e f = refl
+
+-- what both tests give
+pub record Given (numbers : List ℕ) (w : Memory) (work answer : List ℕ) (more : ℕ) : Type 0 where
+  pub numbers-room : numberWords ≤ length numbers
+  pub work-room : workWords ≤ length work
+  pub answer-room : mostBytes ≤ length answer
+  pub kept : Kept (numbersAt numbers) w
+  pub lines : linesAt numbers + more ≤ mostLines
+  pub both : (canAnswer numbers w work answer && isOpen numbers w more) ≡ true
+
+module _ (numbers : List ℕ) (w : Memory) (work answer : List ℕ) (more : ℕ) {k : ℕ} (e : k ≡ entryNumber (canAnswer numbers w work answer) (isOpen numbers w more)) where
+  pub given : k ≡ 0 → Given numbers w work answer more
+  given z =
+      let x = entered (canAnswer numbers w work answer) (isOpen numbers w more) e z in
+      let a = and-right (leb numberWords (length numbers)) _ (x .0) in
+      let rooms : Bool = roomsFit (length (w .names)) (length (w .arities)) (length (w .listings)) (length (w .table)) (length (w .state)) (length (w .value)) in
+      let b = and-right rooms _ a in
+      record {
+        numbers-room = leb-true numberWords (length numbers) (and-left (leb numberWords (length numbers)) _ (x .0));
+        work-room = leb-true workWords (length work) (and-left (leb workWords (length work)) _ b);
+        answer-room = leb-true mostBytes (length answer) (and-right (leb workWords (length work)) _ b);
+        kept = session-is (numbersAt numbers) w .yes (and-left (isSession (numbersAt numbers) w) _ (x .1));
+        lines = leb-true (linesAt numbers + more) mostLines (and-right (isSession (numbersAt numbers) w) _ (x .1));
+        both = ap₂ _&&_ (x .0) (x .1);
+      }
+
+  untouched : (k ≡ 0 → ⊥) → (P Q : Type 0) → Q → DoneOrLeft (canAnswer numbers w work answer && isOpen numbers w more) P Q
+  untouched f P Q q = subst (λ (b : Bool). DoneOrLeft b P Q) (sym (turned-away (canAnswer numbers w work answer) (isOpen numbers w more) e f)) q
+
+pub line-refused : (line numbers : List ℕ) (w : Memory) (work answer : List ℕ) {bytes k : ℕ} → k ≡ entryNumber (canAnswer numbers w work answer) (isOpen numbers w 1)
+    → (k ≡ 0 → ⊥) → Replies line numbers w work answer bytes k numbers w answer bytes
+line-refused line numbers w work answer {bytes} e f = record {
+  number = e;
+  does = untouched numbers w work answer 1 e f (IsAnswered (afterLine (progressAt numbers w) line) numbers answer numbers w answer bytes)
+      (IsUntouched numbers w answer bytes numbers w answer bytes) (record { numbers-left = refl; memory-left = refl; answer-left = refl; bytes-left = refl });
+}
+
+pub lines-refused : (block numbers : List ℕ) (w : Memory) (work answer : List ℕ) {bytes read k : ℕ}
+    → k ≡ entryNumber (canAnswer numbers w work answer) (isOpen numbers w (length block))
+    → (k ≡ 0 → ⊥) → RepliesAll block numbers w work answer bytes read k numbers w answer bytes read
+lines-refused block numbers w work answer {bytes} {read} e f = record {
+  number = e;
+  does = untouched numbers w work answer (length block) e f
+      (AreAnswered block (answeredLines block numbers w answer) numbers answer numbers w answer bytes read)
+      (AreUntouched numbers w answer bytes read numbers w answer bytes read) (record {
+    untouched = record { numbers-left = refl; memory-left = refl; answer-left = refl; bytes-left = refl };
+    read-left = refl;
+  });
+}
+
+take-none : (s : List ℕ) → take 0 s ≡ []
+take-none [] = refl
+take-none (b ∷ s) = refl
+
+-- how far a session is
+pub position-is : (numbers : List ℕ) {n : Numbers} {l : ℕ} {m : Bool} → n ≡ numbersAt numbers → l ≡ linesAt numbers → m ≡ metAt numbers
+    → record { numbers = n; lines = l; met = m; end = 0 } ≡ positionAt numbers
+position-is numbers e f g = λ i. record { numbers = e i; lines = f i; met = g i; end = 0 }
+
 -- ===== A line =====
 
-pub line-kept : {numbers work : List ℕ} {w : Memory} {n : Numbers} → Lent numbers w work → n ≡ numbersAt numbers → Kept n w
-line-kept {w = w} g e = subst (λ (m : Numbers). Kept m w) (sym e) (g .kept)
+pub line-kept : {numbers : List ℕ} {w : Memory} {work answer : List ℕ} {more : ℕ} {p : Position} → Given numbers w work answer more → p ≡ positionAt numbers → Kept (p .numbers) w
+line-kept {w = w} g e = subst (λ (q : Position). Kept (q .numbers) w) (sym e) (g .kept)
 
--- a line with bytes was met before, or is this one
-pub line-met : (line numbers : List ℕ) {before m : Bool} → m ≡ (before || hasBytes line) → before ≡ metAt numbers → m ≡ (metAt numbers || hasBytes line)
-line-met line numbers e d = e ∙ ap (λ (b : Bool). b || hasBytes line) d
+-- a text that goes on
+pub line-few : {numbers : List ℕ} {w : Memory} {work answer : List ℕ} {p : Position} → Given numbers w work answer 1 → p ≡ positionAt numbers → p .lines < mostLines
+line-few g e = omega (arith, g .lines, ap (λ (q : Position). q .lines) e)
 
-module _ {line numbers : List ℕ} {w : Memory} {answer : List ℕ} where
-  pub line-refused : {bytes k : ℕ} → length answer < mostBytes → k ≡ numberOf Buffer → Replies line numbers w answer bytes k numbers w answer bytes
-  line-refused l e = record {
-    answered = λ h. absurd (omega (arith, l, h));
-    refused = λ h. record { number = e; numbers-left = refl; memory-left = refl; answer-left = refl; bytes-left = refl };
-  }
+-- an answer that has room
+module _ {s answer answer′ : List ℕ} {r : Put} (g : mostBytes ≤ length answer) (short : length s ≤ mostBytes) (x : Placed answer 0 s r answer′) where
+  has-place : leb (0 + length s) (length answer) ≡ true
+  has-place = le-leb (0 + length s) (length answer) (omega (arith, short, g))
 
-  module _ {n : Numbers} {k : ℕ} {r : Sent} {numbers′ : List ℕ} {w′ : Memory} {answer′ : List ℕ} (bytes : ℕ) (h : mostBytes ≤ length answer)
-      (e : n ≡ numbersAt numbers) (f : k ≡ linesAt numbers) (x : Sends line (k + 1) n w answer 0 r w′ answer′)
-      {m : Bool} (g : m ≡ (metAt numbers || hasBytes line)) (u : numbers′ ≡ savedWords (r .numbers) (k + 1) m ++ drop numberWords numbers) where
-    answered : {v bytes′ : ℕ} → v ≡ putNumber (r .put) → bytes′ ≡ putBytes (r .put) bytes → Replies line numbers w answer bytes v numbers′ w′ answer′ bytes′
+  placed-end : putEnd r ≡ length s
+  unfolding putAnswer
+  placed-end = ap putEnd (x .answer ∙ ap (λ (b : Bool). cond b (At (0 + length s)) Full) has-place) ∙ zero-add (length s)
+
+  placed-buffer : answer′ ≡ s ++ drop (length s) answer
+  unfolding putResult
+  placed-buffer =
+      x .result ∙ ap (λ (b : Bool). cond b (take 0 answer ++ s ++ drop (0 + length s) answer) answer) has-place
+      ∙ ap₂ (λ (t : List ℕ) (n : ℕ). t ++ s ++ drop n answer) (take-none answer) (zero-add (length s))
+
+module _ (line : List ℕ) {numbers : List ℕ} {w : Memory} {work answer : List ℕ} (g : Given numbers w work answer 1) {k : ℕ}
+    (en : k ≡ entryNumber (canAnswer numbers w work answer) (isOpen numbers w 1)) (z : k ≡ 0) where
+  module _ (bytes : ℕ) {p : Position} {r : Sent} {m : Bool} {numbers′ : List ℕ} {w′ : Memory} {answer′ : List ℕ} (ep : p ≡ positionAt numbers)
+      (em : m ≡ (p .met || hasBytes line)) (x : Sends line (p .lines + 1) (p .numbers) w answer 0 r w′ answer′)
+      (u : numbers′ ≡ savedWords (r .numbers) (p .lines + 1) m ++ drop numberWords numbers) {bytes′ : ℕ} (v : bytes′ ≡ putEnd (r .put)) where
+    pub line-done : Replies line numbers w work answer bytes 0 numbers′ w′ answer′ bytes′
     unfolding afterLine
-    answered i o =
+    line-done =
         let t : List ℕ = drop numberWords numbers in
-        let j : k + 1 ≡ suc (linesAt numbers) = add-one k ∙ ap suc f in
+        let j : p .lines + 1 ≡ suc (linesAt numbers) = add-one (p .lines) ∙ ap (λ (q : Position). suc (q .lines)) ep in
         let y : Sends line (suc (linesAt numbers)) (numbersAt numbers) w answer 0 r w′ answer′ =
-        subst (λ (m : Numbers). Sends line (suc (linesAt numbers)) m w answer 0 r w′ answer′) e
-        (subst (λ (i : ℕ). Sends line i n w answer 0 r w′ answer′) j x) in
-        let z : numbersAt numbers′ ≡ r .numbers = ap numbersAt u ∙ saved-numbers (r .numbers) (k + 1) m t in
+        subst (λ (o : Numbers). Sends line (suc (linesAt numbers)) o w answer 0 r w′ answer′) (ap (λ (q : Position). q .numbers) ep)
+        (subst (λ (i : ℕ). Sends line i (p .numbers) w answer 0 r w′ answer′) j x) in
+        let o : numbersAt numbers′ ≡ r .numbers = ap numbersAt u ∙ saved-numbers (r .numbers) (p .lines + 1) m t in
         record {
-          answered = λ l. record {
-            session = ap (λ (m : Numbers). sessionOf m w′) z ∙ y .session;
-            lines = ap linesAt u ∙ saved-lines (r .numbers) (k + 1) m t ∙ j;
-            met = ap metAt u ∙ saved-met (r .numbers) (k + 1) m t ∙ g;
-            kept = subst (λ (m : Numbers). Kept m w′) (sym z) (y .kept);
-            behind = ap (drop numberWords) u ∙ saved-behind (r .numbers) (k + 1) m t;
-            number = i ∙ ap putNumber (y .placed .answer);
-            buffer = y .placed .result;
-            byte-count = o ∙ ap (λ (p : Put). putBytes p bytes) (y .placed .answer);
-          };
-          refused = λ l. absurd (omega (arith, l, h));
+          number = sym z ∙ en;
+          does = subst (λ (b : Bool). DoneOrLeft b
+              (IsAnswered (afterLine (progressAt numbers w) line) numbers answer numbers′ w′ answer′ bytes′)
+              (IsUntouched numbers w answer bytes numbers′ w′ answer′ bytes′)) (sym (g .both)) (record {
+            session = ap (λ (q : Numbers). sessionOf q w′) o ∙ y .session;
+            lines = ap linesAt u ∙ saved-lines (r .numbers) (p .lines + 1) m t ∙ j;
+            met = ap metAt u ∙ saved-met (r .numbers) (p .lines + 1) m t ∙ em ∙ ap (λ (q : Position). q .met || hasBytes line) ep;
+            again = decided (session-is (numbersAt numbers′) w′) (subst (λ (q : Numbers). Kept q w′) (sym o) (y .kept));
+            behind = ap (drop numberWords) u ∙ saved-behind (r .numbers) (p .lines + 1) m t;
+            buffer = placed-buffer (g .answer-room) (y .short) (y .placed);
+            byte-count = v ∙ placed-end (g .answer-room) (y .short) (y .placed);
+          });
         }
 
-    pub line-at : {b : ℕ} → r .put ≡ At b → Replies line numbers w answer bytes 0 numbers′ w′ answer′ b
-    line-at q = answered (ap putNumber (sym q)) (ap (λ (p : Put). putBytes p bytes) (sym q))
+-- ===== A block of lines =====
 
-    pub line-full : {v : ℕ} → r .put ≡ Full → v ≡ numberOf Buffer → Replies line numbers w answer bytes v numbers′ w′ answer′ bytes
-    line-full q h = answered (h ∙ ap putNumber (sym q)) (ap (λ (p : Put). putBytes p bytes) (sym q))
+pub lines-answerable : {block numbers : List ℕ} {w : Memory} {work answer : List ℕ} {p : Position} → Given numbers w work answer (length block) → p ≡ positionAt numbers
+    → Answerable block 0 p w work answer
+lines-answerable g e = record {
+  inside = omega arith;
+  going = record { kept = line-kept g e; within = omega (arith, ap (λ (q : Position). q .end) e) };
+  lines = omega (arith, g .lines, ap (λ (q : Position). q .lines) e);
+  work-room = g .work-room;
+}
+
+-- where no answer is written yet
+progress-here : (numbers : List ℕ) (w : Memory) (answer : List ℕ) → progressOf (positionAt numbers) w answer ≡ progressAt numbers w
+unfolding progressOf
+progress-here numbers w answer =
+    λ i. record { session = sessionOf (numbersAt numbers) w; lines = linesAt numbers; met = metAt numbers; bytes = take-none answer i }
+
+module _ {block numbers : List ℕ} {w : Memory} {work answer : List ℕ} (g : Given numbers w work answer (length block)) {k : ℕ}
+    (en : k ≡ entryNumber (canAnswer numbers w work answer) (isOpen numbers w (length block))) (z : k ≡ 0) {p : Position} (ep : p ≡ positionAt numbers)
+    {r : Answered} {w′ : Memory} {answer′ : List ℕ}
+    (y : Reaches block 0 mostBytes (progressOf p w answer) (wholeOf block 0 mostBytes (progressOf p w answer) answer) answer r w′ answer′) where
+  abbrev x : Whole
+  x = answeredLines block numbers w answer
+
+  whole-here : wholeOf block 0 mostBytes (progressOf p w answer) answer ≡ x
+  whole-here =
+      ap (λ (q : Progress). wholeFrom mostBytes (length answer) q (linesOf block .whole))
+      (ap (λ (q : Position). progressOf q w answer) ep ∙ progress-here numbers w answer)
+
+  reached : progressOf (r .position) w′ answer′ ≡ x .progress
+  reached = y .is ∙ ap (λ (t : Whole). t .progress) whole-here
+
+  bytes-are : take (r .position .end) answer′ ≡ x .progress .bytes
+  unfolding progressOf
+  bytes-are = ap (λ (q : Progress). q .bytes) reached
+
+  end-is : r .position .end ≡ length (x .progress .bytes)
+  end-is = sym (length-take-le (r .position .end) answer′ (y .going .within)) ∙ ap length bytes-are
+
+  buffer-is : answer′ ≡ x .progress .bytes ++ drop (length (x .progress .bytes)) answer
+  buffer-is =
+      sym (take-append-drop (r .position .end) answer′)
+      ∙ ap₂ _++_ bytes-are (y .behind ∙ ap (λ (n : ℕ). drop n answer) end-is)
+
+  module _ (bytes read : ℕ) {numbers′ : List ℕ}
+      (u : numbers′ ≡ savedWords (r .position .numbers) (r .position .lines) (r .position .met) ++ drop numberWords numbers) where
+    numbers-are : numbersAt numbers′ ≡ r .position .numbers
+    numbers-are = ap numbersAt u ∙ saved-numbers (r .position .numbers) (r .position .lines) (r .position .met) (drop numberWords numbers)
+
+    answered : IsAnswered (x .progress) numbers answer numbers′ w′ answer′ (r .position .end)
+    unfolding progressOf
+    answered =
+        let t : List ℕ = drop numberWords numbers in
+        record {
+          session = ap (λ (q : Numbers). sessionOf q w′) numbers-are ∙ ap (λ (q : Progress). q .session) reached;
+          lines = ap linesAt u ∙ saved-lines (r .position .numbers) (r .position .lines) (r .position .met) t ∙ ap (λ (q : Progress). q .lines) reached;
+          met = ap metAt u ∙ saved-met (r .position .numbers) (r .position .lines) (r .position .met) t ∙ ap (λ (q : Progress). q .met) reached;
+          again = decided (session-is (numbersAt numbers′) w′) (subst (λ (q : Numbers). Kept q w′) (sym numbers-are) (y .going .kept));
+          behind = ap (drop numberWords) u ∙ saved-behind (r .position .numbers) (r .position .lines) (r .position .met) t;
+          buffer = buffer-is;
+          byte-count = end-is;
+        }
+
+    pub lines-done : RepliesAll block numbers w work answer bytes read 0 numbers′ w′ answer′ (r .position .end) (r .at)
+    lines-done = record {
+      number = sym z ∙ en;
+      does = subst (λ (b : Bool). DoneOrLeft b
+          (AreAnswered block x numbers answer numbers′ w′ answer′ (r .position .end) (r .at))
+          (AreUntouched numbers w answer bytes read numbers′ w′ answer′ (r .position .end) (r .at))) (sym (g .both)) (record {
+        answered = answered;
+        fits = sym (y .full ∙ ap (λ (t : Whole). t .full) whole-here) ∙ y .never (omega arith);
+        inside = y .inside;
+        left = y .left ∙ ap (λ (t : Whole). record { whole = t .left; rest = linesOf block .rest }) whole-here;
+      });
+    }
 
 -- ===== The end =====
 
@@ -173,10 +386,6 @@ closing-short p m = go (unfinished p m)
     go : (u : Bool) → length (cond u (answerLine (Refused Place 0)) []) ≤ mostBytes
     go true = omega arith
     go false = omega arith
-
-take-none : (s : List ℕ) → take 0 s ≡ []
-take-none [] = refl
-take-none (b ∷ s) = refl
 
 -- the position that the end of a text is asked of, its answers given away
 abbrev pub lastAt : Numbers → Bool → Position

@@ -16,8 +16,6 @@ use Rattle.cutting.specs.declared.Cut.{Cut}
 use Rattle.cutting.specs.declared.Cut.the-variants.{Done as CutDone, Refused as CutRefused}
 use Rattle.state.specs.declared.Valued.{Valued}
 use Rattle.state.specs.declared.Valued.the-variants.{Value, Refused as ValuedRefused}
-use Rattle.answers.specs.declared.Put.{Put}
-use Rattle.answers.specs.declared.Put.the-variants.{At, Full as NoRoom}
 use Rattle.texts.specs.declared.Ran.{Ran}
 use Rattle.texts.specs.declared.Ran.the-variants.{Done as RanDone, Full}
 
@@ -87,10 +85,14 @@ abbrev pub listingNumber : Bool → ℕ
 listingNumber true = 0
 listingNumber false = numberOf Listing
 
+-- the answers do not fit: no refusal, so its number is none of 01's table; answers were written, and their bytes and lines are told
+abbrev pub fullNumber : ℕ
+fullNumber = 100
+
 -- a text: its number, the bytes written, and the lines answered where the next answer has no room
 abbrev pub ranNumber : Ran → ℕ
 ranNumber (RanDone n) = 0
-ranNumber (Full n k) = numberOf Buffer
+ranNumber (Full n k) = fullNumber
 
 abbrev pub ranBytes : Ran → ℕ
 ranBytes (RanDone n) = n
@@ -105,11 +107,8 @@ abbrev pub roomNumber : Bool → ℕ
 roomNumber true = 0
 roomNumber false = numberOf Buffer
 
--- an answer put in front of a buffer: its number and its bytes
-abbrev pub putNumber : Put → ℕ
-putNumber (At n) = 0
-putNumber NoRoom = numberOf Buffer
-
-abbrev pub putBytes : Put → ℕ → ℕ
-putBytes (At n) before = n
-putBytes NoRoom before = before
+-- a session's lines: 18 where there is too little room, 14 where the words are no session's
+unfoldable pub entryNumber : Bool → Bool → ℕ
+entryNumber false good = numberOf Buffer
+entryNumber true false = numberOf Listing
+entryNumber true true = 0

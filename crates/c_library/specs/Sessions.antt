@@ -2,20 +2,25 @@
 use mathlib.Core.Path.{_≡_}
 use mathlib.Core.Bool.{Bool, true, false, _&&_}
 use mathlib.Core.List.{List, [], _++_}
-use Prim.Native.Nat.{ℕ, _≤_, _<_}
+use Prim.Native.Nat.{ℕ, _+_, _≤_}
 use lib.Dec.{leb, eqb}
 use lib.ListN.{length, drop}
 use Rattle.label.specs.Limits.{predicateCount}
 use Rattle.facts.specs.Words.{stateWords}
 use Rattle.refusal.specs.declared.Refusal.the-variants.{Buffer}
 use Rattle.refusal.specs.Numbers.{numberOf}
-use Rattle.answers.specs.Writing.{mostBytes, putAnswer, putResult}
-use Rattle.session.specs.Texts.{Progress, afterLine, closing}
-use Rattle.memory.specs.Memory.{Memory, memoryOf, sessionOf, Kept, Rooms, workWords}
+use Rattle.answers.specs.declared.Put.{Put}
+use Rattle.answers.specs.declared.Put.the-variants.{At, Full}
+use Rattle.answers.specs.Writing.{mostBytes}
+use Rattle.texts.specs.declared.Position.{Position}
+use Rattle.session.specs.Texts.{Progress, afterLine, linesOf, closing}
+use Rattle.memory.specs.Memory.{Memory, memoryOf, sessionOf, Rooms, workWords}
 use Rattle.memory.specs.Saving.{numberWords, numbersAt, linesAt, metAt}
 use Rattle.lines.specs.Lines.{Opening}
 use Rattle.texts.specs.Sending.{mostLines}
-use Rattle.c_library.specs.Answers.{roomNumber, putNumber, putBytes}
+use Rattle.texts.specs.Whole.{Whole, wholeFrom}
+use Rattle.restoring.specs.Restoring.{roomsFit, isSession}
+use Rattle.c_library.specs.Answers.{roomNumber, entryNumber}
 
 -- ===== Opening =====
 
@@ -46,42 +51,82 @@ pub record Opens (numbers arities state : List ℕ) (r : ℕ) (numbers′ aritie
   pub answer : r ≡ roomNumber (hasRoom (length numbers) (length arities) (length state))
   pub does : OpenOrLeft (hasRoom (length numbers) (length arities) (length state)) numbers arities state numbers′ arities′ state′
 
--- ===== A line =====
+-- ===== Lines =====
 
--- the words are a session's, as opening or the line before left them, and have answered fewer lines than a number counts
-pub record Lent (numbers : List ℕ) (w : Memory) (work : List ℕ) : Type 0 where
-  pub room : numberWords ≤ length numbers
-  pub kept : Kept (numbersAt numbers) w
-  pub lines : linesAt numbers < mostLines
-  pub work-room : workWords ≤ length work
+-- the words have their room, and the buffer takes any answer
+abbrev pub canAnswer : List ℕ → Memory → List ℕ → List ℕ → Bool
+canAnswer numbers w work answer =
+    leb numberWords (length numbers)
+    && (roomsFit (length (w .names)) (length (w .arities)) (length (w .listings)) (length (w .table)) (length (w .state)) (length (w .value))
+    && (leb workWords (length work) && leb mostBytes (length answer)))
+
+-- they are a session's, which can count so many lines more
+abbrev pub isOpen : List ℕ → Memory → ℕ → Bool
+isOpen numbers w more = isSession (numbersAt numbers) w && leb (linesAt numbers + more) mostLines
 
 -- how far the session is, its answers given away
 abbrev pub progressAt : List ℕ → Memory → Progress
 progressAt numbers w = record { session = sessionOf (numbersAt numbers) w; lines = linesAt numbers; met = metAt numbers; bytes = [] }
 
--- the words are the session behind the line, and the answer's bytes are put in front of the buffer; the words behind the numbers stay
-pub record IsAnswered (q : Progress) (numbers answer : List ℕ) (bytes r : ℕ) (numbers′ : List ℕ) (w′ : Memory) (answer′ : List ℕ) (bytes′ : ℕ) : Type 0 where
+-- the same as the code has it
+abbrev pub positionAt : List ℕ → Position
+positionAt numbers = record { numbers = numbersAt numbers; lines = linesAt numbers; met = metAt numbers; end = 0 }
+
+-- the place behind an answer that has room
+abbrev pub putEnd : Put → ℕ
+putEnd (At n) = n
+putEnd Full = 0
+
+-- the words are the session behind the lines, and pass the test again; the answers' bytes stand in front of the buffer; all other words and bytes stay
+pub record IsAnswered (q : Progress) (numbers answer : List ℕ) (numbers′ : List ℕ) (w′ : Memory) (answer′ : List ℕ) (bytes′ : ℕ) : Type 0 where
   pub session : sessionOf (numbersAt numbers′) w′ ≡ q .session
   pub lines : linesAt numbers′ ≡ q .lines
   pub met : metAt numbers′ ≡ q .met
-  pub kept : Kept (numbersAt numbers′) w′
+  pub again : isSession (numbersAt numbers′) w′ ≡ true
   pub behind : drop numberWords numbers′ ≡ drop numberWords numbers
-  pub number : r ≡ putNumber (putAnswer (length answer) 0 (q .bytes))
-  pub buffer : answer′ ≡ putResult answer 0 (q .bytes)
-  pub byte-count : bytes′ ≡ putBytes (putAnswer (length answer) 0 (q .bytes)) bytes
+  pub buffer : answer′ ≡ q .bytes ++ drop (length (q .bytes)) answer
+  pub byte-count : bytes′ ≡ length (q .bytes)
 
 -- nothing is done
-pub record IsUnanswered (numbers : List ℕ) (w : Memory) (answer : List ℕ) (bytes r : ℕ) (numbers′ : List ℕ) (w′ : Memory) (answer′ : List ℕ) (bytes′ : ℕ) : Type 0 where
-  pub number : r ≡ numberOf Buffer
+pub record IsUntouched (numbers : List ℕ) (w : Memory) (answer : List ℕ) (bytes : ℕ) (numbers′ : List ℕ) (w′ : Memory) (answer′ : List ℕ) (bytes′ : ℕ) : Type 0 where
   pub numbers-left : numbers′ ≡ numbers
   pub memory-left : w′ ≡ w
   pub answer-left : answer′ ≡ answer
   pub bytes-left : bytes′ ≡ bytes
 
--- the next line of a session; the buffer has to take any answer
-pub record Replies (line numbers : List ℕ) (w : Memory) (answer : List ℕ) (bytes r : ℕ) (numbers′ : List ℕ) (w′ : Memory) (answer′ : List ℕ) (bytes′ : ℕ) : Type 0 where
-  pub answered : mostBytes ≤ length answer → IsAnswered (afterLine (progressAt numbers w) line) numbers answer bytes r numbers′ w′ answer′ bytes′
-  pub refused : length answer < mostBytes → IsUnanswered numbers w answer bytes r numbers′ w′ answer′ bytes′
+abbrev pub DoneOrLeft : Bool → Type 0 → Type 0 → Type 0
+DoneOrLeft true P Q = P
+DoneOrLeft false P Q = Q
+
+-- the next line of a session, on all words
+pub record Replies (line numbers : List ℕ) (w : Memory) (work answer : List ℕ) (bytes r : ℕ) (numbers′ : List ℕ) (w′ : Memory) (answer′ : List ℕ) (bytes′ : ℕ) : Type 0 where
+  pub number : r ≡ entryNumber (canAnswer numbers w work answer) (isOpen numbers w 1)
+  pub does : DoneOrLeft (canAnswer numbers w work answer && isOpen numbers w 1)
+      (IsAnswered (afterLine (progressAt numbers w) line) numbers answer numbers′ w′ answer′ bytes′)
+      (IsUntouched numbers w answer bytes numbers′ w′ answer′ bytes′)
+
+-- the whole lines of a block, one after another, as long as the buffer takes any answer more
+abbrev pub answeredLines : List ℕ → List ℕ → Memory → List ℕ → Whole
+answeredLines block numbers w answer = wholeFrom mostBytes (length answer) (progressAt numbers w) (linesOf block .whole)
+
+-- they are answered; no answer was without room; behind the bytes that were read stand the lines that are left, and the rest of the block
+pub record AreAnswered (block : List ℕ) (x : Whole) (numbers answer : List ℕ) (numbers′ : List ℕ) (w′ : Memory) (answer′ : List ℕ) (bytes′ read′ : ℕ) : Type 0 where
+  pub answered : IsAnswered (x .progress) numbers answer numbers′ w′ answer′ bytes′
+  pub fits : x .full ≡ false
+  pub inside : read′ ≤ length block
+  pub left : linesOf (drop read′ block) ≡ record { whole = x .left; rest = linesOf block .rest }
+
+-- nothing is done
+pub record AreUntouched (numbers : List ℕ) (w : Memory) (answer : List ℕ) (bytes read : ℕ) (numbers′ : List ℕ) (w′ : Memory) (answer′ : List ℕ) (bytes′ read′ : ℕ) : Type 0 where
+  pub untouched : IsUntouched numbers w answer bytes numbers′ w′ answer′ bytes′
+  pub read-left : read′ ≡ read
+
+-- the next lines of a session, on all words
+pub record RepliesAll (block numbers : List ℕ) (w : Memory) (work answer : List ℕ) (bytes read r : ℕ) (numbers′ : List ℕ) (w′ : Memory) (answer′ : List ℕ) (bytes′ read′ : ℕ) : Type 0 where
+  pub number : r ≡ entryNumber (canAnswer numbers w work answer) (isOpen numbers w (length block))
+  pub does : DoneOrLeft (canAnswer numbers w work answer && isOpen numbers w (length block))
+      (AreAnswered block (answeredLines block numbers w answer) numbers answer numbers′ w′ answer′ bytes′ read′)
+      (AreUntouched numbers w answer bytes read numbers′ w′ answer′ bytes′ read′)
 
 -- ===== The end =====
 

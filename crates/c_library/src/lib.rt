@@ -13,13 +13,20 @@ use state::Valued;
 use texts::Position;
 use texts::Ran;
 ghost use mathlib.Core.Path.{_≡_};
+ghost use mathlib.Core.Bool.{_&&_};
+ghost use Prim.Native.Nat.{_≤_};
+ghost use lib.Dec.{leb};
+ghost use lib.ListN.{length};
 ghost use Rattle.diagram.specs.Words.{isListing};
 ghost use Rattle.apply.specs.declared.Operation.the-variants.{Sum, Product, Max};
 ghost use Rattle.apply.specs.declared.Names.the-variants.{Apart, Shared};
-ghost use Rattle.memory.specs.Memory.{memoryOf};
-ghost use Rattle.c_library.specs.Answers.{listingNumber, edgeNumber};
+ghost use Rattle.memory.specs.Memory.{memoryOf, workWords};
+ghost use Rattle.memory.specs.Saving.{numberWords};
+ghost use Rattle.answers.specs.Writing.{mostBytes};
+ghost use Rattle.restoring.specs.Restoring.{roomsFit};
+ghost use Rattle.c_library.specs.Answers.{listingNumber, edgeNumber, entryNumber};
 ghost use Rattle.c_library.specs.Calls.{Combines, Regresses, Frees, Cuts, Values, Runs};
-ghost use Rattle.c_library.specs.Sessions.{hasRoom, Opens, Lent, Replies, canClose, Closes};
+ghost use Rattle.c_library.specs.Sessions.{hasRoom, Opens, canAnswer, isOpen, positionAt, putEnd, Replies, RepliesAll, canClose, Closes};
 
 // Whether the words are a listing under the arity list: 0, or 14.
 #[no_mangle]
@@ -315,6 +322,9 @@ pub extern "C" fn yindolve_value(
     }
 }
 
+// The answers do not fit.
+const FULL: u64 = 100;
+
 // Answers a whole text.
 #[no_mangle]
 pub extern "C" fn yindolve_run(
@@ -334,7 +344,7 @@ pub extern "C" fn yindolve_run(
         Ran::Full(n, k) => {
             *bytes = n as u64;
             *lines = k;
-            Refusal::Buffer.number()
+            FULL
         }
     }
 }
@@ -365,6 +375,125 @@ pub extern "C" fn yindolve_open(numbers: &mut [u64], arities: &mut [u64], state:
     0
 }
 
+// The lines that a number counts.
+const LINES: u64 = 18446744073709551615;
+
+// Whether lent words of these counts are enough to answer lines.
+fn can_answer(
+    numbers: usize,
+    names: usize,
+    arities: usize,
+    listings: usize,
+    table: usize,
+    state: usize,
+    value: usize,
+    work: usize,
+    answer: usize,
+) -> bool
+    ensures { λ r. ⌜ r ≡ (leb numberWords numbers && (roomsFit names arities listings table state value && (leb workWords work && leb mostBytes answer))) ⌝ }
+{
+    if numbers < memory::NUMBER_WORDS {
+        return false;
+    }
+    if !restoring::rooms_fit(names, arities, listings, table, state, value) {
+        return false;
+    }
+    if work < texts::WORK_WORDS {
+        return false;
+    }
+    answers::MOST_BYTES <= answer
+}
+
+// Whether words are a session's, which can count so many lines more.
+fn is_open(
+    numbers: &[u64],
+    names: &[u64],
+    arities: &[u64],
+    listings: &[u64],
+    table: &[u64],
+    state: &[u64],
+    value: &[u64],
+    more: usize,
+) -> bool
+    requires { ⌜ numberWords ≤ length (now numbers) ⌝ }
+    ensures { λ r. ⌜ r ≡ isOpen (now (numbers .entry)) (memoryOf (now (names .entry)) (now (arities .entry)) (now (listings .entry)) (now (table .entry)) (now (state .entry)) (now (value .entry))) more ⌝ }
+{
+    let n = memory::load(numbers);
+    if !restoring::is_session(n, names, arities, listings, table, state, value) {
+        return false;
+    }
+    memory::lines_of(numbers) <= LINES - (more as u64)
+}
+
+// The tests before lines are answered: 18, then 14.
+fn enter(
+    numbers: &[u64],
+    names: &[u64],
+    arities: &[u64],
+    listings: &[u64],
+    table: &[u64],
+    state: &[u64],
+    value: &[u64],
+    work: &[u64],
+    answer: &[u8],
+    more: usize,
+) -> u64
+    ensures { λ r. ⌜ r ≡ entryNumber (canAnswer (now (numbers .entry)) (memoryOf (now (names .entry)) (now (arities .entry)) (now (listings .entry)) (now (table .entry)) (now (state .entry)) (now (value .entry))) (now (work .entry)) (now (answer .entry))) (isOpen (now (numbers .entry)) (memoryOf (now (names .entry)) (now (arities .entry)) (now (listings .entry)) (now (table .entry)) (now (state .entry)) (now (value .entry))) more) ⌝ }
+{
+    if !can_answer(
+        numbers.len(),
+        names.len(),
+        arities.len(),
+        listings.len(),
+        table.len(),
+        state.len(),
+        value.len(),
+        work.len(),
+        answer.len(),
+    ) {
+        return Refusal::Buffer.number();
+    }
+    if !is_open(
+        numbers,
+        names,
+        arities,
+        listings,
+        table,
+        state,
+        value,
+        more,
+    ) {
+        return Refusal::Listing.number();
+    }
+    0
+}
+
+// How far a session is, its answers given away.
+fn position(numbers: &[u64]) -> Position
+    requires { ⌜ numberWords ≤ length (now numbers) ⌝ }
+    ensures { λ r. ⌜ r ≡ positionAt (now (numbers .entry)) ⌝ }
+{
+    let n = memory::load(numbers);
+    let lines = memory::lines_of(numbers);
+    let met = memory::met_of(numbers);
+    Position {
+        numbers: n,
+        lines: lines,
+        met: met,
+        end: 0,
+    }
+}
+
+// The place behind an answer.
+fn end_of(put: Put) -> u64
+    ensures { λ r. ⌜ r ≡ putEnd put ⌝ }
+{
+    match put {
+        Put::At(end) => end as u64,
+        Put::Full => 0,
+    }
+}
+
 // Answers the next line of a session.
 #[no_mangle]
 pub extern "C" fn yindolve_line(
@@ -380,19 +509,21 @@ pub extern "C" fn yindolve_line(
     answer: &mut [u8],
     bytes: &mut u64,
 ) -> u64
-    requires { ⌜ Lent (now numbers) (memoryOf (now names) (now arities) (now listings) (now table) (now state) (now value)) (now work) ⌝ }
-    ensures { λ r. ⌜ Replies (now (line .entry)) (now (numbers .entry)) (memoryOf (now (names .entry)) (now (arities .entry)) (now (listings .entry)) (now (table .entry)) (now (state .entry)) (now (value .entry))) (now (answer .entry)) (now (bytes .entry)) r (now (numbers .exit)) (memoryOf (now (names .exit)) (now (arities .exit)) (now (listings .exit)) (now (table .exit)) (now (state .exit)) (now (value .exit))) (now (answer .exit)) (now (bytes .exit)) ⌝ }
+    ensures { λ r. ⌜ Replies (now (line .entry)) (now (numbers .entry)) (memoryOf (now (names .entry)) (now (arities .entry)) (now (listings .entry)) (now (table .entry)) (now (state .entry)) (now (value .entry))) (now (work .entry)) (now (answer .entry)) (now (bytes .entry)) r (now (numbers .exit)) (memoryOf (now (names .exit)) (now (arities .exit)) (now (listings .exit)) (now (table .exit)) (now (state .exit)) (now (value .exit))) (now (answer .exit)) (now (bytes .exit)) ⌝ }
 {
-    if answer.len() < answers::MOST_BYTES {
-        return Refusal::Buffer.number();
+    let refusal = enter(
+        numbers, names, arities, listings, table, state, value, work, answer, 1,
+    );
+    if refusal != 0 {
+        return refusal;
     }
-    let n = memory::load(numbers);
-    let number = memory::lines_of(numbers) + 1;
-    let met = texts::met_behind(memory::met_of(numbers), line);
+    let p = position(numbers);
+    let number = p.lines + 1;
+    let met = texts::met_behind(p.met, line);
     let sent = texts::reply_line(
         line,
         number,
-        n,
+        p.numbers,
         names,
         arities,
         listings,
@@ -406,10 +537,62 @@ pub extern "C" fn yindolve_line(
     let put = sent.put;
     let after = sent.numbers;
     memory::store(numbers, after, number, met);
-    let Put::At(end) = put else {
-        return Refusal::Buffer.number();
-    };
-    *bytes = end as u64;
+    *bytes = end_of(put);
+    0
+}
+
+// Answers the whole lines of a block, the next of a session.
+#[no_mangle]
+pub extern "C" fn yindolve_lines(
+    block: &[u8],
+    numbers: &mut [u64],
+    names: &mut [u64],
+    arities: &mut [u64],
+    listings: &mut [u64],
+    table: &mut [u64],
+    state: &mut [u64],
+    value: &mut [u64],
+    work: &mut [u64],
+    answers: &mut [u8],
+    bytes: &mut u64,
+    read: &mut u64,
+) -> u64
+    ensures { λ r. ⌜ RepliesAll (now (block .entry)) (now (numbers .entry)) (memoryOf (now (names .entry)) (now (arities .entry)) (now (listings .entry)) (now (table .entry)) (now (state .entry)) (now (value .entry))) (now (work .entry)) (now (answers .entry)) (now (bytes .entry)) (now (read .entry)) r (now (numbers .exit)) (memoryOf (now (names .exit)) (now (arities .exit)) (now (listings .exit)) (now (table .exit)) (now (state .exit)) (now (value .exit))) (now (answers .exit)) (now (bytes .exit)) (now (read .exit)) ⌝ }
+{
+    let refusal = enter(
+        numbers,
+        names,
+        arities,
+        listings,
+        table,
+        state,
+        value,
+        work,
+        answers,
+        block.len(),
+    );
+    if refusal != 0 {
+        return refusal;
+    }
+    let first = position(numbers);
+    let reached = texts::answer_whole(
+        block,
+        0,
+        first,
+        answers::MOST_BYTES,
+        names,
+        arities,
+        listings,
+        table,
+        state,
+        value,
+        work,
+        answers,
+    );
+    let p = reached.position;
+    memory::store(numbers, p.numbers, p.lines, p.met);
+    *bytes = p.end as u64;
+    *read = reached.at as u64;
     0
 }
 

@@ -135,7 +135,7 @@ pub record RewardFit (ar listings : List ℕ) (h : Head) (accepted : Bool) : Typ
   pub words : accepted ≡ not (eqb (h .«reward_words») 0)
   pub value : accepted ≡ true → IsValue ar (rewardWords listings h)
 
-reward-is : (ar listings : List ℕ) (h : Head) (a : Bool) → Decides (rewardFits ar listings h a) (RewardFit ar listings h a)
+pub reward-is : (ar listings : List ℕ) (h : Head) (a : Bool) → Decides (rewardFits ar listings h a) (RewardFit ar listings h a)
 unfolding rewardFits
 reward-is ar listings h true =
     on (both (is-true (not (eqb (h .«reward_words») 0))) (λ e. value-is ar (rewardWords listings h)))

@@ -1,5 +1,5 @@
 -- Whether words are a session's: a test that computes, part by part (document 01, section 'Text').
-use mathlib.Core.Bool.{Bool, not, _&&_, _||_, cond}
+use mathlib.Core.Bool.{Bool, true, not, _&&_, _||_, cond}
 use mathlib.Core.List.{List}
 use Prim.Native.Nat.{ℕ, _+_, _*_, _-_, _/_, _^_}
 use lib.ListN.{length, getD, take}
@@ -86,6 +86,16 @@ modelFits n ar listings table =
     && (rewardFits ar listings (n .head) (n .reward)
     && (actionsFit ar listings table (n .head .words) (n .head .actions)
     && lastFits table (n .counts) (n .head .actions)))))
+
+-- words are a whole model: one that was accepted at (start), but for the sums of weights
+unfoldable pub isModel : List ℕ → List ℕ → List ℕ → Head → Bool
+unfolding headFits rewardFits
+isModel ar listings table h =
+    leb tableWords (length table)
+    && (headFits h
+    && (leb (h .words) (length listings)
+    && (rewardFits ar listings h true
+    && actionsFit ar listings table (h .words) (h .actions))))
 
 -- ===== The state and the run =====
 

@@ -1,5 +1,8 @@
 //! The functions of the static library, as include/yindolve.h declares them.
 
+/// What `yindolve_run` answers where the answers do not fit: no refusal.
+pub const FULL: u64 = 100;
+
 macro_rules! combinations {
     ($($name:ident)*) => {
         extern "C" {

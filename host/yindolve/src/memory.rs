@@ -79,8 +79,7 @@ impl Memory {
     pub fn line(&mut self, line: &[u8], answer: &mut [u8]) -> usize {
         let Memory { numbers, names, arities, listings, table, state, value, work } = self;
         let mut bytes = 0;
-        // SAFETY: each pointer is to as many words as its count says, and what is written to overlaps nothing. The memory is what
-        // opening, the last line or `hold` left, since nothing else writes to it.
+        // SAFETY: each pointer is to as many words as its count says, and what is written to overlaps nothing.
         let number = unsafe {
             ffi::yindolve_line(
                 line.as_ptr(),
@@ -106,7 +105,8 @@ impl Memory {
                 &mut bytes,
             )
         };
-        accepted(number).expect("the memory is of the size that the library asks for");
+        // opening, the lines before and `hold` leave a session's words, and nothing else writes to them
+        accepted(number).expect("the memory is a session's, of the size that the library asks for");
         bytes as usize
     }
 

@@ -31,7 +31,13 @@ pub fn run_into(text: &[u8], answers: &mut [u8]) -> Result<usize, Full> {
     // SAFETY: each pointer is to as many bytes as its count says, and what is written to overlaps nothing.
     let number = unsafe { ffi::yindolve_run(text.as_ptr(), text.len(), answers.as_mut_ptr(), answers.len(), &mut bytes, &mut lines) };
     let bytes = bytes as usize;
-    accepted(number).map(|()| bytes).map_err(|_| Full { bytes, lines })
+    match number {
+        ffi::FULL => Err(Full { bytes, lines }),
+        number => {
+            accepted(number).expect("a text is never refused");
+            Ok(bytes)
+        }
+    }
 }
 
 /// The answers to a whole text, one line each, as the program prints them. A text of blank lines only has none.

@@ -1,98 +1,115 @@
+use Rattle.c_library.proofs.SessionLaws.{given, line-refused, line-kept, line-few, line-done}
+use Rattle.memory.specs.Memory.{memoryOf}
+use native.Mathlib.Omega.{arith}
 use borrow.Author.Needs.{needs}
-use Rattle.c_library.proofs.SessionLaws.{line-kept, line-refused, line-met, line-full, line-at}
 use Rattle.c_library.proofs.yindolve_line.Statement.{statement}
 use Rattle.c_library.proofs.yindolve_line.Tie as tie
 
 returns : tie.Need-returns
-returns c = line-refused (c .before .if1 .taken) (c .number .ensures)
+returns c =
+    let ent = c .before in
+    let a = ent .before .before .before .before .before .before .before .before .before .before .before .before .before .before .before .before .before .before .before .before .args in
+    line-refused (a .line .now) (a .numbers .now) (memoryOf (a .names .now) (a .arities .now) (a .listings .now) (a .table .now) (a .state .now) (a .value .now))
+    (a .work .now) (a .answer .now) (ent .enter .ensures) (c .if1 .taken)
+
+position-requires : tie.Need-position-requires
+position-requires c κs =
+    let test = c .before in
+    let ent = test .before in
+    let a = ent .before .before .before .before .before .before .before .before .before .before .before .before .before .before .before .before .before .before .before .before .args in
+    given (a .numbers .now) (memoryOf (a .names .now) (a .arities .now) (a .listings .now) (a .table .now) (a .state .now) (a .value .now))
+    (a .work .now) (a .answer .now) 1 (ent .enter .ensures) (test .if1 .left) .numbers-room
+
+add-number : tie.Need-add-number
+add-number c =
+    let pos = c .before in
+    let test = pos .before .before in
+    let ent = test .before in
+    let a = ent .before .before .before .before .before .before .before .before .before .before .before .before .before .before .before .before .before .before .before .before .args in
+    let g = given (a .numbers .now) (memoryOf (a .names .now) (a .arities .now) (a .listings .now) (a .table .now) (a .state .now) (a .value .now))
+    (a .work .now) (a .answer .now) 1 (ent .enter .ensures) (test .if1 .left) in
+    omega (arith, line-few g (pos .position .ensures))
 
 reply-line-requires : tie.Need-reply-line-requires
 reply-line-requires c κs =
-    let loaded = c .before .before .before .before .before .before .before .before .before .before .before .before .before in
-    let s = loaded .before .before .before .before .before .before .before .before .before .before .before .before .before .pre in
-    (line-kept s (loaded .load .ensures), s .work-room)
+    let pos = c .before .before .before .before .before .before .before .before .before .before in
+    let test = pos .before .before in
+    let ent = test .before in
+    let a = ent .before .before .before .before .before .before .before .before .before .before .before .before .before .before .before .before .before .before .before .before .args in
+    let g = given (a .numbers .now) (memoryOf (a .names .now) (a .arities .now) (a .listings .now) (a .table .now) (a .state .now) (a .value .now))
+    (a .work .now) (a .answer .now) 1 (ent .enter .ensures) (test .if1 .left) in
+    (line-kept g (pos .position .ensures), g .work-room)
 
 store-requires : tie.Need-store-requires
 store-requires c κs =
-    let sent = c .before .before .before .before .before .before .before .before .before .before .before .before .before .before .before .before .before .before in
-    let back = sent .before .before .before .before .before .before .before .before .before .before .before .before .before in
-    back .before .before .before .before .before .before .before .before .before .before .before .before .before .before .pre .room
+    let call = c .before .before .before .before .before .before .before .before .before .before .before .before .before .before .before .before .before .before in
+    let test = call .before .before .before .before .before .before .before .before .before .before .before .before .before in
+    let ent = test .before in
+    let a = ent .before .before .before .before .before .before .before .before .before .before .before .before .before .before .before .before .before .before .before .before .args in
+    given (a .numbers .now) (memoryOf (a .names .now) (a .arities .now) (a .listings .now) (a .table .now) (a .state .now) (a .value .now))
+    (a .work .now) (a .answer .now) 1 (ent .enter .ensures) (test .if1 .left) .numbers-room
 
 returns-2 : tie.Need-returns-2
 returns-2 c =
-    let back = c .before .before .before .before .before .before .before .before .before .before .before .before in
-    let sent = back .before .before .before .before .before .before .before .before .before .before .before .before in
-    let met = sent .before .before .before .before .before .before .before .before .before in
-    let lines = met .before .before .before in
-    let a = lines .before .before .before .before .before .before .before .before .before .before .before .before .before .before .before .args in
-    line-full _ (lines .before .before .before .before .if1 .left) (lines .before .before .load .ensures) (lines .lines-of .ensures) (sent .reply-line .ensures)
-    (line-met (a .line .now) (a .numbers .now) (met .met-behind .ensures) (met .before .met-of .ensures))
-    (c .before .before .before .before .before .store .ensures) (c .before .enum-told .given .1) (c .number2 .ensures)
+    let stored = c .before .before .before in
+    let call = stored .before .before .before .before .before .before .before .before .before .before .before .before .before .before .before .before .before .before .before in
+    let met = call .before .before .before .before .before .before .before .before .before in
+    let pos = met .before .before in
+    let test = pos .before .before in
+    let ent = test .before in
+    let a = ent .before .before .before .before .before .before .before .before .before .before .before .before .before .before .before .before .before .before .before .before .args in
+    let g = given (a .numbers .now) (memoryOf (a .names .now) (a .arities .now) (a .listings .now) (a .table .now) (a .state .now) (a .value .now))
+    (a .work .now) (a .answer .now) 1 (ent .enter .ensures) (test .if1 .left) in
+    line-done (a .line .now) g (ent .enter .ensures) (test .if1 .left) _ (pos .position .ensures) (met .met-behind .ensures) (call .reply-line .ensures)
+    (stored .store .ensures) (c .end-of .ensures)
 
-returns-3 : tie.Need-returns-3
-returns-3 c =
+same-length-10 : tie.Need-same-length-10
+same-length-10 c = c .before .before .before .store .kept .0
+
+same-length-11 : tie.Need-same-length-11
+same-length-11 c =
     let back = c .before .before .before .before .before .before .before .before .before .before .before .before in
-    let sent = back .before .before .before .before .before .before .before .before .before .before .before .before in
-    let met = sent .before .before .before .before .before .before .before .before .before in
-    let lines = met .before .before .before in
-    let a = lines .before .before .before .before .before .before .before .before .before .before .before .before .before .before .before .args in
-    line-at _ (lines .before .before .before .before .if1 .left) (lines .before .before .load .ensures) (lines .lines-of .ensures) (sent .reply-line .ensures)
-    (line-met (a .line .now) (a .numbers .now) (met .met-behind .ensures) (met .before .met-of .ensures)) (c .before .before .before .before .before .store .ensures) (c .before .put .given .1)
+    back .before .before .before .before .before .before .before .before .before .before .reply-line .kept .1 .1 .1 .0
+
+same-length-12 : tie.Need-same-length-12
+same-length-12 c =
+    let back = c .before .before .before .before .before .before .before .before .before .before .before .before in
+    back .before .before .before .before .before .before .before .before .before .before .reply-line .kept .1 .1 .1 .1 .0
+
+same-length-13 : tie.Need-same-length-13
+same-length-13 c =
+    let back = c .before .before .before .before .before .before .before .before .before .before .before .before in
+    back .before .before .before .before .before .before .before .before .before .before .reply-line .kept .1 .1 .1 .1 .1 .0
+
+same-length-14 : tie.Need-same-length-14
+same-length-14 c =
+    let back = c .before .before .before .before .before .before .before .before .before .before .before .before in
+    back .before .before .before .before .before .before .before .before .before .before .reply-line .kept .1 .1 .1 .1 .1 .1 .0
+
+same-length-15 : tie.Need-same-length-15
+same-length-15 c =
+    let back = c .before .before .before .before .before .before .before .before .before .before .before .before in
+    back .before .before .before .before .before .before .before .before .before .before .reply-line .kept .1 .1 .1 .1 .1 .1 .1 .0
+
+same-length-16 : tie.Need-same-length-16
+same-length-16 c =
+    let back = c .before .before .before .before .before .before .before .before .before .before .before .before in
+    back .before .before .before .before .before .before .before .before .before .before .reply-line .kept .1 .1 .1 .1 .1 .1 .1 .1 .0
+
+same-length-17 : tie.Need-same-length-17
+same-length-17 c =
+    let back = c .before .before .before .before .before .before .before .before .before .before .before .before in
+    back .before .before .before .before .before .before .before .before .before .before .reply-line .kept .1 .1 .1 .1 .1 .1 .1 .1 .1 .0
+
+same-length-18 : tie.Need-same-length-18
+same-length-18 c =
+    let back = c .before .before .before .before .before .before .before .before .before .before .before .before in
+    back .before .before .before .before .before .before .before .before .before .before .reply-line .kept .1 .1 .1 .1 .1 .1 .1 .1 .1 .1 .0
 
 pub yindolve-line-spec : {M : Type 1} → statement M
 yindolve-line-spec =
     tie.close
-    (tie.spec (λ c κs. search needs) returns (λ c κs. search needs) (λ c κs. search needs) (λ c. search needs) (λ c κs. search needs) (λ c κs. search needs)
-    reply-line-requires store-requires (λ c. search needs) (λ c. search needs) (λ c κs. search needs)
-    (λ c. c .before .before .before .before .before .store .kept .0)
-    (λ c.
-    let back = c .before .before .before .before .before .before .before .before .before .before .before .before in
-    back .before .before .before .before .before .before .before .before .before .before .before .before .reply-line .kept .1 .1 .1 .0)
-    (λ c.
-    let back = c .before .before .before .before .before .before .before .before .before .before .before .before in
-    back .before .before .before .before .before .before .before .before .before .before .before .before .reply-line .kept .1 .1 .1 .1 .0)
-    (λ c.
-    let back = c .before .before .before .before .before .before .before .before .before .before .before .before in
-    back .before .before .before .before .before .before .before .before .before .before .before .before .reply-line .kept .1 .1 .1 .1 .1 .0)
-    (λ c.
-    let back = c .before .before .before .before .before .before .before .before .before .before .before .before in
-    back .before .before .before .before .before .before .before .before .before .before .before .before .reply-line .kept .1 .1 .1 .1 .1 .1 .0)
-    (λ c.
-    let back = c .before .before .before .before .before .before .before .before .before .before .before .before in
-    back .before .before .before .before .before .before .before .before .before .before .before .before .reply-line .kept .1 .1 .1 .1 .1 .1 .1 .0)
-    (λ c.
-    let back = c .before .before .before .before .before .before .before .before .before .before .before .before in
-    back .before .before .before .before .before .before .before .before .before .before .before .before .reply-line .kept .1 .1 .1 .1 .1 .1 .1 .1 .0)
-    (λ c.
-    let back = c .before .before .before .before .before .before .before .before .before .before .before .before in
-    back .before .before .before .before .before .before .before .before .before .before .before .before .reply-line .kept .1 .1 .1 .1 .1 .1 .1 .1 .1 .0)
-    (λ c.
-    let back = c .before .before .before .before .before .before .before .before .before .before .before .before in
-    back .before .before .before .before .before .before .before .before .before .before .before .before .reply-line .kept .1 .1 .1 .1 .1 .1 .1 .1 .1 .1 .0)
-    returns-2
-    (λ c. c .before .before .before .before .before .store .kept .0)
-    (λ c.
-    let back = c .before .before .before .before .before .before .before .before .before .before .before .before in
-    back .before .before .before .before .before .before .before .before .before .before .before .before .reply-line .kept .1 .1 .1 .0)
-    (λ c.
-    let back = c .before .before .before .before .before .before .before .before .before .before .before .before in
-    back .before .before .before .before .before .before .before .before .before .before .before .before .reply-line .kept .1 .1 .1 .1 .0)
-    (λ c.
-    let back = c .before .before .before .before .before .before .before .before .before .before .before .before in
-    back .before .before .before .before .before .before .before .before .before .before .before .before .reply-line .kept .1 .1 .1 .1 .1 .0)
-    (λ c.
-    let back = c .before .before .before .before .before .before .before .before .before .before .before .before in
-    back .before .before .before .before .before .before .before .before .before .before .before .before .reply-line .kept .1 .1 .1 .1 .1 .1 .0)
-    (λ c.
-    let back = c .before .before .before .before .before .before .before .before .before .before .before .before in
-    back .before .before .before .before .before .before .before .before .before .before .before .before .reply-line .kept .1 .1 .1 .1 .1 .1 .1 .0)
-    (λ c.
-    let back = c .before .before .before .before .before .before .before .before .before .before .before .before in
-    back .before .before .before .before .before .before .before .before .before .before .before .before .reply-line .kept .1 .1 .1 .1 .1 .1 .1 .1 .0)
-    (λ c.
-    let back = c .before .before .before .before .before .before .before .before .before .before .before .before in
-    back .before .before .before .before .before .before .before .before .before .before .before .before .reply-line .kept .1 .1 .1 .1 .1 .1 .1 .1 .1 .0)
-    (λ c.
-    let back = c .before .before .before .before .before .before .before .before .before .before .before .before in
-    back .before .before .before .before .before .before .before .before .before .before .before .before .reply-line .kept .1 .1 .1 .1 .1 .1 .1 .1 .1 .1 .0)
-    returns-3)
+    (tie.spec (λ c κs. search needs) (λ c. search needs) (λ c. search needs) (λ c. search needs) (λ c. search needs) (λ c. search needs)
+    (λ c. search needs) (λ c. search needs) (λ c. search needs) (λ c. search needs) returns position-requires add-number (λ c κs. search needs)
+    reply-line-requires store-requires (λ c κs. search needs) same-length-10 same-length-11 same-length-12 same-length-13 same-length-14
+    same-length-15 same-length-16 same-length-17 same-length-18 returns-2)

@@ -7,9 +7,9 @@ returns : tie.Need-returns
 returns c = ran-done _ _ (c .before .before .before .before .before .run .ensures) (c .before .ran .given .1)
 
 returns-2 : tie.Need-returns-2
-returns-2 c = ran-full _ _ (c .before .before .before .before .before .before .run .ensures) (c .before .before .ran2 .given .1) (c .number .ensures)
+returns-2 c = ran-full _ _ (c .before .before .before .before .before .run .ensures) (c .before .ran2 .given .1)
 
 pub yindolve-run-spec : {M : Type 1} → statement M
 yindolve-run-spec =
     tie.close
-    (tie.spec (λ c κs. search needs) (λ c. search needs) (λ c. search needs) (λ c κs. search needs) (λ c. search needs) returns (λ c. search needs) returns-2)
+    (tie.spec (λ c κs. search needs) (λ c. search needs) (λ c. search needs) (λ c. search needs) returns (λ c. search needs) returns-2)

@@ -1,0 +1,111 @@
+/* Sessions whose words are damaged at random: a call answers LISTING and writes nothing, or it answers the lines by the session that the words are, and leaves one
+ * that passes the test again. A session that is not damaged answers a text in blocks of any size as yindolve_run does.
+ *     damage SEED SECONDS
+ */
+#include <stdio.h>
+#include <stdlib.h>
+#include <time.h>
+#include "yindolve.h"
+
+#define EXPECT(test)                                                                               \
+    do {                                                                                           \
+        if (!(test)) {                                                                             \
+            printf("line %d, seed %llu: %s\n", __LINE__, (unsigned long long)first_seed, #test); \
+            exit(1);                                                                               \
+        }                                                                                          \
+    } while (0)
+
+static const char model[] = "(constant hub)\n(constant far)\n(predicate stock 1)\n(predicate road 2)\n(predicate rain 0)\n(total 4)\n(discount 1 2)\n"
+    "(reward (if (stock ?a) (if (road hub ?a) 10 3) 0))\n(action fill !d)\n(variant done (if (rain) 1 3))\n(becomes (stock ?s) (if (= !d ?s) 1 (if (stock ?s) 1 0)))\n"
+    "(variant none (if (rain) 3 1))\n(action wait)\n(variant only 4)\n(becomes (rain) 0)\n(start)\n";
+static const char run[] = "(objects 3)\n(is hub 0)\n(is far 2)\n(true stock 2)\n(true road 0 2)\n(value)\n(backup)\n(cut)\n(value)\n(show)\n(true road 0 1)\n(backup)\n(value)\n";
+
+static uint64_t first_seed, seed;
+static yindolve_session whole, part, damaged, copy, other;
+static uint8_t text[sizeof model + sizeof run], answers[1 << 20], joined[1 << 20];
+
+static uint64_t next(uint64_t below) {
+    seed ^= seed << 13, seed ^= seed >> 7, seed ^= seed << 17;
+    return seed % below;
+}
+
+/* Gives a text in blocks of at most `most` bytes; the bytes of all answers. */
+static size_t in_blocks(yindolve_session *s, const uint8_t *bytes, size_t count, size_t most) {
+    size_t at = 0, written = 0;
+    while (at < count) {
+        size_t block = 1 + (size_t)next(most);
+        uint64_t answered = 0, read = 0;
+        for (;;) {
+            if (block > count - at) block = count - at;
+            EXPECT(yindolve_session_lines(s, bytes + at, block, &answered, &read) == 0);
+            if (read > 0 || block == count - at) break;
+            ++block; /* no whole line yet */
+        }
+        memcpy(joined + written, s->answer, answered);
+        written += answered;
+        at += read;
+        if (read == 0) break;
+    }
+    EXPECT(at == count);
+    return written;
+}
+
+/* The words that are kept from line to line, but for the working space and the answer. */
+static int same(const yindolve_session *a, const yindolve_session *b) {
+    return memcmp(a, b, offsetof(yindolve_session, work)) == 0;
+}
+
+static void damage(yindolve_session *s) {
+    uint64_t *words = (uint64_t *)s, counts[] = {YINDOLVE_NUMBER_WORDS, YINDOLVE_ARITIES + YINDOLVE_NUMBER_WORDS + YINDOLVE_NAME_WORDS, offsetof(yindolve_session, work) / 8};
+    uint64_t times = 1 + next(3);
+    while (times--) {
+        uint64_t i = next(4) ? next(counts[next(2)]) : next(counts[2]);
+        if (next(3) == 0) i = offsetof(yindolve_session, table) / 8 + next(600);
+        if (next(5) == 0) i = offsetof(yindolve_session, listings) / 8 + next(120);
+        if (next(5) == 0) i = offsetof(yindolve_session, value) / 8 + next(60);
+        switch (next(6)) {
+        case 0: words[i] += 1; break;
+        case 1: words[i] -= 1; break;
+        case 2: words[i] ^= UINT64_C(1) << next(64); break;
+        case 3: words[i] = next(100); break;
+        case 4: words[i] = words[next(counts[2])]; break;
+        default: words[i] = next(UINT64_MAX);
+        }
+    }
+}
+
+int main(int count, char **arguments) {
+    uint64_t bytes = 0, lines = 0, read = 0, refused = 0, accepted = 0;
+    time_t end;
+    if (count != 3) return 2;
+    first_seed = seed = strtoull(arguments[1], NULL, 10) | 1;
+    end = time(NULL) + atoi(arguments[2]);
+    memcpy(text, model, sizeof model - 1);
+    memcpy(text + sizeof model - 1, run, sizeof run - 1);
+    size_t size = sizeof model + sizeof run - 2;
+    EXPECT(yindolve_run(text, size, answers, sizeof answers, &bytes, &lines) == 0 && bytes > 100);
+    do {
+        EXPECT(yindolve_session_open(&whole) == 0 && in_blocks(&whole, text, size, 200) == bytes && memcmp(joined, answers, bytes) == 0);
+        EXPECT(yindolve_session_open(&part) == 0 && in_blocks(&part, text, sizeof model - 1 + next(2) * (sizeof run - 1), 60) <= bytes);
+        for (int i = 0; i < 100; ++i) {
+            damaged = next(2) ? whole : part;
+            damage(&damaged);
+            copy = other = damaged;
+            uint64_t answer = yindolve_session_lines(&damaged, (const uint8_t *)run, sizeof run - 1, &bytes, &read);
+            if (answer) {
+                ++refused;
+                EXPECT(answer == YINDOLVE_LISTING && same(&damaged, &copy) && memcmp(damaged.work, copy.work, sizeof copy.work) == 0);
+                continue;
+            }
+            ++accepted;
+            EXPECT(read == sizeof run - 1 && bytes <= YINDOLVE_ANSWER_BYTES);
+            memset(other.work, (int)next(256), sizeof other.work); /* which is of no account */
+            EXPECT(yindolve_session_lines(&other, (const uint8_t *)run, sizeof run - 1, &lines, &read) == 0 && lines == bytes);
+            EXPECT(same(&damaged, &other) && memcmp(damaged.answer, other.answer, bytes) == 0);
+            EXPECT(yindolve_session_lines(&damaged, (const uint8_t *)run, sizeof run - 1, &bytes, &read) == 0);
+        }
+        EXPECT(yindolve_run(text, size, answers, sizeof answers, &bytes, &lines) == 0);
+    } while (time(NULL) < end);
+    printf("%llu sessions refused, %llu accepted\n", (unsigned long long)refused, (unsigned long long)accepted);
+    return !(refused > 0 && accepted > 0);
+}
