@@ -213,9 +213,9 @@ lines-refused block numbers w work answer {bytes} {read} e f = record {
   does = untouched numbers w work answer (length block) e f
       (AreAnswered block (answeredLines block numbers w answer) numbers answer numbers w answer bytes read)
       (AreUntouched numbers w answer bytes read numbers w answer bytes read) (record {
-    untouched = record { numbers-left = refl; memory-left = refl; answer-left = refl; bytes-left = refl };
-    read-left = refl;
-  });
+        untouched = record { numbers-left = refl; memory-left = refl; answer-left = refl; bytes-left = refl };
+        read-left = refl;
+      });
 }
 
 take-none : (s : List ℕ) → take 0 s ≡ []
@@ -270,14 +270,14 @@ module _ (line : List ℕ) {numbers : List ℕ} {w : Memory} {work answer : List
           does = subst (λ (b : Bool). DoneOrLeft b
               (IsAnswered (afterLine (progressAt numbers w) line) numbers answer numbers′ w′ answer′ bytes′)
               (IsUntouched numbers w answer bytes numbers′ w′ answer′ bytes′)) (sym (g .both)) (record {
-            session = ap (λ (q : Numbers). sessionOf q w′) o ∙ y .session;
-            lines = ap linesAt u ∙ saved-lines (r .numbers) (p .lines + 1) m t ∙ j;
-            met = ap metAt u ∙ saved-met (r .numbers) (p .lines + 1) m t ∙ em ∙ ap (λ (q : Position). q .met || hasBytes line) ep;
-            again = decided (session-is (numbersAt numbers′) w′) (subst (λ (q : Numbers). Kept q w′) (sym o) (y .kept));
-            behind = ap (drop numberWords) u ∙ saved-behind (r .numbers) (p .lines + 1) m t;
-            buffer = placed-buffer (g .answer-room) (y .short) (y .placed);
-            byte-count = v ∙ placed-end (g .answer-room) (y .short) (y .placed);
-          });
+                session = ap (λ (q : Numbers). sessionOf q w′) o ∙ y .session;
+                lines = ap linesAt u ∙ saved-lines (r .numbers) (p .lines + 1) m t ∙ j;
+                met = ap metAt u ∙ saved-met (r .numbers) (p .lines + 1) m t ∙ em ∙ ap (λ (q : Position). q .met || hasBytes line) ep;
+                again = decided (session-is (numbersAt numbers′) w′) (subst (λ (q : Numbers). Kept q w′) (sym o) (y .kept));
+                behind = ap (drop numberWords) u ∙ saved-behind (r .numbers) (p .lines + 1) m t;
+                buffer = placed-buffer (g .answer-room) (y .short) (y .placed);
+                byte-count = v ∙ placed-end (g .answer-room) (y .short) (y .placed);
+              });
         }
 
 -- ===== A block of lines =====
@@ -349,11 +349,11 @@ module _ {block numbers : List ℕ} {w : Memory} {work answer : List ℕ} (g : G
       does = subst (λ (b : Bool). DoneOrLeft b
           (AreAnswered block x numbers answer numbers′ w′ answer′ (r .position .end) (r .at))
           (AreUntouched numbers w answer bytes read numbers′ w′ answer′ (r .position .end) (r .at))) (sym (g .both)) (record {
-        answered = answered;
-        fits = sym (y .full ∙ ap (λ (t : Whole). t .full) whole-here) ∙ y .never (omega arith);
-        inside = y .inside;
-        left = y .left ∙ ap (λ (t : Whole). record { whole = t .left; rest = linesOf block .rest }) whole-here;
-      });
+            answered = answered;
+            fits = sym (y .full ∙ ap (λ (t : Whole). t .full) whole-here) ∙ y .never (omega arith);
+            inside = y .inside;
+            left = y .left ∙ ap (λ (t : Whole). record { whole = t .left; rest = linesOf block .rest }) whole-here;
+          });
     }
 
 -- ===== The end =====

@@ -453,16 +453,7 @@ fn enter(
     ) {
         return Refusal::Buffer.number();
     }
-    if !is_open(
-        numbers,
-        names,
-        arities,
-        listings,
-        table,
-        state,
-        value,
-        more,
-    ) {
+    if !is_open(numbers, names, arities, listings, table, state, value, more) {
         return Refusal::Listing.number();
     }
     0
@@ -512,7 +503,16 @@ pub extern "C" fn yindolve_line(
     ensures { λ r. ⌜ Replies (now (line .entry)) (now (numbers .entry)) (memoryOf (now (names .entry)) (now (arities .entry)) (now (listings .entry)) (now (table .entry)) (now (state .entry)) (now (value .entry))) (now (work .entry)) (now (answer .entry)) (now (bytes .entry)) r (now (numbers .exit)) (memoryOf (now (names .exit)) (now (arities .exit)) (now (listings .exit)) (now (table .exit)) (now (state .exit)) (now (value .exit))) (now (answer .exit)) (now (bytes .exit)) ⌝ }
 {
     let refusal = enter(
-        numbers, names, arities, listings, table, state, value, work, answer, 1,
+        numbers,
+        names,
+        arities,
+        listings,
+        table,
+        state,
+        value,
+        work,
+        answer,
+        1,
     );
     if refusal != 0 {
         return refusal;

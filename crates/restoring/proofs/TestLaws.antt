@@ -33,7 +33,7 @@ use Rattle.memory.specs.Memory.{Memory, memoryOf, Rooms}
 use Rattle.checking.specs.Fitting.{isValue, actionsFit}
 use Rattle.checking.specs.Lent.{Lent}
 use Rattle.checking.proofs.TestLaws.{stops, goes, refused, passed}
-use Rattle.restoring.specs.Restoring.{roomsFit, countsFit, aritiesFit, headFits, rewardFits, lastFits, modelFits, isModel, stateFits, runFits, partFits, isSession}
+use Rattle.restoring.specs.Restoring.{roomsFit, countsFit, aritiesFit, headFits, rewardFits, lastFits, modelFits, stateFits, runFits, partFits, isSession}
 use Rattle.restoring.specs.PartLaws.{head-is, reward-is, state-is, arities-are, rooms-are, model-is}
 use Rattle.checking.specs.DecisionLaws.{decided}
 
@@ -221,53 +221,6 @@ module _ (n : Numbers) (ar listings table : List ℕ) {a : Bool} (ea : a ≡ cou
 
           pub model-rest : {r : Bool} → not e ≡ false → r ≡ lastFits table (n .counts) (n .head .actions) → r ≡ modelFits n ar listings table
           model-rest fe q = model-tests n ar listings table (next ea fa (next eb fb (next ec fc (next ed fd (next ee fe q)))))
-
--- the tests of a whole model
-abbrev wholeTests : List ℕ → List ℕ → List ℕ → Head → Bool
-wholeTests ar listings table h =
-    leb tableWords (length table)
-    && (headFits h
-    && (leb (h .words) (length listings)
-    && (rewardFits ar listings h true
-    && actionsFit ar listings table (h .words) (h .actions))))
-
-whole-tests : (ar listings table : List ℕ) (h : Head) {r : Bool} → r ≡ wholeTests ar listings table h → r ≡ isModel ar listings table h
-unfolding isModel
-whole-tests ar listings table h q = q
-
-module _ (ar listings table : List ℕ) (h : Head) where
-  pub whole-small : length table < tableWords → false ≡ isModel ar listings table h
-  whole-small l = whole-tests ar listings table h (stops _ (lt-leb tableWords (length table) l))
-
-  module _ (l : tableWords ≤ length table) {a : Bool} (ea : a ≡ headFits h) where
-    pub whole-head : not a ≡ true → false ≡ isModel ar listings table h
-    whole-head f = whole-tests ar listings table h (goes (le-leb tableWords (length table) l) (first _ ea f))
-
-    module _ (fa : not a ≡ false) where
-      pub whole-words : length listings < h .words → false ≡ isModel ar listings table h
-      whole-words k = whole-tests ar listings table h (goes (le-leb tableWords (length table) l) (next ea fa (stops _ (lt-leb (h .words) (length listings) k))))
-
-      module _ (k : h .words ≤ length listings) where
-        pub whole-within : h .«reward_start» + h .«reward_words» ≤ length listings
-        whole-within = let x = head-is h .yes (passed ea fa) in omega (arith, x .reward, k)
-
-        module _ {b : Bool} (eb : b ≡ rewardFits ar listings h true) where
-          pub whole-reward : not b ≡ true → false ≡ isModel ar listings table h
-          whole-reward f =
-              whole-tests ar listings table h (goes (le-leb tableWords (length table) l) (next ea fa (goes (le-leb (h .words) (length listings) k) (first _ eb f))))
-
-          module _ (fb : not b ≡ false) where
-            pub whole-lent : Lent ar listings (h .words) 0
-            whole-lent = record {
-              arities = is-listing-good ar (rewardWords listings h) (reward-is ar listings h true .yes (passed eb fb) .value refl .listing) .arities;
-              room = k;
-              parameters = omega arith;
-            }
-
-            pub whole-rest : {r : Bool} → r ≡ actionsFit ar listings table (h .words) (h .actions) → r ≡ isModel ar listings table h
-            whole-rest q =
-                whole-tests ar listings table h
-                (goes (le-leb tableWords (length table) l) (next ea fa (goes (le-leb (h .words) (length listings) k) (next eb fb q))))
 
 -- ===== The state and the run =====
 

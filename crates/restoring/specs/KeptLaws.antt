@@ -39,7 +39,7 @@ use Rattle.memory.specs.Memory.{Memory, sessionOf, Stored, Kept, Rooms}
 use Rattle.memory.specs.StoredLaws.{stored-reward}
 use Rattle.checking.specs.DecisionLaws.{decide, decided, on, both, at-most}
 use Rattle.checking.specs.FittingLaws.{IsTruth, IsValue, FitTruth, FitVariant, FitAction, actions-are}
-use Rattle.restoring.specs.Restoring.{isModel, isSession}
+use Rattle.restoring.specs.Restoring.{isSession}
 use Rattle.restoring.specs.PartLaws.{arities-long, HeadFit, RewardFit, StateFit, PartFit, ModelFit, rooms-are, head-is, reward-is, model-is, state-is, part-is}
 
 -- ===== Lists made of a function =====
@@ -360,60 +360,3 @@ module _ (n : Numbers) (w : Memory) where
 -- numbers and words are a session's exactly if the test says so
 pub session-is : (n : Numbers) (w : Memory) → Decides (isSession n w) (Kept n w)
 session-is n w = on (fits-are n w) (λ f. record { stored = fits-stored n w f; good = fits-good n w f }) (λ k. kept-fits n w k)
-
--- ===== A whole model =====
-
-module _ (ar listings table : List ℕ) (h : Head) where
-  -- all parts of its test
-  record ModelParts : Type 0 where
-    room : tableWords ≤ length table
-    head : HeadFit h
-    used : h .words ≤ length listings
-    reward : RewardFit ar listings h true
-    actions : (a : ℕ) → a < h .actions → FitAction ar listings table (h .words) a
-
-  parts-are : isModel ar listings table h ≡ true → ModelParts
-  unfolding isModel
-  parts-are e =
-      let x = both (at-most tableWords (length table)) (λ a. both (head-is h) (λ b. both (at-most (h .words) (length listings))
-      (λ c. both (reward-is ar listings h true) (λ d. actions-are ar listings table (h .words) (h .actions))))) .yes e in
-      record { room = x .0; head = x .1 .0; used = x .1 .1 .0; reward = x .1 .1 .1 .0; actions = x .1 .1 .1 .1 }
-
-  parts-building : ModelParts → Building listings table h
-  parts-building m = record {
-    spanned = record {
-      room = m .room;
-      few = m .head .actions;
-      used = m .head .words;
-      reward = m .head .reward;
-      actions = λ a l. action-spanned ar listings table (h .words) a (m .actions a l);
-    };
-    listed = record {
-      reward = λ z. is-listing-diagram ar (rewardWords listings h) (m .reward .value refl .listing);
-      variants = λ a v l k. variant-listed ar listings table (h .words) (getD table (a * actionWords) 0) (variantPlace a v) (m .actions a l .variants v k);
-    };
-  }
-
-  parts-good : ModelParts → GoodModel (modelOf ar listings table h)
-  unfolding modelOf
-  parts-good m =
-      let r = good-value ar (rewardWords listings h) (m .reward .value refl) in
-      record {
-        arities = r .listed .arities;
-        total-some = m .head .total-some;
-        total-few = m .head .total-few;
-        denominator-some = m .head .denominator-some;
-        denominator-few = m .head .denominator-few;
-        numerator-few = m .head .numerator-few;
-        reward-listed = r .listed;
-        reward-closed = r .is-closed;
-        reward = r .within;
-        actions-few = omega (arith, m .head .actions, length-many (actionAt listings table) (h .actions));
-        actions = every-many (GoodAction ar) (actionAt listings table) (h .actions) (λ a l. action-good ar listings table (h .words) a (m .actions a l));
-      }
-
-  -- it is laid out as the planner asks
-  pub model-laid : isModel ar listings table h ≡ true → Laid ar listings table h
-  model-laid e =
-      let m = parts-are e in
-      building-laid ar (parts-building m) (m .used) (parts-good m) (λ z. clash refl (m .reward .words ∙ ap (λ (x : ℕ). not (eqb x 0)) z))

@@ -87,16 +87,6 @@ modelFits n ar listings table =
     && (actionsFit ar listings table (n .head .words) (n .head .actions)
     && lastFits table (n .counts) (n .head .actions)))))
 
--- words are a whole model: one that was accepted at (start), but for the sums of weights
-unfoldable pub isModel : List ℕ → List ℕ → List ℕ → Head → Bool
-unfolding headFits rewardFits
-isModel ar listings table h =
-    leb tableWords (length table)
-    && (headFits h
-    && (leb (h .words) (length listings)
-    && (rewardFits ar listings h true
-    && actionsFit ar listings table (h .words) (h .actions))))
-
 -- ===== The state and the run =====
 
 -- a state that is given is one

@@ -18,7 +18,7 @@ ghost use Rattle.mdp.specs.Model.{mostActions};
 ghost use Rattle.facts.specs.Words.{stateWords};
 ghost use Rattle.model.specs.Layout.{listingWords, tableWords};
 ghost use Rattle.memory.specs.Memory.{memoryOf};
-ghost use Rattle.restoring.specs.Restoring.{roomsFit, countsFit, aritiesFit, headFits, rewardFits, lastFits, modelFits, isModel, stateFits, runFits, partFits, isSession};
+ghost use Rattle.restoring.specs.Restoring.{roomsFit, countsFit, aritiesFit, headFits, rewardFits, lastFits, modelFits, stateFits, runFits, partFits, isSession};
 
 // k, at most.
 const STEPS: u64 = 1000000000000000000;
@@ -197,25 +197,6 @@ fn model_fits(n: Numbers, arities: &[u64], listings: &[u64], table: &[u64]) -> b
         return false;
     }
     last_fits(table, counts, actions)
-}
-
-// Whether words are a whole model.
-pub fn is_model(arities: &[u64], listings: &[u64], table: &[u64], h: Head) -> bool
-    ensures { λ r. ⌜ r ≡ isModel (now (arities .entry)) (now (listings .entry)) (now (table .entry)) h ⌝ }
-{
-    if table.len() < model::TABLE_WORDS {
-        return false;
-    }
-    if !head_fits(h) {
-        return false;
-    }
-    if h.words > listings.len() {
-        return false;
-    }
-    if !reward_fits(arities, listings, h, true) {
-        return false;
-    }
-    checking::actions_fit(arities, listings, table, h.words, h.actions)
 }
 
 // Whether words are a state, if one is given.
