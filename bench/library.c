@@ -7,11 +7,18 @@ typedef struct {
 } slice;
 
 uint64_t compiled_yindolve_check(const slice *arities, const slice *words);
+uint64_t compiled_yindolve_value(const slice *arities, const slice *words, uint64_t objects, const slice *constants, const slice *facts, uint64_t *value);
 uint64_t compiled_yindolve_run(const slice *text, const slice *answers, uint64_t *bytes, uint64_t *lines);
 
 uint64_t yindolve_check(const uint64_t *arities, size_t arities_count, const uint64_t *words, size_t words_count) {
     slice a = {arities, arities_count}, w = {words, words_count};
     return compiled_yindolve_check(&a, &w);
+}
+
+uint64_t yindolve_value(const uint64_t *arities, size_t arities_count, const uint64_t *words, size_t words_count, uint64_t objects, const uint64_t *constants,
+    size_t constants_count, const uint64_t *facts, size_t facts_count, uint64_t *value) {
+    slice a = {arities, arities_count}, w = {words, words_count}, c = {constants, constants_count}, f = {facts, facts_count};
+    return compiled_yindolve_value(&a, &w, objects, &c, &f, value);
 }
 
 uint64_t yindolve_run(const uint8_t *text, size_t text_count, uint8_t *answers, size_t answers_count, uint64_t *bytes, uint64_t *lines) {

@@ -1,5 +1,5 @@
 #!/usr/bin/env bash
-# library.sh TREE OUT: a static library of the calls that sides.sh measures, compiled from the sources of TREE as `rt staticlib` does it but with NO proof. To measure
+# library.sh TREE OUT: a static library of the calls that sides.rs and main.rs measure, compiled from the sources of TREE as `rt staticlib` does it but with NO proof. To measure
 # a tree that is not proved here, and for nothing else.
 set -euo pipefail
 here=$(cd "$(dirname "$0")" && pwd)
