@@ -23,7 +23,7 @@ use Rattle.session.specs.Texts.{lineFeed, Lines, behindByte, linesOf, hasBytes,
 use Rattle.texts.specs.Ends.{lineLength}
 use Rattle.texts.specs.LineLaws.{line-within, line-whole, line-ends, line-front}
 use Rattle.texts.specs.Running.{allBytes}
-use Rattle.texts.specs.Streaming.{lineRoom, Stream, fresh, onByte, onBytes, onBlocks, streamStart, onEnd, restOf}
+use Rattle.texts.specs.Streaming.{lineRoom, Stream, fresh, onByte, onBytes, onBlocks, streamStart, onEnd, behindWritten, restOf}
 
 -- ===== A line that is too long =====
 
@@ -210,13 +210,6 @@ pub stream-blocks : (bs : List (List ℕ)) → onEnd (onBlocks streamStart bs) �
 stream-blocks bs = ap onEnd (blocks-joined streamStart bs) ∙ stream-whole (joined bs)
 
 -- ===== Answers that were written before =====
-
--- the bytes w were written before those of the stream
-abbrev pub behindWritten : List ℕ → Stream → Stream
-behindWritten w t = record {
-  progress = record { session = t .progress .session; lines = t .progress .lines; met = t .progress .met; bytes = w ++ t .progress .bytes };
-  partial = t .partial;
-}
 
 byte-apart : (w : List ℕ) (t : Stream) (b : ℕ) → onByte (behindWritten w t) b ≡ behindWritten w (onByte t b)
 unfolding onByte afterLine

@@ -51,6 +51,13 @@ unfoldable pub onEnd : Stream → List ℕ
 unfolding afterRest
 onEnd t = allBytes (afterRest (t .progress) (t .partial))
 
+-- the bytes w were written before those of the stream
+abbrev pub behindWritten : List ℕ → Stream → Stream
+behindWritten w t = record {
+  progress = record { session = t .progress .session; lines = t .progress .lines; met = t .progress .met; bytes = w ++ t .progress .bytes };
+  partial = t .partial;
+}
+
 -- ===== The bytes kept of a block =====
 
 -- bytes that are not answered yet, from the beginning of a line on: of a line that no line feed ends, as many as are needed

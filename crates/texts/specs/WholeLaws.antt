@@ -70,7 +70,8 @@ whole-left free room p [] = omega arith
 whole-left free room p (l ∷ ls) = go (leb (length (p .bytes) + free) room) (fits room (afterLine p l .bytes)) (whole-left free room (afterLine p l) ls)
   where
     go : (a b : Bool) → length (wholeFrom free room (afterLine p l) ls .left) ≤ length ls
-        → length (cond a (cond b (wholeFrom free room (afterLine p l) ls) (record { progress = unwritten p l; left = l ∷ ls; full = true })) (record { progress = p; left = l ∷ ls; full = false }) .left)
+        → length (cond a (cond b (wholeFrom free room (afterLine p l) ls) (record { progress = unwritten p l; left = l ∷ ls; full = true }))
+        (record { progress = p; left = l ∷ ls; full = false }) .left)
         ≤ suc (length ls)
     go true true ih = omega arith
     go true false ih = omega arith

@@ -22,8 +22,7 @@ use Rattle.texts.specs.declared.Rest.{Rest}
 use Rattle.texts.specs.Ends.{lineLength}
 use Rattle.texts.specs.LineLaws.{line-within, lines-first, lines-none, line-front}
 use Rattle.texts.specs.Sending.{mostLines, progressOf, Started}
-use Rattle.texts.specs.Streaming.{lineRoom, fresh, onBytes, streamStart, restOf, Keeps}
-use Rattle.texts.specs.StreamLaws.{behindWritten}
+use Rattle.texts.specs.Streaming.{lineRoom, fresh, onBytes, streamStart, restOf, Keeps, behindWritten}
 use Rattle.texts.specs.Whole.{Whole, wholeFrom, wholeOf, Reaches}
 use Rattle.texts.specs.WholeLaws.{whole-some}
 use Rattle.yindolve.specs.declared.Refilled.{Refilled}

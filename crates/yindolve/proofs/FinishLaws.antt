@@ -28,8 +28,8 @@ use Rattle.texts.specs.Ends.{lineLength}
 use Rattle.texts.specs.LineLaws.{line-within}
 use Rattle.texts.specs.Running.{Filled, allBytes, fillClosing, fillRest, Fills}
 use Rattle.texts.specs.Sending.{mostLines, progressOf}
-use Rattle.texts.specs.Streaming.{lineRoom, Stream, fresh, onBytes, streamStart, onEnd}
-use Rattle.texts.specs.StreamLaws.{behindWritten, on-line, stream-whole, end-apart}
+use Rattle.texts.specs.Streaming.{lineRoom, Stream, fresh, onBytes, streamStart, onEnd, behindWritten}
+use Rattle.texts.specs.StreamLaws.{on-line, stream-whole, end-apart}
 use Rattle.yindolve.specs.Program.{InHand, Finishes, Answers, AnswersSoFar, Ends}
 use Rattle.yindolve.proofs.EndLaws.{Run}
 

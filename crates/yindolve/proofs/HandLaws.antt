@@ -22,8 +22,8 @@ use Rattle.texts.specs.declared.Rest.{Rest}
 use Rattle.texts.specs.Ends.{lineLength}
 use Rattle.texts.specs.LineLaws.{line-within, lines-first, lines-none}
 use Rattle.texts.specs.Sending.{mostLines, progressOf, Going, Started}
-use Rattle.texts.specs.Streaming.{lineRoom, Stream, fresh, onBytes, streamStart, restOf, Keeps}
-use Rattle.texts.specs.StreamLaws.{behindWritten, bytes-append, written-apart, rest-line}
+use Rattle.texts.specs.Streaming.{lineRoom, Stream, fresh, onBytes, streamStart, restOf, Keeps, behindWritten}
+use Rattle.texts.specs.StreamLaws.{bytes-append, written-apart, rest-line}
 use Rattle.texts.specs.Whole.{Whole, wholeFrom, wholeOf, Answerable, Reaches}
 use Rattle.texts.specs.WholeLaws.{whole-some}
 use Rattle.yindolve.specs.declared.Refilled.{Refilled}

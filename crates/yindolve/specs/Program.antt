@@ -13,8 +13,7 @@ use Rattle.texts.specs.declared.Position.{Position}
 use Rattle.texts.specs.declared.Rest.{Rest}
 use Rattle.texts.specs.Running.{allBytes}
 use Rattle.texts.specs.Sending.{mostLines, progressOf}
-use Rattle.texts.specs.Streaming.{fresh, onBytes, streamStart}
-use Rattle.texts.specs.StreamLaws.{behindWritten}
+use Rattle.texts.specs.Streaming.{fresh, onBytes, streamStart, behindWritten}
 use Rattle.yindolve.specs.declared.Refilled.{Refilled}
 
 -- ===== Reading on =====

@@ -27,22 +27,32 @@ loop-holds c =
 
 next-line-requires : tie.Need-next-line-requires Inv-loop μ-loop
 next-line-requires c κs =
+    let m16 = c .before .before .before .before .before .before .before .before .before .before .before .before .before .before .before .before in
     let l = c .before .before .before .before .before .before .before .before .before .before in
-    let s = c .before .before .before .before .before .before .before .before .before .before .before .before .before .before .before .before .before .before .before .before .before .pre in
-    (l .loop .inv .0 .going, (answering-lines (l .loop .inv .0) (l .loop .inv .2) (c .before .before .before .before .before .before .before .before .before .loop-test .taken) (of-lines _ _ _) (s .lines), omega (arith, s .work-room, l .loop .inv .1 .work-room)))
+    let s = m16 .before .before .before .before .before .pre in (
+      l .loop .inv .0 .going,
+      (
+        answering-lines (l .loop .inv .0) (l .loop .inv .2) (c .before .before .before .before .before .before .before .before .before .loop-test .taken)
+            (of-lines _ _ _) (s .lines),
+        omega (arith, s .work-room, l .loop .inv .1 .work-room),
+      ),
+    )
 
 loop-less : tie.Need-loop-less Inv-loop μ-loop
 loop-less c =
-    let l = c .before .before .before .before .before .before .before .before .before .before .before .before .before .before .before .before .before .before .before .before .before .before .before .before .before .before .before .before .loop .inv in
-    let n = c .before .before .before .before .before .before .before .before .before .before .before .before .before .before .before .before .before .next-line in
-    let t = c .before .before .before .before .before .before .before .before .before .before .before .before .before .before .before .before .before .before .before .before .before .before .before .before .before .before .before .loop-test .taken in
+    let m16 = c .before .before .before .before .before .before .before .before .before .before .before .before .before .before .before .before in
+    let l = m16 .before .before .before .before .before .before .before .before .before .before .before .before .loop .inv in
+    let n = m16 .before .next-line in
+    let t = m16 .before .before .before .before .before .before .before .before .before .before .before .loop-test .taken in
     omega (arith, t, end-later (l .0) (l .2) t (n .ensures) (n .kept .1 .1 .1 .1 .1 .1 .1 .1 .1 .1 .0) (c .next-end2 .ensures))
 
 loop-again : tie.Need-loop-again Inv-loop μ-loop
 loop-again c =
-    let l = c .before .before .before .before .before .before .before .before .before .before .before .before .before .before .before .before .before .before .before .before .before .before .before .before .before .before .before .before .loop .inv in
-    let n = c .before .before .before .before .before .before .before .before .before .before .before .before .before .before .before .before .before .next-line in (
-      answering-next (l .0) (l .2) (c .before .before .before .before .before .before .before .before .before .before .before .before .before .before .before .before .before .before .before .before .before .before .before .before .before .before .before .loop-test .taken) (n .ensures) (n .kept .1 .1 .1 .1 .1 .1 .1 .1 .1 .1 .0),
+    let m16 = c .before .before .before .before .before .before .before .before .before .before .before .before .before .before .before .before in
+    let l = m16 .before .before .before .before .before .before .before .before .before .before .before .before .loop .inv in
+    let n = m16 .before .next-line in (
+      answering-next (l .0) (l .2) (m16 .before .before .before .before .before .before .before .before .before .before .before .loop-test .taken) (n .ensures)
+          (n .kept .1 .1 .1 .1 .1 .1 .1 .1 .1 .1 .0),
       record {
         names = n .kept .1 .1 .1 .0 ∙ l .1 .names;
         arities = n .kept .1 .1 .1 .1 .0 ∙ l .1 .arities;
@@ -68,7 +78,14 @@ answer-whole-spec =
     (λ c. next-inside (c .before .loop .inv .0) (c .before .loop .inv .2) (c .loop-test .taken))
     (λ c. omega (arith, c .loop-test .taken))
     next-line-requires
-    (λ c κs. omega (arith, c .before .before .before .before .before .before .before .before .before .before .before .before .before .before .before .before .next-line .ensures .going .within, c .before .before .before .before .before .before .before .before .before .before .before .before .before .before .before .before .next-line .kept .1 .1 .1 .1 .1 .1 .1 .1 .1 .1 .0, c .before .before .before .before .before .before .before .before .before .before .before .before .before .before .before .before .before .before .before .before .before .before .before .before .before .before .before .loop .inv .0 .long))
+    (λ c κs.
+    let m16 = c .before .before .before .before .before .before .before .before .before .before .before .before .before .before .before .before in
+    omega (
+      arith,
+      m16 .next-line .ensures .going .within,
+      m16 .next-line .kept .1 .1 .1 .1 .1 .1 .1 .1 .1 .1 .0,
+      m16 .before .before .before .before .before .before .before .before .before .before .before .loop .inv .0 .long,
+    ))
     loop-less
     loop-again
     (λ c. c .before .loop .inv .1 .names)

@@ -15,7 +15,8 @@ move-front-requires c κs =
 returns : tie.Need-returns
 returns c =
     let s = c .before .before .before .before .before .before .before .before in
-    keeps (s .args .block .now) (s .args .at) (s .args .n) (s .pre .0) (s .pre .1) (c .before .before .before .before .before .line-end .ensures) refl (c .before .before .before .before .rest-of .ensures) (c .before .before .move-front .ensures)
+    keeps (s .args .block .now) (s .args .at) (s .args .n) (s .pre .0) (s .pre .1) (c .before .before .before .before .before .line-end .ensures) refl
+    (c .before .before .before .before .rest-of .ensures) (c .before .before .move-front .ensures)
 
 pub keep-rest-spec : {M : Type 1} → statement M
 keep-rest-spec =

@@ -6,8 +6,11 @@ use Rattle.texts.proofs.next_line.Tie as tie
 
 returns : tie.Need-returns
 returns c =
-    let s = c .before .before .before .before .before .before .before .before .before .before .before .before .before .before .before .before .before .before .before .before .before .before .before .before .before .before .before .before .before .before .before .before .before .before .before .before .before .before in
-    stepped (s .args .r) (s .pre .0) (c .before .before .before .before .before .before .before .before .before .before .before .before .before .before .before .before .before .reply-line .ensures) (s .args .next) (c .before .before .before .before .before .before .before .before .before .before .before .before .before .before .before .before .before .before .before .before .before .before .before .before .before .before .met-behind .ensures) (c .behind-reply .ensures)
+    let m16 = c .before .before .before .before .before .before .before .before .before .before .before .before .before .before .before .before in
+    let m32 = m16 .before .before .before .before .before .before .before .before .before .before .before .before .before .before .before .before in
+    let s = m32 .before .before .before .before .before .before in
+    stepped (s .args .r) (s .pre .0) (m16 .before .reply-line .ensures) (s .args .next)
+    (m16 .before .before .before .before .before .before .before .before .before .before .met-behind .ensures) (c .behind-reply .ensures)
 
 pub next-line-spec : {M : Type 1} → statement M
 next-line-spec =
@@ -15,7 +18,9 @@ next-line-spec =
     (tie.spec
     (λ c. omega (arith, c .before .before .before .before .before .before .before .before .before .before .before .pre .1 .0))
     (λ c κs. search needs)
-    (λ c κs. (c .before .before .before .before .before .before .before .before .before .before .before .before .before .before .before .before .before .before .before .before .pre .0 .kept, c .before .before .before .before .before .before .before .before .before .before .before .before .before .before .before .before .before .before .before .before .pre .1 .1))
+    (λ c κs.
+    let m16 = c .before .before .before .before .before .before .before .before .before .before .before .before .before .before .before .before in
+    (m16 .before .before .before .before .pre .0 .kept, m16 .before .before .before .before .pre .1 .1))
     (λ c κs. search needs)
     (λ c. c .before .before .before .before .before .before .before .before .before .before .before .before .before .before .before .before .before .reply-line .kept .1 .1 .1 .0)
     (λ c. c .before .before .before .before .before .before .before .before .before .before .before .before .before .before .before .before .before .reply-line .kept .1 .1 .1 .1 .0)

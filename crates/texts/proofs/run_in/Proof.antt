@@ -7,36 +7,65 @@ use Rattle.texts.proofs.run_in.Tie as tie
 
 answer-whole-requires : tie.Need-answer-whole-requires
 answer-whole-requires c κs =
-    let s = c .before .before .before .before .before .before .before .before .before .before .before .before .before .before .before .before .before .before .before .before .before .before .before .before in
+    let m16 = c .before .before .before .before .before .before .before .before .before .before .before .before .before .before .before .before in
+    let s = m16 .before .before .before .before .before .before .before .before in
     let a = s .args in
-    run-answerable (c .before .before .before .before .before .before .before .before .before .before .before .before .begin .ensures .says (a .names .now) (a .listings .now) (a .table .now) (a .value .now) (a .out .now) (s .pre .0)) (omega (arith, s .good)) (s .pre .1)
+    run-answerable (c .before .before .before .before .before .before .before .before .before .before .before .before .begin .ensures .says (a .names .now) (a .listings .now)
+    (a .table .now) (a .value .now) (a .out .now) (s .pre .0)) (omega (arith, s .good)) (s .pre .1)
 
 end-behind-requires : tie.Need-end-behind-requires
 end-behind-requires c κs =
-    let s = c .before .before .before .before .before .before .before .before .before .before .before .before .before .before .before .before .before .before .before .before .before .before .before .before .before .before .before .before .before .before .before .before .before .before .before .before .before .before .before .before .before .before in
+    let m16 = c .before .before .before .before .before .before .before .before .before .before .before .before .before .before .before .before in
+    let m32 = m16 .before .before .before .before .before .before .before .before .before .before .before .before .before .before .before .before in
+    let s = m32 .before .before .before .before .before .before .before .before .before .before in
     let a = s .args in
-    run-ending (c .before .before .before .before .before .before .before .before .before .before .before .before .before .before .before .before .before .before .before .before .before .before .before .before .before .before .before .before .before .before .begin .ensures .says (a .names .now) (a .listings .now) (a .table .now) (a .value .now) (a .out .now) (s .pre .0)) (omega (arith, s .good)) (c .before .before .before .before .before .before .before .before .before .before .before .before .before .before .before .before .before .answer-whole .ensures)
+    run-ending (m16 .before .before .before .before .before .before .before .before .before .before .before .before .before .before .begin .ensures .says (a .names .now)
+    (a .listings .now) (a .table .now) (a .value .now) (a .out .now) (s .pre .0)) (omega (arith, s .good)) (m16 .before .answer-whole .ensures)
 
 returns : tie.Need-returns
 returns c =
-    let s = c .before .before .before .before .before .before .before .before .before .before .before .before .before .before .before .before .before .before .before .before .before .before .before .before .before .before .before .before .before .before .before .before .before .before .before .before .before .before .before .before .before .before .before .before .before in
+    let m16 = c .before .before .before .before .before .before .before .before .before .before .before .before .before .before .before .before in
+    let m32 = m16 .before .before .before .before .before .before .before .before .before .before .before .before .before .before .before .before in
+    let s = m32 .before .before .before .before .before .before .before .before .before .before .before .before .before in
     let a = s .args in
-    let x = c .before .before .before .before .before .before .before .before .before .before .before .before .before .before .before .before .before .before .before .before .answer-whole in
-    run-ends (c .before .before .before .before .before .before .before .before .before .before .before .before .before .before .before .before .before .before .before .before .before .before .before .before .before .before .before .before .before .before .before .before .before .begin .ensures .says (a .names .now) (a .listings .now) (a .table .now) (a .value .now) (a .out .now) (s .pre .0)) (x .ensures) (x .kept .1 .1 .1 .1 .1 .1 .1 .1 .1 .1 .1 .0) (c .before .before .end-behind .ensures)
+    let x = m16 .before .before .before .before .answer-whole in
+    run-ends (m32 .before .begin .ensures .says (a .names .now) (a .listings .now) (a .table .now) (a .value .now) (a .out .now) (s .pre .0)) (x .ensures)
+    (x .kept .1 .1 .1 .1 .1 .1 .1 .1 .1 .1 .1 .0) (c .before .before .end-behind .ensures)
 
 pub run-in-spec : {M : Type 1} → statement M
 run-in-spec =
     tie.close
     (tie.spec
-    (λ c κs. (c .before .before .before .before .before .before .before .before .before .before .before .pre .0 .arities, c .before .before .before .before .before .before .before .before .before .before .before .pre .0 .state))
+    (λ c κs. (
+      c .before .before .before .before .before .before .before .before .before .before .before .pre .0 .arities,
+      c .before .before .before .before .before .before .before .before .before .before .before .pre .0 .state,
+    ))
     answer-whole-requires
     end-behind-requires
-    (λ c. c .before .before .before .before .before .before .before .before .before .before .before .before .before .before .before .before .before .before .before .before .answer-whole .kept .1 .1 .1 .1 .0)
-    (λ c. c .before .before .before .before .before .before .before .before .before .before .before .before .before .before .before .before .before .before .before .before .answer-whole .kept .1 .1 .1 .1 .1 .0 ∙ c .before .before .before .before .before .before .before .before .before .before .before .before .before .before .before .before .before .before .before .before .before .before .before .before .before .before .before .before .before .before .before .before .before .begin .kept .0)
-    (λ c. c .before .before .before .before .before .before .before .before .before .before .before .before .before .before .before .before .before .before .before .before .answer-whole .kept .1 .1 .1 .1 .1 .1 .0)
-    (λ c. c .before .before .before .before .before .before .before .before .before .before .before .before .before .before .before .before .before .before .before .before .answer-whole .kept .1 .1 .1 .1 .1 .1 .1 .0)
-    (λ c. c .before .before .before .before .before .before .before .before .before .before .before .before .before .before .before .before .before .before .before .before .answer-whole .kept .1 .1 .1 .1 .1 .1 .1 .1 .0 ∙ c .before .before .before .before .before .before .before .before .before .before .before .before .before .before .before .before .before .before .before .before .before .before .before .before .before .before .before .before .before .before .before .before .before .begin .kept .1 .0)
-    (λ c. c .before .before .before .before .before .before .before .before .before .before .before .before .before .before .before .before .before .before .before .before .answer-whole .kept .1 .1 .1 .1 .1 .1 .1 .1 .1 .0)
-    (λ c. c .before .before .before .before .before .before .before .before .before .before .before .before .before .before .before .before .before .before .before .before .answer-whole .kept .1 .1 .1 .1 .1 .1 .1 .1 .1 .1 .0)
-    (λ c. c .before .before .end-behind .kept .1 .1 .0 ∙ c .before .before .before .before .before .before .before .before .before .before .before .before .before .before .before .before .before .before .before .before .answer-whole .kept .1 .1 .1 .1 .1 .1 .1 .1 .1 .1 .1 .0)
+    (λ c.
+    let m16 = c .before .before .before .before .before .before .before .before .before .before .before .before .before .before .before .before in
+    m16 .before .before .before .before .answer-whole .kept .1 .1 .1 .1 .0)
+    (λ c.
+    let m16 = c .before .before .before .before .before .before .before .before .before .before .before .before .before .before .before .before in
+    let m32 = m16 .before .before .before .before .before .before .before .before .before .before .before .before .before .before .before .before in
+    m16 .before .before .before .before .answer-whole .kept .1 .1 .1 .1 .1 .0 ∙ m32 .before .begin .kept .0)
+    (λ c.
+    let m16 = c .before .before .before .before .before .before .before .before .before .before .before .before .before .before .before .before in
+    m16 .before .before .before .before .answer-whole .kept .1 .1 .1 .1 .1 .1 .0)
+    (λ c.
+    let m16 = c .before .before .before .before .before .before .before .before .before .before .before .before .before .before .before .before in
+    m16 .before .before .before .before .answer-whole .kept .1 .1 .1 .1 .1 .1 .1 .0)
+    (λ c.
+    let m16 = c .before .before .before .before .before .before .before .before .before .before .before .before .before .before .before .before in
+    let m32 = m16 .before .before .before .before .before .before .before .before .before .before .before .before .before .before .before .before in
+    m16 .before .before .before .before .answer-whole .kept .1 .1 .1 .1 .1 .1 .1 .1 .0 ∙ m32 .before .begin .kept .1 .0)
+    (λ c.
+    let m16 = c .before .before .before .before .before .before .before .before .before .before .before .before .before .before .before .before in
+    m16 .before .before .before .before .answer-whole .kept .1 .1 .1 .1 .1 .1 .1 .1 .1 .0)
+    (λ c.
+    let m16 = c .before .before .before .before .before .before .before .before .before .before .before .before .before .before .before .before in
+    m16 .before .before .before .before .answer-whole .kept .1 .1 .1 .1 .1 .1 .1 .1 .1 .1 .0)
+    (λ c.
+    let m16 = c .before .before .before .before .before .before .before .before .before .before .before .before .before .before .before .before in
+    c .before .before .end-behind .kept .1 .1 .0 ∙ m16 .before .before .before .before .answer-whole .kept .1 .1 .1 .1 .1 .1 .1 .1 .1 .1 .1 .0)
     returns)

@@ -24,48 +24,64 @@ abbrev μ-loop : tie.MeasureT-loop
 
 loop-holds : tie.Need-loop-holds Inv-loop μ-loop
 loop-holds c =
-    let s = c .before .before .before .before .before .before .before .before .before .before .before .before .before .before .before .before .before in
+    let m16 = c .before .before .before .before .before .before .before .before .before .before .before .before .before .before .before .before in
+    let s = m16 .before in
     let a = s .args in (
-      run-start (a .block .now) (c .start .ensures) (c .before .before .before .before .before .begin .ensures .says (a .names .now) (a .listings .now) (a .table .now) (a .value .now) (a .out .now) (s .pre .0)),
+      run-start (a .block .now) (c .start .ensures) (c .before .before .before .before .before .begin .ensures .says (a .names .now) (a .listings .now) (a .table .now) (a .value .now)
+          (a .out .now) (s .pre .0)),
       record { names = refl; arities = refl; listings = refl; table = refl; state = refl; value = refl; working = refl; blocks = refl; buffer = refl },
     )
 
 refill-requires : tie.Need-refill-requires Inv-loop μ-loop
 refill-requires c κs =
+    let m16 = c .before .before .before .before .before .before .before .before .before .before .before .before .before .before .before .before in
     let l = c .before .before .loop .inv in
-    (free (l .0) (omega (arith, c .before .before .before .before .before .before .before .before .before .before .before .before .before .before .before .before .before .before .before .before .pre .1 .1 .0, l .1 .blocks)), l .0 .inside)
+    (free (l .0) (omega (arith, m16 .before .before .before .before .pre .1 .1 .0, l .1 .blocks)), l .0 .inside)
 
 answer-whole-requires : tie.Need-answer-whole-requires Inv-loop μ-loop
 answer-whole-requires c κs =
+    let m16 = c .before .before .before .before .before .before .before .before .before .before .before .before .before .before .before .before in
+    let m32 = m16 .before .before .before .before .before .before .before .before .before .before .before .before .before .before .before .before in
     let l = c .before .before .before .before .before .before .before .before .before .before .before .before .before .before .loop .inv in
     let f = c .before .before .before .before .before .before .before .before .before .before .before .refill in
     let t = c .before .before .before .before .before .before .before .before .before .before .before .before .before .loop-test .taken in
     let h = taken (l .0) t (f .ensures) (f .kept .1 .0) in
-    answerable (h .0) (h .1) (reads (l .0) t (f .ensures) (f .kept .1 .0)) (omega (arith, c .before .before .before .before .before .before .before .before .before .before .before .before .before .before .before .before .before .before .before .before .before .before .before .before .before .before .before .before .before .before .before .before .pre .1 .0, l .1 .working))
+    answerable (h .0) (h .1) (reads (l .0) t (f .ensures) (f .kept .1 .0)) (omega (arith, m32 .pre .1 .0, l .1 .working))
 
 keep-rest-requires : tie.Need-keep-rest-requires Inv-loop μ-loop
 keep-rest-requires c κs =
-    let f = c .before .before .before .before .before .before .before .before .before .before .before .before .before .before .before .before .before .before .before .before .before .before .before .before .before .before .before .before .before .before .before .before .before .refill in
-    let h = taken (c .before .before .before .before .before .before .before .before .before .before .before .before .before .before .before .before .before .before .before .before .before .before .before .before .before .before .before .before .before .before .before .before .before .before .before .before .loop .inv .0) (c .before .before .before .before .before .before .before .before .before .before .before .before .before .before .before .before .before .before .before .before .before .before .before .before .before .before .before .before .before .before .before .before .before .before .before .loop-test .taken) (f .ensures) (f .kept .1 .0) in
-    (omega (arith, c .before .before .before .before .before .before .before .before .before .before .before .before .before .before .before .before .before .before .before .before .before .answer-whole .ensures .inside, length-take-le (f .result .n) (f .last .1 .0) (h .1)), h .1)
+    let m16 = c .before .before .before .before .before .before .before .before .before .before .before .before .before .before .before .before in
+    let m32 = m16 .before .before .before .before .before .before .before .before .before .before .before .before .before .before .before .before in
+    let f = m32 .before .refill in
+    let h = taken (m32 .before .before .before .before .loop .inv .0) (m32 .before .before .before .loop-test .taken) (f .ensures) (f .kept .1 .0) in
+    (omega (arith, m16 .before .before .before .before .before .answer-whole .ensures .inside, length-take-le (f .result .n) (f .last .1 .0) (h .1)), h .1)
 
 loop-less : tie.Need-loop-less Inv-loop μ-loop
 loop-less c =
-    let l = c .before .before .before .before .before .before .before .before .before .before .before .before .before .before .before .before .before .before .before .before .before .before .before .before .before .before .before .before .before .before .before .before .before .before .before .before .before .before .before .before .loop .inv in
-    let f = c .before .before .before .before .before .before .before .before .before .before .before .before .before .before .before .before .before .before .before .before .before .before .before .before .before .before .before .before .before .before .before .before .before .before .before .before .before .refill in
-    let a = c .before .before .before .before .before .before .before .before .before .before .before .before .before .before .before .before .before .before .before .before .before .before .before .before .before .answer-whole in
+    let m16 = c .before .before .before .before .before .before .before .before .before .before .before .before .before .before .before .before in
+    let m32 = m16 .before .before .before .before .before .before .before .before .before .before .before .before .before .before .before .before in
+    let m48 = m32 .before .before .before .before .before .before .before .before .before .before .before .before .before .before .before .before in
+    let l = m32 .before .before .before .before .before .before .before .before .loop .inv in
+    let f = m32 .before .before .before .before .before .refill in
+    let a = m16 .before .before .before .before .before .before .before .before .before .answer-whole in
     let k = c .before .before .before .keep-rest in
-    let s = c .before .before .before .before .before .before .before .before .before .before .before .before .before .before .before .before .before .before .before .before .before .before .before .before .before .before .before .before .before .before .before .before .before .before .before .before .before .before .before .before .before .before .before .before .before .before .before .before .before .before .before .before .before .before .before .before .before .before .pre in
-    run-less (l .0) (c .before .before .before .before .before .before .before .before .before .before .before .before .before .before .before .before .before .before .before .before .before .before .before .before .before .before .before .before .before .before .before .before .before .before .before .before .before .before .before .loop-test .taken) (f .ensures) (f .kept .1 .0) (omega (arith, s .1 .1 .1, l .1 .buffer)) (a .ensures) (c .before .before .before .before .before .before .write .ensures) (k .ensures) (k .kept .0) (c .is-open .ensures)
+    let s = m48 .before .before .before .before .before .before .before .before .before .before .pre in
+    run-less (l .0) (m32 .before .before .before .before .before .before .before .loop-test .taken) (f .ensures) (f .kept .1 .0) (omega (arith, s .1 .1 .1, l .1 .buffer)) (a .ensures)
+    (c .before .before .before .before .before .before .write .ensures) (k .ensures) (k .kept .0) (c .is-open .ensures)
 
 loop-again : tie.Need-loop-again Inv-loop μ-loop
 loop-again c =
-    let l = c .before .before .before .before .before .before .before .before .before .before .before .before .before .before .before .before .before .before .before .before .before .before .before .before .before .before .before .before .before .before .before .before .before .before .before .before .before .before .before .before .loop .inv in
-    let f = c .before .before .before .before .before .before .before .before .before .before .before .before .before .before .before .before .before .before .before .before .before .before .before .before .before .before .before .before .before .before .before .before .before .before .before .before .before .refill in
-    let a = c .before .before .before .before .before .before .before .before .before .before .before .before .before .before .before .before .before .before .before .before .before .before .before .before .before .answer-whole in
+    let m16 = c .before .before .before .before .before .before .before .before .before .before .before .before .before .before .before .before in
+    let m32 = m16 .before .before .before .before .before .before .before .before .before .before .before .before .before .before .before .before in
+    let m48 = m32 .before .before .before .before .before .before .before .before .before .before .before .before .before .before .before .before in
+    let l = m32 .before .before .before .before .before .before .before .before .loop .inv in
+    let f = m32 .before .before .before .before .before .refill in
+    let a = m16 .before .before .before .before .before .before .before .before .before .answer-whole in
     let k = c .before .before .before .keep-rest in
-    let s = c .before .before .before .before .before .before .before .before .before .before .before .before .before .before .before .before .before .before .before .before .before .before .before .before .before .before .before .before .before .before .before .before .before .before .before .before .before .before .before .before .before .before .before .before .before .before .before .before .before .before .before .before .before .before .before .before .before .before .pre in (
-      run-next (l .0) (c .before .before .before .before .before .before .before .before .before .before .before .before .before .before .before .before .before .before .before .before .before .before .before .before .before .before .before .before .before .before .before .before .before .before .before .before .before .before .before .loop-test .taken) (f .ensures) (f .kept .1 .0) (omega (arith, s .1 .1 .1, l .1 .buffer)) (a .ensures) (c .before .before .before .before .before .before .write .ensures) (k .ensures) (k .kept .0) (c .before .before .before .before .before .emptied .ensures) (c .is-open .ensures),
+    let s = m48 .before .before .before .before .before .before .before .before .before .before .pre in (
+      run-next (l .0) (m32 .before .before .before .before .before .before .before .loop-test .taken) (f .ensures) (f .kept .1 .0) (omega (arith, s .1 .1 .1, l .1 .buffer))
+          (a .ensures) (c .before .before .before .before .before .before .write .ensures) (k .ensures) (k .kept .0) (c .before .before .before .before .before .emptied .ensures)
+          (c .is-open .ensures),
       record {
         names = a .kept .1 .1 .1 .1 .0 ∙ l .1 .names;
         arities = a .kept .1 .1 .1 .1 .1 .0 ∙ l .1 .arities;
@@ -90,22 +106,39 @@ answer-input-spec =
     (tie.spec
     Inv-loop
     μ-loop
-    (λ c κs. (c .before .before .before .before .before .before .before .before .before .before .before .pre .0 .arities, c .before .before .before .before .before .before .before .before .before .before .before .pre .0 .state))
+    (λ c κs. (
+      c .before .before .before .before .before .before .before .before .before .before .before .pre .0 .arities,
+      c .before .before .before .before .before .before .before .before .before .before .before .pre .0 .state,
+    ))
     (λ c κs. search needs)
     loop-holds
     refill-requires
-    (λ c. (taken (c .before .before .before .before .before .loop .inv .0) (c .before .before .before .before .loop-test .taken) (c .before .before .refill .ensures) (c .before .before .refill .kept .1 .0)) .1)
-    (λ c. omega (arith, length-take-le (c .before .before .before .refill .result .n) (c .before .before .before .refill .last .1 .0) ((taken (c .before .before .before .before .before .before .loop .inv .0) (c .before .before .before .before .before .loop-test .taken) (c .before .before .before .refill .ensures) (c .before .before .before .refill .kept .1 .0)) .1)))
+    (λ c. (taken (c .before .before .before .before .before .loop .inv .0) (c .before .before .before .before .loop-test .taken) (c .before .before .refill .ensures)
+    (c .before .before .refill .kept .1 .0)) .1)
+    (λ c. omega (
+      arith,
+      length-take-le (c .before .before .before .refill .result .n) (c .before .before .before .refill .last .1 .0)
+          ((taken (c .before .before .before .before .before .before .loop .inv .0) (c .before .before .before .before .before .loop-test .taken) (c .before .before .before .refill .ensures)
+          (c .before .before .before .refill .kept .1 .0)) .1),
+    ))
     answer-whole-requires
     (λ c. c .before .before .before .before .before .before .before .before .before .before .before .before .before .before .before .before .before .answer-whole .ensures .going .within)
-    (λ c. omega (arith, length-take-le (c .before .before .before .before .before .before .before .before .before .before .before .before .before .before .before .before .before .before .answer-whole .result .position .end) (c .before .before .before .before .before .before .before .before .before .before .before .before .before .before .before .before .before .before .answer-whole .last .1 .1 .1 .1 .1 .1 .1 .1 .1 .1 .1 .0) (c .before .before .before .before .before .before .before .before .before .before .before .before .before .before .before .before .before .before .answer-whole .ensures .going .within)))
+    (λ c.
+    let m16 = c .before .before .before .before .before .before .before .before .before .before .before .before .before .before .before .before in
+    omega (
+      arith,
+      length-take-le (m16 .before .before .answer-whole .result .position .end) (m16 .before .before .answer-whole .last .1 .1 .1 .1 .1 .1 .1 .1 .1 .1 .1 .0)
+          (m16 .before .before .answer-whole .ensures .going .within),
+    ))
     (λ c κs. search needs)
     (λ c κs. search needs)
     keep-rest-requires
     (λ c κs. search needs)
     loop-less
     loop-again
-    (λ c κs. let l = c .before .before .loop .inv in (l .0 .hand .none, (run-few (l .0), omega (arith, c .before .before .before .before .before .before .before .before .before .before .before .before .before .before .before .before .before .before .before .before .pre .1 .1 .1, l .1 .buffer))))
+    (λ c κs.
+    let m16 = c .before .before .before .before .before .before .before .before .before .before .before .before .before .before .before .before in
+    let l = c .before .before .loop .inv in (l .0 .hand .none, (run-few (l .0), omega (arith, m16 .before .before .before .before .pre .1 .1 .1, l .1 .buffer))))
     (λ c. c .before .before .before .before .before .loop .inv .1 .names)
     (λ c. c .before .before .before .before .before .loop .inv .1 .arities ∙ c .before .before .before .before .before .before .before .before .before .before .before .begin .kept .0)
     (λ c. c .before .before .before .before .before .loop .inv .1 .listings)

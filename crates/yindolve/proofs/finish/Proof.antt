@@ -36,7 +36,8 @@ returns-4 c =
     let s = c .before .before .before .before .before .before .before .before .before .before .before .before .before .before in
     let e = c .before .before .before .before .before .before .before .end in
     finish-done (s .args .p) (s .args .out .now) (s .pre .0) (s .pre .1 .0) (s .pre .1 .1) (e .ensures)
-    (ended-is (s .args .t) (c .before .before .before .before .before .before .before .before .before .before .is-ended .ensures) (c .before .before .before .before .before .before .before .before .before .if2 .left)) (c .before .before .before .n .given .1) (e .kept .1 .1 .0) (c .write .ensures)
+    (ended-is (s .args .t) (c .before .before .before .before .before .before .before .before .before .before .is-ended .ensures)
+    (c .before .before .before .before .before .before .before .before .before .if2 .left)) (c .before .before .before .n .given .1) (e .kept .1 .1 .0) (c .write .ensures)
 
 pub finish-spec : {M : Type 1} → statement M
 finish-spec =

@@ -11,6 +11,11 @@ refill-spec =
     (λ c. refill-whole (c .before .before .args .t) (c .before .before .args .rest) (c .before .before .args .block .now) (c .if1 .taken))
     (λ c κs. c .before .before .before .pre .0 (c .before .if1 .left))
     (λ c κs. search needs)
-    (λ c. omega (arith, refill-room (c .before .before .before .read .ensures) (c .last .ensures) (c .before .before .before .before .before .before .before .pre .1), c .before .before .before .before .before .before .before .good))
+    (λ c. omega (
+      arith,
+      refill-room (c .before .before .before .read .ensures) (c .last .ensures) (c .before .before .before .before .before .before .before .pre .1),
+      c .before .before .before .before .before .before .before .good,
+    ))
     (λ c. c .before .before .before .read .kept .1 .0)
-    (λ c. refill-read (c .before .before .before .before .before .before .before .args .rest) (c .before .before .before .before .before .if1 .left) (c .before .before .before .read .ensures) (c .last .ensures)))
+    (λ c. refill-read (c .before .before .before .before .before .before .before .args .rest) (c .before .before .before .before .before .if1 .left)
+    (c .before .before .before .read .ensures) (c .last .ensures)))
