@@ -1,0 +1,69 @@
+-- Reduction by model checking: what is left, and what refuses it (document 02, L13).
+use mathlib.Core.Bool.{Bool, true, false, not, _&&_, cond}
+use mathlib.Core.List.{List}
+use Prim.Native.Nat.{ℕ, _*_, _^_}
+use lib.ListN.{length}
+use lib.Dec.{eqb, ltb}
+use Rattle.label.specs.Limits.{equality}
+use Rattle.label.specs.Terms.{isConstant}
+use Rattle.label.specs.Labels.{predicateOf, unpacked, termsOf}
+use Rattle.diagram.specs.Diagram.{Diagram, leaf, branch}
+use Rattle.diagram.specs.Variables.{variables, closed}
+use Rattle.paths.specs.Paths.{paths, mostPaths, through}
+use Rattle.paths.specs.Routes.{pathAt}
+use Rattle.cutting.specs.Cut.{reduced}
+use Rattle.reduction.specs.Combinations.{someOf, winners, formed}
+
+-- ===== "turn every edge on no winning path to 0, then reduce and close up" =====
+
+-- the edge of the row r on the side b is on one of these paths
+unfoldable pub isOn : Diagram → List ℕ → Diagram → Bool → Bool
+unfolding through pathAt
+isOn d ks r b = someOf (λ k. through r b (pathAt d k)) ks
+
+-- the edges that stay are those that the test names by row and side; every other one goes to leaf 0, all at once
+unfoldable pub keeping : (Diagram → Bool → Bool) → Diagram → Diagram
+keeping stays (leaf v) = leaf v
+keeping stays (branch l t f) =
+    branch l
+    (cond (stays (branch l t f) true) (keeping stays t) (leaf 0))
+    (cond (stays (branch l t f) false) (keeping stays f) (leaf 0))
+
+unfoldable pub reducedDiagram : List ℕ → Diagram → Diagram
+unfolding keeping isOn winners reduced closed
+reducedDiagram ar d = closed ar (reduced (keeping (isOn d (winners ar d)) d))
+
+-- ===== What refuses it =====
+
+-- 26: "equality, a constant or a minimum variable is present" (minimum variables come with L12)
+unfoldable pub isPlain : List ℕ → Diagram → Bool
+isPlain ar (leaf v) = true
+isPlain ar (branch l t f) =
+    not (eqb (predicateOf l) equality) && (not (someOf isConstant (termsOf ar (unpacked l))) && (isPlain ar t && isPlain ar f))
+
+-- 27: "valuations times paths pass 512"
+abbrev pub mostRuns : ℕ
+mostRuns = 512
+
+unfoldable pub runs : List ℕ → Diagram → ℕ
+unfolding variables paths
+runs ar d = length (variables ar d) ^ length (variables ar d) * length (paths d)
+
+-- 28: "combinations formed pass 100,000"
+abbrev pub mostFormed : ℕ
+mostFormed = 100000
+
+-- the diagram that is left, or the number of the refusal
+pub data Answer : Type 0 where
+  done : Diagram → Answer
+  refused : ℕ → Answer
+
+-- 26, 27 and 28 "in this order and after 17"
+unfoldable pub reduceAnswer : List ℕ → Diagram → Answer
+unfolding isPlain runs formed reducedDiagram paths
+reduceAnswer ar d =
+    cond (ltb mostPaths (length (paths d))) (refused 17)
+    (cond (not (isPlain ar d)) (refused 26)
+    (cond (ltb mostRuns (runs ar d)) (refused 27)
+    (cond (ltb mostFormed (formed ar d)) (refused 28)
+    (done (reducedDiagram ar d)))))
