@@ -1,2 +1,4 @@
 pub mod Combinations
 pub mod Reduction
+pub mod ListLaws
+pub mod CombinationLaws
