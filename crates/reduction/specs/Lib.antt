@@ -2,3 +2,5 @@ pub mod Combinations
 pub mod Reduction
 pub mod ListLaws
 pub mod CombinationLaws
+pub mod KeepingLaws
+pub mod ModelLaws
