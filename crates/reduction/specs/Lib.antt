@@ -4,3 +4,5 @@ pub mod ListLaws
 pub mod CombinationLaws
 pub mod KeepingLaws
 pub mod ModelLaws
+pub mod ClosedLaws
+pub mod ReductionLaws

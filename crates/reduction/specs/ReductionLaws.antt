@@ -1,0 +1,156 @@
+-- Reduction leaves the value in every state, and leaves a closed-up diagram that has a listing.
+use mathlib.Core.Path.{_≡_, refl, sym, ap, _∙_, subst}
+use mathlib.Core.Bool.{Bool, true, false, not, cond, _&&_, _||_}
+use mathlib.Core.List.{List, [], _∷_}
+use Prim.Native.Nat.{ℕ, _+_, _≤_}
+use native.Mathlib.Omega.{arith}
+use lib.ListN.{length}
+use lib.Dec.{eqb, ltb}
+use borrow.Author.Tests.{ltb-false, not-true}
+use Rattle.basics.specs.Tests.{and-left, and-right, Flag, isTrue, isFalse, flag}
+use Rattle.basics.specs.Members.{clash}
+use Rattle.label.specs.Limits.{equality, constantCount, firstVariable}
+use Rattle.label.specs.Terms.{isConstant}
+use Rattle.label.specs.Labels.{predicateOf, unpacked, termsOf}
+use Rattle.diagram.specs.Diagram.{Diagram, leaf, branch}
+use Rattle.diagram.specs.Rows.{rows}
+use Rattle.diagram.specs.Listing.{Good as Listed}
+use Rattle.diagram.specs.Variables.{closed}
+use Rattle.rename.specs.ClosingLaws.{closed-good, closed-twice, closed-rows}
+use Rattle.apply.specs.GoodLaws.{EveryLabel}
+use Rattle.state.specs.Max.{none}
+use Rattle.state.specs.State.{atomOf, meaning, State, Good}
+use Rattle.state.specs.Terms.{Each, args}
+use Rattle.state.specs.Highest.{Highest, highest, Bound}
+use Rattle.state.specs.HighestLaws.{highest-is, highest-one, bound-tuple}
+use Rattle.regression.specs.Parameters.{Allowed, Within}
+use Rattle.regression.specs.ResultLaws.{terms-every, every-terms}
+use Rattle.paths.specs.Paths.{paths, mostPaths}
+use Rattle.cutting.specs.Cut.{reduced}
+use Rattle.reduction.specs.Combinations.{someOf, formed, winners}
+use Rattle.reduction.specs.Reduction.{isOn, keeping, reducedDiagram, isPlain, runs, mostRuns, mostFormed, Answer, done, refused, reduceAnswer}
+use Rattle.reduction.specs.KeepingLaws.{keeping-every, keeping-good, keeping-few, reduced-every}
+use Rattle.reduction.specs.ModelLaws.{Varied, keeping-highest}
+use Rattle.reduction.specs.ClosedLaws.{within-closed, closed-highest}
+
+-- ===== What is not refused =====
+
+neither : (a b : Bool) → (a || b) ≡ false → (a ≡ false) × (b ≡ false)
+neither true b e = clash refl e
+neither false b e = (refl, e)
+
+-- without constants and parameters every term is a variable
+each-varied : (ts : List ℕ) → someOf isConstant ts ≡ false → Each (Allowed 0) ts → Each (λ t. firstVariable ≤ t) ts
+each-varied [] e w = tt
+each-varied (t ∷ ts) e w =
+    let n = neither (isConstant t) (someOf isConstant ts) e in
+    (w .0 (unfold isConstant in omega (arith, ltb-false t constantCount (n .0))), each-varied ts (n .1) (w .1))
+
+plain-every : (ar : List ℕ) (d : Diagram) → isPlain ar d ≡ true → EveryLabel (λ l. Each (Allowed 0) (args (atomOf ar l))) d → EveryLabel (Varied ar) d
+unfolding isPlain atomOf
+plain-every ar (leaf v) e w = tt
+plain-every ar (branch l t f) e w =
+    let x = and-right (not (eqb (predicateOf l) equality)) _ e in
+    let y = and-right (not (someOf isConstant (termsOf ar (unpacked l)))) _ x in (
+      each-varied (termsOf ar (unpacked l)) (not-true (someOf isConstant (termsOf ar (unpacked l))) (and-left _ (isPlain ar t && isPlain ar f) x)) (w .0),
+      plain-every ar t (and-left (isPlain ar t) (isPlain ar f) y) (w .1),
+      plain-every ar f (and-right (isPlain ar t) (isPlain ar f) y) (w .2),
+    )
+
+pub plain-varied : (ar : List ℕ) (d : Diagram) → isPlain ar d ≡ true → Within 0 (meaning ar d) → EveryLabel (Varied ar) d
+plain-varied ar d e w = plain-every ar d e (terms-every (Allowed 0) ar d (w .terms))
+
+-- an answer is given if none of 17, 26, 27 and 28 is met, and is the reduced diagram
+pub record Answered (ar : List ℕ) (d r : Diagram) : Type 0 where
+  pub paths-few : length (paths d) ≤ mostPaths
+  pub plain : isPlain ar d ≡ true
+  pub runs-few : runs ar d ≤ mostRuns
+  pub formed-few : formed ar d ≤ mostFormed
+  pub is : reducedDiagram ar d ≡ r
+
+pub answered : (ar : List ℕ) (d r : Diagram) → reduceAnswer ar d ≡ done r → Answered ar d r
+unfolding reduceAnswer
+answered ar d r e = go (ltb mostPaths (length (paths d))) refl (isPlain ar d) refl (ltb mostRuns (runs ar d)) refl (ltb mostFormed (formed ar d)) refl e
+  where
+    not-refused : (n : ℕ) → refused n ≡ done r → ⊥
+    not-refused n z = let f : _≡_ {A = ℕ} 0 1 = cc in omega arith
+
+    go : (a : Bool) → ltb mostPaths (length (paths d)) ≡ a → (b : Bool) → isPlain ar d ≡ b → (c : Bool) → ltb mostRuns (runs ar d) ≡ c
+        → (x : Bool) → ltb mostFormed (formed ar d) ≡ x
+        → cond a (refused 17) (cond (not b) (refused 26) (cond c (refused 27) (cond x (refused 28) (done (reducedDiagram ar d))))) ≡ done r → Answered ar d r
+    go true p b q c u x v z = absurd (not-refused 17 z)
+    go false p false q c u x v z = absurd (not-refused 26 z)
+    go false p true q true u x v z = absurd (not-refused 27 z)
+    go false p true q false u true v z = absurd (not-refused 28 z)
+    go false p true q false u false v z = record {
+      paths-few = ltb-false mostPaths (length (paths d)) p;
+      plain = q;
+      runs-few = ltb-false mostRuns (runs ar d) u;
+      formed-few = ltb-false mostFormed (formed ar d) v;
+      is = cc;
+    }
+
+-- ===== The result =====
+module _ (ar : List ℕ) (d : Diagram) (listed : Listed ar d) (few : length (paths d) ≤ mostPaths) where
+  abbrev kept : Diagram
+  kept = reduced (keeping (isOn d (winners ar d)) d)
+
+  kept-good : Listed ar kept
+  kept-good = keeping-good (isOn d (winners ar d)) ar d listed few
+
+  pub reduced-listed : Listed ar (reducedDiagram ar d)
+  unfolding reducedDiagram
+  reduced-listed = closed-good ar kept kept-good
+
+  pub reduced-closed : closed ar (reducedDiagram ar d) ≡ reducedDiagram ar d
+  unfolding reducedDiagram
+  reduced-closed = closed-twice ar kept kept-good
+
+  -- so that 9 is never met
+  pub reduced-few : length (rows (reducedDiagram ar d)) ≤ 511
+  unfolding reducedDiagram
+  reduced-few = omega (arith, closed-rows ar kept kept-good, keeping-few (isOn d (winners ar d)) d few)
+
+  pub reduced-within : Within 0 (meaning ar d) → Within 0 (meaning ar (reducedDiagram ar d))
+  unfolding reducedDiagram
+  reduced-within w = within-closed 0 ar kept kept-good (record {
+    terms = every-terms (Allowed 0) ar kept (reduced-every P (keeping (isOn d (winners ar d)) d) (keeping-every (isOn d (winners ar d)) P d (terms-every (Allowed 0) ar d (w .terms))));
+  })
+    where
+      P : ℕ → Type 0
+      P l = Each (Allowed 0) (args (atomOf ar l))
+
+  -- whatever is the highest leaf of the diagram is that of the result, in every state and with any objects for parameters
+  pub reduced-highest : isPlain ar d ≡ true → Within 0 (meaning ar d) → (s : State) (os : List ℕ) (x : ℕ)
+      → Highest s os (meaning ar d) x → Highest s os (meaning ar (reducedDiagram ar d)) x
+  unfolding reducedDiagram
+  reduced-highest e w s os x m = closed-highest ar kept kept-good s os x (keeping-highest ar d (listed .fine) (plain-varied ar d e w) s os x m)
+
+-- ===== The theorems =====
+
+-- "The value is the same in every state"
+pub reduce-keeps : (ar : List ℕ) (d r : Diagram) → Listed ar d → Within 0 (meaning ar d) → reduceAnswer ar d ≡ done r
+    → (s : State) → Good s → highest s [] (meaning ar r) ≡ highest s [] (meaning ar d)
+reduce-keeps ar d r listed w e s good =
+    let a = answered ar d r e in
+    let b : Bound s [] = bound-tuple good none in
+    let h = reduced-highest ar d listed (a .paths-few) (a .plain) w s [] (highest s [] (meaning ar d)) (highest-is s [] good b (meaning ar d)) in
+    highest-one (meaning ar r) (highest-is s [] good b (meaning ar r)) (subst (λ (x : Diagram). Highest s [] (meaning ar x) (highest s [] (meaning ar d))) (a .is) h)
+
+-- what a backup or a cut asks of a value diagram of the values y, and leaves
+pub record Valued (ar : List ℕ) (y : State → ℕ) (d : Diagram) : Type 0 where
+  pub listed : Listed ar d
+  pub is-closed : closed ar d ≡ d
+  pub within : Within 0 (meaning ar d)
+  pub high : (s : State) → Good s → Highest s [] (meaning ar d) (y s)
+
+-- so does a reduction: "lists of backups and cuts may now hold reductions anywhere"
+pub reduce-is : (ar : List ℕ) (y : State → ℕ) (d r : Diagram) → Valued ar y d → reduceAnswer ar d ≡ done r → Valued ar y r
+reduce-is ar y d r v e =
+    let a = answered ar d r e in
+    subst (Valued ar y) (a .is) (record {
+      listed = reduced-listed ar d (v .listed) (a .paths-few);
+      is-closed = reduced-closed ar d (v .listed) (a .paths-few);
+      within = reduced-within ar d (v .listed) (a .paths-few) (v .within);
+      high = λ s g. reduced-highest ar d (v .listed) (a .paths-few) (a .plain) (v .within) s [] (y s) (v .high s g);
+    })
