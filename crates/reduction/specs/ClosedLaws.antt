@@ -30,8 +30,11 @@ closed-room ar d = omega (arith, variables-few ar d)
 
 pub within-closed : (c : ℕ) (ar : List ℕ) (d : Diagram) → Listed ar d → Within c (meaning ar d) → Within c (meaning ar (closed ar d))
 unfolding closed
-within-closed c ar d good w = record { terms = Terms-mono (λ t. occurs ar t (closedFrom ar firstVariable d) ≡ true) (Allowed c) each (meaning ar (closedFrom ar firstVariable d)) (occur-terms ar (closedFrom ar firstVariable d)) }
+within-closed c ar d good w = record { terms = Terms-mono (λ t. occurs ar t out ≡ true) (Allowed c) each (meaning ar out) (occur-terms ar out) }
   where
+    out : Diagram
+    out = closedFrom ar firstVariable d
+
     go : (t u : ℕ) → numbering (variables ar d) firstVariable u ≡ t → Allowed c u → Cmp u firstVariable → Allowed c t
     go t u g a (below h) k = let z = numbering-low (variables ar d) firstVariable u h in let y = a (omega arith) in absurd (omega arith)
     go t u g a (equal h) k = let z = numbering-high (variables ar d) firstVariable u (omega arith) in omega arith

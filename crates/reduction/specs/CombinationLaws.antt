@@ -159,7 +159,9 @@ opposed-made g h p q z = rw (p, q, z, eq-eqb (h .predicate) (h .predicate) refl,
 pub consistent-clear : (gs : List Ground) → consistent gs ≡ true → Clash gs → ⊥
 unfolding consistent
 consistent-clear [] e c = List·Memᴰ·not-nil (c .high-in)
-consistent-clear (g ∷ gs) e c = go (c .high) (c .low) (c .high-in) (c .low-in) (c .predicate) (c .objects) (c .high-sign) (c .low-sign) (consistent-clear gs (and-right (not (someOf (opposed g) gs)) _ e))
+consistent-clear (g ∷ gs) e c =
+    go (c .high) (c .low) (c .high-in) (c .low-in) (c .predicate) (c .objects) (c .high-sign) (c .low-sign)
+    (consistent-clear gs (and-right (not (someOf (opposed g) gs)) _ e))
   where
     quiet : someOf (opposed g) gs ≡ false
     quiet = not-true (someOf (opposed g) gs) (and-left (not (someOf (opposed g) gs)) (consistent gs) e)

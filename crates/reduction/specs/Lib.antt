@@ -1,5 +1,47 @@
+-- Reduction by model checking (document 02, L13; R12 of source document 000).
+--
+-- Definitions: valuations over invented objects
+--   gather, those, someOf == lists one behind the other; the members that pass a test; whether one does
+--   tuples == the lists of c objects below n, lowest objects first, the first changing slowest
+--   valuations == those of as many objects as there are variables, one object for each variable
+--   objectOf == the object of a variable
+--
+-- Definitions: combinations
+--   Ground, groundOf == a predicate of objects with a sign; a literal under a valuation
+--   opposed, consistent == one fact, once true and once false; no fact is both
+--   grounds, facts == the ground literals of a path under a valuation; of a choice of a path for each valuation
+--   isConsistent, choices == the consistent choices for the valuations so far
+--   combinations == those for all valuations
+--   formedBy, formed == after each valuation every consistent choice for those so far counts
+--
+-- Definitions: winning paths
+--   before == the descending path order: the higher leaf, among equal leaves true edge first from the root
+--   leastOf, winner, winners == the path of least place; of a combination; of all
+--
+-- Definitions: what is left
+--   isOn == an edge, by row and side, is on one of some paths
+--   keeping == every edge that a test does not name goes to leaf 0, all at once
+--   reducedDiagram == the edges on winning paths stay, then the diagram is reduced and closed up
+--
+-- Definitions: what refuses it
+--   isPlain == no equality and no constant is present (26)
+--   mostRuns, runs == 512; valuations times paths (27)
+--   mostFormed == 100,000 (28)
+--   Answer, reduceAnswer == the diagram left, or the first of 17, 26, 27, 28
+--
+-- Theorems
+--   reduce-keeps: a reduction leaves the value in every state
+--   reduce-is: it leaves a value diagram one of the same values, as backups and cuts want it: with a listing, closed up, without parameters
+--   reduced-few: at most 511 rows are left, so that 9 is never met
+--   answered: an answer is given if none of 17, 26, 27 and 28 is met
+--   choices-in, in-choices, choices-once: the choices are the consistent ones, each once
+--   consistent-clear, clash-found: consistent is that no fact is both true and false
+--   tuples-in, in-tuples, tuples-once, valuations-count: the valuations are all lists of objects, each once, and v to the v
+--   winner-in, winner-first: the winning path is a chosen one, and no chosen one comes before it
+
 pub mod Combinations
 pub mod Reduction
+-- laws
 pub mod ListLaws
 pub mod CombinationLaws
 pub mod KeepingLaws
