@@ -37,6 +37,7 @@
 --   choices-in, in-choices, choices-once: the choices are the consistent ones, each once
 --   consistent-clear, clash-found: consistent is that no fact is both true and false
 --   tuples-in, in-tuples, tuples-once, valuations-count: the valuations are all lists of objects, each once, and v to the v
+--   tuples-order, paths-order: valuations are taken lowest objects first, the lowest variable changing slowest; paths are numbered true edge first
 --   winner-in, winner-first: the winning path is a chosen one, and no chosen one comes before it
 
 pub mod Combinations
@@ -44,6 +45,7 @@ pub mod Reduction
 -- laws
 pub mod ListLaws
 pub mod CombinationLaws
+pub mod OrderLaws
 pub mod KeepingLaws
 pub mod ModelLaws
 pub mod ClosedLaws
