@@ -1,14 +1,14 @@
 -- The lists of valuations and of choices have exactly what they say, each once; and the winning path is the first.
 use mathlib.Core.Path.{_≡_, refl, sym, ap, ap₂, _∙_, subst}
-use mathlib.Core.Logic.{_⊎_, inl, inr}
+use mathlib.Core.Logic.{inl, inr}
 use mathlib.Core.Bool.{Bool, true, false, not, _&&_, _||_, cond, Bool·beq}
-use mathlib.Core.List.{List, [], _∷_, _++_, map, List·Memᴰ, List·Memᴰ·head, List·Memᴰ·tail, List·Memᴰ·eq-of-singleton, List·Memᴰ·not-nil, Memᴰ·append-right}
-use Prim.Native.Nat.{ℕ, zero, suc, _+_, _*_, _^_, _≤_, _<_}
+use mathlib.Core.List.{List, [], _∷_, _++_, map, List·Memᴰ, List·Memᴰ·head, List·Memᴰ·tail, List·Memᴰ·eq-of-singleton, List·Memᴰ·not-nil}
+use Prim.Native.Nat.{ℕ, zero, suc, _*_, _^_, _≤_}
 use native.Mathlib.Omega.{arith}
 use native.Mathlib.Nat.{pow-zero, pow-succ'}
-use lib.ListN.{length, getD, length-map}
+use lib.ListN.{length, length-map}
 use lib.Dec.{eqb, ltb}
-use borrow.Author.Tests.{eqb-true, eqb-false, eq-eqb, ltb-true, ltb-false, le-ltb, not-true}
+use borrow.Author.Tests.{eqb-true, eqb-false, eq-eqb, ltb-true, ltb-false, not-true}
 use Rattle.basics.specs.Tests.{and-left, and-right, Flag, isTrue, isFalse, flag}
 use Rattle.basics.specs.Members.{clash}
 use Rattle.diagram.specs.Diagram.{Diagram}
@@ -19,8 +19,9 @@ use Rattle.paths.specs.Paths.{paths}
 use Rattle.paths.specs.PathLaws.{mem-map, mem-unmap}
 use Rattle.paths.specs.Routes.{pathAt}
 use Rattle.state.specs.Max.{Tuple, none, more}
-use Rattle.reduction.specs.Combinations.{gather, those, someOf, tuples, valuations, Ground, opposed, consistent, grounds, facts, isConsistent, choices, before, leastOf, winner}
-use Rattle.reduction.specs.ListLaws.{gather-in, in-gather, those-in, in-those, someOf-in, in-someOf, upTo-in, in-upTo, Once, once-map, once-those, once-gather, once-upTo, gather-length}
+use Rattle.reduction.specs.Combinations.{those, someOf, tuples, valuations, Ground, opposed, consistent, grounds, facts, isConsistent, choices, before, leastOf, winner}
+use Rattle.reduction.specs.Claims.{Once, AtLeast, Clash}
+use Rattle.reduction.specs.ListLaws.{gather-in, in-gather, those-in, in-those, someOf-in, in-someOf, upTo-in, in-upTo, once-map, once-those, once-gather, once-upTo, gather-length}
 
 -- the first of a list, and the rest
 headOf : List ℕ → ℕ
@@ -100,17 +101,6 @@ holds-consistent T (g ∷ gs) w = rw (none-opposed gs (λ h m. w .each h (List·
     none-opposed : (hs : List Ground) → ((h : Ground) → List·Memᴰ h hs → T (h .predicate) (h .objects) ≡ h .sign) → someOf (opposed g) hs ≡ false
     none-opposed [] k = refl
     none-opposed (h ∷ hs) k = rw (agree T g h (w .each g (List·Memᴰ·head refl)) (k h (List·Memᴰ·head refl)), none-opposed hs (λ x m. k x (List·Memᴰ·tail m)))
-
--- a fact that is both true and false
-pub record Clash (gs : List Ground) : Type 0 where
-  pub high : Ground
-  pub low : Ground
-  pub high-in : List·Memᴰ high gs
-  pub low-in : List·Memᴰ low gs
-  pub predicate : high .predicate ≡ low .predicate
-  pub objects : high .objects ≡ low .objects
-  pub high-sign : high .sign ≡ true
-  pub low-sign : low .sign ≡ false
 
 -- the test is refused exactly if there is one
 pub clash-found : (gs : List Ground) → consistent gs ≡ false → Clash gs
@@ -214,27 +204,23 @@ module _ (d : Diagram) where
   abbrev leafAt : ℕ → ℕ
   leafAt k = pathAt d k .end
 
-  -- path k has no place behind path j: a higher leaf, or the same and it is not behind it from the root
-  abbrev pub AtLeast : ℕ → ℕ → Type 0
-  AtLeast k j = (leafAt j < leafAt k) ⊎ ((leafAt j ≡ leafAt k) × (k ≤ j))
-
-  at-least-trans : (a b c : ℕ) → AtLeast a b → AtLeast b c → AtLeast a c
+  at-least-trans : (a b c : ℕ) → AtLeast d a b → AtLeast d b c → AtLeast d a c
   at-least-trans a b c (inl x) (inl y) = inl (omega arith)
   at-least-trans a b c (inl x) (inr y) = inl (omega arith)
   at-least-trans a b c (inr x) (inl y) = inl (omega arith)
   at-least-trans a b c (inr x) (inr y) = inr (omega arith)
 
-  pub at-least-leaf : (k j : ℕ) → AtLeast k j → leafAt j ≤ leafAt k
+  pub at-least-leaf : (k j : ℕ) → AtLeast d k j → leafAt j ≤ leafAt k
   at-least-leaf k j (inl h) = omega arith
   at-least-leaf k j (inr h) = omega arith
 
   -- of two paths the one that comes first
-  earlier : (j k : ℕ) → (AtLeast (cond (before d j k) j k) k) × (AtLeast (cond (before d j k) j k) j)
+  earlier : (j k : ℕ) → (AtLeast d (cond (before d j k) j k) k) × (AtLeast d (cond (before d j k) j k) j)
   unfolding before
   earlier j k = go (ltb (leafAt k) (leafAt j)) (eqb (leafAt j) (leafAt k)) (ltb j k) refl refl refl
     where
       go : (x y z : Bool) → ltb (leafAt k) (leafAt j) ≡ x → eqb (leafAt j) (leafAt k) ≡ y → ltb j k ≡ z
-          → (AtLeast (cond (x || (y && z)) j k) k) × (AtLeast (cond (x || (y && z)) j k) j)
+          → (AtLeast d (cond (x || (y && z)) j k) k) × (AtLeast d (cond (x || (y && z)) j k) j)
       go true y z e q r = (inl (ltb-true _ _ e), inr (refl, omega arith))
       go false true true e q r = let l = ltb-true j k r in (inr (sym (eqb-true _ _ q), omega arith), inr (refl, omega arith))
       go false true false e q r = (inr (refl, omega arith), inr (eqb-true _ _ q, ltb-false j k r))
@@ -243,7 +229,7 @@ module _ (d : Diagram) where
           let n = eqb-false (leafAt j) (leafAt k) q in
           (inr (refl, omega arith), inl (omega arith))
 
-  least-at : (k : ℕ) (js : List ℕ) → (AtLeast (leastOf d k js) k) × ((j : ℕ) → List·Memᴰ j js → AtLeast (leastOf d k js) j)
+  least-at : (k : ℕ) (js : List ℕ) → (AtLeast d (leastOf d k js) k) × ((j : ℕ) → List·Memᴰ j js → AtLeast d (leastOf d k js) j)
   least-at k [] = (inr (refl, omega arith), (λ j m. absurd (List·Memᴰ·not-nil m)))
   least-at k (i ∷ js) =
       let ih = least-at (cond (before d i k) i k) js in
@@ -253,9 +239,9 @@ module _ (d : Diagram) where
       w : ℕ
       w = cond (before d i k) i k
 
-      go : (AtLeast (leastOf d w js) w) × ((j : ℕ) → List·Memᴰ j js → AtLeast (leastOf d w js) j) → (AtLeast w k) × (AtLeast w i)
-          → (j : ℕ) → List·Memᴰ j (i ∷ js) → AtLeast (leastOf d w js) j
-      go ih e j (List·Memᴰ·head q) = at-least-trans _ w j (ih .0) (subst (AtLeast w) (sym q) (e .1))
+      go : (AtLeast d (leastOf d w js) w) × ((j : ℕ) → List·Memᴰ j js → AtLeast d (leastOf d w js) j) → (AtLeast d w k) × (AtLeast d w i)
+          → (j : ℕ) → List·Memᴰ j (i ∷ js) → AtLeast d (leastOf d w js) j
+      go ih e j (List·Memᴰ·head q) = at-least-trans _ w j (ih .0) (subst (AtLeast d w) (sym q) (e .1))
       go ih e j (List·Memᴰ·tail m) = ih .1 j m
 
   least-in : (k : ℕ) (js : List ℕ) → List·Memᴰ (leastOf d k js) (k ∷ js)
@@ -273,8 +259,8 @@ module _ (d : Diagram) where
   winner-in j [] m = absurd (List·Memᴰ·not-nil m)
   winner-in j (k ∷ ks) m = least-in k ks
 
-  pub winner-first : (ks : List ℕ) (j : ℕ) → List·Memᴰ j ks → AtLeast (winner d ks) j
+  pub winner-first : (ks : List ℕ) (j : ℕ) → List·Memᴰ j ks → AtLeast d (winner d ks) j
   unfolding winner
   winner-first [] j m = absurd (List·Memᴰ·not-nil m)
-  winner-first (k ∷ ks) j (List·Memᴰ·head e) = subst (AtLeast (leastOf d k ks)) (sym e) (least-at k ks .0)
+  winner-first (k ∷ ks) j (List·Memᴰ·head e) = subst (AtLeast d (leastOf d k ks)) (sym e) (least-at k ks .0)
   winner-first (k ∷ ks) j (List·Memᴰ·tail m) = least-at k ks .1 j m

@@ -29,6 +29,14 @@
 --   mostFormed == 100,000 (28)
 --   Answer, reduceAnswer == the diagram left, or the first of 17, 26, 27, 28
 --
+-- Definitions: what the theorems say
+--   Once, Sorted == each member of a list once; each in a relation to those behind it
+--   Lower, Sooner == the orders of valuations and of paths, from the first place where two differ
+--   AtLeast == a path has no place behind another
+--   Clash == a fact that is both true and false
+--   Answered == none of 17, 26, 27 and 28 is met
+--   Values == a value diagram of the values y: with a listing, closed up, without parameters, and y its highest leaf in every state
+--
 -- Theorems
 --   reduce-keeps: a reduction leaves the value in every state
 --   reduce-is: it leaves a value diagram one of the same values, as backups and cuts want it: with a listing, closed up, without parameters
@@ -42,6 +50,7 @@
 
 pub mod Combinations
 pub mod Reduction
+pub mod Claims
 -- laws
 pub mod ListLaws
 pub mod CombinationLaws

@@ -3,14 +3,15 @@ use mathlib.Core.Path.{_≡_, refl, sym, ap, _∙_, subst}
 use mathlib.Core.Logic.{_⊎_, inl, inr}
 use mathlib.Core.Bool.{Bool, true, false, cond}
 use mathlib.Core.List.{List, [], _∷_, _++_, map, reverse, reverse-cons, List·Memᴰ, List·Memᴰ·head, List·Memᴰ·tail, Memᴰ·append-left, Memᴰ·append-right, List·Memᴰ·append-cases, List·Memᴰ·not-nil}
-use Prim.Native.Nat.{ℕ, zero, suc, _+_, _*_, _≤_, _<_}
+use Prim.Native.Nat.{ℕ, zero, suc, _+_, _*_, _<_}
 use native.Mathlib.Omega.{arith}
 use lib.ListN.{length, getD, length-append}
-use Rattle.basics.specs.Tests.{Flag, isTrue, isFalse, flag, Cmp, cmp, below, equal, above, Either, one, other, either, or-one, or-other}
+use Rattle.basics.specs.Tests.{Cmp, cmp, below, equal, above, Either, one, other, either, or-one, or-other}
 use Rattle.basics.specs.Members.{clash}
 use Rattle.diagram.specs.Words.{upTo}
 use Rattle.paths.specs.PathLaws.{mem-unmap}
 use Rattle.reduction.specs.Combinations.{gather, those, someOf}
+use Rattle.reduction.specs.Claims.{Once}
 
 -- ===== Members =====
 pub gather-in : {A B : Type 0} (f : A → List B) (l : List A) (a : A) (b : B) → List·Memᴰ a l → List·Memᴰ b (f a) → List·Memᴰ b (gather f l)
@@ -85,10 +86,6 @@ place-of x a (y ∷ l) (List·Memᴰ·head e) = (0, omega arith, sym e)
 place-of x a (y ∷ l) (List·Memᴰ·tail m) = let r = place-of x a l m in (suc (r .0), omega (arith, r .1), r .2)
 
 -- ===== Each member once =====
-abbrev pub Once : {A : Type 0} → List A → Type 0
-Once [] = Unit {0}
-Once (a ∷ l) = (List·Memᴰ a l → ⊥) × Once l
-
 pub once-append : {A : Type 0} (l m : List A) → Once l → Once m → ((a : A) → List·Memᴰ a l → List·Memᴰ a m → ⊥) → Once (l ++ m)
 once-append [] m u v w = v
 once-append (x ∷ l) m u v w = (

@@ -1,15 +1,12 @@
 -- A state with a best valuation is a combination: the winning path has the best leaf, so that the highest leaf stays.
-use mathlib.Core.Path.{_≡_, refl, sym, ap, ap₂, _∙_, subst}
+use mathlib.Core.Path.{_≡_, refl, sym, ap, _∙_, subst}
 use mathlib.Core.Logic.{_⊎_, inl, inr}
 use mathlib.Core.Bool.{Bool, true, false}
-use mathlib.Core.List.{List, [], _∷_, _++_, map, reverse, List·Memᴰ, List·Memᴰ·head, List·Memᴰ·tail, List·Memᴰ·append-cases, List·Memᴰ·not-nil}
-use Prim.Native.Nat.{ℕ, zero, suc, _≤_, _<_}
-use native.Mathlib.Omega.{arith}
+use mathlib.Core.List.{List, [], _∷_, map, reverse, List·Memᴰ, List·Memᴰ·head, List·Memᴰ·tail, List·Memᴰ·append-cases, List·Memᴰ·not-nil}
+use Prim.Native.Nat.{ℕ, _≤_, _<_}
 use native.Mathlib.Nat.{le-of-eq, le-trans}
 use lib.ListN.{length, getD}
-use lib.Dec.{eqb}
-use Rattle.basics.specs.Members.{mem}
-use Rattle.label.specs.Limits.{firstVariable, termBase}
+use Rattle.label.specs.Limits.{firstVariable}
 use Rattle.label.specs.LabelLaws.{term-below}
 use Rattle.label.specs.Labels.{predicateOf, unpacked, termsOf}
 use Rattle.label.specs.Renamings.{rank}
@@ -34,10 +31,10 @@ use Rattle.paths.specs.PathLaws.{mem-map, mem-unmap, path-in, path-number}
 use Rattle.paths.specs.Routes.{stepOn, pathAt}
 use Rattle.cutting.specs.Cut.{reduced}
 use Rattle.cutting.specs.TruthLaws.{says, value-says, Follows, walk, tells, eval-reduced}
-use Rattle.reduction.specs.Combinations.{tuples, valuations, objectOf, Ground, groundOf, grounds, facts, isConsistent, combinations, winner, winners}
+use Rattle.reduction.specs.Combinations.{valuations, objectOf, Ground, groundOf, grounds, facts, isConsistent, combinations, winner, winners}
 use Rattle.reduction.specs.Reduction.{isOn, keeping}
-use Rattle.reduction.specs.ListLaws.{upTo-in, in-upTo, reverse-in, place-of}
-use Rattle.reduction.specs.CombinationLaws.{tuples-in, Holds, holds-consistent, choices-in, AtLeast, at-least-leaf, winner-in, winner-first}
+use Rattle.reduction.specs.ListLaws.{in-upTo, reverse-in, place-of}
+use Rattle.reduction.specs.CombinationLaws.{tuples-in, Holds, holds-consistent, choices-in, at-least-leaf, winner-in, winner-first}
 use Rattle.reduction.specs.KeepingLaws.{keeping-low, keeping-follows, on-stays}
 
 -- a label whose terms are all variables

@@ -1,7 +1,6 @@
 -- The order of valuations and that of paths are document 02's.
-use mathlib.Core.Path.{_≡_, refl, sym, ap₂, subst}
+use mathlib.Core.Path.{_≡_, refl, sym, subst}
 use mathlib.Core.Logic.{_⊎_, inl, inr}
-use mathlib.Core.Bool.{true, false}
 use mathlib.Core.List.{List, [], _∷_, _++_, map, List·Memᴰ, List·Memᴰ·head, List·Memᴰ·tail, List·Memᴰ·append-cases, List·Memᴰ·not-nil}
 use Prim.Native.Nat.{ℕ, zero, suc, _-_, _≤_, _<_}
 use native.Mathlib.Omega.{arith}
@@ -9,20 +8,16 @@ use lib.ListN.{length}
 use Rattle.basics.specs.Tests.{Cmp, cmp, below, equal, above}
 use Rattle.diagram.specs.Diagram.{Diagram, leaf, branch}
 use Rattle.diagram.specs.Words.{upTo}
-use Rattle.paths.specs.Paths.{Step, Path, stepBefore, paths}
+use Rattle.paths.specs.Paths.{Path, stepBefore, paths}
 use Rattle.paths.specs.PathLaws.{mem-unmap, paths-leaf, paths-branch, path-high, path-low}
-use Rattle.paths.specs.Routes.{stepOn, pathAt}
+use Rattle.paths.specs.Routes.{pathAt}
 use Rattle.reduction.specs.Combinations.{gather, tuples}
+use Rattle.reduction.specs.Claims.{Sorted, Lower, differs, onwards, Sooner, parts, along}
 use Rattle.reduction.specs.ListLaws.{in-gather, in-upTo}
 
 -- ===== Sorted lists =====
 module _ {A : Type 0} (R : A → A → Type 0) where
-  -- each member stands in R to those behind it
-  abbrev pub Sorted : List A → Type 0
-  Sorted [] = Unit {0}
-  Sorted (a ∷ l) = ((b : A) → List·Memᴰ b l → R a b) × Sorted l
-
-  sorted-append : (l m : List A) → Sorted l → Sorted m → ((a b : A) → List·Memᴰ a l → List·Memᴰ b m → R a b) → Sorted (l ++ m)
+  sorted-append : (l m : List A) → Sorted R l → Sorted R m → ((a b : A) → List·Memᴰ a l → List·Memᴰ b m → R a b) → Sorted R (l ++ m)
   sorted-append [] m u v w = v
   sorted-append (x ∷ l) m u v w = (
     (λ b i. go b (List·Memᴰ·append-cases l i)),
@@ -57,11 +52,6 @@ sorted-upTo (suc n) = sorted-append _<_ (upTo n) (n ∷ []) (sorted-upTo n) ((λ
 
 -- ===== Valuations =====
 
--- where two valuations first differ, the object of the one is lower
-pub data Lower : List ℕ → List ℕ → Type 0 where
-  differs : {o p : ℕ} {os ps : List ℕ} → o < p → Lower (o ∷ os) (p ∷ ps)
-  onwards : {o : ℕ} {os ps : List ℕ} → Lower os ps → Lower (o ∷ os) (o ∷ ps)
-
 -- "lowest objects first, the lowest variable changing slowest"
 pub tuples-order : (n c : ℕ) → Sorted Lower (tuples n c)
 unfolding tuples
@@ -75,11 +65,6 @@ tuples-order n (suc c) = sorted-gather _<_ Lower (λ o. map (o ∷_) (tuples n c
     (sorted-upTo n)
 
 -- ===== Paths =====
-
--- where two paths part, the one takes the true edge
-pub data Sooner : List Step → List Step → Type 0 where
-  parts : {l : ℕ} {t f : Diagram} {ss rs : List Step} → Sooner (stepOn true l t f ∷ ss) (stepOn false l t f ∷ rs)
-  along : {s : Step} {ss rs : List Step} → Sooner ss rs → Sooner (s ∷ ss) (s ∷ rs)
 
 -- "true edge first from the root": so paths are numbered
 pub paths-order : (d : Diagram) (j k : ℕ) → j < k → k < length (paths d) → Sooner (pathAt d j .steps) (pathAt d k .steps)

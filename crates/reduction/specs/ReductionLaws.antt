@@ -1,13 +1,13 @@
 -- Reduction leaves the value in every state, and leaves a closed-up diagram that has a listing.
-use mathlib.Core.Path.{_≡_, refl, sym, ap, _∙_, subst}
+use mathlib.Core.Path.{_≡_, refl, subst}
 use mathlib.Core.Bool.{Bool, true, false, not, cond, _&&_, _||_}
 use mathlib.Core.List.{List, [], _∷_}
-use Prim.Native.Nat.{ℕ, _+_, _≤_}
+use Prim.Native.Nat.{ℕ, _≤_}
 use native.Mathlib.Omega.{arith}
 use lib.ListN.{length}
 use lib.Dec.{eqb, ltb}
 use borrow.Author.Tests.{ltb-false, not-true}
-use Rattle.basics.specs.Tests.{and-left, and-right, Flag, isTrue, isFalse, flag}
+use Rattle.basics.specs.Tests.{and-left, and-right}
 use Rattle.basics.specs.Members.{clash}
 use Rattle.label.specs.Limits.{equality, constantCount, firstVariable}
 use Rattle.label.specs.Terms.{isConstant}
@@ -28,7 +28,8 @@ use Rattle.regression.specs.ResultLaws.{terms-every, every-terms}
 use Rattle.paths.specs.Paths.{paths, mostPaths}
 use Rattle.cutting.specs.Cut.{reduced}
 use Rattle.reduction.specs.Combinations.{someOf, formed, winners}
-use Rattle.reduction.specs.Reduction.{isOn, keeping, reducedDiagram, isPlain, runs, mostRuns, mostFormed, Answer, done, refused, reduceAnswer}
+use Rattle.reduction.specs.Reduction.{isOn, keeping, reducedDiagram, isPlain, runs, mostRuns, mostFormed, done, refused, reduceAnswer}
+use Rattle.reduction.specs.Claims.{Answered, Values}
 use Rattle.reduction.specs.KeepingLaws.{keeping-every, keeping-good, keeping-few, reduced-every}
 use Rattle.reduction.specs.ModelLaws.{Varied, keeping-highest}
 use Rattle.reduction.specs.ClosedLaws.{within-closed, closed-highest}
@@ -59,14 +60,6 @@ plain-every ar (branch l t f) e w =
 
 pub plain-varied : (ar : List ℕ) (d : Diagram) → isPlain ar d ≡ true → Within 0 (meaning ar d) → EveryLabel (Varied ar) d
 plain-varied ar d e w = plain-every ar d e (terms-every (Allowed 0) ar d (w .terms))
-
--- an answer is given if none of 17, 26, 27 and 28 is met, and is the reduced diagram
-pub record Answered (ar : List ℕ) (d r : Diagram) : Type 0 where
-  pub paths-few : length (paths d) ≤ mostPaths
-  pub plain : isPlain ar d ≡ true
-  pub runs-few : runs ar d ≤ mostRuns
-  pub formed-few : formed ar d ≤ mostFormed
-  pub is : reducedDiagram ar d ≡ r
 
 pub answered : (ar : List ℕ) (d r : Diagram) → reduceAnswer ar d ≡ done r → Answered ar d r
 unfolding reduceAnswer
@@ -137,18 +130,11 @@ reduce-keeps ar d r listed w e s good =
     let h = reduced-highest ar d listed (a .paths-few) (a .plain) w s [] (highest s [] (meaning ar d)) (highest-is s [] good b (meaning ar d)) in
     highest-one (meaning ar r) (highest-is s [] good b (meaning ar r)) (subst (λ (x : Diagram). Highest s [] (meaning ar x) (highest s [] (meaning ar d))) (a .is) h)
 
--- what a backup or a cut asks of a value diagram of the values y, and leaves
-pub record Valued (ar : List ℕ) (y : State → ℕ) (d : Diagram) : Type 0 where
-  pub listed : Listed ar d
-  pub is-closed : closed ar d ≡ d
-  pub within : Within 0 (meaning ar d)
-  pub high : (s : State) → Good s → Highest s [] (meaning ar d) (y s)
-
 -- so does a reduction: "lists of backups and cuts may now hold reductions anywhere"
-pub reduce-is : (ar : List ℕ) (y : State → ℕ) (d r : Diagram) → Valued ar y d → reduceAnswer ar d ≡ done r → Valued ar y r
+pub reduce-is : (ar : List ℕ) (y : State → ℕ) (d r : Diagram) → Values ar y d → reduceAnswer ar d ≡ done r → Values ar y r
 reduce-is ar y d r v e =
     let a = answered ar d r e in
-    subst (Valued ar y) (a .is) (record {
+    subst (Values ar y) (a .is) (record {
       listed = reduced-listed ar d (v .listed) (a .paths-few);
       is-closed = reduced-closed ar d (v .listed) (a .paths-few);
       within = reduced-within ar d (v .listed) (a .paths-few) (v .within);

@@ -1,0 +1,75 @@
+-- What the theorems on reductions say, in types.
+use mathlib.Core.Path.{_≡_}
+use mathlib.Core.Logic.{_⊎_}
+use mathlib.Core.Bool.{true, false}
+use mathlib.Core.List.{List, [], _∷_, List·Memᴰ}
+use Prim.Native.Nat.{ℕ, _≤_, _<_}
+use lib.ListN.{length}
+use Rattle.diagram.specs.Diagram.{Diagram}
+use Rattle.diagram.specs.Listing.{Good as Listed}
+use Rattle.diagram.specs.Variables.{closed}
+use Rattle.state.specs.State.{meaning, State, Good}
+use Rattle.state.specs.Highest.{Highest}
+use Rattle.regression.specs.Parameters.{Within}
+use Rattle.paths.specs.Paths.{Step, paths, mostPaths}
+use Rattle.paths.specs.Routes.{stepOn, pathAt}
+use Rattle.reduction.specs.Combinations.{Ground, formed}
+use Rattle.reduction.specs.Reduction.{reducedDiagram, isPlain, runs, mostRuns, mostFormed}
+
+-- ===== Lists =====
+
+-- each member once
+abbrev pub Once : {A : Type 0} → List A → Type 0
+Once [] = Unit {0}
+Once (a ∷ l) = (List·Memᴰ a l → ⊥) × Once l
+
+-- each member stands in R to those behind it
+abbrev pub Sorted : {A : Type 0} (R : A → A → Type 0) → List A → Type 0
+Sorted R [] = Unit {0}
+Sorted {A} R (a ∷ l) = ((b : A) → List·Memᴰ b l → R a b) × Sorted R l
+
+-- ===== Orders =====
+
+-- where two valuations first differ, the object of the one is lower
+pub data Lower : List ℕ → List ℕ → Type 0 where
+  differs : {o p : ℕ} {os ps : List ℕ} → o < p → Lower (o ∷ os) (p ∷ ps)
+  onwards : {o : ℕ} {os ps : List ℕ} → Lower os ps → Lower (o ∷ os) (o ∷ ps)
+
+-- where two paths part, the one takes the true edge
+pub data Sooner : List Step → List Step → Type 0 where
+  parts : {l : ℕ} {t f : Diagram} {ss rs : List Step} → Sooner (stepOn true l t f ∷ ss) (stepOn false l t f ∷ rs)
+  along : {s : Step} {ss rs : List Step} → Sooner ss rs → Sooner (s ∷ ss) (s ∷ rs)
+
+-- path k has no place behind path j: a higher leaf, or the same and no higher number
+abbrev pub AtLeast : Diagram → ℕ → ℕ → Type 0
+AtLeast d k j = (pathAt d j .end < pathAt d k .end) ⊎ ((pathAt d j .end ≡ pathAt d k .end) × (k ≤ j))
+
+-- ===== Combinations =====
+
+-- a fact that is both true and false
+pub record Clash (gs : List Ground) : Type 0 where
+  pub high : Ground
+  pub low : Ground
+  pub high-in : List·Memᴰ high gs
+  pub low-in : List·Memᴰ low gs
+  pub predicate : high .predicate ≡ low .predicate
+  pub objects : high .objects ≡ low .objects
+  pub high-sign : high .sign ≡ true
+  pub low-sign : low .sign ≡ false
+
+-- ===== Answers =====
+
+-- none of 17, 26, 27 and 28 is met, and r is the reduced diagram
+pub record Answered (ar : List ℕ) (d r : Diagram) : Type 0 where
+  pub paths-few : length (paths d) ≤ mostPaths
+  pub plain : isPlain ar d ≡ true
+  pub runs-few : runs ar d ≤ mostRuns
+  pub formed-few : formed ar d ≤ mostFormed
+  pub is : reducedDiagram ar d ≡ r
+
+-- what a backup or a cut asks of a value diagram of the values y, and leaves
+pub record Values (ar : List ℕ) (y : State → ℕ) (d : Diagram) : Type 0 where
+  pub listed : Listed ar d
+  pub is-closed : closed ar d ≡ d
+  pub within : Within 0 (meaning ar d)
+  pub high : (s : State) → Good s → Highest s [] (meaning ar d) (y s)
