@@ -3,6 +3,7 @@ use mathlib.Core.Path.{_≡_}
 use mathlib.Core.Bool.{Bool, true, not, _&&_, _||_}
 use mathlib.Core.List.{List, [], _∷_}
 use Prim.Native.Nat.{ℕ, _<_}
+use lib.ListN.{length, getD}
 use lib.Dec.{eqb}
 use Rattle.label.specs.Limits.{constantCount, equality, leafMark}
 use Rattle.label.specs.Terms.{isConstant}
@@ -10,6 +11,7 @@ use Rattle.label.specs.Labels.{predicateOf, unpacked, termsOf}
 use Rattle.diagram.specs.Words.{labelAt, rowCount, everyBelow}
 use Rattle.diagram.specs.Listing.{diagramOf}
 use Rattle.state.specs.State.{meaning, State, Good, low}
+use Rattle.state.specs.Terms.{Each}
 use Rattle.state.specs.Highest.{highest}
 
 -- every term of the list is a constant
@@ -35,19 +37,26 @@ valueIn ar ws s = highest s [] (meaning ar (diagramOf ws))
 abbrev pub SameValues : (State → Type 0) → List ℕ → List ℕ → List ℕ → Type 0
 SameValues P ar x y = (s : State) → P s → valueIn ar x s ≡ valueIn ar y s
 
--- "states where constants have different objects"
-pub record Apart (s : State) : Type 0 where
+-- a state of document 01: constants are objects, and facts are about its objects, as many as the predicate has places
+pub record StateUnder (ar : List ℕ) (s : State) : Type 0 where
   pub good : Good s
+  pub own : (p : ℕ) (os : List ℕ) → s .fact p os ≡ true → Each (λ o. o < s .size) os
+  pub count : (p : ℕ) (os : List ℕ) → s .fact p os ≡ true → length os ≡ getD ar p 0
+
+-- "states where constants have different objects"
+pub record DistinctConstants (ar : List ℕ) (s : State) : Type 0 where
+  pub state : StateUnder ar s
   pub different : (c d : ℕ) → c < constantCount → d < constantCount → s .constant c ≡ s .constant d → c ≡ d
 
 -- as many objects as constants, constant c at object c: only the facts are free
-unfoldable pub named : (ℕ → List ℕ → Bool) → State
-named facts = record { size = constantCount; constant = λ c. low constantCount c c 0; fact = facts }
+unfoldable pub ownObjects : (ℕ → List ℕ → Bool) → State
+ownObjects facts = record { size = constantCount; constant = λ c. low constantCount c c 0; fact = facts }
 
 -- "the same value in every state exactly when they are equal row for row. States where constants have different objects must suffice for it."
 pub record EqualNumbers (ar x y : List ℕ) : Type 0 where
-  pub values : x ≡ y → SameValues Good ar x y
-  pub rows : SameValues Good ar x y → x ≡ y
-  pub rows-apart : SameValues Apart ar x y → x ≡ y
+  -- plain: the same words have the same value, whatever the state
+  pub values : x ≡ y → SameValues (StateUnder ar) ar x y
+  pub rows : SameValues (StateUnder ar) ar x y → x ≡ y
+  pub rows-distinct : SameValues (DistinctConstants ar) ar x y → x ≡ y
   -- even these states suffice
-  pub rows-named : ((facts : ℕ → List ℕ → Bool) → valueIn ar x (named facts) ≡ valueIn ar y (named facts)) → x ≡ y
+  pub rows-own : ((facts : ℕ → List ℕ → Bool) → StateUnder ar (ownObjects facts) → valueIn ar x (ownObjects facts) ≡ valueIn ar y (ownObjects facts)) → x ≡ y

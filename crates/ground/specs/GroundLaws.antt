@@ -1,18 +1,19 @@
 -- Ground listings have equal numbers exactly if they are equal: where each constant has an object of its own, facts decide each ground label freely.
-use mathlib.Core.Path.{_≡_, refl, ap, ap₂, sym, _∙_}
+use mathlib.Core.Path.{_≡_, refl, ap, ap₂, sym, subst, _∙_}
 use mathlib.Core.Logic.{_≢_, _⊎_, inl, inr}
 use mathlib.Core.Bool.{Bool, true, false, not, _&&_, _||_, cond}
 use mathlib.Core.List.{List, [], _∷_, map}
 use Prim.Native.Nat.{ℕ, zero, suc, pred, _<_}
 use native.Mathlib.Omega.{arith}
 use native.Mathlib.Nat.{le-of-eq}
+use lib.ListN.{length, getD}
 use lib.Dec.{eqb, ltb}
 use borrow.Author.Tests.{ltb-true, eqb-true, eqb-false, eq-eqb, ne-eqb}
 use Rattle.basics.specs.Tests.{and-left, and-right, Flag, isTrue, isFalse, flag}
 use Rattle.basics.specs.Members.{clash}
 use Rattle.label.specs.Limits.{constantCount, equality, firstParameter, leafMark}
 use Rattle.label.specs.Terms.{isConstant}
-use Rattle.label.specs.Labels.{predicateOf, unpacked, termsOf, isLabel}
+use Rattle.label.specs.Labels.{predicateOf, unpacked, termsOf, isLabel, areArities}
 use Rattle.label.specs.LabelLaws.{label-below}
 use Rattle.label.specs.Order.{placesBefore, atomBefore, labelBefore}
 use Rattle.label.specs.OrderLaws.{order-strict-total}
@@ -26,7 +27,7 @@ use Rattle.diagram.specs.RowLaws.{same-tests}
 use Rattle.diagram.specs.RowDiagrams.{branch-row}
 use Rattle.diagram.specs.DiagramOfListing.{valid-rows}
 use Rattle.diagram.specs.ListingValid.{listing-is-valid}
-use Rattle.diagram.specs.Listings.{is-one-listing}
+use Rattle.diagram.specs.Listings.{is-one-listing, is-listing-good}
 use Rattle.rename.specs.Relabelling.{Labels}
 use Rattle.rename.specs.RelabelLaws.{eval-relabel, eval-agree, labels-weaken}
 use Rattle.state.specs.Max.{none}
@@ -37,7 +38,8 @@ use Rattle.state.specs.Lent.{someBelow}
 use Rattle.state.specs.LentLaws.{some-made, some-found}
 use Rattle.state.specs.ValueLaws.{low-lt, low-ge, by-low, value-same}
 use Rattle.state.specs.HighestLaws.{bound-tuple, start-fits, highest-is, highest-one}
-use Rattle.ground.specs.Ground.{allConstants, isGroundLabel, isGround, valueIn, Apart, named, EqualNumbers}
+use Rattle.cutting.specs.MovedLaws.{terms-length}
+use Rattle.ground.specs.Ground.{allConstants, isGroundLabel, isGround, valueIn, StateUnder, DistinctConstants, ownObjects, EqualNumbers}
 
 -- ===== Labels =====
 
@@ -124,38 +126,64 @@ ground-highest ar d w s g =
 
 -- ===== Facts chosen freely =====
 
--- p holds of os exactly if it does so by a label below n that the choice c has as true
+-- the ground label l is true by the choice c, and gives p of os
+gives : List ℕ → (ℕ → Bool) → ℕ → List ℕ → ℕ → Bool
+gives ar c p os l = isLabel ar l && (isGroundLabel ar l && (c l && (eqb (predicateOf l) p && equalLists (termsOf ar (unpacked l)) os)))
+
+-- p holds of os exactly if it does so by such a label below n
 chosen : List ℕ → (ℕ → Bool) → ℕ → ℕ → List ℕ → Bool
-chosen ar c n p os = someBelow n (λ l. isLabel ar l && (c l && (eqb (predicateOf l) p && equalLists (termsOf ar (unpacked l)) os)))
+chosen ar c n p os = someBelow n (gives ar c p os)
 
-chosen-is : (ar : List ℕ) (c : ℕ → Bool) (n l : ℕ) → l < n → isLabel ar l ≡ true → chosen ar c n (predicateOf l) (termsOf ar (unpacked l)) ≡ c l
+record Gives (ar : List ℕ) (c : ℕ → Bool) (p : ℕ) (os : List ℕ) (l : ℕ) : Type 0 where
+  label : GroundLabel ar l
+  choice : c l ≡ true
+  predicate : predicateOf l ≡ p
+  objects : termsOf ar (unpacked l) ≡ os
+
+gives-out : (ar : List ℕ) (c : ℕ → Bool) (p : ℕ) (os : List ℕ) (l : ℕ) → gives ar c p os l ≡ true → Gives ar c p os l
+unfolding gives
+gives-out ar c p os l t =
+    let g = and-right (isLabel ar l) _ t in
+    let b = and-right (isGroundLabel ar l) _ g in
+    let d = and-right (c l) _ b in
+    record {
+      label = (and-left (isLabel ar l) _ t, and-left (isGroundLabel ar l) _ g);
+      choice = and-left (c l) _ b;
+      predicate = eqb-true _ _ (and-left (eqb (predicateOf l) p) _ d);
+      objects = lists-equal _ _ (and-right (eqb (predicateOf l) p) _ d);
+    }
+
+-- a chosen fact is given by a ground label
+chosen-gives : (ar : List ℕ) (c : ℕ → Bool) (n p : ℕ) (os : List ℕ) → chosen ar c n p os ≡ true → (l : ℕ) × Gives ar c p os l
 unfolding chosen
-chosen-is ar c n l h e = same-tests _ (c l) there back
-  where
-    q : ℕ → Bool
-    q k = isLabel ar k && (c k && (eqb (predicateOf k) (predicateOf l) && equalLists (termsOf ar (unpacked k)) (termsOf ar (unpacked l))))
+chosen-gives ar c n p os t = let f = some-found n (gives ar c p os) t in (f .0, gives-out ar c p os (f .0) (f .2))
 
+chosen-made : (ar : List ℕ) (c : ℕ → Bool) (n l : ℕ) → l < n → GroundLabel ar l → c l ≡ true → chosen ar c n (predicateOf l) (termsOf ar (unpacked l)) ≡ true
+unfolding chosen gives
+chosen-made ar c n l h g t =
+    some-made n (gives ar c (predicateOf l) (termsOf ar (unpacked l))) l h
+    (rw (g .0, g .1, t, eq-eqb (predicateOf l) (predicateOf l) refl, equal-lists (termsOf ar (unpacked l))))
+
+chosen-is : (ar : List ℕ) (c : ℕ → Bool) (n l : ℕ) → l < n → GroundLabel ar l → chosen ar c n (predicateOf l) (termsOf ar (unpacked l)) ≡ c l
+chosen-is ar c n l h g = same-tests _ (c l) there back
+  where
     there : chosen ar c n (predicateOf l) (termsOf ar (unpacked l)) ≡ true → c l ≡ true
     there t =
-        let f = some-found n q t in
+        let f = chosen-gives ar c n (predicateOf l) (termsOf ar (unpacked l)) t in
         let k = f .0 in
-        let a = f .2 in
-        let b = and-right (isLabel ar k) _ a in
-        let d = and-right (c k) _ b in
-        let one = label-one ar k l (and-left (isLabel ar k) _ a) e (eqb-true _ _ (and-left (eqb (predicateOf k) (predicateOf l)) _ d))
-        (lists-equal _ _ (and-right (eqb (predicateOf k) (predicateOf l)) _ d)) in
-        ap c (sym one) ∙ and-left (c k) _ b
+        let a = f .1 in
+        ap c (sym (label-one ar k l (a .label .0) (g .0) (a .predicate) (a .objects))) ∙ a .choice
 
     back : c l ≡ true → chosen ar c n (predicateOf l) (termsOf ar (unpacked l)) ≡ true
-    back t = some-made n q l h (rw (e, t, eq-eqb (predicateOf l) (predicateOf l) refl, equal-lists (termsOf ar (unpacked l))))
+    back = chosen-made ar c n l h g
 
 -- the state in which each ground label has the truth that c gives it
 freely : List ℕ → (ℕ → Bool) → State
-freely ar c = named (chosen ar c leafMark)
+freely ar c = ownObjects (chosen ar c leafMark)
 
-pub named-good : (facts : ℕ → List ℕ → Bool) → Good (named facts)
-unfolding named
-named-good facts = record {
+pub own-good : (facts : ℕ → List ℕ → Bool) → Good (ownObjects facts)
+unfolding ownObjects
+own-good facts = record {
   some = omega arith;
   placed = λ c. by-low (low constantCount c c 0 < constantCount) constantCount c
       (λ h. rw (low-lt constantCount c c 0 h) h)
@@ -163,19 +191,30 @@ named-good facts = record {
 }
 
 -- each constant is at its own number
-named-own : (facts : ℕ → List ℕ → Bool) (c : ℕ) → c < constantCount → named facts .constant c ≡ c
-unfolding named
-named-own facts c h = low-lt constantCount c c 0 h
+own-number : (facts : ℕ → List ℕ → Bool) (c : ℕ) → c < constantCount → ownObjects facts .constant c ≡ c
+unfolding ownObjects
+own-number facts c h = low-lt constantCount c c 0 h
 
-pub named-apart : (facts : ℕ → List ℕ → Bool) → Apart (named facts)
-named-apart facts = record { good = named-good facts; different = λ c d h k e. sym (named-own facts c h) ∙ e ∙ named-own facts d k }
+-- such a state whose facts are chosen is one of document 01
+freely-state : (ar : List ℕ) → areArities ar ≡ true → (c : ℕ → Bool) → StateUnder ar (freely ar c)
+unfolding freely ownObjects
+freely-state ar good c = record {
+  good = own-good (chosen ar c leafMark);
+  own = λ p os t. let f = chosen-gives ar c leafMark p os t in subst (Each (λ o. o < constantCount)) (f .1 .objects) (ground-constants ar (f .0) (f .1 .label .1));
+  count = λ p os t.
+      let f = chosen-gives ar c leafMark p os t in
+      sym (ap length (f .1 .objects)) ∙ terms-length ar (f .0) good ∙ ap (λ q. getD ar q 0) (f .1 .predicate);
+}
 
-named-start : (facts : ℕ → List ℕ → Bool) (t : ℕ) → t < constantCount → start (named facts) [] t ≡ t
+pub own-distinct : (ar : List ℕ) (facts : ℕ → List ℕ → Bool) → StateUnder ar (ownObjects facts) → DistinctConstants ar (ownObjects facts)
+own-distinct ar facts d = record { state = d; different = λ c d h k e. sym (own-number facts c h) ∙ e ∙ own-number facts d k }
+
+own-start : (facts : ℕ → List ℕ → Bool) (t : ℕ) → t < constantCount → start (ownObjects facts) [] t ≡ t
 unfolding fixed
-named-start facts t h =
-    start-fits (named facts) [] (named-good facts) (bound-tuple (named-good facts) none) .low t (omega arith)
-    ∙ low-lt firstParameter t (named facts .constant t) _ (omega arith)
-    ∙ named-own facts t h
+own-start facts t h =
+    start-fits (ownObjects facts) [] (own-good facts) (bound-tuple (own-good facts) none) .low t (omega arith)
+    ∙ low-lt firstParameter t (ownObjects facts .constant t) _ (omega arith)
+    ∙ own-number facts t h
 
 map-own : (θ : ℕ → ℕ) (ts : List ℕ) → Each (λ t. t < constantCount) ts → ((t : ℕ) → t < constantCount → θ t ≡ t) → map θ ts ≡ ts
 map-own θ [] w e = refl
@@ -186,9 +225,9 @@ truth-fact : (s : State) (p : ℕ) (os : List ℕ) → eqb p equality ≡ false 
 truth-fact s zero os e = clash refl e
 truth-fact s (suc p) os e = refl
 
-named-fact : (facts : ℕ → List ℕ → Bool) (p : ℕ) (os : List ℕ) → named facts .fact p os ≡ facts p os
-unfolding named
-named-fact facts p os = refl
+own-fact : (facts : ℕ → List ℕ → Bool) (p : ℕ) (os : List ℕ) → ownObjects facts .fact p os ≡ facts p os
+unfolding ownObjects
+own-fact facts p os = refl
 
 not-true : (b : Bool) → not b ≡ true → b ≡ false
 not-true true e = sym e
@@ -204,17 +243,17 @@ unfolding holds atomOf freely
 freely-holds ar c l g =
     let facts = chosen ar c leafMark in
     let ts = termsOf ar (unpacked l) in
-    ap (truth (named facts) (predicateOf l)) (map-own (start (named facts) []) ts (ground-constants ar l (g .1)) (named-start facts))
-    ∙ truth-fact (named facts) (predicateOf l) ts (ground-other ar l (g .1))
-    ∙ named-fact facts (predicateOf l) ts
-    ∙ chosen-is ar c leafMark l (label-below ar l (g .0)) (g .0)
+    ap (truth (ownObjects facts) (predicateOf l)) (map-own (start (ownObjects facts) []) ts (ground-constants ar l (g .1)) (own-start facts))
+    ∙ truth-fact (ownObjects facts) (predicateOf l) ts (ground-other ar l (g .1))
+    ∙ own-fact facts (predicateOf l) ts
+    ∙ chosen-is ar c leafMark l (label-below ar l (g .0)) g
 
 -- so the value of a ground diagram in that state is its leaf under c
 freely-value : (ar ws : List ℕ) → Labels (GroundLabel ar) (diagramOf ws) → (c : ℕ → Bool) → valueIn ar ws (freely ar c) ≡ eval c (diagramOf ws)
 unfolding valueIn freely
 freely-value ar ws w c =
     let s = freely ar c in
-    ground-highest ar (diagramOf ws) w s (named-good (chosen ar c leafMark))
+    ground-highest ar (diagramOf ws) w s (own-good (chosen ar c leafMark))
     ∙ eval-agree _ c (diagramOf ws) (labels-weaken (GroundLabel ar) _ (diagramOf ws) (freely-holds ar c) w)
 
 -- ===== L14, whole =====
@@ -223,11 +262,13 @@ pub equal-numbers : (ar x y : List ℕ) → isListing ar x ≡ true → isListin
 unfolding freely
 equal-numbers ar x y lx ly gx gy = record {
   values = λ e s g. ap (λ ws. valueIn ar ws s) e;
-  rows = λ h. by-named (λ facts. h (named facts) (named-good facts));
-  rows-apart = λ h. by-named (λ facts. h (named facts) (named-apart facts));
-  rows-named = by-named;
+  rows = λ h. by-own (λ facts d. h (ownObjects facts) d);
+  rows-distinct = λ h. by-own (λ facts d. h (ownObjects facts) (own-distinct ar facts d));
+  rows-own = by-own;
 }
   where
-    by-named : ((facts : ℕ → List ℕ → Bool) → valueIn ar x (named facts) ≡ valueIn ar y (named facts)) → x ≡ y
-    by-named h = is-one-listing ar x y lx ly (λ c.
-        sym (freely-value ar x (ground-labels ar x lx gx) c) ∙ h (chosen ar c leafMark) ∙ freely-value ar y (ground-labels ar y ly gy) c)
+    by-own : ((facts : ℕ → List ℕ → Bool) → StateUnder ar (ownObjects facts) → valueIn ar x (ownObjects facts) ≡ valueIn ar y (ownObjects facts)) → x ≡ y
+    by-own h = is-one-listing ar x y lx ly (λ c.
+        sym (freely-value ar x (ground-labels ar x lx gx) c)
+        ∙ h (chosen ar c leafMark) (freely-state ar (is-listing-good ar x lx .arities) c)
+        ∙ freely-value ar y (ground-labels ar y ly gy) c)
