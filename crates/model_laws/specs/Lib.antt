@@ -3,6 +3,10 @@
 -- Definitions
 --   rowsIn, truthRows, variantRows, actionRows, modelRows == the rows of all model listings: the reward's, the weights' and the truth diagrams'
 --   Counted == `rows` of a session is that sum
+--   AddsUp == the weights of an action's variants add up to w, in every state and for every tuple
+--   WeightSum, PassesRule, FailsRule == the sum of an action's weights, of at most 256 paths; each path with a leaf other than w contradicts itself; for some
+--     action, those before it passing, one does not
+--   IsWeighed == weights are accepted exactly if each action passes, and refused with 13 exactly if one fails (document 02, L5)
 --
 -- Theorems
 --   constant-good: an accepted (constant n) keeps a session good
@@ -13,11 +17,13 @@
 --   variant-good: (variant n WEIGHT)
 --   becomes-good: (becomes (p ?a ..) DIAGRAM)
 --   reward-counted, action-counted, variant-counted, becomes-counted: each keeps `rows` the sum of the rows of all model listings
+--   weighed-exactly: (start) accepts and refuses the weights so (IsWeighed)
 --   weighed-adds-up: where (start) accepts the weights, those of each action add up to W in every state, for every tuple (document 02, L5)
 --   adds-up-leads: and an action whose weights add up to W in every state, for every tuple, is not refused 13
 --   built-read: what a good reading builds is a good diagram, with the terms that the reading names
 
 pub mod ModelRows
+pub mod Adding
 pub mod OutcomeLaws
 pub mod SessionLaws
 pub mod ActionLaws

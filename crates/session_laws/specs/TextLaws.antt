@@ -19,7 +19,8 @@ use Rattle.session.specs.Replies.{isPlaced, reply}
 use Rattle.session.specs.Good.{GoodSession}
 use Rattle.session.specs.Texts.{hasBytes, Progress, replied, afterLine, afterLines, afterRest, beginning, linesOf, textRead}
 use Rattle.model_laws.specs.ModelRows.{Counted}
-use Rattle.model_laws.specs.WeightLaws.{AddsUp, weighed-adds-up}
+use Rattle.model_laws.specs.Adding.{AddsUp}
+use Rattle.model_laws.specs.WeightLaws.{weighed-adds-up}
 use Rattle.session_laws.specs.OpeningLaws.{opening-good}
 use Rattle.session_laws.specs.FactLaws.{WholeRows}
 use Rattle.session_laws.specs.ReplyLaws.{reply-good}
