@@ -15,7 +15,7 @@ use Rattle.label.specs.Renamings.{mapOf}
 use Rattle.label.specs.declared.Atom.{Atom}
 use Rattle.paths.specs.Paths.{Literal}
 use Rattle.cutting.specs.MovedLaws.{arity-two}
-use Rattle.contradiction.specs.Contradiction.{Names, joining, representative}
+use Rattle.contradiction.specs.Contradiction.{Equates, joining, representative}
 use Rattle.contradiction.specs.JoinLaws.{literal-names, literal-stays, representative-more}
 use Rattle.contradiction.specs.AgreeLaws.{join-agree}
 use Rattle.contradict.specs.Representing.{literalAt, literalsIn, Own, Merged, Taken, Represented}
@@ -122,7 +122,7 @@ module _ (x : ℕ) {a : Atom} (e : a ≡ unpacked (x / 2)) where
     each = λ ar g t h. m .each t h ∙ sym (literal-names ar (literalAt x) (a .first) (a .second) (sign-odd x n) (names ar g) (mapOf table) t);
   }
     where
-      names : (ar : List ℕ) → areArities ar ≡ true → Names ar (literalAt x) (a .first) (a .second)
+      names : (ar : List ℕ) → areArities ar ≡ true → Equates ar (literalAt x) (a .first) (a .second)
       names ar g = record {
         equates = predicate-is ∙ z;
         terms = ap (λ (l : ℕ). termsOf ar (unpacked l)) (label-at x) ∙ ap (termsOf ar) (sym e) ∙ two-terms ar g a z;

@@ -21,13 +21,13 @@ abbrev pub placesOf : List ℕ → Literal → List ℕ
 placesOf ar l = termsOf ar (unpacked (l .label))
 
 -- the literal is an equality, and names the terms t and u
-pub record Names (ar : List ℕ) (l : Literal) (t u : ℕ) : Type 0 where
+pub record Equates (ar : List ℕ) (l : Literal) (t u : ℕ) : Type 0 where
   pub equates : predicateOf (l .label) ≡ equality
   pub terms : placesOf ar l ≡ t ∷ u ∷ []
 
 -- the true equalities among the literals join t and u: the least equivalence that holds them, so through any number of them
 pub data Joined (ar : List ℕ) (ls : List Literal) : ℕ → ℕ → Type 0 where
-  named : {t u : ℕ} (l : Literal) → List·Memᴰ l ls → l .sign ≡ true → Names ar l t u → Joined ar ls t u
+  named : {t u : ℕ} (l : Literal) → List·Memᴰ l ls → l .sign ≡ true → Equates ar l t u → Joined ar ls t u
   itself : {t : ℕ} → Joined ar ls t t
   turned : {t u : ℕ} → Joined ar ls t u → Joined ar ls u t
   along : {t u v : ℕ} → Joined ar ls t u → Joined ar ls u v → Joined ar ls t v
@@ -42,7 +42,7 @@ Agree ar ls (t ∷ ts) (u ∷ us) = Joined ar ls t u × Agree ar ls ts us
 -- "its true equalities join two terms that one of its false equalities names, or two of its literals on one predicate agree place by place under them and
 -- differ in truth"
 pub data Contradicts (ar : List ℕ) (ls : List Literal) : Type 0 where
-  unequal : {t u : ℕ} (l : Literal) → List·Memᴰ l ls → l .sign ≡ false → Names ar l t u → Joined ar ls t u → Contradicts ar ls
+  unequal : {t u : ℕ} (l : Literal) → List·Memᴰ l ls → l .sign ≡ false → Equates ar l t u → Joined ar ls t u → Contradicts ar ls
   differ : (l m : Literal) → List·Memᴰ l ls → List·Memᴰ m ls → predicateOf (l .label) ≡ predicateOf (m .label)
       → Agree ar ls (placesOf ar l) (placesOf ar m) → l .sign ≡ true → m .sign ≡ false → Contradicts ar ls
 

@@ -18,7 +18,7 @@ use Rattle.paths.specs.Paths.{Literal, Path, paths, literals}
 use Rattle.paths.specs.PathLaws.{mem-unmap}
 use Rattle.cutting.specs.MovedLaws.{asks, asks-twice, moved-asks, terms-length, terms-below, arity-two, Two, two, length-two, Asked, straight, across, ask-is, ask-always}
 use Rattle.cutting.specs.CoverLaws.{every-path-out, every-path-in}
-use Rattle.contradiction.specs.Contradiction.{placesOf, Names, Agree, Contradicts, unequal, differ, LeadsTo, representative, someLiteral, asked, asksFor}
+use Rattle.contradiction.specs.Contradiction.{placesOf, Equates, Agree, Contradicts, unequal, differ, LeadsTo, representative, someLiteral, asked, asksFor}
 use Rattle.contradiction.specs.Contradiction.{affirms, isSaid, clashes, clashUnder, contradicts, passes, leadsTo}
 use Rattle.contradiction.specs.JoinLaws.{one-joined, named-one, joined-one, representative-below}
 
@@ -86,18 +86,18 @@ module _ (ar : List ℕ) (good : areArities ar ≡ true) (ls : List Literal) whe
   asked-label l k e = ask-is ar (predicateOf (l .label)) (map R (placesOf ar l)) k good (asked-long l) (asked-small l) (sym (asked-is l) ∙ e)
 
   -- an equality of terms with one representative is plain truth
-  names-truth : (l : Literal) (t u : ℕ) → Names ar l t u → R t ≡ R u → asked ar R l ≡ Always
+  names-truth : (l : Literal) (t u : ℕ) → Equates ar l t u → R t ≡ R u → asked ar R l ≡ Always
   names-truth l t u n e =
       asked-is l ∙ ap₂ (λ (p : ℕ) (us : List ℕ). asks p (map R us)) (n .equates) (n .terms)
       ∙ ap (λ (x : ℕ). asks 0 (x ∷ R u ∷ [])) e ∙ asks-twice (R u)
 
-  truth-names : (l : Literal) → asked ar R l ≡ Always → (t : ℕ) × (u : ℕ) × Names ar l t u × (R t ≡ R u)
+  truth-names : (l : Literal) → asked ar R l ≡ Always → (t : ℕ) × (u : ℕ) × Equates ar l t u × (R t ≡ R u)
   truth-names l e = go (ask-always ar (predicateOf (l .label)) (map R (placesOf ar l)) good (asked-long l) (sym (asked-is l) ∙ e))
     where
-      go : (predicateOf (l .label) ≡ 0) × (v : ℕ) × (map R (placesOf ar l) ≡ v ∷ v ∷ []) → (t : ℕ) × (u : ℕ) × Names ar l t u × (R t ≡ R u)
+      go : (predicateOf (l .label) ≡ 0) × (v : ℕ) × (map R (placesOf ar l) ≡ v ∷ v ∷ []) → (t : ℕ) × (u : ℕ) × Equates ar l t u × (R t ≡ R u)
       go x = at (twins-is R (placesOf ar l) (x .1) (x .2))
         where
-          at : Twins R (placesOf ar l) → (t : ℕ) × (u : ℕ) × Names ar l t u × (R t ≡ R u)
+          at : Twins R (placesOf ar l) → (t : ℕ) × (u : ℕ) × Equates ar l t u × (R t ≡ R u)
           at (twins t u z q) = (t, u, record { equates = x .0; terms = z }, q)
 
   -- ===== What the test finds contradicts =====
@@ -108,7 +108,7 @@ module _ (ar : List ℕ) (good : areArities ar ≡ true) (ls : List Literal) whe
   affirmed l k i s e = go (cmp 0 (predicateOf (l .label)))
     where
       equates : predicateOf (l .label) ≡ 0 → Two (placesOf ar l) → asked ar R l ≡ Always
-      equates z (two t u q) = let n : Names ar l t u = record { equates = z; terms = q } in names-truth l t u n (named-one ar ls l t u i s n)
+      equates z (two t u q) = let n : Equates ar l t u = record { equates = z; terms = q } in names-truth l t u n (named-one ar ls l t u i s n)
 
       no-label : {A : Type 0} → asked ar R l ≡ Always → A
       no-label a = let b : Always ≡ Is (record { packed = k }) = sym a ∙ e in let z : _≡_ {A = ℕ} 0 1 = cc in absurd (omega arith)

@@ -23,7 +23,7 @@ use Rattle.paths.specs.Paths.{Literal, Step, Path, stepBefore, paths, literals,
 use Rattle.paths.specs.PathLaws.{mem-unmap}
 use Rattle.cutting.specs.MovedLaws.{terms-length, arity-two, Two, two, length-two}
 use Rattle.cutting.specs.TruthLaws.{says, value-says, Follows, tells as tells-both}
-use Rattle.contradiction.specs.Contradiction.{placesOf, Names, Contradicts, unequal, differ, LeadsTo, representative, someLiteral, contradicts}
+use Rattle.contradiction.specs.Contradiction.{placesOf, Equates, Contradicts, unequal, differ, LeadsTo, representative, someLiteral, contradicts}
 use Rattle.contradiction.specs.JoinLaws.{one-joined, named-one, representative-below}
 use Rattle.contradiction.specs.ContradictionLaws.{some-out, some-in, one-agree, contradicts-sound, contradicts-not}
 use Rattle.contradiction.specs.StateLaws.{says-terms}
@@ -94,7 +94,7 @@ module _ (ar : List ℕ) (ls : List Literal) where
     equality-truth : predicateOf (l .label) ≡ 0 → Two (placesOf ar l) → truth described (predicateOf (l .label)) Os ≡ l .sign
     equality-truth z (two t u e) = truth-names (predicateOf (l .label)) (placesOf ar l) t u z e ∙ go (flag (l .sign))
       where
-        n : Names ar l t u
+        n : Equates ar l t u
         n = record { equates = z; terms = e }
 
         go : Flag (l .sign) → eqb (representative ar ls t) (representative ar ls u) ≡ l .sign

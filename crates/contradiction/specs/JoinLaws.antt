@@ -10,11 +10,11 @@ use Rattle.label.specs.Limits.{equality, termBase}
 use Rattle.label.specs.Labels.{predicateOf}
 use Rattle.paths.specs.Paths.{Literal}
 use Rattle.cutting.specs.MovedLaws.{terms-below}
-use Rattle.contradiction.specs.Contradiction.{placesOf, Names, Joined, named, itself, turned, along, joining, joinTerms, joinLiteral, representative}
+use Rattle.contradiction.specs.Contradiction.{placesOf, Equates, Joined, named, itself, turned, along, joining, joinTerms, joinLiteral, representative}
 
 -- a literal joins two terms, or leaves the representatives as they are
 pub data Joins (ar : List ℕ) (l : Literal) : Type 0 where
-  joins : (t u : ℕ) → l .sign ≡ true → Names ar l t u → ((r : ℕ → ℕ) (x : ℕ) → joinLiteral ar l r x ≡ joining t u r x) → Joins ar l
+  joins : (t u : ℕ) → l .sign ≡ true → Equates ar l t u → ((r : ℕ → ℕ) (x : ℕ) → joinLiteral ar l r x ≡ joining t u r x) → Joins ar l
   leaves : ((r : ℕ → ℕ) (x : ℕ) → joinLiteral ar l r x ≡ r x) → Joins ar l
 
 -- by its sign, its predicate and its terms
@@ -24,7 +24,7 @@ unfolding joinLiteral
 literal-is ar l b ts e f r x =
     ap (λ (c : Bool). cond c (joinTerms (placesOf ar l) r x) (r x)) e ∙ ap (λ (us : List ℕ). cond b (joinTerms us r x) (r x)) f
 
-pub literal-names : (ar : List ℕ) (l : Literal) (t u : ℕ) → l .sign ≡ true → Names ar l t u → (r : ℕ → ℕ) (x : ℕ) → joinLiteral ar l r x ≡ joining t u r x
+pub literal-names : (ar : List ℕ) (l : Literal) (t u : ℕ) → l .sign ≡ true → Equates ar l t u → (r : ℕ → ℕ) (x : ℕ) → joinLiteral ar l r x ≡ joining t u r x
 literal-names ar l t u s n = literal-is ar l true (t ∷ u ∷ []) (rw (s, n .equates)) (n .terms)
 
 pub literal-stays : (ar : List ℕ) (l : Literal) → (l .sign && eqb (predicateOf (l .label)) equality) ≡ false → (r : ℕ → ℕ) (x : ℕ) → joinLiteral ar l r x ≡ r x
@@ -39,7 +39,7 @@ joins-is ar l = go (flag (l .sign)) (flag (eqb (predicateOf (l .label)) equality
     go (isTrue s) (isTrue q) [] e = leaves (literal-is ar l true [] (rw (s, q)) e)
     go (isTrue s) (isTrue q) (t ∷ []) e = leaves (literal-is ar l true (t ∷ []) (rw (s, q)) e)
     go (isTrue s) (isTrue q) (t ∷ u ∷ []) e =
-        let n : Names ar l t u = record { equates = eqb-true _ _ q; terms = e } in joins t u s n (literal-names ar l t u s n)
+        let n : Equates ar l t u = record { equates = eqb-true _ _ q; terms = e } in joins t u s n (literal-names ar l t u s n)
     go (isTrue s) (isTrue q) (t ∷ u ∷ v ∷ ts) e = leaves (literal-is ar l true (t ∷ u ∷ v ∷ ts) (rw (s, q)) e)
 
 joining-here : (t u : ℕ) (r : ℕ → ℕ) (x : ℕ) → r x ≡ r t → joining t u r x ≡ r u
@@ -108,10 +108,10 @@ both-joined t u r = joining-here t u r t refl ∙ sym (go (flag (eqb (r u) (r t)
     go (isTrue q) = joining-here t u r u (eqb-true (r u) (r t) q)
     go (isFalse q) = joining-other t u r u q
 
-pub named-one : (ar : List ℕ) (ls : List Literal) (l : Literal) (t u : ℕ) → List·Memᴰ l ls → l .sign ≡ true → Names ar l t u
+pub named-one : (ar : List ℕ) (ls : List Literal) (l : Literal) (t u : ℕ) → List·Memᴰ l ls → l .sign ≡ true → Equates ar l t u
     → representative ar ls t ≡ representative ar ls u
 named-one ar (k ∷ ls) l t u (List·Memᴰ·head e) s n =
-    let q = literal-names ar k t u (sym (ap (λ (m : Literal). m .sign) e) ∙ s) (subst (λ (m : Literal). Names ar m t u) e n) (representative ar ls) in
+    let q = literal-names ar k t u (sym (ap (λ (m : Literal). m .sign) e) ∙ s) (subst (λ (m : Literal). Equates ar m t u) e n) (representative ar ls) in
     representative-more ar k ls t ∙ q t ∙ both-joined t u (representative ar ls) ∙ sym (q u) ∙ sym (representative-more ar k ls u)
 named-one ar (k ∷ ls) l t u (List·Memᴰ·tail m) s n =
     representative-more ar k ls t ∙ same-more ar k (representative ar ls) t u (named-one ar ls l t u m s n) ∙ sym (representative-more ar k ls u)

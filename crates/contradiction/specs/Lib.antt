@@ -1,7 +1,7 @@
 -- Paths that contradict themselves by equality (document 02, L5).
 --
 -- Definitions: in document 02's words
---   placesOf, Names == the terms of a literal, place by place; it is an equality and names the terms t and u
+--   placesOf, Equates == the terms of a literal, place by place; it is an equality and names the terms t and u
 --   Joined == the true equalities among the literals join t and u, through any number of them: the least equivalence that holds them
 --   Agree == two lists of terms agree place by place under them
 --   Contradicts == they join two terms that a false equality names, or two literals on one predicate agree and differ in truth

@@ -11,7 +11,7 @@ use Rattle.diagram.specs.Diagram.{Diagram, leaf}
 use Rattle.state.specs.State.{State, atomOf, meaning, truth, holds, value}
 use Rattle.paths.specs.Paths.{Literal, Path, paths, literals}
 use Rattle.cutting.specs.TruthLaws.{says, value-says, Follows, Followed, walk, tells}
-use Rattle.contradiction.specs.Contradiction.{placesOf, Names, Joined, named, itself, turned, along, Agree, Contradicts, unequal, differ, LeadsTo, leadsTo}
+use Rattle.contradiction.specs.Contradiction.{placesOf, Equates, Joined, named, itself, turned, along, Agree, Contradicts, unequal, differ, LeadsTo, leadsTo}
 use Rattle.contradiction.specs.ContradictionLaws.{leads-sound}
 
 module _ (ar : List ℕ) (s : State) (θ : ℕ → ℕ) where
@@ -20,7 +20,7 @@ module _ (ar : List ℕ) (s : State) (θ : ℕ → ℕ) where
   unfolding holds atomOf
   says-terms l = refl
 
-  says-names : (l : Literal) (t u : ℕ) → Names ar l t u → says ar s θ (l .label) ≡ eqb (θ t) (θ u)
+  says-names : (l : Literal) (t u : ℕ) → Equates ar l t u → says ar s θ (l .label) ≡ eqb (θ t) (θ u)
   says-names l t u n = says-terms l ∙ ap₂ (λ (p : ℕ) (us : List ℕ). truth s p (map θ us)) (n .equates) (n .terms)
 
   module _ (p : Path) (f : Follows (says ar s θ) p) where
@@ -54,7 +54,3 @@ leads-value ar w d c s θ = go (walk (says ar s θ) d)
         at : Flag (eqb (x .path .end) w) → x .path .end ≡ w
         at (isTrue q) = eqb-true (x .path .end) w q
         at (isFalse q) = absurd (not-followed ar s θ (x .path) (x .follows) (c (x .path) (x .of) (eqb-false (x .path .end) w q)))
-
--- so for a diagram that passes the test
-pub leads-value-test : (ar : List ℕ) → areArities ar ≡ true → (w : ℕ) (d : Diagram) → leadsTo ar w d ≡ true → (s : State) (θ : ℕ → ℕ) → value s (meaning ar d) θ ≡ w
-leads-value-test ar good w d e = leads-value ar w d (leads-sound ar good w d e)
