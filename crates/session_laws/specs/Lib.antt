@@ -1,10 +1,10 @@
 -- What holds of every session from line to line, and demands 1 and 3 for texts (document 01, sections 'Text', 'Backup' and 'A run, whole').
 --
 -- Definitions: a line
---   Makes, LeadsTo == the session behind an accepted line that prints nothing, kind by kind: a line of the model, (start), (objects), (is), (true)
+--   Makes, MovesTo == the session behind an accepted line that prints nothing, kind by kind: a line of the model, (start), (objects), (is), (true)
 --   Answered == the reply to an accepted line is of its kind; (value) and (show) leave the session
 --   OneAnswer == a line is blank, prints nothing and leaves the session; or is refused under its own number, the session left; or stands where it may and is Answered
---   IsValue == v is Mk of the state in hand, k that of the session, w is S^k
+--   IsValue == the run has begun; v is Mk of the state in hand, k that of the session, w is S^k
 --
 -- Definitions: lines and texts
 --   replies, repliesBytes, restBytes == the replies to lines in order; their bytes; what bytes behind the last line feed are answered

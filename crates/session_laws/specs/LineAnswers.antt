@@ -17,6 +17,7 @@ use Rattle.text.specs.declared.Kind.the-variants as K
 use Rattle.events.specs.declared.Event.{Event}
 use Rattle.events.specs.Contents.{keyIn, numberIn, wordAt, keysIn, numbersIn}
 use Rattle.answers.specs.declared.Answer.the-variants as A
+use Rattle.session.specs.declared.Part.the-variants.{Run}
 use Rattle.session.specs.Place.{ruleOf}
 use Rattle.session.specs.Session.{Session}
 use Rattle.session.specs.Declaring.{constantLine, predicateLine, totalLine, discountLine, actionLine}
@@ -30,29 +31,29 @@ abbrev pub Makes : {A : Type 0} → Outcome A → (A → Session) → Session �
 Makes {A} o f τ = (a : A) × (o ≡ ok a) × (τ ≡ f a)
 
 -- τ is the session behind an accepted line of the kind k with the words es, one that prints nothing: a line of the model, (start), (objects), (is) or (true)
-abbrev pub LeadsTo : Session → List Event → Kind → Session → Type 0
-LeadsTo σ es K.Constant τ = Makes (constantLine (σ .names) (keyIn (wordAt es 0))) (withNames σ) τ
-LeadsTo σ es K.Predicate τ =
+abbrev pub MovesTo : Session → List Event → Kind → Session → Type 0
+MovesTo σ es K.Constant τ = Makes (constantLine (σ .names) (keyIn (wordAt es 0))) (withNames σ) τ
+MovesTo σ es K.Predicate τ =
     Makes (predicateLine (record { names = σ .names; arities = σ .model .arities }) (keyIn (wordAt es 0)) (numberIn (wordAt es 1))) (withVocabulary σ) τ
-LeadsTo σ es K.Total τ = Makes (totalLine (numberIn (wordAt es 0))) (withTotal σ) τ
-LeadsTo σ es K.Discount τ = Makes (discountLine (numberIn (wordAt es 0)) (numberIn (wordAt es 1))) (withDiscount σ) τ
-LeadsTo σ es K.Reward τ = rewardLine σ es ≡ ok τ
-LeadsTo σ es K.Action τ = Makes (actionLine (σ .names) (keyIn (wordAt es 0)) (keysIn (drop 1 es))) (withAction σ) τ
-LeadsTo σ es K.Variant τ = variantLine σ (keyIn (wordAt es 0)) (drop 1 es) ≡ ok τ
-LeadsTo σ es K.Becomes τ = becomesLine σ es ≡ ok τ
-LeadsTo σ es K.Start τ = startLine σ ≡ ok τ
-LeadsTo σ es K.Objects τ = Makes (objectsLine (numberIn (wordAt es 0))) (withLive σ) τ
-LeadsTo σ es K.Is τ = Makes (isLine (σ .names) (σ .live) (keyIn (wordAt es 0)) (numberIn (wordAt es 1))) (withLive σ) τ
-LeadsTo σ es K.True τ = Makes (trueLine (σ .model .arities) (σ .names) (σ .live) (keyIn (wordAt es 0)) (numbersIn (drop 1 es))) (withLive σ) τ
-LeadsTo σ es K.Value τ = ⊥
-LeadsTo σ es K.Backup τ = ⊥
-LeadsTo σ es K.Cut τ = ⊥
-LeadsTo σ es K.Show τ = ⊥
-LeadsTo σ es K.Bad τ = ⊥
+MovesTo σ es K.Total τ = Makes (totalLine (numberIn (wordAt es 0))) (withTotal σ) τ
+MovesTo σ es K.Discount τ = Makes (discountLine (numberIn (wordAt es 0)) (numberIn (wordAt es 1))) (withDiscount σ) τ
+MovesTo σ es K.Reward τ = rewardLine σ es ≡ ok τ
+MovesTo σ es K.Action τ = Makes (actionLine (σ .names) (keyIn (wordAt es 0)) (keysIn (drop 1 es))) (withAction σ) τ
+MovesTo σ es K.Variant τ = variantLine σ (keyIn (wordAt es 0)) (drop 1 es) ≡ ok τ
+MovesTo σ es K.Becomes τ = becomesLine σ es ≡ ok τ
+MovesTo σ es K.Start τ = startLine σ ≡ ok τ
+MovesTo σ es K.Objects τ = Makes (objectsLine (numberIn (wordAt es 0))) (withLive σ) τ
+MovesTo σ es K.Is τ = Makes (isLine (σ .names) (σ .live) (keyIn (wordAt es 0)) (numberIn (wordAt es 1))) (withLive σ) τ
+MovesTo σ es K.True τ = Makes (trueLine (σ .model .arities) (σ .names) (σ .live) (keyIn (wordAt es 0)) (numbersIn (drop 1 es))) (withLive σ) τ
+MovesTo σ es K.Value τ = ⊥
+MovesTo σ es K.Backup τ = ⊥
+MovesTo σ es K.Cut τ = ⊥
+MovesTo σ es K.Show τ = ⊥
+MovesTo σ es K.Bad τ = ⊥
 
 -- the reply y to an accepted line of the kind k with the words es; (value) and (show) leave the session as it was
 pub data Answered (σ : Session) (es : List Event) (k : Kind) (y : Reply) : Type 0 where
-  quiet : LeadsTo σ es k (y .session) → y .answer ≡ A.Nothing → Answered σ es k y
+  quiet : MovesTo σ es k (y .session) → y .answer ≡ A.Nothing → Answered σ es k y
   valued : (v : ℕ) → k ≡ K.Value → valueRead (σ .model .arities) (σ .live) (σ .held .diagram) ≡ ok v
       → y .session ≡ σ → y .answer ≡ A.Value v (σ .held .steps) (scale (σ .model) ^ σ .held .steps) → Answered σ es k y
   backed : (h : Held) → k ≡ K.Backup → backupLine (σ .model) (σ .held) ≡ ok h
@@ -62,14 +63,15 @@ pub data Answered (σ : Session) (es : List Event) (k : Kind) (y : Reply) : Type
   showing : k ≡ K.Show → y .session ≡ σ → y .answer ≡ A.Show (length (rows (σ .held .diagram))) → Answered σ es k y
 
 -- the reply y to line `number`, which has the bytes s and is of the kind k: it is blank, prints nothing and leaves the session as it was; or it is
--- refused under its own number and leaves the session as it was; or it stands where it may and is answered as its kind is
+-- refused under its own number and leaves the session as it was (which refusal: session Replies, and line_trees TreeReplies); or it stands where it may and is answered as its kind is
 pub data OneAnswer (σ : Session) (number : ℕ) (s : List ℕ) (k : Kind) (y : Reply) : Type 0 where
   blank : s ≡ [] → y ≡ silent σ → OneAnswer σ number s k y
   refusing : (r : Refusal) → y ≡ refusal σ number r → OneAnswer σ number s k y
   accepted : allowed σ (ruleOf k (σ .part)) ≡ ok tt → Answered σ (wordsOf k s) k y → OneAnswer σ number s k y
 
--- the answer of (value): Mk of the state in hand, k and S^k
+-- the answer of (value), in the run: Mk of the state in hand, k and S^k
 pub record IsValue (σ : Session) (v k w : ℕ) : Type 0 where
+  pub run : σ .part ≡ Run
   pub value : v ≡ bellman (σ .model) k (stateIn (σ .model .arities) (σ .live))
   pub steps : k ≡ σ .held .steps
   pub power : w ≡ scale (σ .model) ^ k

@@ -74,7 +74,7 @@ oneIfBackup (some aCut) = 0
 unfoldable pub acceptedBackup : Kind → Answer → ℕ
 acceptedBackup k a = cond (isRefused a) 0 (oneIfBackup (callOf k))
 
--- how many of the lines, with their replies, are accepted (backup) lines
+-- how many of the lines, with their replies, are accepted (backup) lines; there are as many replies as lines
 unfoldable pub acceptedBackups : List (List ℕ) → List Reply → ℕ
 unfolding lineKind acceptedBackup
 acceptedBackups [] ys = 0
@@ -87,9 +87,9 @@ acceptedBackups (s ∷ ls) (y ∷ ys) = acceptedBackup (lineKind s) (y .answer) 
 pub record HoldsValues (σ : Session) : Type 0 where
   pub each : (s : State) → Good s → highest s [] (meaning (σ .model .arities) (σ .held .diagram)) ≡ bellman (σ .model) (σ .held .steps) s
 
--- the session σ behind the lines ls, one of which, `start`, is the accepted (start): its model is the one that stands before that line, and its sums of
--- weights passed; its value diagram and k are those that a run of this model leads to, of the very backups and cuts that the lines behind it ask for; k is the number of accepted (backup)
--- lines; and in every state the highest leaf of the value diagram is Mk
+-- the session σ behind the lines ls, one of which, `start`, is the accepted (start), and no other is: a second (start) is 5. Its model is the one that stands
+-- before that line, and so its sums of weights passed; its value diagram and k are those that a run of this model leads to, of the very backups and cuts that
+-- the lines behind it ask for; k is the number of accepted (backup) lines; and in every state the highest leaf of the value diagram is Mk
 pub record RunOf (ls : List (List ℕ)) (σ : Session) : Type 0 where
   pub before : List (List ℕ)
   pub start : List ℕ

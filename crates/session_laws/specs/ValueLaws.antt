@@ -78,11 +78,13 @@ value-bellman σ g holds number s v k w e = go (lineKind s) (reply σ number s) 
     valued-is : (i : Kind) (y : Reply) → allowed σ (ruleOf i (σ .part)) ≡ ok tt → Answered σ (wordsOf i s) i y → y .answer ≡ A.Value v k w → IsValue σ v k w
     valued-is i y a (quiet p q) e = let z : _≡_ {A = ℕ} 0 1 = cc in absurd (omega arith)
     valued-is i y a (valued x p h t q) e =
-        let b = read-bellman σ g holds (subst (λ j. allowed σ (ruleOf j (σ .part)) ≡ ok tt) p a) x h in
+        let o = subst (λ j. allowed σ (ruleOf j (σ .part)) ≡ ok tt) p a in
+        let b = read-bellman σ g holds o x h in
         let vs : x ≡ v = cc in
         let ks : σ .held .steps ≡ k = cc in
         let ws : scale (σ .model) ^ σ .held .steps ≡ w = cc in
         record {
+          run = in-run σ (ruleOf K.Value) refl (σ .part) o;
           value = sym vs ∙ b ∙ ap (λ j. bellman (σ .model) j (stateIn (σ .model .arities) (σ .live))) ks;
           steps = sym ks;
           power = sym ws ∙ ap (λ j. scale (σ .model) ^ j) ks;
