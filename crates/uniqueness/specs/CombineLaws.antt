@@ -28,7 +28,7 @@ use Rattle.apply.specs.GoodLaws.{fine-apply, good-apply}
 use Rattle.apply.specs.Combination.{operate, combination, diagramAnswer, combineAnswer, combineResult}
 use Rattle.apply.specs.CombinationLaws.{Accepted, done-accepted, result-done, eval-shared, good-shared}
 use Rattle.mdp.specs.CallLaws.{closed-count}
-use Rattle.uniqueness.specs.Meaning.{Choice, TheOnly, through, closedMeaning, TheOnlyClosed, sharedMeaning, following, apartMeaning, OnlyCombined}
+use Rattle.uniqueness.specs.Meaning.{Choice, TheOnly, readThrough, closedMeaning, TheOnlyClosed, sharedMeaning, following, apartMeaning, OnlyCombined}
 use Rattle.uniqueness.specs.OnlyLaws.{good-only, only-written}
 use Rattle.uniqueness.specs.ThroughLaws.{closed-means, closedFrom-means, closed-only}
 
@@ -57,7 +57,7 @@ module _ (op : Operation) (ar : List ℕ) (a b : Diagram) (good-a : Good ar a) (
       good = good-apply op ar (closed ar a) (after ar a b) (closed-good ar a good-a) right (h .calm)
           (subst (λ (k : ℕ). k ≤ mostRows) (closed-count ar (apply (operate op) (closed ar a) (after ar a b)) (good-a .arities) fine) (h .few))
 
-      follows : (c : Choice) → eval c (after ar a b) ≡ eval (through ar (following ar a b) c) b
+      follows : (c : Choice) → eval c (after ar a b) ≡ eval (readThrough ar (following ar a b) c) b
       follows c = closedFrom-means ar (firstVariable + length (variables ar a)) b (omega arith) (omega (arith, room)) good-b c
 
       means : (c : Choice) → eval c (apply (operate op) (closed ar a) (after ar a b)) ≡ apartMeaning op ar a b c

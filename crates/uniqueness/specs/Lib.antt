@@ -3,8 +3,8 @@
 -- Definitions: meanings
 --   Choice, Meaning == a choice of true or false for all labels, choices against equality included; the leaf that each choice leads to
 --   TheOnly, TheOnlyListing == a good diagram that means M, and the only ordered reduced one; a listing that means M, and the only one
---   through == a choice for new labels as one for the old: the truth of what a label asks once its terms are replaced together, t = t plain truth
---   closing, closedMeaning == the used variables renamed to 32, 33, .. in their order; a meaning closed up so
+--   readThrough == a choice for new labels as one for the old: the truth of what a label asks once its terms are replaced together, t = t plain truth
+--   closingUp, closedMeaning == the used variables renamed to 32, 33, .. in their order; a meaning closed up so
 --   TheOnlyClosed, TheOnlyClosedListing == the only one that means M closed up; the used variables are those of the only diagram that means M
 --
 -- Definitions: what the calls mean
@@ -17,7 +17,6 @@
 --
 -- Definitions: texts
 --   StandsFor == what a line's diagram stands for once each name is resolved
---   writtenMeaning == the leaf that a choice leads to in what is written: nested ifs
 --   Writes, WritesClosed == the only diagram that means what a tree writes; closed up, as a reward is
 --   RewardOf, WeightOf, predicateNumber, TruthOf == the session behind an accepted (reward ..), (variant ..), (becomes ..), and the diagram that it has now
 --   Accepts, behindLine, OnlyOnes == a line is accepted; the session behind it; the three for a session

@@ -44,16 +44,16 @@ pub record TheOnlyListing (ar : List ℕ) (M : Meaning) (words : List ℕ) : Typ
 
 -- a choice for the new labels as one for the old: each label has the truth of what it asks once all of its terms are replaced together by ρ; 't = t is no
 -- label but plain truth'
-abbrev pub through : List ℕ → (ℕ → ℕ) → Choice → Choice
-through ar ρ c l = asked c (moved ar ρ l)
+abbrev pub readThrough : List ℕ → (ℕ → ℕ) → Choice → Choice
+readThrough ar ρ c l = asked c (moved ar ρ l)
 
 -- 'Closing up renames the used variables to 32, 33, .. in their order': those of d
-abbrev pub closing : List ℕ → Diagram → ℕ → ℕ
-closing ar d = numbering (variables ar d) firstVariable
+abbrev pub closingUp : List ℕ → Diagram → ℕ → ℕ
+closingUp ar d = numbering (variables ar d) firstVariable
 
 -- M where the variables that d uses are closed up
 abbrev pub closedMeaning : List ℕ → Diagram → Meaning → Meaning
-closedMeaning ar d M c = M (through ar (closing ar d) c)
+closedMeaning ar d M c = M (readThrough ar (closingUp ar d) c)
 
 -- d is the only diagram that means M closed up: `before` is the only one that means M, and its variables are the used ones
 pub record TheOnlyClosed (ar : List ℕ) (M : Meaning) (d : Diagram) : Type 0 where
@@ -78,7 +78,7 @@ abbrev pub following : List ℕ → Diagram → Diagram → ℕ → ℕ
 following ar a b = numbering (variables ar b) (firstVariable + length (variables ar a))
 
 abbrev pub apartMeaning : Operation → List ℕ → Diagram → Diagram → Meaning
-apartMeaning op ar a b c = operate op (eval (through ar (closing ar a) c) a) (eval (through ar (following ar a b) c) b)
+apartMeaning op ar a b c = operate op (eval (readThrough ar (closingUp ar a) c) a) (eval (readThrough ar (following ar a b) c) b)
 
 -- the words are the combination of a and b: 'results are closed up only when apart'
 abbrev pub OnlyCombined : Operation → Names → List ℕ → Diagram → Diagram → List ℕ → Type 0
@@ -92,7 +92,7 @@ OnlyCombined op Apart ar a b words = TheOnlyClosedListing ar (apartMeaning op ar
 unfoldable pub usedAt : List ℕ → Option Diagram → Choice → Choice
 unfolding eval
 usedAt ar none c l = c l
-usedAt ar (some d) c l = eqb (eval (through ar (argument (termsOf ar (unpacked l))) c) d) 1
+usedAt ar (some d) c l = eqb (eval (readThrough ar (argument (termsOf ar (unpacked l))) c) d) 1
 
 -- the choice in the next state: each label by the truth diagram of its predicate; 'a predicate without one, and equality, stay'
 unfoldable pub nextChoice : List ℕ → Truths → Choice → Choice
@@ -109,4 +109,4 @@ regressMeaning ar truths d c = eval (nextChoice ar truths c) d
 -- 'Freeing turns parameter 16 + i into variable 32 + i and moves the other variables up by the action's parameter count'
 unfoldable pub freeMeaning : List ℕ → ℕ → Diagram → Meaning
 unfolding eval
-freeMeaning ar count d c = eval (through ar (freeing count) c) d
+freeMeaning ar count d c = eval (readThrough ar (freeing count) c) d

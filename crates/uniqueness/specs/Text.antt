@@ -22,7 +22,7 @@ use Rattle.answers.specs.declared.Answer.the-variants as A
 use Rattle.session.specs.Session.{Session}
 use Rattle.session.specs.Modelling.{namesFor, withReward, withVariant, withTruth}
 use Rattle.session.specs.Replies.{reply}
-use Rattle.uniqueness.specs.Meaning.{Meaning, TheOnly, TheOnlyClosed}
+use Rattle.uniqueness.specs.Meaning.{TheOnly, TheOnlyClosed}
 
 -- ===== What is written =====
 
@@ -31,21 +31,18 @@ pub record StandsFor (names : Names) (vs : List Key) (t : T.Diagram) (r : Readin
   pub met : List Key
   pub resolved : resolveDiagram names vs t ≡ fine (record { value = r; variables = met })
 
--- 'A diagram is a number, or (if ATOM DIAGRAM DIAGRAM)': the leaf that the choice leads to, by the truth of each ATOM
-abbrev pub writtenMeaning : Reading → Meaning
-writtenMeaning r c = meaning c r
-
--- d is the only diagram that means what t writes
+-- d is the only diagram that means what t writes. 'A diagram is a number, or (if ATOM DIAGRAM DIAGRAM)': the leaf that the choice c leads to, by the truth of
+-- each ATOM, is build's `meaning` c.
 pub record Writes (names : Names) (vs : List Key) (t : T.Diagram) (d : Diagram) : Type 0 where
   pub tree : Reading
   pub stands : StandsFor names vs t tree
-  pub one : TheOnly (names .arities) (writtenMeaning tree) d
+  pub one : TheOnly (names .arities) (λ c. meaning c tree) d
 
 -- 'a reward is closed up when read'
 pub record WritesClosed (names : Names) (vs : List Key) (t : T.Diagram) (d : Diagram) : Type 0 where
   pub tree : Reading
   pub stands : StandsFor names vs t tree
-  pub one : TheOnlyClosed (names .arities) (writtenMeaning tree) d
+  pub one : TheOnlyClosed (names .arities) (λ c. meaning c tree) d
 
 -- ===== Accepted lines =====
 

@@ -32,11 +32,12 @@ use Rattle.reading.specs.ArityLaws.{arity-most}
 use Rattle.reading.specs.JudgedLaws.{passed, chained}
 use Rattle.reading.specs.TreeLaws.{reading-diagram}
 use Rattle.reading.specs.GoodLaws.{reading-sound}
+use Rattle.build.specs.Build.{meaning}
 use Rattle.build.specs.Machine.{mostTests, built, builtClosed}
 use Rattle.build.specs.MachineLaws.{built-text, built-reward}
 use Rattle.build.specs.ReadingLaws.{diagramFor, EachAsked, EachValue, eval-for, labels-for, text-held, reward-held, text-good, reward-good}
 use Rattle.uniqueness.specs.Meaning.{TheOnlyClosed}
-use Rattle.uniqueness.specs.Text.{StandsFor, writtenMeaning, Writes, WritesClosed}
+use Rattle.uniqueness.specs.Text.{StandsFor, Writes, WritesClosed}
 use Rattle.uniqueness.specs.OnlyLaws.{good-only}
 use Rattle.uniqueness.specs.ThroughLaws.{closed-only}
 
@@ -138,7 +139,7 @@ module _ (names : Names) (fit : NamesFit names) (t : T.Diagram) (shallow : T.bra
       record {
         tree = x .tree;
         stands = x .stands;
-        one = good-only (names .arities) (writtenMeaning (x .tree)) d (text-good (names .arities) (x .tree) d (fit .arity-list) labels-asked values q)
+        one = good-only (names .arities) (λ c. meaning c (x .tree)) d (text-good (names .arities) (x .tree) d (fit .arity-list) labels-asked values q)
             (λ c. ap (eval c) (text-held (x .tree) .given d q .is) ∙ eval-for c (x .tree));
       }
 
@@ -161,6 +162,6 @@ module _ (names : Names) (fit : NamesFit names) (t : T.Diagram) (shallow : T.bra
       record {
         tree = x .tree;
         stands = x .stands;
-        one = subst (TheOnlyClosed (names .arities) (writtenMeaning (x .tree))) (sym (h .is))
-            (closed-only (names .arities) (writtenMeaning (x .tree)) u (good-only (names .arities) (writtenMeaning (x .tree)) u good-u (λ c. eval-for c (x .tree))));
+        one = subst (TheOnlyClosed (names .arities) (λ c. meaning c (x .tree))) (sym (h .is))
+            (closed-only (names .arities) (λ c. meaning c (x .tree)) u (good-only (names .arities) (λ c. meaning c (x .tree)) u good-u (λ c. eval-for c (x .tree))));
       }
