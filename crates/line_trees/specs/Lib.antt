@@ -1,6 +1,7 @@
 -- The reply to a line by its tree, and the answers of a text by the trees of its lines (document 01, sections 'Text', 'Refusals by trade word' and 'A run, whole').
--- A reader of these believes how trees are written (text Line, forms Tree), the row step (build Build) and what an accepted line does (session), and no reader of bytes,
--- no pass over words and no machine with stacks.
+-- A reader of these believes how trees are written (text Line, forms Tree), that names are told apart by `keyOf` (words KeyLaws `name-key` shows it), that numbers
+-- above 10^18 are held at 10^18 + 1 (`valueOf`), what an atom asks (`testOf`, `atomFrom`), where a line may stand (`ruleOf`, `allowed`), the row step (build
+-- Build) and what an accepted line does (session), and no reader of bytes, no pass over words and no machine with stacks.
 --
 -- Definitions: a diagram's words
 --   atomTerms, diagramTerms == its terms in the order of the words
@@ -25,7 +26,7 @@
 --   reply-tree: the reply to what a well-formed line writes is what its tree says
 --   reply-unwritten: the reply to bytes that no well-formed line writes is refusal 1
 --   reply-answers: so every line in bytes has the reply of TreeAnswer; reply-only: and no other
---   text-trees: the answers of a text are those of TextTrees; text-only: and no others are
+--   text-trees: the answers of a text are those of TextTrees; trees-only: and no others are
 --
 -- The arity list that reply-tree asks for is kept from line to line (session_laws, reply-sound); text-trees asks for nothing.
 

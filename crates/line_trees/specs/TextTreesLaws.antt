@@ -97,8 +97,8 @@ text-trees s = record {
 }
 
 -- and no others
-pub text-only : (s bs : List ℕ) → TextTrees s bs → bs ≡ textAnswers s
+pub trees-only : (s bs : List ℕ) → TextTrees s bs → bs ≡ textAnswers s
 unfolding textAnswers textRead
-text-only s bs t =
+trees-only s bs t =
     let e : t .end ≡ textRead s = t .rest ∙ ap (λ (p : Progress). afterRest p (linesOf s .rest)) (lines-only beginning-sound (t .lines)) in
     t .answers ∙ ap (λ (p : Progress). p .bytes ++ closing (p .session .part) (p .met)) e
