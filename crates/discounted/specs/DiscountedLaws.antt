@@ -120,16 +120,19 @@ module _ (m : Model) (good : GoodModel m) where
 pub bellman-discounted : (m : Model) → GoodModel m → (k : ℕ) (s : State) → Equal (whole (bellman m k s)) (times (whole (scale m ^ k)) (discounted m k s))
 bellman-discounted m good k s = makes-times (bellman-makes m good k s)
 
+-- so Mk divided by S^k is that value
+pub bellman-over-scale : (m : Model) → GoodModel m → (k : ℕ) (s : State) → Equal (ratio (bellman m k s) (scale m ^ k)) (discounted m k s)
+bellman-over-scale m good k s = makes-ratio (power-some (scale m) k (scale-some m good)) (bellman-makes m good k s)
+
 -- demand 3 in its own words: after every list of backups and cuts, in every state, the highest leaf of the value diagram is S^k times the k-step Bellman value
 pub demand-3-discounted : (m : Model) → GoodModel m → (l : List Call) (s : State) → Good s
     → Equal (whole (highest s [] (meaning (m .arities) (run m l .diagram)))) (times (whole (scale m ^ run m l .steps)) (discounted m (run m l .steps) s))
 demand-3-discounted m good l s g = rw (demand-3 m good l s g) (bellman-discounted m good (run m l .steps) s)
 
--- so the number divided by S^k is that value
+-- its corollary: the number divided by S^k is that value
 pub number-over-scale : (m : Model) → GoodModel m → (l : List Call) (s : State) → Good s
     → Equal (ratio (highest s [] (meaning (m .arities) (run m l .diagram))) (scale m ^ run m l .steps)) (discounted m (run m l .steps) s)
-number-over-scale m good l s g =
-    rw (demand-3 m good l s g) (makes-ratio (power-some (scale m) _ (scale-some m good)) (bellman-makes m good (run m l .steps) s))
+number-over-scale m good l s g = rw (demand-3 m good l s g) (bellman-over-scale m good (run m l .steps) s)
 
 -- document 01's run: after one backup 30 / 8 where nothing is true and 120 / 8 with stock at the hub
 pub run-discounted : Equal (discounted runModel 1 nothingTrue) (ratio 15 4) × Equal (discounted runModel 1 stockAtHub) (whole 15)

@@ -1,0 +1,1 @@
+// What the printed values of a text stand for. It stands in specs/.
