@@ -36,7 +36,7 @@ use Rattle.paths.specs.Paths.{paths, mostPaths}
 use Rattle.cutting.specs.TruthLaws.{says, value-says}
 use Rattle.contradiction.specs.Contradiction.{leadsTo}
 use Rattle.contradiction.specs.ContradictionLaws.{leads-complete, leads-sound}
-use Rattle.contradiction.specs.StateLaws.{leads-value-test, leads-value}
+use Rattle.contradiction.specs.StateLaws.{leads-value}
 use Rattle.contradiction.specs.ExactLaws.{leads-exact}
 use Rattle.mdp.specs.Model.{Variant, Action, Every, GoodVariant, GoodAction}
 use Rattle.mdp.specs.Bellman.{weightIn}
