@@ -1,6 +1,7 @@
 /* A planner's and a desk's part: the first command looks ahead and saves the session, the second reads it and values a state.
  *     save plan FILE <model.txt        gives each line to a session, then looks a step ahead, cuts what can go, and saves
  *     save value FILE <state.txt       restores the session, gives it the lines of a state and prints the value
+ * The file may come from anywhere: its sum tells damage by accident, and the library tests a session's words before it answers a line.
  */
 #include <stdio.h>
 #include <string.h>
@@ -15,6 +16,10 @@ static int accept_lines(void) {
     while (fgets(line, sizeof line, stdin)) {
         line[strcspn(line, "\n")] = 0;
         yindolve_answer answer = yindolve_session_ask(&session, line);
+        if (answer.kind == YINDOLVE_ANSWER_UNKNOWN) {
+            fprintf(stderr, "the words are no session's\n");
+            return 0;
+        }
         if (answer.kind == YINDOLVE_ANSWER_REFUSED) {
             fprintf(stderr, "line %llu: %s (%llu): %s\n", (unsigned long long)answer.line, yindolve_refusal_word(answer.refusal),
                 (unsigned long long)answer.refusal, yindolve_refusal_meaning(answer.refusal));

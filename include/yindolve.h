@@ -422,14 +422,15 @@ static inline uint64_t yindolve_session_line(yindolve_session *s, const uint8_t 
         YINDOLVE_VALUE_WORDS, s->work, YINDOLVE_SESSION_WORK_WORDS, s->answer, YINDOLVE_ANSWER_BYTES, bytes);
 }
 
-/* Answers the whole lines of a block, the next of an open session, as far as s->answer takes their answers: 0, their bytes to *bytes, and how many bytes of the
- * block were read to *read. The block may be null where its count is 0. Refused as a line is.
+/* Answers the whole lines of a block, the next of an open session, to a buffer of the caller's, best several times YINDOLVE_ANSWER_BYTES: 0, the answers' bytes to
+ * *bytes, and how many bytes of the block were read to *read. The block may be null where its count is 0. Refused as a line is.
  */
-static inline uint64_t yindolve_session_lines(yindolve_session *s, const uint8_t *block, size_t block_count, uint64_t *bytes, uint64_t *read) {
-    if (!block && block_count) return YINDOLVE_BUFFER;
+static inline uint64_t yindolve_session_lines(yindolve_session *s, const uint8_t *block, size_t block_count, uint8_t *answers, size_t answers_count, uint64_t *bytes,
+    uint64_t *read) {
+    if ((!block && block_count) || !answers) return YINDOLVE_BUFFER;
     return yindolve_lines(block ? block : (const uint8_t *)yindolve_no_words, block_count, s->numbers, YINDOLVE_NUMBER_WORDS, s->names, YINDOLVE_NAME_WORDS,
         s->arities, YINDOLVE_ARITIES, s->listings, YINDOLVE_LISTING_WORDS, s->table, YINDOLVE_TABLE_WORDS, s->state, YINDOLVE_STATE_WORDS, s->value,
-        YINDOLVE_VALUE_WORDS, s->work, YINDOLVE_SESSION_WORK_WORDS, s->answer, YINDOLVE_ANSWER_BYTES, bytes, read);
+        YINDOLVE_VALUE_WORDS, s->work, YINDOLVE_SESSION_WORK_WORDS, answers, answers_count, bytes, read);
 }
 
 /* Answers the next line of an open session, a C string without its line feed, as a struct: yindolve_session_ask(s, "(value)"). The answer's bytes stay in s->answer.

@@ -142,6 +142,12 @@ static void sessions(void) {
         EXPECT(yindolve_session_load(&other, words, YINDOLVE_SAVED_WORDS) == YINDOLVE_LISTING);
         words[i] ^= UINT64_C(1) << (i % 64);
     }
+    words[YINDOLVE_SAVED_HEAD + 18] = 7; /* rows that are no listing, with a right sum */
+    words[2] = yindolve_saved_sum(words);
+    EXPECT(yindolve_session_load(&other, words, YINDOLVE_SAVED_WORDS) == 0);
+    EXPECT(yindolve_session_line(&other, (const uint8_t *)"(value)", 7, &bytes) == YINDOLVE_LISTING);
+    EXPECT(yindolve_session_ask(&other, "(value)").kind == YINDOLVE_ANSWER_UNKNOWN);
+    EXPECT(yindolve_session_save(&session, words, YINDOLVE_SAVED_WORDS) == 0);
     EXPECT(yindolve_session_load(&other, words, YINDOLVE_SAVED_WORDS) == 0);
     yindolve_answer a = yindolve_session_ask(&other, "(value)"), b = yindolve_session_ask(&session, "(value)");
     EXPECT(a.kind == YINDOLVE_ANSWER_VALUE && b.kind == a.kind && a.value == b.value && a.steps == b.steps && a.scale == b.scale);

@@ -22,7 +22,7 @@ static const char run[] = "(objects 3)\n(is hub 0)\n(is far 2)\n(true stock 2)\n
 
 static uint64_t first_seed, seed;
 static yindolve_session whole, part, damaged, copy, other;
-static uint8_t text[sizeof model + sizeof run], answers[1 << 20], joined[1 << 20];
+static uint8_t text[sizeof model + sizeof run], answers[1 << 20], joined[1 << 20], first[1 << 20], second[1 << 20];
 
 static uint64_t next(uint64_t below) {
     seed ^= seed << 13, seed ^= seed >> 7, seed ^= seed << 17;
@@ -37,11 +37,12 @@ static size_t in_blocks(yindolve_session *s, const uint8_t *bytes, size_t count,
         uint64_t answered = 0, read = 0;
         for (;;) {
             if (block > count - at) block = count - at;
-            EXPECT(yindolve_session_lines(s, bytes + at, block, &answered, &read) == 0);
+            size_t room = YINDOLVE_ANSWER_BYTES + (size_t)next(3) * YINDOLVE_ANSWER_BYTES;
+            EXPECT(yindolve_session_lines(s, bytes + at, block, first, room, &answered, &read) == 0);
             if (read > 0 || block == count - at) break;
             ++block; /* no whole line yet */
         }
-        memcpy(joined + written, s->answer, answered);
+        memcpy(joined + written, first, answered);
         written += answered;
         at += read;
         if (read == 0) break;
@@ -91,18 +92,18 @@ int main(int count, char **arguments) {
             damaged = next(2) ? whole : part;
             damage(&damaged);
             copy = other = damaged;
-            uint64_t answer = yindolve_session_lines(&damaged, (const uint8_t *)run, sizeof run - 1, &bytes, &read);
+            uint64_t answer = yindolve_session_lines(&damaged, (const uint8_t *)run, sizeof run - 1, first, sizeof first, &bytes, &read);
             if (answer) {
                 ++refused;
                 EXPECT(answer == YINDOLVE_LISTING && same(&damaged, &copy) && memcmp(damaged.work, copy.work, sizeof copy.work) == 0);
                 continue;
             }
             ++accepted;
-            EXPECT(read == sizeof run - 1 && bytes <= YINDOLVE_ANSWER_BYTES);
+            EXPECT(read == sizeof run - 1 && bytes < sizeof first);
             memset(other.work, (int)next(256), sizeof other.work); /* which is of no account */
-            EXPECT(yindolve_session_lines(&other, (const uint8_t *)run, sizeof run - 1, &lines, &read) == 0 && lines == bytes);
-            EXPECT(same(&damaged, &other) && memcmp(damaged.answer, other.answer, bytes) == 0);
-            EXPECT(yindolve_session_lines(&damaged, (const uint8_t *)run, sizeof run - 1, &bytes, &read) == 0);
+            EXPECT(yindolve_session_lines(&other, (const uint8_t *)run, sizeof run - 1, second, sizeof second, &lines, &read) == 0 && lines == bytes);
+            EXPECT(same(&damaged, &other) && memcmp(first, second, bytes) == 0);
+            EXPECT(yindolve_session_lines(&damaged, (const uint8_t *)run, sizeof run - 1, first, sizeof first, &bytes, &read) == 0);
         }
         EXPECT(yindolve_run(text, size, answers, sizeof answers, &bytes, &lines) == 0);
     } while (time(NULL) < end);

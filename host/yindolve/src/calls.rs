@@ -7,6 +7,7 @@
 use crate::ffi;
 use crate::refusal::{accepted, Refusal};
 
+pub use crate::ffi::FULL;
 pub use crate::memory::{LISTING_WORDS, NAME_WORDS, NUMBER_WORDS, SESSION_WORK_WORDS, STATE_WORDS, TABLE_WORDS, VALUE_WORDS};
 
 /// The highest value of a leaf.

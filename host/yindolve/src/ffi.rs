@@ -131,5 +131,30 @@ extern "C" {
         bytes: *mut u64,
     ) -> u64;
 
+    pub fn yindolve_lines(
+        block: *const u8,
+        block_count: usize,
+        numbers: *mut u64,
+        numbers_count: usize,
+        names: *mut u64,
+        names_count: usize,
+        arities: *mut u64,
+        arities_count: usize,
+        listings: *mut u64,
+        listings_count: usize,
+        table: *mut u64,
+        table_count: usize,
+        state: *mut u64,
+        state_count: usize,
+        value: *mut u64,
+        value_count: usize,
+        work: *mut u64,
+        work_count: usize,
+        answers: *mut u8,
+        answers_count: usize,
+        bytes: *mut u64,
+        read: *mut u64,
+    ) -> u64;
+
     pub fn yindolve_end(numbers: *const u64, numbers_count: usize, answer: *mut u8, answer_count: usize, bytes: *mut u64) -> u64;
 }

@@ -110,6 +110,43 @@ impl Memory {
         bytes as usize
     }
 
+    /// Answers the whole lines of a block, as long as `ANSWER_BYTES` of `answers` are free; how many bytes that took, and how many bytes
+    /// of the block were read.
+    pub fn block(&mut self, block: &[u8], answers: &mut [u8]) -> (usize, usize) {
+        let Memory { numbers, names, arities, listings, table, state, value, work } = self;
+        let (mut bytes, mut read) = (0, 0);
+        // SAFETY: each pointer is to as many words as its count says, and what is written to overlaps nothing.
+        let number = unsafe {
+            ffi::yindolve_lines(
+                block.as_ptr(),
+                block.len(),
+                numbers.as_mut_ptr(),
+                numbers.len(),
+                names.as_mut_ptr(),
+                names.len(),
+                arities.as_mut_ptr(),
+                arities.len(),
+                listings.as_mut_ptr(),
+                listings.len(),
+                table.as_mut_ptr(),
+                table.len(),
+                state.as_mut_ptr(),
+                state.len(),
+                value.as_mut_ptr(),
+                value.len(),
+                work.as_mut_ptr(),
+                work.len(),
+                answers.as_mut_ptr(),
+                answers.len(),
+                &mut bytes,
+                &mut read,
+            )
+        };
+        // opening, the lines before and `hold` leave a session's words, and nothing else writes to them
+        accepted(number).expect("the memory is a session's, of the size that the library asks for");
+        (bytes as usize, read as usize)
+    }
+
     /// The closing answer of a text that ends here; how many bytes of `answer` that took.
     pub fn end(&self, answer: &mut [u8]) -> usize {
         let mut bytes = 0;

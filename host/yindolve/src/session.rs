@@ -207,6 +207,38 @@ impl Session {
         answer
     }
 
+    /// Answers the whole lines of a block, and gives the bytes of their answers and how many bytes of the block were read: all but those
+    /// of a last line that no line feed ends, which are to be given again with what comes behind them. Many lines at a time cost less than
+    /// one by one, since the library tests a session's memory once for a block.
+    ///
+    /// ```
+    /// use yindolve::Session;
+    /// let mut session = Session::load("(reward 7)\n(action wait)\n(variant only 100)\n(start)\n")?;
+    /// let (answers, read) = session.block(b"(objects 1)\n(value)\n(value");
+    /// assert_eq!((answers.as_slice(), read), (&b"(value 7 0 1)\n"[..], 20));
+    /// # Ok::<(), yindolve::Refused>(())
+    /// ```
+    pub fn block(&mut self, block: &[u8]) -> (Vec<u8>, usize) {
+        let (mut answers, mut read) = (Vec::new(), 0);
+        while !self.is_started() {
+            let Some(count) = block[read..].iter().position(|byte| *byte == b'\n') else {
+                return (answers, read);
+            };
+            self.line(&block[read..read + count]);
+            answers.extend_from_slice(self.answer_bytes());
+            read += count + 1;
+        }
+        let mut room = vec![0; 4 * ANSWER_BYTES];
+        loop {
+            let (bytes, more) = self.memory.block(&block[read..], &mut room);
+            if more == 0 {
+                return (answers, read);
+            }
+            answers.extend_from_slice(&room[..bytes]);
+            read += more;
+        }
+    }
+
     /// The closing answer of a text that ends here: `(refused 5 0)`, with line 0, where no `(start)` was accepted though a line that is not
     /// blank was met, and else [`Nothing`](Answer::Nothing). The session stays, and more lines may follow.
     ///

@@ -47,6 +47,7 @@ fn sizes() {
         ("YINDOLVE_VALUE_WORDS", calls::VALUE_WORDS as u64),
         ("YINDOLVE_SESSION_WORK_WORDS", calls::SESSION_WORK_WORDS as u64),
         ("YINDOLVE_ANSWER_BYTES", yindolve::ANSWER_BYTES as u64),
+        ("YINDOLVE_FULL", calls::FULL),
     ];
     for (name, size) in sizes {
         assert_eq!(header.get(name), Some(&size), "{name}");

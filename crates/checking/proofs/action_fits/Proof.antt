@@ -10,7 +10,10 @@ returns-2 : tie.Need-returns-2
 returns-2 c = action-many _ _ _ _ _ (c .before .before .if1 .left) (c .if2 .taken)
 
 variants-fit-requires : tie.Need-variants-fit-requires
-variants-fit-requires c κs = (lent-for (c .before .before .before .before .before .before .before .pre .0) (c .before .before .if1 .left), (c .before .before .before .before .before .before .before .pre .1, c .if2 .left))
+variants-fit-requires c κs = (
+  lent-for (c .before .before .before .before .before .before .before .pre .0) (c .before .before .if1 .left),
+  (c .before .before .before .before .before .before .before .pre .1, c .if2 .left),
+)
 
 returns-3 : tie.Need-returns-3
 returns-3 c = action-rest _ _ _ _ _ (c .before .before .before .if1 .left) (c .before .if2 .left) (c .variants-fit .ensures)

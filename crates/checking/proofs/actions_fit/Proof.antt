@@ -15,7 +15,11 @@ loop-holds : tie.Need-loop-holds Inv-loop μ-loop
 loop-holds c = looked-start _ _
 
 action-fits-requires : tie.Need-action-fits-requires Inv-loop μ-loop
-action-fits-requires c κs = (c .before .before .before .before .before .pre .0, action-room (c .before .before .before .before .before .args .table .now) _ _ (c .before .before .before .before .before .pre .1 .0) (c .loop-test .taken) (c .before .before .before .before .before .pre .1 .1))
+action-fits-requires c κs = (
+  c .before .before .before .before .before .pre .0,
+  action-room (c .before .before .before .before .before .args .table .now) _ _
+      (c .before .before .before .before .before .pre .1 .0) (c .loop-test .taken) (c .before .before .before .before .before .pre .1 .1),
+)
 
 returns : tie.Need-returns Inv-loop μ-loop
 returns c = looked-no (c .before .before .before .loop .inv) (c .before .before .loop-test .taken) (c .before .action-fits .ensures) (c .if1 .taken)

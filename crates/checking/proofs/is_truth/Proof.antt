@@ -15,10 +15,16 @@ returns-2 : tie.Need-returns-2
 returns-2 c = truth-refused _ _ _ _ (c .before .before .before .before .check .ensures) (c .before .before .before .if1 .left) (c .before .before .judge .ensures) (c .enum-told2 .given .1)
 
 lacks-requires : tie.Need-lacks-requires
-lacks-requires c κs = (passed (c .before .before .before .before .check .ensures) (c .before .before .before .if1 .left), let p = c .before .before .before .before .before .before .before .pre .0 in omega arith)
+lacks-requires c κs = (
+  passed (c .before .before .before .before .check .ensures)
+      (c .before .before .before .if1 .left),
+  let p = c .before .before .before .before .before .before .before .pre .0 in omega arith,
+)
 
 returns-3 : tie.Need-returns-3
-returns-3 c = truth-rest _ _ _ _ (c .before .before .before .before .before .check .ensures) (c .before .before .before .before .if1 .left) (c .before .before .before .judge .ensures) (c .before .enum-told .given .1) (c .lacks .ensures)
+returns-3 c =
+    truth-rest _ _ _ _ (c .before .before .before .before .before .check .ensures) (c .before .before .before .before .if1 .left) (c .before .before .before .judge .ensures)
+    (c .before .enum-told .given .1) (c .lacks .ensures)
 
 pub is-truth-spec : {M : Type 1} → statement M
 is-truth-spec =

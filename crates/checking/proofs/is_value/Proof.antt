@@ -17,7 +17,9 @@ lacks-requires : tie.Need-lacks-requires
 lacks-requires c κs = (passed (c .before .before .before .check .ensures) (c .before .before .if1 .left), lit≤ tt)
 
 returns-3 : tie.Need-returns-3
-returns-3 c = value-rest _ _ (c .before .before .before .before .check .ensures) (c .before .before .before .if1 .left) (c .before .before .is-closed .ensures) (c .before .if2 .left) (c .lacks .ensures)
+returns-3 c =
+    value-rest _ _ (c .before .before .before .before .check .ensures) (c .before .before .before .if1 .left) (c .before .before .is-closed .ensures) (c .before .if2 .left)
+    (c .lacks .ensures)
 
 pub is-value-spec : {M : Type 1} → statement M
 is-value-spec =

@@ -38,7 +38,9 @@ truths-fit-requires : tie.Need-truths-fit-requires
 truths-fit-requires c κs = c .before .before .before .before .before .before .before .before .before .before .pre
 
 returns-3 : tie.Need-returns-3
-returns-3 c = variant-rest _ _ _ _ _ _ (c .before .before .before .before .before .is-inside .ensures) (c .before .before .before .before .if1 .left) (c .before .before .is-weight .ensures) (c .before .if2 .left) (c .truths-fit .ensures)
+returns-3 c =
+    variant-rest _ _ _ _ _ _ (c .before .before .before .before .before .is-inside .ensures) (c .before .before .before .before .if1 .left)
+    (c .before .before .is-weight .ensures) (c .before .if2 .left) (c .truths-fit .ensures)
 
 pub variant-fits-spec : {M : Type 1} → statement M
 variant-fits-spec =

@@ -16,7 +16,11 @@ loop-holds : tie.Need-loop-holds Inv-loop μ-loop
 loop-holds c = looked-start _ _
 
 variant-fits-requires : tie.Need-variant-fits-requires Inv-loop μ-loop
-variant-fits-requires c κs = (c .before .before .before .before .before .pre .0, variant-room (c .before .before .before .before .before .args .table .now) _ _ _ (c .before .before .before .before .before .pre .1 .0) (c .loop-test .taken) (c .before .before .before .before .before .pre .1 .1))
+variant-fits-requires c κs = (
+  c .before .before .before .before .before .pre .0,
+  variant-room (c .before .before .before .before .before .args .table .now) _ _ _
+      (c .before .before .before .before .before .pre .1 .0) (c .loop-test .taken) (c .before .before .before .before .before .pre .1 .1),
+)
 
 returns : tie.Need-returns Inv-loop μ-loop
 returns c = looked-no (c .before .before .before .loop .inv) (c .before .before .loop-test .taken) (c .before .variant-fits .ensures) (c .if1 .taken)

@@ -18,7 +18,9 @@ returns-4 : tie.Need-returns-4
 returns-4 c = says-no (counts-are _) (λ f. omega (arith, c .if4 .taken, f .parameters))
 
 returns-5 : tie.Need-returns-5
-returns-5 c = counts-rest _ (c .before .before .before .before .before .before .before .if1 .left) (c .before .before .before .before .before .if2 .left) (c .before .before .before .if3 .left) (c .before .if4 .left)
+returns-5 c =
+    counts-rest _ (c .before .before .before .before .before .before .before .if1 .left) (c .before .before .before .before .before .if2 .left)
+    (c .before .before .before .if3 .left) (c .before .if4 .left)
 
 pub counts-fit-spec : {M : Type 1} → statement M
 counts-fit-spec =

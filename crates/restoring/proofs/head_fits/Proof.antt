@@ -31,7 +31,11 @@ returns-8 c = says-no (head-is _) (λ f. c .if8 .taken (f .whole))
 
 returns-9 : tie.Need-returns-9
 returns-9 c =
-    head-rest _ (c .before .before .before .before .before .before .before .before .before .before .before .before .before .before .before .before .if1 .left) (c .before .before .before .before .before .before .before .before .before .before .before .before .before .before .if2 .left) (c .before .before .before .before .before .before .before .before .before .before .before .before .if3 .left) (c .before .before .before .before .before .before .before .before .before .before .if4 .left) (c .before .before .before .before .before .before .before .before .if5 .left) (c .before .before .before .before .before .before .if6 .left) (c .before .before .before .before .if7 .left) (c .before .if8 .left)
+    head-rest _ (c .before .before .before .before .before .before .before .before .before .before .before .before .before .before .before .before .if1 .left)
+    (c .before .before .before .before .before .before .before .before .before .before .before .before .before .before .if2 .left)
+    (c .before .before .before .before .before .before .before .before .before .before .before .before .if3 .left)
+    (c .before .before .before .before .before .before .before .before .before .before .if4 .left) (c .before .before .before .before .before .before .before .before .if5 .left)
+    (c .before .before .before .before .before .before .if6 .left) (c .before .before .before .before .if7 .left) (c .before .if8 .left)
     (c .is-inside .ensures)
 
 pub head-fits-spec : {M : Type 1} → statement M
