@@ -60,11 +60,11 @@ extern "C" {
 
 /* Sizes of a session's memory, in words, and of its answers, in bytes. */
 #define YINDOLVE_NUMBER_WORDS 23         /* numbers, at least */
-#define YINDOLVE_NAME_WORDS 136          /* names, at least */
-#define YINDOLVE_LISTING_WORDS 6144      /* the model's listings, at least */
-#define YINDOLVE_TABLE_WORDS 4240        /* where they stand, at least */
-#define YINDOLVE_STATE_WORDS 5152        /* the state, at least */
-#define YINDOLVE_VALUE_WORDS 3072        /* the value's listing, at least */
+#define YINDOLVE_NAME_WORDS 136          /* names, exactly */
+#define YINDOLVE_LISTING_WORDS 6144      /* the model's listings, exactly */
+#define YINDOLVE_TABLE_WORDS 4240        /* where they stand, exactly */
+#define YINDOLVE_STATE_WORDS 5152        /* the state, exactly */
+#define YINDOLVE_VALUE_WORDS 3072        /* the value's listing, exactly */
 #define YINDOLVE_SESSION_WORK_WORDS 6144 /* a session's working space, at least */
 #define YINDOLVE_ANSWER_BYTES 92160      /* the answer of a line: 90 bytes for each of 1,024 rows */
 
@@ -220,18 +220,20 @@ uint64_t yindolve_run(const uint8_t *text, size_t text_count, uint8_t *answers, 
 
 /* Opens a session: before its first line. Its memory is `numbers`, `arities` and `state` and, for its lines, words of any value for names, listings, table and
  * value; all of it belongs to the session until its last line.
- * Refused: BUFFER where numbers or state have fewer words than above, or there are not YINDOLVE_ARITIES arities.
+ * Refused: BUFFER where numbers have fewer words than above, state has not as many, or there are not YINDOLVE_ARITIES arities.
  */
 uint64_t yindolve_open(uint64_t *numbers, size_t numbers_count, uint64_t *arities, size_t arities_count, uint64_t *state, size_t state_count);
 
 /* Answers the next lines of a session: the whole lines of a block, one after another, as long as YINDOLVE_ANSWER_BYTES of the buffer are free, so that every answer
  * fits. The answers' bytes to `answers`, their count to *bytes; how many bytes of the block were read, line feeds too, to *read. At least one line is answered where
  * there is one. Give the rest of the block again, with what comes behind it: more lines where the buffer was the end, else bytes of a line that is not whole yet.
- * The session's memory is tested once for a call, so that lines are best given many at a time. It passes the test if it is a session's, as opening or lines can
- * leave one: names, a model laid out well, a state, a value diagram and numbers that agree. So a session may be written to a file, read again and go on
- * (examples/save.c), whatever happened to its bytes: the call answers by the session that they are, or LISTING.
- * Refused, in this order: BUFFER where a table, the working space or the buffer is smaller than the sizes above, or there are not YINDOLVE_ARITIES arities; LISTING
- * where the memory is no session's, or its count of lines and the block's bytes together pass 2^64 - 1. Nothing is written then, the working space too.
+ * The session's memory is tested once for a call, so that lines are best given many at a time. It passes the test if names, arities, the model laid out in listings
+ * and table, state, value diagram and numbers agree as every line keeps them. So a session may be written to a file, read again and go on (examples/save.c), whatever
+ * happened to its bytes: the call answers by the session that they are, or LISTING. (Words that pass but were not left by lines may hold any good value diagram; then a
+ * value is that diagram's, and not the Bellman value.)
+ * Words behind the numbers and bytes behind the answers stay. Within a table the words behind those in use are the session's working space.
+ * Refused, in this order: LISTING where the memory is no session's, a table of another size among it, or its count of lines and the block's bytes together pass
+ * 2^64 - 1; BUFFER where the working space or the buffer is smaller than above. Nothing is written then.
  */
 uint64_t yindolve_lines(const uint8_t *block, size_t block_count, uint64_t *numbers, size_t numbers_count, uint64_t *names, size_t names_count, uint64_t *arities,
     size_t arities_count, uint64_t *listings, size_t listings_count, uint64_t *table, size_t table_count, uint64_t *state, size_t state_count, uint64_t *value,
@@ -247,7 +249,8 @@ uint64_t yindolve_line(const uint8_t *line, size_t line_count, uint64_t *numbers
 /* The closing answer of a session whose text ends here, to `answer`, its bytes to *bytes: (refused 5 0) where no (start) was accepted, though a line with bytes was
  * met; else no bytes. The session stays, and more lines may follow. A host that gives the lines of a text one by one and then calls this has the answers of
  * yindolve_run.
- * Refused: BUFFER where `numbers` has fewer than YINDOLVE_NUMBER_WORDS or `answer` fewer than YINDOLVE_ANSWER_BYTES: nothing is written.
+ * Refused, in this order: LISTING where `numbers` has fewer than YINDOLVE_NUMBER_WORDS, or words that no session's numbers are; BUFFER where `answer` has fewer than
+ * YINDOLVE_ANSWER_BYTES. Nothing is written then.
  */
 uint64_t yindolve_end(const uint64_t *numbers, size_t numbers_count, uint8_t *answer, size_t answer_count, uint64_t *bytes);
 

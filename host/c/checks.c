@@ -103,16 +103,22 @@ static void ends(void) {
     EXPECT(yindolve_session_open(&other) == 0 && closes_with(&other, ""));
     EXPECT(yindolve_session_load(&other, words, YINDOLVE_SAVED_WORDS) == 0 && closes_with(&other, last));
     EXPECT(yindolve_session_ask(&other, "y").line == 4);
-    EXPECT(yindolve_end(other.numbers, YINDOLVE_NUMBER_WORDS - 1, other.answer, YINDOLVE_ANSWER_BYTES, &bytes) == YINDOLVE_BUFFER && bytes == 99);
+    EXPECT(yindolve_end(other.numbers, YINDOLVE_NUMBER_WORDS - 1, other.answer, YINDOLVE_ANSWER_BYTES, &bytes) == YINDOLVE_LISTING && bytes == 99);
     EXPECT(yindolve_end(other.numbers, YINDOLVE_NUMBER_WORDS, other.answer, YINDOLVE_ANSWER_BYTES - 1, &bytes) == YINDOLVE_BUFFER && bytes == 99);
-    uint64_t numbers[YINDOLVE_NUMBER_WORDS]; /* words that are no session's are taken too */
+    uint64_t numbers[YINDOLVE_NUMBER_WORDS]; /* words that are no session's numbers */
     memcpy(numbers, other.numbers, sizeof numbers);
-    numbers[0] = 7; /* a run */
-    EXPECT(yindolve_end(numbers, YINDOLVE_NUMBER_WORDS, other.answer, YINDOLVE_ANSWER_BYTES, &bytes) == 0 && bytes == 0);
-    numbers[0] = 0, numbers[22] = 2; /* not 1, so nothing was met */
-    EXPECT(yindolve_end(numbers, YINDOLVE_NUMBER_WORDS, other.answer, YINDOLVE_ANSWER_BYTES, &bytes) == 0 && bytes == 0);
+    numbers[0] = 7; /* neither part */
+    EXPECT(yindolve_end(numbers, YINDOLVE_NUMBER_WORDS, other.answer, YINDOLVE_ANSWER_BYTES, &bytes) == YINDOLVE_LISTING && bytes == 99);
+    numbers[0] = 0, numbers[22] = 2; /* neither met nor not */
+    EXPECT(yindolve_end(numbers, YINDOLVE_NUMBER_WORDS, other.answer, YINDOLVE_ANSWER_BYTES, &bytes) == YINDOLVE_LISTING && bytes == 99);
+    EXPECT(yindolve_end(numbers, YINDOLVE_NUMBER_WORDS, other.answer, 0, &bytes) == YINDOLVE_LISTING && bytes == 99); /* 14 before 18 */
     memset(numbers, 255, sizeof numbers);
-    EXPECT(yindolve_end(numbers, YINDOLVE_NUMBER_WORDS, other.answer, YINDOLVE_ANSWER_BYTES, &bytes) == 0 && bytes == 0);
+    EXPECT(yindolve_end(numbers, YINDOLVE_NUMBER_WORDS, other.answer, YINDOLVE_ANSWER_BYTES, &bytes) == YINDOLVE_LISTING && bytes == 99);
+    EXPECT(yindolve_session_ask(&other, "z").line == 5); /* 14, then 18, for lines too */
+    EXPECT(yindolve_line((const uint8_t *)"z", 1, other.numbers, YINDOLVE_NUMBER_WORDS, other.names, YINDOLVE_NAME_WORDS - 1, other.arities, YINDOLVE_ARITIES, other.listings, YINDOLVE_LISTING_WORDS,
+               other.table, YINDOLVE_TABLE_WORDS, other.state, YINDOLVE_STATE_WORDS, other.value, YINDOLVE_VALUE_WORDS, other.work, 0, other.answer, 0, &bytes) == YINDOLVE_LISTING);
+    EXPECT(yindolve_line((const uint8_t *)"z", 1, other.numbers, YINDOLVE_NUMBER_WORDS, other.names, YINDOLVE_NAME_WORDS, other.arities, YINDOLVE_ARITIES, other.listings, YINDOLVE_LISTING_WORDS,
+               other.table, YINDOLVE_TABLE_WORDS, other.state, YINDOLVE_STATE_WORDS, other.value, YINDOLVE_VALUE_WORDS, other.work, 0, other.answer, YINDOLVE_ANSWER_BYTES, &bytes) == YINDOLVE_BUFFER);
     EXPECT(yindolve_run_text((const uint8_t *)"\n\n", 2, NULL, 0, &bytes, &lines) == 0 && bytes == 0);
     EXPECT(yindolve_run_text((const uint8_t *)"\n\nx", 3, answers, sizeof answers, &bytes, &lines) == 0);
     EXPECT(bytes == 28 && memcmp(answers, "(refused 1 3)\n(refused 5 0)\n", 28) == 0);

@@ -8,22 +8,26 @@ use native.Mathlib.Numerals.{add-one}
 use native.Mathlib.Nat.{zero-add}
 use borrow.Author.Tests.{eq-eqb, ne-eqb, le-leb, lt-leb, leb-true, leb-false, eqb-true, not-true, not-false}
 use lib.Dec.{leb, eqb}
-use lib.ListN.{length, take, drop, take-append-drop}
+use lib.ListN.{length, getD, take, drop, take-append-drop}
 use lib.Seq.{length-take-le}
 use Rattle.basics.specs.Tests.{and-left, and-right, Flag, isTrue, isFalse, flag}
 use Rattle.refusal.specs.declared.Refusal.the-variants.{Place, Buffer, Listing}
 use Rattle.refusal.specs.Numbers.{numberOf}
 use Rattle.label.specs.Limits.{predicateCount}
+use Rattle.diagram.specs.Sizes.{resultWords}
+use Rattle.names.specs.Layout.{nameWords}
+use Rattle.model.specs.Layout.{listingWords, tableWords}
 use Rattle.answers.specs.declared.Answer.the-variants.{Refused}
 use Rattle.answers.specs.declared.Put.{Put}
 use Rattle.answers.specs.declared.Put.the-variants.{At, Full}
 use Rattle.answers.specs.Writing.{mostBytes, putAnswer, putResult, Placed}
 use Rattle.session.specs.declared.Part.{Part}
+use Rattle.session.specs.declared.Part.the-variants.{Model, Run}
 use Rattle.session.specs.Texts.{hasBytes, linesOf, Progress, unfinished, closing, afterLine}
 use Rattle.facts.specs.Words.{stateWords}
 use Rattle.memory.specs.declared.Numbers.{Numbers}
 use Rattle.memory.specs.Memory.{Memory, memoryOf, sessionOf, Kept, workWords}
-use Rattle.memory.specs.Saving.{numberWords, savedWords, numbersAt, linesAt, metAt}
+use Rattle.memory.specs.Saving.{numberWords, partWord, flagWord, savedWords, numbersAt, linesAt, metAt}
 use Rattle.memory.specs.SavingLaws.{saved-numbers, saved-lines, saved-met}
 use Rattle.lines.specs.Lines.{Opening, Opened}
 use Rattle.texts.specs.declared.Sent.{Sent}
@@ -36,12 +40,12 @@ use Rattle.texts.specs.RunningLaws.{rest-none}
 use Rattle.texts.specs.declared.Answered.{Answered}
 use Rattle.texts.specs.Sending.{Sends, mostLines, progressOf}
 use Rattle.texts.specs.Whole.{Whole, wholeFrom, wholeOf, Answerable, Reaches}
-use Rattle.restoring.specs.Restoring.{roomsFit, isSession}
+use Rattle.restoring.specs.Restoring.{isSession}
 use Rattle.restoring.specs.KeptLaws.{session-is}
 use Rattle.checking.specs.DecisionLaws.{decided}
 use Rattle.checking.proofs.TestLaws.{stops, goes, refused, passed}
 use Rattle.c_library.specs.Answers.{roomNumber, entryNumber}
-use Rattle.c_library.specs.Sessions.{hasRoom, OpenOrLeft, Opens, canAnswer, isOpen, progressAt, positionAt, putEnd, IsAnswered, IsUntouched, DoneOrLeft, Replies, answeredLines, AreAnswered, AreUntouched, RepliesAll, canClose, closingAt, ClosedOrNot, Closes}
+use Rattle.c_library.specs.Sessions.{hasRoom, OpenOrLeft, Opens, hasRooms, isPlain, canAnswer, isOpen, progressAt, positionAt, putEnd, IsAnswered, IsUntouched, DoneOrLeft, Replies, answeredLines, AreAnswered, AreUntouched, RepliesAll, canClose, closingAt, IsClosed, IsUnclosed, Closes}
 
 -- ===== Room =====
 
@@ -52,7 +56,7 @@ module _ (n a s : ℕ) where
   pub room-arities : numberWords ≤ n → (a ≡ predicateCount → ⊥) → false ≡ hasRoom n a s
   room-arities h f = rw (le-leb numberWords n h, ne-eqb a predicateCount f)
 
-  pub room-state : numberWords ≤ n → a ≡ predicateCount → leb stateWords s ≡ hasRoom n a s
+  pub room-state : numberWords ≤ n → a ≡ predicateCount → eqb s stateWords ≡ hasRoom n a s
   room-state h e = rw (le-leb numberWords n h, eq-eqb a predicateCount e)
 
 pub record Room (n a s : ℕ) : Type 0 where
@@ -63,11 +67,11 @@ pub record Room (n a s : ℕ) : Type 0 where
 pub room-is : (n a s : ℕ) {b : Bool} → b ≡ hasRoom n a s → not b ≡ false → Room n a s
 room-is n a s {b} q f =
     let h = sym q ∙ not-false b f in
-    let t = and-right (leb numberWords n) (eqb a predicateCount && leb stateWords s) h in
+    let t = and-right (leb numberWords n) (eqb a predicateCount && eqb s stateWords) h in
     record {
-      numbers = leb-true numberWords n (and-left (leb numberWords n) (eqb a predicateCount && leb stateWords s) h);
-      arities = eqb-true a predicateCount (and-left (eqb a predicateCount) (leb stateWords s) t);
-      state = leb-true stateWords s (and-right (eqb a predicateCount) (leb stateWords s) t);
+      numbers = leb-true numberWords n (and-left (leb numberWords n) (eqb a predicateCount && eqb s stateWords) h);
+      arities = eqb-true a predicateCount (and-left (eqb a predicateCount) (eqb s stateWords) t);
+      state = omega (arith, eqb-true s stateWords (and-right (eqb a predicateCount) (eqb s stateWords) t));
     }
 
 -- ===== Opening =====
@@ -105,52 +109,127 @@ module _ (numbers arities state : List ℕ) {b : Bool} (q : b ≡ hasRoom (lengt
 
 -- ===== Room for lines =====
 
-module _ (numbers names arities listings table state value work answer : ℕ) where
+module _ (work answer : ℕ) where
   abbrev roomy : Bool
-  roomy = leb numberWords numbers && (roomsFit names arities listings table state value && (leb workWords work && leb mostBytes answer))
+  roomy = leb workWords work && leb mostBytes answer
 
-  pub answer-numbers : numbers < numberWords → false ≡ roomy
-  answer-numbers h = stops _ (lt-leb numberWords numbers h)
+  pub answer-work : work < workWords → false ≡ roomy
+  answer-work h = stops _ (lt-leb workWords work h)
 
-  module _ (a : numberWords ≤ numbers) {b : Bool} (e : b ≡ roomsFit names arities listings table state value) where
-    pub answer-rooms : not b ≡ true → false ≡ roomy
-    answer-rooms f = goes (le-leb numberWords numbers a) (stops _ (refused e f))
-
-    module _ (f : not b ≡ false) where
-      pub answer-work : work < workWords → false ≡ roomy
-      answer-work h = goes (le-leb numberWords numbers a) (goes (passed e f) (stops _ (lt-leb workWords work h)))
-
-      pub answer-rest : workWords ≤ work → leb mostBytes answer ≡ roomy
-      answer-rest h = goes (le-leb numberWords numbers a) (goes (passed e f) (goes (le-leb workWords work h) refl))
-
-pub roomy-numbers : (n : ℕ) (y : Bool) {b : Bool} → b ≡ (leb numberWords n && y) → not b ≡ false → numberWords ≤ n
-roomy-numbers n y e f = leb-true numberWords n (and-left (leb numberWords n) y (passed e f))
+  pub answer-rest : workWords ≤ work → leb mostBytes answer ≡ roomy
+  answer-rest h = goes (le-leb workWords work h) refl
 
 -- ===== A session's words =====
 
-module _ (numbers : List ℕ) (w : Memory) (more : ℕ) {n : Numbers} (en : n ≡ numbersAt numbers) {b : Bool} (e : b ≡ isSession n w) where
-  session-test : b ≡ isSession (numbersAt numbers) w
-  session-test = e ∙ ap (λ (m : Numbers). isSession m w) en
+module _ (numbers names arities listings table state value : ℕ) where
+  abbrev rooms : Bool
+  rooms = hasRooms numbers names arities listings table state value
 
-  pub open-none : not b ≡ true → false ≡ isOpen numbers w more
-  open-none f = stops _ (refused session-test f)
+  pub rooms-numbers : numbers < numberWords → false ≡ rooms
+  rooms-numbers h = stops _ (lt-leb numberWords numbers h)
 
-  pub open-rest : {k : ℕ} → not b ≡ false → more ≤ mostLines → k ≡ linesAt numbers → leb k (mostLines - more) ≡ isOpen numbers w more
-  open-rest {k} f h q = goes (passed session-test f) (go (flag (leb k (mostLines - more))))
-    where
-      go : Flag (leb k (mostLines - more)) → leb k (mostLines - more) ≡ leb (linesAt numbers + more) mostLines
-      go (isTrue z) = z ∙ sym (le-leb (linesAt numbers + more) mostLines (let l = leb-true k (mostLines - more) z in omega (arith, l, q)))
-      go (isFalse z) = z ∙ sym (lt-leb (linesAt numbers + more) mostLines (let l = leb-false k (mostLines - more) z in omega (arith, l, q)))
+  module _ (a : numberWords ≤ numbers) where
+    pub rooms-names : (names ≡ nameWords → ⊥) → false ≡ rooms
+    rooms-names f = goes (le-leb numberWords numbers a) (stops _ (ne-eqb names nameWords f))
+
+    module _ (b : names ≡ nameWords) where
+      from-arities : {r : Bool} → r ≡ (eqb arities predicateCount && (eqb listings listingWords && (eqb table tableWords && (eqb state stateWords && eqb value resultWords))))
+          → r ≡ rooms
+      from-arities q = goes (le-leb numberWords numbers a) (goes (eq-eqb names nameWords b) q)
+
+      pub rooms-arities : (arities ≡ predicateCount → ⊥) → false ≡ rooms
+      rooms-arities f = from-arities (stops _ (ne-eqb arities predicateCount f))
+
+      module _ (c : arities ≡ predicateCount) where
+        pub rooms-listings : (listings ≡ listingWords → ⊥) → false ≡ rooms
+        rooms-listings f = from-arities (goes (eq-eqb arities predicateCount c) (stops _ (ne-eqb listings listingWords f)))
+
+        module _ (d : listings ≡ listingWords) where
+          from-table : {r : Bool} → r ≡ (eqb table tableWords && (eqb state stateWords && eqb value resultWords)) → r ≡ rooms
+          from-table q = from-arities (goes (eq-eqb arities predicateCount c) (goes (eq-eqb listings listingWords d) q))
+
+          pub rooms-table : (table ≡ tableWords → ⊥) → false ≡ rooms
+          rooms-table f = from-table (stops _ (ne-eqb table tableWords f))
+
+          module _ (e : table ≡ tableWords) where
+            pub rooms-state : (state ≡ stateWords → ⊥) → false ≡ rooms
+            rooms-state f = from-table (goes (eq-eqb table tableWords e) (stops _ (ne-eqb state stateWords f)))
+
+            pub rooms-value : state ≡ stateWords → eqb value resultWords ≡ rooms
+            rooms-value f = from-table (goes (eq-eqb table tableWords e) (goes (eq-eqb state stateWords f) refl))
+
+-- what is told by 0 or 1
+module _ (s : List ℕ) where
+  pub plain-part : 1 < getD s 0 0 → false ≡ isPlain s
+  plain-part h = stops _ (lt-leb (getD s 0 0) 1 h)
+
+  module _ (a : getD s 0 0 ≤ 1) where
+    pub plain-total : 1 < getD s 1 0 → false ≡ isPlain s
+    plain-total h = goes (le-leb (getD s 0 0) 1 a) (stops _ (lt-leb (getD s 1 0) 1 h))
+
+    module _ (b : getD s 1 0 ≤ 1) where
+      pub plain-discount : 1 < getD s 2 0 → false ≡ isPlain s
+      plain-discount h = goes (le-leb (getD s 0 0) 1 a) (goes (le-leb (getD s 1 0) 1 b) (stops _ (lt-leb (getD s 2 0) 1 h)))
+
+      module _ (c : getD s 2 0 ≤ 1) where
+        pub plain-reward : 1 < getD s 3 0 → false ≡ isPlain s
+        plain-reward h =
+            goes (le-leb (getD s 0 0) 1 a) (goes (le-leb (getD s 1 0) 1 b) (goes (le-leb (getD s 2 0) 1 c) (stops _ (lt-leb (getD s 3 0) 1 h))))
+
+        pub plain-met : getD s 3 0 ≤ 1 → leb (getD s 22 0) 1 ≡ isPlain s
+        plain-met d =
+            goes (le-leb (getD s 0 0) 1 a) (goes (le-leb (getD s 1 0) 1 b) (goes (le-leb (getD s 2 0) 1 c) (goes (le-leb (getD s 3 0) 1 d) refl)))
+
+part-plain : (p : Part) → leb (partWord p) 1 ≡ true
+part-plain Model = refl
+part-plain Run = refl
+
+flag-plain : (b : Bool) → leb (flagWord b) 1 ≡ true
+flag-plain true = refl
+flag-plain false = refl
+
+-- as a session's numbers are stored
+saved-plain : (n : Numbers) (lines : ℕ) (met : Bool) (t : List ℕ) → isPlain (savedWords n lines met ++ t) ≡ true
+unfolding savedWords
+saved-plain n lines met t =
+    sym (goes (part-plain (n .part)) (goes (flag-plain (n .total)) (goes (flag-plain (n .discount)) (goes (flag-plain (n .reward)) (sym (flag-plain met))))))
+
+module _ (numbers : List ℕ) (w : Memory) (more : ℕ) {a : Bool}
+    (ea : a ≡ hasRooms (length numbers) (length (w .names)) (length (w .arities)) (length (w .listings)) (length (w .table)) (length (w .state)) (length (w .value))) where
+  pub open-rooms : not a ≡ true → false ≡ isOpen numbers w more
+  open-rooms f = stops _ (refused ea f)
+
+  module _ (fa : not a ≡ false) where
+    pub open-numbers : numberWords ≤ length numbers
+    open-numbers = leb-true numberWords (length numbers) (and-left (leb numberWords (length numbers)) _ (passed ea fa))
+
+    module _ {p : Bool} (ep : p ≡ isPlain numbers) where
+      pub open-plain : not p ≡ true → false ≡ isOpen numbers w more
+      open-plain f = goes (passed ea fa) (stops _ (refused ep f))
+
+      module _ (fp : not p ≡ false) {n : Numbers} (en : n ≡ numbersAt numbers) {b : Bool} (e : b ≡ isSession n w) where
+        session-test : b ≡ isSession (numbersAt numbers) w
+        session-test = e ∙ ap (λ (m : Numbers). isSession m w) en
+
+        pub open-none : not b ≡ true → false ≡ isOpen numbers w more
+        open-none f = goes (passed ea fa) (goes (passed ep fp) (stops _ (refused session-test f)))
+
+        pub open-rest : {k : ℕ} → not b ≡ false → more ≤ mostLines → k ≡ linesAt numbers → leb k (mostLines - more) ≡ isOpen numbers w more
+        open-rest {k} f h q = goes (passed ea fa) (goes (passed ep fp) (goes (passed session-test f) (go (flag (leb k (mostLines - more))))))
+          where
+            go : Flag (leb k (mostLines - more)) → leb k (mostLines - more) ≡ leb (linesAt numbers + more) mostLines
+            go (isTrue z) = z ∙ sym (le-leb (linesAt numbers + more) mostLines (let l = leb-true k (mostLines - more) z in omega (arith, l, q)))
+            go (isFalse z) = z ∙ sym (lt-leb (linesAt numbers + more) mostLines (let l = leb-false k (mostLines - more) z in omega (arith, l, q)))
 
 module _ {a : Bool} (x y : Bool) (e : a ≡ x) where
-  pub enter-small : {k : ℕ} → not a ≡ true → k ≡ numberOf Buffer → k ≡ entryNumber x y
+  pub enter-none : {k : ℕ} → not a ≡ true → k ≡ numberOf Listing → k ≡ entryNumber x y
   unfolding entryNumber
-  enter-small f q = q ∙ sym (ap (λ (t : Bool). entryNumber t y) (refused e f))
+  enter-none f q = q ∙ sym (ap (λ (t : Bool). entryNumber t y) (refused e f))
 
   module _ (f : not a ≡ false) {b : Bool} (d : b ≡ y) where
-    pub enter-none : {k : ℕ} → not b ≡ true → k ≡ numberOf Listing → k ≡ entryNumber x y
+    pub enter-small : {k : ℕ} → not b ≡ true → k ≡ numberOf Buffer → k ≡ entryNumber x y
     unfolding entryNumber
-    enter-none g q = q ∙ sym (ap₂ entryNumber (passed e f) (refused d g))
+    enter-small g q = q ∙ sym (ap₂ entryNumber (passed e f) (refused d g))
 
     pub enter-in : not b ≡ false → 0 ≡ entryNumber x y
     unfolding entryNumber
@@ -176,28 +255,28 @@ pub record Given (numbers : List ℕ) (w : Memory) (work answer : List ℕ) (mor
   pub answer-room : mostBytes ≤ length answer
   pub kept : Kept (numbersAt numbers) w
   pub lines : linesAt numbers + more ≤ mostLines
-  pub both : (canAnswer numbers w work answer && isOpen numbers w more) ≡ true
+  pub both : (isOpen numbers w more && canAnswer work answer) ≡ true
 
-module _ (numbers : List ℕ) (w : Memory) (work answer : List ℕ) (more : ℕ) {k : ℕ} (e : k ≡ entryNumber (canAnswer numbers w work answer) (isOpen numbers w more)) where
+module _ (numbers : List ℕ) (w : Memory) (work answer : List ℕ) (more : ℕ) {k : ℕ} (e : k ≡ entryNumber (isOpen numbers w more) (canAnswer work answer)) where
   pub given : k ≡ 0 → Given numbers w work answer more
   given z =
-      let x = entered (canAnswer numbers w work answer) (isOpen numbers w more) e z in
-      let a = and-right (leb numberWords (length numbers)) _ (x .0) in
-      let rooms : Bool = roomsFit (length (w .names)) (length (w .arities)) (length (w .listings)) (length (w .table)) (length (w .state)) (length (w .value)) in
-      let b = and-right rooms _ a in
+      let x = entered (isOpen numbers w more) (canAnswer work answer) e z in
+      let tables : Bool =
+      hasRooms (length numbers) (length (w .names)) (length (w .arities)) (length (w .listings)) (length (w .table)) (length (w .state)) (length (w .value)) in
+      let session = and-right (isPlain numbers) _ (and-right tables _ (x .0)) in
       record {
-        numbers-room = leb-true numberWords (length numbers) (and-left (leb numberWords (length numbers)) _ (x .0));
-        work-room = leb-true workWords (length work) (and-left (leb workWords (length work)) _ b);
-        answer-room = leb-true mostBytes (length answer) (and-right (leb workWords (length work)) _ b);
-        kept = session-is (numbersAt numbers) w .yes (and-left (isSession (numbersAt numbers) w) _ (x .1));
-        lines = leb-true (linesAt numbers + more) mostLines (and-right (isSession (numbersAt numbers) w) _ (x .1));
+        numbers-room = leb-true numberWords (length numbers) (and-left (leb numberWords (length numbers)) _ (and-left tables _ (x .0)));
+        work-room = leb-true workWords (length work) (and-left (leb workWords (length work)) _ (x .1));
+        answer-room = leb-true mostBytes (length answer) (and-right (leb workWords (length work)) _ (x .1));
+        kept = session-is (numbersAt numbers) w .yes (and-left (isSession (numbersAt numbers) w) _ session);
+        lines = leb-true (linesAt numbers + more) mostLines (and-right (isSession (numbersAt numbers) w) _ session);
         both = ap₂ _&&_ (x .0) (x .1);
       }
 
-  untouched : (k ≡ 0 → ⊥) → (P Q : Type 0) → Q → DoneOrLeft (canAnswer numbers w work answer && isOpen numbers w more) P Q
-  untouched f P Q q = subst (λ (b : Bool). DoneOrLeft b P Q) (sym (turned-away (canAnswer numbers w work answer) (isOpen numbers w more) e f)) q
+  untouched : (k ≡ 0 → ⊥) → (P Q : Type 0) → Q → DoneOrLeft (isOpen numbers w more && canAnswer work answer) P Q
+  untouched f P Q q = subst (λ (b : Bool). DoneOrLeft b P Q) (sym (turned-away (isOpen numbers w more) (canAnswer work answer) e f)) q
 
-pub line-refused : (line numbers : List ℕ) (w : Memory) (work answer : List ℕ) {bytes k : ℕ} → k ≡ entryNumber (canAnswer numbers w work answer) (isOpen numbers w 1)
+pub line-refused : (line numbers : List ℕ) (w : Memory) (work answer : List ℕ) {bytes k : ℕ} → k ≡ entryNumber (isOpen numbers w 1) (canAnswer work answer)
     → (k ≡ 0 → ⊥) → Replies line numbers w work answer bytes k numbers w answer bytes
 line-refused line numbers w work answer {bytes} e f = record {
   number = e;
@@ -206,7 +285,7 @@ line-refused line numbers w work answer {bytes} e f = record {
 }
 
 pub lines-refused : (block numbers : List ℕ) (w : Memory) (work answer : List ℕ) {bytes read k : ℕ}
-    → k ≡ entryNumber (canAnswer numbers w work answer) (isOpen numbers w (length block))
+    → k ≡ entryNumber (isOpen numbers w (length block)) (canAnswer work answer)
     → (k ≡ 0 → ⊥) → RepliesAll block numbers w work answer bytes read k numbers w answer bytes read
 lines-refused block numbers w work answer {bytes} {read} e f = record {
   number = e;
@@ -252,7 +331,7 @@ module _ {s answer answer′ : List ℕ} {r : Put} (g : mostBytes ≤ length ans
       ∙ ap₂ (λ (t : List ℕ) (n : ℕ). t ++ s ++ drop n answer) (take-none answer) (zero-add (length s))
 
 module _ (line : List ℕ) {numbers : List ℕ} {w : Memory} {work answer : List ℕ} (g : Given numbers w work answer 1) {k : ℕ}
-    (en : k ≡ entryNumber (canAnswer numbers w work answer) (isOpen numbers w 1)) (z : k ≡ 0) where
+    (en : k ≡ entryNumber (isOpen numbers w 1) (canAnswer work answer)) (z : k ≡ 0) where
   module _ (bytes : ℕ) {p : Position} {r : Sent} {m : Bool} {numbers′ : List ℕ} {w′ : Memory} {answer′ : List ℕ} (ep : p ≡ positionAt numbers)
       (em : m ≡ (p .met || hasBytes line)) (x : Sends line (p .lines + 1) (p .numbers) w answer 0 r w′ answer′)
       (u : numbers′ ≡ savedWords (r .numbers) (p .lines + 1) m ++ drop numberWords numbers) {bytes′ : ℕ} (v : bytes′ ≡ putEnd (r .put)) where
@@ -273,6 +352,7 @@ module _ (line : List ℕ) {numbers : List ℕ} {w : Memory} {work answer : List
                 session = ap (λ (q : Numbers). sessionOf q w′) o ∙ y .session;
                 lines = ap linesAt u ∙ saved-lines (r .numbers) (p .lines + 1) m t ∙ j;
                 met = ap metAt u ∙ saved-met (r .numbers) (p .lines + 1) m t ∙ em ∙ ap (λ (q : Position). q .met || hasBytes line) ep;
+                plain = ap isPlain u ∙ saved-plain (r .numbers) (p .lines + 1) m t;
                 again = decided (session-is (numbersAt numbers′) w′) (subst (λ (q : Numbers). Kept q w′) (sym o) (y .kept));
                 behind = ap (drop numberWords) u ∙ saved-behind (r .numbers) (p .lines + 1) m t;
                 buffer = placed-buffer (g .answer-room) (y .short) (y .placed);
@@ -298,7 +378,7 @@ progress-here numbers w answer =
     λ i. record { session = sessionOf (numbersAt numbers) w; lines = linesAt numbers; met = metAt numbers; bytes = take-none answer i }
 
 module _ {block numbers : List ℕ} {w : Memory} {work answer : List ℕ} (g : Given numbers w work answer (length block)) {k : ℕ}
-    (en : k ≡ entryNumber (canAnswer numbers w work answer) (isOpen numbers w (length block))) (z : k ≡ 0) {p : Position} (ep : p ≡ positionAt numbers)
+    (en : k ≡ entryNumber (isOpen numbers w (length block)) (canAnswer work answer)) (z : k ≡ 0) {p : Position} (ep : p ≡ positionAt numbers)
     {r : Answered} {w′ : Memory} {answer′ : List ℕ}
     (y : Reaches block 0 mostBytes (progressOf p w answer) (wholeOf block 0 mostBytes (progressOf p w answer) answer) answer r w′ answer′) where
   abbrev x : Whole
@@ -337,6 +417,7 @@ module _ {block numbers : List ℕ} {w : Memory} {work answer : List ℕ} (g : G
           session = ap (λ (q : Numbers). sessionOf q w′) numbers-are ∙ ap (λ (q : Progress). q .session) reached;
           lines = ap linesAt u ∙ saved-lines (r .position .numbers) (r .position .lines) (r .position .met) t ∙ ap (λ (q : Progress). q .lines) reached;
           met = ap metAt u ∙ saved-met (r .position .numbers) (r .position .lines) (r .position .met) t ∙ ap (λ (q : Progress). q .met) reached;
+          plain = ap isPlain u ∙ saved-plain (r .position .numbers) (r .position .lines) (r .position .met) t;
           again = decided (session-is (numbersAt numbers′) w′) (subst (λ (q : Numbers). Kept q w′) (sym numbers-are) (y .going .kept));
           behind = ap (drop numberWords) u ∙ saved-behind (r .position .numbers) (r .position .lines) (r .position .met) t;
           buffer = buffer-is;
@@ -358,25 +439,15 @@ module _ {block numbers : List ℕ} {w : Memory} {work answer : List ℕ} (g : G
 
 -- ===== The end =====
 
-module _ (n a : ℕ) where
-  pub close-numbers : n < numberWords → false ≡ canClose n a
-  close-numbers h = rw (lt-leb numberWords n h)
+module _ (numbers : List ℕ) where
+  pub close-numbers : length numbers < numberWords → false ≡ canClose numbers
+  close-numbers h = stops _ (lt-leb numberWords (length numbers) h)
 
-  pub close-answer : numberWords ≤ n → leb mostBytes a ≡ canClose n a
-  close-answer h = rw (le-leb numberWords n h)
+  pub close-plain : {b : Bool} → numberWords ≤ length numbers → b ≡ isPlain numbers → b ≡ canClose numbers
+  close-plain h q = goes (le-leb numberWords (length numbers) h) q
 
--- the room that closing asks for
-pub record CloseRoom (n a : ℕ) : Type 0 where
-  pub numbers : numberWords ≤ n
-  pub answer : mostBytes ≤ a
-
-pub close-room : (n a : ℕ) {b : Bool} → b ≡ canClose n a → not b ≡ false → CloseRoom n a
-close-room n a {b} q f =
-    let h = sym q ∙ not-false b f in
-    record {
-      numbers = leb-true numberWords n (and-left (leb numberWords n) (leb mostBytes a) h);
-      answer = leb-true mostBytes a (and-right (leb numberWords n) (leb mostBytes a) h);
-    }
+  pub close-room : {b : Bool} → b ≡ canClose numbers → not b ≡ false → numberWords ≤ length numbers
+  close-room q f = leb-true numberWords (length numbers) (and-left (leb numberWords (length numbers)) _ (passed q f))
 
 -- the closing answer is short
 closing-short : (p : Part) (m : Bool) → length (closing p m) ≤ mostBytes
@@ -395,24 +466,35 @@ lastAt n m = record { numbers = n; lines = 0; met = m; end = 0 }
 abbrev hereAt : Numbers → Bool → List ℕ → Progress
 hereAt n m answer = progressOf (lastAt n m) (memoryOf [] [] [] [] [] []) answer
 
-module _ (numbers answer : List ℕ) {b : Bool} (q : b ≡ canClose (length numbers) (length answer)) where
-  pub close-left : {bytes k : ℕ} → not b ≡ true → k ≡ numberOf Buffer → Closes numbers answer bytes k answer bytes
-  close-left {bytes} {k} f h = record {
-    does =
-        subst (λ (x : Bool). ClosedOrNot x numbers answer bytes k answer bytes) (sym (not-true b f) ∙ q)
-        (record { number = h; answer-left = refl; bytes-left = refl });
+module _ (numbers answer : List ℕ) {b : Bool} (q : b ≡ canClose numbers) where
+  unclosed : {bytes k : ℕ} → k ≡ entryNumber (canClose numbers) (leb mostBytes (length answer)) → (canClose numbers && leb mostBytes (length answer)) ≡ false
+      → Closes numbers answer bytes k answer bytes
+  unclosed {bytes} h e = record {
+    number = h;
+    does = subst (λ (x : Bool). DoneOrLeft x (IsClosed numbers answer answer bytes) (IsUnclosed answer bytes answer bytes)) (sym e)
+        (record { answer-left = refl; bytes-left = refl });
   }
 
-  module _ {n : Numbers} {m : Bool} (f : not b ≡ false) (e : n ≡ numbersAt numbers) (g : m ≡ metAt numbers) where
+  pub close-none : {bytes k : ℕ} → not b ≡ true → k ≡ numberOf Listing → Closes numbers answer bytes k answer bytes
+  close-none f h =
+      let z = refused q f in
+      unclosed (enter-none (canClose numbers) (leb mostBytes (length answer)) q f h) (ap (λ (x : Bool). x && leb mostBytes (length answer)) z)
+
+  pub close-small : {bytes k : ℕ} → not b ≡ false → length answer < mostBytes → k ≡ numberOf Buffer → Closes numbers answer bytes k answer bytes
+  unfolding entryNumber
+  close-small f l h =
+      let z = passed q f in
+      let y = lt-leb mostBytes (length answer) l in
+      unclosed (h ∙ sym (ap₂ entryNumber z y)) (ap₂ _&&_ z y)
+
+  module _ {n : Numbers} {m : Bool} (f : not b ≡ false) (long : mostBytes ≤ length answer) (e : n ≡ numbersAt numbers) (g : m ≡ metAt numbers) where
     module _ {r : Ran} {answer′ : List ℕ} (x : (w : Memory) (s : List ℕ) → length s ≡ 0 → Fills (fillRest (length answer) (progressOf (lastAt n m) w answer) s) answer r answer′) where
       all : allBytes (hereAt n m answer) ≡ closingAt numbers
       unfolding progressOf sessionOf
       all = ap (λ (s : List ℕ). s ++ closing (n .part) m) (take-none answer) ∙ (λ i. closing (e i .part) (g i))
 
       room : length (closingAt numbers) ≤ length answer
-      room =
-          let c = close-room (length numbers) (length answer) q f in
-          omega (arith, c .answer, closing-short (numbersAt numbers .part) (metAt numbers))
+      room = omega (arith, long, closing-short (numbersAt numbers .part) (metAt numbers))
 
       none-long : length (hereAt n m answer .bytes) ≡ 0
       unfolding progressOf
@@ -429,13 +511,16 @@ module _ (numbers answer : List ℕ) {b : Bool} (q : b ≡ canClose (length numb
       closed = subst (λ (f : Filled). Fills f answer r answer′) filled-is (x (memoryOf [] [] [] [] [] []) [] refl)
 
       pub close-done : {bytes k : ℕ} → r ≡ R.Done k → Closes numbers answer bytes 0 answer′ k
+      unfolding entryNumber
       close-done {bytes} {k} i =
           let d = sym i ∙ closed .answer in
           let l : k ≡ length (closingAt numbers) = cc in
+          let z = passed q f in
+          let y = le-leb mostBytes (length answer) long in
           record {
-            does =
-                subst (λ (x : Bool). ClosedOrNot x numbers answer bytes 0 answer′ k) (sym (not-false b f) ∙ q)
-                (record { number = refl; buffer = closed .result; byte-count = l });
+            number = sym (ap₂ entryNumber z y);
+            does = subst (λ (x : Bool). DoneOrLeft x (IsClosed numbers answer answer′ k) (IsUnclosed answer bytes answer′ k)) (sym (ap₂ _&&_ z y))
+                (record { buffer = closed .result; byte-count = l });
           }
 
       -- it has room

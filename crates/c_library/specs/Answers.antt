@@ -107,8 +107,8 @@ abbrev pub roomNumber : Bool → ℕ
 roomNumber true = 0
 roomNumber false = numberOf Buffer
 
--- a session's lines: 18 where there is too little room, 14 where the words are no session's
+-- a session's lines, and its end: 14 where the words are no session's, then 18 where there is too little room ('14 by operand .., then 18')
 unfoldable pub entryNumber : Bool → Bool → ℕ
-entryNumber false good = numberOf Buffer
-entryNumber true false = numberOf Listing
+entryNumber false room = numberOf Listing
+entryNumber true false = numberOf Buffer
 entryNumber true true = 0

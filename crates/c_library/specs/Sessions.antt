@@ -4,11 +4,12 @@ use mathlib.Core.Bool.{Bool, true, false, _&&_}
 use mathlib.Core.List.{List, [], _++_}
 use Prim.Native.Nat.{ℕ, _+_, _≤_}
 use lib.Dec.{leb, eqb}
-use lib.ListN.{length, drop}
+use lib.ListN.{length, getD, drop}
 use Rattle.label.specs.Limits.{predicateCount}
+use Rattle.diagram.specs.Sizes.{resultWords}
+use Rattle.names.specs.Layout.{nameWords}
+use Rattle.model.specs.Layout.{listingWords, tableWords}
 use Rattle.facts.specs.Words.{stateWords}
-use Rattle.refusal.specs.declared.Refusal.the-variants.{Buffer}
-use Rattle.refusal.specs.Numbers.{numberOf}
 use Rattle.answers.specs.declared.Put.{Put}
 use Rattle.answers.specs.declared.Put.the-variants.{At, Full}
 use Rattle.answers.specs.Writing.{mostBytes}
@@ -19,14 +20,14 @@ use Rattle.memory.specs.Saving.{numberWords, numbersAt, linesAt, metAt}
 use Rattle.lines.specs.Lines.{Opening}
 use Rattle.texts.specs.Sending.{mostLines}
 use Rattle.texts.specs.Whole.{Whole, wholeFrom}
-use Rattle.restoring.specs.Restoring.{roomsFit, isSession}
+use Rattle.restoring.specs.Restoring.{isSession}
 use Rattle.c_library.specs.Answers.{roomNumber, entryNumber}
 
 -- ===== Opening =====
 
--- the words of numbers, arities and state are enough
+-- the words of numbers are enough, those of arities and state are as many as they take
 abbrev pub hasRoom : ℕ → ℕ → ℕ → Bool
-hasRoom numbers arities state = leb numberWords numbers && (eqb arities predicateCount && leb stateWords state)
+hasRoom numbers arities state = leb numberWords numbers && (eqb arities predicateCount && eqb state stateWords)
 
 -- the session is open, whatever the other words are, if they have their room; the words behind the numbers stay
 pub record IsOpen (numbers arities state numbers′ arities′ state′ : List ℕ) : Type 0 where
@@ -53,16 +54,28 @@ pub record Opens (numbers arities state : List ℕ) (r : ℕ) (numbers′ aritie
 
 -- ===== Lines =====
 
--- the words have their room, and the buffer takes any answer
-abbrev pub canAnswer : List ℕ → Memory → List ℕ → List ℕ → Bool
-canAnswer numbers w work answer =
-    leb numberWords (length numbers)
-    && (roomsFit (length (w .names)) (length (w .arities)) (length (w .listings)) (length (w .table)) (length (w .state)) (length (w .value))
-    && (leb workWords (length work) && leb mostBytes (length answer)))
+-- the working space is enough, and the buffer takes any answer
+abbrev pub canAnswer : List ℕ → List ℕ → Bool
+canAnswer work answer = leb workWords (length work) && leb mostBytes (length answer)
 
--- they are a session's, which can count so many lines more
+-- the words of numbers are enough; every other table has exactly its words, so that none stand behind them
+abbrev pub hasRooms : ℕ → ℕ → ℕ → ℕ → ℕ → ℕ → ℕ → Bool
+hasRooms numbers names arities listings table state value =
+    leb numberWords numbers
+    && (eqb names nameWords
+    && (eqb arities predicateCount && (eqb listings listingWords && (eqb table tableWords && (eqb state stateWords && eqb value resultWords)))))
+
+-- what is told by 0 or 1, as memory Saving lays it out: the part, the three single forms, and whether a line had bytes
+abbrev pub isPlain : List ℕ → Bool
+isPlain numbers =
+    leb (getD numbers 0 0) 1
+    && (leb (getD numbers 1 0) 1 && (leb (getD numbers 2 0) 1 && (leb (getD numbers 3 0) 1 && leb (getD numbers 22 0) 1)))
+
+-- the words are a session's, which can count so many lines more
 abbrev pub isOpen : List ℕ → Memory → ℕ → Bool
-isOpen numbers w more = isSession (numbersAt numbers) w && leb (linesAt numbers + more) mostLines
+isOpen numbers w more =
+    hasRooms (length numbers) (length (w .names)) (length (w .arities)) (length (w .listings)) (length (w .table)) (length (w .state)) (length (w .value))
+    && (isPlain numbers && (isSession (numbersAt numbers) w && leb (linesAt numbers + more) mostLines))
 
 -- how far the session is, its answers given away
 abbrev pub progressAt : List ℕ → Memory → Progress
@@ -77,11 +90,13 @@ abbrev pub putEnd : Put → ℕ
 putEnd (At n) = n
 putEnd Full = 0
 
--- the words are the session behind the lines, and pass the test again; the answers' bytes stand in front of the buffer; all other words and bytes stay
+-- the words are the session behind the lines, and pass the test again; the answers' bytes stand in front of the buffer; the words behind the numbers and the
+-- bytes behind the answers stay. Within a table the words behind those in use are the session's own working space.
 pub record IsAnswered (q : Progress) (numbers answer : List ℕ) (numbers′ : List ℕ) (w′ : Memory) (answer′ : List ℕ) (bytes′ : ℕ) : Type 0 where
   pub session : sessionOf (numbersAt numbers′) w′ ≡ q .session
   pub lines : linesAt numbers′ ≡ q .lines
   pub met : metAt numbers′ ≡ q .met
+  pub plain : isPlain numbers′ ≡ true
   pub again : isSession (numbersAt numbers′) w′ ≡ true
   pub behind : drop numberWords numbers′ ≡ drop numberWords numbers
   pub buffer : answer′ ≡ q .bytes ++ drop (length (q .bytes)) answer
@@ -100,8 +115,8 @@ DoneOrLeft false P Q = Q
 
 -- the next line of a session, on all words
 pub record Replies (line numbers : List ℕ) (w : Memory) (work answer : List ℕ) (bytes r : ℕ) (numbers′ : List ℕ) (w′ : Memory) (answer′ : List ℕ) (bytes′ : ℕ) : Type 0 where
-  pub number : r ≡ entryNumber (canAnswer numbers w work answer) (isOpen numbers w 1)
-  pub does : DoneOrLeft (canAnswer numbers w work answer && isOpen numbers w 1)
+  pub number : r ≡ entryNumber (isOpen numbers w 1) (canAnswer work answer)
+  pub does : DoneOrLeft (isOpen numbers w 1 && canAnswer work answer)
       (IsAnswered (afterLine (progressAt numbers w) line) numbers answer numbers′ w′ answer′ bytes′)
       (IsUntouched numbers w answer bytes numbers′ w′ answer′ bytes′)
 
@@ -123,37 +138,32 @@ pub record AreUntouched (numbers : List ℕ) (w : Memory) (answer : List ℕ) (b
 
 -- the next lines of a session, on all words
 pub record RepliesAll (block numbers : List ℕ) (w : Memory) (work answer : List ℕ) (bytes read r : ℕ) (numbers′ : List ℕ) (w′ : Memory) (answer′ : List ℕ) (bytes′ read′ : ℕ) : Type 0 where
-  pub number : r ≡ entryNumber (canAnswer numbers w work answer) (isOpen numbers w (length block))
-  pub does : DoneOrLeft (canAnswer numbers w work answer && isOpen numbers w (length block))
+  pub number : r ≡ entryNumber (isOpen numbers w (length block)) (canAnswer work answer)
+  pub does : DoneOrLeft (isOpen numbers w (length block) && canAnswer work answer)
       (AreAnswered block (answeredLines block numbers w answer) numbers answer numbers′ w′ answer′ bytes′ read′)
       (AreUntouched numbers w answer bytes read numbers′ w′ answer′ bytes′ read′)
 
 -- ===== The end =====
 
--- the words of numbers and the bytes for an answer are enough
-abbrev pub canClose : ℕ → ℕ → Bool
-canClose numbers answer = leb numberWords numbers && leb mostBytes answer
+-- the numbers can be a session's
+abbrev pub canClose : List ℕ → Bool
+canClose numbers = leb numberWords (length numbers) && isPlain numbers
 
 -- what closes a text that ends behind these numbers
 abbrev pub closingAt : List ℕ → List ℕ
 closingAt numbers = closing (numbersAt numbers .part) (metAt numbers)
 
 -- the closing answer is put in front of the buffer
-pub record IsClosed (numbers answer : List ℕ) (bytes r : ℕ) (answer′ : List ℕ) (bytes′ : ℕ) : Type 0 where
-  pub number : r ≡ 0
+pub record IsClosed (numbers answer answer′ : List ℕ) (bytes′ : ℕ) : Type 0 where
   pub buffer : answer′ ≡ closingAt numbers ++ drop (length (closingAt numbers)) answer
   pub byte-count : bytes′ ≡ length (closingAt numbers)
 
 -- nothing is done
-pub record IsUnclosed (numbers answer : List ℕ) (bytes r : ℕ) (answer′ : List ℕ) (bytes′ : ℕ) : Type 0 where
-  pub number : r ≡ numberOf Buffer
+pub record IsUnclosed (answer : List ℕ) (bytes : ℕ) (answer′ : List ℕ) (bytes′ : ℕ) : Type 0 where
   pub answer-left : answer′ ≡ answer
   pub bytes-left : bytes′ ≡ bytes
 
-abbrev pub ClosedOrNot : Bool → List ℕ → List ℕ → ℕ → ℕ → List ℕ → ℕ → Type 0
-ClosedOrNot true = IsClosed
-ClosedOrNot false = IsUnclosed
-
--- closing a session, on all words; the session stays
+-- closing a session, on all words; the session stays. The buffer has to take any answer.
 pub record Closes (numbers answer : List ℕ) (bytes r : ℕ) (answer′ : List ℕ) (bytes′ : ℕ) : Type 0 where
-  pub does : ClosedOrNot (canClose (length numbers) (length answer)) numbers answer bytes r answer′ bytes′
+  pub number : r ≡ entryNumber (canClose numbers) (leb mostBytes (length answer))
+  pub does : DoneOrLeft (canClose numbers && leb mostBytes (length answer)) (IsClosed numbers answer answer′ bytes′) (IsUnclosed answer bytes answer′ bytes′)

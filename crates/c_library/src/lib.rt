@@ -23,10 +23,9 @@ ghost use Rattle.apply.specs.declared.Names.the-variants.{Apart, Shared};
 ghost use Rattle.memory.specs.Memory.{memoryOf, workWords};
 ghost use Rattle.memory.specs.Saving.{numberWords};
 ghost use Rattle.answers.specs.Writing.{mostBytes};
-ghost use Rattle.restoring.specs.Restoring.{roomsFit};
 ghost use Rattle.c_library.specs.Answers.{listingNumber, edgeNumber, entryNumber};
 ghost use Rattle.c_library.specs.Calls.{Combines, Regresses, Frees, Cuts, Values, Runs};
-ghost use Rattle.c_library.specs.Sessions.{hasRoom, Opens, canAnswer, isOpen, positionAt, putEnd, Replies, RepliesAll, canClose, Closes};
+ghost use Rattle.c_library.specs.Sessions.{hasRoom, Opens, hasRooms, isPlain, canAnswer, isOpen, positionAt, putEnd, Replies, RepliesAll, canClose, Closes};
 
 // Whether the words are a listing under the arity list: 0, or 14.
 #[no_mangle]
@@ -359,7 +358,7 @@ fn has_room(numbers: usize, arities: usize, state: usize) -> bool
     if arities != Label::PREDICATES {
         return false;
     }
-    facts::WORDS <= state
+    state == facts::WORDS
 }
 
 // Opens a session: before its first line.
@@ -378,8 +377,18 @@ pub extern "C" fn yindolve_open(numbers: &mut [u64], arities: &mut [u64], state:
 // The lines that a number counts.
 const LINES: u64 = 18446744073709551615;
 
-// Whether lent words of these counts are enough to answer lines.
-fn can_answer(
+// Whether a working space and a buffer of these counts are enough to answer lines.
+fn can_answer(work: usize, answer: usize) -> bool
+    ensures { λ r. ⌜ r ≡ (leb workWords work && leb mostBytes answer) ⌝ }
+{
+    if work < texts::WORK_WORDS {
+        return false;
+    }
+    answers::MOST_BYTES <= answer
+}
+
+// Whether lent words of these counts can be a session's.
+fn has_rooms(
     numbers: usize,
     names: usize,
     arities: usize,
@@ -387,21 +396,48 @@ fn can_answer(
     table: usize,
     state: usize,
     value: usize,
-    work: usize,
-    answer: usize,
 ) -> bool
-    ensures { λ r. ⌜ r ≡ (leb numberWords numbers && (roomsFit names arities listings table state value && (leb workWords work && leb mostBytes answer))) ⌝ }
+    ensures { λ r. ⌜ r ≡ hasRooms numbers names arities listings table state value ⌝ }
 {
     if numbers < memory::NUMBER_WORDS {
         return false;
     }
-    if !restoring::rooms_fit(names, arities, listings, table, state, value) {
+    if names != names::WORDS {
         return false;
     }
-    if work < texts::WORK_WORDS {
+    if arities != Label::PREDICATES {
         return false;
     }
-    answers::MOST_BYTES <= answer
+    if listings != model::LISTING_WORDS {
+        return false;
+    }
+    if table != model::TABLE_WORDS {
+        return false;
+    }
+    if state != facts::WORDS {
+        return false;
+    }
+    value == diagram::RESULT_WORDS
+}
+
+// Whether the words of numbers that tell one of two things are 0 or 1.
+fn is_plain(numbers: &[u64]) -> bool
+    requires { ⌜ numberWords ≤ length (now numbers) ⌝ }
+    ensures { λ r. ⌜ r ≡ isPlain (now (numbers .entry)) ⌝ }
+{
+    if numbers[0] > 1 {
+        return false;
+    }
+    if numbers[1] > 1 {
+        return false;
+    }
+    if numbers[2] > 1 {
+        return false;
+    }
+    if numbers[3] > 1 {
+        return false;
+    }
+    numbers[22] <= 1
 }
 
 // Whether words are a session's, which can count so many lines more.
@@ -415,9 +451,22 @@ fn is_open(
     value: &[u64],
     more: usize,
 ) -> bool
-    requires { ⌜ numberWords ≤ length (now numbers) ⌝ }
     ensures { λ r. ⌜ r ≡ isOpen (now (numbers .entry)) (memoryOf (now (names .entry)) (now (arities .entry)) (now (listings .entry)) (now (table .entry)) (now (state .entry)) (now (value .entry))) more ⌝ }
 {
+    if !has_rooms(
+        numbers.len(),
+        names.len(),
+        arities.len(),
+        listings.len(),
+        table.len(),
+        state.len(),
+        value.len(),
+    ) {
+        return false;
+    }
+    if !is_plain(numbers) {
+        return false;
+    }
     let n = memory::load(numbers);
     if !restoring::is_session(n, names, arities, listings, table, state, value) {
         return false;
@@ -425,7 +474,7 @@ fn is_open(
     memory::lines_of(numbers) <= LINES - (more as u64)
 }
 
-// The tests before lines are answered: 18, then 14.
+// The tests before lines are answered: 14, then 18.
 fn enter(
     numbers: &[u64],
     names: &[u64],
@@ -438,23 +487,13 @@ fn enter(
     answer: &[u8],
     more: usize,
 ) -> u64
-    ensures { λ r. ⌜ r ≡ entryNumber (canAnswer (now (numbers .entry)) (memoryOf (now (names .entry)) (now (arities .entry)) (now (listings .entry)) (now (table .entry)) (now (state .entry)) (now (value .entry))) (now (work .entry)) (now (answer .entry))) (isOpen (now (numbers .entry)) (memoryOf (now (names .entry)) (now (arities .entry)) (now (listings .entry)) (now (table .entry)) (now (state .entry)) (now (value .entry))) more) ⌝ }
+    ensures { λ r. ⌜ r ≡ entryNumber (isOpen (now (numbers .entry)) (memoryOf (now (names .entry)) (now (arities .entry)) (now (listings .entry)) (now (table .entry)) (now (state .entry)) (now (value .entry))) more) (canAnswer (now (work .entry)) (now (answer .entry))) ⌝ }
 {
-    if !can_answer(
-        numbers.len(),
-        names.len(),
-        arities.len(),
-        listings.len(),
-        table.len(),
-        state.len(),
-        value.len(),
-        work.len(),
-        answer.len(),
-    ) {
-        return Refusal::Buffer.number();
-    }
     if !is_open(numbers, names, arities, listings, table, state, value, more) {
         return Refusal::Listing.number();
+    }
+    if !can_answer(work.len(), answer.len()) {
+        return Refusal::Buffer.number();
     }
     0
 }
@@ -596,14 +635,14 @@ pub extern "C" fn yindolve_lines(
     0
 }
 
-// Whether lent words of these counts are enough to close a session.
-fn can_close(numbers: usize, answer: usize) -> bool
-    ensures { λ r. ⌜ r ≡ canClose numbers answer ⌝ }
+// Whether numbers can be a session's.
+fn can_close(numbers: &[u64]) -> bool
+    ensures { λ r. ⌜ r ≡ canClose (now (numbers .entry)) ⌝ }
 {
-    if numbers < memory::NUMBER_WORDS {
+    if numbers.len() < memory::NUMBER_WORDS {
         return false;
     }
-    answers::MOST_BYTES <= answer
+    is_plain(numbers)
 }
 
 // The closing answer of a session whose text ends here.
@@ -611,7 +650,10 @@ fn can_close(numbers: usize, answer: usize) -> bool
 pub extern "C" fn yindolve_end(numbers: &[u64], answer: &mut [u8], bytes: &mut u64) -> u64
     ensures { λ r. ⌜ Closes (now (numbers .entry)) (now (answer .entry)) (now (bytes .entry)) r (now (answer .exit)) (now (bytes .exit)) ⌝ }
 {
-    if !can_close(numbers.len(), answer.len()) {
+    if !can_close(numbers) {
+        return Refusal::Listing.number();
+    }
+    if answer.len() < answers::MOST_BYTES {
         return Refusal::Buffer.number();
     }
     let n = memory::load(numbers);

@@ -129,7 +129,9 @@ module _ (line : List ℕ) (start : ℕ) where
               let r = c .room in
               let m = next-moves line place (c .within) in
               let y = ap (λ (y : Next). y .place) q in
-              let g : keysAt t 0 (n + 1) ≡ keysAt keys 0 n ++ (k ∷ []) = ap (λ (s : List ℕ). keysAt s 0 (n + 1)) u ∙ ap (λ (j : ℕ). keysAt (putKey keys j k) 0 (n + 1)) (from-zero (n * 2)) ∙ keys-more keys 0 n k (omega (arith, parameters-put)) in
+              let g : keysAt t 0 (n + 1) ≡ keysAt keys 0 n ++ (k ∷ []) =
+              ap (λ (s : List ℕ). keysAt s 0 (n + 1)) u ∙ ap (λ (j : ℕ). keysAt (putKey keys j k) 0 (n + 1)) (from-zero (n * 2))
+              ∙ keys-more keys 0 n k (omega (arith, parameters-put)) in
               record {
                 so-far = c .so-far ∙ ap (λ (es : List Event). repeated (keysAt keys 0 n) (keysIn es)) after
                     ∙ ap (λ (j : Key). repeated (keysAt keys 0 n) (j ∷ keysIn (eventsOf (drop (x .place) line)))) (sym w)
