@@ -34,9 +34,6 @@ drop-none (b ∷ s) = refl
 -- ===== The line from a place on =====
 
 module _ (text : List ℕ) (place e : ℕ) (h : place < length text) (q : e ≡ place + lineLength (drop place text)) where
-  pub end-within : e ≤ length text
-  end-within = omega (arith, line-within (drop place text), length-drop place text)
-
   pub first-line : e < length text → linesOf (drop place text) ≡ behindLine (take (e - place) (drop place text)) (linesOf (drop (e + 1) text))
   first-line l =
       let s : List ℕ = drop place text in
@@ -154,9 +151,6 @@ module _ {block : List ℕ} {from free : ℕ} {q : Progress} {x : Whole} {out₀
         behind = a .behind;
       }
     where
-      ls : List (List ℕ)
-      ls = linesOf (drop (r .at) block) .whole
-
       go : (f : Bool) → r .full ≡ f → (b : Bool) → leb (r .position .end + free) (length out₀) ≡ b
           → e ≡ cond f (length block) (cond b (r .at + lineLength (drop (r .at) block)) (length block))
           → x ≡ leftOver (r .full) free (length out₀) (progressOf (r .position) w out) (linesOf (drop (r .at) block) .whole)
@@ -179,10 +173,6 @@ module _ {block : List ℕ} {from free : ℕ} {q : Progress} {x : Whole} {out₀
   module _ {e : ℕ} (i : e ≡ nextEnd block r free (length out₀)) (h : e < length block) where
     there : There block r free (length out₀) e
     there = next-there block r free (length out₀) i h
-
-    -- the next line
-    line : List ℕ
-    line = take (e - r .at) (drop (r .at) block)
 
     split : linesOf (drop (r .at) block) ≡ behindLine (take (e - r .at) (drop (r .at) block)) (linesOf (drop (e + 1) block))
     split = first-line block (r .at) e (omega (arith, there .is)) (there .is) h

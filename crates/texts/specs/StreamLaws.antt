@@ -138,19 +138,6 @@ rest-line q s = go (ltb (lineLength s) (length s)) refl
 
 -- ===== The whole text =====
 
--- a byte ends one line at most
-pub lines-few : (t : Stream) (s : List ℕ) → onBytes t s .progress .lines ≤ t .progress .lines + length s
-unfolding onBytes onByte afterLine
-lines-few t [] = omega arith
-lines-few t (b ∷ s) = go (eqb b lineFeed) (λ (u : Stream). lines-few u s)
-  where
-    go : (k : Bool) → ((u : Stream) → onBytes u s .progress .lines ≤ u .progress .lines + length s)
-        → onBytes (cond k (record { progress = afterLine (t .progress) (t .partial); partial = [] })
-        (record { progress = t .progress; partial = take lineRoom (t .partial ++ (b ∷ [])) })) s .progress .lines
-        ≤ t .progress .lines + suc (length s)
-    go true ih = omega (arith, ih (record { progress = afterLine (t .progress) (t .partial); partial = [] }))
-    go false ih = omega (arith, ih (record { progress = t .progress; partial = take lineRoom (t .partial ++ (b ∷ [])) }))
-
 -- one list of all blocks
 abbrev pub joined : List (List ℕ) → List ℕ
 joined [] = []

@@ -147,12 +147,6 @@ module _ {t : Tally} {open? : Bool} {p : Position} {rest : Rest} {w : Memory} {b
       (a : Reaches (take (f .n) block′) 0 mostBytes (progressOf p w out) (wholeOf (take (f .n) block′) 0 mostBytes (progressOf p w out) out) out r w′ out′)
       {u : Tally} (v : Writes (f .tally) (length (take (r .position .end) out′)) u) {rest′ : Rest} {block″ : List ℕ}
       (z : Keeps (drop (r .at) (take (f .n) block′)) rest′ block″) (k : length block″ ≡ length block′) where
-    S : List ℕ
-    S = take (f .n) block′
-
-    D : List ℕ
-    D = drop (r .at) (take (f .n) block′)
-
     same-bytes : f .n ≡ rest .count → take (f .n) block′ ≡ take (rest .count) block
     same-bytes n = ap (λ (i : ℕ). take i block′) n ∙ y .front
 
@@ -175,9 +169,6 @@ module _ {t : Tally} {open? : Bool} {p : Position} {rest : Rest} {w : Memory} {b
     some-line : rest .whole ≡ true → f .n ≡ rest .count → 0 < r .at
     some-line c n = go (decLt 0 (r .at))
       where
-        s : List ℕ
-        s = take (f .n) block′
-
         h : lineLength (take (f .n) block′) < length (take (f .n) block′)
         h = ltb-true (lineLength (take (f .n) block′)) (length (take (f .n) block′))
             (ap (λ (s : List ℕ). ltb (lineLength s) (length s)) (same-bytes n) ∙ sym (x .whole) ∙ c)

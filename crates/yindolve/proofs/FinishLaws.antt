@@ -30,7 +30,7 @@ use Rattle.texts.specs.Running.{Filled, allBytes, fillClosing, fillRest, Fills}
 use Rattle.texts.specs.Sending.{mostLines, progressOf}
 use Rattle.texts.specs.Streaming.{lineRoom, Stream, fresh, onBytes, streamStart, onEnd, behindWritten}
 use Rattle.texts.specs.StreamLaws.{on-line, stream-whole, end-apart}
-use Rattle.yindolve.specs.Program.{InHand, Finishes, Answers, AnswersSoFar, Ends}
+use Rattle.yindolve.specs.Program.{Finishes, Answers, AnswersSoFar, Ends}
 use Rattle.yindolve.proofs.EndLaws.{Run}
 
 clash : {A : Type 0} {b : Bool} → b ≡ true → b ≡ false → A
@@ -134,9 +134,6 @@ pub run-few : {t : Tally} {open? : Bool} {p : Position} {rest : Rest} {w : Memor
 run-few x = omega (arith, x .hand .lines, x .counts)
 
 module _ {t : Tally} {open? : Bool} {p : Position} {rest : Rest} {w : Memory} {block out : List ℕ} (x : Run t open? p rest w block out) where
-  hand : InHand t p (rest .count) w block out
-  hand = x .hand
-
   none-bytes : progressOf p w out .bytes ≡ []
   unfolding progressOf
   none-bytes = ap (λ (i : ℕ). take i out) (x .hand .none) ∙ take-none out

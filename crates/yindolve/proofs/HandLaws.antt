@@ -199,9 +199,6 @@ module _ {t : Tally} {p : Position} {n : ℕ} {w : Memory} {block out : List ℕ
   }
 
   module _ {r : Answered} {w′ : Memory} {out′ : List ℕ} {y : Whole} (a : Reaches (take n block) 0 mostBytes (progressOf p w out) y out r w′ out′) where
-    left : List ℕ
-    left = drop (r .at) (take n block)
-
     -- up to the place the bytes are answered
     place : onBytes (fresh (progressOf p w out)) (take n block) ≡ onBytes (fresh (progressOf (r .position) w′ out′)) (drop (r .at) (take n block))
     place =
