@@ -6,21 +6,27 @@ use mathlib.Core.List.{List, [], _∷_, _++_, List·Memᴰ, Memᴰ·append-left,
 use mathlib.Core.Option.{some, none}
 use Prim.Native.Nat.{ℕ, _+_, _-_, _*_, _≤_, _<_}
 use native.Mathlib.Omega.{arith}
-use lib.ListN.{length, getD, drop}
+use lib.ListN.{length, getD, drop, replicate, length-replicate, getD-replicate}
 use lib.Seq.{take-all}
 use borrow.Author.Tests.{lt-ltb, le-ltb, le-leb, lt-leb}
-use Rattle.basics.specs.Tests.{Cmp, cmp, below, equal, above}
+use Rattle.basics.specs.Tests.{Cmp, cmp, below, equal, above, Flag, isTrue, isFalse, flag}
+use Rattle.basics.specs.Members.{clash}
 use Rattle.label.specs.Terms.{isVariable}
 use Rattle.label.specs.Labels.{areArities, unpacked, termsOf}
 use Rattle.paths.specs.Paths.{Literal, Path, literals, termsIn}
 use Rattle.cutting.specs.Match.{Partial, start, matches}
 use Rattle.cutting.specs.Cut.{covers}
 use Rattle.cutting.specs.Searchable.{Searchable}
-use Rattle.cutting.specs.MatchLaws.{in-terms, matches-order}
+use Rattle.cutting.specs.MatchLaws.{in-terms, matches-sound, matches-order}
 use Rattle.cutting.specs.Searchable.{PathLabels}
 use Rattle.cutting.specs.CoverLaws.{searchable}
 use Rattle.matcher.specs.Stored.{Marks, Ready, PartPost}
-use Rattle.matcher.specs.Search.{literalsIn, segment, known, Replacing, Tabled, Setting, Inside, SolvePost, Unplaced, Placing}
+use Rattle.matcher.specs.Search.{literalsIn, segment, known, Replacing, Tabled, Setting, Inside, Unplaced, Placing}
+use Rattle.matcher.specs.Failure.{storeWords, rowOf, Remembers, isFound, isWeary, Solving, SolvePost, Decidable, Decided}
+use Rattle.matcher.specs.declared.Answer.{Answer}
+use Rattle.matcher.specs.declared.Answer.the-variants.{Found, Failed, Weary}
+use Rattle.matcher.proofs.MaskLaws.{zero-none}
+use Rattle.matcher.proofs.SolveLaws.{replacing-kept}
 use Rattle.matcher.proofs.WayLaws.{known-some, known-none, known-past}
 
 -- a term of literals is one of a literal
@@ -78,10 +84,67 @@ segment-all : (ord : List ℕ) → segment ord 0 (length ord) ≡ literalsIn ord
 unfolding segment
 segment-all ord = ap literalsIn (take-all (length ord - 0) ord (omega arith))
 
+-- ===== The whole search =====
+pub remembers-empty : {ord into tab : List ℕ} (m : ℕ) → 0 < m → Remembers ord into tab (replicate m 0)
+remembers-empty m h = record {
+  some = omega (arith, length-replicate {A = ℕ} m 0);
+  each = λ l i b u. absurd (omega (arith, u, getD-replicate {A = ℕ} m (rowOf i) 0 0 (omega (arith, length-replicate {A = ℕ} m 0))));
+}
+
+module _ {ord into tab theta : List ℕ} (g : Decidable ord into tab theta) where
+  pub decide-start : {store : List ℕ} → Remembers ord into tab store → Solving ord into tab theta store 0 0
+  decide-start m = record {
+    tabled = g .tabled;
+    sorted = g .sorted;
+    replacing = g .replacing;
+    most = omega arith;
+    bounds = record { early = λ i h o. absurd (zero-none i o); has = λ i h o. absurd (omega (arith, g .tabled .free (32 + i) (omega arith) (omega arith))) };
+    remembers = m;
+  }
+
+  module _ {store : List ℕ} {r : Answer} {theta′ store′ : List ℕ} (s : SolvePost ord into tab theta store 0 0 r theta′ store′) where
+    -- where too much failed, the search begins again
+    pub decide-again : length theta′ ≡ length theta → Decidable ord into tab theta′
+    decide-again l = record { tabled = g .tabled; sorted = g .sorted; replacing = replacing-kept (g .tabled .fixed) (g .replacing) l (s .kept) }
+
+    pub decided : {b : Bool} → (r ≡ Weary → ⊥) → b ≡ isFound r → Decided ord into tab b theta′
+    decided {b} f e = record {
+      answer = λ ar T z. go ar T z r refl;
+      stays = λ v h. s .kept v (omega arith) (omega (arith, g .tabled .fixed v h)) ∙ g .replacing .stays v h;
+    }
+      where
+        all : (ar T : List ℕ) → matches ar (literalsIn (drop 64 into)) T (segment ord 0 (length ord)) (known tab theta 0)
+            ≡ matches ar (literalsIn (drop 64 into)) T (literalsIn ord) start
+        all ar T = ap₂ (λ (qs : List Literal) (τ : Partial). matches ar (literalsIn (drop 64 into)) T qs τ) (segment-all ord) (known-start (g .tabled) (g .replacing))
+
+        fails : (ar T : List ℕ) → Setting ar T ord into tab → (q : ℕ) → r ≡ Failed q → matches ar (literalsIn (drop 64 into)) T (literalsIn ord) start ≡ false
+        fails ar T z q o = at (flag (matches ar (literalsIn (drop 64 into)) T (literalsIn ord) start))
+          where
+            at : Flag (matches ar (literalsIn (drop 64 into)) T (literalsIn ord) start) → matches ar (literalsIn (drop 64 into)) T (literalsIn ord) start ≡ false
+            at (isFalse w) = w
+            at (isTrue w) =
+                absurd (s .failed q o .nothing ar T z
+                (matches-sound ar (literalsIn (drop 64 into)) T (z .search) (segment ord 0 (length ord)) start
+                (ap (λ (qs : List Literal). matches ar (literalsIn (drop 64 into)) T qs start) (segment-all ord) ∙ w))
+                (λ i h u. absurd (zero-none i (s .within q o i u))))
+
+        go : (ar T : List ℕ) → Setting ar T ord into tab → (a : Answer) → r ≡ a → b ≡ matches ar (literalsIn (drop 64 into)) T (literalsIn ord) start
+        go ar T z Found o = e ∙ ap isFound o ∙ sym (s .found o ar T z (none-inside (g .tabled) (g .replacing) T)) ∙ all ar T
+        go ar T z (Failed q) o = e ∙ ap isFound o ∙ sym (fails ar T z q o)
+        go ar T z Weary o = absurd (f o)
+
+-- a search with rows is not given up
+pub decided-long : {ord into tab theta theta′ store′ : List ℕ} {r : Answer} {b : Bool} (m : ℕ) → storeWords ≤ m → Decidable ord into tab theta
+    → SolvePost ord into tab theta (replicate m 0) 0 0 r theta′ store′ → b ≡ isFound r → Decided ord into tab b theta′
+decided-long m h g s e = decided g s (λ z. omega (arith, s .weary z, length-replicate {A = ℕ} m 0)) e
+
+pub unweary : {r : Answer} {b : Bool} → b ≡ isWeary r → b ≡ false → r ≡ Weary → ⊥
+unweary e f z = clash (e ∙ ap isWeary z) f
+
 -- ===== match_part =====
 module _ {ord into tab theta : List ℕ} (g : Ready ord into tab theta) {tab₁ tab₂ : List ℕ} (u : Unplaced tab₁) (k : (v : ℕ) → 64 ≤ v → getD tab₁ v 0 ≡ getD tab v 0)
     (l : length tab₁ ≡ length tab) (p : Placing ord tab₁ tab₂ (length ord * 4)) where
-  pub part-tabled : Tabled ord tab₂ (length ord)
+  part-tabled : Tabled ord tab₂ (length ord)
   part-tabled = record {
     room = omega arith;
     few = g .few;
@@ -92,7 +155,7 @@ module _ {ord into tab theta : List ℕ} (g : Ready ord into tab theta) {tab₁ 
     only = p .only;
   }
 
-  pub part-replacing : Replacing tab₂ theta 0
+  part-replacing : Replacing tab₂ theta 0
   part-replacing = record { room = g .theta-room; stays = g .stays; terms = λ v h z. low v h z (cmp v 32) }
     where
       low : (v : ℕ) → v < 64 → getD tab₂ v 0 ≤ 0 → Cmp v 32 → getD theta v 0 < 64
@@ -100,7 +163,10 @@ module _ {ord into tab theta : List ℕ} (g : Ready ord into tab theta) {tab₁ 
       low v h z (equal c) = absurd (omega (arith, p .free v (omega arith) h))
       low v h z (above c) = absurd (omega (arith, p .free v (omega arith) h))
 
-  module _ {theta′ : List ℕ} {r : Bool} (s : SolvePost ord into tab₂ theta (length ord) 0 r theta′) where
+  pub part-decidable : Decidable ord into tab₂ theta
+  part-decidable = record { tabled = part-tabled; sorted = g .sorted; replacing = part-replacing }
+
+  module _ {theta′ : List ℕ} {r : Bool} (s : Decided ord into tab₂ r theta′) where
     same : (t : ℕ) → getD tab₂ (64 + t) 0 ≡ getD tab (64 + t) 0
     same t = p .kept (64 + t) (omega arith) ∙ k (64 + t) (omega arith)
 
@@ -115,11 +181,9 @@ module _ {ord into tab theta : List ℕ} (g : Ready ord into tab theta) {tab₁ 
 
     pub part-post : PartPost ord into tab r tab₂ theta′
     part-post = record {
-      answer = λ ar T e.
-          s .answer ar T (placed ar T e) (none-inside part-tabled part-replacing T)
-          ∙ ap₂ (λ (qs : List Literal) (τ : Partial). matches ar (literalsIn (drop 64 into)) T qs τ) (segment-all ord) (known-start part-tabled part-replacing);
+      answer = λ ar T e. s .answer ar T (placed ar T e);
       tab-kept = λ v h. p .kept v h ∙ k v h;
-      stays = λ v h. s .kept v (omega arith) (omega (arith, p .fixed v h)) ∙ g .stays v h;
+      stays = s .stays;
     }
 
 -- ===== Two stored paths =====

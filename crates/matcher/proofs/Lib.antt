@@ -1,6 +1,10 @@
 pub mod WayLaws
 pub mod TargetLaws
+pub mod MaskLaws
+pub mod FailureLaws
+pub mod NogoodLaws
 pub mod SolveLaws
+pub mod TryingLaws
 pub mod PlaceLaws
 pub mod CoversLaws
 pub mod MarkLaws

@@ -1,7 +1,7 @@
 -- The search of the code is the search of the definition.
 use mathlib.Core.Path.{_≡_, refl, sym, ap, ap₂, subst, _∙_}
 use mathlib.Core.Logic.{_⊎_, inl, inr}
-use mathlib.Core.Bool.{Bool, true, false, not, cond}
+use mathlib.Core.Bool.{Bool, true, false, cond}
 use mathlib.Core.List.{List, [], _∷_, map, List·Memᴰ, List·Memᴰ·head, List·Memᴰ·tail, List·Memᴰ·not-nil}
 use mathlib.Core.Option.{Option, some, none}
 use Prim.Native.Nat.{ℕ, zero, suc, _+_, _-_, _*_, _/_, _%_, _≤_, _<_}
@@ -10,48 +10,27 @@ use native.Mathlib.Numerals.{add-one}
 use lib.ListN.{length, getD, take, drop}
 use lib.Seq.{drop-cons}
 use lib.Dec.{eqb, leb}
-use borrow.Author.Tests.{leb-true, eqb-true, eq-eqb}
-use Rattle.basics.specs.Tests.{and-left, and-right, Flag, isTrue, isFalse, flag, Cmp, cmp, below, equal, above}
+use borrow.Author.Tests.{leb-true, eqb-true}
+use Rattle.basics.specs.Tests.{and-left, and-right, Cmp, cmp, below, equal, above}
 use Rattle.basics.specs.Members.{clash}
 use Rattle.label.specs.Labels.{isLabel, termsOf, unpacked}
 use Rattle.diagram.specs.RowLaws.{same-tests}
 use Rattle.paths.specs.Paths.{Literal, termsIn}
 use Rattle.cutting.specs.Match.{Partial, assign, agree, bindTerm, thenBind, bindTerms, targets, someOf, goOn, matches}
 use Rattle.cutting.specs.MovedLaws.{terms-below}
-use Rattle.cutting.specs.MatchLaws.{some-in, some-out, target-image, target-sound, target-complete, in-terms}
-use Rattle.matcher.specs.Search.{
-  literalAt,
-  literalsIn,
-  placeOf,
-  fourOf,
-  termAt,
-  segment,
-  known,
-  Slots,
-  Replacing,
-  TryPost,
-  no-way,
-  a-way,
-  wayAt,
-  wayCount,
-  allKnown,
-  Images,
-  Met,
-  Tabled,
-  Setting,
-  Inside,
-  SolvePost,
-}
+use Rattle.cutting.specs.MatchLaws.{some-in, some-out, target-image, target-complete, in-terms}
+use Rattle.matcher.specs.Search.{literalAt, literalsIn, placeOf, fourOf, termAt, segment, known, Slots, Replacing, wayAt, wayCount, allKnown, Images, Met, Tabled, Setting, Inside}
 use Rattle.matcher.specs.declared.Way.{Way}
 use Rattle.matcher.specs.declared.Way.the-variants.{Terms}
-use Rattle.matcher.proofs.WayLaws.{untaken, unleft, known-some, known-none, known-same}
-use Rattle.matcher.proofs.TargetLaws.{WayView, no-view, one-view, turned-view, twice-view, way-view, WayTo, way-in, way-out, replacedBy, Meets, meets}
+use Rattle.matcher.proofs.WayLaws.{known-some, known-same}
+use Rattle.matcher.proofs.NogoodLaws.{bind-known}
+use Rattle.matcher.proofs.TargetLaws.{WayView, no-view, one-view, turned-view, twice-view, way-view, WayTo, way-in, replacedBy, Meets, meets}
 
-none-some : {A : Type 0} {B : Type 0} (a : A) → none ≡ some a → B
+pub none-some : {A : Type 0} {B : Type 0} (a : A) → none ≡ some a → B
 none-some a e = let z : _≡_ {A = ℕ} 0 1 = cc in absurd (omega arith)
 
 -- ===== Places and literals =====
-place-small : (l j : ℕ) → placeOf l j < 64
+pub place-small : (l j : ℕ) → placeOf l j < 64
 place-small l zero = omega arith
 place-small l (suc zero) = omega arith
 place-small l (suc (suc zero)) = omega arith
@@ -136,15 +115,6 @@ bind-values (t ∷ ts) (u ∷ us) τ τ′ e v w q = go (bindTerm τ t u) refl e
         next (inl a) = first (bind-value τ σ t u p v w a)
         next (inr a) = inr (List·Memᴰ·tail a)
 
--- terms that are all known are bound to what they are
-bind-known : (ts : List ℕ) (τ : Partial) (f : ℕ → ℕ) → ((t : ℕ) → List·Memᴰ t ts → τ t ≡ some (f t)) → bindTerms τ ts (map f ts) ≡ some τ
-unfolding bindTerms bindTerm
-bind-known [] τ f k = refl
-bind-known (t ∷ ts) τ f k =
-    ap (λ o. thenBind (agree τ t (f t) o) (λ σ. bindTerms σ ts (map f ts))) (k t (List·Memᴰ·head refl))
-    ∙ ap (λ b. thenBind (cond b (some τ) none) (λ σ. bindTerms σ ts (map f ts))) (eq-eqb (f t) (f t) refl)
-    ∙ bind-known ts τ f (λ u m. k u (List·Memᴰ·tail m))
-
 known-bind : (ts us : List ℕ) (τ τ′ : Partial) (f : ℕ → ℕ) → ((t : ℕ) → List·Memᴰ t ts → τ t ≡ some (f t)) → bindTerms τ ts us ≡ some τ′ → (us ≡ map f ts) × (τ′ ≡ τ)
 unfolding bindTerms bindTerm
 known-bind [] [] τ τ′ f k e = let y : τ′ ≡ τ = cc in (refl, y)
@@ -161,13 +131,13 @@ known-bind (t ∷ ts) (u ∷ us) τ τ′ f k e = go (eqb (f t) u) refl (sym (ap
 -- ===== One literal =====
 module _ {ord into tab theta : List ℕ} {n k x : ℕ} (t : Tabled ord tab n) (r : Replacing tab theta (k * 4)) (h : k < n) (e : x ≡ getD ord k 0) where
   module _ (ar T : List ℕ) (s : Setting ar T ord into tab) where
-    abbrev rest : Partial → Bool
+    abbrev pub rest : Partial → Bool
     rest τ = matches ar (literalsIn (drop 64 into)) T (segment ord (k + 1) n) τ
 
-    label-x : isLabel ar (x / 2) ≡ true
+    pub label-x : isLabel ar (x / 2) ≡ true
     label-x = ap (λ (y : ℕ). isLabel ar (y / 2)) e ∙ label-at k s (omega (arith, t .room))
 
-    step : (τ : Partial) → matches ar (literalsIn (drop 64 into)) T (segment ord k n) τ
+    pub step : (τ : Partial) → matches ar (literalsIn (drop 64 into)) T (segment ord k n) τ
         ≡ someOf (targets ar (literalsIn (drop 64 into)) T (literalAt x)) (λ us. goOn (bindTerms τ (termsOf ar (unpacked (x / 2))) us) rest)
     unfolding matches literalAt
     step τ =
@@ -178,7 +148,7 @@ module _ {ord into tab theta : List ℕ} {n k x : ℕ} (t : Tabled ord tab n) (r
     zero-known = known-zero theta (k * 4) t (r .stays 0 (omega arith))
 
     -- a way that goes on to the end
-    way-hits : (j a b c d : ℕ) → j < wayCount into x → wayAt into tab x j ≡ Terms a b c d
+    pub way-hits : (j a b c d : ℕ) → j < wayCount into x → wayAt into tab x j ≡ Terms a b c d
         → goOn (bindTerms (known tab theta (k * 4)) (fourOf (x / 2)) (a ∷ b ∷ c ∷ d ∷ [])) rest ≡ true
         → matches ar (literalsIn (drop 64 into)) T (segment ord k n) (known tab theta (k * 4)) ≡ true
     way-hits j a b c d l q z =
@@ -186,22 +156,8 @@ module _ {ord into tab theta : List ℕ} {n k x : ℕ} (t : Tabled ord tab n) (r
         step (known tab theta (k * 4)) ∙ some-in (targets ar (literalsIn (drop 64 into)) T (literalAt x)) _ (w .terms) (w .one-of)
         (ap (λ o. goOn o rest) (w .same (known tab theta (k * 4)) zero-known) ∙ z)
 
-    -- where no way goes on to the end, nothing matches
-    no-way-hits : ((j a b c d : ℕ) → j < wayCount into x → wayAt into tab x j ≡ Terms a b c d
-        → goOn (bindTerms (known tab theta (k * 4)) (fourOf (x / 2)) (a ∷ b ∷ c ∷ d ∷ [])) rest ≡ false)
-        → matches ar (literalsIn (drop 64 into)) T (segment ord k n) (known tab theta (k * 4)) ≡ false
-    no-way-hits f = go (flag (matches ar (literalsIn (drop 64 into)) T (segment ord k n) (known tab theta (k * 4))))
-      where
-        go : Flag (matches ar (literalsIn (drop 64 into)) T (segment ord k n) (known tab theta (k * 4)))
-            → matches ar (literalsIn (drop 64 into)) T (segment ord k n) (known tab theta (k * 4)) ≡ false
-        go (isFalse q) = q
-        go (isTrue q) =
-            let u = some-out (targets ar (literalsIn (drop 64 into)) T (literalAt x)) _ (sym (step (known tab theta (k * 4))) ∙ q) in
-            let w = way-out ar T ord into tab s x label-x (u .0) (u .1) in
-            clash (ap (λ o. goOn o rest) (sym (w .same (known tab theta (k * 4)) zero-known)) ∙ u .2) (f (w .place) (w .a) (w .b) (w .c) (w .d) (w .counted) (w .is))
-
     -- what is known stays within T
-    inside-after : (j a b c d : ℕ) → j < wayCount into x → wayAt into tab x j ≡ Terms a b c d → Inside T (known tab theta (k * 4)) → (τ′ : Partial)
+    pub inside-after : (j a b c d : ℕ) → j < wayCount into x → wayAt into tab x j ≡ Terms a b c d → Inside T (known tab theta (k * 4)) → (τ′ : Partial)
         → bindTerms (known tab theta (k * 4)) (fourOf (x / 2)) (a ∷ b ∷ c ∷ d ∷ []) ≡ some τ′ → Inside T τ′
     inside-after j a b c d l q i τ′ z =
         record
@@ -214,13 +170,11 @@ module _ {ord into tab theta : List ℕ} {n k x : ℕ} (t : Tabled ord tab n) (r
         at v y lo hi (inl p) = i .each v y lo hi p
         at v y lo hi (inr m) = target-image ar (literalsIn (drop 64 into)) T (literalAt x) (s .search .holds-terms) (w .terms) (w .one-of) y m
 
--- ===== The ways tried so far =====
-
-some-inj : (a b : ℕ) → some a ≡ some b → a ≡ b
+pub some-inj : (a b : ℕ) → some a ≡ some b → a ≡ b
 some-inj a b e = cc
 
 -- a way has terms
-view-small : {into tab : List ℕ} {x : ℕ} {w : Way} → WayView into tab x w → (a b c d : ℕ) → w ≡ Terms a b c d → (v : ℕ) → List·Memᴰ v (a ∷ b ∷ c ∷ d ∷ []) → v < 64
+pub view-small : {into tab : List ℕ} {x : ℕ} {w : Way} → WayView into tab x w → (a b c d : ℕ) → w ≡ Terms a b c d → (v : ℕ) → List·Memᴰ v (a ∷ b ∷ c ∷ d ∷ []) → v < 64
 view-small {into} {tab} {x} view a b c d e v m = go view e
   where
     four : a < 64 → b < 64 → c < 64 → d < 64 → (m : List·Memᴰ v (a ∷ b ∷ c ∷ d ∷ [])) → v < 64
@@ -241,24 +195,6 @@ view-small {into} {tab} {x} view a b c d e v m = go view e
     go (turned-view i h p z) q = let y = getD into (64 + i) 0 / 2 in shown y _ _ _ _ q (place-small y 1) (place-small y 0) (place-small y 2) (place-small y 3)
     go (twice-view u h p z o) q = shown 0 u u 0 0 q h h (omega arith) (omega arith)
 
--- theta now, and no way before j goes on to the end
-pub record Trying (ord into tab theta theta′ : List ℕ) (n k x j : ℕ) : Type 0 where
-  pub kept : (v : ℕ) → v < 64 → getD tab v 0 ≤ k * 4 → getD theta′ v 0 ≡ getD theta v 0
-  pub length-kept : length theta′ ≡ length theta
-  pub counted : j ≤ wayCount into x
-  pub failed : (i : ℕ) → i < j → (ar T : List ℕ) (s : Setting ar T ord into tab) → Inside T (known tab theta (k * 4)) → (a b c d : ℕ) → wayAt into tab x i ≡ Terms a b c d
-      → goOn (bindTerms (known tab theta (k * 4)) (fourOf (x / 2)) (a ∷ b ∷ c ∷ d ∷ [])) (λ τ. matches ar (literalsIn (drop 64 into)) T (segment ord (k + 1) n) τ) ≡ false
-
-pub trying-start : {ord into tab theta : List ℕ} {n k x : ℕ} → Trying ord into tab theta theta n k x 0
-trying-start = record { kept = λ v h l. refl; length-kept = refl; counted = omega arith; failed = λ i h. absurd (omega arith) }
-
-pub solve-end : {ord into tab theta : List ℕ} {n k : ℕ} → k ≡ n → SolvePost ord into tab theta n k true theta
-unfolding matches
-solve-end {ord} {into} {tab} {theta} {n} {k} e = record {
-  answer = λ ar T s i. sym (ap (λ (qs : List Literal). matches ar (literalsIn (drop 64 into)) T qs (known tab theta (k * 4))) (ap (λ (m : ℕ). segment ord m n) e ∙ segment-end ord n));
-  kept = λ v h l. refl;
-}
-
 pub replacing-kept : {tab theta theta′ : List ℕ} {m : ℕ} → ((v : ℕ) → v < 32 → getD tab v 0 ≡ 0) → Replacing tab theta m → length theta′ ≡ length theta
     → ((v : ℕ) → v < 64 → getD tab v 0 ≤ m → getD theta′ v 0 ≡ getD theta v 0) → Replacing tab theta′ m
 replacing-kept {m = m} fixed r l k = record {
@@ -266,115 +202,6 @@ replacing-kept {m = m} fixed r l k = record {
   stays = λ v h. k v (omega arith) (omega (arith, fixed v h)) ∙ r .stays v h;
   terms = λ v h q. omega (arith, k v h q, r .terms v h q);
 }
-
-module _ {ord into tab theta theta′ : List ℕ} {n k x j total : ℕ} (t : Tabled ord tab n) (r : Replacing tab theta (k * 4)) (h : k < n) (e : x ≡ getD ord k 0)
-    (y : Trying ord into tab theta theta′ n k x j) (count : total ≡ wayCount into x) where
-  now-known : known tab theta′ (k * 4) ≡ known tab theta (k * 4)
-  now-known = sym (known-same tab theta theta′ (k * 4) (k * 4) (omega arith) (y .kept) (λ v p q. q))
-
-  pub trying-replacing : Replacing tab theta′ (k * 4)
-  trying-replacing = replacing-kept (t .fixed) r (y .length-kept) (y .kept)
-
-  pub trying-end : total ≤ j → SolvePost ord into tab theta n k false theta′
-  trying-end l = record {
-    answer = λ ar T s i. sym (no-way-hits t r h e ar T s (λ q a b c d p z. y .failed q (omega (arith, count)) ar T s i a b c d z));
-    kept = y .kept;
-  }
-
-  module _ (l : j < total) {b : Bool} {theta₁ : List ℕ} (p : TryPost tab theta′ (k * 4) x b theta₁ (wayAt into tab x j)) (len : length theta₁ ≡ length theta′) where
-    j-less : j < wayCount into x
-    j-less = omega (arith, count)
-
-    try-kept : (w : Way) → TryPost tab theta′ (k * 4) x b theta₁ w → (v : ℕ) → v < 64 → getD tab v 0 ≤ k * 4 → getD theta₁ v 0 ≡ getD theta′ v 0
-    try-kept w (no-way f g) v q z = ap (λ (th : List ℕ). getD th v 0) g
-    try-kept w (a-way f) v q z = f .kept v q z
-
-    kept-on : (v : ℕ) → v < 64 → getD tab v 0 ≤ k * 4 → getD theta₁ v 0 ≡ getD theta v 0
-    kept-on v q z = try-kept (wayAt into tab x j) p v q z ∙ y .kept v q z
-
-    -- the way does not fit
-    pub trying-misfit : b ≡ false → Trying ord into tab theta theta₁ n k x (j + 1)
-    trying-misfit f = record { kept = kept-on; length-kept = len ∙ y .length-kept; counted = omega arith; failed = λ i q. more i q (cmp i j) }
-      where
-        miss : (w : Way) → TryPost tab theta′ (k * 4) x b theta₁ w → (a b₁ c d : ℕ) → w ≡ Terms a b₁ c d
-            → bindTerms (known tab theta (k * 4)) (fourOf (x / 2)) (a ∷ b₁ ∷ c ∷ d ∷ []) ≡ none
-        miss w (no-way g z) a b₁ c d q = let z : _≡_ {A = ℕ} 0 1 = cc in absurd (omega arith)
-        miss w (a-way {a = a′} {b = b′} {c = c′} {d = d′} g) a b₁ c d q =
-            let m : a′ ∷ b′ ∷ c′ ∷ d′ ∷ [] ≡ a ∷ b₁ ∷ c ∷ d ∷ [] = cc in
-            ap₂ (λ (τ : Partial) (us : List ℕ). bindTerms τ (fourOf (x / 2)) us) (sym now-known) (sym m) ∙ g .no f
-
-        more : (i : ℕ) → i < j + 1 → Cmp i j → (ar T : List ℕ) (s : Setting ar T ord into tab) → Inside T (known tab theta (k * 4)) → (a b₁ c d : ℕ) → wayAt into tab x i ≡ Terms a b₁ c d
-            → goOn (bindTerms (known tab theta (k * 4)) (fourOf (x / 2)) (a ∷ b₁ ∷ c ∷ d ∷ [])) (λ τ. matches ar (literalsIn (drop 64 into)) T (segment ord (k + 1) n) τ) ≡ false
-        more i q (below c₁) ar T s ins a b₁ c d z = y .failed i c₁ ar T s ins a b₁ c d z
-        more i q (equal c₁) ar T s ins a b₁ c d z =
-            ap (λ o. goOn o (λ τ. matches ar (literalsIn (drop 64 into)) T (segment ord (k + 1) n) τ))
-            (miss (wayAt into tab x j) p a b₁ c d (ap (wayAt into tab x) (sym c₁) ∙ z))
-        more i q (above c₁) ar T s ins a b₁ c d z = absurd (omega arith)
-
-    module _ (f : b ≡ true) where
-      -- what the way binds
-      fits : (w : Way) → TryPost tab theta′ (k * 4) x b theta₁ w → (a b₁ c d : ℕ) → w ≡ Terms a b₁ c d
-          → bindTerms (known tab theta (k * 4)) (fourOf (x / 2)) (a ∷ b₁ ∷ c ∷ d ∷ []) ≡ some (known tab theta₁ ((k + 1) * 4))
-      fits w (no-way g z) a b₁ c d q = let z : _≡_ {A = ℕ} 0 1 = cc in absurd (omega arith)
-      fits w (a-way {a = a′} {b = b′} {c = c′} {d = d′} g) a b₁ c d q =
-          let m : a′ ∷ b′ ∷ c′ ∷ d′ ∷ [] ≡ a ∷ b₁ ∷ c ∷ d ∷ [] = cc in
-          let i : k * 4 + 4 ≡ (k + 1) * 4 = omega arith in
-          ap₂ (λ (τ : Partial) (us : List ℕ). bindTerms τ (fourOf (x / 2)) us) (sym now-known) (sym m) ∙ g .yes f ∙ ap (λ (o : ℕ). some (known tab theta₁ o)) i
-
-      some-way : (w : Way) → TryPost tab theta′ (k * 4) x b theta₁ w → WayView into tab x w → (v : ℕ) → v < 64 → getD tab v 0 ≤ (k + 1) * 4 → getD theta₁ v 0 < 64
-      some-way w (no-way g z) view v q u = clash f g
-      some-way w (a-way {a = a′} {b = b′} {c = c′} {d = d′} g) view v q u =
-          go (bind-values (fourOf (x / 2)) (a′ ∷ b′ ∷ c′ ∷ d′ ∷ []) (known tab theta (k * 4)) (known tab theta₁ ((k + 1) * 4)) (fits (Terms a′ b′ c′ d′) (a-way g) a′ b′ c′ d′ refl) v (getD theta₁ v 0)
-          (known-some tab theta₁ ((k + 1) * 4) v q u))
-        where
-          old : Cmp (getD tab v 0) (k * 4 + 1) → known tab theta (k * 4) v ≡ some (getD theta₁ v 0) → getD theta₁ v 0 < 64
-          old (below c₁) z = let m : getD theta v 0 ≡ getD theta₁ v 0 = some-inj _ _ (sym (known-some tab theta (k * 4) v q (omega arith)) ∙ z) in omega (arith, r .terms v q (omega arith))
-          old (equal c₁) z = none-some _ (sym (known-none tab theta (k * 4) v q (omega arith)) ∙ z)
-          old (above c₁) z = none-some _ (sym (known-none tab theta (k * 4) v q (omega arith)) ∙ z)
-
-          go : (known tab theta (k * 4) v ≡ some (getD theta₁ v 0)) ⊎ List·Memᴰ (getD theta₁ v 0) (a′ ∷ b′ ∷ c′ ∷ d′ ∷ []) → getD theta₁ v 0 < 64
-          go (inl z) = old (cmp (getD tab v 0) (k * 4 + 1)) z
-          go (inr m) = view-small view a′ b′ c′ d′ refl (getD theta₁ v 0) m
-
-      pub trying-next : Replacing tab theta₁ ((k + 1) * 4)
-      trying-next = record {
-        room = omega (arith, len, y .length-kept, r .room);
-        stays = λ v q. kept-on v (omega arith) (omega (arith, t .fixed v q)) ∙ r .stays v q;
-        terms = some-way (wayAt into tab x j) p (way-view into tab x j j-less);
-      }
-
-      module _ {c : Bool} {theta₂ : List ℕ} (z : SolvePost ord into tab theta₁ n (k + 1) c theta₂) (len₂ : length theta₂ ≡ length theta₁) where
-        kept₂ : (v : ℕ) → v < 64 → getD tab v 0 ≤ k * 4 → getD theta₂ v 0 ≡ getD theta v 0
-        kept₂ v q u = z .kept v q (omega arith) ∙ kept-on v q u
-
-        -- the rest answers as it does from here
-        rest-is : (ar T : List ℕ) (s : Setting ar T ord into tab) → Inside T (known tab theta (k * 4)) → (a b₁ c₁ d : ℕ) → wayAt into tab x j ≡ Terms a b₁ c₁ d
-            → c ≡ goOn (bindTerms (known tab theta (k * 4)) (fourOf (x / 2)) (a ∷ b₁ ∷ c₁ ∷ d ∷ [])) (λ τ. matches ar (literalsIn (drop 64 into)) T (segment ord (k + 1) n) τ)
-        rest-is ar T s ins a b₁ c₁ d q =
-            let w = fits (wayAt into tab x j) p a b₁ c₁ d q in
-            z .answer ar T s (inside-after t r h e ar T s j a b₁ c₁ d j-less q ins (known tab theta₁ ((k + 1) * 4)) w)
-            ∙ ap (λ o. goOn o (λ τ. matches ar (literalsIn (drop 64 into)) T (segment ord (k + 1) n) τ)) (sym w)
-
-        pub trying-failed : c ≡ false → Trying ord into tab theta theta₂ n k x (j + 1)
-        trying-failed g = record { kept = kept₂; length-kept = len₂ ∙ len ∙ y .length-kept; counted = omega arith; failed = λ i q. more i q (cmp i j) }
-          where
-            more : (i : ℕ) → i < j + 1 → Cmp i j → (ar T : List ℕ) (s : Setting ar T ord into tab) → Inside T (known tab theta (k * 4)) → (a b₁ c₁ d : ℕ) → wayAt into tab x i ≡ Terms a b₁ c₁ d
-                → goOn (bindTerms (known tab theta (k * 4)) (fourOf (x / 2)) (a ∷ b₁ ∷ c₁ ∷ d ∷ [])) (λ τ. matches ar (literalsIn (drop 64 into)) T (segment ord (k + 1) n) τ) ≡ false
-            more i q (below o) ar T s ins a b₁ c₁ d w = y .failed i o ar T s ins a b₁ c₁ d w
-            more i q (equal o) ar T s ins a b₁ c₁ d w = sym (rest-is ar T s ins a b₁ c₁ d (ap (wayAt into tab x) (sym o) ∙ w)) ∙ g
-            more i q (above o) ar T s ins a b₁ c₁ d w = absurd (omega arith)
-
-        pub trying-hit : c ≡ true → SolvePost ord into tab theta n k true theta₂
-        trying-hit g = record {
-          answer = λ ar T s ins. sym (hit ar T s ins (wayAt into tab x j) p refl);
-          kept = kept₂;
-        }
-          where
-            hit : (ar T : List ℕ) (s : Setting ar T ord into tab) → Inside T (known tab theta (k * 4)) → (w : Way) → TryPost tab theta′ (k * 4) x b theta₁ w → wayAt into tab x j ≡ w
-                → matches ar (literalsIn (drop 64 into)) T (segment ord k n) (known tab theta (k * 4)) ≡ true
-            hit ar T s ins w (no-way q u) o = clash f q
-            hit ar T s ins w (a-way {a = a′} {b = b′} {c = c′} {d = d′} q) o =
-                way-hits t r h e ar T s j a′ b′ c′ d′ j-less o (sym (rest-is ar T s ins a′ b′ c′ d′ o) ∙ g)
 
 -- ===== A literal whose terms are known =====
 all-four : (tab : List ℕ) (m l : ℕ) → allKnown tab m l ≡ true → (j : ℕ) → getD tab (placeOf l j) 0 ≤ m
@@ -387,7 +214,7 @@ all-four tab m l e (suc (suc (suc j))) =
     leb-true _ _ (and-right (leb (getD tab (placeOf l 2) 0) m) _ (and-right (leb (getD tab (placeOf l 1) 0) m) _ (and-right (leb (getD tab (placeOf l 0) 0) m) _ e)))
 
 -- a term of a label is one of its places
-term-place : (ar : List ℕ) (l u : ℕ) → List·Memᴰ u (termsOf ar (unpacked l)) → (j : ℕ) × (u ≡ placeOf l j)
+pub term-place : (ar : List ℕ) (l u : ℕ) → List·Memᴰ u (termsOf ar (unpacked l)) → (j : ℕ) × (u ≡ placeOf l j)
 unfolding termsOf unpacked
 term-place ar l u m = four (mem-take (getD ar (l / 16777216) 0) (fourOf l) u m)
   where
@@ -406,18 +233,18 @@ term-place ar l u m = four (mem-take (getD ar (l / 16777216) 0) (fourOf l) u m)
 
 module _ {ord : List ℕ} (into : List ℕ) {tab theta : List ℕ} {n k x : ℕ} (t : Tabled ord tab n) (r : Replacing tab theta (k * 4)) (h : k < n) (e : x ≡ getD ord k 0)
     {b : Bool} (q : b ≡ allKnown tab (k * 4) (x / 2)) (f : b ≡ true) where
-  early : (j : ℕ) → getD tab (placeOf (x / 2) j) 0 ≤ k * 4
-  early = all-four tab (k * 4) (x / 2) (sym q ∙ f)
+  pub known-early : (j : ℕ) → getD tab (placeOf (x / 2) j) 0 ≤ k * 4
+  known-early = all-four tab (k * 4) (x / 2) (sym q ∙ f)
 
   -- no term comes first here
-  none-here : (v : ℕ) → v < 64 → k * 4 < getD tab v 0 → (k + 1) * 4 < getD tab v 0
+  pub none-here : (v : ℕ) → v < 64 → k * 4 < getD tab v 0 → (k + 1) * 4 < getD tab v 0
   none-here v p l = go (cmp ((k + 1) * 4) (getD tab v 0))
     where
       not-here : getD tab v 0 ≤ (k + 1) * 4 → ⊥
       not-here u =
           let j = getD tab v 0 - k * 4 - 1 in
           let w = slots-at t h e .only (getD tab v 0 - k * 4 - 1) v (omega arith) p (omega arith) in
-          let z = early (getD tab v 0 - k * 4 - 1) in
+          let z = known-early (getD tab v 0 - k * 4 - 1) in
           let y : getD tab v 0 ≤ k * 4 = subst (λ (i : ℕ). getD tab i 0 ≤ k * 4) (sym w) z in
           omega arith
 
@@ -426,7 +253,7 @@ module _ {ord : List ℕ} (into : List ℕ) {tab theta : List ℕ} {n k x : ℕ}
       go (equal c) = absurd (not-here (omega arith))
       go (above c) = absurd (not-here (omega arith))
 
-  same-known : known tab theta (k * 4) ≡ known tab theta ((k + 1) * 4)
+  pub same-known : known tab theta (k * 4) ≡ known tab theta ((k + 1) * 4)
   same-known = known-same tab theta theta (k * 4) ((k + 1) * 4) (omega arith) (λ v p l. refl) none-here
 
   pub known-replacing : Replacing tab theta ((k + 1) * 4)
@@ -438,13 +265,13 @@ module _ {ord : List ℕ} (into : List ℕ) {tab theta : List ℕ} {n k x : ℕ}
       back v p l (above c) = absurd (omega (arith, none-here v p (omega arith)))
 
   pub known-images : x < 4294967296 → Images theta x
-  known-images l = record { room = r .room; small = l; terms = λ j p. r .terms (placeOf (x / 2) j) (place-small (x / 2) j) (early j) }
+  known-images l = record { room = r .room; small = l; terms = λ j p. r .terms (placeOf (x / 2) j) (place-small (x / 2) j) (known-early j) }
 
   module _ (ar T : List ℕ) (s : Setting ar T ord into tab) (ins : Inside T (known tab theta (k * 4))) where
     terms-known : (u : ℕ) → List·Memᴰ u (termsOf ar (unpacked (x / 2))) → known tab theta (k * 4) u ≡ some (replacedBy theta u)
     terms-known u m =
         let p = term-place ar (x / 2) u m in
-        known-some tab theta (k * 4) u (terms-below ar (x / 2) u m) (subst (λ (v : ℕ). getD tab v 0 ≤ k * 4) (sym (p .1)) (early (p .0)))
+        known-some tab theta (k * 4) u (terms-below ar (x / 2) u m) (subst (λ (v : ℕ). getD tab v 0 ≤ k * 4) (sym (p .1)) (known-early (p .0)))
 
     terms-inside : (u : ℕ) → List·Memᴰ u (termsOf ar (unpacked (x / 2))) → List·Memᴰ (replacedBy theta u) T
     unfolding literalAt
@@ -485,22 +312,10 @@ module _ {ord : List ℕ} (into : List ℕ) {tab theta : List ℕ} {n k x : ℕ}
             let y = known-bind (termsOf ar (unpacked (x / 2))) vs (known tab theta (k * 4)) τ (replacedBy theta) terms-known p in
             (y .0, ap (rest t r h e ar T s) (sym (y .1)) ∙ w)
 
-    met : {m : Bool} → Met into theta x m → Meets ar T ord into tab s x (label-x t r h e ar T s) theta (r .stays 0 (omega arith)) m
+    pub met : {m : Bool} → Met into theta x m → Meets ar T ord into tab s x (label-x t r h e ar T s) theta (r .stays 0 (omega arith)) m
     met w = meets ar T ord into tab s x (label-x t r h e ar T s) theta (r .stays 0 (omega arith)) w
 
-    not-met : {m : Bool} → Met into theta x m → m ≡ false → matches ar (literalsIn (drop 64 into)) T (segment ord k n) (known tab theta (k * 4)) ≡ false
-    unfolding us literalAt
-    not-met w g = go (flag (matches ar (literalsIn (drop 64 into)) T (segment ord k n) (known tab theta (k * 4))))
-      where
-        go : Flag (matches ar (literalsIn (drop 64 into)) T (segment ord k n) (known tab theta (k * 4))) → matches ar (literalsIn (drop 64 into)) T (segment ord k n) (known tab theta (k * 4)) ≡ false
-        go (isFalse z) = z
-        go (isTrue z) =
-            let u = some-out (targets ar (literalsIn (drop 64 into)) T (literalAt x)) _ (sym (step t r h e ar T s (known tab theta (k * 4))) ∙ z) in
-            let y = bound (u .0) (u .2) in
-            absurd (met w .no g (target-sound ar (s .search .arities) (replacedBy theta) (literalsIn (drop 64 into)) T (literalAt x) (s .search .labels)
-            (subst (λ (vs : List ℕ). List·Memᴰ vs (targets ar (literalsIn (drop 64 into)) T (literalAt x))) (y .0) (u .1))))
-
-    is-met : {m : Bool} → Met into theta x m → m ≡ true
+    pub is-met : {m : Bool} → Met into theta x m → m ≡ true
         → matches ar (literalsIn (drop 64 into)) T (segment ord k n) (known tab theta (k * 4)) ≡ rest t r h e ar T s (known tab theta (k * 4))
     unfolding us
     is-met w g = same-tests _ _ forth back
@@ -516,14 +331,3 @@ module _ {ord : List ℕ} (into : List ℕ) {tab theta : List ℕ} {n k x : ℕ}
             ∙ some-in (targets ar (literalsIn (drop 64 into)) T (literalAt x)) _ (map (replacedBy theta) (termsOf ar (unpacked (x / 2))))
             (unfold literalAt in (target-complete ar (s .search .arities) (replacedBy theta) (literalsIn (drop 64 into)) T (literalAt x) (s .search .small) terms-inside (met w .yes g)))
             (ap (λ o. goOn o (rest t r h e ar T s)) (bind-known (termsOf ar (unpacked (x / 2))) (known tab theta (k * 4)) (replacedBy theta) terms-known) ∙ z)
-
-  pub known-no : {m : Bool} → Met into theta x m → not m ≡ true → SolvePost ord into tab theta n k false theta
-  known-no w g = record { answer = λ ar T s i. sym (not-met ar T s i w (untaken g)); kept = λ v p l. refl }
-
-  pub known-yes : {m c : Bool} {theta′ : List ℕ} → Met into theta x m → not m ≡ false → SolvePost ord into tab theta n (k + 1) c theta′ → SolvePost ord into tab theta n k c theta′
-  known-yes w g z = record {
-    answer = λ ar T s i.
-        z .answer ar T s (subst (λ (τ : Partial). Inside T τ) same-known i)
-        ∙ ap (λ (τ : Partial). matches ar (literalsIn (drop 64 into)) T (segment ord (k + 1) n) τ) (sym same-known) ∙ sym (is-met ar T s i w (unleft g));
-    kept = λ v p l. z .kept v p (omega arith);
-  }

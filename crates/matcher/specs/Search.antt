@@ -184,11 +184,6 @@ pub record Setting (ar : List ℕ) (T ord into tab : List ℕ) : Type 0 where
 pub record Inside (T : List ℕ) (τ : Partial) : Type 0 where
   pub each : (v w : ℕ) → firstVariable ≤ v → v < termBase → τ v ≡ some w → List·Memᴰ w T
 
-pub record SolvePost (ord into tab theta : List ℕ) (n k : ℕ) (r : Bool) (theta′ : List ℕ) : Type 0 where
-  pub answer : (ar T : List ℕ) → Setting ar T ord into tab → Inside T (known tab theta (k * 4))
-      → r ≡ matches ar (literalsIn (drop termBase into)) T (segment ord k n) (known tab theta (k * 4))
-  pub kept : (v : ℕ) → v < termBase → getD tab v 0 ≤ k * 4 → getD theta′ v 0 ≡ getD theta v 0
-
 -- before any place: what is no variable is 0, variables come late
 abbrev pub late : ℕ
 late = 2000

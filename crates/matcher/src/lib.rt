@@ -2,10 +2,11 @@
 use label::Label;
 use label::Term;
 ghost use mathlib.Core.Path.{_≡_};
-ghost use mathlib.Core.Bool.{false};
+ghost use mathlib.Core.Bool.{true, false};
 ghost use Prim.Native.Nat.{ℕ, _+_, _-_, _*_, _/_, _%_, _<_, _≤_};
 ghost use lib.ListN.{length, getD};
-ghost use Rattle.label.specs.Limits.{termBase};
+ghost use lib.Dec.{eqb};
+ghost use Rattle.label.specs.Limits.{termBase, variableCount};
 ghost use Rattle.diagram.specs.Validity.{tree};
 ghost use Rattle.listing.specs.Used.{marked};
 ghost use Rattle.paths.specs.Paths.{paths};
@@ -14,8 +15,10 @@ ghost use Rattle.matcher.specs.Covering.{Coverable};
 ghost use Rattle.matcher.specs.Parts.{isSeen, shares, Ranked, Best, Takable, Taken, Separable, PartTaken, PartsPost, kindOf, Kinds, WayPost, WaysPost};
 ghost use Rattle.matcher.specs.Stored.{termsOfCode, Markable, Unmarked, Marking, Enterable, Stored, Ready, PartPost, BothStored, Answers};
 ghost use Rattle.paths.specs.Routes.{pathAt};
-ghost use Rattle.matcher.specs.Search.{fourOf, slotFits, slotAfter, Slots, Replacing, BindPost, alike, plainWay, equalWay, wayAt, wayCount, TryPost, allKnown};
-ghost use Rattle.matcher.specs.Search.{Sorted, Finds, Images, Digits, Met, numberOf, Tabled, SolvePost, termAt, Unplaced, Placing};
+ghost use Rattle.matcher.specs.Search.{fourOf, slotFits, slotAfter, Slots, BindPost, alike, plainWay, equalWay, wayAt, wayCount, TryPost, allKnown};
+ghost use Rattle.matcher.specs.Search.{Sorted, Finds, Images, Digits, Met, numberOf, termAt, Unplaced, Placing};
+ghost use Rattle.matcher.specs.Failure.{bitAt, In, One, Variables, Same, storeRows, storeWords, RecallPost, Copied, Rewritten, RememberPost};
+ghost use Rattle.matcher.specs.Failure.{isFound, isWeary, maskOf, HandedUp, Solving, SolvePost, Decidable, Decided};
 
 // A word for each term.
 const TERMS: usize = 64;
@@ -38,6 +41,31 @@ const LATE: u32 = 2000;
 const STRANGE: u64 = 100;
 
 const WORST: u64 = 200;
+
+const VARIABLES: usize = 32;
+
+// The store of failures: for each literal the last mask that it failed on, then rows of a flag, a mask and a word for each variable.
+const ROWS: usize = 256;
+
+const ROW_WORDS: usize = 34;
+
+const STORE_WORDS: usize = 8960;
+
+// For so many failures no store is made.
+const FEW: u64 = 64;
+
+const HASHES: u64 = 65536;
+
+const HASH_FACTOR: u64 = 40503;
+
+const HASH_STEP: u64 = 256;
+
+// What the search answers: a match; no match, and the variables that this depends on, as bits; or too many failures for a store without rows.
+enum Answer {
+    Found,
+    Failed(u64),
+    Weary,
+}
 
 // What the four places of a literal may become.
 enum Way {
@@ -291,38 +319,276 @@ fn number(p: u64, a: u64, b: u64, c: u64, d: u64, s: u64) -> u64
         + s
 }
 
-// Whether a replacement beyond theta takes the literals from k to n to those of the first path, or to t = t true. Tries each literal in turn, and
-// goes back when one has no match.
-fn solve(ord: &[u32], into: &[u32], tab: &[u32], theta: &mut [u64], n: usize, k: usize) -> bool
-    requires { ⌜ Tabled (now ord) (now tab) n ⌝ }
-    requires { ⌜ Sorted (now into) ⌝ }
-    requires { ⌜ Replacing (now tab) (now theta) (k * 4) ⌝ }
-    requires { ⌜ k ≤ n ⌝ }
-    ensures { λ r. ⌜ SolvePost (now (ord .entry)) (now (into .entry)) (now (tab .entry)) (now (theta .entry)) n k r (now (theta .exit)) ⌝ }
+// The variable t alone as a set; a term that is no variable is in no set.
+fn one(t: usize) -> u64
+    requires { ⌜ t < termBase ⌝ }
+    ensures { λ r. ⌜ One t r ⌝ }
 {
-    if k == n {
-        return true;
+    if t < FIRST_VARIABLE {
+        return 0;
+    }
+    1 << (t - FIRST_VARIABLE) as u64
+}
+
+// Whether the variable of number i is in the set.
+fn has(mask: u64, i: usize) -> bool
+    requires { ⌜ i < variableCount ⌝ }
+    ensures { λ r. ⌜ r ≡ eqb (bitAt mask i) 1 ⌝ }
+{
+    (mask >> i as u64) % 2 == 1
+}
+
+// Whether the set a is a part of the set b.
+fn part_of(a: u64, b: u64) -> bool
+    ensures { λ r. ⌜ (r ≡ true → (i : ℕ) → In a i → In b i) ⌝ }
+{
+    a & b == a
+}
+
+// The variables of the label l.
+fn variables_of(l: u64) -> u64
+    ensures { λ r. ⌜ Variables l r ⌝ }
+{
+    let a = one((l / Label::FIRST_WEIGHT % Term::BASE) as usize);
+    let b = one((l / Label::SECOND_WEIGHT % Term::BASE) as usize);
+    let c = one((l / Label::THIRD_WEIGHT % Term::BASE) as usize);
+    let d = one((l % Term::BASE) as usize);
+    a | b | c | d
+}
+
+// The row for a failure of literal k on the mask. Nothing but time depends on it.
+fn slot(theta: &[u64], mask: u64, k: usize) -> usize
+    requires { ⌜ termBase ≤ length (now theta) ⌝ }
+    ensures { λ r. ⌜ r < storeRows ⌝ }
+{
+    let mut h = (k % ROWS) as u64 * HASH_FACTOR % HASHES;
+    let mut i = 0;
+    while i < VARIABLES {
+        let rest = mask >> i as u64;
+        if rest == 0 {
+            return (h / HASH_STEP) as usize;
+        }
+        if rest % 2 == 1 {
+            h = (h + theta[FIRST_VARIABLE + i] % Term::BASE + 1) * HASH_FACTOR % HASHES;
+            i += 1;
+        } else {
+            i += 1;
+        }
+    }
+    (h / HASH_STEP) as usize
+}
+
+// Whether the words from `at` on are those of theta on the variables of the mask.
+fn agrees(theta: &[u64], store: &[u64], at: usize, mask: u64) -> bool
+    requires { ⌜ termBase ≤ length (now theta) ⌝ }
+    requires { ⌜ at + variableCount ≤ length (now store) ⌝ }
+    ensures { λ r. ⌜ (r ≡ true → Same (now (theta .entry)) (now (store .entry)) at mask variableCount) ⌝ }
+{
+    let mut i = 0;
+    while i < VARIABLES {
+        if has(mask, i) {
+            if theta[FIRST_VARIABLE + i] != store[at + i] {
+                return false;
+            }
+            i += 1;
+        } else {
+            i += 1;
+        }
+    }
+    true
+}
+
+// The failure of a row, if it holds here; else Found: nothing is known.
+fn row_answer(theta: &[u64], store: &[u64], bound: u64, row: usize) -> Answer
+    requires { ⌜ termBase ≤ length (now theta) ⌝ }
+    requires { ⌜ storeWords ≤ length (now store) ⌝ }
+    requires { ⌜ row < storeRows ⌝ }
+    ensures { λ r. ⌜ RecallPost (now (theta .entry)) (now (store .entry)) bound r ⌝ }
+{
+    let at = ROWS + row * ROW_WORDS;
+    if store[at] != 1 {
+        return Answer::Found;
+    }
+    let mask = store[at + 1];
+    if !part_of(mask, bound) {
+        return Answer::Found;
+    }
+    if !agrees(theta, store, at + 2, mask) {
+        return Answer::Found;
+    }
+    Answer::Failed(mask)
+}
+
+// A failure that was remembered and holds here. Else Found: nothing is known; or Weary: too much has failed for a store without rows.
+fn recall(theta: &[u64], store: &[u64], bound: u64, k: usize) -> Answer
+    requires { ⌜ termBase ≤ length (now theta) ⌝ }
+    requires { ⌜ 0 < length (now store) ⌝ }
+    requires { ⌜ k < storeRows ⌝ }
+    ensures { λ r. ⌜ RecallPost (now (theta .entry)) (now (store .entry)) bound r ⌝ }
+{
+    if store.len() < STORE_WORDS {
+        if store[0] < FEW {
+            return Answer::Found;
+        }
+        return Answer::Weary;
+    }
+    row_answer(theta, store, bound, slot(theta, store[k], k))
+}
+
+// Copies the words of the variables to those from `at` on.
+fn copy(theta: &[u64], store: &mut [u64], at: usize)
+    requires { ⌜ termBase ≤ length (now theta) ⌝ }
+    requires { ⌜ at + variableCount ≤ length (now store) ⌝ }
+    ensures { λ _. ⌜ Copied (now (theta .entry)) (now (store .entry)) (now (store .exit)) at variableCount ⌝ }
+{
+    let mut i = 0;
+    while i < VARIABLES {
+        store[at + i] = theta[FIRST_VARIABLE + i];
+        i += 1;
+    }
+}
+
+// Writes a failure on the mask to a row.
+fn write_row(theta: &[u64], store: &mut [u64], mask: u64, row: usize)
+    requires { ⌜ termBase ≤ length (now theta) ⌝ }
+    requires { ⌜ storeWords ≤ length (now store) ⌝ }
+    requires { ⌜ row < storeRows ⌝ }
+    ensures { λ _. ⌜ Rewritten (now (theta .entry)) (now (store .entry)) mask row (now (store .exit)) ⌝ }
+{
+    let at = ROWS + row * ROW_WORDS;
+    store[at] = 1;
+    store[at + 1] = mask;
+    copy(theta, store, at + 2);
+}
+
+// Remembers that literal k failed on the mask. A store without rows counts the failures.
+fn remember(theta: &[u64], store: &mut [u64], mask: u64, k: usize)
+    requires { ⌜ termBase ≤ length (now theta) ⌝ }
+    requires { ⌜ 0 < length (now store) ⌝ }
+    requires { ⌜ k < storeRows ⌝ }
+    ensures { λ _. ⌜ RememberPost (now (theta .entry)) (now (store .entry)) mask (now (store .exit)) ⌝ }
+{
+    if store.len() < STORE_WORDS {
+        store[0] = store[0] % FEW + 1;
+        return;
+    }
+    store[k] = mask;
+    write_row(theta, store, mask, slot(theta, mask, k));
+}
+
+// Whether the answer is that there is a match, or that nothing is known.
+fn is_found(answer: Answer) -> bool
+    ensures { λ r. ⌜ r ≡ isFound answer ⌝ }
+{
+    match answer {
+        Answer::Found => true,
+        Answer::Failed(_) => false,
+        Answer::Weary => false,
+    }
+}
+
+// Whether the search was given up.
+fn is_weary(answer: Answer) -> bool
+    ensures { λ r. ⌜ r ≡ isWeary answer ⌝ }
+{
+    match answer {
+        Answer::Found => false,
+        Answer::Failed(_) => false,
+        Answer::Weary => true,
+    }
+}
+
+// The variables that a failure depends on.
+fn mask_of(answer: Answer) -> u64
+    ensures { λ r. ⌜ r ≡ maskOf answer ⌝ }
+{
+    match answer {
+        Answer::Found => 0,
+        Answer::Failed(mask) => mask,
+        Answer::Weary => 0,
+    }
+}
+
+// Whether an answer is handed up at once: every one but a failure that depends on more than `bound`.
+fn is_handed_up(answer: Answer, bound: u64) -> bool
+    ensures { λ r. ⌜ HandedUp answer bound r ⌝ }
+{
+    match answer {
+        Answer::Found => true,
+        Answer::Failed(mask) => part_of(mask, bound),
+        Answer::Weary => true,
+    }
+}
+
+// Whether a replacement beyond theta takes the literals from k on to those of the first path, or to t = t true. Tries each literal in turn, and
+// goes back when one has no match: past all literals that the failure does not depend on. The variables of `bound` are known.
+fn solve(
+    ord: &[u32],
+    into: &[u32],
+    tab: &[u32],
+    theta: &mut [u64],
+    store: &mut [u64],
+    k: usize,
+    bound: u64,
+) -> Answer
+    requires { ⌜ Solving (now ord) (now into) (now tab) (now theta) (now store) k bound ⌝ }
+    ensures { λ r. ⌜ SolvePost (now (ord .entry)) (now (into .entry)) (now (tab .entry)) (now (theta .entry)) (now (store .entry)) k bound r (now (theta .exit)) (now (store .exit)) ⌝ }
+{
+    if k == ord.len() {
+        return Answer::Found;
     }
     let x = wide(ord[k]);
     if all_known(tab, (k * 4) as u64, x / 2) {
         if !is_met(into, theta, x) {
-            return false;
+            return Answer::Failed(variables_of(x / 2));
         }
-        return solve(ord, into, tab, theta, n, k + 1);
+        return solve(ord, into, tab, theta, store, k + 1, bound);
     }
+    let past = recall(theta, store, bound, k);
+    if !is_found(past) {
+        return past;
+    }
+    let vars = variables_of(x / 2);
     let total = way_count(into, x);
+    let mut mask = vars & bound;
     let mut j = 0;
     while j < total {
         if attempt(into, tab, theta, (k * 4) as u64, x, j) {
-            if solve(ord, into, tab, theta, n, k + 1) {
-                return true;
+            let answer = solve(ord, into, tab, theta, store, k + 1, bound | vars);
+            if is_handed_up(answer, bound) {
+                return answer;
             }
+            mask = mask | (mask_of(answer) & bound);
             j += 1;
         } else {
             j += 1;
         }
     }
-    false
+    remember(theta, store, mask, k);
+    Answer::Failed(mask)
+}
+
+// The search with a store of failures.
+fn search_long(ord: &[u32], into: &[u32], tab: &[u32], theta: &mut [u64]) -> bool
+    requires { ⌜ Decidable (now ord) (now into) (now tab) (now theta) ⌝ }
+    ensures { λ r. ⌜ Decided (now (ord .entry)) (now (into .entry)) (now (tab .entry)) r (now (theta .exit)) ⌝ }
+{
+    let mut store = [0u64; STORE_WORDS];
+    let answer = solve(ord, into, tab, theta, &mut store, 0, 0);
+    is_found(answer)
+}
+
+// The search without one, as long as few levels fail; else with one.
+fn decide(ord: &[u32], into: &[u32], tab: &[u32], theta: &mut [u64]) -> bool
+    requires { ⌜ Decidable (now ord) (now into) (now tab) (now theta) ⌝ }
+    ensures { λ r. ⌜ Decided (now (ord .entry)) (now (into .entry)) (now (tab .entry)) r (now (theta .exit)) ⌝ }
+{
+    let mut failures = [0u64; 1];
+    let answer = solve(ord, into, tab, theta, &mut failures, 0, 0);
+    if is_weary(answer) {
+        return search_long(ord, into, tab, theta);
+    }
+    is_found(answer)
 }
 
 // Place m of literals one after the other, four to a literal.
@@ -464,7 +730,7 @@ fn match_part(ord: &[u32], into: &[u32], tab: &mut [u32], theta: &mut [u64]) -> 
 {
     unplace(tab);
     first_places(ord, ord.len(), tab);
-    solve(ord, into, tab, theta, ord.len(), 0)
+    decide(ord, into, tab, theta)
 }
 
 // The literal to be taken next, and its rank.

@@ -2,23 +2,26 @@ use mathlib.Core.Path.{_∙_}
 use mathlib.Core.List.{[]}
 use native.Mathlib.Omega.{arith}
 use borrow.Author.Needs.{needs}
-use Rattle.matcher.proofs.SolveLaws.{
+use lib.ListN.{length}
+use Prim.Native.Nat.{ℕ, _<_, _-_}
+use Rattle.matcher.proofs.SolveLaws.{known-images}
+use Rattle.matcher.proofs.TryingLaws.{
+  solve-end,
+  solve-recalled,
+  Level,
+  level-slots,
   Trying,
   trying-start,
-  trying-replacing,
+  trying-room,
   trying-end,
   trying-misfit,
   trying-next,
+  trying-up,
   trying-failed,
-  trying-hit,
-  slots-at,
-  solve-end,
-  known-images,
-  known-replacing,
-  known-no,
-  known-yes,
+  unmet-post,
+  met-next,
+  met-post,
 }
-use Prim.Native.Nat.{ℕ, _<_, _-_}
 use borrow.Fn.Kinds.{In}
 use borrow.Fn.PlainCycle.{Measures, is, falls, and}
 use Rattle.matcher.proofs.solve.Reads as solve
@@ -26,688 +29,240 @@ use Rattle.matcher.proofs.solve.Kinds as solve-kinds
 use Rattle.matcher.proofs.+solve.Lts-solve as solve-lts
 use Rattle.matcher.proofs.all_known.Reads as all-known-reads
 use Rattle.matcher.proofs.attempt.Reads as attempt-reads
+use Rattle.matcher.proofs.is_found.Reads as is-found-reads
+use Rattle.matcher.proofs.is_handed_up.Reads as is-handed-up-reads
 use Rattle.matcher.proofs.is_met.Reads as is-met-reads
+use Rattle.matcher.proofs.mask_of.Reads as mask-of-reads
+use Rattle.matcher.proofs.recall.Reads as recall-reads
+use Rattle.matcher.proofs.remember.Reads as remember-reads
+use Rattle.matcher.proofs.variables_of.Reads as variables-of-reads
 use Rattle.matcher.proofs.way_count.Reads as way-count-reads
 use Rattle.matcher.proofs.wide.Reads as wide-reads
 use Rattle.matcher.proofs.+solve.{statement}
 use Rattle.matcher.proofs.+solve.Tie.{close}
 
-abbrev μ-solve : Measures 4 solve-kinds.ps ℕ
-μ-solve κs a = a .1 .1 .1 .1 .0 - a .1 .1 .1 .1 .1 .0
+abbrev μ-solve : Measures 5 solve-kinds.ps ℕ
+μ-solve κs a = length (a .0 .now) - a .1 .1 .1 .1 .1 .0
 
-abbrev solve-at : ℕ → In 4 solve-kinds.ps
-solve-at t = and 4 solve-kinds.ps (is 4 solve-kinds.ps μ-solve t) solve.Pre
+abbrev solve-at : ℕ → In 5 solve-kinds.ps
+solve-at t = and 5 solve-kinds.ps (is 5 solve-kinds.ps μ-solve t) solve.Pre
 
-abbrev solve-below : ℕ → In 4 solve-kinds.ps
-solve-below t = and 4 solve-kinds.ps (falls 4 solve-kinds.ps _<_ μ-solve t) solve.Pre
+abbrev solve-below : ℕ → In 5 solve-kinds.ps
+solve-below t = and 5 solve-kinds.ps (falls 5 solve-kinds.ps _<_ μ-solve t) solve.Pre
 
 abbrev solve-Inv-loop : solve-lts.InvT-loop
-solve-Inv-loop ord into tab theta₀ n k x total j₀ theta j = Trying ord into tab theta₀ theta n k x j
+solve-Inv-loop ord into tab theta₀ store₀ k bound x vars total mask₀ j₀ theta store mask j =
+    Trying ord into tab theta₀ store₀ k x bound vars total theta store mask j
 
 abbrev solve-μ-loop : solve-lts.MeasureT-loop
-solve-μ-loop ord into tab theta₀ n k x total j₀ theta j = total - j
+solve-μ-loop ord into tab theta₀ store₀ k bound x vars total mask₀ j₀ theta store mask j = total - j
 
-solve-returns : (t : ℕ) → solve-lts.Need-returns (
-  wide-reads.Asked,
-  wide-reads.Learnt,
-  all-known-reads.Asked,
-  all-known-reads.Learnt,
-  is-met-reads.Asked,
-  is-met-reads.Learnt,
-  solve-below t,
-  solve.Post,
-  way-count-reads.Asked,
-  way-count-reads.Learnt,
-  attempt-reads.Asked,
-  attempt-reads.Learnt,
-) (solve-at t) solve.Post solve-Inv-loop solve-μ-loop
-solve-returns t c =
-    solve-end (c .if1 .taken)
-
-solve-mul-wide : (t : ℕ) → solve-lts.Need-mul-wide (
-  wide-reads.Asked,
-  wide-reads.Learnt,
-  all-known-reads.Asked,
-  all-known-reads.Learnt,
-  is-met-reads.Asked,
-  is-met-reads.Learnt,
-  solve-below t,
-  solve.Post,
-  way-count-reads.Asked,
-  way-count-reads.Learnt,
-  attempt-reads.Asked,
-  attempt-reads.Learnt,
-) (solve-at t) solve.Post solve-Inv-loop solve-μ-loop
-solve-mul-wide t c =
-    let p = c .before .before .before .before .before .pre .1 in
-    omega (arith, p .0 .room, p .0 .few, p .1 .1 .1, c .if1 .left)
-
-solve-shared-slice-read-wide : (t : ℕ) → solve-lts.Need-shared-slice-read-wide (
-  wide-reads.Asked,
-  wide-reads.Learnt,
-  all-known-reads.Asked,
-  all-known-reads.Learnt,
-  is-met-reads.Asked,
-  is-met-reads.Learnt,
-  solve-below t,
-  solve.Post,
-  way-count-reads.Asked,
-  way-count-reads.Learnt,
-  attempt-reads.Asked,
-  attempt-reads.Learnt,
-) (solve-at t) solve.Post solve-Inv-loop solve-μ-loop
-solve-shared-slice-read-wide t c =
-    let p = c .before .before .before .before .before .before .pre .1 in
-    omega (arith, p .0 .room, p .0 .few, p .1 .1 .1, c .before .if1 .left)
-
-solve-wide-requires : (t : ℕ) → solve-lts.Need-wide-requires (
-  wide-reads.Asked,
-  wide-reads.Learnt,
-  all-known-reads.Asked,
-  all-known-reads.Learnt,
-  is-met-reads.Asked,
-  is-met-reads.Learnt,
-  solve-below t,
-  solve.Post,
-  way-count-reads.Asked,
-  way-count-reads.Learnt,
-  attempt-reads.Asked,
-  attempt-reads.Learnt,
-) (solve-at t) solve.Post solve-Inv-loop solve-μ-loop
-solve-wide-requires t c κs =
-    search needs
-
-solve-mul-all-known : (t : ℕ) → solve-lts.Need-mul-all-known (
-  wide-reads.Asked,
-  wide-reads.Learnt,
-  all-known-reads.Asked,
-  all-known-reads.Learnt,
-  is-met-reads.Asked,
-  is-met-reads.Learnt,
-  solve-below t,
-  solve.Post,
-  way-count-reads.Asked,
-  way-count-reads.Learnt,
-  attempt-reads.Asked,
-  attempt-reads.Learnt,
-) (solve-at t) solve.Post solve-Inv-loop solve-μ-loop
-solve-mul-all-known t c =
-    let p = c .before .before .before .before .before .before .before .pre .1 in
-    omega (arith, p .0 .few, p .1 .1 .1)
-
-solve-all-known-requires : (t : ℕ) → solve-lts.Need-all-known-requires (
-  wide-reads.Asked,
-  wide-reads.Learnt,
-  all-known-reads.Asked,
-  all-known-reads.Learnt,
-  is-met-reads.Asked,
-  is-met-reads.Learnt,
-  solve-below t,
-  solve.Post,
-  way-count-reads.Asked,
-  way-count-reads.Learnt,
-  attempt-reads.Asked,
-  attempt-reads.Learnt,
-) (solve-at t) solve.Post solve-Inv-loop solve-μ-loop
-solve-all-known-requires t c κs =
-    let p = c .before .before .before .before .before .before .before .pre .1 in
-    omega (arith, p .0 .tab-room)
-
-solve-is-met-requires : (t : ℕ) → solve-lts.Need-is-met-requires (
-  wide-reads.Asked,
-  wide-reads.Learnt,
-  all-known-reads.Asked,
-  all-known-reads.Learnt,
-  is-met-reads.Asked,
-  is-met-reads.Learnt,
-  solve-below t,
-  solve.Post,
-  way-count-reads.Asked,
-  way-count-reads.Learnt,
-  attempt-reads.Asked,
-  attempt-reads.Learnt,
-) (solve-at t) solve.Post solve-Inv-loop solve-μ-loop
-solve-is-met-requires t c κs =
-    let p = c .before .before .before .before .before .before .before .before .before .before .pre .1 in
+pub +solve-spec : {M : Type 1} → statement M
++solve-spec =
+    close μ-solve λ t. solve-lts.spec (
+      wide-reads.Asked,
+      wide-reads.Learnt,
+      all-known-reads.Asked,
+      all-known-reads.Learnt,
+      is-met-reads.Asked,
+      is-met-reads.Learnt,
+      variables-of-reads.Asked,
+      variables-of-reads.Learnt,
+      solve-below t,
+      solve.Post,
+      recall-reads.Asked,
+      recall-reads.Learnt,
+      is-found-reads.Asked,
+      is-found-reads.Learnt,
+      way-count-reads.Asked,
+      way-count-reads.Learnt,
+      attempt-reads.Asked,
+      attempt-reads.Learnt,
+      is-handed-up-reads.Asked,
+      is-handed-up-reads.Learnt,
+      mask-of-reads.Asked,
+      mask-of-reads.Learnt,
+      remember-reads.Asked,
+      remember-reads.Learnt,
+    )
+    (solve-at t) solve.Post solve-Inv-loop solve-μ-loop
+    -- returns
+    (λ c. let if1 = c .if1 in
+    let solving = c .before .before .before .before .before .before .pre .1 in
+    solve-end (if1 .taken) solving)
+    -- mul-wide
+    (λ c. let solving = c .before .before .before .before .before .before .pre .1 in
+    omega (arith, solving .tabled .few, solving .most))
+    -- shared-slice-read-wide
+    (λ c. let if1 = c .before .if1 in
+    let solving = c .before .before .before .before .before .before .before .pre .1 in
+    omega (arith, solving .most, if1 .left))
+    (λ c κs. search needs)
+    -- mul-all-known
+    (λ c. let solving = c .before .before .before .before .before .before .before .before .pre .1 in
+    omega (arith, solving .tabled .few, solving .most))
+    -- all-known-requires
+    (λ c κs. let solving = c .before .before .before .before .before .before .before .before .pre .1 in
+    omega (arith, solving .tabled .tab-room))
+    -- is-met-requires
+    (λ c κs. let if2 = c .before .if2 in
     let all-known = c .before .before .all-known in
     let wide = c .before .before .before .wide in
-    let if1 = c .before .before .before .before .before .if1 in (
-      p .1 .0,
-      known-images [] (p .0) (p .1 .1 .0) (omega (arith, p .1 .1 .1, if1 .left)) (wide .ensures .0) (all-known .ensures) (c .before .if2 .taken)
-          (wide .ensures .1),
-    )
-
-solve-same-length : (t : ℕ) → solve-lts.Need-same-length (
-  wide-reads.Asked,
-  wide-reads.Learnt,
-  all-known-reads.Asked,
-  all-known-reads.Learnt,
-  is-met-reads.Asked,
-  is-met-reads.Learnt,
-  solve-below t,
-  solve.Post,
-  way-count-reads.Asked,
-  way-count-reads.Learnt,
-  attempt-reads.Asked,
-  attempt-reads.Learnt,
-) (solve-at t) solve.Post solve-Inv-loop solve-μ-loop
-solve-same-length t c =
-    search needs
-
-solve-returns-2 : (t : ℕ) → solve-lts.Need-returns-2 (
-  wide-reads.Asked,
-  wide-reads.Learnt,
-  all-known-reads.Asked,
-  all-known-reads.Learnt,
-  is-met-reads.Asked,
-  is-met-reads.Learnt,
-  solve-below t,
-  solve.Post,
-  way-count-reads.Asked,
-  way-count-reads.Learnt,
-  attempt-reads.Asked,
-  attempt-reads.Learnt,
-) (solve-at t) solve.Post solve-Inv-loop solve-μ-loop
-solve-returns-2 t c =
-    let p = c .before .before .before .before .before .before .before .before .before .before .before .before .pre .1 in
-    let if2 = c .before .before .before .if2 in
-    let all-known = c .before .before .before .before .all-known in
-    let wide = c .before .before .before .before .before .wide in
-    let if1 = c .before .before .before .before .before .before .before .if1 in
-    known-no _ (p .0) (p .1 .1 .0) (omega (arith, p .1 .1 .1, if1 .left)) (wide .ensures .0) (all-known .ensures) (if2 .taken) (c .before .is-met .ensures)
-    (c .if3 .taken)
-
-solve-add-solve : (t : ℕ) → solve-lts.Need-add-solve (
-  wide-reads.Asked,
-  wide-reads.Learnt,
-  all-known-reads.Asked,
-  all-known-reads.Learnt,
-  is-met-reads.Asked,
-  is-met-reads.Learnt,
-  solve-below t,
-  solve.Post,
-  way-count-reads.Asked,
-  way-count-reads.Learnt,
-  attempt-reads.Asked,
-  attempt-reads.Learnt,
-) (solve-at t) solve.Post solve-Inv-loop solve-μ-loop
-solve-add-solve t c =
-    let p = c .before .before .before .before .before .before .before .before .before .before .before .before .before .pre .1 in
-    omega (arith, p .0 .few, p .1 .1 .1)
-
-solve-solve-requires : (t : ℕ) → solve-lts.Need-solve-requires (
-  wide-reads.Asked,
-  wide-reads.Learnt,
-  all-known-reads.Asked,
-  all-known-reads.Learnt,
-  is-met-reads.Asked,
-  is-met-reads.Learnt,
-  solve-below t,
-  solve.Post,
-  way-count-reads.Asked,
-  way-count-reads.Learnt,
-  attempt-reads.Asked,
-  attempt-reads.Learnt,
-) (solve-at t) solve.Post solve-Inv-loop solve-μ-loop
-solve-solve-requires t c κs =
-    let p = c .before .before .before .before .before .before .before .before .before .before .before .before .before .pre in
-    let q = p .1 in
+    let if1 = c .before .before .before .before .before .if1 in
+    let solving = c .before .before .before .before .before .before .before .before .before .before .before .pre .1 in (
+      solving .sorted,
+      known-images [] (solving .tabled) (solving .replacing) (omega (arith, solving .most, if1 .left)) (wide .ensures .0) (all-known .ensures)
+          (if2 .taken) (wide .ensures .1),
+    ))
+    (λ c κs. search needs) (λ c. search needs)
+    -- returns-2
+    (λ c. let variables-of = c .variables-of in
+    let if3 = c .before .if3 in
+    let is-met = c .before .before .is-met in
     let if2 = c .before .before .before .before .if2 in
     let all-known = c .before .before .before .before .before .all-known in
     let wide = c .before .before .before .before .before .before .wide in
-    let if1 = c .before .before .before .before .before .before .before .before .if1 in (
-      omega (arith, p .0, q .1 .1 .1, if1 .left),
-      (
-        q .0,
-        (
-          q .1 .0,
-          (
-            known-replacing [] (q .0) (q .1 .1 .0) (omega (arith, q .1 .1 .1, if1 .left)) (wide .ensures .0) (all-known .ensures) (if2 .taken),
-            omega (arith, q .1 .1 .1, if1 .left),
-          ),
-        ),
-      ),
-    )
-
-solve-same-length-2 : (t : ℕ) → solve-lts.Need-same-length-2 (
-  wide-reads.Asked,
-  wide-reads.Learnt,
-  all-known-reads.Asked,
-  all-known-reads.Learnt,
-  is-met-reads.Asked,
-  is-met-reads.Learnt,
-  solve-below t,
-  solve.Post,
-  way-count-reads.Asked,
-  way-count-reads.Learnt,
-  attempt-reads.Asked,
-  attempt-reads.Learnt,
-) (solve-at t) solve.Post solve-Inv-loop solve-μ-loop
-solve-same-length-2 t c =
-    search needs
-
-solve-returns-3 : (t : ℕ) → solve-lts.Need-returns-3 (
-  wide-reads.Asked,
-  wide-reads.Learnt,
-  all-known-reads.Asked,
-  all-known-reads.Learnt,
-  is-met-reads.Asked,
-  is-met-reads.Learnt,
-  solve-below t,
-  solve.Post,
-  way-count-reads.Asked,
-  way-count-reads.Learnt,
-  attempt-reads.Asked,
-  attempt-reads.Learnt,
-) (solve-at t) solve.Post solve-Inv-loop solve-μ-loop
-solve-returns-3 t c =
-    let p = c .before .before .before .before .before .before .before .before .before .before .before .before .before .before .before .before .pre .1 in
-    let solve = c .before .before .solve in
-    let if3 = c .before .before .before .before .if3 in
-    let is-met = c .before .before .before .before .before .is-met in
-    let if2 = c .before .before .before .before .before .before .before .if2 in
-    let all-known = c .before .before .before .before .before .before .before .before .all-known in
+    let if1 = c .before .before .before .before .before .before .before .before .if1 in
+    let solving = c .before .before .before .before .before .before .before .before .before .before .before .before .before .before .pre .1 in
+    unmet-post solving (if1 .left) (wide .ensures .0) (all-known .ensures) (if2 .taken) (variables-of .ensures) (is-met .ensures) (if3 .taken))
+    -- add-solve
+    (λ c. let solving = c .before .before .before .before .before .before .before .before .before .before .before .before .before .before .before .pre .1 in
+    omega (arith, solving .tabled .few, solving .most))
+    -- solve-requires
+    (λ c κs. let if2 = c .before .before .before .before .before .if2 in
+    let all-known = c .before .before .before .before .before .before .all-known in
+    let wide = c .before .before .before .before .before .before .before .wide in
+    let if1 = c .before .before .before .before .before .before .before .before .before .if1 in
+    let pre = c .before .before .before .before .before .before .before .before .before .before .before .before .before .before .before .pre in
+    let solving = c .before .before .before .before .before .before .before .before .before .before .before .before .before .before .before .pre .1 in
+    (omega (arith, pre .0, solving .most, if1 .left), met-next solving (if1 .left) (wide .ensures .0) (all-known .ensures) (if2 .taken)))
+    -- same-length-2
+    (λ c. let solve = c .before .before .before .before .solve in
+    solve .kept .1 .1 .1 .0)
+    -- same-length-3
+    (λ c. let solve = c .before .before .before .before .solve in
+    solve .kept .1 .1 .1 .1 .0)
+    -- returns-3
+    (λ c. let past = c .before .before .before .before .before .before .before .before .before .before .before .before .before .before .before .before in
+    let solve = c .before .before .before .before .solve in
+    let if3 = c .before .before .before .before .before .before .before .if3 in
+    let is-met = c .before .before .before .before .before .before .before .before .is-met in
+    let if2 = c .before .before .before .before .before .before .before .before .before .before .if2 in
+    let all-known = c .before .before .before .before .before .before .before .before .before .before .before .all-known in
+    let wide = c .before .before .before .before .before .before .before .before .before .before .before .before .wide in
+    let if1 = c .before .before .before .before .before .before .before .before .before .before .before .before .before .before .if1 in
+    let solving = past .before .before .before .before .pre .1 in
+    met-post solving (if1 .left) (wide .ensures .0) (all-known .ensures) (if2 .taken) (is-met .ensures) (if3 .left) (solve .ensures))
+    -- recall-requires
+    (λ c κs. let solving = c .before .before .before .before .before .before .before .before .before .before .before .before .pre .1 in
+    (solving .replacing .room, (solving .remembers .some, omega (arith, solving .tabled .few, solving .most))))
+    (λ c κs. search needs) (λ c. search needs) (λ c. search needs)
+    -- returns-4
+    (λ c. let if4 = c .if4 in
+    let is-found = c .before .is-found in
+    let recall = c .before .before .recall in
+    let solving = c .before .before .before .before .before .before .before .before .before .before .before .before .before .before .before .pre .1 in
+    solve-recalled solving (recall .ensures) (is-found .ensures) (if4 .taken))
+    (λ c κs. search needs)
+    -- way-count-requires
+    (λ c κs. let solving = c .before .before .before .before .before .before .before .before .before .before .before .before .before .before .before .before .pre .1 in
+    solving .sorted .room)
+    -- loop-holds
+    (λ c. let past = c .before .before .before .before .before .before .before .before .before .before .before .before .before .before .before .before in
+    let way-count = c .way-count in
+    let variables-of2 = c .before .variables-of2 in
     let wide = c .before .before .before .before .before .before .before .before .before .wide in
     let if1 = c .before .before .before .before .before .before .before .before .before .before .before .if1 in
-    known-yes _ (p .0) (p .1 .1 .0) (omega (arith, p .1 .1 .1, if1 .left)) (wide .ensures .0) (all-known .ensures) (if2 .taken) (is-met .ensures) (if3 .left)
-    (solve .ensures)
-
-solve-way-count-requires : (t : ℕ) → solve-lts.Need-way-count-requires (
-  wide-reads.Asked,
-  wide-reads.Learnt,
-  all-known-reads.Asked,
-  all-known-reads.Learnt,
-  is-met-reads.Asked,
-  is-met-reads.Learnt,
-  solve-below t,
-  solve.Post,
-  way-count-reads.Asked,
-  way-count-reads.Learnt,
-  attempt-reads.Asked,
-  attempt-reads.Learnt,
-) (solve-at t) solve.Post solve-Inv-loop solve-μ-loop
-solve-way-count-requires t c κs =
-    let p = c .before .before .before .before .before .before .before .before .before .pre .1 in
-    omega (arith, p .1 .0 .room)
-
-solve-loop-holds : (t : ℕ) → solve-lts.Need-loop-holds (
-  wide-reads.Asked,
-  wide-reads.Learnt,
-  all-known-reads.Asked,
-  all-known-reads.Learnt,
-  is-met-reads.Asked,
-  is-met-reads.Learnt,
-  solve-below t,
-  solve.Post,
-  way-count-reads.Asked,
-  way-count-reads.Learnt,
-  attempt-reads.Asked,
-  attempt-reads.Learnt,
-) (solve-at t) solve.Post solve-Inv-loop solve-μ-loop
-solve-loop-holds t c =
-    trying-start
-
-solve-mul-attempt : (t : ℕ) → solve-lts.Need-mul-attempt (
-  wide-reads.Asked,
-  wide-reads.Learnt,
-  all-known-reads.Asked,
-  all-known-reads.Learnt,
-  is-met-reads.Asked,
-  is-met-reads.Learnt,
-  solve-below t,
-  solve.Post,
-  way-count-reads.Asked,
-  way-count-reads.Learnt,
-  attempt-reads.Asked,
-  attempt-reads.Learnt,
-) (solve-at t) solve.Post solve-Inv-loop solve-μ-loop
-solve-mul-attempt t c =
-    let p = c .before .before .before .before .before .before .before .before .before .before .before .before .before .pre .1 in
-    omega (arith, p .0 .few, p .1 .1 .1)
-
-solve-attempt-requires : (t : ℕ) → solve-lts.Need-attempt-requires (
-  wide-reads.Asked,
-  wide-reads.Learnt,
-  all-known-reads.Asked,
-  all-known-reads.Learnt,
-  is-met-reads.Asked,
-  is-met-reads.Learnt,
-  solve-below t,
-  solve.Post,
-  way-count-reads.Asked,
-  way-count-reads.Learnt,
-  attempt-reads.Asked,
-  attempt-reads.Learnt,
-) (solve-at t) solve.Post solve-Inv-loop solve-μ-loop
-solve-attempt-requires t c κs =
-    let p = c .before .before .before .before .before .before .before .before .before .before .before .before .before .pre .1 in
+    let solving = past .before .pre .1 in
+    trying-start solving (if1 .left) (wide .ensures .0) (variables-of2 .ensures) (way-count .ensures))
+    -- mul-attempt
+    (λ c. let past = c .before .before .before .before .before .before .before .before .before .before .before .before .before .before .before .before in
+    let solving = past .before .before .before .before .pre .1 in
+    omega (arith, solving .tabled .few, solving .most))
+    -- attempt-requires
+    (λ c κs. let past = c .before .before .before .before .before .before .before .before .before .before .before .before .before .before .before .before in
+    let loop-test = c .before .loop-test in
     let loop = c .before .before .loop in
     let way-count = c .before .before .before .way-count in
-    let wide = c .before .before .before .before .before .before .wide in
-    let if1 = c .before .before .before .before .before .before .before .before .if1 in (
-      p .1 .0 .room,
+    let solving = past .before .before .before .before .pre .1 in (
+      solving .sorted .room,
       (
-        p .0 .tab-room,
-        (
-          omega (arith, way-count .ensures, c .before .loop-test .taken),
-          (
-            slots-at (p .0) (omega (arith, p .1 .1 .1, if1 .left)) (wide .ensures .0),
-            (
-              trying-replacing (p .0) (p .1 .1 .0) (omega (arith, p .1 .1 .1, if1 .left)) (wide .ensures .0) (loop .inv) (way-count .ensures) .room,
-              omega (arith, p .0 .few, p .1 .1 .1),
-            ),
-          ),
-        ),
+        solving .tabled .tab-room,
+        (omega (arith, way-count .ensures, loop-test .taken), (level-slots (loop .inv .level), (trying-room (loop .inv), omega (arith, solving .tabled .few, solving .most)))),
       ),
-    )
-
-solve-add-solve-2 : (t : ℕ) → solve-lts.Need-add-solve-2 (
-  wide-reads.Asked,
-  wide-reads.Learnt,
-  all-known-reads.Asked,
-  all-known-reads.Learnt,
-  is-met-reads.Asked,
-  is-met-reads.Learnt,
-  solve-below t,
-  solve.Post,
-  way-count-reads.Asked,
-  way-count-reads.Learnt,
-  attempt-reads.Asked,
-  attempt-reads.Learnt,
-) (solve-at t) solve.Post solve-Inv-loop solve-μ-loop
-solve-add-solve-2 t c =
-    let p = c .before .before .before .before .before .before .before .before .before .before .before .before .before .before .before .before .before .before .pre .1 in
-    omega (arith, p .0 .few, p .1 .1 .1)
-
-solve-solve-requires-2 : (t : ℕ) → solve-lts.Need-solve-requires-2 (
-  wide-reads.Asked,
-  wide-reads.Learnt,
-  all-known-reads.Asked,
-  all-known-reads.Learnt,
-  is-met-reads.Asked,
-  is-met-reads.Learnt,
-  solve-below t,
-  solve.Post,
-  way-count-reads.Asked,
-  way-count-reads.Learnt,
-  attempt-reads.Asked,
-  attempt-reads.Learnt,
-) (solve-at t) solve.Post solve-Inv-loop solve-μ-loop
-solve-solve-requires-2 t c κs =
-    let o = c .before .before .before .before .before .before .before .before .before .before .before .before .before .before .before .before .before .before .pre in
-    let p = o .1 in
-    let attempt = c .before .before .before .before .attempt in
-    let loop-test = c .before .before .before .before .before .before .loop-test in
-    let loop = c .before .before .before .before .before .before .before .loop in
-    let way-count = c .before .before .before .before .before .before .before .before .way-count in
-    let wide = c .before .before .before .before .before .before .before .before .before .before .before .wide in
-    let if1 = c .before .before .before .before .before .before .before .before .before .before .before .before .before .if1 in (
-      omega (arith, o .0, p .1 .1 .1, if1 .left),
-      (
-        p .0,
-        (
-          p .1 .0,
-          (
-            trying-next (p .0) (p .1 .1 .0) (omega (arith, p .1 .1 .1, if1 .left)) (wide .ensures .0) (loop .inv) (way-count .ensures) (loop-test .taken)
-                (attempt .ensures) (attempt .kept .1 .1 .0) (c .before .if4 .taken),
-            omega (arith, p .1 .1 .1, if1 .left),
-          ),
-        ),
-      ),
-    )
-
-solve-same-length-3 : (t : ℕ) → solve-lts.Need-same-length-3 (
-  wide-reads.Asked,
-  wide-reads.Learnt,
-  all-known-reads.Asked,
-  all-known-reads.Learnt,
-  is-met-reads.Asked,
-  is-met-reads.Learnt,
-  solve-below t,
-  solve.Post,
-  way-count-reads.Asked,
-  way-count-reads.Learnt,
-  attempt-reads.Asked,
-  attempt-reads.Learnt,
-) (solve-at t) solve.Post solve-Inv-loop solve-μ-loop
-solve-same-length-3 t c =
-    let solve2 = c .before .before .before .solve2 in
-    let attempt = c .before .before .before .before .before .before .before .before .attempt in
-    let loop = c .before .before .before .before .before .before .before .before .before .before .before .loop in
-    solve2 .kept .1 .1 .1 .0 ∙ attempt .kept .1 .1 .0 ∙ loop .inv .length-kept
-
-solve-returns-4 : (t : ℕ) → solve-lts.Need-returns-4 (
-  wide-reads.Asked,
-  wide-reads.Learnt,
-  all-known-reads.Asked,
-  all-known-reads.Learnt,
-  is-met-reads.Asked,
-  is-met-reads.Learnt,
-  solve-below t,
-  solve.Post,
-  way-count-reads.Asked,
-  way-count-reads.Learnt,
-  attempt-reads.Asked,
-  attempt-reads.Learnt,
-) (solve-at t) solve.Post solve-Inv-loop solve-μ-loop
-solve-returns-4 t c =
-    let p = c .before .before .before .before .before .before .before .before .before .before .before .before .before .before .before .before .before .before .before .before .before .before .pre .1 in
-    let solve2 = c .before .before .before .solve2 in
-    let if4 = c .before .before .before .before .before .if4 in
-    let attempt = c .before .before .before .before .before .before .before .before .attempt in
-    let loop-test = c .before .before .before .before .before .before .before .before .before .before .loop-test in
-    let loop = c .before .before .before .before .before .before .before .before .before .before .before .loop in
-    let way-count = c .before .before .before .before .before .before .before .before .before .before .before .before .way-count in
-    let past-12 = c .before .before .before .before .before .before .before .before .before .before .before .before in
-    let wide = past-12 .before .before .before .wide in
-    let if1 = past-12 .before .before .before .before .before .if1 in
-    trying-hit (p .0) (p .1 .1 .0) (omega (arith, p .1 .1 .1, if1 .left)) (wide .ensures .0) (loop .inv) (way-count .ensures) (loop-test .taken)
-    (attempt .ensures) (attempt .kept .1 .1 .0) (if4 .taken) (solve2 .ensures) (solve2 .kept .1 .1 .1 .0) (c .if5 .taken)
-
-solve-add-j : (t : ℕ) → solve-lts.Need-add-j (
-  wide-reads.Asked,
-  wide-reads.Learnt,
-  all-known-reads.Asked,
-  all-known-reads.Learnt,
-  is-met-reads.Asked,
-  is-met-reads.Learnt,
-  solve-below t,
-  solve.Post,
-  way-count-reads.Asked,
-  way-count-reads.Learnt,
-  attempt-reads.Asked,
-  attempt-reads.Learnt,
-) (solve-at t) solve.Post solve-Inv-loop solve-μ-loop
-solve-add-j t c =
-    search needs
-
-solve-loop-less : (t : ℕ) → solve-lts.Need-loop-less (
-  wide-reads.Asked,
-  wide-reads.Learnt,
-  all-known-reads.Asked,
-  all-known-reads.Learnt,
-  is-met-reads.Asked,
-  is-met-reads.Learnt,
-  solve-below t,
-  solve.Post,
-  way-count-reads.Asked,
-  way-count-reads.Learnt,
-  attempt-reads.Asked,
-  attempt-reads.Learnt,
-) (solve-at t) solve.Post solve-Inv-loop solve-μ-loop
-solve-loop-less t c =
-    omega (arith, c .before .before .before .before .before .before .before .before .before .before .loop-test .taken)
-
-solve-loop-again : (t : ℕ) → solve-lts.Need-loop-again (
-  wide-reads.Asked,
-  wide-reads.Learnt,
-  all-known-reads.Asked,
-  all-known-reads.Learnt,
-  is-met-reads.Asked,
-  is-met-reads.Learnt,
-  solve-below t,
-  solve.Post,
-  way-count-reads.Asked,
-  way-count-reads.Learnt,
-  attempt-reads.Asked,
-  attempt-reads.Learnt,
-) (solve-at t) solve.Post solve-Inv-loop solve-μ-loop
-solve-loop-again t c =
-    let p = c .before .before .before .before .before .before .before .before .before .before .before .before .before .before .before .before .before .before .before .before .before .before .pre .1 in
-    let solve2 = c .before .before .before .solve2 in
-    let if4 = c .before .before .before .before .before .if4 in
-    let attempt = c .before .before .before .before .before .before .before .before .attempt in
-    let loop-test = c .before .before .before .before .before .before .before .before .before .before .loop-test in
-    let loop = c .before .before .before .before .before .before .before .before .before .before .before .loop in
-    let way-count = c .before .before .before .before .before .before .before .before .before .before .before .before .way-count in
-    let past-12 = c .before .before .before .before .before .before .before .before .before .before .before .before in
-    let wide = past-12 .before .before .before .wide in
-    let if1 = past-12 .before .before .before .before .before .if1 in
-    trying-failed (p .0) (p .1 .1 .0) (omega (arith, p .1 .1 .1, if1 .left)) (wide .ensures .0) (loop .inv) (way-count .ensures) (loop-test .taken)
-    (attempt .ensures) (attempt .kept .1 .1 .0) (if4 .taken) (solve2 .ensures) (solve2 .kept .1 .1 .1 .0) (c .if5 .left)
-
-solve-add-j-2 : (t : ℕ) → solve-lts.Need-add-j-2 (
-  wide-reads.Asked,
-  wide-reads.Learnt,
-  all-known-reads.Asked,
-  all-known-reads.Learnt,
-  is-met-reads.Asked,
-  is-met-reads.Learnt,
-  solve-below t,
-  solve.Post,
-  way-count-reads.Asked,
-  way-count-reads.Learnt,
-  attempt-reads.Asked,
-  attempt-reads.Learnt,
-) (solve-at t) solve.Post solve-Inv-loop solve-μ-loop
-solve-add-j-2 t c =
-    search needs
-
-solve-loop-less-2 : (t : ℕ) → solve-lts.Need-loop-less-2 (
-  wide-reads.Asked,
-  wide-reads.Learnt,
-  all-known-reads.Asked,
-  all-known-reads.Learnt,
-  is-met-reads.Asked,
-  is-met-reads.Learnt,
-  solve-below t,
-  solve.Post,
-  way-count-reads.Asked,
-  way-count-reads.Learnt,
-  attempt-reads.Asked,
-  attempt-reads.Learnt,
-) (solve-at t) solve.Post solve-Inv-loop solve-μ-loop
-solve-loop-less-2 t c =
-    omega (arith, c .before .before .before .before .before .loop-test .taken)
-
-solve-loop-again-2 : (t : ℕ) → solve-lts.Need-loop-again-2 (
-  wide-reads.Asked,
-  wide-reads.Learnt,
-  all-known-reads.Asked,
-  all-known-reads.Learnt,
-  is-met-reads.Asked,
-  is-met-reads.Learnt,
-  solve-below t,
-  solve.Post,
-  way-count-reads.Asked,
-  way-count-reads.Learnt,
-  attempt-reads.Asked,
-  attempt-reads.Learnt,
-) (solve-at t) solve.Post solve-Inv-loop solve-μ-loop
-solve-loop-again-2 t c =
-    let p = c .before .before .before .before .before .before .before .before .before .before .before .before .before .before .before .before .before .pre .1 in
+    ))
+    -- add-solve-2
+    (λ c. let past = c .before .before .before .before .before .before .before .before .before .before .before .before .before .before .before .before in
+    let solving = past .before .before .before .before .before .before .before .before .before .before .pre .1 in
+    omega (arith, solving .tabled .few, solving .most))
+    -- solve-requires-2
+    (λ c κs. let past = c .before .before .before .before .before .before .before .before .before .before .before .before .before .before .before .before in
+    let if5 = c .before .before .if5 in
+    let attempt = c .before .before .before .before .before .attempt in
+    let loop-test = c .before .before .before .before .before .before .before .loop-test in
+    let loop = c .before .before .before .before .before .before .before .before .loop in
+    let if1 = past .before .before .before .before .if1 in
+    let pre = past .before .before .before .before .before .before .before .before .before .before .pre in
+    let solving = past .before .before .before .before .before .before .before .before .before .before .pre .1 in
+    (omega (arith, pre .0, solving .most, if1 .left), trying-next (loop .inv) (loop-test .taken) (attempt .ensures) (attempt .kept .1 .1 .0) (if5 .taken)))
+    (λ c κs. search needs)
+    -- same-length-6
+    (λ c. let solve2 = c .before .before .before .before .before .before .solve2 in
+    let attempt = c .before .before .before .before .before .before .before .before .before .before .before .before .attempt in
+    let loop = c .before .before .before .before .before .before .before .before .before .before .before .before .before .before .before .loop in
+    solve2 .kept .1 .1 .1 .0 ∙ attempt .kept .1 .1 .0 ∙ loop .inv .length-kept)
+    -- same-length-7
+    (λ c. let solve2 = c .before .before .before .before .before .before .solve2 in
+    let loop = c .before .before .before .before .before .before .before .before .before .before .before .before .before .before .before .loop in
+    solve2 .kept .1 .1 .1 .1 .0 ∙ loop .inv .store-kept)
+    -- returns-5
+    (λ c. let if6 = c .if6 in
+    let is-handed-up = c .before .is-handed-up in
+    let solve2 = c .before .before .before .before .before .before .solve2 in
+    let if5 = c .before .before .before .before .before .before .before .before .before .if5 in
+    let attempt = c .before .before .before .before .before .before .before .before .before .before .before .before .attempt in
+    let loop-test = c .before .before .before .before .before .before .before .before .before .before .before .before .before .before .loop-test in
+    let loop = c .before .before .before .before .before .before .before .before .before .before .before .before .before .before .before .loop in
+    trying-up (loop .inv) (loop-test .taken) (attempt .ensures) (attempt .kept .1 .1 .0) (if5 .taken) (solve2 .ensures) (is-handed-up .ensures) (if6 .taken))
+    (λ c κs. search needs) (λ c. search needs)
+    -- loop-less
+    (λ c. let loop-test = c .before .before .before .before .before .before .before .before .before .before .before .before .before .before .before .loop-test in
+    omega (arith, loop-test .taken))
+    -- loop-again
+    (λ c. let mask-of = c .mask-of in
+    let if6 = c .before .if6 in
+    let is-handed-up = c .before .before .is-handed-up in
+    let solve2 = c .before .before .before .before .before .before .before .solve2 in
+    let if5 = c .before .before .before .before .before .before .before .before .before .before .if5 in
+    let attempt = c .before .before .before .before .before .before .before .before .before .before .before .before .before .attempt in
+    let loop-test = c .before .before .before .before .before .before .before .before .before .before .before .before .before .before .before .loop-test in
+    let loop = c .before .before .before .before .before .before .before .before .before .before .before .before .before .before .before .before .loop in
+    trying-failed (loop .inv) (loop-test .taken) (attempt .ensures) (attempt .kept .1 .1 .0) (if5 .taken) (solve2 .ensures) (is-handed-up .ensures) (if6 .left)
+    (mask-of .ensures) (solve2 .kept .1 .1 .1 .0) (solve2 .kept .1 .1 .1 .1 .0))
+    (λ c. search needs)
+    -- loop-less-2
+    (λ c. let loop-test = c .before .before .before .before .before .loop-test in
+    omega (arith, loop-test .taken))
+    -- loop-again-2
+    (λ c. let if5 = c .if5 in
     let attempt = c .before .before .before .attempt in
     let loop-test = c .before .before .before .before .before .loop-test in
     let loop = c .before .before .before .before .before .before .loop in
-    let way-count = c .before .before .before .before .before .before .before .way-count in
-    let wide = c .before .before .before .before .before .before .before .before .before .before .wide in
-    let if1 = c .before .before .before .before .before .before .before .before .before .before .before .before .if1 in
-    trying-misfit (p .0) (p .1 .1 .0) (omega (arith, p .1 .1 .1, if1 .left)) (wide .ensures .0) (loop .inv) (way-count .ensures) (loop-test .taken)
-    (attempt .ensures) (attempt .kept .1 .1 .0) (c .if4 .left)
-
-solve-same-length-4 : (t : ℕ) → solve-lts.Need-same-length-4 (
-  wide-reads.Asked,
-  wide-reads.Learnt,
-  all-known-reads.Asked,
-  all-known-reads.Learnt,
-  is-met-reads.Asked,
-  is-met-reads.Learnt,
-  solve-below t,
-  solve.Post,
-  way-count-reads.Asked,
-  way-count-reads.Learnt,
-  attempt-reads.Asked,
-  attempt-reads.Learnt,
-) (solve-at t) solve.Post solve-Inv-loop solve-μ-loop
-solve-same-length-4 t c =
-    c .before .loop .inv .length-kept
-
-solve-returns-5 : (t : ℕ) → solve-lts.Need-returns-5 (
-  wide-reads.Asked,
-  wide-reads.Learnt,
-  all-known-reads.Asked,
-  all-known-reads.Learnt,
-  is-met-reads.Asked,
-  is-met-reads.Learnt,
-  solve-below t,
-  solve.Post,
-  way-count-reads.Asked,
-  way-count-reads.Learnt,
-  attempt-reads.Asked,
-  attempt-reads.Learnt,
-) (solve-at t) solve.Post solve-Inv-loop solve-μ-loop
-solve-returns-5 t c =
-    let p = c .before .before .before .before .before .before .before .before .before .before .before .before .pre .1 in
-    let way-count = c .before .before .way-count in
-    let wide = c .before .before .before .before .before .wide in
-    let if1 = c .before .before .before .before .before .before .before .if1 in
-    trying-end (p .0) (p .1 .1 .0) (omega (arith, p .1 .1 .1, if1 .left)) (wide .ensures .0) (c .before .loop .inv) (way-count .ensures) (c .loop-test .left)
-
-pub +solve-spec : {M : Type 1} → statement M
-+solve-spec = close μ-solve λ t. solve-lts.spec (
-  wide-reads.Asked,
-  wide-reads.Learnt,
-  all-known-reads.Asked,
-  all-known-reads.Learnt,
-  is-met-reads.Asked,
-  is-met-reads.Learnt,
-  solve-below t,
-  solve.Post,
-  way-count-reads.Asked,
-  way-count-reads.Learnt,
-  attempt-reads.Asked,
-  attempt-reads.Learnt,
-)
-    (solve-at t)
-    solve.Post
-    solve-Inv-loop
-    solve-μ-loop
-    (solve-returns t)
-    (solve-mul-wide t)
-    (solve-shared-slice-read-wide t)
-    (solve-wide-requires t)
-    (solve-mul-all-known t)
-    (solve-all-known-requires t)
-    (solve-is-met-requires t)
-    (solve-same-length t)
-    (solve-returns-2 t)
-    (solve-add-solve t)
-    (solve-solve-requires t)
-    (solve-same-length-2 t)
-    (solve-returns-3 t)
-    (solve-way-count-requires t)
-    (solve-loop-holds t)
-    (solve-mul-attempt t)
-    (solve-attempt-requires t)
-    (solve-add-solve-2 t)
-    (solve-solve-requires-2 t)
-    (solve-same-length-3 t)
-    (solve-returns-4 t)
-    (solve-add-j t)
-    (solve-loop-less t)
-    (solve-loop-again t)
-    (solve-add-j-2 t)
-    (solve-loop-less-2 t)
-    (solve-loop-again-2 t)
-    (solve-same-length-4 t)
-    (solve-returns-5 t)
+    trying-misfit (loop .inv) (loop-test .taken) (attempt .ensures) (attempt .kept .1 .1 .0) (if5 .left))
+    -- remember-requires
+    (λ c κs. let past = c .before .before .before .before .before .before .before .before .before .before .before .before .before .before .before .before in
+    let loop = c .before .before .before .loop in
+    let solving = past .before .before .before .before .before .pre .1 in
+    (trying-room (loop .inv), (loop .inv .remembers .some, omega (arith, solving .tabled .few, solving .most))))
+    -- same-length-8
+    (λ c. let loop = c .before .before .before .before .before .before .loop in
+    loop .inv .length-kept)
+    -- same-length-9
+    (λ c. let remember = c .before .before .remember in
+    let loop = c .before .before .before .before .before .before .loop in
+    remember .kept .1 .0 ∙ loop .inv .store-kept)
+    -- returns-6
+    (λ c. let remember = c .before .before .remember in
+    let loop-test = c .before .before .before .before .before .loop-test in
+    let loop = c .before .before .before .before .before .before .loop in
+    trying-end (loop .inv) (loop-test .left) (remember .ensures) (remember .kept .1 .0))

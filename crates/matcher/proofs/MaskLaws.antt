@@ -1,0 +1,145 @@
+-- Masks are sets: or, and, one bit, the variables of a label.
+use mathlib.Core.Path.{_≡_, refl, sym, ap, _∙_}
+use mathlib.Core.Logic.{_⊎_, inl, inr}
+use mathlib.Core.Bool.{true}
+use Prim.Native.Nat.{ℕ, zero, suc, _+_, _-_, _*_, _/_, _%_, _^_, _≤_, _<_, min, max}
+use native.Mathlib.Omega.{arith}
+use lib.Pow.{shr-shr, shl-exact}
+use lib.Bits.{bitAnd, bitOr, and-step, or-step, shifted-half, shifted-even}
+use lib.Dec.{eqb}
+use borrow.Author.Tests.{eqb-true}
+use Rattle.label.specs.Limits.{firstVariable, variableCount, termBase, mostPlaces}
+use Rattle.matcher.specs.Search.{placeOf}
+use Rattle.matcher.specs.Failure.{bitAt, In, One, Variables}
+
+max-two : (a b : ℕ) → a < 2 → b < 2 → max a b < 2
+max-two a b h i = omega arith
+
+or-half : (a b : ℕ) → bitOr a b / 2 ≡ bitOr (a / 2) (b / 2)
+or-half a b = let e = or-step a b in let h = max-two (a % 2) (b % 2) (omega arith) (omega arith) in omega arith
+
+or-odd : (a b : ℕ) → bitOr a b % 2 ≡ max (a % 2) (b % 2)
+or-odd a b = let e = or-step a b in let h = max-two (a % 2) (b % 2) (omega arith) (omega arith) in omega arith
+
+and-half : (a b : ℕ) → bitAnd a b / 2 ≡ bitAnd (a / 2) (b / 2)
+and-half a b = let e = and-step a b in omega arith
+
+and-odd : (a b : ℕ) → bitAnd a b % 2 ≡ min (a % 2) (b % 2)
+and-odd a b = let e = and-step a b in omega arith
+
+bit-small : (v m : ℕ) → bitAt m v < 2
+unfolding bitAt
+bit-small zero m = omega arith
+bit-small (suc v) m = bit-small v (m / 2)
+
+or-bit : (v a b : ℕ) → bitAt (bitOr a b) v ≡ max (bitAt a v) (bitAt b v)
+unfolding bitAt
+or-bit zero a b = or-odd a b
+or-bit (suc v) a b = ap (λ (m : ℕ). bitAt m v) (or-half a b) ∙ or-bit v (a / 2) (b / 2)
+
+and-bit : (v a b : ℕ) → bitAt (bitAnd a b) v ≡ min (bitAt a v) (bitAt b v)
+unfolding bitAt
+and-bit zero a b = and-odd a b
+and-bit (suc v) a b = ap (λ (m : ℕ). bitAt m v) (and-half a b) ∙ and-bit v (a / 2) (b / 2)
+
+pub in-left : (v a b : ℕ) → In a v → In (bitOr a b) v
+in-left v a b h = let e = or-bit v a b in let k = bit-small v b in omega arith
+
+pub in-right : (v a b : ℕ) → In b v → In (bitOr a b) v
+in-right v a b h = let e = or-bit v a b in let k = bit-small v a in omega arith
+
+pub in-either : (v a b : ℕ) → In (bitOr a b) v → In a v ⊎ In b v
+in-either v a b h = go (bitAt a v) refl
+  where
+    go : (x : ℕ) → bitAt a v ≡ x → In a v ⊎ In b v
+    go zero e = inr (let q = or-bit v a b in omega arith)
+    go (suc zero) e = inl e
+    go (suc (suc x)) e = absurd (let k = bit-small v a in omega arith)
+
+pub in-both : (v a b : ℕ) → In a v → In b v → In (bitAnd a b) v
+in-both v a b h i = let e = and-bit v a b in omega arith
+
+pub in-first : (v a b : ℕ) → In (bitAnd a b) v → In a v
+in-first v a b h = let e = and-bit v a b in let k = bit-small v a in omega arith
+
+pub in-second : (v a b : ℕ) → In (bitAnd a b) v → In b v
+in-second v a b h = let e = and-bit v a b in let k = bit-small v b in omega arith
+
+pub in-part : (a b v : ℕ) → bitAnd a b ≡ a → In a v → In b v
+in-part a b v e h = in-second v a b (ap (λ (m : ℕ). bitAt m v) e ∙ h)
+
+-- ===== One bit =====
+pub bit-shift : (v m : ℕ) → m / 2 ^ v % 2 ≡ bitAt m v
+unfolding bitAt
+bit-shift zero m = let e : m / 1 ≡ m = omega arith in ap (λ (x : ℕ). x % 2) e
+bit-shift (suc v) m =
+    let e : suc v ≡ 1 + v = omega arith in
+    ap (λ (i : ℕ). m / 2 ^ i % 2) e ∙ ap (λ (x : ℕ). x % 2) (sym (shr-shr m 1 v)) ∙ bit-shift v (m / 2)
+
+pub has-is : (m v : ℕ) → eqb (m / 2 ^ v % 2) 1 ≡ eqb (bitAt m v) 1
+has-is m v = ap (λ (x : ℕ). eqb x 1) (bit-shift v m)
+
+pub part-is : (a b : ℕ) → eqb (bitAnd a b) a ≡ true → (v : ℕ) → In a v → In b v
+part-is a b e v h = in-part a b v (eqb-true (bitAnd a b) a e) h
+
+power-bit : (t v : ℕ) → bitAt (1 * 2 ^ t) v ≡ 1 → v ≡ t
+unfolding bitAt
+power-bit zero zero h = refl
+power-bit zero (suc v) h = absurd (none v h)
+  where
+    none : (v : ℕ) → bitAt 0 v ≡ 1 → ⊥
+    none zero h = omega arith
+    none (suc v) h = none v h
+power-bit (suc t) zero h = absurd (let e = shifted-even 1 t in omega arith)
+power-bit (suc t) (suc v) h = ap suc (power-bit t v (ap (λ (m : ℕ). bitAt m v) (sym (shifted-half 1 t)) ∙ h))
+
+power-in : (t : ℕ) → bitAt (1 * 2 ^ t) t ≡ 1
+unfolding bitAt
+power-in zero = refl
+power-in (suc t) = ap (λ (m : ℕ). bitAt m t) (shifted-half 1 t) ∙ power-in t
+
+shift-exact : (t : ℕ) → t < variableCount → 1 * 2 ^ t % 2 ^ 64 ≡ 1 * 2 ^ t
+shift-exact t h = shl-exact 1 t 64 (omega arith) (omega arith)
+
+pub zero-none : (i : ℕ) → In 0 i → ⊥
+unfolding bitAt
+zero-none zero h = omega arith
+zero-none (suc i) h = zero-none i h
+
+pub one-none : (t : ℕ) → t < firstVariable → One t 0
+one-none t h = record { has = λ i e. absurd (omega arith); only = λ i e. absurd (zero-none i e) }
+
+pub one-some : (t : ℕ) → firstVariable ≤ t → t < termBase → One t (1 * 2 ^ (t - firstVariable) % 2 ^ 64)
+one-some t f h = record {
+  has = λ i e. let o : t - firstVariable ≡ i = omega arith in ap (λ (m : ℕ). bitAt m i) (exact ∙ ap (λ (j : ℕ). 1 * 2 ^ j) o) ∙ power-in i;
+  only = λ i e. let o = power-bit (t - firstVariable) i (ap (λ (m : ℕ). bitAt m i) (sym exact) ∙ e) in omega arith;
+}
+  where
+    exact : 1 * 2 ^ (t - firstVariable) % 2 ^ 64 ≡ 1 * 2 ^ (t - firstVariable)
+    exact = shift-exact (t - firstVariable) (omega arith)
+
+-- ===== The variables of a label =====
+pub variables-is : (l : ℕ) {p q r s : ℕ} → One (placeOf l 0) p → One (placeOf l 1) q → One (placeOf l 2) r → One (placeOf l 3) s
+    → Variables l (bitOr (bitOr (bitOr p q) r) s)
+variables-is l {p} {q} {r} {s} a b c d = record { has = has; only = only }
+  where
+    has : (j i : ℕ) → placeOf l j ≡ firstVariable + i → In (bitOr (bitOr (bitOr p q) r) s) i
+    has zero i e = in-left i (bitOr (bitOr p q) r) s (in-left i (bitOr p q) r (in-left i p q (a .has i e)))
+    has (suc zero) i e = in-left i (bitOr (bitOr p q) r) s (in-left i (bitOr p q) r (in-right i p q (b .has i e)))
+    has (suc (suc zero)) i e = in-left i (bitOr (bitOr p q) r) s (in-right i (bitOr p q) r (c .has i e))
+    has (suc (suc (suc j))) i e = in-right i (bitOr (bitOr p q) r) s (d .has i e)
+
+    only : (i : ℕ) → In (bitOr (bitOr (bitOr p q) r) s) i → (j : ℕ) × (j < mostPlaces) × (placeOf l j ≡ firstVariable + i)
+    only i h = last (in-either i (bitOr (bitOr p q) r) s h)
+      where
+        first : In p i ⊎ In q i → (j : ℕ) × (j < mostPlaces) × (placeOf l j ≡ firstVariable + i)
+        first (inl o) = (0, omega arith, a .only i o)
+        first (inr o) = (1, omega arith, b .only i o)
+
+        third : In (bitOr p q) i ⊎ In r i → (j : ℕ) × (j < mostPlaces) × (placeOf l j ≡ firstVariable + i)
+        third (inl o) = first (in-either i p q o)
+        third (inr o) = (2, omega arith, c .only i o)
+
+        last : In (bitOr (bitOr p q) r) i ⊎ In s i → (j : ℕ) × (j < mostPlaces) × (placeOf l j ≡ firstVariable + i)
+        last (inl o) = third (in-either i (bitOr p q) r o)
+        last (inr o) = (3, omega arith, d .only i o)
