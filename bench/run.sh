@@ -12,6 +12,9 @@ target/bench/main
 # all cuts of the first value diagram of examples/logistics.txt; the arities are those of on, tin, bin and rain
 rustc --edition 2021 -C opt-level=3 -o target/bench/cuts bench/cuts.rs -L target/staticlib -l static=c_library
 target/bench/cuts 2 2 2 0 <bench/logistics.rows
+# two of the long cuts of host/corpus/cut-long: no edge may go
+target/bench/cuts 2 <bench/chain.rows
+target/bench/cuts 2 <bench/ladder.rows
 # and, or beside BuDDy, where its header is there
 if echo '#include <bdd.h>' | cc -E - >target/bench/bdd.i 2>&1; then
     cc -O2 -Wall -Wextra -Iinclude -o target/bench/buddy bench/buddy.c target/staticlib/libc_library.a -lbdd
