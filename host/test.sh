@@ -148,7 +148,7 @@ program_at_its_ends() {
     printf 'x\n' | "$program" >target/said || return 1
     prints $'(refused 1 1)\n(refused 5 0)' cat target/said || return 1
     if [ -w /dev/full ]; then "$program" <../examples/sample.txt >/dev/full || return 1; fi
-    "$program" <. >target/said && prints "" cat target/said || return 1
+    "$program" <. >target/said 2>target/told && prints "" cat target/said && prints "yindolve: the input cannot be read" cat target/told || return 1
     printf '\n\n' | "$program" >target/said && prints "" cat target/said || return 1
     yes '(show)' | head -n 100000 | "$program" | head -n 1 >target/said
     status=("${PIPESTATUS[@]}")
