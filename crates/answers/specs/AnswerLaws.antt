@@ -4,7 +4,6 @@ use mathlib.Core.Path.{_≡_}
 use mathlib.Core.Bool.{Bool, true, false, cond}
 use mathlib.Core.List.{List, _++_}
 use native.Mathlib.Omega.{arith}
-use borrow.Author.Tests.{le-leb}
 use lib.Dec.{eqb}
 use lib.ListN.{length, getD, length-append}
 use Rattle.refusal.specs.declared.Refusal.{Refusal}
@@ -35,10 +34,9 @@ use Rattle.cutting.specs.declared.Edge.{Edge}
 use Rattle.cutting.specs.declared.Edge.the-variants.{True, False}
 use Rattle.answers.specs.declared.Answer.{Answer}
 use Rattle.answers.specs.declared.Answer.the-variants.{Value, Backup, Cut, Refused, Show, Nothing}
-use Rattle.answers.specs.declared.Put.the-variants.{At}
 use Rattle.answers.specs.DigitLaws.{digits-short}
 use Rattle.answers.specs.Answers.{field, edgeField, leafField, lineEnd, valueHead, backupHead, cutHead, refusedHead, rowHead, answerLine, rowLine, rowLineAt, rowLines, answerBytes}
-use Rattle.answers.specs.Writing.{IsWord, OfWords, lineBytes, mostBytes, putAnswer}
+use Rattle.answers.specs.Writing.{IsWord, OfWords, lineBytes, mostBytes}
 
 field-short : (v : ℕ) → IsWord v → length (field v) ≤ 21
 unfolding field
@@ -126,9 +124,3 @@ answer-short ws (Cut i e n) g h = omega (arith, line-short (Cut i e n) h)
 answer-short ws (Refused r line) g h = omega (arith, line-short (Refused r line) h)
 answer-short ws (Show n) g h = omega (arith, rows-short ws n g (omega arith))
 answer-short ws Nothing g h = omega arith
-
--- so a buffer with as many bytes left takes it
-pub answer-fits : (ws : List ℕ) (a : Answer) (room place : ℕ) → ((i : ℕ) → IsWord (getD ws i 0)) → OfWords a → place + mostBytes ≤ room
-    → putAnswer room place (answerBytes ws a) ≡ At (place + length (answerBytes ws a))
-unfolding putAnswer
-answer-fits ws a room place g h l = rw (le-leb (place + length (answerBytes ws a)) room (omega (arith, answer-short ws a g h)))

@@ -15,7 +15,7 @@
 -- Theorems
 --   digits-read: the digits of a number read back as it
 --   digits-number: and are a number as texts have it
---   answer-fits: an answer of machine words, of at most 1,024 rows, has at most mostBytes bytes: a buffer with so many left takes it
+--   answer-short: an answer of machine words, of at most 1,024 rows, has at most mostBytes bytes
 --
 -- The rest of Writing has inner contracts.
 

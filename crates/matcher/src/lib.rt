@@ -21,12 +21,12 @@ ghost use Rattle.matcher.specs.Failure.{bitAt, In, One, Variables, Same,
 ghost use Rattle.matcher.specs.Failure.{isFound, isWeary, maskOf, HandedUp, Solving, SolvePost, Decidable, Decided};
 
 // A word for each term.
-const TERMS: usize = 64;
+const TERMS: usize = Term::BASE as usize;
 
-const FIRST_VARIABLE: usize = 32;
+const FIRST_VARIABLE: usize = Term::FIRST_VARIABLE as usize;
 
 // What the predicate of a literal's number is multiplied by; below it are the equalities.
-const LITERAL_WEIGHT: u64 = 33554432;
+const LITERAL_WEIGHT: u64 = Label::PREDICATE_WEIGHT * 2;
 
 // The words of a path: a mark for each term, and behind them at most 255 literals.
 const PATH_WORDS: usize = 320;

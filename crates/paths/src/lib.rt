@@ -1,5 +1,6 @@
 // The paths of a listing by their numbers, true branch first: how many there are, their leaves, sides and literals.
 use label::Label;
+use label::Term;
 ghost use mathlib.Core.Path.{_≡_};
 ghost use Prim.Native.Nat.{_+_, _-_, _*_, _<_, _≤_, min};
 ghost use lib.ListN.{length};
@@ -15,7 +16,7 @@ pub const PATHS: usize = 256;
 // What is counted where there are more.
 const MANY: u64 = 257;
 // A mark for each term stands before the literals of a path.
-const MARKS: usize = 64;
+const MARKS: usize = Term::BASE as usize;
 
 // A place on a path: a row, which of its paths, and the literal that led to it.
 struct Here {

@@ -1,5 +1,6 @@
 // The walk of pairs of a combination, and the plan that it writes into lent space.
 use apply::Operation;
+use label::Label;
 ghost use mathlib.Core.Path.{_≡_};
 ghost use mathlib.Core.Bool.{false};
 ghost use mathlib.Core.List.{[]};
@@ -17,7 +18,7 @@ pub const BUCKETS: usize = 4096;
 // The words of an entry of the plan.
 pub const ENTRY_WORDS: usize = 5;
 // A leaf's first word.
-const LEAF: u64 = 4294967295;
+const LEAF: u64 = Label::LEAF;
 // In a packed answer the number of a pair stands below the count of pairs.
 const PACK_BASE: usize = 65536;
 // The packed answer where the pairs are too many.

@@ -1,12 +1,12 @@
 -- What the code of terms and variables needs to know.
 use Prim.Native.Nat.{ℕ, _+_, _*_, _≤_, _<_, min}
-use mathlib.Core.Path.{_≡_, refl, sym, ap, _∙_}
+use mathlib.Core.Path.{_≡_, refl, sym, ap, subst, _∙_}
 use mathlib.Core.List.{List}
 use native.Mathlib.Omega.{arith}
 use borrow.Author.Tests.{le-leb, lt-leb}
 use Rattle.refusal.specs.declared.Refusal.the-variants.{Name, Unbound}
 use Rattle.label.specs.Limits.{constantCount, parameterCount, variableCount}
-use Rattle.label.specs.Terms.{variableTerm}
+use Rattle.label.specs.Terms.{constantTerm, parameterTerm, variableTerm}
 use Rattle.words.specs.declared.Key.{Key}
 use Rattle.names.specs.Keys.{keysAt, placeOf, putKey}
 use Rattle.names.specs.KeyLaws.{length-keys, among-at, among-none, keys-more, length-put}
@@ -26,25 +26,23 @@ module _ (ns : List ℕ) (n : ℕ) (k : Key) {i : ℕ} where
   unfolding constantNumber
   constant-none q h = record { answer = rw (among-none ns constantsAt n k q h); below = tt }
 
-  pub constant-is : i ≡ placeOf k (keysAt ns constantsAt n) → i < n → n ≤ constantCount → Resolves (constantNumber (keysAt ns constantsAt n) k) (R.Number i)
+  pub constant-is : i ≡ placeOf k (keysAt ns constantsAt n) → i < n → n ≤ constantCount → {v : ℕ} → v ≡ constantTerm i
+      → Resolves (constantNumber (keysAt ns constantsAt n) k) (R.Number v)
   unfolding constantNumber
-  constant-is q h l = record { answer = rw (among-at ns constantsAt n k q h, ← q); below = omega arith }
+  constant-is q h l e = subst (λ (x : ℕ). Resolves (constantNumber (keysAt ns constantsAt n) k) (R.Number x)) (sym e)
+      (record { answer = rw (among-at ns constantsAt n k q h, ← q); below = omega arith })
 
   pub parameter-none : i ≡ placeOf k (keysAt ns parametersAt n) → n ≤ i → Resolves (parameterNumber (keysAt ns parametersAt n) k) (R.Refused Unbound)
   unfolding parameterNumber
   parameter-none q h = record { answer = rw (among-none ns parametersAt n k q h); below = tt }
 
-  pub parameter-is : i ≡ placeOf k (keysAt ns parametersAt n) → i < n → n ≤ parameterCount → Resolves (parameterNumber (keysAt ns parametersAt n) k) (R.Number (16 + i))
+  pub parameter-is : i ≡ placeOf k (keysAt ns parametersAt n) → i < n → n ≤ parameterCount → {v : ℕ} → v ≡ parameterTerm i
+      → Resolves (parameterNumber (keysAt ns parametersAt n) k) (R.Number v)
   unfolding parameterNumber
-  parameter-is q h l = record { answer = rw (among-at ns parametersAt n k q h, ← q); below = omega arith }
+  parameter-is q h l e = subst (λ (x : ℕ). Resolves (parameterNumber (keysAt ns parametersAt n) k) (R.Number x)) (sym e)
+      (record { answer = rw (among-at ns parametersAt n k q h, ← q); below = omega arith })
 
 -- a variable's number
-
-pub at-last : (i : ℕ) → lastVariable ≤ i → 63 ≡ variableTerm (min i lastVariable)
-at-last i h = omega arith
-
-pub at-own : (i : ℕ) → i < lastVariable → 32 + i ≡ variableTerm (min i lastVariable)
-at-own i h = omega arith
 
 module _ (vs : List ℕ) (n : ℕ) (k : Key) {i v : ℕ} (q : i ≡ placeOf k (keysAt vs 0 n)) where
   number-is : v ≡ variableTerm (min i lastVariable) → v ≡ numberIn (keysAt vs 0 n) k

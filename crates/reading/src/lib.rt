@@ -249,7 +249,8 @@ fn constant_number(names: &[u64], n: usize, key: Key) -> Resolved
     if n <= i {
         return Resolved::Refused(Refusal::Name);
     }
-    Resolved::Number(i as u64)
+    let t = Term::constant(i as u64);
+    Resolved::Number(t.number)
 }
 
 // A parameter's number.
@@ -262,7 +263,8 @@ fn parameter_number(names: &[u64], n: usize, key: Key) -> Resolved
     if n <= i {
         return Resolved::Refused(Refusal::Unbound);
     }
-    Resolved::Number(Term::FIRST_PARAMETER + i as u64)
+    let t = Term::parameter(i as u64);
+    Resolved::Number(t.number)
 }
 
 // The number of variable i; past the last one's place that of the last.
@@ -270,9 +272,11 @@ fn variable_at(i: usize) -> u64
     ensures { λ r. ⌜ r ≡ variableTerm (min i lastVariable) ⌝ }
 {
     if LAST_VARIABLE <= i {
-        return Term::FIRST_VARIABLE + LAST_VARIABLE as u64;
+        let last = Term::variable(LAST_VARIABLE as u64);
+        return last.number;
     }
-    Term::FIRST_VARIABLE + i as u64
+    let t = Term::variable(i as u64);
+    t.number
 }
 
 // The number of a variable that is in the table.

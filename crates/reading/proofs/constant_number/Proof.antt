@@ -12,4 +12,4 @@ returns-2 c = search constant-is
 
 pub constant-number-spec : {M : Type 1} → statement M
 constant-number-spec =
-    tie.close (tie.spec (λ c κs. search needs) returns returns-2)
+    tie.close (tie.spec (λ c κs. search needs) returns (λ c κs. search needs) returns-2)

@@ -12,4 +12,4 @@ returns-2 c = search parameter-is
 
 pub parameter-number-spec : {M : Type 1} → statement M
 parameter-number-spec =
-    tie.close (tie.spec (λ c κs. search needs) returns (λ c. search needs) returns-2)
+    tie.close (tie.spec (λ c κs. search needs) returns (λ c κs. search needs) returns-2)
