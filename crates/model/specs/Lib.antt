@@ -8,7 +8,6 @@
 --   variantsOf, actionAt == how many variants an action has; the action
 --   Head, rewardWords, modelOf == the model's numbers; the words of its reward; the model that the words are
 --
--- The rest of Layout (LaidVariant, LaidAction, Laid: a model laid out as reading leaves it) and Checks have inner contracts.
+-- The rest of Layout (LaidVariant, LaidAction, Laid: a model laid out as reading leaves it) has inner contracts.
 
-pub mod Checks
 pub mod Layout
