@@ -1,4 +1,4 @@
--- The limits of terms and labels, and how a label is packed: each number of document 01, section 'Terms, labels, listings', stands here once.
+-- The limits of terms and labels, and how a label is packed: the numbers of document 01, section 'Terms, labels, listings', by name.
 use Prim.Native.Nat.{ℕ}
 
 -- a term is a constant (numbers 0 to 15), an action parameter (16 to 19) or a variable (32 to 63)

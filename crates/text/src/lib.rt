@@ -1,4 +1,4 @@
-// The lines of a text: their forms, and the words of an accepted line one after another.
+// The lines of a text: read for their form, and their kind.
 use forms::Sort;
 use words::Key;
 use words::Took;
