@@ -1,4 +1,4 @@
-// Standard input and output, counted. The fields of a Tally are this crate's own, and only `start`, `read` and `write` make one: so a tally says what these calls were given and answered.
+// Standard input and output, counted. The fields of a Tally are this crate's own, and only `start`, `read` and `write` make one: it counts the calls of the chain that it came from; other calls may have been made.
 use libc::STDERR_FILENO;
 use libc::STDIN_FILENO;
 use libc::STDOUT_FILENO;

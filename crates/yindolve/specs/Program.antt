@@ -48,7 +48,7 @@ pub record Finishes (t : Tally) (count : ℕ) (p : Position) (out : List ℕ) (r
   pub ended : t .flow ≡ Ended → (w : Memory) (s : List ℕ) → length s ≡ count → Writes t (length (allBytes (afterRest (progressOf p w out) s))) r
   pub other : (t .flow ≡ Ended → ⊥) → r ≡ t
 
--- a text of so many bytes has answers of so many bytes, or had before its end
+-- some text of so many bytes has answers of so many bytes, or had before its end: counts only; which bytes are handed to the output is read off the code
 pub record Answers (read written : ℕ) : Type 0 where
   pub text : List ℕ
   pub long : length text ≡ read
@@ -59,8 +59,8 @@ pub record AnswersSoFar (read written : ℕ) : Type 0 where
   pub long : length text ≡ read
   pub answers : length (onBytes streamStart text .progress .bytes) ≡ written
 
--- the input is read to its end, and all answers of the text are written; or a read failed, and those of its lines are written, and no closing answer; or a
--- write failed; or the bytes read have no number
+-- the input is read to its end, and as many bytes are written as all answers of such a text have; or a read failed, and as many as its lines have, without the
+-- closing answer; or a write failed; or the bytes read have no number
 pub record Ends (room : ℕ) (r : Tally) : Type 0 where
   pub over : r .flow ≡ Open → ⊥
   pub ended : r .flow ≡ Ended → Answers (r .read) (r .written)
