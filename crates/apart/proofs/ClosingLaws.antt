@@ -9,7 +9,7 @@ use lib.ListN.{length, take, drop}
 use lib.Seq.{length-take-le}
 use lib.Dec.{eqb}
 use Rattle.basics.specs.Members.{mem}
-use Rattle.label.specs.Limits.{firstVariable, termBase}
+use Rattle.label.specs.Limits.{firstVariable, termEnd}
 use Rattle.label.specs.LabelLaws.{term-below}
 use Rattle.label.specs.Renamings.{mapOf, renamed, numbering, Increasing, EachIn}
 use Rattle.label.specs.RenamingLaws.{Numbered, numbering-increasing}
@@ -41,9 +41,9 @@ pub used-marks : {ar : List ℕ} {d : Diagram} {used : List ℕ} → Used ar d u
 used-marks u = record { whole = omega (arith, u .whole); mark = u .each }
 
 module _ (ar : List ℕ) (d : Diagram) (good : Good ar d) (used : List ℕ) (marks : Marks ar d used) (m : ℕ) (low : firstVariable ≤ m)
-    (room : m + length (variables ar d) ≤ termBase) (rest : List ℕ) where
+    (room : m + length (variables ar d) ≤ termEnd) (rest : List ℕ) where
   abbrev Ts : List ℕ
-  Ts = tabled (closeAt used m) termBase ++ rest
+  Ts = tabled (closeAt used m) termEnd ++ rest
 
   abbrev P : ℕ → Type 0
   P = Numbered (variables ar d)
@@ -85,10 +85,10 @@ module _ {ar ws used : List ℕ} {first : ℕ} {s heads links : List ℕ} {count
   good : Good ar (diagramOf ws)
   good = good-diagram ar ws (g .valid)
 
-  pub enter-closable : (ts : List ℕ) → termBase ≤ length ts → rename.Closable used first ts
+  pub enter-closable : (ts : List ℕ) → termEnd ≤ length ts → rename.Closable used first ts
   enter-closable ts h = marks-closable ar (diagramOf ws) used first ts (used-marks (g .marks)) h (g .room)
 
-  module _ (rest : List ℕ) {ts : List ℕ} (p : ts ≡ tabled (closeAt used first) termBase ++ rest) where
+  module _ (rest : List ℕ) {ts : List ℕ} (p : ts ≡ tabled (closeAt used first) termEnd ++ rest) where
     pub enter-loadable : Loadable ar ws ts s heads links count numbers
     enter-loadable = record {
       listing = valid-is-listing ar ws (g .valid);
@@ -117,13 +117,13 @@ module _ {ar out : List ℕ} {m : ℕ} (g : Closable ar out m) {used : List ℕ}
   listed-good : Good ar (listedIn out m)
   listed-good = good-diagram ar (take (m * 3) out) (g .valid)
 
-  few : firstVariable + length (variables ar (listedIn out m)) ≤ termBase
+  few : firstVariable + length (variables ar (listedIn out m)) ≤ termEnd
   few = omega (arith, variables-few ar (listedIn out m))
 
-  pub close-closable : (ts : List ℕ) → termBase ≤ length ts → rename.Closable used firstVariable ts
+  pub close-closable : (ts : List ℕ) → termEnd ≤ length ts → rename.Closable used firstVariable ts
   close-closable ts h = marks-closable ar (listedIn out m) used firstVariable ts (used-marks u) h few
 
-  module _ (rest : List ℕ) {ts : List ℕ} (p : ts ≡ tabled (closeAt used firstVariable) termBase ++ rest) where
+  module _ (rest : List ℕ) {ts : List ℕ} (p : ts ≡ tabled (closeAt used firstVariable) termEnd ++ rest) where
     pub close-renamable : write.Renamable ar ts out m
     close-renamable = record {
       listing = valid-is-listing ar (take (m * 3) out) (g .valid);

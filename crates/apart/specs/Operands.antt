@@ -4,7 +4,7 @@ use mathlib.Core.Path.{_≡_}
 use mathlib.Core.List.{List}
 use Prim.Native.Nat.{ℕ, _+_, _≤_}
 use lib.ListN.{length}
-use Rattle.label.specs.Limits.{firstVariable, variableCount, termBase}
+use Rattle.label.specs.Limits.{firstVariable, variableCount, termEnd}
 use Rattle.diagram.specs.Sizes.{mostRows}
 use Rattle.diagram.specs.Listing.{diagramOf}
 use Rattle.diagram.specs.Validity.{Valid}
@@ -18,7 +18,7 @@ pub record Enterable (ar ws used : List ℕ) (first : ℕ) (s heads links : List
   pub valid : Valid ar ws
   pub marks : Used ar (diagramOf ws) used
   pub low : firstVariable ≤ first
-  pub room : first + length (variables ar (diagramOf ws)) ≤ termBase
+  pub room : first + length (variables ar (diagramOf ws)) ≤ termEnd
   pub places : mostRows ≤ length numbers
   pub holds : Holds s heads links count
 

@@ -29,7 +29,7 @@ pub const FEW_WORDS: usize = 1600;
 pub const PLAN_WORDS: usize = 20480;
 
 // A word for each term.
-const TERMS: usize = Term::BASE as usize;
+const TERMS: usize = Term::END as usize;
 
 // Forms the rows of a listing with its used variables renamed to `first`, first + 1, .. in their order; used[t] marks the terms that occur in it.
 fn enter(

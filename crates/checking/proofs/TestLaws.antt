@@ -15,7 +15,7 @@ use Rattle.basics.specs.Tests.{Cmp, below, equal, above, cmp, and-left, and-rig
 use Rattle.basics.specs.Members.{clash}
 use Rattle.refusal.specs.declared.Refusal.{Refusal}
 use Rattle.refusal.specs.declared.Refusal.the-variants.{Truth, Unbound}
-use Rattle.label.specs.Limits.{firstParameter, parameterCount, firstVariable, termBase, predicateCount, mostPlaces, equality, equalityArity}
+use Rattle.label.specs.Limits.{firstParameter, parameterCount, firstVariable, termEnd, predicateCount, mostPlaces, equality, equalityArity}
 use Rattle.label.specs.Labels.{areArities}
 use Rattle.diagram.specs.Sizes.{resultWords}
 use Rattle.diagram.specs.Diagram.{Diagram, same}
@@ -92,7 +92,7 @@ looked-all {n} {p} s l = sym (every-below n p (λ k h. s .each k (omega arith)))
 
 -- ===== Listings =====
 
-pub lacks-is : (ar words : List ℕ) {ms : List ℕ} {b : Bool} (t n : ℕ) → Used ar (diagramOf words) ms → t + n ≤ termBase → b ≡ anySet ms t n
+pub lacks-is : (ar words : List ℕ) {ms : List ℕ} {b : Bool} (t n : ℕ) → Used ar (diagramOf words) ms → t + n ≤ termEnd → b ≡ anySet ms t n
     → not b ≡ not (anyOccurs ar (diagramOf words) t n)
 lacks-is ar words {ms} t n u h e = ap not (e ∙ used-any ar (diagramOf words) ms u t n h)
 

@@ -4,7 +4,7 @@ use mathlib.Core.List.{List}
 use Prim.Native.Nat.{ℕ, _+_, _*_, _-_}
 use lib.ListN.{getD}
 use lib.Dec.{eqb, leb}
-use Rattle.label.specs.Limits.{firstParameter, parameterCount, firstVariable, termBase, predicateCount, equality}
+use Rattle.label.specs.Limits.{firstParameter, parameterCount, firstVariable, termEnd, predicateCount, equality}
 use Rattle.diagram.specs.Diagram.{Diagram, same}
 use Rattle.diagram.specs.Words.{isListing, everyBelow}
 use Rattle.diagram.specs.Listing.{diagramOf}
@@ -26,7 +26,7 @@ isTruth ar c n ws =
 -- a weight of an action of c parameters: no variable, no parameter but the action's
 unfoldable pub isWeight : List ℕ → ℕ → List ℕ → Bool
 unfolding isListing diagramOf anyOccurs
-isWeight ar c ws = isListing ar ws && not (anyOccurs ar (diagramOf ws) (firstParameter + c) (termBase - (firstParameter + c)))
+isWeight ar c ws = isListing ar ws && not (anyOccurs ar (diagramOf ws) (firstParameter + c) (termEnd - (firstParameter + c)))
 
 -- a value diagram, as the reward is one: closed up, no parameter
 unfoldable pub isValue : List ℕ → List ℕ → Bool

@@ -9,7 +9,7 @@ use lib.Dec.{ltb, eqb}
 use borrow.Author.Tests.{ltb-true, ltb-false, le-ltb, eqb-false, ne-eqb, not-true}
 use Rattle.basics.specs.Tests.{Flag, isTrue, isFalse, flag}
 use Rattle.basics.specs.Members.{clash}
-use Rattle.label.specs.Limits.{firstParameter, parameterCount, firstVariable, variableCount, termBase, predicateCount, equality}
+use Rattle.label.specs.Limits.{firstParameter, parameterCount, firstVariable, variableCount, termEnd, predicateCount, equality}
 use Rattle.label.specs.LabelLaws.{term-below}
 use Rattle.diagram.specs.Diagram.{Diagram, leaf, branch, same}
 use Rattle.diagram.specs.DiagramLaws.{same-eq, same-refl}
@@ -47,16 +47,16 @@ no-term ar d t n =
 
 -- all terms are below n
 terms-are : (ar ws : List ℕ) (n : ℕ) → isListing ar ws ≡ true
-    → Decides (not (anyOccurs ar (diagramOf ws) n (termBase - n))) (Terms (λ t. t < n) (meaning ar (diagramOf ws)))
+    → Decides (not (anyOccurs ar (diagramOf ws) n (termEnd - n))) (Terms (λ t. t < n) (meaning ar (diagramOf ws)))
 terms-are ar ws n e =
-    on (no-term ar d n (termBase - n))
+    on (no-term ar d n (termEnd - n))
     (λ f. Terms-mono (λ t. occurs ar t d ≡ true) (λ t. t < n) (λ t o. go f t o (flag (ltb t n))) (meaning ar d) (occur-terms ar d))
     (λ x u o h k. let l = terms-occur (λ t. t < n) ar u d x o in omega arith)
   where
     d : Diagram
     d = diagramOf ws
 
-    go : ((u : ℕ) → occurs ar u d ≡ true → n ≤ u → u < n + (termBase - n) → ⊥) → (t : ℕ) → occurs ar t d ≡ true → Flag (ltb t n) → t < n
+    go : ((u : ℕ) → occurs ar u d ≡ true → n ≤ u → u < n + (termEnd - n) → ⊥) → (t : ℕ) → occurs ar t d ≡ true → Flag (ltb t n) → t < n
     go f t o (isTrue q) = ltb-true t n q
     go f t o (isFalse q) =
         let k = term-below t (occurs-term ar d t (is-listing-good ar ws e .fine) o) in
@@ -101,7 +101,7 @@ truth-is ar c n ws =
   where
     arguments : isListing ar ws ≡ true → Decides (not (unboundVariable ar n (diagramOf ws))) (Terms (λ t. t < firstVariable + n) (meaning ar (diagramOf ws)))
     arguments e =
-        let z : termBase - (firstVariable + n) ≡ variableCount - n = omega arith in
+        let z : termEnd - (firstVariable + n) ≡ variableCount - n = omega arith in
         subst (λ (k : ℕ). Decides (not (anyOccurs ar (diagramOf ws) (firstVariable + n) k)) (Terms (λ t. t < firstVariable + n) (meaning ar (diagramOf ws)))) z
         (terms-are ar ws (firstVariable + n) e)
 

@@ -7,7 +7,7 @@ ghost use mathlib.Core.Bool.{true, not};
 ghost use Prim.Native.Nat.{_+_, _*_, _≤_, _<_};
 ghost use lib.Dec.{leb};
 ghost use lib.ListN.{length, take};
-ghost use Rattle.label.specs.Limits.{parameterCount, predicateCount, mostPlaces, termBase};
+ghost use Rattle.label.specs.Limits.{parameterCount, predicateCount, mostPlaces, termEnd};
 ghost use Rattle.diagram.specs.Diagram.{same};
 ghost use Rattle.diagram.specs.Words.{isListing, everyBelow};
 ghost use Rattle.diagram.specs.Listing.{diagramOf};
@@ -22,10 +22,10 @@ ghost use Rattle.checking.specs.Lent.{Lent};
 // Whether none of the n terms from `first` on occurs in a listing.
 fn lacks(arities: &[u64], words: &[u64], first: usize, n: usize) -> bool
     requires { ⌜ isListing (now arities) (now words) ≡ true ⌝ }
-    requires { ⌜ first + n ≤ termBase ⌝ }
+    requires { ⌜ first + n ≤ termEnd ⌝ }
     ensures { λ r. ⌜ r ≡ not (anyOccurs (now (arities .entry)) (diagramOf (now (words .entry))) first n) ⌝ }
 {
-    let mut marks = [0u64; Term::BASE as usize];
+    let mut marks = [0u64; Term::END as usize];
     listing::used(arities, words, &mut marks);
     !freeing::any_set(&marks, first, n)
 }
@@ -61,7 +61,7 @@ fn is_weight(arities: &[u64], words: &[u64], c: usize) -> bool
         return false;
     }
     let first = (Term::FIRST_PARAMETER as usize) + c;
-    lacks(arities, words, first, (Term::BASE as usize) - first)
+    lacks(arities, words, first, (Term::END as usize) - first)
 }
 
 // Whether the words x begin y.

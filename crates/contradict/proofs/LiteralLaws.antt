@@ -9,7 +9,7 @@ use lib.ListN.{length, getD, drop}
 use lib.Dec.{eqb}
 use borrow.Author.Tests.{eqb-true, ne-eqb}
 use Rattle.basics.specs.Tests.{and-left}
-use Rattle.label.specs.Limits.{termBase, predicateCount}
+use Rattle.label.specs.Limits.{termEnd, predicateCount}
 use Rattle.label.specs.Labels.{areArities, isLabel}
 use Rattle.label.specs.Renamings.{mapOf, moved}
 use Rattle.label.specs.Callers.{Movable}
@@ -114,7 +114,7 @@ pub clash-is : (ar table xs : List ℕ) → clashUnder ar (mapOf table) (literal
 unfolding clashUnder
 clash-is ar table xs = refl
 
-module _ {ar xs table : List ℕ} (l : Labelled ar xs) (room : termBase ≤ length table) (r : Represented xs 0 table) where
+module _ {ar xs table : List ℕ} (l : Labelled ar xs) (room : termEnd ≤ length table) (r : Represented xs 0 table) where
   pub represented-readable : Readable ar xs table
   represented-readable = record {
     labelled = l;

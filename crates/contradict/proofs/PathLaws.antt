@@ -9,7 +9,7 @@ use lib.Dec.{eqb}
 use borrow.Author.Tests.{eq-eqb, ne-eqb, lt-ltb, le-ltb}
 use Rattle.basics.specs.Tests.{Flag, isTrue, isFalse, flag, or-one, Cmp, cmp, below, equal, above}
 use Rattle.basics.specs.Members.{clash, mem}
-use Rattle.label.specs.Limits.{termBase}
+use Rattle.label.specs.Limits.{termEnd}
 use Rattle.label.specs.Labels.{isLabel}
 use Rattle.diagram.specs.Sizes.{mostRows}
 use Rattle.diagram.specs.Diagram.{Diagram}
@@ -72,8 +72,8 @@ module _ {ar ws counts : List ℕ} {n k : ℕ} (r : Route ar ws counts n k) wher
   labelled = path-labels ar (tree ws (n - 1)) (tree-fine ar ws (rowCount ws) (valid-rows ar ws valid) (n - 1) (omega (arith, r .path .row, r .mapped .whole))) P
       (path-in (tree ws (n - 1)) k (r .path .path))
 
-  pub route-into : (x : ℕ) → termBase + mostPaths ≤ x
-      → Rows ws n × (Counted ws counts n × (At ws n (n - 1) k × (termBase + mostPaths ≤ length {A = ℕ} (replicate x 0))))
+  pub route-into : (x : ℕ) → termEnd + mostPaths ≤ x
+      → Rows ws n × (Counted ws counts n × (At ws n (n - 1) k × (termEnd + mostPaths ≤ length {A = ℕ} (replicate x 0))))
   route-into x h = (r .mapped .rows, (r .mapped .counted, (r .path, rw length-replicate h)))
 
   pub route-leaf : Rows ws n × (Counted ws counts n × At ws n (n - 1) k)
@@ -81,10 +81,10 @@ module _ {ar ws counts : List ℕ} {n k : ℕ} (r : Route ar ws counts n k) wher
 
   module _ {out₀ out : List ℕ} {j : ℕ} (e : Entered ws (n - 1) k out₀ out j) where
     abbrev Xs : List ℕ
-    Xs = take (termBase + j - termBase) (drop termBase out)
+    Xs = take (termEnd + j - termEnd) (drop termEnd out)
 
     words-are : Xs ≡ codes P
-    words-are = let q : termBase + j - termBase ≡ j = omega arith in ap (λ (i : ℕ). take i (drop termBase out)) q ∙ e .are
+    words-are = let q : termEnd + j - termEnd ≡ j = omega arith in ap (λ (i : ℕ). take i (drop termEnd out)) q ∙ e .are
 
     pub route-labelled : Labelled ar Xs
     unfolding codes

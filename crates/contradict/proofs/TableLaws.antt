@@ -9,7 +9,7 @@ use lib.Seq.{getD-set-same, getD-set-other, drop-cons, drop-length}
 use lib.Dec.{eqb}
 use borrow.Author.Tests.{eq-eqb, ne-eqb}
 use Rattle.basics.specs.Tests.{Cmp, cmp, below, equal, above}
-use Rattle.label.specs.Limits.{termBase, equality}
+use Rattle.label.specs.Limits.{termEnd, equality}
 use Rattle.label.specs.Labels.{areArities, predicateOf, unpacked, termsOf}
 use Rattle.label.specs.Renamings.{mapOf}
 use Rattle.label.specs.declared.Atom.{Atom}
@@ -31,7 +31,7 @@ exchanged-other x y z e = rw (ne-eqb x y e)
 pub own-start : (table : List ℕ) → Own table table 0
 own-start table = record { kept = refl; within = omega arith; each = λ x h. absurd (omega arith) }
 
-pub own-next : {table₀ table : List ℕ} {t : ℕ} → termBase ≤ length table₀ → Own table₀ table t → t < termBase → Own table₀ (set table t t) (t + 1)
+pub own-next : {table₀ table : List ℕ} {t : ℕ} → termEnd ≤ length table₀ → Own table₀ table t → t < termEnd → Own table₀ (set table t t) (t + 1)
 own-next {table₀} {table} {t} room o h = record { kept = length-set table t t ∙ o .kept; within = omega arith; each = λ x b. at x b (cmp x t) }
   where
     at : (x : ℕ) → x < t + 1 → Cmp x t → getD (set table t t) x 0 ≡ x
@@ -39,14 +39,14 @@ own-next {table₀} {table} {t} room o h = record { kept = length-set table t t 
     at x b (equal k) = rw (k, getD-set-same table t t 0 (omega (arith, o .kept)))
     at x b (above k) = absurd (omega arith)
 
-pub own-end : {table₀ table : List ℕ} {t : ℕ} → Own table₀ table t → termBase ≤ t → Own table₀ table termBase
-own-end {table₀} {table} {t} o h = let e : t ≡ termBase = omega (arith, o .within) in subst (Own table₀ table) e o
+pub own-end : {table₀ table : List ℕ} {t : ℕ} → Own table₀ table t → termEnd ≤ t → Own table₀ table termEnd
+own-end {table₀} {table} {t} o h = let e : t ≡ termEnd = omega (arith, o .within) in subst (Own table₀ table) e o
 
 -- `join`
 pub merged-start : (table : List ℕ) (t u : ℕ) → Merged table t u table 0
 merged-start table t u = record { kept = refl; within = omega arith; each = λ x h. absurd (omega arith); rest = λ x h. refl }
 
-pub merged-next : {table₀ table : List ℕ} {t u x v : ℕ} → termBase ≤ length table₀ → Merged table₀ t u table x → x < termBase
+pub merged-next : {table₀ table : List ℕ} {t u x v : ℕ} → termEnd ≤ length table₀ → Merged table₀ t u table x → x < termEnd
     → v ≡ cond (eqb (getD table x 0) (getD table₀ t 0)) (getD table₀ u 0) (getD table x 0) → Merged table₀ t u (set table x v) (x + 1)
 merged-next {table₀} {table} {t} {u} {x} {v} room m h e = record {
   kept = length-set table x v ∙ m .kept;
@@ -63,8 +63,8 @@ merged-next {table₀} {table} {t} {u} {x} {v} room m h e = record {
     at y b (equal k) = rw (k, getD-set-same table x v 0 (omega (arith, m .kept))) is
     at y b (above k) = absurd (omega arith)
 
-pub merged-end : {table₀ table : List ℕ} {t u x : ℕ} → Merged table₀ t u table x → termBase ≤ x → Merged table₀ t u table termBase
-merged-end {table₀} {table} {t} {u} {x} m h = let e : x ≡ termBase = omega (arith, m .within) in subst (Merged table₀ t u table) e m
+pub merged-end : {table₀ table : List ℕ} {t u x : ℕ} → Merged table₀ t u table x → termEnd ≤ x → Merged table₀ t u table termEnd
+merged-end {table₀} {table} {t} {u} {x} m h = let e : x ≡ termEnd = omega (arith, m .within) in subst (Merged table₀ t u table) e m
 
 -- `join_literal`
 sign-even : (x : ℕ) → x % 2 ≡ 0 → literalAt x .sign ≡ false
@@ -94,11 +94,11 @@ atom-predicate : (l : ℕ) → unpacked l .predicate ≡ predicateOf l
 unfolding unpacked predicateOf
 atom-predicate l = refl
 
-pub first-below : {a : Atom} (l : ℕ) → a ≡ unpacked l → a .first < termBase
-first-below l e = subst (λ (b : Atom). b .first < termBase) (sym e) (unfold unpacked in (omega arith))
+pub first-below : {a : Atom} (l : ℕ) → a ≡ unpacked l → a .first < termEnd
+first-below l e = subst (λ (b : Atom). b .first < termEnd) (sym e) (unfold unpacked in (omega arith))
 
-pub second-below : {a : Atom} (l : ℕ) → a ≡ unpacked l → a .second < termBase
-second-below l e = subst (λ (b : Atom). b .second < termBase) (sym e) (unfold unpacked in (omega arith))
+pub second-below : {a : Atom} (l : ℕ) → a ≡ unpacked l → a .second < termEnd
+second-below l e = subst (λ (b : Atom). b .second < termEnd) (sym e) (unfold unpacked in (omega arith))
 
 two-terms : (ar : List ℕ) → areArities ar ≡ true → (b : Atom) → b .predicate ≡ equality → termsOf ar b ≡ b .first ∷ b .second ∷ []
 unfolding termsOf
@@ -116,7 +116,7 @@ module _ (x : ℕ) {a : Atom} (e : a ≡ unpacked (x / 2)) where
         (mapOf table) t);
   }
 
-  pub taken-equality : {table table′ : List ℕ} → (x % 2 ≡ 0 → ⊥) → a .predicate ≡ equality → Merged table (a .first) (a .second) table′ termBase → Taken x table table′
+  pub taken-equality : {table table′ : List ℕ} → (x % 2 ≡ 0 → ⊥) → a .predicate ≡ equality → Merged table (a .first) (a .second) table′ termEnd → Taken x table table′
   taken-equality {table} n z m = record {
     kept = m .kept;
     each = λ ar g t h. m .each t h ∙ sym (literal-names ar (literalAt x) (a .first) (a .second) (sign-odd x n) (names ar g) (mapOf table) t);
@@ -141,7 +141,7 @@ representative-none : (ar : List ℕ) (t : ℕ) → representative ar [] t ≡ t
 unfolding representative
 representative-none ar t = refl
 
-pub represented-start : {table₀ table : List ℕ} (xs : List ℕ) → Own table₀ table termBase → Represented xs (length xs) table
+pub represented-start : {table₀ table : List ℕ} (xs : List ℕ) → Own table₀ table termEnd → Represented xs (length xs) table
 represented-start xs o = record {
   each = λ ar g t h. o .each t h ∙ sym (ap (λ (ls : List Literal). representative ar ls t) (literals-none xs (length xs) refl) ∙ representative-none ar t);
 }
@@ -150,7 +150,7 @@ pub represented-next : {xs table table′ : List ℕ} {j x : ℕ} → Represente
     → Represented xs (j - 1) table′
 represented-next {xs} {table} {table′} {j} {x} r p q e k = record { each = at }
   where
-    at : (ar : List ℕ) → areArities ar ≡ true → (t : ℕ) → t < termBase → getD table′ t 0 ≡ representative ar (literalsIn (drop (j - 1) xs)) t
+    at : (ar : List ℕ) → areArities ar ≡ true → (t : ℕ) → t < termEnd → getD table′ t 0 ≡ representative ar (literalsIn (drop (j - 1) xs)) t
     at ar g t h =
         let i : suc (j - 1) ≡ j = omega arith in
         k .each ar g t h

@@ -8,7 +8,7 @@ ghost use mathlib.Core.Bool.{true, cond};
 ghost use Prim.Native.Nat.{_-_, _/_, _<_, _≤_};
 ghost use lib.ListN.{length};
 ghost use lib.Dec.{eqb};
-ghost use Rattle.label.specs.Limits.{termBase};
+ghost use Rattle.label.specs.Limits.{termEnd};
 ghost use Rattle.label.specs.Renamings.{mapOf};
 ghost use Rattle.label.specs.Callers.{Movable};
 ghost use Rattle.diagram.specs.Words.{isListing};
@@ -21,7 +21,7 @@ ghost use Rattle.contradict.specs.Representing.{literalAt, literalsIn, O
 ghost use Rattle.contradict.specs.Leading.{Routed, Route, leadAnswer};
 
 // A word for each term.
-const TERMS: usize = Term::BASE as usize;
+const TERMS: usize = Term::END as usize;
 
 // The words of a path: one for each term, which are free here, and behind them at most 255 literals.
 const PATH_WORDS: usize = TERMS + PATHS;
@@ -52,8 +52,8 @@ fn exchanged(x: u64, from: u64, to: u64) -> u64
 
 // Each term is its own representative.
 fn separate(table: &mut [u64])
-    requires { ⌜ termBase ≤ length (now table) ⌝ }
-    ensures { λ _. ⌜ Own (now (table .entry)) (now (table .exit)) termBase ⌝ }
+    requires { ⌜ termEnd ≤ length (now table) ⌝ }
+    ensures { λ _. ⌜ Own (now (table .entry)) (now (table .exit)) termEnd ⌝ }
 {
     let mut t = 0;
     while t < TERMS {
@@ -64,10 +64,10 @@ fn separate(table: &mut [u64])
 
 // What has the representative of t gets that of u.
 fn join(table: &mut [u64], t: usize, u: usize)
-    requires { ⌜ termBase ≤ length (now table) ⌝ }
-    requires { ⌜ t < termBase ⌝ }
-    requires { ⌜ u < termBase ⌝ }
-    ensures { λ _. ⌜ Merged (now (table .entry)) t u (now (table .exit)) termBase ⌝ }
+    requires { ⌜ termEnd ≤ length (now table) ⌝ }
+    requires { ⌜ t < termEnd ⌝ }
+    requires { ⌜ u < termEnd ⌝ }
+    ensures { λ _. ⌜ Merged (now (table .entry)) t u (now (table .exit)) termEnd ⌝ }
 {
     let from = table[t];
     let to = table[u];
@@ -80,7 +80,7 @@ fn join(table: &mut [u64], t: usize, u: usize)
 
 // Takes in the literal x: a true equality joins the terms that it names.
 fn join_literal(table: &mut [u64], x: u64)
-    requires { ⌜ termBase ≤ length (now table) ⌝ }
+    requires { ⌜ termEnd ≤ length (now table) ⌝ }
     ensures { λ _. ⌜ Taken x (now (table .entry)) (now (table .exit)) ⌝ }
 {
     if x % 2 == 0 {
@@ -95,7 +95,7 @@ fn join_literal(table: &mut [u64], x: u64)
 
 // Finds the representatives under the true equalities among the literals.
 fn join_all(literals: &[u32], table: &mut [u64])
-    requires { ⌜ termBase ≤ length (now table) ⌝ }
+    requires { ⌜ termEnd ≤ length (now table) ⌝ }
     ensures { λ _. ⌜ Represented (now (literals .entry)) 0 (now (table .exit)) ⌝ }
 {
     separate(table);

@@ -4,7 +4,7 @@ use mathlib.Core.Bool.{Bool, true, not, _&&_, cond}
 use mathlib.Core.List.{List, [], _∷_, map, List·Memᴰ, List·Memᴰ·head, List·Memᴰ·tail}
 use Prim.Native.Nat.{ℕ, _<_}
 use lib.Dec.{eqb}
-use Rattle.label.specs.Limits.{termBase}
+use Rattle.label.specs.Limits.{termEnd}
 use Rattle.label.specs.Labels.{areArities, predicateOf, unpacked, termsOf}
 use Rattle.label.specs.Renamings.{moved}
 use Rattle.label.specs.declared.Test.{Test}
@@ -14,15 +14,15 @@ use Rattle.cutting.specs.MovedLaws.{asks, moved-asks, terms-below}
 use Rattle.contradiction.specs.Contradiction.{placesOf, joining, joinLiteral, someLiteral, asked, asksFor, affirms, isSaid, clashes, clashUnder}
 use Rattle.contradiction.specs.JoinLaws.{Joins, joins, leaves, joins-is}
 
-module _ (f g : ℕ → ℕ) (same : (t : ℕ) → t < termBase → f t ≡ g t) where
-  joining-agree : (t u x : ℕ) → t < termBase → u < termBase → x < termBase → joining t u f x ≡ joining t u g x
+module _ (f g : ℕ → ℕ) (same : (t : ℕ) → t < termEnd → f t ≡ g t) where
+  joining-agree : (t u x : ℕ) → t < termEnd → u < termEnd → x < termEnd → joining t u f x ≡ joining t u g x
   unfolding joining
   joining-agree t u x a b c = λ i. cond (eqb (same x c i) (same t a i)) (same u b i) (same x c i)
 
-  pub join-agree : (ar : List ℕ) (l : Literal) (x : ℕ) → x < termBase → joinLiteral ar l f x ≡ joinLiteral ar l g x
+  pub join-agree : (ar : List ℕ) (l : Literal) (x : ℕ) → x < termEnd → joinLiteral ar l f x ≡ joinLiteral ar l g x
   join-agree ar l x h = go (joins-is ar l)
     where
-      below : (t : ℕ) → List·Memᴰ t (placesOf ar l) → t < termBase
+      below : (t : ℕ) → List·Memᴰ t (placesOf ar l) → t < termEnd
       below t m = terms-below ar (l .label) t m
 
       go : Joins ar l → joinLiteral ar l f x ≡ joinLiteral ar l g x
@@ -33,7 +33,7 @@ module _ (f g : ℕ → ℕ) (same : (t : ℕ) → t < termBase → f t ≡ g t)
           (below u (subst (List·Memᴰ u) (sym (n .terms)) (List·Memᴰ·tail (List·Memᴰ·head refl)))) h
           ∙ sym (e g x)
 
-  map-agree : (ts : List ℕ) → ((t : ℕ) → List·Memᴰ t ts → t < termBase) → map f ts ≡ map g ts
+  map-agree : (ts : List ℕ) → ((t : ℕ) → List·Memᴰ t ts → t < termEnd) → map f ts ≡ map g ts
   map-agree [] b = refl
   map-agree (t ∷ ts) b = ap₂ _∷_ (same t (b t (List·Memᴰ·head refl))) (map-agree ts (λ u m. b u (List·Memᴰ·tail m)))
 

@@ -9,7 +9,7 @@ use lib.Dec.{eqb}
 use borrow.Author.Tests.{eqb-true, eqb-false, eq-eqb}
 use Rattle.basics.specs.Tests.{and-left, and-right, Flag, isTrue, isFalse, flag, Either, one, other, either, or-one, or-other, Cmp, cmp, below, equal, above}
 use Rattle.basics.specs.Members.{clash}
-use Rattle.label.specs.Limits.{termBase}
+use Rattle.label.specs.Limits.{termEnd}
 use Rattle.label.specs.Labels.{areArities, predicateOf, unpacked, termsOf}
 use Rattle.label.specs.declared.Test.{Test}
 use Rattle.label.specs.declared.Test.the-variants.{Always, Is}
@@ -77,10 +77,10 @@ module _ (ar : List ℕ) (good : areArities ar ≡ true) (ls : List Literal) whe
   asked-long : (l : Literal) → length (map R (placesOf ar l)) ≡ getD ar (predicateOf (l .label)) 0
   asked-long l = length-map (placesOf ar l) R ∙ terms-length ar (l .label) good
 
-  asked-small : (l : Literal) (t : ℕ) → List·Memᴰ t (map R (placesOf ar l)) → t < termBase
+  asked-small : (l : Literal) (t : ℕ) → List·Memᴰ t (map R (placesOf ar l)) → t < termEnd
   asked-small l t m =
       let u = mem-unmap R (placesOf ar l) t m in
-      subst (λ (x : ℕ). x < termBase) (sym (u .2)) (representative-below ar ls (u .0) (terms-below ar (l .label) (u .0) (u .1)))
+      subst (λ (x : ℕ). x < termEnd) (sym (u .2)) (representative-below ar ls (u .0) (terms-below ar (l .label) (u .0) (u .1)))
 
   asked-label : (l : Literal) (k : ℕ) → asked ar R l ≡ Is (record { packed = k }) → Asked ar (predicateOf (l .label)) (map R (placesOf ar l)) k
   asked-label l k e = ask-is ar (predicateOf (l .label)) (map R (placesOf ar l)) k good (asked-long l) (asked-small l) (sym (asked-is l) ∙ e)

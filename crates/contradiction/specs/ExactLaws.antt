@@ -9,7 +9,7 @@ use lib.ListN.{getD}
 use lib.Dec.{eqb}
 use borrow.Author.Tests.{eqb-true, eq-eqb, ne-eqb}
 use Rattle.basics.specs.Tests.{and-left, and-right, Flag, isTrue, isFalse, flag, Cmp, cmp, below, equal, above}
-use Rattle.label.specs.Limits.{firstParameter, parameterCount, firstVariable, termBase}
+use Rattle.label.specs.Limits.{firstParameter, parameterCount, firstVariable, termEnd}
 use Rattle.label.specs.Labels.{areArities, predicateOf, unpacked, termsOf}
 use Rattle.diagram.specs.Diagram.{Diagram, leaf, branch, relabel}
 use Rattle.diagram.specs.Words.{equalLists}
@@ -39,7 +39,7 @@ module _ (ar : List ℕ) (ls : List Literal) where
   unfoldable pub described : State
   unfolding tells
   described = record {
-    size = termBase;
+    size = termEnd;
     constant = λ c. low firstParameter c (representative ar ls c) 0;
     fact = λ p os. someLiteral (tells p os) ls;
   }
@@ -53,12 +53,12 @@ module _ (ar : List ℕ) (ls : List Literal) where
   unfolding described
   described-good = record {
     some = omega arith;
-    placed = λ c. by-low (low firstParameter c (representative ar ls c) 0 < termBase) firstParameter c
+    placed = λ c. by-low (low firstParameter c (representative ar ls c) 0 < termEnd) firstParameter c
         (λ h. rw (low-lt firstParameter c (representative ar ls c) 0 h) (representative-below ar ls c (omega arith)))
         (λ h. rw (low-ge firstParameter c (representative ar ls c) 0 h) (omega arith));
   }
 
-  objects-tuple : (c i : ℕ) → i + c ≤ parameterCount → Tuple termBase c (objects c i)
+  objects-tuple : (c i : ℕ) → i + c ≤ parameterCount → Tuple termEnd c (objects c i)
   unfolding objects
   objects-tuple zero i h = none
   objects-tuple (suc c) i h = more (representative-below ar ls (firstParameter + i) (omega arith)) (objects-tuple c (suc i) (omega arith))

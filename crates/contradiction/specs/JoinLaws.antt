@@ -6,7 +6,7 @@ use Prim.Native.Nat.{ℕ, _<_}
 use lib.Dec.{eqb}
 use borrow.Author.Tests.{eqb-true, eq-eqb}
 use Rattle.basics.specs.Tests.{Flag, isTrue, isFalse, flag}
-use Rattle.label.specs.Limits.{equality, termBase}
+use Rattle.label.specs.Limits.{equality, termEnd}
 use Rattle.label.specs.Labels.{predicateOf}
 use Rattle.paths.specs.Paths.{Literal}
 use Rattle.cutting.specs.MovedLaws.{terms-below}
@@ -124,7 +124,7 @@ joined-one (along j k) = joined-one j ∙ joined-one k
 
 -- ===== Representatives are terms =====
 
-pub representative-below : (ar : List ℕ) (ls : List Literal) (x : ℕ) → x < termBase → representative ar ls x < termBase
+pub representative-below : (ar : List ℕ) (ls : List Literal) (x : ℕ) → x < termEnd → representative ar ls x < termEnd
 unfolding representative
 representative-below ar [] x h = h
 representative-below ar (l ∷ ls) x h = go (joins-is ar l) (representative-below ar ls)
@@ -132,13 +132,13 @@ representative-below ar (l ∷ ls) x h = go (joins-is ar l) (representative-belo
     r : ℕ → ℕ
     r = representative ar ls
 
-    go : Joins ar l → ((y : ℕ) → y < termBase → representative ar ls y < termBase) → joinLiteral ar l r x < termBase
-    go (leaves e) b = subst (λ (y : ℕ). y < termBase) (sym (e r x)) (b x h)
-    go (joins t u s n e) b = subst (λ (y : ℕ). y < termBase) (sym (e r x)) (at (flag (eqb (r x) (r t))))
+    go : Joins ar l → ((y : ℕ) → y < termEnd → representative ar ls y < termEnd) → joinLiteral ar l r x < termEnd
+    go (leaves e) b = subst (λ (y : ℕ). y < termEnd) (sym (e r x)) (b x h)
+    go (joins t u s n e) b = subst (λ (y : ℕ). y < termEnd) (sym (e r x)) (at (flag (eqb (r x) (r t))))
       where
-        small : u < termBase
+        small : u < termEnd
         small = terms-below ar (l .label) u (subst (List·Memᴰ u) (sym (n .terms)) (List·Memᴰ·tail (List·Memᴰ·head refl)))
 
-        at : Flag (eqb (r x) (r t)) → joining t u r x < termBase
-        at (isTrue q) = subst (λ (y : ℕ). y < termBase) (sym (joining-here t u r x (eqb-true (r x) (r t) q))) (b u small)
-        at (isFalse q) = subst (λ (y : ℕ). y < termBase) (sym (joining-other t u r x q)) (b x h)
+        at : Flag (eqb (r x) (r t)) → joining t u r x < termEnd
+        at (isTrue q) = subst (λ (y : ℕ). y < termEnd) (sym (joining-here t u r x (eqb-true (r x) (r t) q))) (b u small)
+        at (isFalse q) = subst (λ (y : ℕ). y < termEnd) (sym (joining-other t u r x q)) (b x h)

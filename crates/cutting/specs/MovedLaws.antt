@@ -8,7 +8,7 @@ use lib.ListN.{length, getD, take}
 use lib.Dec.{eqb, ltb, leb}
 use borrow.Author.Tests.{ltb-true, leb-true, eqb-true, lt-ltb, le-ltb, eq-eqb, ne-eqb}
 use Rattle.basics.specs.Tests.{and-left, and-right, Cmp, cmp, below, equal, above}
-use Rattle.label.specs.Limits.{termBase}
+use Rattle.label.specs.Limits.{termEnd}
 use Rattle.label.specs.Labels.{areArities, allAtMost, packed, predicateOf, unpacked, placeFits, inOrder, isLabel, termsOf, equates, testOf, labelOf}
 use Rattle.label.specs.Renamings.{placed, mapped, moved}
 use Rattle.label.specs.Callers.{Places}
@@ -67,7 +67,7 @@ among-four x y z w a b c d t (List·Memᴰ·tail (List·Memᴰ·tail (List·Mem�
 among-four x y z w a b c d t (List·Memᴰ·tail (List·Memᴰ·tail (List·Memᴰ·tail (List·Memᴰ·tail m)))) = absurd (List·Memᴰ·not-nil m)
 
 -- terms are below the base of the packing
-pub terms-below : (ar : List ℕ) (l t : ℕ) → List·Memᴰ t (termsOf ar (unpacked l)) → t < termBase
+pub terms-below : (ar : List ℕ) (l t : ℕ) → List·Memᴰ t (termsOf ar (unpacked l)) → t < termEnd
 unfolding termsOf unpacked
 terms-below ar l t m = among-four _ _ _ _ (omega arith) (omega arith) (omega arith) (omega arith) t (mem-take (getD ar (l / 16777216) 0) _ t m)
 
@@ -214,7 +214,7 @@ list-of (a ∷ b ∷ c ∷ d ∷ []) h = refl
 list-of (a ∷ b ∷ c ∷ d ∷ e ∷ r) h = absurd (omega arith)
 
 abbrev AllSmall : List ℕ → Type 0
-AllSmall us = (t : ℕ) → List·Memᴰ t us → t < termBase
+AllSmall us = (t : ℕ) → List·Memᴰ t us → t < termEnd
 
 getD-small : (us : List ℕ) (i : ℕ) → AllSmall us → getD us i 0 < 64
 getD-small [] i h = omega arith

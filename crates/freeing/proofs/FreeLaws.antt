@@ -12,7 +12,7 @@ use Rattle.refusal.specs.declared.Refusal.the-variants.{Listing, Buffer, Unboun
 use Rattle.refusal.specs.Outcome.{ok, refused}
 use Rattle.basics.specs.Tests.{Cmp, below, equal, above, cmp, Either, one, other, either, and-left, and-right, or-one, or-other}
 use Rattle.basics.specs.Members.{clash}
-use Rattle.label.specs.Limits.{firstParameter, parameterCount, firstVariable, termBase}
+use Rattle.label.specs.Limits.{firstParameter, parameterCount, firstVariable, termEnd}
 use Rattle.label.specs.Terms.{isConstant, isParameter, isVariable, isTerm}
 use Rattle.label.specs.LabelLaws.{term-below}
 use Rattle.label.specs.Renamings.{renamed, freeing, mapOf}
@@ -65,13 +65,13 @@ length-relabelled g (x ∷ y ∷ []) = refl
 length-relabelled g (x ∷ y ∷ z ∷ ws) = ap (λ n. suc (suc (suc n))) (length-relabelled g ws)
 
 module _ {ar words : List ℕ} {count : ℕ} {out : List ℕ} (task : FreeTask ar words count out) where
-  pub task-countable : (map : List ℕ) → termBase ≤ length map → Countable count map
+  pub task-countable : (map : List ℕ) → termEnd ≤ length map → Countable count map
   task-countable map h = record { few = task .few; whole = h }
 
-  pub task-renamable : (rest : List ℕ) {map : List ℕ} → map ≡ tabled (freeAt count) termBase ++ rest → Renamable ar words map out
+  pub task-renamable : (rest : List ℕ) {map : List ℕ} → map ≡ tabled (freeAt count) termEnd ++ rest → Renamable ar words map out
   task-renamable rest {map} e = record { listing = task .listing; terms = rw e (free-terms count rest); room = task .room }
 
-  pub task-written : (rest : List ℕ) {map out′ : List ℕ} → Freeable ar count (diagramOf words) → map ≡ tabled (freeAt count) termBase ++ rest
+  pub task-written : (rest : List ℕ) {map out′ : List ℕ} → Freeable ar count (diagramOf words) → map ≡ tabled (freeAt count) termEnd ++ rest
       → out′ ≡ relabelled (renamed ar (mapOf map)) words ++ drop (length words) out → out′ ≡ writtenAs (ok (freed ar count (diagramOf words))) out
   task-written rest {map} {out′} free e w =
       w ∙ (λ i. is i ++ drop (size i) out)
@@ -79,7 +79,7 @@ module _ {ar words : List ℕ} {count : ℕ} {out : List ℕ} (task : FreeTask a
       is : relabelled (renamed ar (mapOf map)) words ≡ listing (freed ar count (diagramOf words))
       is =
           ap (λ (m : List ℕ). relabelled (renamed ar (mapOf m)) words) e
-          ∙ ap (relabelled (renamed ar (mapOf (tabled (freeAt count) termBase ++ rest)))) (sym (is-listing-diagram ar words (task .listing)))
+          ∙ ap (relabelled (renamed ar (mapOf (tabled (freeAt count) termEnd ++ rest)))) (sym (is-listing-diagram ar words (task .listing)))
           ∙ freed-words ar count (diagramOf words) (is-listing-good ar words (task .listing)) free rest
 
       size : length words ≡ length (listing (freed ar count (diagramOf words)))
@@ -98,7 +98,7 @@ module _ {ar words : List ℕ} {count : ℕ} {out : List ℕ} (task : FreeTask a
     own-unbound e = let q = sym unbound ∙ sym p ∙ e in record { answer = rw q; result = rw q }
 
     module _ (e : b ≡ false) {c : Bool} (r : c ≡ anySet ms (64 - count) count) where
-      past : anySet ms (64 - count) count ≡ anyOccurs ar (diagramOf words) (termBase - count) count
+      past : anySet ms (64 - count) count ≡ anyOccurs ar (diagramOf words) (termEnd - count) count
       past = used-any ar (diagramOf words) ms u (64 - count) count (omega (arith, task .few))
 
       pub own-variables : c ≡ true → FreedWith (freeOwn ar words count) (Refused Variables) out out
@@ -109,7 +109,7 @@ module _ {ar words : List ℕ} {count : ℕ} {out : List ℕ} (task : FreeTask a
       own-freeable h = record {
         count = task .few;
         parameters = λ t o l. parameter t o l (kind t o);
-        variables = λ t o l. variable t o (cmp (t + count) termBase);
+        variables = λ t o l. variable t o (cmp (t + count) termEnd);
       }
         where
           good : Good ar (diagramOf words)
@@ -130,12 +130,12 @@ module _ {ar words : List ℕ} {count : ℕ} {out : List ℕ} (task : FreeTask a
               go (equal x) = clash o (quiet t (omega arith) (low-term t k l))
               go (above x) = clash o (quiet t (omega arith) (low-term t k l))
 
-          variable : (t : ℕ) → occurs ar t (diagramOf words) ≡ true → Cmp (t + count) termBase → t + count < termBase
+          variable : (t : ℕ) → occurs ar t (diagramOf words) ≡ true → Cmp (t + count) termEnd → t + count < termEnd
           variable t o (below x) = x
           variable t o (equal x) =
-              clash o (any-quiet ar (diagramOf words) (termBase - count) count (sym past ∙ sym r ∙ h) t (omega arith) (omega (arith, task .few, term-below t (kind t o))))
+              clash o (any-quiet ar (diagramOf words) (termEnd - count) count (sym past ∙ sym r ∙ h) t (omega arith) (omega (arith, task .few, term-below t (kind t o))))
           variable t o (above x) =
-              clash o (any-quiet ar (diagramOf words) (termBase - count) count (sym past ∙ sym r ∙ h) t (omega arith) (omega (arith, task .few, term-below t (kind t o))))
+              clash o (any-quiet ar (diagramOf words) (termEnd - count) count (sym past ∙ sym r ∙ h) t (omega arith) (omega (arith, task .few, term-below t (kind t o))))
 
       pub own-done : c ≡ false → {out′ : List ℕ} → out′ ≡ writtenAs (ok (freed ar count (diagramOf words))) out
           → FreedWith (freeOwn ar words count) (Done (length words / 3)) out out′

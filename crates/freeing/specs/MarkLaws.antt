@@ -8,7 +8,7 @@ use lib.ListN.{getD}
 use lib.Dec.{eqb}
 use borrow.Author.Tests.{eq-eqb, ne-eqb}
 use Rattle.basics.specs.Tests.{Cmp, below, equal, above, cmp, or-other}
-use Rattle.label.specs.Limits.{termBase}
+use Rattle.label.specs.Limits.{termEnd}
 use Rattle.diagram.specs.Diagram.{Diagram}
 use Rattle.diagram.specs.Variables.{occurs}
 use Rattle.listing.specs.Used.{Used}
@@ -60,7 +60,7 @@ module _ {ms : List ℕ} {t n k : ℕ} (p : Passed ms t n k) where
   passed-none h = sym (none-at ms t n (λ j l. p .zeros j (omega arith)))
 
 -- marks of the terms that occur
-pub used-any : (ar : List ℕ) (d : Diagram) (ms : List ℕ) → Used ar d ms → (t n : ℕ) → t + n ≤ termBase → anySet ms t n ≡ anyOccurs ar d t n
+pub used-any : (ar : List ℕ) (d : Diagram) (ms : List ℕ) → Used ar d ms → (t n : ℕ) → t + n ≤ termEnd → anySet ms t n ≡ anyOccurs ar d t n
 unfolding anySet
 used-any ar d ms u t zero h = sym (any-none ar d t)
 used-any ar d ms u t (suc n) h =

@@ -49,7 +49,7 @@ pub fn free_checked(arities: &[u64], words: &[u64], count: u64, out: &mut [u64])
     if any_set(&marks, (Term::FIRST_PARAMETER as usize) + n, parameters) {
         return Freed::Refused(Refusal::Unbound);
     }
-    if any_set(&marks, (Term::BASE as usize) - n, n) {
+    if any_set(&marks, (Term::END as usize) - n, n) {
         return Freed::Refused(Refusal::Variables);
     }
     write_freed(arities, words, count, out);

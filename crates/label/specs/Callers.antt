@@ -4,17 +4,17 @@ use mathlib.Core.Path.{_≡_}
 use mathlib.Core.Bool.{true}
 use Prim.Native.Nat.{ℕ, _≤_, _<_}
 use lib.ListN.{length, getD}
-use Rattle.label.specs.Limits.{predicateCount, termBase}
+use Rattle.label.specs.Limits.{predicateCount, termEnd}
 use Rattle.label.specs.Labels.{isLabel, predicateOf, unpacked}
 use Rattle.label.specs.Renamings.{mapOf, mapped}
 use Rattle.label.specs.declared.Atom.{Atom}
 
 -- every place is below the base
 pub record Places (a : Atom) : Type 0 where
-  pub first-below : a .first < termBase
-  pub second-below : a .second < termBase
-  pub third-below : a .third < termBase
-  pub fourth-below : a .fourth < termBase
+  pub first-below : a .first < termEnd
+  pub second-below : a .second < termEnd
+  pub third-below : a .third < termEnd
+  pub fourth-below : a .fourth < termEnd
 
 -- an atom that packs
 pub record Packable (a : Atom) : Type 0 where
@@ -23,12 +23,12 @@ pub record Packable (a : Atom) : Type 0 where
 
 -- a lent map of terms: a term for each term
 pub record TermMap (map : List ℕ) : Type 0 where
-  pub whole : termBase ≤ length map
-  pub below : (t : ℕ) → t < termBase → getD map t 0 < termBase
+  pub whole : termEnd ≤ length map
+  pub below : (t : ℕ) → t < termEnd → getD map t 0 < termEnd
 
 -- an atom whose places the map has
 pub record Mappable (a : Atom) (map : List ℕ) : Type 0 where
-  pub whole : termBase ≤ length map
+  pub whole : termEnd ≤ length map
   pub places : Places a
 
 -- a label and a map of its terms

@@ -1,37 +1,37 @@
 -- Laws of atoms and labels: packing and unpacking are inverse.
-use mathlib.Core.Path.{_≡_, ap}
+use mathlib.Core.Path.{_≡_, refl, ap, subst}
 use mathlib.Core.Bool.{true, _&&_, _||_}
-use mathlib.Core.List.{List}
-use Prim.Native.Nat.{ℕ, _+_, _*_, _/_, _%_, _≤_, _<_}
+use mathlib.Core.List.{List, [], _∷_}
+use Prim.Native.Nat.{ℕ, zero, suc, _+_, _*_, _/_, _%_, _≤_, _<_}
 use native.Mathlib.Omega.{arith}
 use lib.ListN.{getD}
 use lib.Dec.{eqb, ltb, leb}
 use borrow.Author.Tests.{ltb-true, eqb-true, lt-ltb, le-ltb}
 use Rattle.basics.specs.Tests.{and-left, and-right, Flag, isTrue, isFalse, flag, Either, one, other, either, below, above}
-use Rattle.label.specs.Limits.{termBase, predicateCount, leafMark}
+use Rattle.label.specs.Limits.{termBase, termEnd, mostPlaces, predicateCount, leafMark}
 use Rattle.label.specs.Terms.{isConstant, isParameter, isVariable, isTerm}
-use Rattle.label.specs.Labels.{packed, unpacked, placeFits, inOrder, isAtom, isLabel}
+use Rattle.label.specs.Labels.{packed, predicateOf, placeAt, unpacked, placeFits, inOrder, isAtom, placesOf, isLabel}
 use Rattle.label.specs.Callers.{Places}
 use Rattle.label.specs.declared.Atom.{Atom}
 
--- terms are below the base of the packing
-pub term-below : (t : ℕ) → isTerm t ≡ true → t < termBase
+-- numbers of terms end below the base of the packing
+pub term-below : (t : ℕ) → isTerm t ≡ true → t < termEnd
 unfolding isTerm isConstant isParameter isVariable
 term-below t e = go (either (ltb t 16) _ e)
   where
-    rest : Either (leb 16 t && ltb t 20) (leb 32 t && ltb t 64) → t < termBase
+    rest : Either (leb 16 t && ltb t 20) (leb 32 t && ltb t 64) → t < termEnd
     rest (one q) = omega (arith, ltb-true t 20 (and-right (leb 16 t) _ q))
     rest (other q) = ltb-true t 64 (and-right (leb 32 t) _ q)
 
-    go : Either (ltb t 16) ((leb 16 t && ltb t 20) || (leb 32 t && ltb t 64)) → t < termBase
+    go : Either (ltb t 16) ((leb 16 t && ltb t 20) || (leb 32 t && ltb t 64)) → t < termEnd
     go (one q) = omega (arith, ltb-true t 16 q)
     go (other q) = rest (either (leb 16 t && ltb t 20) _ q)
 
-pub place-below : (n k t : ℕ) → placeFits n k t ≡ true → t < termBase
+pub place-below : (n k t : ℕ) → placeFits n k t ≡ true → t < termEnd
 unfolding placeFits
 place-below n k t e = go (flag (ltb k n))
   where
-    go : Flag (ltb k n) → t < termBase
+    go : Flag (ltb k n) → t < termEnd
     go (isTrue q) = term-below t (rw q at e)
     go (isFalse q) = let z : eqb t 0 ≡ true = rw q at e in omega (arith, eqb-true t 0 z)
 
@@ -84,10 +84,10 @@ pub atom-places : (ar : List ℕ) (a : Atom) → isAtom ar a ≡ true → Places
 atom-places ar a e =
     let f = atom-fits ar a e .places-fit in
     record {
-      first-below = place-below _ 0 _ (f .first-fits);
-      second-below = place-below _ 1 _ (f .second-fits);
-      third-below = place-below _ 2 _ (f .third-fits);
-      fourth-below = place-below _ 3 _ (f .fourth-fits);
+      first-below = omega (arith, place-below _ 0 _ (f .first-fits));
+      second-below = omega (arith, place-below _ 1 _ (f .second-fits));
+      third-below = omega (arith, place-below _ 2 _ (f .third-fits));
+      fourth-below = omega (arith, place-below _ 3 _ (f .fourth-fits));
     }
 
 -- packing and unpacking are inverse
@@ -114,6 +114,22 @@ unpacked-packed a p =
     let e₄ : (a .predicate * 16777216 + a .first * 262144 + a .second * 4096 + a .third * 64 + a .fourth) % 64 ≡ a .fourth = omega arith in
     λ i. record { predicate = e i; first = e₁ i; second = e₂ i; third = e₃ i; fourth = e₄ i }
 
+-- the places of a label, one by one
+pub place-base : (l k : ℕ) → placeAt l k < termBase
+unfolding placeAt
+place-base l k = omega arith
+
+over-one : (l : ℕ) → l % termBase ≡ l / 1 % termBase
+over-one l = omega arith
+
+pub place-of : (l k : ℕ) → k < mostPlaces → getD (placesOf (unpacked l)) k 0 ≡ placeAt l k
+unfolding placeAt unpacked
+place-of l zero h = refl
+place-of l (suc zero) h = refl
+place-of l (suc (suc zero)) h = refl
+place-of l (suc (suc (suc zero))) h = over-one l
+place-of l (suc (suc (suc (suc k)))) h = absurd (omega arith)
+
 -- the labels are the packed atoms
 pub label-packed : (ar : List ℕ) (a : Atom) → Places a → isLabel ar (packed a) ≡ isAtom ar a
 unfolding isLabel
@@ -126,6 +142,19 @@ label-places ar l e = atom-places ar (unpacked l) e
 pub label-fits : (ar : List ℕ) (l : ℕ) → isLabel ar l ≡ true → Fitting ar (unpacked l)
 unfolding isLabel
 label-fits ar l e = atom-fits ar (unpacked l) e
+
+-- place k of a label under ar fits: a term where it is used, else 0
+pub place-fits : (ar : List ℕ) (l k : ℕ) → isLabel ar l ≡ true → k < mostPlaces → placeFits (getD ar (predicateOf l) 0) k (placeAt l k) ≡ true
+unfolding placeAt unpacked predicateOf
+place-fits ar l zero e h = label-fits ar l e .places-fit .first-fits
+place-fits ar l (suc zero) e h = label-fits ar l e .places-fit .second-fits
+place-fits ar l (suc (suc zero)) e h = label-fits ar l e .places-fit .third-fits
+place-fits ar l (suc (suc (suc zero))) e h = subst (λ (t : ℕ). placeFits (getD ar (predicateOf l) 0) 3 t ≡ true) (over-one l) (label-fits ar l e .places-fit .fourth-fits)
+place-fits ar l (suc (suc (suc (suc k)))) e h = absurd (omega arith)
+
+-- so every place of it is below the end of the terms
+pub place-end : (ar : List ℕ) (l k : ℕ) → isLabel ar l ≡ true → k < mostPlaces → placeAt l k < termEnd
+place-end ar l k e h = place-below _ k _ (place-fits ar l k e h)
 
 -- a leaf's mark is above every label
 pub label-below : (ar : List ℕ) (l : ℕ) → isLabel ar l ≡ true → l < leafMark

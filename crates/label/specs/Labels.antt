@@ -4,7 +4,7 @@ use mathlib.Core.List.{List, [], _∷_}
 use Prim.Native.Nat.{ℕ, _+_, _*_, _/_, _%_}
 use lib.ListN.{length, getD, take}
 use lib.Dec.{eqb, ltb, leb}
-use Rattle.label.specs.Limits.{predicateCount, mostPlaces, equality, equalityArity, termBase, predicateWeight, firstWeight, secondWeight, thirdWeight}
+use Rattle.label.specs.Limits.{predicateCount, mostPlaces, equality, equalityArity, termBase, weightAt, predicateWeight, firstWeight, secondWeight, thirdWeight}
 use Rattle.label.specs.Terms.{isTerm}
 use Rattle.label.specs.declared.Atom.{Atom}
 use Rattle.label.specs.declared.Test.{Test}
@@ -25,6 +25,10 @@ packed a = a .predicate * predicateWeight + a .first * firstWeight + a .second *
 
 unfoldable pub predicateOf : ℕ → ℕ
 predicateOf l = l / predicateWeight
+
+-- what stands in place k of a label, the first being place 0
+unfoldable pub placeAt : ℕ → ℕ → ℕ
+placeAt l k = l / weightAt k % termBase
 
 unfoldable pub unpacked : ℕ → Atom
 unpacked l = record {
@@ -52,6 +56,10 @@ isAtom ar a =
     && (placeFits (getD ar (a .predicate) 0) 3 (a .fourth)
     && inOrder a))))
 
+-- the places of an atom, the first being place 0
+abbrev pub placesOf : Atom → List ℕ
+placesOf a = a .first ∷ a .second ∷ a .third ∷ a .fourth ∷ []
+
 -- l is a label under the arity list ar
 unfoldable pub isLabel : List ℕ → ℕ → Bool
 isLabel ar l = isAtom ar (unpacked l)
@@ -62,7 +70,7 @@ isLabelUnder ar l = areArities ar && isLabel ar l
 
 -- the terms of an atom under the arity list ar: its used places
 unfoldable pub termsOf : List ℕ → Atom → List ℕ
-termsOf ar a = take (getD ar (a .predicate) 0) (a .first ∷ a .second ∷ a .third ∷ a .fourth ∷ [])
+termsOf ar a = take (getD ar (a .predicate) 0) (placesOf a)
 
 -- what an atom asks, after its terms were replaced: t = t is plain truth, an equality has its smaller term first
 abbrev pub pickTest : Bool → Test → Test → Test

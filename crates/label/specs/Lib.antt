@@ -2,10 +2,12 @@
 --
 -- Definitions: numbers
 --   constantCount, firstParameter, parameterCount, firstVariable, variableCount == 16 constants from 0, 4 parameters from 16, 32 variables from 32
---   termBase == 64: every term is below it; the base in which a label's places are packed
+--   termEnd == 64: every term's number is below it
+--   termBits, termBase == 6 bits for a place: the base 64 in which a label's places are packed
 --   predicateCount, mostPlaces == 32 predicates, with at most 4 places each
 --   equality, equalityArity == equality is predicate 0 and has 2 places
 --   predicateWeight, firstWeight, secondWeight, thirdWeight == 2^24, 2^18, 2^12, 2^6, by which predicate and places are multiplied
+--   weightAt == what place k is multiplied by, the first being place 0
 --   leafMark == 4294967295, a leaf's first word: above every label
 --
 -- Definitions: terms, atoms, labels
@@ -15,7 +17,8 @@
 --   allAtMost, areArities == an arity list: 32 arities, the first of them 2, each at most 4
 --   Atom == a predicate and four places, unused ones 0 (a struct of the code)
 --   packed, Label == the number of an atom: predicate · 2^24 + t1 · 2^18 + t2 · 2^12 + t3 · 2^6 + t4; it as a struct of the code
---   predicateOf, unpacked == the predicate and the atom of a label
+--   predicateOf, placeAt, unpacked == the predicate, place k and the atom of a label
+--   placesOf == the places of an atom
 --   placeFits == place k of a predicate of arity n holds a term, or 0 where it is unused
 --   inOrder == an equality has its smaller term first, so that t = t is no label
 --   isAtom, isLabel == an atom, a label under an arity list

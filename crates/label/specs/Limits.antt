@@ -1,5 +1,5 @@
 -- The limits of terms and labels, and how a label is packed: the numbers of document 01, section 'Terms, labels, listings', by name.
-use Prim.Native.Nat.{ℕ}
+use Prim.Native.Nat.{ℕ, _-_, _*_, _^_}
 
 -- a term is a constant (numbers 0 to 15), an action parameter (16 to 19) or a variable (32 to 63)
 abbrev pub constantCount : ℕ
@@ -17,7 +17,14 @@ firstVariable = 32
 abbrev pub variableCount : ℕ
 variableCount = 32
 
--- numbers of terms are below this: it is the base in which a label's places are packed
+-- numbers of terms are below this
+abbrev pub termEnd : ℕ
+termEnd = 64
+
+-- a place of a label takes so many bits: its places are packed in this base
+abbrev pub termBits : ℕ
+termBits = 6
+
 abbrev pub termBase : ℕ
 termBase = 64
 
@@ -46,6 +53,10 @@ secondWeight = 4096
 
 abbrev pub thirdWeight : ℕ
 thirdWeight = 64
+
+-- what place k of a label is multiplied by, the first being place 0: the last by 1, each one before it by the base more
+abbrev pub weightAt : ℕ → ℕ
+weightAt k = 2 ^ ((mostPlaces - 1 - k) * termBits)
 
 -- what stands in a leaf's first word: above every label
 abbrev pub leafMark : ℕ

@@ -12,7 +12,7 @@ use Rattle.basics.specs.Tests.{and-left, and-right, Flag, isTrue, isFalse, flag
 use Rattle.basics.specs.Members.{clash}
 use Rattle.label.specs.Limits.{termBase, leafMark}
 use Rattle.label.specs.Terms.{isConstant, isParameter, isVariable, isTerm, kindOf}
-use Rattle.label.specs.Labels.{packed, unpacked, placeFits, isLabel, termsOf}
+use Rattle.label.specs.Labels.{packed, unpacked, placeFits, placesOf, isLabel, termsOf}
 use Rattle.label.specs.LabelLaws.{place-below, unused-zero, used-term, PlacesFit, Fitting, label-fits, label-below, packed-unpacked}
 use Rattle.label.specs.Order.{termBefore, placesBefore, atomBefore, labelBefore, isFirstWord, wordBefore, Compared, StrictTotal}
 use Rattle.label.specs.declared.Atom.{Atom}
@@ -55,9 +55,6 @@ abbrev pub Fits : ℕ → ℕ → List ℕ → Type 0
 Fits n k [] = Unit {0}
 Fits n k (t ∷ ts) = (placeFits n k t ≡ true) × Fits n (suc k) ts
 
-abbrev pub placesOf : Atom → List ℕ
-placesOf a = a .first ∷ a .second ∷ a .third ∷ a .fourth ∷ []
-
 pub places-fit : {n : ℕ} {a : Atom} → PlacesFit n a → Fits n 0 (placesOf a)
 places-fit f = (f .first-fits, (f .second-fits, (f .third-fits, (f .fourth-fits, tt))))
 
@@ -76,7 +73,7 @@ horner-less n k x y [] [] f e h = h
 horner-less n k x y [] (u ∷ us) f e h = absurd (omega arith)
 horner-less n k x y (t ∷ ts) [] f e h = absurd (omega arith)
 horner-less n k x y (t ∷ ts) (u ∷ us) f e h =
-    let b : t < termBase = place-below n k t (f .0) in
+    let b : t < termBase = omega (arith, place-below n k t (f .0)) in
     horner-less n (suc k) (x * termBase + t) (y * termBase + u) ts us (f .1) (omega arith) (omega arith)
 
 -- behind the same number the first place that differs decides, and the places past the arity take no part

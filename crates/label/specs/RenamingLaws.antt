@@ -11,13 +11,13 @@ use lib.Dec.{eqb, ltb}
 use borrow.Author.Tests.{ltb-true, ltb-false, eqb-true, lt-ltb, le-ltb, le-leb, eq-eqb, ne-eqb}
 use Rattle.basics.specs.Tests.{and-left, and-right, Flag, isTrue, isFalse, flag, one, Cmp, below, equal, above, cmp}
 use Rattle.basics.specs.Members.{mem, clash}
-use Rattle.label.specs.Limits.{termBase, firstVariable, firstParameter, parameterCount}
+use Rattle.label.specs.Limits.{termEnd, firstVariable, firstParameter, parameterCount}
 use Rattle.label.specs.Terms.{isConstant, isParameter, isVariable, isTerm}
-use Rattle.label.specs.Labels.{areArities, packed, predicateOf, unpacked, placeFits, inOrder, isAtom, isLabel, termsOf, equates, testOf, labelOf}
+use Rattle.label.specs.Labels.{areArities, packed, predicateOf, unpacked, placeFits, inOrder, isAtom, placesOf, isLabel, termsOf, equates, testOf, labelOf}
 use Rattle.label.specs.Renamings.{placed, mapped, moved, renamed, rank, numbering, freeing, Increasing, EachTerm, EachIn}
 use Rattle.label.specs.LabelLaws.{Fitting, PlacesFit, atom-fits, fits-atom, atom-places, label-fits, label-packed, unpacked-packed, unused-zero, used-term}
 use Rattle.label.specs.Order.{termBefore, placesBefore, atomBefore, labelBefore}
-use Rattle.label.specs.OrderLaws.{Fits, placesOf, places-fit, term-numbers, order-numbers}
+use Rattle.label.specs.OrderLaws.{Fits, places-fit, term-numbers, order-numbers}
 use Rattle.label.specs.declared.Atom.{Atom}
 use Rattle.label.specs.declared.Test.the-variants.{Is}
 
@@ -253,12 +253,12 @@ pub numbering-high : (vs : List ℕ) (m t : ℕ) → firstVariable ≤ t → num
 unfolding numbering
 numbering-high vs m t h = rw (le-ltb t firstVariable h)
 
-variable-term : (t : ℕ) → firstVariable ≤ t → t < termBase → isTerm t ≡ true
+variable-term : (t : ℕ) → firstVariable ≤ t → t < termEnd → isTerm t ≡ true
 unfolding isTerm isConstant isParameter isVariable
 variable-term t h k = rw (le-ltb t 16 (omega arith), le-leb 16 t (omega arith), le-ltb t 20 (omega arith), le-leb 32 t h, lt-ltb t 64 k)
 
 -- the variables vs, renamed from m on, fit below 64: the map keeps the order of the constants, the parameters and vs
-pub numbering-increasing : (vs : List ℕ) (m : ℕ) → firstVariable ≤ m → m + length vs ≤ termBase → Increasing (Numbered vs) (numbering vs m)
+pub numbering-increasing : (vs : List ℕ) (m : ℕ) → firstVariable ≤ m → m + length vs ≤ termEnd → Increasing (Numbered vs) (numbering vs m)
 numbering-increasing vs m h room = record { terms = λ t p. term t p (cmp t firstVariable); order = λ t u p q l. less t u p q l (cmp t firstVariable) (cmp u firstVariable) }
   where
     in-vs : (t : ℕ) → Numbered vs t → firstVariable ≤ t → mem eqb t vs ≡ true
@@ -289,7 +289,7 @@ numbering-increasing vs m h room = record { terms = λ t p. term t p (cmp t firs
 
 -- freeing: constants, the action's parameters, and the variables that stay below 64
 abbrev pub Freed : ℕ → ℕ → Type 0
-Freed c t = (isTerm t ≡ true) × ((t < firstParameter + c) ⊎ ((firstVariable ≤ t) × (t + c < termBase)))
+Freed c t = (isTerm t ≡ true) × ((t < firstParameter + c) ⊎ ((firstVariable ≤ t) × (t + c < termEnd)))
 
 pub freeing-constant : (c t : ℕ) → t < firstParameter → freeing c t ≡ t
 unfolding freeing
@@ -307,7 +307,7 @@ freeing-variable c t m h = rw (le-ltb t firstParameter (omega arith), le-ltb t (
 data Image (c t : ℕ) : Type 0 where
   constant : t < firstParameter → freeing c t ≡ t → Image c t
   parameter : firstParameter ≤ t → t < firstParameter + c → freeing c t ≡ t + (firstVariable - firstParameter) → Image c t
-  variable : firstVariable ≤ t → t + c < termBase → freeing c t ≡ t + c → Image c t
+  variable : firstVariable ≤ t → t + c < termEnd → freeing c t ≡ t + c → Image c t
 
 -- the parameters from 16 on turn into variables, which the others follow
 pub freeing-increasing : (c : ℕ) → c ≤ parameterCount → Increasing (Freed c) (freeing c)
@@ -316,7 +316,7 @@ freeing-increasing c m = record { terms = term; order = less }
     image : (t : ℕ) → Freed c t → Image c t
     image t p = go (p .1) (cmp t firstParameter)
       where
-        go : (t < firstParameter + c) ⊎ ((firstVariable ≤ t) × (t + c < termBase)) → Cmp t firstParameter → Image c t
+        go : (t < firstParameter + c) ⊎ ((firstVariable ≤ t) × (t + c < termEnd)) → Cmp t firstParameter → Image c t
         go (inl h) (below k) = constant k (freeing-constant c t k)
         go (inl h) (equal k) = parameter (omega arith) h (freeing-parameter c t (omega arith) h)
         go (inl h) (above k) = parameter (omega arith) h (freeing-parameter c t (omega arith) h)

@@ -2,9 +2,9 @@
 ghost use mathlib.Core.Path.{_≡_};
 ghost use Prim.Native.Nat.{_+_, _*_, _<_, _≤_};
 ghost use lib.ListN.{length};
-ghost use Rattle.label.specs.Limits.{constantCount, parameterCount, variableCount, termBase, predicateCount};
+ghost use Rattle.label.specs.Limits.{constantCount, parameterCount, variableCount, termEnd, mostPlaces, predicateCount};
 ghost use Rattle.label.specs.Terms.{isTerm, kindOf, constantTerm, parameterTerm, variableTerm};
-ghost use Rattle.label.specs.Labels.{areArities, packed, predicateOf, unpacked, placeFits, isLabel, isLabelUnder, equates, testOf};
+ghost use Rattle.label.specs.Labels.{areArities, packed, predicateOf, placeAt, unpacked, placeFits, isLabel, isLabelUnder, equates, testOf};
 ghost use Rattle.label.specs.Order.{Compared};
 ghost use Rattle.label.specs.Renamings.{mapOf, placed, mapped, moved, renamed};
 ghost use Rattle.label.specs.Callers.{Packable, Mappable, Movable, Replaced};
@@ -32,6 +32,10 @@ impl Term {
 
     pub const VARIABLES: u64 = 32;
     // Every term's number is below this.
+    pub const END: u64 = 64;
+    // A place of a label takes so many bits: its places are packed in this base.
+    pub const BITS: u64 = 6;
+
     pub const BASE: u64 = 64;
 
     // Constant i.
@@ -170,6 +174,14 @@ impl Label {
         self.packed / Label::PREDICATE_WEIGHT
     }
 
+    // What stands in place k of the label, the first being place 0.
+    pub fn place(self, k: u64) -> u64
+        requires { ⌜ k < mostPlaces ⌝ }
+        ensures { λ r. ⌜ r ≡ placeAt (self .packed) k ⌝ }
+    {
+        (self.packed >> (Label::PLACES - 1 - k) * Term::BITS) % Term::BASE
+    }
+
     // The label's atom.
     pub fn unpack(self) -> Atom
         ensures { λ r. ⌜ r ≡ unpacked (self .packed) ⌝ }
@@ -265,8 +277,8 @@ pub fn before(w: u64, v: u64) -> bool
 
 // What the equality of two terms asks.
 pub fn equate(t: u64, u: u64) -> Test
-    requires { ⌜ t < termBase ⌝ }
-    requires { ⌜ u < termBase ⌝ }
+    requires { ⌜ t < termEnd ⌝ }
+    requires { ⌜ u < termEnd ⌝ }
     ensures { λ r. ⌜ r ≡ equates t u ⌝ }
 {
     if t == u {

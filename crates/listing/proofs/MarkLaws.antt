@@ -11,7 +11,7 @@ use lib.Dec.{eqb}
 use borrow.Author.Tests.{eqb-true, eqb-false, eq-eqb, ne-eqb}
 use Rattle.basics.specs.Tests.{Flag, isTrue, isFalse, flag, Cmp, cmp, below, equal, above, cond-const}
 use Rattle.basics.specs.Members.{mem}
-use Rattle.label.specs.Limits.{leafMark, termBase, predicateCount, predicateWeight, firstWeight, secondWeight, thirdWeight, firstVariable, variableCount}
+use Rattle.label.specs.Limits.{leafMark, termEnd, predicateCount, predicateWeight, firstWeight, secondWeight, thirdWeight, firstVariable, variableCount}
 use Rattle.label.specs.Labels.{termsOf, unpacked}
 use Rattle.label.specs.LabelLaws.{label-fits}
 use Rattle.label.proofs.CodeLaws.{under-all}
@@ -25,15 +25,15 @@ use Rattle.listing.specs.UsedLaws.{terms-leaf, terms-branch, mentioned-n
 
 -- clear: the marks before t are cleared
 pub record Clearing (ms : List ℕ) (t : ℕ) : Type 0 where
-  pub whole : length ms ≡ termBase
-  pub most : t ≤ termBase
+  pub whole : length ms ≡ termEnd
+  pub most : t ≤ termEnd
   pub zeros : (k : ℕ) → k < t → getD ms k 0 ≡ 0
 
 module _ {ms : List ℕ} where
-  pub clear-start : length ms ≡ termBase → Clearing ms 0
+  pub clear-start : length ms ≡ termEnd → Clearing ms 0
   clear-start h = record { whole = h; most = zero-le; zeros = λ k l. absurd (omega arith) }
 
-  pub clear-next : {t : ℕ} → Clearing ms t → t < termBase → Clearing (set ms t 0) (t + 1)
+  pub clear-next : {t : ℕ} → Clearing ms t → t < termEnd → Clearing (set ms t 0) (t + 1)
   clear-next {t} c h = record { whole = rw length-set (c .whole); most = omega arith; zeros = λ k l. go k l (cmp k t) }
     where
       go : (k : ℕ) → k < t + 1 → Cmp k t → getD (set ms t 0) k 0 ≡ 0
@@ -41,7 +41,7 @@ module _ {ms : List ℕ} where
       go k l (equal q) = rw q (getD-set-same ms t 0 0 (omega (arith, c .whole)))
       go k l (above q) = absurd (omega arith)
 
-  pub clear-end : {t : ℕ} → Clearing ms t → termBase ≤ t → Cleared ms
+  pub clear-end : {t : ℕ} → Clearing ms t → termEnd ≤ t → Cleared ms
   clear-end c h = record { whole = c .whole; zeros = λ k l. c .zeros k (omega arith) }
 
 -- mark_row: the terms of a branch, by its label's places
@@ -60,7 +60,7 @@ module _ (ar ws ms : List ℕ) (i : ℕ) where
 
     places : rowTerms ar ws i
         ≡ take (getD ar (getD ws (i * 3) 0 / predicateWeight) 0)
-        (getD ws (i * 3) 0 / firstWeight % termBase ∷ getD ws (i * 3) 0 / secondWeight % termBase ∷ getD ws (i * 3) 0 / thirdWeight % termBase ∷ getD ws (i * 3) 0 % termBase ∷ [])
+        (getD ws (i * 3) 0 / firstWeight % termEnd ∷ getD ws (i * 3) 0 / secondWeight % termEnd ∷ getD ws (i * 3) 0 / thirdWeight % termEnd ∷ getD ws (i * 3) 0 % termEnd ∷ [])
     unfolding labelAt termsOf unpacked
     places = terms-branch ar ws i e
 
@@ -68,25 +68,25 @@ module _ (ar ws ms : List ℕ) (i : ℕ) where
     mark-none h = rw (places, h)
 
     pub mark-one : getD ar (getD ws (i * 3) 0 / predicateWeight) 0 ≡ 1
-        → set ms (getD ws (i * 3) 0 / firstWeight % termBase) 1 ≡ marked (rowTerms ar ws i) ms
+        → set ms (getD ws (i * 3) 0 / firstWeight % termEnd) 1 ≡ marked (rowTerms ar ws i) ms
     mark-one h = rw (places, h)
 
     pub mark-two : getD ar (getD ws (i * 3) 0 / predicateWeight) 0 ≡ 2
-        → set (set ms (getD ws (i * 3) 0 / firstWeight % termBase) 1) (getD ws (i * 3) 0 / secondWeight % termBase) 1 ≡ marked (rowTerms ar ws i) ms
+        → set (set ms (getD ws (i * 3) 0 / firstWeight % termEnd) 1) (getD ws (i * 3) 0 / secondWeight % termEnd) 1 ≡ marked (rowTerms ar ws i) ms
     mark-two h = rw (places, h)
 
     pub mark-three : getD ar (getD ws (i * 3) 0 / predicateWeight) 0 ≡ 3
-        → set (set (set ms (getD ws (i * 3) 0 / firstWeight % termBase) 1) (getD ws (i * 3) 0 / secondWeight % termBase) 1) (getD ws (i * 3) 0 / thirdWeight % termBase) 1
+        → set (set (set ms (getD ws (i * 3) 0 / firstWeight % termEnd) 1) (getD ws (i * 3) 0 / secondWeight % termEnd) 1) (getD ws (i * 3) 0 / thirdWeight % termEnd) 1
         ≡ marked (rowTerms ar ws i) ms
     mark-three h = rw (places, h)
 
     pub mark-four : (getD ar (getD ws (i * 3) 0 / predicateWeight) 0 ≡ 0 → ⊥) → (getD ar (getD ws (i * 3) 0 / predicateWeight) 0 ≡ 1 → ⊥)
         → (getD ar (getD ws (i * 3) 0 / predicateWeight) 0 ≡ 2 → ⊥) → (getD ar (getD ws (i * 3) 0 / predicateWeight) 0 ≡ 3 → ⊥)
-        → set (set (set (set ms (getD ws (i * 3) 0 / firstWeight % termBase) 1) (getD ws (i * 3) 0 / secondWeight % termBase) 1)
-        (getD ws (i * 3) 0 / thirdWeight % termBase) 1) (getD ws (i * 3) 0 % termBase) 1
+        → set (set (set (set ms (getD ws (i * 3) 0 / firstWeight % termEnd) 1) (getD ws (i * 3) 0 / secondWeight % termEnd) 1)
+        (getD ws (i * 3) 0 / thirdWeight % termEnd) 1) (getD ws (i * 3) 0 % termEnd) 1
         ≡ marked (rowTerms ar ws i) ms
     mark-four h₀ h₁ h₂ h₃ =
-        let l : List ℕ = getD ws (i * 3) 0 / firstWeight % termBase ∷ getD ws (i * 3) 0 / secondWeight % termBase ∷ getD ws (i * 3) 0 / thirdWeight % termBase ∷ getD ws (i * 3) 0 % termBase ∷ [] in
+        let l : List ℕ = getD ws (i * 3) 0 / firstWeight % termEnd ∷ getD ws (i * 3) 0 / secondWeight % termEnd ∷ getD ws (i * 3) 0 / thirdWeight % termEnd ∷ getD ws (i * 3) 0 % termEnd ∷ [] in
         rw (places, take-all (getD ar (getD ws (i * 3) 0 / predicateWeight) 0) l (omega arith))
 
 -- the marks after terms were marked
@@ -104,9 +104,9 @@ marked-at (u ∷ us) ms t h = marked-at us (set ms u 1) t (rw length-set h) ∙ 
 
 -- used: the terms of the rows before i are marked
 pub record Marking (ar ws ms : List ℕ) (i : ℕ) : Type 0 where
-  pub whole : length ms ≡ termBase
+  pub whole : length ms ≡ termEnd
   pub most : i ≤ rowCount ws
-  pub each : (t : ℕ) → t < termBase → getD ms t 0 ≡ cond (mentioned ar ws i t) 1 0
+  pub each : (t : ℕ) → t < termEnd → getD ms t 0 ≡ cond (mentioned ar ws i t) 1 0
 
 module _ {ar ws ms : List ℕ} where
   pub mark-start : Cleared ms → Marking ar ws ms 0
@@ -156,30 +156,30 @@ count-small {x} m e = go (flag (eqb m 0))
 
 -- count_variables: n of the variables' marks before t are set
 pub record Counting (ms : List ℕ) (n t : ℕ) : Type 0 where
-  pub most : t ≤ termBase
+  pub most : t ≤ termEnd
   pub fewer : n + firstVariable ≤ t
-  pub sum : n + setFrom ms t (termBase - t) ≡ setFrom ms firstVariable variableCount
+  pub sum : n + setFrom ms t (termEnd - t) ≡ setFrom ms firstVariable variableCount
 
 module _ {ms : List ℕ} where
   pub count-start : Counting ms 0 firstVariable
   count-start = record { most = omega arith; fewer = omega arith; sum = omega arith }
 
-  pub count-next : {n t x : ℕ} → Counting ms n t → t < termBase → x ≡ cond (eqb (getD ms t 0) 0) 0 1 → Counting ms (n + x) (t + 1)
+  pub count-next : {n t x : ℕ} → Counting ms n t → t < termEnd → x ≡ cond (eqb (getD ms t 0) 0) 0 1 → Counting ms (n + x) (t + 1)
   count-next {n} {t} {x} c h e = record { most = omega arith; fewer = omega (arith, c .fewer, count-small (getD ms t 0) e); sum = all }
     where
-      all : n + x + setFrom ms (t + 1) (termBase - (t + 1)) ≡ setFrom ms firstVariable variableCount
+      all : n + x + setFrom ms (t + 1) (termEnd - (t + 1)) ≡ setFrom ms firstVariable variableCount
       all =
-          let p : termBase - t ≡ suc (termBase - (t + 1)) = omega arith in
-          let q : setFrom ms t (termBase - t) ≡ x + setFrom ms (suc t) (termBase - (t + 1)) = ap (setFrom ms t) p ∙ set-more ms t (termBase - (t + 1)) ∙ rw e in
-          let r : setFrom ms (t + 1) (termBase - (t + 1)) ≡ setFrom ms (suc t) (termBase - (t + 1)) = rw add-one in
+          let p : termEnd - t ≡ suc (termEnd - (t + 1)) = omega arith in
+          let q : setFrom ms t (termEnd - t) ≡ x + setFrom ms (suc t) (termEnd - (t + 1)) = ap (setFrom ms t) p ∙ set-more ms t (termEnd - (t + 1)) ∙ rw e in
+          let r : setFrom ms (t + 1) (termEnd - (t + 1)) ≡ setFrom ms (suc t) (termEnd - (t + 1)) = rw add-one in
           omega (arith, c .sum)
 
   pub count-room : {n t x : ℕ} → Counting ms n t → x ≡ cond (eqb (getD ms t 0) 0) 0 1 → n + x < 18446744073709551616
   count-room {n} {t} {x} c e = omega (arith, c .most, c .fewer, count-small (getD ms t 0) e)
 
-  pub count-end : {n t : ℕ} → Counting ms n t → termBase ≤ t → n ≡ markedVariables ms
+  pub count-end : {n t : ℕ} → Counting ms n t → termEnd ≤ t → n ≡ markedVariables ms
   unfolding markedVariables
   count-end {n} {t} c h =
-      let p : termBase - t ≡ 0 = omega arith in
-      let q : setFrom ms t (termBase - t) ≡ 0 = ap (setFrom ms t) p ∙ set-none ms t in
+      let p : termEnd - t ≡ 0 = omega arith in
+      let q : setFrom ms t (termEnd - t) ≡ 0 = ap (setFrom ms t) p ∙ set-none ms t in
       omega (arith, c .sum)

@@ -6,7 +6,7 @@ use Prim.Native.Nat.{ℕ, zero, suc, _+_, _<_}
 use lib.ListN.{length, getD, set}
 use lib.Dec.{eqb}
 use Rattle.basics.specs.Members.{mem}
-use Rattle.label.specs.Limits.{leafMark, termBase, firstVariable, variableCount}
+use Rattle.label.specs.Limits.{leafMark, termEnd, firstVariable, variableCount}
 use Rattle.label.specs.Labels.{termsOf, unpacked}
 use Rattle.diagram.specs.Diagram.{Diagram}
 use Rattle.diagram.specs.Words.{labelAt, rowCount}
@@ -30,8 +30,8 @@ marked (t ∷ ts) ms = marked ts (set ms t 1)
 
 -- a mark for each term: 1 if it occurs in d, 0 if not
 pub record Used (ar : List ℕ) (d : Diagram) (ms : List ℕ) : Type 0 where
-  pub whole : length ms ≡ termBase
-  pub each : (t : ℕ) → t < termBase → getD ms t 0 ≡ cond (occurs ar t d) 1 0
+  pub whole : length ms ≡ termEnd
+  pub each : (t : ℕ) → t < termEnd → getD ms t 0 ≡ cond (occurs ar t d) 1 0
 
 -- how many of the n marks from t on are set
 unfoldable pub setFrom : List ℕ → ℕ → ℕ → ℕ
@@ -47,9 +47,9 @@ markedVariables ms = setFrom ms firstVariable variableCount
 pub record Markable (ar ws ms : List ℕ) (i : ℕ) : Type 0 where
   pub valid : Valid ar ws
   pub row : i < rowCount ws
-  pub whole : length ms ≡ termBase
+  pub whole : length ms ≡ termEnd
 
 -- what clearing the marks ensures
 pub record Cleared (ms : List ℕ) : Type 0 where
-  pub whole : length ms ≡ termBase
-  pub zeros : (t : ℕ) → t < termBase → getD ms t 0 ≡ 0
+  pub whole : length ms ≡ termEnd
+  pub zeros : (t : ℕ) → t < termEnd → getD ms t 0 ≡ 0

@@ -10,7 +10,7 @@ use lib.Dec.{eqb}
 use borrow.Author.Tests.{eqb-true, eqb-false, eq-eqb, ne-eqb}
 use Rattle.basics.specs.Tests.{Flag, isTrue, isFalse, flag, Cmp, cmp, below, equal, above, Either, one, other, either, or-one, or-other}
 use Rattle.basics.specs.Members.{mem, mem-append, clash}
-use Rattle.label.specs.Limits.{leafMark, termBase, firstVariable, variableCount}
+use Rattle.label.specs.Limits.{leafMark, termEnd, firstVariable, variableCount}
 use Rattle.label.specs.Labels.{termsOf, unpacked}
 use Rattle.diagram.specs.Diagram.{Diagram, leaf, branch, same}
 use Rattle.diagram.specs.DiagramLaws.{same-eq, onto-old, onto-leaf, onto-branch}
@@ -175,7 +175,7 @@ module _ (ar ws : List ℕ) (v : Valid ar ws) (t : ℕ) where
 
 -- as many marks are set as terms occur
 module _ (ar : List ℕ) (d : Diagram) (ms : List ℕ) (u : Used ar d ms) where
-  pub set-occurring : (t n : ℕ) → t + n ≤ termBase → setFrom ms t n ≡ length (occurring ar d t n)
+  pub set-occurring : (t n : ℕ) → t + n ≤ termEnd → setFrom ms t n ≡ length (occurring ar d t n)
   unfolding setFrom occurring
   set-occurring t zero h = refl
   set-occurring t (suc n) h = rw (u .each t (omega arith), set-occurring (suc t) n (omega arith)) (go (occurs ar t d))

@@ -7,7 +7,7 @@ ghost use Prim.Native.Nat.{_+_, _*_, _<_, _≤_};
 ghost use mathlib.Core.Bool.{cond};
 ghost use lib.Dec.{eqb};
 ghost use lib.ListN.{length};
-ghost use Rattle.label.specs.Limits.{predicateCount, termBase};
+ghost use Rattle.label.specs.Limits.{predicateCount, termEnd};
 ghost use Rattle.table.specs.Table.{Table};
 ghost use Rattle.diagram.specs.Words.{isListing};
 ghost use Rattle.diagram.specs.Listing.{diagramOf};
@@ -159,11 +159,11 @@ pub fn check(arities: &[u64], words: &[u64]) -> bool
 
 // Clears the marks, one for each term.
 fn clear(marks: &mut [u64])
-    requires { ⌜ length (now marks) ≡ termBase ⌝ }
+    requires { ⌜ length (now marks) ≡ termEnd ⌝ }
     ensures { λ _. ⌜ Cleared (now (marks .exit)) ⌝ }
 {
     let mut t = 0;
-    while t < (Term::BASE as usize) {
+    while t < (Term::END as usize) {
         marks[t] = 0;
         t += 1;
     }
@@ -200,7 +200,7 @@ fn mark_row(arities: &[u64], words: &[u64], marks: &mut [u64], i: usize)
 // Marks the terms that occur in the listing: 1 for each of them, 0 for the others.
 pub fn used(arities: &[u64], words: &[u64], marks: &mut [u64])
     requires { ⌜ Valid (now arities) (now words) ⌝ }
-    requires { ⌜ length (now marks) ≡ termBase ⌝ }
+    requires { ⌜ length (now marks) ≡ termEnd ⌝ }
     ensures { λ _. ⌜ Used (now (arities .entry)) (diagramOf (now (words .entry))) (now (marks .exit)) ⌝ }
 {
     clear(marks);
@@ -224,12 +224,12 @@ fn counted(mark: u64) -> usize
 
 // How many variables are marked.
 pub fn count_variables(marks: &[u64]) -> usize
-    requires { ⌜ length (now marks) ≡ termBase ⌝ }
+    requires { ⌜ length (now marks) ≡ termEnd ⌝ }
     ensures { λ r. ⌜ r ≡ markedVariables (now (marks .entry)) ⌝ }
 {
     let mut n = 0;
     let mut t = Term::FIRST_VARIABLE as usize;
-    while t < (Term::BASE as usize) {
+    while t < (Term::END as usize) {
         n += counted(marks[t]);
         t += 1;
     }

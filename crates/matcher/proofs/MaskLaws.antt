@@ -8,7 +8,7 @@ use lib.Pow.{shr-shr, shl-exact}
 use lib.Bits.{bitAnd, bitOr, and-step, or-step, shifted-half, shifted-even}
 use lib.Dec.{eqb}
 use borrow.Author.Tests.{eqb-true}
-use Rattle.label.specs.Limits.{firstVariable, variableCount, termBase, mostPlaces}
+use Rattle.label.specs.Limits.{firstVariable, variableCount, termEnd, mostPlaces}
 use Rattle.matcher.specs.Search.{placeOf}
 use Rattle.matcher.specs.Failure.{bitAt, In, One, Variables}
 
@@ -109,7 +109,7 @@ zero-none (suc i) h = zero-none i h
 pub one-none : (t : ℕ) → t < firstVariable → One t 0
 one-none t h = record { has = λ i e. absurd (omega arith); only = λ i e. absurd (zero-none i e) }
 
-pub one-some : (t : ℕ) → firstVariable ≤ t → t < termBase → One t (1 * 2 ^ (t - firstVariable) % 2 ^ 64)
+pub one-some : (t : ℕ) → firstVariable ≤ t → t < termEnd → One t (1 * 2 ^ (t - firstVariable) % 2 ^ 64)
 one-some t f h = record {
   has = λ i e. let o : t - firstVariable ≡ i = omega arith in ap (λ (m : ℕ). bitAt m i) (exact ∙ ap (λ (j : ℕ). 1 * 2 ^ j) o) ∙ power-in i;
   only = λ i e. let o = power-bit (t - firstVariable) i (ap (λ (m : ℕ). bitAt m i) (sym exact) ∙ e) in omega arith;

@@ -7,7 +7,7 @@ use Prim.Native.Nat.{ℕ, zero, suc, _/_, _<_}
 use native.Mathlib.Omega.{arith}
 use lib.ListN.{drop}
 use borrow.Author.Tests.{eq-eqb, lt-leb}
-use Rattle.label.specs.Limits.{firstVariable, termBase}
+use Rattle.label.specs.Limits.{firstVariable, termEnd}
 use Rattle.label.specs.Terms.{isVariable}
 use Rattle.label.specs.Labels.{isLabel, termsOf, unpacked}
 use Rattle.paths.specs.Paths.{Literal}
@@ -77,7 +77,7 @@ four-place l u (List·Memᴰ·tail (List·Memᴰ·tail (List·Memᴰ·tail (List
 four-place l u (List·Memᴰ·tail (List·Memᴰ·tail (List·Memᴰ·tail (List·Memᴰ·tail q)))) = absurd (List·Memᴰ·not-nil q)
 
 -- a match takes literal x by one of its ways
-module _ (ar T ord into tab : List ℕ) (s : Setting ar T ord into tab) (qs : List Literal) (z : Solves ar (literalsIn (drop termBase into)) T qs start) where
+module _ (ar T ord into tab : List ℕ) (s : Setting ar T ord into tab) (qs : List Literal) (z : Solves ar (literalsIn (drop termEnd into)) T qs start) where
   pub constant-stays : (v : ℕ) → v < firstVariable → z .σ v ≡ v
   unfolding start isVariable
   constant-stays v h = z .extends .known v v (start-is v h)
@@ -92,7 +92,7 @@ module _ (ar T ord into tab : List ℕ) (s : Setting ar T ord into tab) (qs : Li
     pub taken : WayOf ar T ord into tab s x label (map (z .σ) (termsOf ar (unpacked (x / 2))))
     unfolding literalAt
     taken = way-out ar T ord into tab s x label (map (z .σ) (termsOf ar (unpacked (x / 2))))
-        (target-complete ar (s .search .arities) (z .σ) (literalsIn (drop termBase into)) T (literalAt x) (s .search .small) (z .image (literalAt x) m) (z .matched (literalAt x) m))
+        (target-complete ar (s .search .arities) (z .σ) (literalsIn (drop termEnd into)) T (literalAt x) (s .search .small) (z .image (literalAt x) m) (z .matched (literalAt x) m))
 
     pub taken-is : (w : WayOf ar T ord into tab s x label (map (z .σ) (termsOf ar (unpacked (x / 2)))))
         → map (z .σ) (fourOf (x / 2)) ≡ w .a ∷ w .b ∷ w .c ∷ w .d ∷ []
@@ -103,11 +103,11 @@ module _ (ar T ord into tab : List ℕ) (s : Setting ar T ord into tab) (qs : Li
 
     -- a literal whose terms are all known and that is not met: no match agrees with theta on its terms
     pub unmet : (theta : List ℕ) → ((t : ℕ) → List·Memᴰ t (termsOf ar (unpacked (x / 2))) → z .σ t ≡ replacedBy theta t)
-        → (Matched ar (replacedBy theta) (literalsIn (drop termBase into)) (literalAt x) → ⊥) → ⊥
+        → (Matched ar (replacedBy theta) (literalsIn (drop termEnd into)) (literalAt x) → ⊥) → ⊥
     unfolding literalAt
     unmet theta h f =
-        f (target-sound ar (s .search .arities) (replacedBy theta) (literalsIn (drop termBase into)) T (literalAt x) (s .search .labels)
-        (subst (λ (us : List ℕ). List·Memᴰ us (targets ar (literalsIn (drop termBase into)) T (literalAt x)))
+        f (target-sound ar (s .search .arities) (replacedBy theta) (literalsIn (drop termEnd into)) T (literalAt x) (s .search .labels)
+        (subst (λ (us : List ℕ). List·Memᴰ us (targets ar (literalsIn (drop termEnd into)) T (literalAt x)))
         (map-same (z .σ) (replacedBy theta) (termsOf ar (unpacked (x / 2))) h)
-        (target-complete ar (s .search .arities) (z .σ) (literalsIn (drop termBase into)) T (literalAt x) (s .search .small) (z .image (literalAt x) m)
+        (target-complete ar (s .search .arities) (z .σ) (literalsIn (drop termEnd into)) T (literalAt x) (s .search .small) (z .image (literalAt x) m)
         (z .matched (literalAt x) m))))

@@ -8,7 +8,7 @@ use lib.ListN.{length, getD, take, drop, length-take, length-drop}
 use lib.Seq.{getD-take, getD-drop}
 use lib.Dec.{eqb}
 use Rattle.basics.specs.Tests.{Cmp, cmp, below, equal, above}
-use Rattle.label.specs.Limits.{termBase}
+use Rattle.label.specs.Limits.{termEnd}
 use Rattle.label.specs.Labels.{isLabel, unpacked, termsOf}
 use Rattle.diagram.specs.Diagram.{Diagram, leaf, branch, From}
 use Rattle.diagram.specs.Words.{labelAt, rowCount, isListing}
@@ -121,10 +121,10 @@ module _ {ar ws counts : List ℕ} {n k : ℕ} {out out₁ : List ℕ} {j : ℕ}
   labelled = listed-labels (g .listed) (g .whole) (g .path)
 
   long : length (codes p) ≡ j
-  long = sym (ap length (e .are)) ∙ length-take j (drop termBase out₁) ∙ omega (arith, length-drop termBase out₁, same, g .room, e .few)
+  long = sym (ap length (e .are)) ∙ length-take j (drop termEnd out₁) ∙ omega (arith, length-drop termEnd out₁, same, g .room, e .few)
 
-  at : (i : ℕ) → i < j → getD out₁ (termBase + i) 0 ≡ getD (codes p) i 0
-  at i h = sym (getD-take j (drop termBase out₁) i 0 h ∙ getD-drop termBase out₁ i 0) ∙ ap (λ (xs : List ℕ). getD xs i 0) (e .are)
+  at : (i : ℕ) → i < j → getD out₁ (termEnd + i) 0 ≡ getD (codes p) i 0
+  at i h = sym (getD-take j (drop termEnd out₁) i 0 h ∙ getD-drop termEnd out₁ i 0) ∙ ap (λ (xs : List ℕ). getD xs i 0) (e .are)
 
   pub enter-unmarked : Unmarked ar out₁ j
   unfolding codes
@@ -136,22 +136,22 @@ module _ {ar ws counts : List ℕ} {n k : ℕ} {out out₁ : List ℕ} {j : ℕ}
     labels = labels;
   }
     where
-      labels : (i : ℕ) → i < j → isLabel ar (getD out₁ (termBase + i) 0 / 2) ≡ true
+      labels : (i : ℕ) → i < j → isLabel ar (getD out₁ (termEnd + i) 0 / 2) ≡ true
       labels i h =
           let r = code-label ar (literals p) i (omega (arith, long)) in
           ap (isLabel ar) (ap (λ (x : ℕ). x / 2) (at i h) ∙ r .2) ∙ labelled .each .each (r .0) (r .1)
 
   module _ {out₂ : List ℕ} (m : Marking ar out₁ out₂ j) where
-    behind-at : (i : ℕ) → getD out₂ (termBase + i) 0 ≡ getD out₁ (termBase + i) 0
-    behind-at i = sym (getD-drop termBase out₂ i 0) ∙ ap (λ (xs : List ℕ). getD xs i 0) (m .behind) ∙ getD-drop termBase out₁ i 0
+    behind-at : (i : ℕ) → getD out₂ (termEnd + i) 0 ≡ getD out₁ (termEnd + i) 0
+    behind-at i = sym (getD-drop termEnd out₂ i 0) ∙ ap (λ (xs : List ℕ). getD xs i 0) (m .behind) ∙ getD-drop termEnd out₁ i 0
 
-    count : length (take (termBase + j) out₂) ≡ termBase + j
-    count = length-take (termBase + j) out₂ ∙ omega (arith, m .length-kept, same, g .room, e .few)
+    count : length (take (termEnd + j) out₂) ≡ termEnd + j
+    count = length-take (termEnd + j) out₂ ∙ omega (arith, m .length-kept, same, g .room, e .few)
 
-    into-code : (i : ℕ) → i < j → getD (take (termBase + j) out₂) (termBase + i) 0 ≡ getD (codes p) i 0
-    into-code i h = getD-take (termBase + j) out₂ (termBase + i) 0 (omega arith) ∙ behind-at i ∙ at i h
+    into-code : (i : ℕ) → i < j → getD (take (termEnd + j) out₂) (termEnd + i) 0 ≡ getD (codes p) i 0
+    into-code i h = getD-take (termEnd + j) out₂ (termEnd + i) 0 (omega arith) ∙ behind-at i ∙ at i h
 
-    terms-code : (i : ℕ) (l : Literal) → i < j → getD (codes p) i 0 / 2 ≡ l .label → termsOfCode ar (getD out₁ (termBase + i) 0) ≡ termsOf ar (unpacked (l .label))
+    terms-code : (i : ℕ) (l : Literal) → i < j → getD (codes p) i 0 / 2 ≡ l .label → termsOfCode ar (getD out₁ (termEnd + i) 0) ≡ termsOf ar (unpacked (l .label))
     unfolding termsOfCode
     terms-code i l h q = ap (λ (x : ℕ). termsOf ar (unpacked x)) (ap (λ (x : ℕ). x / 2) (at i h) ∙ q)
 
@@ -164,8 +164,8 @@ module _ {ar ws counts : List ℕ} {n k : ℕ} {out out₁ : List ℕ} {j : ℕ}
       marks = record { has = has; of = of };
     }
       where
-        order : (x y : ℕ) → x < y → y < length (take (termBase + j) out₂) - termBase
-            → getD (take (termBase + j) out₂) (termBase + x) 0 < getD (take (termBase + j) out₂) (termBase + y) 0
+        order : (x y : ℕ) → x < y → y < length (take (termEnd + j) out₂) - termEnd
+            → getD (take (termEnd + j) out₂) (termEnd + x) 0 < getD (take (termEnd + j) out₂) (termEnd + y) 0
         order x y l h =
             let u : y < j = omega (arith, count) in
             omega (
@@ -183,7 +183,7 @@ module _ {ar ws counts : List ℕ} {n k : ℕ} {out out₁ : List ℕ} {j : ℕ}
             let h : r .0 < j = omega (arith, r .1, long) in
             m .has (r .0) t h (subst (List·Memᴰ t) (sym (terms-code (r .0) (o .0) h (r .2))) (o .2))
 
-        of : (t : ℕ) → t < termBase → 0 < getD out₂ t 0 → List·Memᴰ t (termsIn ar (literals p))
+        of : (t : ℕ) → t < termEnd → 0 < getD out₂ t 0 → List·Memᴰ t (termsIn ar (literals p))
         of t h w =
             let r = m .of t h w in
             let c = code-label ar (literals p) (r .0) (omega (arith, r .1, long)) in

@@ -10,7 +10,7 @@ use lib.ListN.{length, getD, drop}
 use lib.Bits.{bitAnd, bitOr}
 use Rattle.basics.specs.Tests.{Cmp, cmp, below, equal, above}
 use Rattle.basics.specs.Members.{clash}
-use Rattle.label.specs.Limits.{firstVariable, variableCount, termBase}
+use Rattle.label.specs.Limits.{firstVariable, variableCount, termEnd}
 use Rattle.label.specs.Labels.{isLabel, termsOf, unpacked}
 use Rattle.paths.specs.Paths.{Literal}
 use Rattle.cutting.specs.Match.{Partial, start, bindTerms, goOn, matches}
@@ -46,7 +46,7 @@ found-weary e = let z : _≡_ {A = ℕ} 0 1 = cc in absurd (omega arith)
 
 -- a failure with its promise
 failed-post : {ord into tab theta store theta′ store′ : List ℕ} {k bound q : ℕ} → Nogood ord into tab q theta firstVariable → ((i : ℕ) → In q i → In bound i)
-    → ((v : ℕ) → v < termBase → getD tab v 0 ≤ k * 4 → getD theta′ v 0 ≡ getD theta v 0) → Remembers ord into tab store′
+    → ((v : ℕ) → v < termEnd → getD tab v 0 ≤ k * 4 → getD theta′ v 0 ≡ getD theta v 0) → Remembers ord into tab store′
     → SolvePost ord into tab theta store k bound (Failed q) theta′ store′
 failed-post {ord} {into} {tab} {theta} {q = q} g w k m = record {
   found = λ e. not-found q e;
@@ -62,7 +62,7 @@ pub solve-end : {ord into tab theta store : List ℕ} {k bound : ℕ} → k ≡ 
 unfolding matches
 solve-end {ord} {into} {tab} {theta} {store} {k} {bound} e g = record {
   found = λ z ar T s i.
-      ap (λ (qs : List Literal). matches ar (literalsIn (drop termBase into)) T qs (known tab theta (k * 4)))
+      ap (λ (qs : List Literal). matches ar (literalsIn (drop termEnd into)) T qs (known tab theta (k * 4)))
       (ap (λ (m : ℕ). segment ord m (length ord)) e ∙ segment-end ord (length ord));
   failed = λ q z. not-failed q z;
   within = λ q z. not-failed q z;
@@ -142,13 +142,13 @@ module _ {ord into tab theta store : List ℕ} {k x bound vars total : ℕ} (y :
 -- theta now, and no match that has the words of theta on the mask takes literal x by a way before j
 pub record Trying (ord into tab theta store : List ℕ) (k x bound vars total : ℕ) (theta′ store′ : List ℕ) (mask j : ℕ) : Type 0 where
   pub level : Level ord into tab theta store k x bound vars total
-  pub kept : (v : ℕ) → v < termBase → getD tab v 0 ≤ k * 4 → getD theta′ v 0 ≡ getD theta v 0
+  pub kept : (v : ℕ) → v < termEnd → getD tab v 0 ≤ k * 4 → getD theta′ v 0 ≡ getD theta v 0
   pub length-kept : length theta′ ≡ length theta
   pub store-kept : length store′ ≡ length store
   pub within : (i : ℕ) → In mask i → In bound i
   pub old : (i : ℕ) → In vars i → In bound i → In mask i
   pub remembers : Remembers ord into tab store′
-  pub failed : (i : ℕ) → i < j → (ar T : List ℕ) → Setting ar T ord into tab → (z : Solves ar (literalsIn (drop termBase into)) T (segment ord 0 (length ord)) start)
+  pub failed : (i : ℕ) → i < j → (ar T : List ℕ) → Setting ar T ord into tab → (z : Solves ar (literalsIn (drop termEnd into)) T (segment ord 0 (length ord)) start)
       → Agrees mask theta firstVariable (z .σ) → (a b c d : ℕ) → wayAt into tab x i ≡ Terms a b c d → map (z .σ) (fourOf (x / 2)) ≡ a ∷ b ∷ c ∷ d ∷ [] → ⊥
 
 pub trying-start : {ord into tab theta store : List ℕ} {k x bound vars total : ℕ} → Solving ord into tab theta store k bound → (k ≡ length ord → ⊥)
@@ -176,7 +176,7 @@ module _ {ord into tab theta store : List ℕ} {k x bound vars total : ℕ} {the
   now-known : known tab theta′ (k * 4) ≡ known tab theta (k * 4)
   now-known = sym (known-same tab theta theta′ (k * 4) (k * 4) (omega arith) (y .kept) (λ v p q. q))
 
-  pub trying-room : termBase ≤ length theta′
+  pub trying-room : termEnd ≤ length theta′
   trying-room = omega (arith, y .length-kept, replacing .room)
 
   all-failed : total ≤ j → Nogood ord into tab mask theta firstVariable
@@ -196,15 +196,15 @@ module _ {ord into tab theta store : List ℕ} {k x bound vars total : ℕ} {the
   trying-end l p e = failed-post (all-failed l) (y .within) (y .kept) (remembers-more (y .remembers) (now-failed l) e p)
 
   -- a match that agrees on the mask agrees with what is known of the literal's terms
-  agrees-old : (ar T : List ℕ) (s : Setting ar T ord into tab) (z : Solves ar (literalsIn (drop termBase into)) T (segment ord 0 (length ord)) start)
+  agrees-old : (ar T : List ℕ) (s : Setting ar T ord into tab) (z : Solves ar (literalsIn (drop termEnd into)) T (segment ord 0 (length ord)) start)
       → Agrees mask theta firstVariable (z .σ) → (u w : ℕ) → List·Memᴰ u (fourOf (x / 2)) → known tab theta′ (k * 4) u ≡ some w → z .σ u ≡ w
   agrees-old ar T s z a u w m e = go (cmp u firstVariable) (cmp (getD tab u 0) (k * 4 + 1))
     where
       place : (j : ℕ) × (placeOf (x / 2) j ≡ u)
       place = four-place (x / 2) u m
 
-      small : u < termBase
-      small = subst (λ (i : ℕ). i < termBase) (place .1) (place-small (x / 2) (place .0))
+      small : u < termEnd
+      small = subst (λ (i : ℕ). i < termEnd) (place .1) (place-small (x / 2) (place .0))
 
       word : getD tab u 0 ≤ k * 4 → getD theta u 0 ≡ w
       word l = sym (y .kept u small l) ∙ some-inj _ _ (sym (known-some tab theta′ (k * 4) u small l) ∙ e)
@@ -233,11 +233,11 @@ module _ {ord into tab theta store : List ℕ} {k x bound vars total : ℕ} {the
     j-less : j < wayCount into x
     j-less = omega (arith, y .level .count)
 
-    try-kept : (w : Way) → TryPost tab theta′ (k * 4) x b theta₁ w → (v : ℕ) → v < termBase → getD tab v 0 ≤ k * 4 → getD theta₁ v 0 ≡ getD theta′ v 0
+    try-kept : (w : Way) → TryPost tab theta′ (k * 4) x b theta₁ w → (v : ℕ) → v < termEnd → getD tab v 0 ≤ k * 4 → getD theta₁ v 0 ≡ getD theta′ v 0
     try-kept w (no-way f g) v q z = ap (λ (th : List ℕ). getD th v 0) g
     try-kept w (a-way f) v q z = f .kept v q z
 
-    kept-on : (v : ℕ) → v < termBase → getD tab v 0 ≤ k * 4 → getD theta₁ v 0 ≡ getD theta v 0
+    kept-on : (v : ℕ) → v < termEnd → getD tab v 0 ≤ k * 4 → getD theta₁ v 0 ≡ getD theta v 0
     kept-on v q z = try-kept (wayAt into tab x j) p v q z ∙ y .kept v q z
 
     -- the way does not fit
@@ -253,7 +253,7 @@ module _ {ord into tab theta store : List ℕ} {k x bound vars total : ℕ} {the
       failed = λ i q. more i q (cmp i j);
     }
       where
-        miss : (ar T : List ℕ) (s : Setting ar T ord into tab) (z : Solves ar (literalsIn (drop termBase into)) T (segment ord 0 (length ord)) start)
+        miss : (ar T : List ℕ) (s : Setting ar T ord into tab) (z : Solves ar (literalsIn (drop termEnd into)) T (segment ord 0 (length ord)) start)
             → Agrees mask theta firstVariable (z .σ) → (w : Way) → TryPost tab theta′ (k * 4) x b theta₁ w → (a b₁ c d : ℕ) → w ≡ Terms a b₁ c d
             → map (z .σ) (fourOf (x / 2)) ≡ a ∷ b₁ ∷ c ∷ d ∷ [] → ⊥
         miss ar T s z ag w (no-way g o) a b₁ c d q e = let o : _≡_ {A = ℕ} 0 1 = cc in absurd (omega arith)
@@ -262,7 +262,7 @@ module _ {ord into tab theta store : List ℕ} {k x bound vars total : ℕ} {the
             misfit (known tab theta′ (k * 4)) (z .σ) (fourOf (x / 2)) (a′ ∷ b′ ∷ c′ ∷ d′ ∷ []) (g .no f) (e ∙ u) (agrees-old ar T s z ag)
 
         more : (i : ℕ) → i < j + 1 → Cmp i j → (ar T : List ℕ) → Setting ar T ord into tab
-            → (z : Solves ar (literalsIn (drop termBase into)) T (segment ord 0 (length ord)) start) → Agrees mask theta firstVariable (z .σ)
+            → (z : Solves ar (literalsIn (drop termEnd into)) T (segment ord 0 (length ord)) start) → Agrees mask theta firstVariable (z .σ)
             → (a b c d : ℕ) → wayAt into tab x i ≡ Terms a b c d → map (z .σ) (fourOf (x / 2)) ≡ a ∷ b ∷ c ∷ d ∷ [] → ⊥
         more i q (below o) = y .failed i o
         more i q (equal o) = λ ar T s z ag a b c d w e. miss ar T s z ag (wayAt into tab x j) p a b c d (ap (wayAt into tab x) (sym o) ∙ w) e
@@ -278,18 +278,18 @@ module _ {ord into tab theta store : List ℕ} {k x bound vars total : ℕ} {the
           let i : k * 4 + 4 ≡ (k + 1) * 4 = omega arith in
           ap₂ (λ (τ : Partial) (us : List ℕ). bindTerms τ (fourOf (x / 2)) us) (sym now-known) (sym m) ∙ g .yes f ∙ ap (λ (o : ℕ). some (known tab theta₁ o)) i
 
-      some-way : (w : Way) → TryPost tab theta′ (k * 4) x b theta₁ w → WayView into tab x w → (v : ℕ) → v < termBase → getD tab v 0 ≤ (k + 1) * 4 → getD theta₁ v 0 < termBase
+      some-way : (w : Way) → TryPost tab theta′ (k * 4) x b theta₁ w → WayView into tab x w → (v : ℕ) → v < termEnd → getD tab v 0 ≤ (k + 1) * 4 → getD theta₁ v 0 < termEnd
       some-way w (no-way g z) view v q u = clash f g
       some-way w (a-way {a = a′} {b = b′} {c = c′} {d = d′} g) view v q u =
           go (bind-values (fourOf (x / 2)) (a′ ∷ b′ ∷ c′ ∷ d′ ∷ []) (known tab theta (k * 4)) (known tab theta₁ ((k + 1) * 4))
           (fits (Terms a′ b′ c′ d′) (a-way g) a′ b′ c′ d′ refl) v (getD theta₁ v 0) (known-some tab theta₁ ((k + 1) * 4) v q u))
         where
-          old : Cmp (getD tab v 0) (k * 4 + 1) → known tab theta (k * 4) v ≡ some (getD theta₁ v 0) → getD theta₁ v 0 < termBase
+          old : Cmp (getD tab v 0) (k * 4 + 1) → known tab theta (k * 4) v ≡ some (getD theta₁ v 0) → getD theta₁ v 0 < termEnd
           old (below c₁) z = let m : getD theta v 0 ≡ getD theta₁ v 0 = some-inj _ _ (sym (known-some tab theta (k * 4) v q (omega arith)) ∙ z) in omega (arith, replacing .terms v q (omega arith))
           old (equal c₁) z = none-some _ (sym (known-none tab theta (k * 4) v q (omega arith)) ∙ z)
           old (above c₁) z = none-some _ (sym (known-none tab theta (k * 4) v q (omega arith)) ∙ z)
 
-          go : (known tab theta (k * 4) v ≡ some (getD theta₁ v 0)) ⊎ List·Memᴰ (getD theta₁ v 0) (a′ ∷ b′ ∷ c′ ∷ d′ ∷ []) → getD theta₁ v 0 < termBase
+          go : (known tab theta (k * 4) v ≡ some (getD theta₁ v 0)) ⊎ List·Memᴰ (getD theta₁ v 0) (a′ ∷ b′ ∷ c′ ∷ d′ ∷ []) → getD theta₁ v 0 < termEnd
           go (inl z) = old (cmp (getD tab v 0) (k * 4 + 1)) z
           go (inr m) = view-small view a′ b′ c′ d′ refl (getD theta₁ v 0) m
 
@@ -308,20 +308,20 @@ module _ {ord into tab theta store : List ℕ} {k x bound vars total : ℕ} {the
       }
 
       module _ {r : Answer} {theta₂ store₂ : List ℕ} (z : SolvePost ord into tab theta₁ store′ (k + 1) (bitOr bound vars) r theta₂ store₂) where
-        kept₂ : (v : ℕ) → v < termBase → getD tab v 0 ≤ k * 4 → getD theta₂ v 0 ≡ getD theta v 0
+        kept₂ : (v : ℕ) → v < termEnd → getD tab v 0 ≤ k * 4 → getD theta₂ v 0 ≡ getD theta v 0
         kept₂ v q u = z .kept v q (omega arith) ∙ kept-on v q u
 
         hit : r ≡ Found → (ar T : List ℕ) (s : Setting ar T ord into tab) → Inside T (known tab theta (k * 4))
-            → matches ar (literalsIn (drop termBase into)) T (segment ord k (length ord)) (known tab theta (k * 4)) ≡ true
+            → matches ar (literalsIn (drop termEnd into)) T (segment ord k (length ord)) (known tab theta (k * 4)) ≡ true
         hit g ar T s ins = go (wayAt into tab x j) p refl
           where
             go : (w : Way) → TryPost tab theta′ (k * 4) x b theta₁ w → wayAt into tab x j ≡ w
-                → matches ar (literalsIn (drop termBase into)) T (segment ord k (length ord)) (known tab theta (k * 4)) ≡ true
+                → matches ar (literalsIn (drop termEnd into)) T (segment ord k (length ord)) (known tab theta (k * 4)) ≡ true
             go w (no-way q u) o = clash f q
             go w (a-way {a = a′} {b = b′} {c = c′} {d = d′} q) o =
                 let m = fits (wayAt into tab x j) p a′ b′ c′ d′ o in
                 way-hits tabled replacing (y .level .low) (y .level .is) ar T s j a′ b′ c′ d′ j-less o
-                (ap (λ u. goOn u (λ τ. matches ar (literalsIn (drop termBase into)) T (segment ord (k + 1) (length ord)) τ)) m
+                (ap (λ u. goOn u (λ τ. matches ar (literalsIn (drop termEnd into)) T (segment ord (k + 1) (length ord)) τ)) m
                 ∙ z .found g ar T s (inside-after tabled replacing (y .level .low) (y .level .is) ar T s j a′ b′ c′ d′ j-less o ins (known tab theta₁ ((k + 1) * 4)) m))
 
         -- the answer is handed up: a failure depends on nothing that was bound here
@@ -356,7 +356,7 @@ module _ {ord into tab theta store : List ℕ} {k x bound vars total : ℕ} {the
             late : (i : ℕ) → i < variableCount → In q i → getD tab (firstVariable + i) 0 ≤ (k + 1) * 4
             late i h o = level-bound (y .level) .early i h (z .within q is-q i o)
 
-            here : (ar T : List ℕ) (s : Setting ar T ord into tab) (zs : Solves ar (literalsIn (drop termBase into)) T (segment ord 0 (length ord)) start)
+            here : (ar T : List ℕ) (s : Setting ar T ord into tab) (zs : Solves ar (literalsIn (drop termEnd into)) T (segment ord 0 (length ord)) start)
                 → Agrees (bitOr mask (bitAnd q bound)) theta firstVariable (zs .σ) → (w : Way) → TryPost tab theta′ (k * 4) x b theta₁ w → (a b₁ c d : ℕ) → w ≡ Terms a b₁ c d
                 → map (zs .σ) (fourOf (x / 2)) ≡ a ∷ b₁ ∷ c ∷ d ∷ [] → ⊥
             here ar T s zs ag w (no-way o t) a b₁ c d q₁ m = clash f o
@@ -382,7 +382,7 @@ module _ {ord into tab theta store : List ℕ} {k x bound vars total : ℕ} {the
                 word i h o (above n) = new i h o (omega arith)
 
             more : (i : ℕ) → i < j + 1 → Cmp i j → (ar T : List ℕ) → Setting ar T ord into tab
-                → (zs : Solves ar (literalsIn (drop termBase into)) T (segment ord 0 (length ord)) start) → Agrees (bitOr mask (bitAnd q bound)) theta firstVariable (zs .σ)
+                → (zs : Solves ar (literalsIn (drop termEnd into)) T (segment ord 0 (length ord)) start) → Agrees (bitOr mask (bitAnd q bound)) theta firstVariable (zs .σ)
                 → (a b c d : ℕ) → wayAt into tab x i ≡ Terms a b c d → map (zs .σ) (fourOf (x / 2)) ≡ a ∷ b ∷ c ∷ d ∷ [] → ⊥
             more i h (below o) = λ ar T s zs ag. y .failed i o ar T s zs (λ v g m. ag v g (in-left v mask (bitAnd q bound) m))
             more i h (equal o) = λ ar T s zs ag a b c d w m. here ar T s zs ag (wayAt into tab x j) p a b c d (ap (wayAt into tab x) (sym o) ∙ w) m
@@ -404,7 +404,7 @@ module _ {ord into tab theta store : List ℕ} {k x bound : ℕ} (g : Solving or
       within : (i : ℕ) → In vars i → In bound i
       within i o = let p = v .only i o in early-in i (omega (arith, place-small (x / 2) (p .0), p .2)) (p .0) (p .2)
 
-      nothing : (ar T : List ℕ) → Setting ar T ord into tab → (z : Solves ar (literalsIn (drop termBase into)) T (segment ord 0 (length ord)) start)
+      nothing : (ar T : List ℕ) → Setting ar T ord into tab → (z : Solves ar (literalsIn (drop termEnd into)) T (segment ord 0 (length ord)) start)
           → Agrees vars theta firstVariable (z .σ) → ⊥
       nothing ar T s z a =
           unmet ar T ord into tab s (segment ord 0 (length ord)) z x lab member theta same
@@ -422,8 +422,8 @@ module _ {ord into tab theta store : List ℕ} {k x bound : ℕ} (g : Solving or
               place : (j : ℕ) × (u ≡ placeOf (x / 2) j)
               place = term-place ar (x / 2) u m
 
-              small : u < termBase
-              small = subst (λ (i : ℕ). i < termBase) (sym (place .1)) (place-small (x / 2) (place .0))
+              small : u < termEnd
+              small = subst (λ (i : ℕ). i < termEnd) (sym (place .1)) (place-small (x / 2) (place .0))
 
               variable : firstVariable ≤ u → z .σ u ≡ getD theta u 0
               variable l =
@@ -459,7 +459,7 @@ module _ {ord into tab theta store : List ℕ} {k x bound : ℕ} (g : Solving or
   met-post w n z = record {
     found = λ o ar T s i.
         is-met into (g .tabled) (g .replacing) low e q f ar T s i w (unleft n)
-        ∙ ap (λ (τ : Partial). matches ar (literalsIn (drop termBase into)) T (segment ord (k + 1) (length ord)) τ) (same-known into (g .tabled) (g .replacing) low e q f)
+        ∙ ap (λ (τ : Partial). matches ar (literalsIn (drop termEnd into)) T (segment ord (k + 1) (length ord)) τ) (same-known into (g .tabled) (g .replacing) low e q f)
         ∙ z .found o ar T s (subst (λ (τ : Partial). Inside T τ) (same-known into (g .tabled) (g .replacing) low e q f) i);
     failed = z .failed;
     within = z .within;

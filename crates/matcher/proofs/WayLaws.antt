@@ -11,7 +11,7 @@ use lib.Dec.{eqb, ltb, leb}
 use borrow.Author.Tests.{lt-ltb, le-ltb, le-leb, lt-leb, eqb-true, eqb-false, eq-eqb, ne-eqb}
 use Rattle.basics.specs.Tests.{Flag, isTrue, isFalse, flag, Cmp, cmp, below, equal, above}
 use Rattle.basics.specs.Members.{clash}
-use Rattle.label.specs.Limits.{termBase}
+use Rattle.label.specs.Limits.{termEnd}
 use Rattle.cutting.specs.Match.{assign, agree, bindTerm, thenBind, bindTerms}
 use Rattle.matcher.specs.Search.{
   placeOf,
@@ -90,7 +90,7 @@ module _ (into tab : List ℕ) (x j : ℕ) where
   equal-low h = rw (lt-ltb j (intoCount into * 2) h)
 
   equal-high : intoCount into * 2 ≤ j → equalWay into tab x j
-      ≡ cond (eqb (x % 2) 1 && ltb 0 (getD into (j - intoCount into * 2) 0 + getD tab (termBase + (j - intoCount into * 2)) 0))
+      ≡ cond (eqb (x % 2) 1 && ltb 0 (getD into (j - intoCount into * 2) 0 + getD tab (termEnd + (j - intoCount into * 2)) 0))
       (Terms (j - intoCount into * 2) (j - intoCount into * 2) 0 0) Nothing
   unfolding equalWay
   equal-high h = rw (le-ltb j (intoCount into * 2) h)
@@ -110,10 +110,10 @@ module _ (into tab : List ℕ) (x j : ℕ) where
 
   module _ (h : (length into - 64) * 2 ≤ j) where
     pub equal-false : (x % 2 ≡ 1 → ⊥) → Nothing ≡ equalWay into tab x j
-    equal-false z = sym (equal-high h ∙ ap (λ (t : Bool). cond (t && ltb 0 (getD into (j - intoCount into * 2) 0 + getD tab (termBase + (j - intoCount into * 2)) 0))
+    equal-false z = sym (equal-high h ∙ ap (λ (t : Bool). cond (t && ltb 0 (getD into (j - intoCount into * 2) 0 + getD tab (termEnd + (j - intoCount into * 2)) 0))
         (Terms (j - intoCount into * 2) (j - intoCount into * 2) 0 0) Nothing) (ne-eqb (x % 2) 1 z))
 
-    equal-true : x % 2 ≡ 1 → 0 < getD into (j - intoCount into * 2) 0 + getD tab (termBase + (j - intoCount into * 2)) 0
+    equal-true : x % 2 ≡ 1 → 0 < getD into (j - intoCount into * 2) 0 + getD tab (termEnd + (j - intoCount into * 2)) 0
         → Terms (j - intoCount into * 2) (j - intoCount into * 2) 0 0 ≡ equalWay into tab x j
     equal-true z k = sym (equal-high h ∙ ap₂ (λ (t u : Bool). cond (t && u) (Terms (j - intoCount into * 2) (j - intoCount into * 2) 0 0) Nothing) (eq-eqb (x % 2) 1 z) (lt-ltb 0 _ k))
 
@@ -128,7 +128,7 @@ module _ (into tab : List ℕ) (x j : ℕ) where
     pub equal-none : {y w : ℕ} → y ≡ getD into (j - (length into - 64) * 2) 0 → y ≡ 0 → w ≡ getD tab (64 + (j - (length into - 64) * 2)) 0 → w ≡ 0
         → Nothing ≡ equalWay into tab x j
     equal-none e k f i =
-        let z : getD into (j - intoCount into * 2) 0 + getD tab (termBase + (j - intoCount into * 2)) 0 ≤ 0 = omega arith in
+        let z : getD into (j - intoCount into * 2) 0 + getD tab (termEnd + (j - intoCount into * 2)) 0 ≤ 0 = omega arith in
         sym (equal-high h ∙ ap (λ (u : Bool). cond (eqb (x % 2) 1 && u) (Terms (j - intoCount into * 2) (j - intoCount into * 2) 0 0) Nothing) (le-ltb 0 _ z) ∙ last (eqb (x % 2) 1))
       where
         last : (t : Bool) → cond (t && false) (Terms (j - intoCount into * 2) (j - intoCount into * 2) 0 0) Nothing ≡ Nothing

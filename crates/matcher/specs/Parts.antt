@@ -6,7 +6,7 @@ use mathlib.Core.List.{List}
 use Prim.Native.Nat.{ℕ, _+_, _*_, _/_, _%_, _≤_, _<_}
 use lib.ListN.{length, getD, drop}
 use lib.Dec.{ltb, leb}
-use Rattle.label.specs.Limits.{firstVariable, termBase}
+use Rattle.label.specs.Limits.{firstVariable, termEnd}
 use Rattle.cutting.specs.Match.{start, matches}
 use Rattle.matcher.specs.Search.{literalsIn, placeOf, alike, Setting}
 use Rattle.matcher.specs.declared.Pick.{Pick}
@@ -40,7 +40,7 @@ pub record Best (ord seen : List ℕ) (k : ℕ) (b : Pick) : Type 0 where
 
 -- the terms of the first k literals are seen
 pub record SeenTo (ord seen : List ℕ) (k : ℕ) : Type 0 where
-  pub room : termBase ≤ length seen
+  pub room : termEnd ≤ length seen
   pub each : (i j : ℕ) → i < k → j < 4 → 0 < getD seen (placeOf (getD ord i 0 / 2) j) 0
 
 -- the same literals from k on in another order, those before k as they were
@@ -75,11 +75,11 @@ pub record PartTaken (ord : List ℕ) (k : ℕ) (e : ℕ) (ord′ seen′ : List
 
 -- what the search of all parts answers
 pub record PartsPost (ord into tab : List ℕ) (r : Bool) : Type 0 where
-  pub answer : (ar T : List ℕ) → Setting ar T ord into tab → r ≡ matches ar (literalsIn (drop termBase into)) T (literalsIn ord) start
+  pub answer : (ar T : List ℕ) → Setting ar T ord into tab → r ≡ matches ar (literalsIn (drop termEnd into)) T (literalsIn ord) start
 
 -- no literal of the first path has the predicate and sign of x, and x is no true equality
 pub record NoWay (into : List ℕ) (x : ℕ) : Type 0 where
-  pub others : (j : ℕ) → termBase ≤ j → j < length into → alike x (getD into j 0) ≡ false
+  pub others : (j : ℕ) → termEnd ≤ j → j < length into → alike x (getD into j 0) ≡ false
   pub equality : x < 33554432 → x % 2 ≡ 1 → ⊥
 
 -- the kind of a literal: its predicate and sign
@@ -88,12 +88,12 @@ kindOf x = x / 33554432 * 2 + x % 2
 
 -- kinds marks the kinds of the literals of the first path, as far as j
 pub record Kinds (into kinds : List ℕ) (j : ℕ) : Type 0 where
-  pub room : termBase ≤ length kinds
-  pub each : (i : ℕ) → termBase ≤ i → i < j → kindOf (getD into i 0) < termBase → 0 < getD kinds (kindOf (getD into i 0)) 0
+  pub room : termEnd ≤ length kinds
+  pub each : (i : ℕ) → termEnd ≤ i → i < j → kindOf (getD into i 0) < termEnd → 0 < getD kinds (kindOf (getD into i 0)) 0
 
 -- what the tests for ways say
 pub record WayPost (kinds : List ℕ) (x : ℕ) (r : Bool) : Type 0 where
-  pub kind : r ≡ false → kindOf x < termBase
+  pub kind : r ≡ false → kindOf x < termEnd
   pub unmarked : r ≡ false → getD kinds (kindOf x) 0 ≡ 0
   pub equality : r ≡ false → x < 33554432 → x % 2 ≡ 1 → ⊥
 

@@ -6,7 +6,7 @@ use mathlib.Core.Option.{some, none}
 use Prim.Native.Nat.{ℕ, zero, suc, _+_, _-_, _*_, _/_, _%_, _≤_, _<_}
 use lib.ListN.{length, getD, set, take, drop}
 use lib.Dec.{eqb, ltb, leb}
-use Rattle.label.specs.Limits.{firstVariable, termBase}
+use Rattle.label.specs.Limits.{firstVariable, termEnd}
 use Rattle.paths.specs.Paths.{Literal, termsIn}
 use Rattle.cutting.specs.Match.{Partial, bindTerms, matches}
 use Rattle.cutting.specs.Searchable.{AllLabels, Searchable}
@@ -42,7 +42,7 @@ segment ord k n = literalsIn (take (n - k) (drop k ord))
 -- tab tells of each term the place, counted from 1, where it comes first; 0 for what is no variable. What is known before place m: the terms that came first
 -- before it, as theta has them.
 unfoldable pub known : List ℕ → List ℕ → ℕ → Partial
-known tab theta m t = cond (ltb t termBase) (cond (leb (getD tab t 0) m) (some (getD theta t 0)) none) (some t)
+known tab theta m t = cond (ltb t termEnd) (cond (leb (getD tab t 0) m) (some (getD theta t 0)) none) (some t)
 
 -- the term t, met at place m, is to become u: it is written where it comes first, else compared
 unfoldable pub slotFits : List ℕ → List ℕ → ℕ → ℕ → ℕ → Bool
@@ -53,21 +53,21 @@ slotAfter tab theta m t u = cond (eqb (getD tab t 0) (m + 1)) (set theta t u) th
 
 -- the four places of the label l stand from place m on
 pub record Slots (tab : List ℕ) (m l : ℕ) : Type 0 where
-  pub room : termBase ≤ length tab
+  pub room : termEnd ≤ length tab
   pub seen : (j : ℕ) → j < 4 → getD tab (placeOf l j) 0 ≤ m + j + 1
-  pub only : (j v : ℕ) → j < 4 → v < termBase → getD tab v 0 ≡ m + j + 1 → v ≡ placeOf l j
+  pub only : (j v : ℕ) → j < 4 → v < termEnd → getD tab v 0 ≡ m + j + 1 → v ≡ placeOf l j
 
 -- theta replaces terms by terms, as far as they are known before place m, and what is no variable stays
 pub record Replacing (tab theta : List ℕ) (m : ℕ) : Type 0 where
-  pub room : termBase ≤ length theta
+  pub room : termEnd ≤ length theta
   pub stays : (v : ℕ) → v < firstVariable → getD theta v 0 ≡ v
-  pub terms : (v : ℕ) → v < termBase → getD tab v 0 ≤ m → getD theta v 0 < termBase
+  pub terms : (v : ℕ) → v < termEnd → getD tab v 0 ≤ m → getD theta v 0 < termEnd
 
 -- what binding the four places of l gives
 pub record BindPost (tab theta : List ℕ) (m l a b c d : ℕ) (r : Bool) (theta′ : List ℕ) : Type 0 where
   pub yes : r ≡ true → bindTerms (known tab theta m) (fourOf l) (a ∷ b ∷ c ∷ d ∷ []) ≡ some (known tab theta′ (m + 4))
   pub no : r ≡ false → bindTerms (known tab theta m) (fourOf l) (a ∷ b ∷ c ∷ d ∷ []) ≡ none
-  pub kept : (v : ℕ) → v < termBase → getD tab v 0 ≤ m → getD theta′ v 0 ≡ getD theta v 0
+  pub kept : (v : ℕ) → v < termEnd → getD tab v 0 ≤ m → getD theta′ v 0 ≡ getD theta v 0
 
 -- ===== The ways to go on =====
 abbrev pub termsWay : ℕ → Way
@@ -82,10 +82,10 @@ alike x y = eqb (x / 33554432) (y / 33554432) && eqb (x % 2) (y % 2)
 
 -- the literals of the first path stand behind a table of its terms
 abbrev pub intoCount : List ℕ → ℕ
-intoCount into = length into - termBase
+intoCount into = length into - termEnd
 
 abbrev pub intoAt : List ℕ → ℕ → ℕ
-intoAt into j = getD into (termBase + j) 0
+intoAt into j = getD into (termEnd + j) 0
 
 -- way j for a literal of a predicate that is not equality: literal j of the first path
 unfoldable pub plainWay : List ℕ → ℕ → ℕ → Way
@@ -100,7 +100,7 @@ equalWay into tab x j =
     (cond (alike x (intoAt into (j / 2)))
     (cond (eqb (j % 2) 0) (termsWay (intoAt into (j / 2) / 2)) (turnedWay (intoAt into (j / 2) / 2)))
     Nothing)
-    (cond (eqb (x % 2) 1 && ltb 0 (getD into (j - intoCount into * 2) 0 + getD tab (termBase + (j - intoCount into * 2)) 0))
+    (cond (eqb (x % 2) 1 && ltb 0 (getD into (j - intoCount into * 2) 0 + getD tab (termEnd + (j - intoCount into * 2)) 0))
     (Terms (j - intoCount into * 2) (j - intoCount into * 2) 0 0)
     Nothing)
 
@@ -109,7 +109,7 @@ unfolding plainWay equalWay
 wayAt into tab x j = cond (ltb x 33554432) (equalWay into tab x j) (plainWay into x j)
 
 unfoldable pub wayCount : List ℕ → ℕ → ℕ
-wayCount into x = cond (ltb x 33554432) (intoCount into * 2 + termBase) (intoCount into)
+wayCount into x = cond (ltb x 33554432) (intoCount into * 2 + termEnd) (intoCount into)
 
 -- what trying a way gives: its terms bound, or nothing
 pub data TryPost (tab theta : List ℕ) (m x : ℕ) (r : Bool) (theta′ : List ℕ) : Way → Type 0 where
@@ -132,9 +132,9 @@ imageOf theta x j = getD theta (placeOf (x / 2) j) 0
 
 -- theta gives the places of x terms
 pub record Images (theta : List ℕ) (x : ℕ) : Type 0 where
-  pub room : termBase ≤ length theta
+  pub room : termEnd ≤ length theta
   pub small : x < 4294967296
-  pub terms : (j : ℕ) → j < 4 → imageOf theta x j < termBase
+  pub terms : (j : ℕ) → j < 4 → imageOf theta x j < termEnd
 
 -- the parts of a literal's number
 pub record Digits (p a b c d s : ℕ) : Type 0 where
@@ -159,46 +159,46 @@ pub data Met (into theta : List ℕ) (x : ℕ) (r : Bool) : Type 0 where
 
 -- the first path's literals are in order behind their terms
 pub record Sorted (into : List ℕ) : Type 0 where
-  pub room : termBase ≤ length into
+  pub room : termEnd ≤ length into
   pub order : (i j : ℕ) → i < j → j < intoCount into → intoAt into i < intoAt into j
 
 -- the n literals of the second path, and the table of the places where their terms come first; behind it that of its terms
 pub record Tabled (ord tab : List ℕ) (n : ℕ) : Type 0 where
   pub room : n ≤ length ord
   pub few : n < 256
-  pub tab-room : termBase + termBase ≤ length tab
+  pub tab-room : termEnd + termEnd ≤ length tab
   pub fixed : (v : ℕ) → v < firstVariable → getD tab v 0 ≡ 0
-  pub free : (v : ℕ) → firstVariable ≤ v → v < termBase → 0 < getD tab v 0
+  pub free : (v : ℕ) → firstVariable ≤ v → v < termEnd → 0 < getD tab v 0
   pub seen : (m : ℕ) → m < n * 4 → getD tab (termAt ord m) 0 ≤ m + 1
-  pub only : (m v : ℕ) → m < n * 4 → v < termBase → getD tab v 0 ≡ m + 1 → v ≡ termAt ord m
+  pub only : (m v : ℕ) → m < n * 4 → v < termEnd → getD tab v 0 ≡ m + 1 → v ≡ termAt ord m
 
 -- the terms of T, the labels of both paths, and their tables of terms
 pub record Setting (ar : List ℕ) (T ord into tab : List ℕ) : Type 0 where
-  pub search : Searchable ar (literalsIn (drop termBase into)) T
+  pub search : Searchable ar (literalsIn (drop termEnd into)) T
   pub labels : AllLabels ar (literalsIn ord)
   pub own : (t : ℕ) → List·Memᴰ t (termsIn ar (literalsIn ord)) → List·Memᴰ t T
-  pub has : (t : ℕ) → List·Memᴰ t T → 0 < getD into t 0 + getD tab (termBase + t) 0
-  pub of : (t : ℕ) → t < termBase → 0 < getD into t 0 + getD tab (termBase + t) 0 → List·Memᴰ t T
+  pub has : (t : ℕ) → List·Memᴰ t T → 0 < getD into t 0 + getD tab (termEnd + t) 0
+  pub of : (t : ℕ) → t < termEnd → 0 < getD into t 0 + getD tab (termEnd + t) 0 → List·Memᴰ t T
 
 -- what is known of the variables are terms of T
 pub record Inside (T : List ℕ) (τ : Partial) : Type 0 where
-  pub each : (v w : ℕ) → firstVariable ≤ v → v < termBase → τ v ≡ some w → List·Memᴰ w T
+  pub each : (v w : ℕ) → firstVariable ≤ v → v < termEnd → τ v ≡ some w → List·Memᴰ w T
 
 -- before any place: what is no variable is 0, variables come late
 abbrev pub late : ℕ
 late = 2000
 
 pub record Unplaced (tab : List ℕ) : Type 0 where
-  pub room : termBase ≤ length tab
+  pub room : termEnd ≤ length tab
   pub fixed : (v : ℕ) → v < firstVariable → getD tab v 0 ≡ 0
-  pub free : (v : ℕ) → firstVariable ≤ v → v < termBase → getD tab v 0 ≡ late
+  pub free : (v : ℕ) → firstVariable ≤ v → v < termEnd → getD tab v 0 ≡ late
 
 -- the terms of the places before m have their first places
 pub record Placing (ord tab₀ tab : List ℕ) (m : ℕ) : Type 0 where
   pub length-kept : length tab ≡ length tab₀
   pub fixed : (v : ℕ) → v < firstVariable → getD tab v 0 ≡ 0
-  pub free : (v : ℕ) → firstVariable ≤ v → v < termBase → 0 < getD tab v 0
-  pub early : (v : ℕ) → v < termBase → (getD tab v 0 ≡ late → ⊥) → getD tab v 0 ≤ m
+  pub free : (v : ℕ) → firstVariable ≤ v → v < termEnd → 0 < getD tab v 0
+  pub early : (v : ℕ) → v < termEnd → (getD tab v 0 ≡ late → ⊥) → getD tab v 0 ≤ m
   pub seen : (i : ℕ) → i < m → getD tab (termAt ord i) 0 ≤ i + 1
-  pub only : (i v : ℕ) → i < m → v < termBase → getD tab v 0 ≡ i + 1 → v ≡ termAt ord i
-  pub kept : (v : ℕ) → termBase ≤ v → getD tab v 0 ≡ getD tab₀ v 0
+  pub only : (i v : ℕ) → i < m → v < termEnd → getD tab v 0 ≡ i + 1 → v ≡ termAt ord i
+  pub kept : (v : ℕ) → termEnd ≤ v → getD tab v 0 ≡ getD tab₀ v 0

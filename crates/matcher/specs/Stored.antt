@@ -4,7 +4,7 @@ use mathlib.Core.Bool.{Bool, true}
 use mathlib.Core.List.{List, List·Memᴰ}
 use Prim.Native.Nat.{ℕ, _+_, _-_, _/_, _≤_, _<_}
 use lib.ListN.{length, getD, take, drop}
-use Rattle.label.specs.Limits.{firstVariable, termBase}
+use Rattle.label.specs.Limits.{firstVariable, termEnd}
 use Rattle.label.specs.Labels.{areArities, isLabel, unpacked, termsOf}
 use Rattle.diagram.specs.Words.{rowCount, isListing}
 use Rattle.paths.specs.Paths.{Literal, Path, literals, termsIn}
@@ -17,7 +17,7 @@ use Rattle.paths.specs.Routes.{Rows, Counted, At}
 -- table marks the terms of the literals
 pub record Marks (ar : List ℕ) (table : ℕ → ℕ) (ls : List Literal) : Type 0 where
   pub has : (t : ℕ) → List·Memᴰ t (termsIn ar ls) → 0 < table t
-  pub of : (t : ℕ) → t < termBase → 0 < table t → List·Memᴰ t (termsIn ar ls)
+  pub of : (t : ℕ) → t < termEnd → 0 < table t → List·Memᴰ t (termsIn ar ls)
 
 -- the terms of the literal x
 unfoldable pub termsOfCode : List ℕ → ℕ → List ℕ
@@ -26,23 +26,23 @@ termsOfCode ar x = termsOf ar (unpacked (x / 2))
 -- what marking the literal x requires
 pub record Markable (ar marks : List ℕ) (x : ℕ) : Type 0 where
   pub arities : areArities ar ≡ true
-  pub room : termBase ≤ length marks
+  pub room : termEnd ≤ length marks
   pub label : isLabel ar (x / 2) ≡ true
 
 -- n literals stand behind marks that are not set yet
 pub record Unmarked (ar out : List ℕ) (n : ℕ) : Type 0 where
   pub arities : areArities ar ≡ true
-  pub room : termBase + n ≤ length out
+  pub room : termEnd + n ≤ length out
   pub few : n < 256
-  pub clear : (t : ℕ) → t < termBase → getD out t 0 ≡ 0
-  pub labels : (j : ℕ) → j < n → isLabel ar (getD out (termBase + j) 0 / 2) ≡ true
+  pub clear : (t : ℕ) → t < termEnd → getD out t 0 ≡ 0
+  pub labels : (j : ℕ) → j < n → isLabel ar (getD out (termEnd + j) 0 / 2) ≡ true
 
 -- the terms of the first n of them are marked
 pub record Marking (ar out₀ out : List ℕ) (n : ℕ) : Type 0 where
   pub length-kept : length out ≡ length out₀
-  pub behind : drop termBase out ≡ drop termBase out₀
-  pub has : (j t : ℕ) → j < n → List·Memᴰ t (termsOfCode ar (getD out₀ (termBase + j) 0)) → 0 < getD out t 0
-  pub of : (t : ℕ) → t < termBase → 0 < getD out t 0 → (j : ℕ) × (j < n) × List·Memᴰ t (termsOfCode ar (getD out₀ (termBase + j) 0))
+  pub behind : drop termEnd out ≡ drop termEnd out₀
+  pub has : (j t : ℕ) → j < n → List·Memᴰ t (termsOfCode ar (getD out₀ (termEnd + j) 0)) → 0 < getD out t 0
+  pub of : (t : ℕ) → t < termEnd → 0 < getD out t 0 → (j : ℕ) × (j < n) × List·Memᴰ t (termsOfCode ar (getD out₀ (termEnd + j) 0))
 
 -- path k of a listing, and room for it behind marks that are not set
 pub record Enterable (ar ws counts : List ℕ) (n k : ℕ) (out : List ℕ) : Type 0 where
@@ -52,34 +52,34 @@ pub record Enterable (ar ws counts : List ℕ) (n k : ℕ) (out : List ℕ) : Ty
   pub counted : Counted ws counts n
   pub path : At ws n (n - 1) k
   pub room : 320 ≤ length out
-  pub clear : (t : ℕ) → t < termBase → getD out t 0 ≡ 0
+  pub clear : (t : ℕ) → t < termEnd → getD out t 0 ≡ 0
 
 -- the j literals of the path stand in order behind the marks of its terms
 pub record Stored (ar : List ℕ) (p : Path) (out : List ℕ) (j : ℕ) : Type 0 where
   pub few : j < 256
-  pub are : literalsIn (take j (drop termBase out)) ≡ literals p
-  pub sorted : Sorted (take (termBase + j) out)
+  pub are : literalsIn (take j (drop termEnd out)) ≡ literals p
+  pub sorted : Sorted (take (termEnd + j) out)
   pub marks : Marks ar (λ t. getD out t 0) (literals p)
 
 -- what a search of its own starts from: literals, those of the first path, room for the table, and terms that are no variables stay
 pub record Ready (ord into tab theta : List ℕ) : Type 0 where
   pub few : length ord < 256
   pub sorted : Sorted into
-  pub tab-room : termBase + termBase ≤ length tab
-  pub theta-room : termBase ≤ length theta
+  pub tab-room : termEnd + termEnd ≤ length tab
+  pub theta-room : termEnd ≤ length theta
   pub stays : (v : ℕ) → v < firstVariable → getD theta v 0 ≡ v
 
 -- what it gives
 pub record PartPost (ord into tab : List ℕ) (r : Bool) (tab′ theta′ : List ℕ) : Type 0 where
-  pub answer : (ar T : List ℕ) → Setting ar T ord into tab → r ≡ matches ar (literalsIn (drop termBase into)) T (literalsIn ord) start
-  pub tab-kept : (v : ℕ) → termBase ≤ v → getD tab′ v 0 ≡ getD tab v 0
+  pub answer : (ar T : List ℕ) → Setting ar T ord into tab → r ≡ matches ar (literalsIn (drop termEnd into)) T (literalsIn ord) start
+  pub tab-kept : (v : ℕ) → termEnd ≤ v → getD tab′ v 0 ≡ getD tab v 0
   pub stays : (v : ℕ) → v < firstVariable → getD theta′ v 0 ≡ v
 
 -- a literals of the first path stand in order behind marks, b of the second path behind others
 pub record BothStored (into : List ℕ) (a : ℕ) (from : List ℕ) (b : ℕ) : Type 0 where
-  pub into-room : termBase + a ≤ length into
-  pub sorted : Sorted (take (termBase + a) into)
-  pub from-room : termBase + b ≤ length from
+  pub into-room : termEnd + a ≤ length into
+  pub sorted : Sorted (take (termEnd + a) into)
+  pub from-room : termEnd + b ≤ length from
   pub few : b < 256
 
 -- what the search answers of two stored paths

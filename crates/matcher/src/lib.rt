@@ -6,7 +6,7 @@ ghost use mathlib.Core.Bool.{true, false};
 ghost use Prim.Native.Nat.{ℕ, _+_, _-_, _*_, _/_, _%_, _<_, _≤_};
 ghost use lib.ListN.{length, getD};
 ghost use lib.Dec.{eqb};
-ghost use Rattle.label.specs.Limits.{termBase, variableCount};
+ghost use Rattle.label.specs.Limits.{termEnd, variableCount};
 ghost use Rattle.diagram.specs.Validity.{tree};
 ghost use Rattle.listing.specs.Used.{marked};
 ghost use Rattle.paths.specs.Paths.{paths};
@@ -21,7 +21,7 @@ ghost use Rattle.matcher.specs.Failure.{bitAt, In, One, Variables, Same,
 ghost use Rattle.matcher.specs.Failure.{isFound, isWeary, maskOf, HandedUp, Solving, SolvePost, Decidable, Decided};
 
 // A word for each term.
-const TERMS: usize = Term::BASE as usize;
+const TERMS: usize = Term::END as usize;
 
 const FIRST_VARIABLE: usize = Term::FIRST_VARIABLE as usize;
 
@@ -99,7 +99,7 @@ fn place(tab: &[u32], theta: &mut [u64], m: u64, t: usize, u: u64) -> bool
 // The four places of the label l, from place m on, are to become a, b, c, d.
 fn bind(tab: &[u32], theta: &mut [u64], m: u64, l: u64, a: u64, b: u64, c: u64, d: u64) -> bool
     requires { ⌜ Slots (now tab) m l ⌝ }
-    requires { ⌜ termBase ≤ length (now theta) ⌝ }
+    requires { ⌜ termEnd ≤ length (now theta) ⌝ }
     requires { ⌜ m + 4 < 4096 ⌝ }
     ensures { λ r. ⌜ BindPost (now (tab .entry)) (now (theta .entry)) m l a b c d r (now (theta .exit)) ⌝ }
 {
@@ -145,7 +145,7 @@ fn alike(x: u64, y: u64) -> bool
 
 // Way j of the literal x of another predicate than equality.
 fn plain_way(into: &[u32], x: u64, j: usize) -> Way
-    requires { ⌜ termBase + j < length (now into) ⌝ }
+    requires { ⌜ termEnd + j < length (now into) ⌝ }
     ensures { λ r. ⌜ r ≡ plainWay (now (into .entry)) x j ⌝ }
 {
     let y = wide(into[TERMS + j]);
@@ -163,9 +163,9 @@ fn plain_way(into: &[u32], x: u64, j: usize) -> Way
 
 // Way j of an equality: literal j / 2, turned round for odd j; behind these t = t for each term.
 fn equal_way(into: &[u32], tab: &[u32], x: u64, j: usize) -> Way
-    requires { ⌜ termBase ≤ length (now into) ⌝ }
-    requires { ⌜ termBase + termBase ≤ length (now tab) ⌝ }
-    requires { ⌜ j < (length (now into) - termBase) * 2 + termBase ⌝ }
+    requires { ⌜ termEnd ≤ length (now into) ⌝ }
+    requires { ⌜ termEnd + termEnd ≤ length (now tab) ⌝ }
+    requires { ⌜ j < (length (now into) - termEnd) * 2 + termEnd ⌝ }
     ensures { λ r. ⌜ r ≡ equalWay (now (into .entry)) (now (tab .entry)) x j ⌝ }
 {
     let n = into.len() - TERMS;
@@ -205,8 +205,8 @@ fn equal_way(into: &[u32], tab: &[u32], x: u64, j: usize) -> Way
 
 // Way j of the literal x.
 fn way_at(into: &[u32], tab: &[u32], x: u64, j: usize) -> Way
-    requires { ⌜ termBase ≤ length (now into) ⌝ }
-    requires { ⌜ termBase + termBase ≤ length (now tab) ⌝ }
+    requires { ⌜ termEnd ≤ length (now into) ⌝ }
+    requires { ⌜ termEnd + termEnd ≤ length (now tab) ⌝ }
     requires { ⌜ j < wayCount (now into) x ⌝ }
     ensures { λ r. ⌜ r ≡ wayAt (now (into .entry)) (now (tab .entry)) x j ⌝ }
 {
@@ -218,7 +218,7 @@ fn way_at(into: &[u32], tab: &[u32], x: u64, j: usize) -> Way
 
 // How many ways there are for the literal x.
 fn way_count(into: &[u32], x: u64) -> usize
-    requires { ⌜ termBase ≤ length (now into) ⌝ }
+    requires { ⌜ termEnd ≤ length (now into) ⌝ }
     ensures { λ r. ⌜ r ≡ wayCount (now (into .entry)) x ⌝ }
 {
     if x < LITERAL_WEIGHT {
@@ -229,11 +229,11 @@ fn way_count(into: &[u32], x: u64) -> usize
 
 // Tries way j for the literal x, whose places stand from m on.
 fn attempt(into: &[u32], tab: &[u32], theta: &mut [u64], m: u64, x: u64, j: usize) -> bool
-    requires { ⌜ termBase ≤ length (now into) ⌝ }
-    requires { ⌜ termBase + termBase ≤ length (now tab) ⌝ }
+    requires { ⌜ termEnd ≤ length (now into) ⌝ }
+    requires { ⌜ termEnd + termEnd ≤ length (now tab) ⌝ }
     requires { ⌜ j < wayCount (now into) x ⌝ }
     requires { ⌜ Slots (now tab) m (x / 2) ⌝ }
-    requires { ⌜ termBase ≤ length (now theta) ⌝ }
+    requires { ⌜ termEnd ≤ length (now theta) ⌝ }
     requires { ⌜ m + 4 < 4096 ⌝ }
     ensures { λ r. ⌜ TryPost (now (tab .entry)) (now (theta .entry)) m x r (now (theta .exit)) (wayAt (now (into .entry)) (now (tab .entry)) x j) ⌝ }
 {
@@ -245,7 +245,7 @@ fn attempt(into: &[u32], tab: &[u32], theta: &mut [u64], m: u64, x: u64, j: usiz
 
 // Whether the terms of the label l are all known before place m.
 fn all_known(tab: &[u32], m: u64, l: u64) -> bool
-    requires { ⌜ termBase ≤ length (now tab) ⌝ }
+    requires { ⌜ termEnd ≤ length (now tab) ⌝ }
     ensures { λ r. ⌜ r ≡ allKnown (now (tab .entry)) m l ⌝ }
 {
     if wide(tab[(l / Label::FIRST_WEIGHT % Term::BASE) as usize]) > m {
@@ -321,7 +321,7 @@ fn number(p: u64, a: u64, b: u64, c: u64, d: u64, s: u64) -> u64
 
 // The variable t alone as a set; a term that is no variable is in no set.
 fn one(t: usize) -> u64
-    requires { ⌜ t < termBase ⌝ }
+    requires { ⌜ t < termEnd ⌝ }
     ensures { λ r. ⌜ One t r ⌝ }
 {
     if t < FIRST_VARIABLE {
@@ -358,7 +358,7 @@ fn variables_of(l: u64) -> u64
 
 // The row for a failure of literal k on the mask. Nothing but time depends on it.
 fn slot(theta: &[u64], mask: u64, k: usize) -> usize
-    requires { ⌜ termBase ≤ length (now theta) ⌝ }
+    requires { ⌜ termEnd ≤ length (now theta) ⌝ }
     ensures { λ r. ⌜ r < storeRows ⌝ }
 {
     let mut h = (k % ROWS) as u64 * HASH_FACTOR % HASHES;
@@ -380,7 +380,7 @@ fn slot(theta: &[u64], mask: u64, k: usize) -> usize
 
 // Whether the words from `at` on are those of theta on the variables of the mask.
 fn agrees(theta: &[u64], store: &[u64], at: usize, mask: u64) -> bool
-    requires { ⌜ termBase ≤ length (now theta) ⌝ }
+    requires { ⌜ termEnd ≤ length (now theta) ⌝ }
     requires { ⌜ at + variableCount ≤ length (now store) ⌝ }
     ensures { λ r. ⌜ (r ≡ true → Same (now (theta .entry)) (now (store .entry)) at mask variableCount) ⌝ }
 {
@@ -400,7 +400,7 @@ fn agrees(theta: &[u64], store: &[u64], at: usize, mask: u64) -> bool
 
 // The failure of a row, if it holds here; else Found: nothing is known.
 fn row_answer(theta: &[u64], store: &[u64], bound: u64, row: usize) -> Answer
-    requires { ⌜ termBase ≤ length (now theta) ⌝ }
+    requires { ⌜ termEnd ≤ length (now theta) ⌝ }
     requires { ⌜ storeWords ≤ length (now store) ⌝ }
     requires { ⌜ row < storeRows ⌝ }
     ensures { λ r. ⌜ RecallPost (now (theta .entry)) (now (store .entry)) bound r ⌝ }
@@ -421,7 +421,7 @@ fn row_answer(theta: &[u64], store: &[u64], bound: u64, row: usize) -> Answer
 
 // A failure that was remembered and holds here. Else Found: nothing is known; or Weary: too much has failed for a store without rows.
 fn recall(theta: &[u64], store: &[u64], bound: u64, k: usize) -> Answer
-    requires { ⌜ termBase ≤ length (now theta) ⌝ }
+    requires { ⌜ termEnd ≤ length (now theta) ⌝ }
     requires { ⌜ 0 < length (now store) ⌝ }
     requires { ⌜ k < storeRows ⌝ }
     ensures { λ r. ⌜ RecallPost (now (theta .entry)) (now (store .entry)) bound r ⌝ }
@@ -437,7 +437,7 @@ fn recall(theta: &[u64], store: &[u64], bound: u64, k: usize) -> Answer
 
 // Copies the words of the variables to those from `at` on.
 fn copy(theta: &[u64], store: &mut [u64], at: usize)
-    requires { ⌜ termBase ≤ length (now theta) ⌝ }
+    requires { ⌜ termEnd ≤ length (now theta) ⌝ }
     requires { ⌜ at + variableCount ≤ length (now store) ⌝ }
     ensures { λ _. ⌜ Copied (now (theta .entry)) (now (store .entry)) (now (store .exit)) at variableCount ⌝ }
 {
@@ -450,7 +450,7 @@ fn copy(theta: &[u64], store: &mut [u64], at: usize)
 
 // Writes a failure on the mask to a row.
 fn write_row(theta: &[u64], store: &mut [u64], mask: u64, row: usize)
-    requires { ⌜ termBase ≤ length (now theta) ⌝ }
+    requires { ⌜ termEnd ≤ length (now theta) ⌝ }
     requires { ⌜ storeWords ≤ length (now store) ⌝ }
     requires { ⌜ row < storeRows ⌝ }
     ensures { λ _. ⌜ Rewritten (now (theta .entry)) (now (store .entry)) mask row (now (store .exit)) ⌝ }
@@ -463,7 +463,7 @@ fn write_row(theta: &[u64], store: &mut [u64], mask: u64, row: usize)
 
 // Remembers that literal k failed on the mask. A store without rows counts the failures.
 fn remember(theta: &[u64], store: &mut [u64], mask: u64, k: usize)
-    requires { ⌜ termBase ≤ length (now theta) ⌝ }
+    requires { ⌜ termEnd ≤ length (now theta) ⌝ }
     requires { ⌜ 0 < length (now store) ⌝ }
     requires { ⌜ k < storeRows ⌝ }
     ensures { λ _. ⌜ RememberPost (now (theta .entry)) (now (store .entry)) mask (now (store .exit)) ⌝ }
@@ -594,7 +594,7 @@ fn decide(ord: &[u32], into: &[u32], tab: &[u32], theta: &mut [u64]) -> bool
 // Place m of literals one after the other, four to a literal.
 fn term_at(ord: &[u32], m: usize) -> usize
     requires { ⌜ m < length (now ord) * 4 ⌝ }
-    ensures { λ r. ⌜ (r ≡ termAt (now (ord .entry)) m) × (r < termBase) ⌝ }
+    ensures { λ r. ⌜ (r ≡ termAt (now (ord .entry)) m) × (r < termEnd) ⌝ }
 {
     let l = wide(ord[m / 4]) / 2;
     let j = m % 4;
@@ -686,9 +686,9 @@ fn enter_path(
 
 // Copies the marks of 64 terms behind the table.
 fn copy_marks(marks: &[u32], tab: &mut [u32])
-    requires { ⌜ termBase ≤ length (now marks) ⌝ }
-    requires { ⌜ termBase + termBase ≤ length (now tab) ⌝ }
-    ensures { λ _. ⌜ ((t : ℕ) → t < termBase → getD (now (tab .exit)) (termBase + t) 0 ≡ getD (now (marks .entry)) t 0) ⌝ }
+    requires { ⌜ termEnd ≤ length (now marks) ⌝ }
+    requires { ⌜ termEnd + termEnd ≤ length (now tab) ⌝ }
+    ensures { λ _. ⌜ ((t : ℕ) → t < termEnd → getD (now (tab .exit)) (termEnd + t) 0 ≡ getD (now (marks .entry)) t 0) ⌝ }
 {
     let mut t = 0;
     while t < TERMS {
@@ -699,8 +699,8 @@ fn copy_marks(marks: &[u32], tab: &mut [u32])
 
 // Each term becomes itself.
 fn keep_terms(theta: &mut [u64])
-    requires { ⌜ termBase ≤ length (now theta) ⌝ }
-    ensures { λ _. ⌜ ((v : ℕ) → v < termBase → getD (now (theta .exit)) v 0 ≡ v) ⌝ }
+    requires { ⌜ termEnd ≤ length (now theta) ⌝ }
+    ensures { λ _. ⌜ ((v : ℕ) → v < termEnd → getD (now (theta .exit)) v 0 ≡ v) ⌝ }
 {
     let mut v = 0;
     while v < TERMS {
@@ -711,9 +711,9 @@ fn keep_terms(theta: &mut [u64])
 
 // No variable has a place yet.
 fn unplace(tab: &mut [u32])
-    requires { ⌜ termBase + termBase ≤ length (now tab) ⌝ }
+    requires { ⌜ termEnd + termEnd ≤ length (now tab) ⌝ }
     ensures { λ _. ⌜ Unplaced (now (tab .exit)) ⌝ }
-    ensures { λ _. ⌜ ((v : ℕ) → termBase ≤ v → getD (now (tab .exit)) v 0 ≡ getD (now (tab .entry)) v 0) ⌝ }
+    ensures { λ _. ⌜ ((v : ℕ) → termEnd ≤ v → getD (now (tab .exit)) v 0 ≡ getD (now (tab .entry)) v 0) ⌝ }
 {
     let mut v = 0;
     while v < FIRST_VARIABLE {
@@ -752,7 +752,7 @@ fn is_seen(seen: &[u32], t: usize) -> bool
 
 // Whether the literal x has a variable that was seen.
 fn shares(seen: &[u32], x: u64) -> bool
-    requires { ⌜ termBase ≤ length (now seen) ⌝ }
+    requires { ⌜ termEnd ≤ length (now seen) ⌝ }
     ensures { λ r. ⌜ r ≡ shares (now (seen .entry)) x ⌝ }
 {
     let l = x / 2;
@@ -784,7 +784,7 @@ fn is_new(seen: &[u32], t: usize) -> u64
 
 // How many places of the literal x have variables that were not seen.
 fn new_places(seen: &[u32], x: u64) -> u64
-    requires { ⌜ termBase ≤ length (now seen) ⌝ }
+    requires { ⌜ termEnd ≤ length (now seen) ⌝ }
     ensures { λ r. ⌜ r ≤ 4 ⌝ }
 {
     let l = x / 2;
@@ -798,7 +798,7 @@ fn new_places(seen: &[u32], x: u64) -> u64
 // The rank of the literal x: without a new variable it comes at once. Fewer new variables come first, equalities behind others, and behind all the
 // literals that share no variable.
 fn rank(seen: &[u32], x: u64) -> u64
-    requires { ⌜ termBase ≤ length (now seen) ⌝ }
+    requires { ⌜ termEnd ≤ length (now seen) ⌝ }
     ensures { λ r. ⌜ Ranked (now (seen .entry)) x r ⌝ }
 {
     let n = new_places(seen, x) * 2;
@@ -817,7 +817,7 @@ fn rank(seen: &[u32], x: u64) -> u64
 // The literal of lowest rank from k on.
 fn best(ord: &[u32], seen: &[u32], k: usize) -> Pick
     requires { ⌜ k < length (now ord) ⌝ }
-    requires { ⌜ termBase ≤ length (now seen) ⌝ }
+    requires { ⌜ termEnd ≤ length (now seen) ⌝ }
     ensures { λ r. ⌜ Best (now (ord .entry)) (now (seen .entry)) k r ⌝ }
 {
     let mut i = k;
@@ -841,7 +841,7 @@ fn best(ord: &[u32], seen: &[u32], k: usize) -> Pick
 
 // The terms of the literal x are seen.
 fn see(seen: &mut [u32], x: u64)
-    requires { ⌜ termBase ≤ length (now seen) ⌝ }
+    requires { ⌜ termEnd ≤ length (now seen) ⌝ }
     ensures { λ _. ⌜ now (seen .exit) ≡ marked (fourOf (x / 2)) (now (seen .entry)) ⌝ }
 {
     let l = x / 2;
@@ -918,7 +918,7 @@ fn kind(x: u64) -> usize
 
 // Marks the kinds of the literals of the first path.
 fn mark_kinds(into: &[u32], kinds: &mut [u32])
-    requires { ⌜ termBase ≤ length (now kinds) ⌝ }
+    requires { ⌜ termEnd ≤ length (now kinds) ⌝ }
     ensures { λ _. ⌜ Kinds (now (into .entry)) (now (kinds .exit)) (length (now (into .entry))) ⌝ }
 {
     let mut j = TERMS;
@@ -935,7 +935,7 @@ fn mark_kinds(into: &[u32], kinds: &mut [u32])
 
 // Whether the literal x has a way: one of the first path has its kind, or it may become t = t.
 fn has_way(kinds: &[u32], x: u64) -> bool
-    requires { ⌜ termBase ≤ length (now kinds) ⌝ }
+    requires { ⌜ termEnd ≤ length (now kinds) ⌝ }
     ensures { λ r. ⌜ WayPost (now (kinds .entry)) x r ⌝ }
 {
     if is_equal(x) {

@@ -12,7 +12,7 @@ use Rattle.refusal.specs.Outcome.{Accepted}
 use Rattle.refusal.specs.OutcomeLaws.{accepted-ok, accepted-refused, accepted-cond}
 use Rattle.basics.specs.Tests.{Cmp, below, equal, above, cmp, Flag, isTrue, isFalse, flag}
 use Rattle.basics.specs.Members.{clash}
-use Rattle.label.specs.Limits.{firstParameter, parameterCount, firstVariable, variableCount, termBase}
+use Rattle.label.specs.Limits.{firstParameter, parameterCount, firstVariable, variableCount, termEnd}
 use Rattle.label.specs.LabelLaws.{term-below}
 use Rattle.label.specs.Labels.{areArities}
 use Rattle.label.specs.Renamings.{numbering}
@@ -89,7 +89,7 @@ leaf-value ar s x θ = refl
 
 -- ===== Closing up =====
 
-within-closedFrom : (c : ℕ) (ar : List ℕ) (m : ℕ) (d : Diagram) → firstVariable ≤ m → m + length (variables ar d) ≤ termBase → Listed ar d
+within-closedFrom : (c : ℕ) (ar : List ℕ) (m : ℕ) (d : Diagram) → firstVariable ≤ m → m + length (variables ar d) ≤ termEnd → Listed ar d
     → Within c (meaning ar d) → Within c (meaning ar (closedFrom ar m d))
 within-closedFrom c ar m d low room good w = within-each c ar (closedFrom ar m d) (λ t e. let o = occurs-closedFrom ar m d low room good t e in
     go t (o .origin) (o .gives) (each-within c ar d w (o .origin) (o .occurring)) (cmp (o .origin) firstVariable))
@@ -99,7 +99,7 @@ within-closedFrom c ar m d low room good w = within-each c ar (closedFrom ar m d
     go t u g a (equal h) k = let z = numbering-high (variables ar d) m u (omega arith) in omega arith
     go t u g a (above h) k = let z = numbering-high (variables ar d) m u (omega arith) in omega arith
 
-closed-room : (ar : List ℕ) (d : Diagram) → firstVariable + length (variables ar d) ≤ termBase
+closed-room : (ar : List ℕ) (d : Diagram) → firstVariable + length (variables ar d) ≤ termEnd
 closed-room ar d = omega (arith, variables-few ar d)
 
 pub within-closed : (c : ℕ) (ar : List ℕ) (d : Diagram) → Listed ar d → Within c (meaning ar d) → Within c (meaning ar (closed ar d))
@@ -226,17 +226,17 @@ pub record FreedTo (ar : List ℕ) (c : ℕ) (d r : Diagram) : Type 0 where
 
 pub freed-to : (ar : List ℕ) (c : ℕ) (d : Diagram) → Listed ar d → c ≤ parameterCount → Within c (meaning ar d) → Accepted (FreedTo ar c d) (freedOutcome ar c d)
 unfolding freedOutcome
-freed-to ar c d good few w = accepted-cond (anyOccurs ar d (termBase - c) c) Variables _ (λ q. accepted-ok (record {
+freed-to ar c d good few w = accepted-cond (anyOccurs ar d (termEnd - c) c) Variables _ (λ q. accepted-ok (record {
   listed = freed-good ar c d good (freeable q);
   within = freed-within ar c d (freed ar c d) (is-freed q) w;
   high = λ s g x h. freed-highest ar c d (freed ar c d) (is-freed q) s g x h;
 }))
   where
-    freeable : anyOccurs ar d (termBase - c) c ≡ false → Freeable ar c d
+    freeable : anyOccurs ar d (termEnd - c) c ≡ false → Freeable ar c d
     freeable q = record {
       count = few;
       parameters = λ t e h. by-count t (each-within c ar d w t e) h (cmp t (firstParameter + c));
-      variables = λ t e h. by-room t e (term-below t (occurs-term ar d t (good .fine) e)) (cmp (t + c) termBase);
+      variables = λ t e h. by-room t e (term-below t (occurs-term ar d t (good .fine) e)) (cmp (t + c) termEnd);
     }
       where
         by-count : (t : ℕ) → Allowed c t → t < firstVariable → Cmp t (firstParameter + c) → t < firstParameter + c
@@ -244,12 +244,12 @@ freed-to ar c d good few w = accepted-cond (anyOccurs ar d (termBase - c) c) Var
         by-count t a h (equal k) = let z = a (omega arith) in absurd (omega arith)
         by-count t a h (above k) = let z = a (omega arith) in absurd (omega arith)
 
-        by-room : (t : ℕ) → occurs ar t d ≡ true → t < termBase → Cmp (t + c) termBase → t + c < termBase
+        by-room : (t : ℕ) → occurs ar t d ≡ true → t < termEnd → Cmp (t + c) termEnd → t + c < termEnd
         by-room t e h (below k) = k
-        by-room t e h (equal k) = clash e (any-quiet ar d (termBase - c) c q t (omega arith) (omega arith))
-        by-room t e h (above k) = clash e (any-quiet ar d (termBase - c) c q t (omega arith) (omega arith))
+        by-room t e h (equal k) = clash e (any-quiet ar d (termEnd - c) c q t (omega arith) (omega arith))
+        by-room t e h (above k) = clash e (any-quiet ar d (termEnd - c) c q t (omega arith) (omega arith))
 
-    is-freed : anyOccurs ar d (termBase - c) c ≡ false → IsFreed ar c d (freed ar c d)
+    is-freed : anyOccurs ar d (termEnd - c) c ≡ false → IsFreed ar c d (freed ar c d)
     is-freed q = record {
       is = unfold freed in refl;
       few = few;
@@ -265,5 +265,5 @@ freed-to ar c d good few w = accepted-cond (anyOccurs ar d (termBase - c) c) Var
             quiet (isFalse e) = e
             quiet (isTrue e) = let z = each-within c ar d w t e h in absurd (omega arith)
 
-        vs : (t : ℕ) → termBase ≤ t + c → t < termBase → occurs ar t d ≡ false
-        vs t h k = any-quiet ar d (termBase - c) c q t (omega arith) (omega arith)
+        vs : (t : ℕ) → termEnd ≤ t + c → t < termEnd → occurs ar t d ≡ false
+        vs t h k = any-quiet ar d (termEnd - c) c q t (omega arith) (omega arith)

@@ -16,7 +16,7 @@ pub const PATHS: usize = 256;
 // What is counted where there are more.
 const MANY: u64 = 257;
 // A mark for each term stands before the literals of a path.
-const MARKS: usize = Term::BASE as usize;
+const MARKS: usize = Term::END as usize;
 
 // A place on a path: a row, which of its paths, and the literal that led to it.
 struct Here {

@@ -8,7 +8,7 @@ use lib.ListN.{length, getD, set, length-set}
 use lib.Seq.{getD-set-same, getD-set-other}
 use Rattle.refusal.specs.declared.Refusal.{Refusal}
 use Rattle.refusal.specs.declared.Refusal.the-variants.{Form, Name, Arity, Range}
-use Rattle.label.specs.Limits.{predicateCount, termBase, mostPlaces}
+use Rattle.label.specs.Limits.{predicateCount, termEnd, mostPlaces}
 use Rattle.label.specs.Labels.{testOf}
 use Rattle.label.specs.Callers.{Packable}
 use Rattle.label.specs.declared.Atom.{Atom}
@@ -141,7 +141,7 @@ place-fourth a (suc zero) t f g h = absurd (g refl)
 place-fourth a (suc (suc zero)) t f g h = absurd (h refl)
 place-fourth a (suc (suc (suc k))) t f g h = refl
 
-placed-packs : (a : Atom) (k t : ℕ) → Packable a → t < termBase → Packable (placed a k t)
+placed-packs : (a : Atom) (k t : ℕ) → Packable a → t < termEnd → Packable (placed a k t)
 placed-packs a zero t p h = let l = p .places in record { predicate-below = p .predicate-below; places = record { first-below = h; second-below = l .second-below; third-below = l .third-below; fourth-below = l .fourth-below } }
 placed-packs a (suc zero) t p h = let l = p .places in record { predicate-below = p .predicate-below; places = record { first-below = l .first-below; second-below = h; third-below = l .third-below; fourth-below = l .fourth-below } }
 placed-packs a (suc (suc zero)) t p h = let l = p .places in record { predicate-below = p .predicate-below; places = record { first-below = l .first-below; second-below = l .second-below; third-below = h; fourth-below = l .fourth-below } }
@@ -150,7 +150,7 @@ placed-packs a (suc (suc (suc k))) t p h = let l = p .places in record { predica
 abbrev next : Progress → Atom → Progress
 next p b = record { atom = b; filled = p .filled + 1; due = p .due - 1; operations = p .operations }
 
-pub give-room : (os : List ℕ) (p : Progress) (t : ℕ) {b : Atom} → Room os p → t < termBase → (p .due ≡ 0 → ⊥) → b ≡ placed (p .atom) (p .filled) t → Room os (next p b)
+pub give-room : (os : List ℕ) (p : Progress) (t : ℕ) {b : Atom} → Room os p → t < termEnd → (p .due ≡ 0 → ⊥) → b ≡ placed (p .atom) (p .filled) t → Room os (next p b)
 give-room os p t {b} r h f e = record {
   going = record { packable = rw e (placed-packs (p .atom) (p .filled) t (r .going .packable) h); places = omega (arith, r .going .places) };
   room = r .room;
@@ -170,7 +170,7 @@ give-goes os p t {b} {r} {os′} f e g = record {
 
 -- a term, resolved
 
-pub term-below : {r : Resolved} {t : ℕ} → TermBelow r → r ≡ R.Number t → t < termBase
+pub term-below : {r : Resolved} {t : ℕ} → TermBelow r → r ≡ R.Number t → t < termEnd
 term-below h e = subst TermBelow e h
 
 module _ (os : List ℕ) (p : Progress) {r : Resolved} where

@@ -6,7 +6,7 @@ use lib.Dec.{leb}
 use mathlib.Core.List.{List}
 use lib.ListN.{length, drop}
 use Rattle.refusal.specs.declared.Refusal.the-variants as F
-use Rattle.label.specs.Limits.{constantCount, parameterCount, predicateCount, termBase, mostPlaces, variableCount}
+use Rattle.label.specs.Limits.{constantCount, parameterCount, predicateCount, termEnd, mostPlaces, variableCount}
 use Rattle.label.specs.Labels.{areArities}
 use Rattle.label.specs.Callers.{Packable}
 use Rattle.words.specs.declared.Key.{Key}
@@ -143,7 +143,7 @@ pub record Room (os : List ℕ) (p : Progress) : Type 0 where
   pub room : p .operations * 2 + 2 ≤ length os
 
 abbrev pub TermBelow : Resolved → Type 0
-TermBelow (R.Number t) = t < termBase
+TermBelow (R.Number t) = t < termEnd
 TermBelow (R.Refused r) = Unit {0}
 
 -- what a word adds: at most one operation

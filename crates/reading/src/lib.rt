@@ -10,7 +10,7 @@ ghost use mathlib.Core.Path.{_≡_};
 ghost use mathlib.Core.List.{[]};
 ghost use Prim.Native.Nat.{_+_, _*_, _≤_, _<_, min};
 ghost use lib.ListN.{length, drop};
-ghost use Rattle.label.specs.Limits.{constantCount, parameterCount, predicateCount, termBase, mostPlaces};
+ghost use Rattle.label.specs.Limits.{constantCount, parameterCount, predicateCount, termEnd, mostPlaces};
 ghost use Rattle.label.specs.Terms.{variableTerm};
 ghost use Rattle.events.specs.Front.{isEnd, eventsOf};
 ghost use Rattle.names.specs.Keys.{keysAt};
@@ -173,7 +173,7 @@ fn place(a: Atom, k: usize, t: u64) -> Atom
 // The term t fills the next place of the atom.
 fn give(operations: &mut [u64], pass: Progress, t: u64) -> Stepped
     requires { ⌜ Room (now operations) pass ⌝ }
-    requires { ⌜ t < termBase ⌝ }
+    requires { ⌜ t < termEnd ⌝ }
     ensures { λ r. ⌜ Steps pass (termWord (passOf (now (operations .entry)) pass) (fine t)) r (now (operations .exit)) ⌝ }
 {
     if pass.due == 0 {

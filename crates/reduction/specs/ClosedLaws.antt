@@ -7,7 +7,7 @@ use native.Mathlib.Omega.{arith}
 use native.Mathlib.Nat.{le-of-eq}
 use lib.ListN.{length}
 use Rattle.basics.specs.Tests.{Cmp, below, equal, above, cmp}
-use Rattle.label.specs.Limits.{firstVariable, termBase}
+use Rattle.label.specs.Limits.{firstVariable, termEnd}
 use Rattle.label.specs.Renamings.{numbering}
 use Rattle.label.specs.RenamingLaws.{numbering-low, numbering-high}
 use Rattle.diagram.specs.Diagram.{Diagram}
@@ -25,7 +25,7 @@ use Rattle.regression.specs.Parameters.{Allowed, Within}
 use Rattle.regression.specs.ResultLaws.{value-meaning}
 use Rattle.regression.specs.NextLaws.{terms-occur, occur-terms}
 
-closed-room : (ar : List ℕ) (d : Diagram) → firstVariable + length (variables ar d) ≤ termBase
+closed-room : (ar : List ℕ) (d : Diagram) → firstVariable + length (variables ar d) ≤ termEnd
 closed-room ar d = omega (arith, variables-few ar d)
 
 pub within-closed : (c : ℕ) (ar : List ℕ) (d : Diagram) → Listed ar d → Within c (meaning ar d) → Within c (meaning ar (closed ar d))

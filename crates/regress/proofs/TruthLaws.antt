@@ -11,7 +11,7 @@ use lib.Dec.{eqb}
 use borrow.Author.Tests.{eqb-true, eqb-false, not-true}
 use Rattle.basics.specs.Members.{clash}
 use Rattle.basics.specs.Tests.{and-left, and-right, Flag, isTrue, isFalse, flag, Cmp, below, equal, above, cmp}
-use Rattle.label.specs.Limits.{termBase}
+use Rattle.label.specs.Limits.{termEnd}
 use Rattle.label.specs.Labels.{areArities, termsOf, unpacked, predicateOf}
 use Rattle.label.specs.LabelLaws.{term-below, label-below, label-fits}
 use Rattle.label.proofs.CodeLaws.{under-all}
@@ -82,8 +82,8 @@ module _ (n : ℕ) (a : Atom) (t : ℕ) (h : 32 ≤ t) (k : t - 32 < n) where
 pub record Arguing (ar : List ℕ) (l : ℕ) (a : Atom) (n : ℕ) (map : List ℕ) (t : ℕ) : Type 0 where
   pub atom : a ≡ unpacked l
   pub arity : n ≡ getD ar (a .predicate) 0
-  pub whole : length map ≡ termBase
-  pub within : t ≤ termBase
+  pub whole : length map ≡ termEnd
+  pub within : t ≤ termEnd
   pub each : (u : ℕ) → u < t → getD map u 0 ≡ argument (usedPlaces n a) u
 
 pub arguing-start : {ar map : List ℕ} {l : ℕ} {a : Atom} → Arguable ar l map → a ≡ unpacked l → Arguing ar l a (getD ar (a .predicate) 0) map 0
@@ -127,7 +127,7 @@ module _ {ar ws : List ℕ} {l : ℕ} (u : Usable ar ws l) where
   arities : areArities ar ≡ true
   arities = listing-is-valid ar ws (u .listing) .arities
 
-  pub argument-arguable : {map : List ℕ} → length map ≡ termBase → Arguable ar l map
+  pub argument-arguable : {map : List ℕ} → length map ≡ termEnd → Arguable ar l map
   argument-arguable e = record { arities = arities; label = u .label; room = e }
 
   abbrev Ts : List ℕ
@@ -139,26 +139,26 @@ module _ {ar ws : List ℕ} {l : ℕ} (u : Usable ar ws l) where
       arities = arities;
       terms = record {
         whole = omega (arith, g .whole);
-        below = λ t h. rw (g .each t h) (argument-in (λ (x : ℕ). x < termBase) (omega arith) Ts (Each-mono _ _ term-below Ts (label-terms ar l (u .label))) t (λ k. h));
+        below = λ t h. rw (g .each t h) (argument-in (λ (x : ℕ). x < termEnd) (omega arith) Ts (Each-mono _ _ term-below Ts (label-terms ar l (u .label))) t (λ k. h));
       };
       keeps = λ t h. rw (g .each t (term-below t h)) (argument-terms Ts (label-terms ar l (u .label)) t h);
     }
 
-    past : (t : ℕ) → termBase ≤ t → mapOf map t ≡ argument Ts t
+    past : (t : ℕ) → termEnd ≤ t → mapOf map t ≡ argument Ts t
     unfolding termsOf
     past t h =
         List·getD-eq-default map 0 (omega (arith, g .whole))
         ∙ sym (argument-high Ts t (omega arith)
         ∙ take-past (getD ar (unpacked l .predicate) 0) (unpacked l .first ∷ unpacked l .second ∷ unpacked l .third ∷ unpacked l .fourth ∷ []) (t - 32) (omega arith))
 
-    same-map : (t : ℕ) → Cmp t termBase → mapOf map t ≡ argument Ts t
+    same-map : (t : ℕ) → Cmp t termEnd → mapOf map t ≡ argument Ts t
     same-map t (below h) = g .each t h
     same-map t (equal h) = past t (omega arith)
     same-map t (above h) = past t (omega arith)
 
     pub argued-ran : {s₀ : List ℕ} {count : ℕ} {r : Stepped} {s heads links index : List ℕ} → Ran (replacement ar (mapOf map) (diagramOf ws)) s₀ count r s heads links index
         → Ran (replacement ar (argument Ts) (diagramOf ws)) s₀ count r s heads links index
-    argued-ran x = ran-cast (ap (λ (σ : ℕ → ℕ). replacement ar σ (diagramOf ws)) (fun-ext (λ t. same-map t (cmp t termBase)))) x
+    argued-ran x = ran-cast (ap (λ (σ : ℕ → ℕ). replacement ar σ (diagramOf ws)) (fun-ext (λ t. same-map t (cmp t termEnd)))) x
 
 -- the answer of forming d, as that of a step
 pub formed-told : (d : Diagram) → AtMost highestValue d → {plan index s₀ heads₀ links₀ : List ℕ} {count : ℕ} → Ready plan index s₀ heads₀ links₀ count

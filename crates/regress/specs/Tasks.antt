@@ -7,7 +7,7 @@ use Prim.Native.Nat.{ℕ, _+_, _*_, _≤_, _<_}
 use lib.ListN.{length, getD, take}
 use lib.Dec.{eqb}
 use Rattle.refusal.specs.declared.Refusal.the-variants.{Space}
-use Rattle.label.specs.Limits.{leafMark, termBase}
+use Rattle.label.specs.Limits.{leafMark, termEnd}
 use Rattle.label.specs.Terms.{isTerm}
 use Rattle.label.specs.Labels.{areArities, isLabel, termsOf, unpacked}
 use Rattle.label.specs.Renamings.{mapOf, moved}
@@ -76,9 +76,9 @@ usedPlaces n a = take n (a .first ∷ a .second ∷ a .third ∷ a .fourth ∷ [
 pub record Arguable (ar : List ℕ) (l : ℕ) (map : List ℕ) : Type 0 where
   pub arities : areArities ar ≡ true
   pub label : isLabel ar l ≡ true
-  pub room : length map ≡ termBase
+  pub room : length map ≡ termEnd
 
 -- the map has for each term what replaces it, where the arguments become the terms of l
 pub record Argued (ar : List ℕ) (l : ℕ) (map : List ℕ) : Type 0 where
-  pub whole : length map ≡ termBase
-  pub each : (t : ℕ) → t < termBase → getD map t 0 ≡ argument (termsOf ar (unpacked l)) t
+  pub whole : length map ≡ termEnd
+  pub each : (t : ℕ) → t < termEnd → getD map t 0 ≡ argument (termsOf ar (unpacked l)) t

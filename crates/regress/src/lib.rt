@@ -156,7 +156,7 @@ fn argument_map(arities: &[u64], label: u64, map: &mut [u64])
     let p = a.predicate as usize;
     let n = arities[p];
     let mut t = 0u64;
-    while t < Term::BASE {
+    while t < Term::END {
         map[t as usize] = argument_term(a, n, t);
         t += 1;
     }

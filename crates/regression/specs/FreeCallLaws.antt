@@ -14,7 +14,7 @@ use Rattle.refusal.specs.Outcome.{refused, Accepted}
 use Rattle.refusal.specs.OutcomeLaws.{accepted-cond, accepted-ok}
 use Rattle.basics.specs.Tests.{and-left, and-right, Either, one, other, either, Cmp, below, equal, above, cmp}
 use Rattle.basics.specs.Members.{clash}
-use Rattle.label.specs.Limits.{firstParameter, parameterCount, firstVariable, termBase}
+use Rattle.label.specs.Limits.{firstParameter, parameterCount, firstVariable, termEnd}
 use Rattle.label.specs.Terms.{isConstant, isParameter, isVariable, isTerm}
 use Rattle.label.specs.Labels.{areArities, predicateOf, unpacked, isLabel, termsOf}
 use Rattle.label.specs.Renamings.{mapped, renamed, freeing, Increasing, EachTerm, EachIn}
@@ -102,14 +102,14 @@ pub record IsFreed (ar : List ℕ) (count : ℕ) (d r : Diagram) : Type 0 where
   pub is : r ≡ relabel (renamed ar (freeing count)) d
   pub few : count ≤ parameterCount
   pub parameters : (t : ℕ) → firstParameter + count ≤ t → t < firstParameter + parameterCount → occurs ar t d ≡ false
-  pub variables : (t : ℕ) → termBase ≤ t + count → t < termBase → occurs ar t d ≡ false
+  pub variables : (t : ℕ) → termEnd ≤ t + count → t < termEnd → occurs ar t d ≡ false
   pub means : meaning ar r ≡ rename (freeing count) (meaning ar d)
 
 -- a term is a constant, a parameter or a variable
 data Kinds (t : ℕ) : Type 0 where
   constant : t < firstParameter → Kinds t
   parameter : firstParameter ≤ t → t < firstParameter + parameterCount → Kinds t
-  variable : firstVariable ≤ t → t < termBase → Kinds t
+  variable : firstVariable ≤ t → t < termEnd → Kinds t
 
 kinds : (t : ℕ) → isTerm t ≡ true → Kinds t
 unfolding isTerm isConstant isParameter isVariable
@@ -138,11 +138,11 @@ terms-two P Q R h (branch a t f) x y = (each-two P Q R h (args a) (x .0) (y .0),
 
 module _ (ar : List ℕ) (count : ℕ) (d : Diagram) (few : count ≤ parameterCount)
     (parameters : (t : ℕ) → firstParameter + count ≤ t → t < firstParameter + parameterCount → occurs ar t d ≡ false)
-    (variables : (t : ℕ) → termBase ≤ t + count → t < termBase → occurs ar t d ≡ false) where
+    (variables : (t : ℕ) → termEnd ≤ t + count → t < termEnd → occurs ar t d ≡ false) where
   freeable : (t : ℕ) → isTerm t ≡ true → occurs ar t d ≡ true → Freeable count t
-  freeable t e o = (e, go (kinds t e) (cmp t (firstParameter + count)) (cmp (t + count) termBase))
+  freeable t e o = (e, go (kinds t e) (cmp t (firstParameter + count)) (cmp (t + count) termEnd))
     where
-      go : Kinds t → Cmp t (firstParameter + count) → Cmp (t + count) termBase → (t < firstParameter + count) ⊎ ((firstVariable ≤ t) × (t + count < termBase))
+      go : Kinds t → Cmp t (firstParameter + count) → Cmp (t + count) termEnd → (t < firstParameter + count) ⊎ ((firstVariable ≤ t) × (t + count < termEnd))
       go (constant h) x y = inl (omega arith)
       go (parameter h k) (below x) y = inl x
       go (parameter h k) (equal x) y = clash o (parameters t (omega arith) k)
@@ -163,12 +163,12 @@ free-is ar words count outLength workLength =
     accepted-cond (ltb outLength resultWords || ltb workLength spaceWords) Buffer _ (λ b.
     accepted-cond (ltb parameterCount count) Range _ (λ c.
     accepted-cond (anyOccurs ar (diagramOf words) (firstParameter + count) (parameterCount - count)) Unbound _ (λ p.
-    accepted-cond (anyOccurs ar (diagramOf words) (termBase - count) count) Variables _ (λ v.
+    accepted-cond (anyOccurs ar (diagramOf words) (termEnd - count) count) Variables _ (λ v.
     let few = ltb-false parameterCount count c in
     let ps : (t : ℕ) → firstParameter + count ≤ t → t < firstParameter + parameterCount → occurs ar t (diagramOf words) ≡ false =
     λ t h k. any-quiet ar (diagramOf words) (firstParameter + count) (parameterCount - count) p t h (omega arith) in
-    let vs : (t : ℕ) → termBase ≤ t + count → t < termBase → occurs ar t (diagramOf words) ≡ false =
-    λ t h k. any-quiet ar (diagramOf words) (termBase - count) count v t (omega arith) (omega arith) in
+    let vs : (t : ℕ) → termEnd ≤ t + count → t < termEnd → occurs ar t (diagramOf words) ≡ false =
+    λ t h k. any-quiet ar (diagramOf words) (termEnd - count) count v t (omega arith) (omega arith) in
     let g = is-listing-good ar words (not-false _ l) in
     accepted-ok (record {
       is = refl;

@@ -7,7 +7,7 @@ use lib.ListN.{length, getD, take, drop}
 use lib.Dec.{ltb, eqb}
 use Rattle.refusal.specs.declared.Refusal.the-variants.{Listing, Buffer, Truth, Unbound, Range, Variables}
 use Rattle.refusal.specs.Outcome.{Outcome, ok, refused}
-use Rattle.label.specs.Limits.{firstParameter, parameterCount, firstVariable, variableCount, termBase, predicateCount}
+use Rattle.label.specs.Limits.{firstParameter, parameterCount, firstVariable, variableCount, termEnd, predicateCount}
 use Rattle.diagram.specs.Sizes.{resultWords, spaceWords}
 use Rattle.diagram.specs.Diagram.{Diagram, leaf, branch}
 use Rattle.diagram.specs.Rows.{rows}
@@ -98,7 +98,7 @@ regressResult ar value truths spans workLength out = writtenAs (regressOutcome a
 -- freeing turns parameter 16 + i into variable 32 + i and moves the other variables up by the parameter count; a variable that would pass 63 is 8
 unfoldable pub freedOutcome : List ℕ → ℕ → Diagram → Outcome Diagram
 unfolding anyOccurs freed
-freedOutcome ar c d = cond (anyOccurs ar d (termBase - c) c) (refused Variables) (ok (freed ar c d))
+freedOutcome ar c d = cond (anyOccurs ar d (termEnd - c) c) (refused Variables) (ok (freed ar c d))
 
 -- a parameter past the count is 6
 unfoldable pub freeOwn : List ℕ → List ℕ → ℕ → Outcome Diagram

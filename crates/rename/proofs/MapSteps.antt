@@ -8,7 +8,7 @@ use native.Mathlib.Omega.{arith}
 use lib.ListN.{length, getD, set, drop}
 use lib.Seq.{drop-cons, set-at}
 use borrow.Author.Tests.{eq-eqb, ne-eqb}
-use Rattle.label.specs.Limits.{firstVariable, termBase}
+use Rattle.label.specs.Limits.{firstVariable, termEnd}
 use Rattle.label.specs.Renamings.{rank}
 use Rattle.label.specs.RenamingLaws.{numbering-high, freeing-constant, freeing-parameter, freeing-variable}
 use Rattle.rename.specs.AscendingLaws.{rank-none, rank-most}
@@ -79,7 +79,7 @@ fill-start f old = rw (tabled-none f)
 
 -- close_map: the terms below t are written, and `next` is the number of the next used variable
 pub record Closing (used : List ℕ) (first : ℕ) (old map : List ℕ) (t next : ℕ) : Type 0 where
-  pub within : t ≤ termBase
+  pub within : t ≤ termEnd
   pub number : next ≡ numberAt used first t
   pub filled : Filled (closeAt used first) old map t
 
@@ -103,7 +103,7 @@ module _ {used : List ℕ} {first : ℕ} {old map : List ℕ} {t next : ℕ} (c 
     filled = fill-next (closeAt used first) old map t v (omega (arith, pre .whole)) e (c .filled);
   }
 
-  pub closing-end : 64 ≤ t → map ≡ tabled (closeAt used first) termBase ++ drop termBase old
+  pub closing-end : 64 ≤ t → map ≡ tabled (closeAt used first) termEnd ++ drop termEnd old
   closing-end h = let w = c .within in let e : t ≡ 64 = omega arith in subst (Filled (closeAt used first) old map) e (c .filled)
 
 -- free_term
@@ -124,7 +124,7 @@ free-past c {t} h k m = let e = freeing-variable c t (omega arith) h in sym (fre
 
 -- free_map: the terms below t are written
 pub record FreeFill (count : ℕ) (old map : List ℕ) (t : ℕ) : Type 0 where
-  pub within : t ≤ termBase
+  pub within : t ≤ termEnd
   pub filled : Filled (freeAt count) old map t
 
 pub freeing-start : (count : ℕ) (map : List ℕ) → FreeFill count map map 0
@@ -134,5 +134,5 @@ module _ {count : ℕ} {old map : List ℕ} {t : ℕ} (c : FreeFill count old ma
   pub freeing-on : {v : ℕ} → Countable count old → t < 64 → v ≡ freeAt count t → FreeFill count old (set map t v) (t + 1)
   freeing-on {v} pre h e = record { within = omega arith; filled = fill-next (freeAt count) old map t v (omega (arith, pre .whole)) e (c .filled) }
 
-  pub freeing-end : 64 ≤ t → map ≡ tabled (freeAt count) termBase ++ drop termBase old
+  pub freeing-end : 64 ≤ t → map ≡ tabled (freeAt count) termEnd ++ drop termEnd old
   freeing-end h = let w = c .within in let e : t ≡ 64 = omega arith in subst (Filled (freeAt count) old map) e (c .filled)

@@ -10,7 +10,7 @@ use lib.Dec.{eqb, ltb}
 use borrow.Author.Tests.{lt-ltb, le-ltb}
 use Rattle.basics.specs.Tests.{Cmp, below, equal, above, cmp}
 use Rattle.basics.specs.Members.{mem}
-use Rattle.label.specs.Limits.{firstVariable, variableCount, termBase}
+use Rattle.label.specs.Limits.{firstVariable, variableCount, termEnd}
 use Rattle.label.specs.Renamings.{rank, numbering}
 use Rattle.label.specs.RenamingLaws.{rank-below, numbering-low, numbering-high}
 use Rattle.diagram.specs.Diagram.{Diagram}
@@ -78,7 +78,7 @@ through ar m d θ η good p q t e = go (cmp t firstVariable)
 closing : List ℕ → ℕ → (ℕ → ℕ) → ℕ → ℕ
 closing vs m θ t = cond (ltb t firstVariable) (θ t) (θ (getD vs (t - m) 0))
 
-module _ (ar : List ℕ) (m : ℕ) (d : Diagram) (low : firstVariable ≤ m) (room : m + length (variables ar d) ≤ termBase) (good : Good ar d) where
+module _ (ar : List ℕ) (m : ℕ) (d : Diagram) (low : firstVariable ≤ m) (room : m + length (variables ar d) ≤ termEnd) (good : Good ar d) where
   closing-low : (θ : ℕ → ℕ) (t : ℕ) → t < firstVariable → closing (variables ar d) m θ t ≡ θ t
   unfolding closing
   closing-low θ t h = rw (lt-ltb t firstVariable h)
@@ -116,10 +116,10 @@ module _ (ar : List ℕ) (m : ℕ) (d : Diagram) (low : firstVariable ≤ m) (ro
   closed-free = record { closed-by = closed-by; opened-by = opened-by }
 
 module _ (ar : List ℕ) (a b : Diagram) (good-a : Good ar a) (good-b : Good ar b) (room : length (variables ar a) + length (variables ar b) ≤ variableCount) where
-  room-a : firstVariable + length (variables ar a) ≤ termBase
+  room-a : firstVariable + length (variables ar a) ≤ termEnd
   room-a = omega (arith, variables-few ar a)
 
-  room-b : firstVariable + length (variables ar a) + length (variables ar b) ≤ termBase
+  room-b : firstVariable + length (variables ar a) + length (variables ar b) ≤ termEnd
   room-b = omega arith
 
   after-firstVariable : firstVariable ≤ firstVariable + length (variables ar a)

@@ -5,7 +5,7 @@ use mathlib.Core.Bool.{true}
 use mathlib.Core.List.{List}
 use Prim.Native.Nat.{ℕ, _+_, _≤_}
 use lib.ListN.{length}
-use Rattle.label.specs.Limits.{termBase, predicateCount, parameterCount, leafMark}
+use Rattle.label.specs.Limits.{termEnd, predicateCount, parameterCount, leafMark}
 use Rattle.label.specs.Labels.{isLabel}
 use Rattle.label.specs.Callers.{TermMap}
 use Rattle.diagram.specs.Words.{isListing}
@@ -13,14 +13,14 @@ use Rattle.rename.specs.Maps.{usedVariables}
 
 -- the used variables, numbered from `first` on, fit below 64
 pub record Closable (used : List ℕ) (first : ℕ) (map : List ℕ) : Type 0 where
-  pub marks : termBase ≤ length used
-  pub whole : termBase ≤ length map
-  pub room : first + length (usedVariables used) ≤ termBase
+  pub marks : termEnd ≤ length used
+  pub whole : termEnd ≤ length map
+  pub room : first + length (usedVariables used) ≤ termEnd
 
 -- an action's parameter count
 pub record Countable (count : ℕ) (map : List ℕ) : Type 0 where
   pub few : count ≤ parameterCount
-  pub whole : termBase ≤ length map
+  pub whole : termEnd ≤ length map
 
 -- a word that is a label, or marks a leaf
 pub record Word (ar map : List ℕ) (x : ℕ) : Type 0 where

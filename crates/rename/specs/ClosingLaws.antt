@@ -9,7 +9,7 @@ use lib.ListN.{length, getD}
 use lib.Dec.{eqb}
 use Rattle.basics.specs.Tests.{Flag, isTrue, isFalse, flag, Cmp, below, equal, above, cmp}
 use Rattle.basics.specs.Members.{mem, Within}
-use Rattle.label.specs.Limits.{firstVariable, variableCount, termBase}
+use Rattle.label.specs.Limits.{firstVariable, variableCount, termEnd}
 use Rattle.label.specs.Renamings.{renamed, numbering, Increasing}
 use Rattle.label.specs.RenamingLaws.{Numbered, rank-below, numbering-low, numbering-high, numbering-increasing}
 use Rattle.diagram.specs.Diagram.{Diagram}
@@ -23,7 +23,7 @@ use Rattle.rename.specs.AscendingLaws.{mem-place, rank-place, ascending-
 use Rattle.rename.specs.TermLaws.{renamed-same}
 use Rattle.rename.specs.VariableLaws.{Origin, terms-each-occurs, named-labels, variable-occurs, occurs-variable, variables-ascending, variables-few, terms-numbered, occurs-numbered, renaming-good, renaming-rows, renaming-listing, occurs-renaming, renaming-occurs}
 
-module _ (ar : List ℕ) (m : ℕ) (d : Diagram) (low : firstVariable ≤ m) (room : m + length (variables ar d) ≤ termBase) (good : Good ar d) where
+module _ (ar : List ℕ) (m : ℕ) (d : Diagram) (low : firstVariable ≤ m) (room : m + length (variables ar d) ≤ termEnd) (good : Good ar d) where
   closing-increasing : Increasing (Numbered (variables ar d)) (numbering (variables ar d) m)
   closing-increasing = numbering-increasing (variables ar d) m low room
 
@@ -92,7 +92,7 @@ module _ (ar : List ℕ) (m : ℕ) (d : Diagram) (low : firstVariable ≤ m) (ro
       ascending-one firstVariable m _ _ (variables-ascending ar (closedFrom ar m d)) (consecutive-ascending m (length (variables ar d))) closed-in in-closed
 
 module _ (ar : List ℕ) (d : Diagram) (good : Good ar d) where
-  closed-room : firstVariable + length (variables ar d) ≤ termBase
+  closed-room : firstVariable + length (variables ar d) ≤ termEnd
   closed-room = omega (arith, variables-few ar d)
 
   -- closing up is always possible
@@ -148,7 +148,7 @@ module _ (ar : List ℕ) (a b : Diagram) (good-a : Good ar a) (good-b : Good ar 
   after-low : firstVariable ≤ firstVariable + length (variables ar a)
   after-low = omega arith
 
-  after-room : firstVariable + length (variables ar a) + length (variables ar b) ≤ termBase
+  after-room : firstVariable + length (variables ar a) + length (variables ar b) ≤ termEnd
   after-room = omega arith
 
   pub after-good : Good ar (after ar a b)

@@ -3,7 +3,7 @@ use mathlib.Core.Path.{_≡_}
 use mathlib.Core.Bool.{Bool, true}
 use mathlib.Core.List.{List}
 use Prim.Native.Nat.{ℕ, _+_, _≤_, _<_}
-use Rattle.label.specs.Limits.{firstParameter, parameterCount, firstVariable, termBase}
+use Rattle.label.specs.Limits.{firstParameter, parameterCount, firstVariable, termEnd}
 use Rattle.label.specs.Renamings.{renamed, freeing}
 use Rattle.diagram.specs.Diagram.{Diagram, relabel}
 use Rattle.diagram.specs.Variables.{occurs}
@@ -18,7 +18,7 @@ freed ar c d = relabel (renamed ar (freeing c)) d
 pub record Freeable (ar : List ℕ) (c : ℕ) (d : Diagram) : Type 0 where
   pub count : c ≤ parameterCount
   pub parameters : (t : ℕ) → occurs ar t d ≡ true → t < firstVariable → t < firstParameter + c
-  pub variables : (t : ℕ) → occurs ar t d ≡ true → firstVariable ≤ t → t + c < termBase
+  pub variables : (t : ℕ) → occurs ar t d ≡ true → firstVariable ≤ t → t + c < termEnd
 
 -- an assignment that leads the freed diagram where η leads d; parameters, which the freed diagram no longer has, by ζ
 pub record FreedBy (ar : List ℕ) (c : ℕ) (d : Diagram) (η ζ : ℕ → ℕ) : Type 0 where

@@ -9,7 +9,7 @@ use lib.ListN.{length}
 use lib.Dec.{ltb}
 use borrow.Author.Tests.{lt-ltb, le-ltb}
 use Rattle.basics.specs.Tests.{Cmp, below, equal, above, cmp}
-use Rattle.label.specs.Limits.{firstParameter, firstVariable, termBase}
+use Rattle.label.specs.Limits.{firstParameter, firstVariable, termEnd}
 use Rattle.label.specs.Renamings.{renamed, freeing, Increasing}
 use Rattle.label.specs.RenamingLaws.{Freed, freeing-increasing, freeing-constant, freeing-parameter, freeing-variable}
 use Rattle.diagram.specs.Diagram.{Diagram}
@@ -30,7 +30,7 @@ freeing-other c t h k = rw (le-ltb t firstParameter (omega arith), le-ltb t (fir
 data Kind (c t : ℕ) : Type 0 where
   constant : t < firstParameter → Kind c t
   parameter : firstParameter ≤ t → t < firstParameter + c → Kind c t
-  variable : firstVariable ≤ t → t + c < termBase → Kind c t
+  variable : firstVariable ≤ t → t + c < termEnd → Kind c t
 
 module _ (ar : List ℕ) (c : ℕ) (d : Diagram) (good : Good ar d) (free : Freeable ar c d) where
   kind : (t : ℕ) → occurs ar t d ≡ true → Kind c t
@@ -48,7 +48,7 @@ module _ (ar : List ℕ) (c : ℕ) (d : Diagram) (good : Good ar d) (free : Free
   occurs-freed : (t : ℕ) → occurs ar t d ≡ true → Freed c t
   occurs-freed t e = (occurs-term ar d t (good .fine) e, go (kind t e))
     where
-      go : Kind c t → (t < firstParameter + c) ⊎ ((firstVariable ≤ t) × (t + c < termBase))
+      go : Kind c t → (t < firstParameter + c) ⊎ ((firstVariable ≤ t) × (t + c < termEnd))
       go (constant h) = inl (omega arith)
       go (parameter h k) = inl k
       go (variable h k) = inr (h, k)

@@ -10,7 +10,7 @@ use lib.Dec.{eqb, ltb}
 use borrow.Author.Tests.{eq-eqb, ne-eqb, lt-ltb, le-ltb}
 use Rattle.basics.specs.Tests.{Flag, isTrue, isFalse, flag, Cmp, below, equal, above, cmp}
 use Rattle.basics.specs.Members.{mem, clash}
-use Rattle.label.specs.Limits.{firstVariable, variableCount, termBase, firstParameter, parameterCount}
+use Rattle.label.specs.Limits.{firstVariable, variableCount, termEnd, firstParameter, parameterCount}
 use Rattle.label.specs.Callers.{TermMap}
 use Rattle.label.specs.Renamings.{rank, numbering, freeing, mapOf}
 use Rattle.label.specs.RenamingLaws.{rank-below, numbering-high, numbering-low}
@@ -52,10 +52,10 @@ getD-tabled f (suc n) t h = rw (tabled-next f n) (go (cmp t n) (getD-tabled f n 
 pub tabled-at : (f : ℕ → ℕ) (n : ℕ) (rest : List ℕ) (t : ℕ) → t < n → getD (tabled f n ++ rest) t 0 ≡ f t
 tabled-at f n rest t h = List·getD-append (tabled f n) rest 0 t (omega (arith, length-tabled f n)) ∙ getD-tabled f n t h
 
-pub tabled-terms : (f : ℕ → ℕ) (rest : List ℕ) → ((t : ℕ) → t < termBase → f t < termBase) → TermMap (tabled f termBase ++ rest)
+pub tabled-terms : (f : ℕ → ℕ) (rest : List ℕ) → ((t : ℕ) → t < termEnd → f t < termEnd) → TermMap (tabled f termEnd ++ rest)
 tabled-terms f rest h = record {
-  whole = omega (arith, length-append (tabled f termBase) rest, length-tabled f termBase);
-  below = λ t k. rw (tabled-at f termBase rest t k) (h t k);
+  whole = omega (arith, length-append (tabled f termEnd) rest, length-tabled f termEnd);
+  below = λ t k. rw (tabled-at f termEnd rest t k) (h t k);
 }
 
 -- marked terms
@@ -87,7 +87,7 @@ pub used-variables-ascending : (used : List ℕ) → Ascending firstVariable (us
 unfolding usedVariables
 used-variables-ascending used = used-ascending used firstVariable variableCount
 
-pub used-variable : (used : List ℕ) (u : ℕ) → firstVariable ≤ u → u < termBase → mem eqb u (usedVariables used) ≡ isUsed used u
+pub used-variable : (used : List ℕ) (u : ℕ) → firstVariable ≤ u → u < termEnd → mem eqb u (usedVariables used) ≡ isUsed used u
 unfolding usedVariables
 used-variable used u h k = used-mem used firstVariable variableCount u h k
 
@@ -118,7 +118,7 @@ rank-next n (x ∷ xs) t a = go (cmp x t) (rank-next (suc x) xs t (a .1))
         )
 
 -- marks of a diagram's terms
-pub used-occurs : (ar : List ℕ) (d : Diagram) (used : List ℕ) → Marks ar d used → (t : ℕ) → t < termBase → isUsed used t ≡ occurs ar t d
+pub used-occurs : (ar : List ℕ) (d : Diagram) (used : List ℕ) → Marks ar d used → (t : ℕ) → t < termEnd → isUsed used t ≡ occurs ar t d
 unfolding isUsed
 used-occurs ar d used m t h = rw (m .mark t h) (go (occurs ar t d))
   where
@@ -126,7 +126,7 @@ used-occurs ar d used m t h = rw (m .mark t h) (go (occurs ar t d))
     go true = refl
     go false = refl
 
-used-occurring : (ar : List ℕ) (d : Diagram) (used : List ℕ) → Marks ar d used → (t n : ℕ) → t + n ≤ termBase → usedFrom used t n ≡ occurring ar d t n
+used-occurring : (ar : List ℕ) (d : Diagram) (used : List ℕ) → Marks ar d used → (t n : ℕ) → t + n ≤ termEnd → usedFrom used t n ≡ occurring ar d t n
 unfolding usedFrom occurring
 used-occurring ar d used m t zero h = refl
 used-occurring ar d used m t (suc n) h = rw (used-occurs ar d used m t (omega arith), used-occurring ar d used m (suc t) n (omega arith))
@@ -149,10 +149,10 @@ pub close-unused : (used : List ℕ) (first t : ℕ) → firstVariable ≤ t →
 unfolding closeAt
 close-unused used first t h e = rw (le-ltb t firstVariable h, e)
 
-pub close-below : (used : List ℕ) (first t : ℕ) → first + length (usedVariables used) ≤ termBase → t < termBase → closeAt used first t < termBase
+pub close-below : (used : List ℕ) (first t : ℕ) → first + length (usedVariables used) ≤ termEnd → t < termEnd → closeAt used first t < termEnd
 close-below used first t room h = go (cmp t firstVariable) (flag (isUsed used t))
   where
-    high : firstVariable ≤ t → Flag (isUsed used t) → closeAt used first t < termBase
+    high : firstVariable ≤ t → Flag (isUsed used t) → closeAt used first t < termEnd
     high k (isTrue e) =
         omega (
           arith,
@@ -162,19 +162,19 @@ close-below used first t room h = go (cmp t firstVariable) (flag (isUsed used t)
         )
     high k (isFalse e) = omega (arith, close-unused used first t k e)
 
-    go : Cmp t firstVariable → Flag (isUsed used t) → closeAt used first t < termBase
+    go : Cmp t firstVariable → Flag (isUsed used t) → closeAt used first t < termEnd
     go (below k) f = omega (arith, close-low used first t k)
     go (equal k) f = high (omega arith) f
     go (above k) f = high (omega arith) f
 
 -- the written map is one of terms
-pub close-terms : (used : List ℕ) (first : ℕ) (map rest : List ℕ) → Closable used first map → TermMap (tabled (closeAt used first) termBase ++ rest)
+pub close-terms : (used : List ℕ) (first : ℕ) (map rest : List ℕ) → Closable used first map → TermMap (tabled (closeAt used first) termEnd ++ rest)
 close-terms used first map rest c = tabled-terms (closeAt used first) rest (λ t h. close-below used first t (c .room) h)
 
 -- a written map has the number of each term that is no variable or is used
-pub close-numbers : (used : List ℕ) (first : ℕ) (rest : List ℕ) (t : ℕ) → t < termBase → (t < firstVariable) ⊎ (isUsed used t ≡ true)
-    → mapOf (tabled (closeAt used first) termBase ++ rest) t ≡ numbering (usedVariables used) first t
-close-numbers used first rest t h p = tabled-at (closeAt used first) termBase rest t h ∙ go (cmp t firstVariable) p
+pub close-numbers : (used : List ℕ) (first : ℕ) (rest : List ℕ) (t : ℕ) → t < termEnd → (t < firstVariable) ⊎ (isUsed used t ≡ true)
+    → mapOf (tabled (closeAt used first) termEnd ++ rest) t ≡ numbering (usedVariables used) first t
+close-numbers used first rest t h p = tabled-at (closeAt used first) termEnd rest t h ∙ go (cmp t firstVariable) p
   where
     high : firstVariable ≤ t → (t < firstVariable) ⊎ (isUsed used t ≡ true) → closeAt used first t ≡ numbering (usedVariables used) first t
     high k (inl x) = absurd (omega arith)
@@ -186,41 +186,41 @@ close-numbers used first rest t h p = tabled-at (closeAt used first) termBase re
     go (above k) x = high (omega arith) x
 
 -- a call on the marks of a diagram's terms
-pub marks-closable : (ar : List ℕ) (d : Diagram) (used : List ℕ) (first : ℕ) (map : List ℕ) → Marks ar d used → termBase ≤ length map
-    → first + length (variables ar d) ≤ termBase → Closable used first map
+pub marks-closable : (ar : List ℕ) (d : Diagram) (used : List ℕ) (first : ℕ) (map : List ℕ) → Marks ar d used → termEnd ≤ length map
+    → first + length (variables ar d) ≤ termEnd → Closable used first map
 marks-closable ar d used first map m w r = record { marks = m .whole; whole = w; room = rw (used-variables ar d used m) r }
 
 -- the laws of `freeAt`: nothing else unfolds it
-pub free-is : (c t : ℕ) → freeing c t < termBase → freeAt c t ≡ freeing c t
+pub free-is : (c t : ℕ) → freeing c t < termEnd → freeAt c t ≡ freeing c t
 unfolding freeAt
-free-is c t h = rw (lt-ltb (freeing c t) termBase h)
+free-is c t h = rw (lt-ltb (freeing c t) termEnd h)
 
-pub free-out : (c t : ℕ) → termBase ≤ freeing c t → freeAt c t ≡ 0
+pub free-out : (c t : ℕ) → termEnd ≤ freeing c t → freeAt c t ≡ 0
 unfolding freeAt
-free-out c t h = rw (le-ltb (freeing c t) termBase h)
+free-out c t h = rw (le-ltb (freeing c t) termEnd h)
 
-pub free-below : (c t : ℕ) → freeAt c t < termBase
-free-below c t = go (cmp (freeing c t) termBase)
+pub free-below : (c t : ℕ) → freeAt c t < termEnd
+free-below c t = go (cmp (freeing c t) termEnd)
   where
-    go : Cmp (freeing c t) termBase → freeAt c t < termBase
+    go : Cmp (freeing c t) termEnd → freeAt c t < termEnd
     go (below h) = omega (arith, free-is c t h)
     go (equal h) = omega (arith, free-out c t (omega arith))
     go (above h) = omega (arith, free-out c t (omega arith))
 
-pub free-terms : (c : ℕ) (rest : List ℕ) → TermMap (tabled (freeAt c) termBase ++ rest)
+pub free-terms : (c : ℕ) (rest : List ℕ) → TermMap (tabled (freeAt c) termEnd ++ rest)
 free-terms c rest = tabled-terms (freeAt c) rest (λ t h. free-below c t)
 
-pub free-numbers : (c : ℕ) (rest : List ℕ) (t : ℕ) → t < termBase → freeing c t < termBase → mapOf (tabled (freeAt c) termBase ++ rest) t ≡ freeing c t
-free-numbers c rest t h k = tabled-at (freeAt c) termBase rest t h ∙ free-is c t k
+pub free-numbers : (c : ℕ) (rest : List ℕ) (t : ℕ) → t < termEnd → freeing c t < termEnd → mapOf (tabled (freeAt c) termEnd ++ rest) t ≡ freeing c t
+free-numbers c rest t h k = tabled-at (freeAt c) termEnd rest t h ∙ free-is c t k
 
 -- no parameter past the count is marked, and no variable that would pass 63
 pub marks-freeable : (ar : List ℕ) (c : ℕ) (d : Diagram) (used : List ℕ) → Good ar d → Marks ar d used → c ≤ parameterCount
-    → ((t : ℕ) → firstParameter + c ≤ t → t < firstVariable → isUsed used t ≡ false) → ((t : ℕ) → termBase ≤ t + c → t < termBase → isUsed used t ≡ false)
+    → ((t : ℕ) → firstParameter + c ≤ t → t < firstVariable → isUsed used t ≡ false) → ((t : ℕ) → termEnd ≤ t + c → t < termEnd → isUsed used t ≡ false)
     → Freeable ar c d
 marks-freeable ar c d used good m few p q = record {
   count = few;
   parameters = λ t e h. first t e h (cmp t (firstParameter + c));
-  variables = λ t e h. second t e (cmp (t + c) termBase);
+  variables = λ t e h. second t e (cmp (t + c) termEnd);
 }
   where
     first : (t : ℕ) → occurs ar t d ≡ true → t < firstVariable → Cmp t (firstParameter + c) → t < firstParameter + c
@@ -228,7 +228,7 @@ marks-freeable ar c d used good m few p q = record {
     first t e h (equal k) = clash e (sym (used-occurs ar d used m t (omega arith)) ∙ p t (omega arith) h)
     first t e h (above k) = clash e (sym (used-occurs ar d used m t (omega arith)) ∙ p t (omega arith) h)
 
-    second : (t : ℕ) → occurs ar t d ≡ true → Cmp (t + c) termBase → t + c < termBase
+    second : (t : ℕ) → occurs ar t d ≡ true → Cmp (t + c) termEnd → t + c < termEnd
     second t e (below k) = k
     second t e (equal k) = let b = term-below t (occurs-term ar d t (good .fine) e) in clash e (sym (used-occurs ar d used m t b) ∙ q t (omega arith) b)
     second t e (above k) = let b = term-below t (occurs-term ar d t (good .fine) e) in clash e (sym (used-occurs ar d used m t b) ∙ q t (omega arith) b)

@@ -5,7 +5,7 @@ use mathlib.Core.List.{List, [], _∷_, _++_}
 use Prim.Native.Nat.{ℕ, zero, suc, _<_, _≤_}
 use lib.ListN.{length, getD}
 use lib.Dec.{eqb, ltb}
-use Rattle.label.specs.Limits.{firstVariable, variableCount, termBase}
+use Rattle.label.specs.Limits.{firstVariable, variableCount, termEnd}
 use Rattle.label.specs.Renamings.{numbering, freeing}
 use Rattle.diagram.specs.Diagram.{Diagram}
 use Rattle.diagram.specs.Variables.{occurs, pickList}
@@ -31,8 +31,8 @@ usedVariables used = usedFrom used firstVariable variableCount
 
 -- the words mark the terms of d, each with 1
 pub record Marks (ar : List ℕ) (d : Diagram) (used : List ℕ) : Type 0 where
-  pub whole : termBase ≤ length used
-  pub mark : (t : ℕ) → t < termBase → getD used t 0 ≡ cond (occurs ar t d) 1 0
+  pub whole : termEnd ≤ length used
+  pub mark : (t : ℕ) → t < termEnd → getD used t 0 ≡ cond (occurs ar t d) 1 0
 
 -- closing up: constants and parameters stay, a used variable has its number; an unused one, which no label has, 0
 unfoldable pub closeAt : List ℕ → ℕ → ℕ → ℕ
@@ -40,4 +40,4 @@ closeAt used first t = cond (ltb t firstVariable) t (cond (isUsed used t) (numbe
 
 -- freeing: a variable that would pass 63, which no label of a freed diagram has, 0
 unfoldable pub freeAt : ℕ → ℕ → ℕ
-freeAt c t = cond (ltb (freeing c t) termBase) (freeing c t) 0
+freeAt c t = cond (ltb (freeing c t) termEnd) (freeing c t) 0

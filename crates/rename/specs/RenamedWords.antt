@@ -9,7 +9,7 @@ use lib.ListN.{length}
 use lib.Dec.{eqb}
 use Rattle.basics.specs.Tests.{Cmp, below, equal, above, cmp}
 use Rattle.basics.specs.Members.{mem}
-use Rattle.label.specs.Limits.{firstVariable, termBase, variableCount}
+use Rattle.label.specs.Limits.{firstVariable, termEnd, variableCount}
 use Rattle.label.specs.LabelLaws.{term-below}
 use Rattle.label.specs.Renamings.{mapOf, renamed, numbering, freeing, Increasing, EachIn}
 use Rattle.label.specs.RenamingLaws.{Numbered, Freed, numbering-low, numbering-increasing, freeing-increasing}
@@ -51,8 +51,8 @@ renamed-words ar ws P ρ σ e inc q h =
 
 -- closing up and moving apart, by the map that close_map writes
 module _ (ar : List ℕ) (d : Diagram) (good : Good ar d) (used : List ℕ) (marks : Marks ar d used) (m : ℕ) (rest : List ℕ) where
-  close-agrees : (t : ℕ) → Numbered (variables ar d) t → mapOf (tabled (closeAt used m) termBase ++ rest) t ≡ numbering (variables ar d) m t
-  close-agrees t p = tabled-at (closeAt used m) termBase rest t (term-below t (p .0)) ∙ go (cmp t firstVariable) (p .1)
+  close-agrees : (t : ℕ) → Numbered (variables ar d) t → mapOf (tabled (closeAt used m) termEnd ++ rest) t ≡ numbering (variables ar d) m t
+  close-agrees t p = tabled-at (closeAt used m) termEnd rest t (term-below t (p .0)) ∙ go (cmp t firstVariable) (p .1)
     where
       high : firstVariable ≤ t → (t < firstVariable) ⊎ (mem eqb t (variables ar d) ≡ true) → closeAt used m t ≡ numbering (variables ar d) m t
       high h (inl x) = absurd (omega arith)
@@ -66,8 +66,8 @@ module _ (ar : List ℕ) (d : Diagram) (good : Good ar d) (used : List ℕ) (mar
       go (equal h) x = high (omega arith) x
       go (above h) x = high (omega arith) x
 
-  pub closed-words : firstVariable ≤ m → m + length (variables ar d) ≤ termBase
-      → relabelled (renamed ar (mapOf (tabled (closeAt used m) termBase ++ rest))) (listing d) ≡ listing (closedFrom ar m d)
+  pub closed-words : firstVariable ≤ m → m + length (variables ar d) ≤ termEnd
+      → relabelled (renamed ar (mapOf (tabled (closeAt used m) termEnd ++ rest))) (listing d) ≡ listing (closedFrom ar m d)
   unfolding closedFrom
   closed-words low room =
       renamed-listing ar d (Numbered (variables ar d)) (numbering (variables ar d) m) _ good (numbering-increasing (variables ar d) m low room)
@@ -75,23 +75,23 @@ module _ (ar : List ℕ) (d : Diagram) (good : Good ar d) (used : List ℕ) (mar
 
 -- one listing, closed up
 pub close-words : (ar : List ℕ) (d : Diagram) (used rest : List ℕ) → Good ar d → Marks ar d used
-    → relabelled (renamed ar (mapOf (tabled (closeAt used firstVariable) termBase ++ rest))) (listing d) ≡ listing (closed ar d)
+    → relabelled (renamed ar (mapOf (tabled (closeAt used firstVariable) termEnd ++ rest))) (listing d) ≡ listing (closed ar d)
 unfolding closed
 close-words ar d used rest good marks = closed-words ar d good used marks firstVariable rest (omega arith) (omega (arith, variables-few ar d))
 
 -- the second operand, moved behind the first
 pub after-words : (ar : List ℕ) (a b : Diagram) (used rest : List ℕ) → Good ar b → Marks ar b used → length (variables ar a) + length (variables ar b) ≤ variableCount
-    → relabelled (renamed ar (mapOf (tabled (closeAt used (firstVariable + length (variables ar a))) termBase ++ rest))) (listing b) ≡ listing (after ar a b)
+    → relabelled (renamed ar (mapOf (tabled (closeAt used (firstVariable + length (variables ar a))) termEnd ++ rest))) (listing b) ≡ listing (after ar a b)
 unfolding after
 after-words ar a b used rest good marks room =
     closed-words ar b good used marks (firstVariable + length (variables ar a)) rest (omega arith) (omega arith)
 
 -- freeing, by the map that free_map writes
 module _ (ar : List ℕ) (c : ℕ) (d : Diagram) (good : Good ar d) (free : Freeable ar c d) (rest : List ℕ) where
-  free-agrees : (t : ℕ) → Freed c t → mapOf (tabled (freeAt c) termBase ++ rest) t ≡ freeing c t
+  free-agrees : (t : ℕ) → Freed c t → mapOf (tabled (freeAt c) termEnd ++ rest) t ≡ freeing c t
   free-agrees t p =
-      tabled-at (freeAt c) termBase rest t (term-below t (p .0)) ∙ free-is c t (term-below (freeing c t) (freeing-increasing c (free .count) .terms t p))
+      tabled-at (freeAt c) termEnd rest t (term-below t (p .0)) ∙ free-is c t (term-below (freeing c t) (freeing-increasing c (free .count) .terms t p))
 
-  pub freed-words : relabelled (renamed ar (mapOf (tabled (freeAt c) termBase ++ rest))) (listing d) ≡ listing (freed ar c d)
+  pub freed-words : relabelled (renamed ar (mapOf (tabled (freeAt c) termEnd ++ rest))) (listing d) ≡ listing (freed ar c d)
   unfolding freed
   freed-words = renamed-listing ar d (Freed c) (freeing c) _ good (freeing-increasing c (free .count)) (terms-freed ar c d good free) free-agrees

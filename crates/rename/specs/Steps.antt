@@ -3,7 +3,7 @@ use mathlib.Core.Path.{_≡_}
 use mathlib.Core.List.{List, _++_}
 use Prim.Native.Nat.{ℕ, suc, _+_, _≤_, _<_}
 use lib.ListN.{length, take, drop}
-use Rattle.label.specs.Limits.{termBase}
+use Rattle.label.specs.Limits.{termEnd}
 use Rattle.label.specs.Renamings.{rank}
 use Rattle.rename.specs.Maps.{tabled, usedVariables}
 
@@ -17,9 +17,9 @@ numberAfter used first t = numberAt used first (suc t)
 
 -- the term t is reached, and `next` is the number of the next used variable
 pub record Numbering (used : List ℕ) (first t next : ℕ) : Type 0 where
-  pub marks : termBase ≤ length used
-  pub room : first + length (usedVariables used) ≤ termBase
-  pub inside : t < termBase
+  pub marks : termEnd ≤ length used
+  pub room : first + length (usedVariables used) ≤ termEnd
+  pub inside : t < termEnd
   pub number : next ≡ numberAt used first t
 
 -- the first n words are those of f, the others as they were

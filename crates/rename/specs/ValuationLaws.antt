@@ -4,7 +4,7 @@ use mathlib.Core.Bool.{Bool, true, false, cond}
 use mathlib.Core.List.{List, map, map-map}
 use Prim.Native.Nat.{ℕ, _+_, _≤_, _<_}
 use lib.ListN.{length}
-use Rattle.label.specs.Limits.{firstVariable, termBase}
+use Rattle.label.specs.Limits.{firstVariable, termEnd}
 use Rattle.label.specs.Labels.{areArities, predicateOf, unpacked, termsOf, isLabel}
 use Rattle.label.specs.Renamings.{renamed, mapped, numbering, Increasing, EachIn}
 use Rattle.label.specs.RenamingLaws.{Numbered, renamed-terms, renamed-atom, numbering-increasing}
@@ -50,7 +50,7 @@ module _ (ar : List ℕ) (good : areArities ar ≡ true) (P : ℕ → Type 0) (�
       (labels-weaken (Named ar P) _ d (λ l p. renamed-holds h θ l (p .0) (p .1)) (named-labels ar P d f q))
 
 -- closing up and moving apart
-pub leaf-closedFrom : (ar : List ℕ) (m : ℕ) (d : Diagram) → firstVariable ≤ m → m + length (variables ar d) ≤ termBase → Good ar d
+pub leaf-closedFrom : (ar : List ℕ) (m : ℕ) (d : Diagram) → firstVariable ≤ m → m + length (variables ar d) ≤ termEnd → Good ar d
     → (h : ℕ → List ℕ → Bool) (θ : ℕ → ℕ) → leafOf ar h θ (closedFrom ar m d) ≡ leafOf ar h (λ t. θ (numbering (variables ar d) m t)) d
 unfolding closedFrom
 leaf-closedFrom ar m d low room good h θ =

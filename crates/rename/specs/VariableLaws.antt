@@ -10,7 +10,7 @@ use lib.Dec.{eqb}
 use borrow.Author.Tests.{eqb-true, eq-eqb}
 use Rattle.basics.specs.Tests.{Flag, isTrue, isFalse, flag, Either, one, other, either, or-one, or-other, Cmp, below, equal, above, cmp}
 use Rattle.basics.specs.Members.{mem, NoDup, clash}
-use Rattle.label.specs.Limits.{firstVariable, variableCount, termBase}
+use Rattle.label.specs.Limits.{firstVariable, variableCount, termEnd}
 use Rattle.label.specs.Terms.{isTerm}
 use Rattle.label.specs.Labels.{areArities, isLabel, unpacked, termsOf}
 use Rattle.label.specs.Renamings.{renamed, Increasing, EachIn}
@@ -132,11 +132,11 @@ length-occurring ar d t (suc n) = go (flag (occurs ar t d)) (length-occurring ar
 
 -- the laws of `variables`: nothing else unfolds it
 module _ (ar : List ℕ) (d : Diagram) where
-  pub variable-occurs : (t : ℕ) → mem eqb t (variables ar d) ≡ true → (occurs ar t d ≡ true) × (firstVariable ≤ t) × (t < termBase)
+  pub variable-occurs : (t : ℕ) → mem eqb t (variables ar d) ≡ true → (occurs ar t d ≡ true) × (firstVariable ≤ t) × (t < termEnd)
   unfolding variables
   variable-occurs t e = in-occurring ar d firstVariable variableCount t e
 
-  pub occurs-variable : (t : ℕ) → occurs ar t d ≡ true → firstVariable ≤ t → t < termBase → mem eqb t (variables ar d) ≡ true
+  pub occurs-variable : (t : ℕ) → occurs ar t d ≡ true → firstVariable ≤ t → t < termEnd → mem eqb t (variables ar d) ≡ true
   unfolding variables
   occurs-variable t e h k = occurring-in ar d firstVariable variableCount t e h k
 

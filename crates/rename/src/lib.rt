@@ -5,7 +5,7 @@ ghost use mathlib.Core.Path.{_≡_};
 ghost use mathlib.Core.List.{_++_};
 ghost use Prim.Native.Nat.{_<_, _≤_};
 ghost use lib.ListN.{length, drop};
-ghost use Rattle.label.specs.Limits.{termBase, parameterCount};
+ghost use Rattle.label.specs.Limits.{termEnd, parameterCount};
 ghost use Rattle.label.specs.Renamings.{renamed, mapOf};
 ghost use Rattle.rename.specs.Relabelling.{labelled, relabelled};
 ghost use Rattle.rename.specs.Maps.{tabled, closeAt, freeAt};
@@ -15,11 +15,11 @@ ghost use Rattle.rename.specs.Steps.{Numbering, numberAfter};
 // Writes the map that closes up, or moves apart: used[t] marks the terms that occur, and the used variables get the numbers from `first` on.
 pub fn close_map(used: &[u64], first: u64, map: &mut [u64])
     requires { ⌜ Closable (now used) first (now map) ⌝ }
-    ensures { λ _. ⌜ now (map .exit) ≡ tabled (closeAt (now (used .entry)) first) termBase ++ drop termBase (now (map .entry)) ⌝ }
+    ensures { λ _. ⌜ now (map .exit) ≡ tabled (closeAt (now (used .entry)) first) termEnd ++ drop termEnd (now (map .entry)) ⌝ }
 {
     let mut t = 0u64;
     let mut next = first;
-    while t < Term::BASE {
+    while t < Term::END {
         map[t as usize] = close_term(used, first, t, next);
         next = number_after(used, first, t, next);
         t += 1;
@@ -57,10 +57,10 @@ fn number_after(used: &[u64], first: u64, t: u64, next: u64) -> u64
 // Writes the map that frees the parameters of an action that has `count` of them.
 pub fn free_map(count: u64, map: &mut [u64])
     requires { ⌜ Countable count (now map) ⌝ }
-    ensures { λ _. ⌜ now (map .exit) ≡ tabled (freeAt count) termBase ++ drop termBase (now (map .entry)) ⌝ }
+    ensures { λ _. ⌜ now (map .exit) ≡ tabled (freeAt count) termEnd ++ drop termEnd (now (map .entry)) ⌝ }
 {
     let mut t = 0u64;
-    while t < Term::BASE {
+    while t < Term::END {
         map[t as usize] = free_term(count, t);
         t += 1;
     }
@@ -68,7 +68,7 @@ pub fn free_map(count: u64, map: &mut [u64])
 
 // What freeing writes for the term t.
 fn free_term(count: u64, t: u64) -> u64
-    requires { ⌜ t < termBase ⌝ }
+    requires { ⌜ t < termEnd ⌝ }
     requires { ⌜ count ≤ parameterCount ⌝ }
     ensures { λ r. ⌜ r ≡ freeAt count t ⌝ }
 {
@@ -81,7 +81,7 @@ fn free_term(count: u64, t: u64) -> u64
     if t < Term::FIRST_VARIABLE {
         return t;
     }
-    if t + count < Term::BASE {
+    if t + count < Term::END {
         return t + count;
     }
     0

@@ -11,7 +11,7 @@ use Rattle.basics.specs.Tests.{and-left, and-right, Flag, isTrue, isFalse, flag
 use Rattle.basics.specs.Members.{clash}
 use Rattle.refusal.specs.Outcome.{Outcome, ok, refused, Accepted}
 use Rattle.refusal.specs.OutcomeLaws.{accepted-mono, accepted-refused}
-use Rattle.label.specs.Limits.{constantCount, firstParameter, parameterCount, firstVariable, termBase}
+use Rattle.label.specs.Limits.{constantCount, firstParameter, parameterCount, firstVariable, termEnd}
 use Rattle.label.specs.Terms.{isConstant, isParameter, isVariable, isTerm}
 use Rattle.label.specs.LabelLaws.{term-below}
 use Rattle.label.specs.Renamings.{freeing}
@@ -50,7 +50,7 @@ module _ (ar : List ℕ) (count : ℕ) (d r : Diagram) (g : Good ar d) (f : IsFr
   freeable = record {
     count = f .few;
     parameters = λ t o h. parameter t o h (cmp t (firstParameter + count));
-    variables = λ t o h. variable t o (cmp (t + count) termBase);
+    variables = λ t o h. variable t o (cmp (t + count) termEnd);
   }
     where
       term : (t : ℕ) → occurs ar t d ≡ true → isTerm t ≡ true
@@ -61,7 +61,7 @@ module _ (ar : List ℕ) (count : ℕ) (d r : Diagram) (g : Good ar d) (f : IsFr
       parameter t o h (equal x) = clash o (f .parameters t (omega arith) (low-term t (term t o) h))
       parameter t o h (above x) = clash o (f .parameters t (omega arith) (low-term t (term t o) h))
 
-      variable : (t : ℕ) → occurs ar t d ≡ true → Cmp (t + count) termBase → t + count < termBase
+      variable : (t : ℕ) → occurs ar t d ≡ true → Cmp (t + count) termEnd → t + count < termEnd
       variable t o (below x) = x
       variable t o (equal x) = clash o (f .variables t (omega arith) (term-below t (term t o)))
       variable t o (above x) = clash o (f .variables t (omega arith) (term-below t (term t o)))

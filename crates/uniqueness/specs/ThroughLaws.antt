@@ -4,7 +4,7 @@ use mathlib.Core.List.{List}
 use Prim.Native.Nat.{ℕ, _+_, _≤_}
 use native.Mathlib.Omega.{arith}
 use lib.ListN.{length}
-use Rattle.label.specs.Limits.{firstVariable, termBase}
+use Rattle.label.specs.Limits.{firstVariable, termEnd}
 use Rattle.label.specs.Renamings.{renamed, numbering, Increasing}
 use Rattle.label.specs.RenamingLaws.{Numbered, moved-renamed, numbering-increasing}
 use Rattle.diagram.specs.Diagram.{Diagram, eval, relabel}
@@ -25,7 +25,7 @@ renamed-means ar P ρ inc d g w c =
     ∙ eval-agree (λ l. c (renamed ar ρ l)) (readThrough ar ρ c) d
     (labels-weaken (Named ar P) _ d (λ l p. sym (ap (asked c) (moved-renamed P ρ inc ar (g .arities) l (p .0) (p .1)))) (named-labels ar P d (g .fine) w))
 
-module _ (ar : List ℕ) (m : ℕ) (d : Diagram) (low : firstVariable ≤ m) (room : m + length (variables ar d) ≤ termBase) (g : Good ar d) where
+module _ (ar : List ℕ) (m : ℕ) (d : Diagram) (low : firstVariable ≤ m) (room : m + length (variables ar d) ≤ termEnd) (g : Good ar d) where
   pub closedFrom-means : (c : Choice) → eval c (closedFrom ar m d) ≡ eval (readThrough ar (numbering (variables ar d) m) c) d
   unfolding closedFrom
   closedFrom-means c =

@@ -10,7 +10,7 @@ use lib.ListN.{length, getD, set, take, length-set, List·getD-eq-default}
 use lib.Seq.{getD-set-same, getD-set-other, set-getD, set-set}
 use lib.Dec.{eqb, ltb}
 use Rattle.basics.specs.Tests.{Cmp, below, equal, above, cmp, Flag, isTrue, isFalse, flag, and-left, and-right}
-use Rattle.label.specs.Limits.{termBase, leafMark, predicateCount, equality, equalityArity}
+use Rattle.label.specs.Limits.{termEnd, leafMark, predicateCount, equality, equalityArity}
 use Rattle.label.specs.Labels.{areArities, isLabel, placeFits, predicateOf, unpacked, termsOf}
 use Rattle.label.specs.LabelLaws.{atom-fits, atom-places}
 use Rattle.label.specs.declared.Atom.{Atom}
@@ -55,7 +55,7 @@ module _ (env : List ℕ) (a : Atom) where
         unfolding unboundIn
         unbound-4 e = rw (ne-eqb (getD env (a .first) 0) free n₁, ne-eqb (getD env (a .second) 0) free n₂, ne-eqb (getD env (a .third) 0) free n₃, eq-eqb (getD env (a .fourth) 0) free e)
 
-        pub unbound-5 : (getD env (a .fourth) 0 ≡ free → ⊥) → termBase ≡ unboundIn env a
+        pub unbound-5 : (getD env (a .fourth) 0 ≡ free → ⊥) → termEnd ≡ unboundIn env a
         unfolding unboundIn
         unbound-5 n₄ = rw (ne-eqb (getD env (a .first) 0) free n₁, ne-eqb (getD env (a .second) 0) free n₂, ne-eqb (getD env (a .third) 0) free n₃, ne-eqb (getD env (a .fourth) 0) free n₄)
 
@@ -67,7 +67,7 @@ pub record AllBound (env : List ℕ) (a : Atom) : Type 0 where
   pub fourth-bound : getD env (a .fourth) 0 ≡ free → ⊥
 
 module _ (env : List ℕ) (a : Atom) (p : Placed env a) where
-  none-unbound : unboundIn env a ≡ termBase → AllBound env a
+  none-unbound : unboundIn env a ≡ termEnd → AllBound env a
   none-unbound e = record {
     first-bound = b₁;
     second-bound = b₂;
@@ -85,14 +85,14 @@ module _ (env : List ℕ) (a : Atom) (p : Placed env a) where
       b₃ z = let q = unbound-3 env a b₁ b₂ z in omega (arith, p .third-below)
 
   -- the place that is found has none
-  one-unbound : (unboundIn env a ≡ termBase → ⊥) → (unboundIn env a < termBase) × (getD env (unboundIn env a) 0 ≡ free)
+  one-unbound : (unboundIn env a ≡ termEnd → ⊥) → (unboundIn env a < termEnd) × (getD env (unboundIn env a) 0 ≡ free)
   one-unbound n = go (flag (eqb (getD env (a .first) 0) free)) (flag (eqb (getD env (a .second) 0) free)) (flag (eqb (getD env (a .third) 0) free)) (flag (eqb (getD env (a .fourth) 0) free))
     where
-      at : (t : ℕ) → t < termBase → getD env t 0 ≡ free → t ≡ unboundIn env a → (unboundIn env a < termBase) × (getD env (unboundIn env a) 0 ≡ free)
-      at t l e q = subst (λ (x : ℕ). (x < termBase) × (getD env x 0 ≡ free)) q (l, e)
+      at : (t : ℕ) → t < termEnd → getD env t 0 ≡ free → t ≡ unboundIn env a → (unboundIn env a < termEnd) × (getD env (unboundIn env a) 0 ≡ free)
+      at t l e q = subst (λ (x : ℕ). (x < termEnd) × (getD env x 0 ≡ free)) q (l, e)
 
       go : Flag (eqb (getD env (a .first) 0) free) → Flag (eqb (getD env (a .second) 0) free) → Flag (eqb (getD env (a .third) 0) free)
-          → Flag (eqb (getD env (a .fourth) 0) free) → (unboundIn env a < termBase) × (getD env (unboundIn env a) 0 ≡ free)
+          → Flag (eqb (getD env (a .fourth) 0) free) → (unboundIn env a < termEnd) × (getD env (unboundIn env a) 0 ≡ free)
       go (isTrue x) y z w = let e = eqb-true _ _ x in at (a .first) (p .first-below) e (unbound-1 env a e)
       go (isFalse x) (isTrue y) z w = let e = eqb-true _ _ y in at (a .second) (p .second-below) e (unbound-2 env a (eqb-false _ _ x) e)
       go (isFalse x) (isFalse y) (isTrue z) w =
@@ -217,19 +217,19 @@ pub filled-extends : {n : ℕ} {env : List ℕ} → Env n env → Extends n env 
 unfolding filled
 filled-extends {n} {env} f = record {
   agrees = λ t l h. ap (λ b. cond b 0 (getD env t 0)) (ne-eqb _ free h);
-  range = λ t. go t (flag (eqb (getD env t 0) free)) (cmp t termBase);
+  range = λ t. go t (flag (eqb (getD env t 0) free)) (cmp t termEnd);
 }
   where
-    go : (t : ℕ) → Flag (eqb (getD env t 0) free) → Cmp t termBase → cond (eqb (getD env t 0) free) 0 (getD env t 0) < n
+    go : (t : ℕ) → Flag (eqb (getD env t 0) free) → Cmp t termEnd → cond (eqb (getD env t 0) free) 0 (getD env t 0) < n
     go t (isTrue e) c = rw e (f .some)
     go t (isFalse e) (below c) = rw e (f .range t c (eqb-false _ _ e))
     go t (isFalse e) (equal c) = rw e (omega (arith, f .some, f .places, List·getD-eq-default env 0 (out t (omega arith))))
       where
-        out : (t : ℕ) → termBase ≤ t → length env ≤ t
+        out : (t : ℕ) → termEnd ≤ t → length env ≤ t
         out t l = omega (arith, f .places)
     go t (isFalse e) (above c) = rw e (omega (arith, f .some, f .places, List·getD-eq-default env 0 (out t (omega arith))))
       where
-        out : (t : ℕ) → termBase ≤ t → length env ≤ t
+        out : (t : ℕ) → termEnd ≤ t → length env ≤ t
         out t l = omega (arith, f .places)
 
 -- rows followed: from r₀ to r the leaf stays, whatever the terms without an object are given
@@ -294,7 +294,7 @@ module _ {ws high ar facts index env : List ℕ} {n r₀ r : ℕ} (w : Along ws 
       go (old e) = old e
       go (new θ x e) = new θ x (e ∙ ap suc (sym (w .same θ x)))
 
-  pub along-on : {a : Atom} {t x : ℕ} {b : Bool} → a ≡ unpacked (labelAt ws r) → (labelAt ws r ≡ leafMark → ⊥) → t ≡ unboundIn env a → t ≡ termBase
+  pub along-on : {a : Atom} {t x : ℕ} {b : Bool} → a ≡ unpacked (labelAt ws r) → (labelAt ws r ≡ leafMark → ⊥) → t ≡ unboundIn env a → t ≡ termEnd
       → b ≡ tells ar facts env a → x ≡ cond b (highAt ws r) (lowAt ws r) → Along ws high ar facts index env n r₀ x
   along-on {a} {t} {x} {b} ea nl et en eb ex =
       let v = w .ready .valid in
@@ -312,18 +312,18 @@ module _ {ws high ar facts index env : List ℕ} {n r₀ r : ℕ} (w : Along ws 
       }
 
   -- a variable without an object is found
-  pub along-unbound : {a : Atom} {t : ℕ} → a ≡ unpacked (labelAt ws r) → (labelAt ws r ≡ leafMark → ⊥) → t ≡ unboundIn env a → (t ≡ termBase → ⊥) → t < termBase
+  pub along-unbound : {a : Atom} {t : ℕ} → a ≡ unpacked (labelAt ws r) → (labelAt ws r ≡ leafMark → ⊥) → t ≡ unboundIn env a → (t ≡ termEnd → ⊥) → t < termEnd
   along-unbound ea nl et n =
       let z = one-unbound env (unpacked (labelAt ws r)) (telling-placed (row-telling nl)) (λ q. n (et ∙ ap (unboundIn env) ea ∙ q)) in
       rw (et, ea) (z .0)
 
-  pub along-free : {a : Atom} {t : ℕ} → a ≡ unpacked (labelAt ws r) → (labelAt ws r ≡ leafMark → ⊥) → t ≡ unboundIn env a → (t ≡ termBase → ⊥) → getD env t 0 ≡ free
+  pub along-free : {a : Atom} {t : ℕ} → a ≡ unpacked (labelAt ws r) → (labelAt ws r ≡ leafMark → ⊥) → t ≡ unboundIn env a → (t ≡ termEnd → ⊥) → getD env t 0 ≡ free
   along-free ea nl et n =
       let z = one-unbound env (unpacked (labelAt ws r)) (telling-placed (row-telling nl)) (λ q. n (et ∙ ap (unboundIn env) ea ∙ q)) in
       rw (et, ea) (z .1)
 
 -- objects given in turn
-module _ {ws high ar facts index env : List ℕ} {n t : ℕ} (q : Ready ws high ar facts index env n) (l : t < termBase) (e : getD env t 0 ≡ free) where
+module _ {ws high ar facts index env : List ℕ} {n t : ℕ} (q : Ready ws high ar facts index env n) (l : t < termEnd) (e : getD env t 0 ≡ free) where
   first-other : (0 ≡ t → ⊥)
   first-other z = q .env-fits .first-bound (ap (λ x. getD env x 0) z ∙ e)
 
@@ -345,7 +345,7 @@ module _ {ws high ar facts index env : List ℕ} {n t : ℕ} (q : Ready ws high 
         };
       }
     where
-      inside : (u : ℕ) → u < termBase → (getD (set env t v) u 0 ≡ free → ⊥) → Flag (eqb u t) → getD (set env t v) u 0 < n
+      inside : (u : ℕ) → u < termEnd → (getD (set env t v) u 0 ≡ free → ⊥) → Flag (eqb u t) → getD (set env t v) u 0 < n
       inside u m y (isTrue p) =
           let p′ = eqb-true u t p in
           subst (λ (x : ℕ). getD (set env t v) x 0 < n) (sym p′) (rw (getD-set-same env t v 0 (omega (arith, q .env-fits .places))) h)
@@ -357,7 +357,7 @@ module _ {ws high ar facts index env : List ℕ} {n t : ℕ} (q : Ready ws high 
   extends-in : (v : ℕ) (θ : ℕ → ℕ) → Extends n env θ → θ t ≡ v → Extends n (set env t v) θ
   extends-in v θ x p = record { agrees = λ u m y. go u m y (flag (eqb u t)); range = x .range }
     where
-      go : (u : ℕ) → u < termBase → (getD (set env t v) u 0 ≡ free → ⊥) → Flag (eqb u t) → θ u ≡ getD (set env t v) u 0
+      go : (u : ℕ) → u < termEnd → (getD (set env t v) u 0 ≡ free → ⊥) → Flag (eqb u t) → θ u ≡ getD (set env t v) u 0
       go u m y (isTrue d) =
           let d′ = eqb-true u t d in
           subst (λ (w : ℕ). θ w ≡ getD (set env t v) w 0) (sym d′) (p ∙ sym (getD-set-same env t v 0 (omega (arith, q .env-fits .places))))
@@ -368,7 +368,7 @@ module _ {ws high ar facts index env : List ℕ} {n t : ℕ} (q : Ready ws high 
   extends-out : (v : ℕ) (θ : ℕ → ℕ) → Extends n (set env t v) θ → Extends n env θ
   extends-out v θ x = record { agrees = λ u m y. go u m y (flag (eqb u t)); range = x .range }
     where
-      go : (u : ℕ) → u < termBase → (getD env u 0 ≡ free → ⊥) → Flag (eqb u t) → θ u ≡ getD env u 0
+      go : (u : ℕ) → u < termEnd → (getD env u 0 ≡ free → ⊥) → Flag (eqb u t) → θ u ≡ getD env u 0
       go u m y (isTrue d) = absurd (y (ap (λ w. getD env w 0) (eqb-true u t d) ∙ e))
       go u m y (isFalse d) =
           let z = getD-set-other env t u v 0 (eqb-false u t d) in
@@ -378,7 +378,7 @@ module _ {ws high ar facts index env : List ℕ} {n t : ℕ} (q : Ready ws high 
 pub record Giving (ws high ar facts index env₀ env : List ℕ) (n r t best v b : ℕ) : Type 0 where
   pub ready : Ready ws high ar facts index env₀ n
   pub row : r < rowCount ws
-  pub term : t < termBase
+  pub term : t < termEnd
   pub unbound : getD env₀ t 0 ≡ free
   pub word : set env t free ≡ env₀
   pub most : v ≤ n
@@ -386,7 +386,7 @@ pub record Giving (ws high ar facts index env₀ env : List ℕ) (n r t best v b
   pub above : (θ : ℕ → ℕ) → Extends n env₀ θ → θ t < v → leafFrom ar facts ws θ r < b
   pub hit : Hit ar facts ws env₀ n r best b
 
-pub giving-start : {ws high ar facts index env : List ℕ} {n r t best : ℕ} → Ready ws high ar facts index env n → r < rowCount ws → t < termBase → getD env t 0 ≡ free
+pub giving-start : {ws high ar facts index env : List ℕ} {n r t best : ℕ} → Ready ws high ar facts index env n → r < rowCount ws → t < termEnd → getD env t 0 ≡ free
     → Giving ws high ar facts index env env n r t best 0 best
 giving-start {env = env} {t = t} q h l e = record {
   ready = q;
@@ -470,7 +470,7 @@ free-some (o ∷ env) zero l e = rw (eq-eqb o free e) (omega arith)
 free-some (o ∷ env) (suc t) l e = omega (arith, free-some env t (omega arith) e)
 
 -- the measures of the two functions: binding falls below following, and following with one more object below binding
-pub bind-falls : {ws high ar facts index env : List ℕ} {n t m : ℕ} → Ready ws high ar facts index env n → t < termBase → getD env t 0 ≡ free
+pub bind-falls : {ws high ar facts index env : List ℕ} {n t m : ℕ} → Ready ws high ar facts index env n → t < termEnd → getD env t 0 ≡ free
     → freeCount env * 2 ≡ m → freeCount env * 2 - 1 < m
 bind-falls {env = env} {t = t} q l e z = omega (arith, free-some env t (omega (arith, q .env-fits .places)) e)
 
@@ -521,18 +521,18 @@ module _ {ws high ar facts index env₀ env : List ℕ} {n r₀ r : ℕ} (g : Go
     going-placed = along-placed (g .along) ea nl
 
     module _ {t : ℕ} (et : t ≡ unboundIn env a) where
-      pub going-term : (t ≡ termBase → ⊥) → t < termBase
+      pub going-term : (t ≡ termEnd → ⊥) → t < termEnd
       unfolding labelAt
       going-term h = along-unbound (g .along) ea nl et h
 
-      pub going-free : (t ≡ termBase → ⊥) → getD env t 0 ≡ free
+      pub going-free : (t ≡ termEnd → ⊥) → getD env t 0 ≡ free
       unfolding labelAt
       going-free h = along-free (g .along) ea nl et h
 
-      pub going-falls : {m : ℕ} → freeCount env₀ * 2 ≡ m → (t ≡ termBase → ⊥) → freeCount env * 2 - 1 < m
+      pub going-falls : {m : ℕ} → freeCount env₀ * 2 ≡ m → (t ≡ termEnd → ⊥) → freeCount env * 2 - 1 < m
       going-falls e h = bind-falls (g .along .ready) (going-term h) (going-free h) (going-count e)
 
-      module _ {x : ℕ} {b : Bool} (en : t ≡ termBase) (eb : b ≡ tells ar facts env a) (ex : x ≡ cond b (highAt ws r) (lowAt ws r)) where
+      module _ {x : ℕ} {b : Bool} (en : t ≡ termEnd) (eb : b ≡ tells ar facts env a) (ex : x ≡ cond b (highAt ws r) (lowAt ws r)) where
         pub going-on : Going ws high ar facts index env₀ env n r₀ x
         unfolding labelAt
         going-on = record { still = g .still; along = along-on (g .along) ea nl et en eb ex }

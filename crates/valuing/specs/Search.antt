@@ -5,7 +5,7 @@ use mathlib.Core.List.{List, [], _∷_, map}
 use Prim.Native.Nat.{ℕ, zero, suc, _+_, _≤_, _<_, max}
 use lib.ListN.{length, getD, take}
 use lib.Dec.{eqb}
-use Rattle.label.specs.Limits.{termBase, leafMark, firstParameter}
+use Rattle.label.specs.Limits.{termEnd, leafMark, firstParameter}
 use Rattle.label.specs.Labels.{areArities, isAtom, predicateOf, unpacked, termsOf}
 use Rattle.label.specs.declared.Atom.{Atom}
 use Rattle.diagram.specs.Diagram.{eval}
@@ -50,16 +50,16 @@ leafFrom ar facts ws θ r = eval (lentHolds ar facts θ) (tree ws r)
 
 -- θ gives every term one of n objects, and terms that have one in env that one
 pub record Extends (n : ℕ) (env : List ℕ) (θ : ℕ → ℕ) : Type 0 where
-  pub agrees : (t : ℕ) → t < termBase → (getD env t 0 ≡ free → ⊥) → θ t ≡ getD env t 0
+  pub agrees : (t : ℕ) → t < termEnd → (getD env t 0 ≡ free → ⊥) → θ t ≡ getD env t 0
   pub range : (t : ℕ) → θ t < n
 
 -- env has a word for each term, an object below n or `free`, and an object for constant 0
 pub record Env (n : ℕ) (env : List ℕ) : Type 0 where
-  pub places : length env ≡ termBase
+  pub places : length env ≡ termEnd
   pub some : 0 < n
   pub most : n ≤ free
   pub first-bound : getD env 0 0 ≡ free → ⊥
-  pub range : (t : ℕ) → t < termBase → (getD env t 0 ≡ free → ⊥) → getD env t 0 < n
+  pub range : (t : ℕ) → t < termEnd → (getD env t 0 ≡ free → ⊥) → getD env t 0 < n
 
 -- what a term that is no variable has: a constant its object, a parameter that of constant 0
 unfoldable pub fixedIn : List ℕ → ℕ → ℕ
@@ -67,9 +67,9 @@ fixedIn constants t = low firstParameter t (getD constants t 0) (getD constants 
 
 -- the first m terms have their objects, the others none
 pub record Started (constants env : List ℕ) (m : ℕ) : Type 0 where
-  pub places : length env ≡ termBase
+  pub places : length env ≡ termEnd
   pub bound : (t : ℕ) → t < m → getD env t 0 ≡ fixedIn constants t
-  pub unbound : (t : ℕ) → m ≤ t → t < termBase → getD env t 0 ≡ free
+  pub unbound : (t : ℕ) → m ≤ t → t < termEnd → getD env t 0 ≡ free
 
 -- how many terms have no object yet
 abbrev pub freeCount : List ℕ → ℕ
@@ -82,7 +82,7 @@ unboundIn env a =
     cond (eqb (getD env (a .first) 0) free) (a .first)
     (cond (eqb (getD env (a .second) 0) free) (a .second)
     (cond (eqb (getD env (a .third) 0) free) (a .third)
-    (cond (eqb (getD env (a .fourth) 0) free) (a .fourth) termBase)))
+    (cond (eqb (getD env (a .fourth) 0) free) (a .fourth) termEnd)))
 
 -- the objects of a label's places
 unfoldable pub objectsIn : List ℕ → Atom → Objects
@@ -100,17 +100,17 @@ tells ar facts env a = lentTruth ar facts (a .predicate) (take (getD ar (a .pred
 
 -- env has a word for each of the atom's places
 pub record Placed (env : List ℕ) (a : Atom) : Type 0 where
-  pub places : length env ≡ termBase
-  pub first-below : a .first < termBase
-  pub second-below : a .second < termBase
-  pub third-below : a .third < termBase
-  pub fourth-below : a .fourth < termBase
+  pub places : length env ≡ termEnd
+  pub first-below : a .first < termEnd
+  pub second-below : a .second < termEnd
+  pub third-below : a .third < termEnd
+  pub fourth-below : a .fourth < termEnd
 
 -- what the truth of an atom needs
 pub record Telling (ar facts index env : List ℕ) (a : Atom) : Type 0 where
   pub arities : areArities ar ≡ true
   pub atom-fits : isAtom ar a ≡ true
-  pub places : length env ≡ termBase
+  pub places : length env ≡ termEnd
   pub indexed : Indexed ar facts (getD env 0 0) index (indexedCount facts)
 
 -- b is the best so far, or one more than a leaf that is reached from row r

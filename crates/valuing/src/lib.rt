@@ -5,7 +5,7 @@ ghost use mathlib.Core.List.{[]};
 ghost use Prim.Native.Nat.{_+_, _-_, _*_, _^_, _<_, _≤_};
 ghost use lib.ListN.{length, getD};
 ghost use lib.Dec.{eqb, ltb, leb};
-ghost use Rattle.label.specs.Limits.{termBase, firstParameter, parameterCount, firstVariable};
+ghost use Rattle.label.specs.Limits.{termEnd, firstParameter, parameterCount, firstVariable};
 ghost use Rattle.diagram.specs.Words.{highAt, lowAt, rowCount, isListing, everyBelow};
 ghost use Rattle.diagram.specs.Listing.{diagramOf};
 ghost use Rattle.listing.specs.Used.{setFrom};
@@ -219,7 +219,7 @@ fn unbound(env: &[u64], a: Atom) -> usize
     if env[fourth] == FREE {
         return fourth;
     }
-    Term::BASE as usize
+    Term::END as usize
 }
 
 // The objects of the atom's places.
@@ -288,7 +288,7 @@ fn go(
         }
         let a = Label { packed: l }.unpack();
         let t = unbound(env, a);
-        if t != (Term::BASE as usize) {
+        if t != (Term::END as usize) {
             return bind(words, high, arities, facts, index, env, n, r, t, best);
         }
         r = follow(words, r, truth(arities, facts, index, env, a));
@@ -311,7 +311,7 @@ fn bind(
 ) -> u64
     requires { ⌜ Ready (now words) (now high) (now arities) (now facts) (now index) (now env) n ⌝ }
     requires { ⌜ r < rowCount (now words) ⌝ }
-    requires { ⌜ t < termBase ⌝ }
+    requires { ⌜ t < termEnd ⌝ }
     requires { ⌜ getD (now env) t 0 ≡ free ⌝ }
     ensures { λ b. ⌜ Best (now (arities .entry)) (now (facts .entry)) (now (words .entry)) (now (env .entry)) n r best b (now (env .exit)) ⌝ }
 {
@@ -404,7 +404,7 @@ pub fn highest_leaf(arities: &[u64], words: &[u64], n: u64, constants: &[u64], f
 {
     let mut high = [0u64; diagram::ROWS];
     tops(words, &mut high);
-    let mut env = [FREE; Term::BASE as usize];
+    let mut env = [FREE; Term::END as usize];
     start(constants, &mut env);
     let fill = env[0];
     let mut index = [0u16; BUCKETS + INDEXED];
@@ -416,7 +416,7 @@ pub fn highest_leaf(arities: &[u64], words: &[u64], n: u64, constants: &[u64], f
 
 // Whether a parameter is marked.
 fn has_parameter(marks: &[u64]) -> bool
-    requires { ⌜ length (now marks) ≡ termBase ⌝ }
+    requires { ⌜ length (now marks) ≡ termEnd ⌝ }
     ensures { λ r. ⌜ r ≡ not (eqb (setFrom (now (marks .entry)) firstParameter parameterCount) 0) ⌝ }
 {
     let mut k = 0;
@@ -531,7 +531,7 @@ pub fn value(arities: &[u64], words: &[u64], n: u64, constants: &[u64], facts: &
     if !state_fits(arities, n, constants, facts) {
         return Valued::Refused(Refusal::Range);
     }
-    let mut marks = [0u64; Term::BASE as usize];
+    let mut marks = [0u64; Term::END as usize];
     listing::used(arities, words, &mut marks);
     if has_parameter(&marks) {
         return Valued::Refused(Refusal::Unbound);

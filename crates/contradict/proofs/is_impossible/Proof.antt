@@ -1,6 +1,6 @@
 use lib.Dec.{lit≤}
 use Prim.Native.Nat.{_+_}
-use Rattle.label.specs.Limits.{termBase}
+use Rattle.label.specs.Limits.{termEnd}
 use Rattle.paths.specs.Paths.{mostPaths}
 use borrow.Author.Needs.{needs}
 use Rattle.contradict.proofs.PathLaws.{route-into, route-labelled, route-contradicts}
@@ -8,7 +8,7 @@ use Rattle.contradict.proofs.is_impossible.Statement.{statement}
 use Rattle.contradict.proofs.is_impossible.Tie as tie
 
 path-into-requires : tie.Need-path-into-requires
-path-into-requires c κs = route-into (c .before .before .before .before .pre) (termBase + mostPaths) (lit≤ tt)
+path-into-requires c κs = route-into (c .before .before .before .before .pre) (termEnd + mostPaths) (lit≤ tt)
 
 contradicts-requires : tie.Need-contradicts-requires
 contradicts-requires c κs =

@@ -1,7 +1,7 @@
 use native.Mathlib.Omega.{arith}
 use Prim.Native.Nat.{_-_}
 use borrow.Author.Needs.{needs}
-use Rattle.label.specs.Limits.{termBase}
+use Rattle.label.specs.Limits.{termEnd}
 use Rattle.contradict.specs.Representing.{Merged}
 use Rattle.contradict.proofs.TableLaws.{merged-start, merged-next, merged-end}
 use Rattle.contradict.proofs.join.Statement.{statement}
@@ -11,7 +11,7 @@ abbrev Inv-loop : tie.InvT-loop
 Inv-loop table₀ t u from to x₀ table x = Merged table₀ t u table x
 
 abbrev μ-loop : tie.MeasureT-loop
-μ-loop table₀ t u from to x₀ table x = termBase - x
+μ-loop table₀ t u from to x₀ table x = termEnd - x
 
 mul-from : tie.Need-mul-from Inv-loop μ-loop
 mul-from c = omega (arith, c .before .pre .1 .0)

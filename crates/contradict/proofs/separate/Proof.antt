@@ -1,6 +1,6 @@
 use native.Mathlib.Omega.{arith}
 use Prim.Native.Nat.{_-_}
-use Rattle.label.specs.Limits.{termBase}
+use Rattle.label.specs.Limits.{termEnd}
 use Rattle.contradict.specs.Representing.{Own}
 use Rattle.contradict.proofs.TableLaws.{own-start, own-next, own-end}
 use Rattle.contradict.proofs.separate.Statement.{statement}
@@ -10,7 +10,7 @@ abbrev Inv-loop : tie.InvT-loop
 Inv-loop table₀ t₀ table t = Own table₀ table t
 
 abbrev μ-loop : tie.MeasureT-loop
-μ-loop table₀ t₀ table t = termBase - t
+μ-loop table₀ t₀ table t = termEnd - t
 
 loop-holds : tie.Need-loop-holds Inv-loop μ-loop
 loop-holds c = own-start _
