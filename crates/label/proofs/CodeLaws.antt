@@ -1,5 +1,6 @@
 -- The ways through the functions on atoms and labels, in the words of their tests and callees.
-use mathlib.Core.Path.{_≡_, refl, sym, ap, _∙_}
+use mathlib.Core.Path.{_≡_, refl, sym, ap, subst, subst₂, _∙_}
+use Rattle.basics.specs.Members.{clash}
 use mathlib.Core.Bool.{Bool, true, false, not, _&&_, _||_, cond}
 use mathlib.Core.List.{List, [], _∷_}
 use Prim.Native.Nat.{ℕ, zero, suc, _+_, _*_, _≤_, _<_}
@@ -8,33 +9,38 @@ use lib.ListN.{length, getD}
 use lib.Dec.{eqb, ltb, leb}
 use borrow.Author.Tests.{lt-ltb, le-ltb, le-leb, lt-leb, eqb-true, eq-eqb, ne-eqb}
 use Rattle.basics.specs.Tests.{and-left, Flag, isTrue, isFalse, flag, Cmp, below, equal, above, cmp}
+use Rattle.label.specs.Limits.{constantCount, firstParameter, parameterCount, firstVariable, variableCount, termBase, termEnd, predicateCount, equalityArity, mostPlaces}
 use Rattle.label.specs.Terms.{isConstant, isParameter, isVariable, isTerm}
-use Rattle.label.specs.Labels.{areArities, allAtMost, packed, predicateOf, unpacked, placeFits, inOrder, isAtom, isLabel, isLabelUnder, equates, testOf}
+use Rattle.label.specs.Labels.{areArities, allAtMost, placesOf, placeIn, atomFrom, packed, predicateOf, placeAt, unpacked, placeFits, inOrder, isAtom, isLabel}
+use Rattle.label.specs.Labels.{isLabelUnder, equalAtom, equates, testOf}
 use Rattle.label.specs.Renamings.{mapOf, placed, mapped, moved, renamed}
 use Rattle.label.specs.Callers.{Packable, TermMap, Mappable, Movable, Replaced}
-use Rattle.label.specs.LabelLaws.{label-fits, label-places}
+use Rattle.label.specs.LabelLaws.{places-below, below-places, place-of, predicate-of, place-fits, fits-list, label-fits, label-places}
+use Rattle.label.specs.RenamingLaws.{mapped-place}
 use Rattle.label.specs.declared.Atom.{Atom}
 use Rattle.label.specs.declared.Label.{Label}
 use Rattle.label.specs.declared.Test.{Test}
 use Rattle.label.specs.declared.Test.the-variants.{Always, Is}
 
 -- is_term
-pub term-low : {t : ℕ} → t < 20 → true ≡ isTerm t
-unfolding isTerm isConstant isParameter isVariable
-term-low {t} h = go (cmp t 16)
+pub term-low : {t : ℕ} → t < firstParameter + parameterCount → true ≡ isTerm t
+unfolding isTerm isConstant isParameter
+term-low {t} h = go (cmp t constantCount)
   where
-    go : Cmp t 16 → true ≡ (ltb t 16 || ((leb 16 t && ltb t 20) || (leb 32 t && ltb t 64)))
-    go (below q) = rw (lt-ltb t 16 q)
-    go (equal q) = rw (le-ltb t 16 (omega arith), le-leb 16 t (omega arith), lt-ltb t 20 h)
-    go (above q) = rw (le-ltb t 16 (omega arith), le-leb 16 t (omega arith), lt-ltb t 20 h)
+    go : Cmp t constantCount → true ≡ (isConstant t || (isParameter t || isVariable t))
+    go (below q) = rw (lt-ltb t constantCount q)
+    go (equal q) = rw (le-ltb t constantCount (omega arith), le-leb firstParameter t (omega arith), lt-ltb t (firstParameter + parameterCount) h)
+    go (above q) = rw (le-ltb t constantCount (omega arith), le-leb firstParameter t (omega arith), lt-ltb t (firstParameter + parameterCount) h)
 
-pub term-gap : {t : ℕ} → 20 ≤ t → t < 32 → false ≡ isTerm t
+pub term-gap : {t : ℕ} → firstParameter + parameterCount ≤ t → t < firstVariable → false ≡ isTerm t
 unfolding isTerm isConstant isParameter isVariable
-term-gap {t} n h = rw (le-ltb t 16 (omega arith), le-leb 16 t (omega arith), le-ltb t 20 n, lt-leb 32 t h)
+term-gap {t} n h =
+    rw (le-ltb t constantCount (omega arith), le-leb firstParameter t (omega arith), le-ltb t (firstParameter + parameterCount) n, lt-leb firstVariable t h)
 
-pub term-high : {t : ℕ} → 32 ≤ t → ltb t 64 ≡ isTerm t
+pub term-high : {t : ℕ} → firstVariable ≤ t → ltb t (firstVariable + variableCount) ≡ isTerm t
 unfolding isTerm isConstant isParameter isVariable
-term-high {t} n = rw (le-ltb t 16 (omega arith), le-leb 16 t (omega arith), le-ltb t 20 (omega arith), le-leb 32 t n)
+term-high {t} n =
+    rw (le-ltb t constantCount (omega arith), le-leb firstParameter t (omega arith), le-ltb t (firstParameter + parameterCount) (omega arith), le-leb firstVariable t n)
 
 -- place_fits and placed
 pub place-used : (n k t : ℕ) {b : Bool} → k < n → b ≡ isTerm t → b ≡ placeFits n k t
@@ -58,17 +64,26 @@ pub equate-same : {t u : ℕ} → t ≡ u → Always ≡ equates t u
 unfolding equates
 equate-same {t} {u} e = rw (eq-eqb t u e)
 
-pub equate-less : {t u : ℕ} → t < u → Is (record { packed = t * 262144 + u * 4096 }) ≡ equates t u
-unfolding equates packed
-equate-less {t} {u} h =
-    let e : t * 262144 + u * 4096 ≡ 0 * 16777216 + t * 262144 + u * 4096 + 0 * 64 + 0 = omega arith in
-    rw (ne-eqb t u (omega arith), lt-ltb t u h) (ap (λ (x : ℕ). Is (record { packed = x })) e)
+pub equate-less : {t u : ℕ} {a : Atom} {l : Label} → t < u → a ≡ equalAtom t u → l .packed ≡ packed a → Is l ≡ equates t u
+unfolding equates
+equate-less {t} {u} h e f = rw (ne-eqb t u (omega arith), lt-ltb t u h) (λ i. Is (record { packed = (f ∙ ap packed e) i }))
 
-pub equate-more : {t u : ℕ} → (t ≡ u → ⊥) → u ≤ t → Is (record { packed = u * 262144 + t * 4096 }) ≡ equates t u
-unfolding equates packed
-equate-more {t} {u} n h =
-    let e : u * 262144 + t * 4096 ≡ 0 * 16777216 + u * 262144 + t * 4096 + 0 * 64 + 0 = omega arith in
-    rw (ne-eqb t u n, le-ltb t u h) (ap (λ (x : ℕ). Is (record { packed = x })) e)
+pub equate-more : {t u : ℕ} {a : Atom} {l : Label} → (t ≡ u → ⊥) → u ≤ t → a ≡ equalAtom u t → l .packed ≡ packed a → Is l ≡ equates t u
+unfolding equates
+equate-more {t} {u} n h e f = rw (ne-eqb t u n, le-ltb t u h) (λ i. Is (record { packed = (f ∙ ap packed e) i }))
+
+-- what is known of the atom that two terms are equal
+pub equal-packs : {t u : ℕ} {a : Atom} → t < termEnd → u < termEnd → a ≡ equalAtom t u → Packable a
+equal-packs {t} {u} h k e = subst Packable (sym e) (record {
+  predicate-below = omega arith;
+  places = record { first-below = h; second-below = k; third-below = omega arith; fourth-below = omega arith; fifth-below = omega arith; sixth-below = omega arith };
+})
+
+-- pack
+pub pack-is : (a : Atom)
+    → (((((a .predicate * termBase + a .first) * termBase + a .second) * termBase + a .third) * termBase + a .fourth) * termBase + a .fifth) * termBase + a .sixth ≡ packed a
+unfolding packed
+pack-is a = omega arith
 
 -- test
 pub test-other : (a : Atom) {l : Label} → (a .predicate ≡ 0 → ⊥) → l .packed ≡ packed a → Is l ≡ testOf a
@@ -79,46 +94,45 @@ pub test-equality : (a : Atom) {x : Test} → a .predicate ≡ 0 → x ≡ equat
 unfolding testOf
 test-equality a {x} h e = rw (eq-eqb (a .predicate) 0 h) e
 
--- mapped and replaced
-pub mapped-is : (map : List ℕ) (n : ℕ) (a : Atom) {x₁ x₂ x₃ x₄ : ℕ} → x₁ ≡ placed (mapOf map) n 0 (a .first) → x₂ ≡ placed (mapOf map) n 1 (a .second)
-    → x₃ ≡ placed (mapOf map) n 2 (a .third) → x₄ ≡ placed (mapOf map) n 3 (a .fourth)
-    → _≡_ {A = Atom} (record { predicate = a .predicate; first = x₁; second = x₂; third = x₃; fourth = x₄ }) (mapped (mapOf map) n a)
-unfolding mapped
-mapped-is map n a e₁ e₂ e₃ e₄ = λ i. record { predicate = a .predicate; first = e₁ i; second = e₂ i; third = e₃ i; fourth = e₄ i }
+-- unpack
+pub unpack-is : (l : ℕ) {p x₀ x₁ x₂ x₃ x₄ x₅ : ℕ} → p ≡ predicateOf l → x₀ ≡ placeAt l 0 → x₁ ≡ placeAt l 1 → x₂ ≡ placeAt l 2 → x₃ ≡ placeAt l 3
+    → x₄ ≡ placeAt l 4 → x₅ ≡ placeAt l 5 → _≡_ {A = Atom} (atomFrom p (x₀ ∷ x₁ ∷ x₂ ∷ x₃ ∷ x₄ ∷ x₅ ∷ [])) (unpacked l)
+unfolding unpacked
+unpack-is l e e₀ e₁ e₂ e₃ e₄ e₅ = λ i. atomFrom (e i) (e₀ i ∷ e₁ i ∷ e₂ i ∷ e₃ i ∷ e₄ i ∷ e₅ i ∷ [])
 
-placed-below : (map : List ℕ) → TermMap map → (n k t : ℕ) → t < 64 → placed (mapOf map) n k t < 64
+-- mapped and replaced
+pub mapped-is : (map : List ℕ) (n : ℕ) (a : Atom) {x₀ x₁ x₂ x₃ x₄ x₅ : ℕ} → x₀ ≡ placed (mapOf map) n 0 (a .first) → x₁ ≡ placed (mapOf map) n 1 (a .second)
+    → x₂ ≡ placed (mapOf map) n 2 (a .third) → x₃ ≡ placed (mapOf map) n 3 (a .fourth) → x₄ ≡ placed (mapOf map) n 4 (a .fifth)
+    → x₅ ≡ placed (mapOf map) n 5 (a .sixth)
+    → _≡_ {A = Atom} (atomFrom (a .predicate) (x₀ ∷ x₁ ∷ x₂ ∷ x₃ ∷ x₄ ∷ x₅ ∷ [])) (mapped (mapOf map) n a)
+unfolding mapped
+mapped-is map n a e₀ e₁ e₂ e₃ e₄ e₅ = λ i. atomFrom (a .predicate) (e₀ i ∷ e₁ i ∷ e₂ i ∷ e₃ i ∷ e₄ i ∷ e₅ i ∷ [])
+
+placed-below : (map : List ℕ) → TermMap map → (n k t : ℕ) → t < termEnd → placed (mapOf map) n k t < termEnd
 unfolding placed
 placed-below map m n k t h = go (flag (ltb k n))
   where
-    go : Flag (ltb k n) → cond (ltb k n) (getD map t 0) 0 < 64
+    go : Flag (ltb k n) → cond (ltb k n) (getD map t 0) 0 < termEnd
     go (isTrue q) = rw q (m .below t h)
     go (isFalse q) = rw q (omega arith)
 
 mapped-packable : (map : List ℕ) → TermMap map → (n : ℕ) (a : Atom) → Packable a → Packable (mapped (mapOf map) n a)
-unfolding mapped
 mapped-packable map m n a p = record {
-  predicate-below = p .predicate-below;
-  places = record {
-    first-below = placed-below map m n 0 _ (p .places .first-below);
-    second-below = placed-below map m n 1 _ (p .places .second-below);
-    third-below = placed-below map m n 2 _ (p .places .third-below);
-    fourth-below = placed-below map m n 3 _ (p .places .fourth-below);
-  };
+  predicate-below = unfold mapped in (p .predicate-below);
+  places =
+      below-places (mapped (mapOf map) n a)
+      (λ k h. subst (λ (t : ℕ). t < termEnd) (sym (mapped-place (mapOf map) n a k h)) (placed-below map m n k _ (places-below a (p .places) k h)));
 }
 
 pub label-packable : (ar : List ℕ) (l : ℕ) → isLabel ar l ≡ true → Packable (unpacked l)
 label-packable ar l e = record { predicate-below = label-fits ar l e .predicate-fits; places = label-places ar l e }
-
-predicate-is : (l : ℕ) → unpacked l .predicate ≡ predicateOf l
-unfolding unpacked predicateOf
-predicate-is l = refl
 
 pub replaced-is : {ar map : List ℕ} {l : ℕ} {a r : Atom} → Movable ar map l → a ≡ unpacked l → r ≡ mapped (mapOf map) (getD ar (a .predicate) 0) a
     → Replaced ar map l r
 replaced-is {ar} {map} {l} {a} {r} m e f =
     let p : Packable a = rw e (label-packable ar l (m .label)) in
     record {
-      atom = f ∙ ap (λ (x : Atom). mapped (mapOf map) (getD ar (x .predicate) 0) x) e ∙ ap (λ (x : ℕ). mapped (mapOf map) (getD ar x 0) (unpacked l)) (predicate-is l);
+      atom = f ∙ ap (λ (x : Atom). mapped (mapOf map) (getD ar (x .predicate) 0) x) e ∙ ap (λ (x : ℕ). mapped (mapOf map) (getD ar x 0) (unpacked l)) (predicate-of l);
       packable = rw f (mapped-packable map (m .terms) (getD ar (a .predicate) 0) a p);
     }
 
@@ -152,50 +166,55 @@ failed {b} {x} e f = sym e ∙ go b f
     go true q = sym q
     go false q = refl
 
-module _ (ar : List ℕ) (l : ℕ) {a : Atom} (e : a ≡ unpacked l) where
-  atom-is : isAtom ar a ≡ isLabel ar l
-  unfolding isLabel
-  atom-is = ap (isAtom ar) e
+-- the places before place k fit an arity n
+abbrev pub FitsTo : ℕ → ℕ → ℕ → Type 0
+FitsTo l n k = (j : ℕ) → j < k → placeFits n j (placeAt l j) ≡ true
 
-  pub fits-not-predicate : 32 ≤ a .predicate → false ≡ isLabel ar l
-  unfolding isAtom
-  fits-not-predicate h = let z : false ≡ isAtom ar a = rw (le-ltb (a .predicate) 32 h) in z ∙ atom-is
+pub fits-more : (l n k : ℕ) {t : ℕ} {b : Bool} → FitsTo l n k → t ≡ placeAt l k → b ≡ placeFits n k t → not b ≡ false → FitsTo l n (k + 1)
+fits-more l n k {t} h f g m j i = go (cmp j k)
+  where
+    go : Cmp j k → placeFits n j (placeAt l j) ≡ true
+    go (below q) = h j q
+    go (equal q) = rw (q, ← f) (passed g m)
+    go (above q) = absurd (omega arith)
 
-  module _ (h : a .predicate < 32) {b₁ : Bool} (e₁ : b₁ ≡ placeFits (getD ar (a .predicate) 0) 0 (a .first)) where
-    pub fits-not-first : not b₁ ≡ true → false ≡ isLabel ar l
-    unfolding isAtom
-    fits-not-first f = let z : false ≡ isAtom ar a = rw (lt-ltb (a .predicate) 32 h, failed e₁ f) in z ∙ atom-is
+module _ (ar : List ℕ) (l : ℕ) {p : ℕ} (e : p ≡ predicateOf l) where
+  pub fits-not-predicate : predicateCount ≤ p → false ≡ isLabel ar l
+  unfolding isLabel isAtom unpacked
+  fits-not-predicate h = rw (le-ltb (predicateOf l) predicateCount (subst (λ (q : ℕ). predicateCount ≤ q) e h))
 
-    module _ (f₁ : not b₁ ≡ false) {b₂ : Bool} (e₂ : b₂ ≡ placeFits (getD ar (a .predicate) 0) 1 (a .second)) where
-      pub fits-not-second : not b₂ ≡ true → false ≡ isLabel ar l
-      unfolding isAtom
-      fits-not-second f = let z : false ≡ isAtom ar a = rw (lt-ltb (a .predicate) 32 h, passed e₁ f₁, failed e₂ f) in z ∙ atom-is
+  module _ {n : ℕ} (d : n ≡ getD ar p 0) where
+    -- a place that does not fit
+    pub fits-not : (k : ℕ) {t : ℕ} {b : Bool} → k < mostPlaces → t ≡ placeAt l k → b ≡ placeFits n k t → not b ≡ true → false ≡ isLabel ar l
+    fits-not k {t} h f g m = go (flag (isLabel ar l))
+      where
+        go : Flag (isLabel ar l) → false ≡ isLabel ar l
+        go (isTrue q) =
+            let z : placeFits n k t ≡ true = rw (d, e, f) (place-fits ar l k q h) in
+            clash z (failed g m)
+        go (isFalse q) = sym q
 
-      module _ (f₂ : not b₂ ≡ false) {b₃ : Bool} (e₃ : b₃ ≡ placeFits (getD ar (a .predicate) 0) 2 (a .third)) where
-        pub fits-not-third : not b₃ ≡ true → false ≡ isLabel ar l
-        unfolding isAtom
-        fits-not-third f = let z : false ≡ isAtom ar a = rw (lt-ltb (a .predicate) 32 h, passed e₁ f₁, passed e₂ f₂, failed e₃ f) in z ∙ atom-is
+    module _ (h : p < predicateCount) {k : ℕ} (all : FitsTo l n k) (m : mostPlaces ≤ k) where
+      each-fits : (j : ℕ) → j < mostPlaces → placeFits (getD ar (predicateOf l) 0) (0 + j) (placeIn (unpacked l) j) ≡ true
+      each-fits j i =
+          let z : n ≡ getD ar (predicateOf l) 0 = d ∙ ap (λ (q : ℕ). getD ar q 0) e in
+          let o : j ≡ 0 + j = omega arith in
+          subst (λ (x : ℕ). placeFits (getD ar (predicateOf l) 0) x (placeIn (unpacked l) j) ≡ true) o
+          (subst₂ (λ (x y : ℕ). placeFits x j y ≡ true) z (sym (place-of l j i)) (all j (omega arith)))
 
-        module _ (f₃ : not b₃ ≡ false) {b₄ : Bool} (e₄ : b₄ ≡ placeFits (getD ar (a .predicate) 0) 3 (a .fourth)) where
-          pub fits-not-fourth : not b₄ ≡ true → false ≡ isLabel ar l
-          unfolding isAtom
-          fits-not-fourth f = let z : false ≡ isAtom ar a = rw (lt-ltb (a .predicate) 32 h, passed e₁ f₁, passed e₂ f₂, passed e₃ f₃, failed e₄ f) in z ∙ atom-is
+      fits-last : inOrder (unpacked l) ≡ isLabel ar l
+      unfolding isLabel isAtom unpacked
+      fits-last =
+          let z = fits-list (getD ar (predicateOf l) 0) 0 (placesOf (unpacked l)) each-fits in
+          rw (lt-ltb (predicateOf l) predicateCount (subst (λ (q : ℕ). q < predicateCount) e h), z)
 
-          fits-last : not b₄ ≡ false → inOrder a ≡ isLabel ar l
-          unfolding isAtom
-          fits-last f = let z : inOrder a ≡ isAtom ar a = rw (lt-ltb (a .predicate) 32 h, passed e₁ f₁, passed e₂ f₂, passed e₃ f₃, passed e₄ f) in z ∙ atom-is
+      pub fits-other : (p ≡ 0 → ⊥) → true ≡ isLabel ar l
+      unfolding inOrder unpacked
+      fits-other n = let z : true ≡ inOrder (unpacked l) = rw (ne-eqb (predicateOf l) 0 (λ q. n (e ∙ q))) in z ∙ fits-last
 
-          pub fits-other : not b₄ ≡ false → (a .predicate ≡ 0 → ⊥) → true ≡ isLabel ar l
-          unfolding inOrder
-          fits-other f n = let z : true ≡ inOrder a = rw (ne-eqb (a .predicate) 0 n) in z ∙ fits-last f
-
-          pub fits-not-ordered : not b₄ ≡ false → a .predicate ≡ 0 → a .second ≤ a .first → false ≡ isLabel ar l
-          unfolding inOrder
-          fits-not-ordered f p n = let z : false ≡ inOrder a = rw (eq-eqb (a .predicate) 0 p, le-ltb (a .first) (a .second) n) in z ∙ fits-last f
-
-          pub fits-ordered : not b₄ ≡ false → a .predicate ≡ 0 → a .first < a .second → true ≡ isLabel ar l
-          unfolding inOrder
-          fits-ordered f p n = let z : true ≡ inOrder a = rw (eq-eqb (a .predicate) 0 p, lt-ltb (a .first) (a .second) n) in z ∙ fits-last f
+      pub fits-equality : p ≡ 0 → {t u : ℕ} → t ≡ placeAt l 0 → u ≡ placeAt l 1 → ltb t u ≡ isLabel ar l
+      unfolding inOrder unpacked
+      fits-equality q {t} {u} f g = let z : ltb t u ≡ inOrder (unpacked l) = rw (eq-eqb (predicateOf l) 0 (sym e ∙ q), f, g) in z ∙ fits-last
 
 -- is_under
 pub under-not : (ar : List ℕ) (l : ℕ) {b : Bool} → b ≡ areArities ar → not b ≡ true → false ≡ isLabelUnder ar l
@@ -206,20 +225,20 @@ pub under-label : (ar : List ℕ) (l : ℕ) {b c : Bool} → b ≡ areArities ar
 unfolding isLabelUnder
 under-label ar l e f g = rw (passed e f) g
 
-pub under-all : (ar : List ℕ) {b : Bool} → b ≡ areArities ar → not b ≡ false → 32 ≤ length ar
+pub under-all : (ar : List ℕ) {b : Bool} → b ≡ areArities ar → not b ≡ false → predicateCount ≤ length ar
 unfolding areArities
 under-all ar e f =
     let z : areArities ar ≡ true = passed e f in
-    omega (arith, eqb-true (length ar) 32 (and-left _ _ z))
+    omega (arith, eqb-true (length ar) predicateCount (and-left _ _ z))
 
 -- are_arities
-pub arities-not-length : (ar : List ℕ) → (length ar ≡ 32 → ⊥) → false ≡ areArities ar
+pub arities-not-length : (ar : List ℕ) → (length ar ≡ predicateCount → ⊥) → false ≡ areArities ar
 unfolding areArities
-arities-not-length ar n = rw (ne-eqb (length ar) 32 n)
+arities-not-length ar n = rw (ne-eqb (length ar) predicateCount n)
 
-pub arities-not-equality : (ar : List ℕ) → length ar ≡ 32 → (getD ar 0 0 ≡ 2 → ⊥) → false ≡ areArities ar
+pub arities-not-equality : (ar : List ℕ) → length ar ≡ predicateCount → (getD ar 0 0 ≡ equalityArity → ⊥) → false ≡ areArities ar
 unfolding areArities
-arities-not-equality ar e n = rw (eq-eqb (length ar) 32 e, ne-eqb (getD ar 0 0) 2 n)
+arities-not-equality ar e n = rw (eq-eqb (length ar) predicateCount e, ne-eqb (getD ar 0 0) equalityArity n)
 
 -- all of the list, by index
 all-is : (m : ℕ) (xs : List ℕ) → ((i : ℕ) → i < length xs → getD xs i 0 ≤ m) → allAtMost m xs ≡ true
@@ -235,18 +254,18 @@ all-not m (x ∷ xs) (suc i) h l = go (leb x m) (all-not m xs i (omega arith) l)
     go true e = e
     go false e = refl
 
-pub arities-not-all : (ar : List ℕ) {i : ℕ} → length ar ≡ 32 → getD ar 0 0 ≡ 2 → i < 32 → 4 < getD ar i 0 → false ≡ areArities ar
+pub arities-not-all : (ar : List ℕ) {i : ℕ} → length ar ≡ predicateCount → getD ar 0 0 ≡ equalityArity → i < predicateCount → mostPlaces < getD ar i 0 → false ≡ areArities ar
 unfolding areArities
-arities-not-all ar {i} e f h l = rw (eq-eqb (length ar) 32 e, eq-eqb (getD ar 0 0) 2 f, all-not 4 ar i (omega arith) l)
+arities-not-all ar {i} e f h l = rw (eq-eqb (length ar) predicateCount e, eq-eqb (getD ar 0 0) equalityArity f, all-not mostPlaces ar i (omega arith) l)
 
-pub arities-are : (ar : List ℕ) {i : ℕ} → length ar ≡ 32 → getD ar 0 0 ≡ 2 → ((k : ℕ) → k < i → getD ar k 0 ≤ 4) → 32 ≤ i → true ≡ areArities ar
+pub arities-are : (ar : List ℕ) {i : ℕ} → length ar ≡ predicateCount → getD ar 0 0 ≡ equalityArity → ((k : ℕ) → k < i → getD ar k 0 ≤ mostPlaces) → predicateCount ≤ i → true ≡ areArities ar
 unfolding areArities
-arities-are ar {i} e f h l = rw (eq-eqb (length ar) 32 e, eq-eqb (getD ar 0 0) 2 f, all-is 4 ar (λ k q. h k (omega arith)))
+arities-are ar {i} e f h l = rw (eq-eqb (length ar) predicateCount e, eq-eqb (getD ar 0 0) equalityArity f, all-is mostPlaces ar (λ k q. h k (omega arith)))
 
-pub arities-more : (ar : List ℕ) {i : ℕ} → ((k : ℕ) → k < i → getD ar k 0 ≤ 4) → getD ar i 0 ≤ 4 → (k : ℕ) → k < i + 1 → getD ar k 0 ≤ 4
+pub arities-more : (ar : List ℕ) {i : ℕ} → ((k : ℕ) → k < i → getD ar k 0 ≤ mostPlaces) → getD ar i 0 ≤ mostPlaces → (k : ℕ) → k < i + 1 → getD ar k 0 ≤ mostPlaces
 arities-more ar {i} all here k h = go (cmp k i)
   where
-    go : Cmp k i → getD ar k 0 ≤ 4
+    go : Cmp k i → getD ar k 0 ≤ mostPlaces
     go (below q) = all k q
     go (equal q) = rw q here
     go (above q) = absurd (omega arith)

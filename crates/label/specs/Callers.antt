@@ -9,12 +9,14 @@ use Rattle.label.specs.Labels.{isLabel, predicateOf, unpacked}
 use Rattle.label.specs.Renamings.{mapOf, mapped}
 use Rattle.label.specs.declared.Atom.{Atom}
 
--- every place is below the base
+-- every place is below the end of the terms
 pub record Places (a : Atom) : Type 0 where
   pub first-below : a .first < termEnd
   pub second-below : a .second < termEnd
   pub third-below : a .third < termEnd
   pub fourth-below : a .fourth < termEnd
+  pub fifth-below : a .fifth < termEnd
+  pub sixth-below : a .sixth < termEnd
 
 -- an atom that packs
 pub record Packable (a : Atom) : Type 0 where

@@ -1,31 +1,32 @@
--- Laws of atoms and labels: packing and unpacking are inverse.
-use mathlib.Core.Path.{_≡_, refl, ap, subst}
-use mathlib.Core.Bool.{true, _&&_, _||_}
+-- Laws of atoms and labels: places by index, packing and unpacking are inverse.
+use mathlib.Core.Path.{_≡_, refl, ap, subst, _∙_}
+use mathlib.Core.Bool.{Bool, true, _&&_, _||_}
 use mathlib.Core.List.{List, [], _∷_}
 use Prim.Native.Nat.{ℕ, zero, suc, _+_, _*_, _/_, _%_, _≤_, _<_}
 use native.Mathlib.Omega.{arith}
-use lib.ListN.{getD}
+use lib.ListN.{length, getD}
 use lib.Dec.{eqb, ltb, leb}
 use borrow.Author.Tests.{ltb-true, eqb-true, lt-ltb, le-ltb}
 use Rattle.basics.specs.Tests.{and-left, and-right, Flag, isTrue, isFalse, flag, Either, one, other, either, below, above}
-use Rattle.label.specs.Limits.{termBase, termEnd, mostPlaces, predicateCount, leafMark}
+use Rattle.label.specs.Limits.{constantCount, firstParameter, parameterCount, firstVariable, variableCount, termBase, termEnd, mostPlaces, predicateCount}
+use Rattle.label.specs.Limits.{predicateWeight, weightAt, leafMark}
 use Rattle.label.specs.Terms.{isConstant, isParameter, isVariable, isTerm}
-use Rattle.label.specs.Labels.{packed, predicateOf, placeAt, unpacked, placeFits, inOrder, isAtom, placesOf, isLabel}
+use Rattle.label.specs.Labels.{packed, predicateOf, placeAt, unpacked, placeFits, placesFit, inOrder, isAtom, placesOf, placeIn, atomFrom, weighed, isLabel}
 use Rattle.label.specs.Callers.{Places}
 use Rattle.label.specs.declared.Atom.{Atom}
 
 -- numbers of terms end below the base of the packing
 pub term-below : (t : ℕ) → isTerm t ≡ true → t < termEnd
 unfolding isTerm isConstant isParameter isVariable
-term-below t e = go (either (ltb t 16) _ e)
+term-below t e = go (either (isConstant t) _ e)
   where
-    rest : Either (leb 16 t && ltb t 20) (leb 32 t && ltb t 64) → t < termEnd
-    rest (one q) = omega (arith, ltb-true t 20 (and-right (leb 16 t) _ q))
-    rest (other q) = ltb-true t 64 (and-right (leb 32 t) _ q)
+    rest : Either (isParameter t) (isVariable t) → t < termEnd
+    rest (one q) = omega (arith, ltb-true t (firstParameter + parameterCount) (and-right (leb firstParameter t) _ q))
+    rest (other q) = ltb-true t (firstVariable + variableCount) (and-right (leb firstVariable t) _ q)
 
-    go : Either (ltb t 16) ((leb 16 t && ltb t 20) || (leb 32 t && ltb t 64)) → t < termEnd
-    go (one q) = omega (arith, ltb-true t 16 q)
-    go (other q) = rest (either (leb 16 t && ltb t 20) _ q)
+    go : Either (isConstant t) (isParameter t || isVariable t) → t < termEnd
+    go (one q) = omega (arith, ltb-true t constantCount q)
+    go (other q) = rest (either (isParameter t) _ q)
 
 pub place-below : (n k t : ℕ) → placeFits n k t ≡ true → t < termEnd
 unfolding placeFits
@@ -43,92 +44,159 @@ pub unused-zero : (n k t : ℕ) → n ≤ k → placeFits n k t ≡ true → t �
 unfolding placeFits
 unused-zero n k t h e = eqb-true t 0 (rw (le-ltb k n h) at e)
 
--- the tests of an atom, one by one: its places under the arity n, then all of them
+-- what is so of each place
+pub each-place : (P : ℕ → Type 0) → P 0 → P 1 → P 2 → P 3 → P 4 → P 5 → (k : ℕ) → k < mostPlaces → P k
+each-place P p₀ p₁ p₂ p₃ p₄ p₅ zero h = p₀
+each-place P p₀ p₁ p₂ p₃ p₄ p₅ (suc zero) h = p₁
+each-place P p₀ p₁ p₂ p₃ p₄ p₅ (suc (suc zero)) h = p₂
+each-place P p₀ p₁ p₂ p₃ p₄ p₅ (suc (suc (suc zero))) h = p₃
+each-place P p₀ p₁ p₂ p₃ p₄ p₅ (suc (suc (suc (suc zero)))) h = p₄
+each-place P p₀ p₁ p₂ p₃ p₄ p₅ (suc (suc (suc (suc (suc zero))))) h = p₅
+each-place P p₀ p₁ p₂ p₃ p₄ p₅ (suc (suc (suc (suc (suc (suc k)))))) h = absurd (omega arith)
+
+-- the places of an atom that are below the end of the terms, by index
+pub places-below : (a : Atom) → Places a → (k : ℕ) → k < mostPlaces → placeIn a k < termEnd
+places-below a p = each-place (λ k. placeIn a k < termEnd) (p .first-below) (p .second-below) (p .third-below) (p .fourth-below) (p .fifth-below) (p .sixth-below)
+
+pub below-places : (a : Atom) → ((k : ℕ) → k < mostPlaces → placeIn a k < termEnd) → Places a
+below-places a h = record {
+  first-below = h 0 (omega arith);
+  second-below = h 1 (omega arith);
+  third-below = h 2 (omega arith);
+  fourth-below = h 3 (omega arith);
+  fifth-below = h 4 (omega arith);
+  sixth-below = h 5 (omega arith);
+}
+
+-- two atoms are one if they have one predicate and the same places
+pub atom-same : (a b : Atom) → a .predicate ≡ b .predicate → ((k : ℕ) → k < mostPlaces → placeIn a k ≡ placeIn b k) → a ≡ b
+atom-same a b e q = λ i. record {
+  predicate = e i;
+  first = q 0 (omega arith) i;
+  second = q 1 (omega arith) i;
+  third = q 2 (omega arith) i;
+  fourth = q 3 (omega arith) i;
+  fifth = q 4 (omega arith) i;
+  sixth = q 5 (omega arith) i;
+}
+
+-- the places of an atom that is made of a list
+pub place-from : (p : ℕ) (ts : List ℕ) (k : ℕ) → k < mostPlaces → placeIn (atomFrom p ts) k ≡ getD ts k 0
+place-from p ts k h = each-place (λ j. placeIn (atomFrom p ts) j ≡ getD ts j 0) refl refl refl refl refl refl k h
+
+-- the tests of an atom: its places under the arity n, then all of it
 pub record PlacesFit (n : ℕ) (a : Atom) : Type 0 where
-  pub first-fits : placeFits n 0 (a .first) ≡ true
-  pub second-fits : placeFits n 1 (a .second) ≡ true
-  pub third-fits : placeFits n 2 (a .third) ≡ true
-  pub fourth-fits : placeFits n 3 (a .fourth) ≡ true
+  pub fits : (k : ℕ) → k < mostPlaces → placeFits n k (placeIn a k) ≡ true
 
 pub record Fitting (ar : List ℕ) (a : Atom) : Type 0 where
   pub predicate-fits : a .predicate < predicateCount
   pub places-fit : PlacesFit (getD ar (a .predicate) 0) a
   pub ordered : inOrder a ≡ true
 
+-- a list of places, by index
+pub list-fits : (n k : ℕ) (ts : List ℕ) → placesFit n k ts ≡ true → (j : ℕ) → j < length ts → placeFits n (k + j) (getD ts j 0) ≡ true
+list-fits n k [] e j h = absurd (omega arith)
+list-fits n k (t ∷ ts) e zero h = subst (λ (i : ℕ). placeFits n i t ≡ true) (omega arith) (and-left (placeFits n k t) _ e)
+list-fits n k (t ∷ ts) e (suc j) h =
+    subst (λ (i : ℕ). placeFits n i (getD ts j 0) ≡ true) (omega arith) (list-fits n (suc k) ts (and-right (placeFits n k t) _ e) j (omega arith))
+
+pub fits-list : (n k : ℕ) (ts : List ℕ) → ((j : ℕ) → j < length ts → placeFits n (k + j) (getD ts j 0) ≡ true) → placesFit n k ts ≡ true
+fits-list n k [] f = refl
+fits-list n k (t ∷ ts) f =
+    let e : placeFits n k t ≡ true = subst (λ (i : ℕ). placeFits n i t ≡ true) (omega arith) (f 0 (omega arith)) in
+    rw e (fits-list n (suc k) ts (λ j h. subst (λ (i : ℕ). placeFits n i (getD ts j 0) ≡ true) (omega arith) (f (suc j) (omega arith))))
+
 pub atom-fits : (ar : List ℕ) (a : Atom) → isAtom ar a ≡ true → Fitting ar a
 unfolding isAtom
 atom-fits ar a e =
     let n = getD ar (a .predicate) 0 in
     let e₁ = and-right (ltb (a .predicate) predicateCount) _ e in
-    let e₂ = and-right (placeFits n 0 (a .first)) _ e₁ in
-    let e₃ = and-right (placeFits n 1 (a .second)) _ e₂ in
-    let e₄ = and-right (placeFits n 2 (a .third)) _ e₃ in
     record {
       predicate-fits = ltb-true _ _ (and-left (ltb (a .predicate) predicateCount) _ e);
       places-fit = record {
-        first-fits = and-left (placeFits n 0 (a .first)) _ e₁;
-        second-fits = and-left (placeFits n 1 (a .second)) _ e₂;
-        third-fits = and-left (placeFits n 2 (a .third)) _ e₃;
-        fourth-fits = and-left (placeFits n 3 (a .fourth)) _ e₄;
+        fits = λ k h. subst (λ (i : ℕ). placeFits n i (placeIn a k) ≡ true) (omega arith) (list-fits n 0 (placesOf a) (and-left (placesFit n 0 (placesOf a)) _ e₁) k h);
       };
-      ordered = and-right (placeFits n 3 (a .fourth)) _ e₄;
+      ordered = and-right (placesFit n 0 (placesOf a)) _ e₁;
     }
 
 pub fits-atom : (ar : List ℕ) (a : Atom) → Fitting ar a → isAtom ar a ≡ true
 unfolding isAtom
 fits-atom ar a f =
-    let p = f .places-fit in
-    rw (lt-ltb (a .predicate) predicateCount (f .predicate-fits), p .first-fits, p .second-fits, p .third-fits, p .fourth-fits, f .ordered)
+    let n = getD ar (a .predicate) 0 in
+    let e = fits-list n 0 (placesOf a) (λ k h. subst (λ (i : ℕ). placeFits n i (placeIn a k) ≡ true) (omega arith) (f .places-fit .fits k h)) in
+    rw (lt-ltb (a .predicate) predicateCount (f .predicate-fits), e, f .ordered)
 
 pub atom-places : (ar : List ℕ) (a : Atom) → isAtom ar a ≡ true → Places a
-atom-places ar a e =
-    let f = atom-fits ar a e .places-fit in
-    record {
-      first-below = omega (arith, place-below _ 0 _ (f .first-fits));
-      second-below = omega (arith, place-below _ 1 _ (f .second-fits));
-      third-below = omega (arith, place-below _ 2 _ (f .third-fits));
-      fourth-below = omega (arith, place-below _ 3 _ (f .fourth-fits));
-    }
+atom-places ar a e = below-places a (λ k h. place-below _ k _ (atom-fits ar a e .places-fit .fits k h))
 
 -- packing and unpacking are inverse
+module _ (l : ℕ) where
+  last-digit : l ≡ l / weightAt 4 * termBase + l / weightAt 5 % termBase
+  last-digit = omega arith
+
+  digit-4 : l / weightAt 4 ≡ l / weightAt 3 * termBase + l / weightAt 4 % termBase
+  digit-4 = omega arith
+
+  digit-3 : l / weightAt 3 ≡ l / weightAt 2 * termBase + l / weightAt 3 % termBase
+  digit-3 = omega arith
+
+  digit-2 : l / weightAt 2 ≡ l / weightAt 1 * termBase + l / weightAt 2 % termBase
+  digit-2 = omega arith
+
+  digit-1 : l / weightAt 1 ≡ l / weightAt 0 * termBase + l / weightAt 1 % termBase
+  digit-1 = omega arith
+
+  digit-0 : l / weightAt 0 ≡ l / predicateWeight * termBase + l / weightAt 0 % termBase
+  digit-0 = omega arith
+
+digits : (l p q₀ q₁ q₂ q₃ q₄ t₀ t₁ t₂ t₃ t₄ t₅ : ℕ) → l ≡ q₄ * termBase + t₅ → q₄ ≡ q₃ * termBase + t₄ → q₃ ≡ q₂ * termBase + t₃
+    → q₂ ≡ q₁ * termBase + t₂ → q₁ ≡ q₀ * termBase + t₁ → q₀ ≡ p * termBase + t₀
+    → p * predicateWeight + weighed 0 (t₀ ∷ t₁ ∷ t₂ ∷ t₃ ∷ t₄ ∷ t₅ ∷ []) ≡ l
+digits l p q₀ q₁ q₂ q₃ q₄ t₀ t₁ t₂ t₃ t₄ t₅ e₅ e₄ e₃ e₂ e₁ e₀ = omega arith
+
 pub packed-unpacked : (l : ℕ) → packed (unpacked l) ≡ l
-unfolding packed unpacked
-packed-unpacked l =
-    let e₁ : l ≡ l / 64 * 64 + l % 64 = omega arith in
-    let e₂ : l / 64 ≡ l / 4096 * 64 + l / 64 % 64 = omega arith in
-    let e₃ : l / 4096 ≡ l / 262144 * 64 + l / 4096 % 64 = omega arith in
-    let e₄ : l / 262144 ≡ l / 16777216 * 64 + l / 262144 % 64 = omega arith in
-    omega arith
+unfolding packed unpacked predicateOf placeAt
+packed-unpacked l = digits l _ _ _ _ _ _ _ _ _ _ _ _ (last-digit l) (digit-4 l) (digit-3 l) (digit-2 l) (digit-1 l) (digit-0 l)
+
+module _ (a : Atom) (p : Places a) where
+  predicate-back : predicateOf (packed a) ≡ a .predicate
+  unfolding packed predicateOf
+  predicate-back =
+      let h₀ = p .first-below in
+      let h₁ = p .second-below in
+      let h₂ = p .third-below in
+      let h₃ = p .fourth-below in
+      let h₄ = p .fifth-below in
+      let h₅ = p .sixth-below in
+      omega arith
+
+  place-back : (k : ℕ) → k < mostPlaces → placeAt (packed a) k ≡ placeIn a k
+  unfolding packed placeAt
+  place-back =
+      let h₀ = p .first-below in
+      let h₁ = p .second-below in
+      let h₂ = p .third-below in
+      let h₃ = p .fourth-below in
+      let h₄ = p .fifth-below in
+      let h₅ = p .sixth-below in
+      each-place (λ k. placeAt (packed a) k ≡ placeIn a k) (omega arith) (omega arith) (omega arith) (omega arith) (omega arith) (omega arith)
+
+pub place-of : (l k : ℕ) → k < mostPlaces → placeIn (unpacked l) k ≡ placeAt l k
+unfolding unpacked
+place-of l k h = each-place (λ j. placeIn (unpacked l) j ≡ placeAt l j) refl refl refl refl refl refl k h
+
+pub predicate-of : (l : ℕ) → unpacked l .predicate ≡ predicateOf l
+unfolding unpacked
+predicate-of l = refl
 
 pub unpacked-packed : (a : Atom) → Places a → unpacked (packed a) ≡ a
-unfolding packed unpacked
-unpacked-packed a p =
-    let h₁ = p .first-below in
-    let h₂ = p .second-below in
-    let h₃ = p .third-below in
-    let h₄ = p .fourth-below in
-    let e : (a .predicate * 16777216 + a .first * 262144 + a .second * 4096 + a .third * 64 + a .fourth) / 16777216 ≡ a .predicate = omega arith in
-    let e₁ : (a .predicate * 16777216 + a .first * 262144 + a .second * 4096 + a .third * 64 + a .fourth) / 262144 % 64 ≡ a .first = omega arith in
-    let e₂ : (a .predicate * 16777216 + a .first * 262144 + a .second * 4096 + a .third * 64 + a .fourth) / 4096 % 64 ≡ a .second = omega arith in
-    let e₃ : (a .predicate * 16777216 + a .first * 262144 + a .second * 4096 + a .third * 64 + a .fourth) / 64 % 64 ≡ a .third = omega arith in
-    let e₄ : (a .predicate * 16777216 + a .first * 262144 + a .second * 4096 + a .third * 64 + a .fourth) % 64 ≡ a .fourth = omega arith in
-    λ i. record { predicate = e i; first = e₁ i; second = e₂ i; third = e₃ i; fourth = e₄ i }
+unfolding unpacked
+unpacked-packed a p = atom-same (unpacked (packed a)) a (predicate-back a p) (λ k h. place-of (packed a) k h ∙ place-back a p k h)
 
--- the places of a label, one by one
+-- a place is below the base
 pub place-base : (l k : ℕ) → placeAt l k < termBase
 unfolding placeAt
 place-base l k = omega arith
-
-over-one : (l : ℕ) → l % termBase ≡ l / 1 % termBase
-over-one l = omega arith
-
-pub place-of : (l k : ℕ) → k < mostPlaces → getD (placesOf (unpacked l)) k 0 ≡ placeAt l k
-unfolding placeAt unpacked
-place-of l zero h = refl
-place-of l (suc zero) h = refl
-place-of l (suc (suc zero)) h = refl
-place-of l (suc (suc (suc zero))) h = over-one l
-place-of l (suc (suc (suc (suc k)))) h = absurd (omega arith)
 
 -- the labels are the packed atoms
 pub label-packed : (ar : List ℕ) (a : Atom) → Places a → isLabel ar (packed a) ≡ isAtom ar a
@@ -145,12 +213,9 @@ label-fits ar l e = atom-fits ar (unpacked l) e
 
 -- place k of a label under ar fits: a term where it is used, else 0
 pub place-fits : (ar : List ℕ) (l k : ℕ) → isLabel ar l ≡ true → k < mostPlaces → placeFits (getD ar (predicateOf l) 0) k (placeAt l k) ≡ true
-unfolding placeAt unpacked predicateOf
-place-fits ar l zero e h = label-fits ar l e .places-fit .first-fits
-place-fits ar l (suc zero) e h = label-fits ar l e .places-fit .second-fits
-place-fits ar l (suc (suc zero)) e h = label-fits ar l e .places-fit .third-fits
-place-fits ar l (suc (suc (suc zero))) e h = subst (λ (t : ℕ). placeFits (getD ar (predicateOf l) 0) 3 t ≡ true) (over-one l) (label-fits ar l e .places-fit .fourth-fits)
-place-fits ar l (suc (suc (suc (suc k)))) e h = absurd (omega arith)
+place-fits ar l k e h =
+    subst (λ (t : ℕ). placeFits (getD ar (predicateOf l) 0) k t ≡ true) (place-of l k h)
+    (subst (λ (p : ℕ). placeFits (getD ar p 0) k (placeIn (unpacked l) k) ≡ true) (predicate-of l) (label-fits ar l e .places-fit .fits k h))
 
 -- so every place of it is below the end of the terms
 pub place-end : (ar : List ℕ) (l k : ℕ) → isLabel ar l ≡ true → k < mostPlaces → placeAt l k < termEnd
@@ -158,7 +223,7 @@ place-end ar l k e h = place-below _ k _ (place-fits ar l k e h)
 
 -- a leaf's mark is above every label
 pub label-below : (ar : List ℕ) (l : ℕ) → isLabel ar l ≡ true → l < leafMark
-unfolding unpacked
+unfolding unpacked predicateOf
 label-below ar l e =
-    let h : l / 16777216 < 32 = label-fits ar l e .predicate-fits in
+    let h : l / predicateWeight < predicateCount = label-fits ar l e .predicate-fits in
     omega arith

@@ -1,30 +1,30 @@
--- Terms, atoms and labels (document 01, section 'Terms, labels, listings').
+-- Terms, atoms and labels (document 01, section 'Terms, labels, listings'; document 02, L3 and L8).
 --
 -- Definitions: numbers
---   constantCount, firstParameter, parameterCount, firstVariable, variableCount == 16 constants from 0, 4 parameters from 16, 32 variables from 32
---   termEnd == 64: every term's number is below it
---   termBits, termBase == 6 bits for a place: the base 64 in which a label's places are packed
---   predicateCount, mostPlaces == 32 predicates, with at most 4 places each
+--   constantCount, firstParameter, parameterCount, firstVariable, variableCount == 16 constants from 0, 4 parameters from 16, 64 variables from 64
+--   termEnd == 128: every term's number is below it
+--   termBits, termBase == 8 bits for a place: the base 256 in which a label's places are packed
+--   predicateCount, mostPlaces == 32 predicates, with at most 6 places each
 --   equality, equalityArity == equality is predicate 0 and has 2 places
---   predicateWeight, firstWeight, secondWeight, thirdWeight == 2^24, 2^18, 2^12, 2^6, by which predicate and places are multiplied
+--   predicateWeight == 2^48, by which the predicate is multiplied
 --   weightAt == what place k is multiplied by, the first being place 0
---   leafMark == 4294967295, a leaf's first word: above every label
+--   leafMark == 2^64 - 1, a leaf's first word: above every label
 --
 -- Definitions: terms, atoms, labels
 --   isConstant, isParameter, isVariable, isTerm == t is the number of a constant, a parameter, a variable; of one of these
 --   Kind, kindOf == the kind of the term with a number, or that no term has it (an enum of the code)
 --   constantTerm, parameterTerm, variableTerm == the number of constant, parameter, variable i
---   allAtMost, areArities == an arity list: 32 arities, the first of them 2, each at most 4
---   Atom == a predicate and four places, unused ones 0 (a struct of the code)
---   packed, Label == the number of an atom: predicate · 2^24 + t1 · 2^18 + t2 · 2^12 + t3 · 2^6 + t4; it as a struct of the code
+--   allAtMost, areArities == an arity list: 32 arities, the first of them 2, each at most 6
+--   Atom == a predicate and six places, unused ones 0 (a struct of the code)
+--   packed, weighed, Label == the number of an atom: predicate · 2^48 + t1 · 2^40 + .. + t6, first place highest; it as a struct of the code
 --   predicateOf, placeAt, unpacked == the predicate, place k and the atom of a label
---   placesOf == the places of an atom
---   placeFits == place k of a predicate of arity n holds a term, or 0 where it is unused
+--   placesOf, placeIn, atomFrom == the places of an atom; place k of it; the atom of a predicate and its places
+--   placeFits, placesFit == place k of a predicate of arity n holds a term, or 0 where it is unused
 --   inOrder == an equality has its smaller term first, so that t = t is no label
 --   isAtom, isLabel == an atom, a label under an arity list
 --   termsOf == the terms of an atom: its used places
 --   Test == what an atom asks: a label, or t = t, which is plain truth (an enum of the code)
---   testOf, labelOf, equates == what an atom asks: its label; of an equality plain truth, or the label with the smaller term first
+--   testOf, labelOf, equates, equalAtom == what an atom asks: its label; of an equality plain truth, or the label with the smaller term first
 --   pickTest == the first test if true, else the second
 --
 -- Definitions: the order of labels, as the thesis writes it (document 02, L3)
@@ -39,7 +39,7 @@
 --   renamed == the label renamed, by a map that keeps the order of its terms
 --   rank == how many numbers of a list are below t
 --   numbering == the variables vs renamed to m, m + 1, .. in their order: closing up, moving apart
---   freeing == parameter 16 + i turns into variable 32 + i, the other variables move up by the parameter count
+--   freeing == parameter i turns into variable i, the other variables move up by the parameter count
 --
 -- Theorems
 --   packed-unpacked: packing the atom of a label gives the label back

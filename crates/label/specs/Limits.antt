@@ -1,7 +1,8 @@
--- The limits of terms and labels, and how a label is packed: the numbers of document 01, section 'Terms, labels, listings', by name.
+-- The limits of terms and labels, and how a label is packed: the numbers of document 01, section 'Terms, labels, listings',
+-- as document 02, L8 has them, by name.
 use Prim.Native.Nat.{ℕ, _-_, _*_, _^_}
 
--- a term is a constant (numbers 0 to 15), an action parameter (16 to 19) or a variable (32 to 63)
+-- a term is a constant (numbers 0 to 15), an action parameter (16 to 19) or a variable (64 to 127)
 abbrev pub constantCount : ℕ
 constantCount = 16
 
@@ -12,28 +13,28 @@ abbrev pub parameterCount : ℕ
 parameterCount = 4
 
 abbrev pub firstVariable : ℕ
-firstVariable = 32
+firstVariable = 64
 
 abbrev pub variableCount : ℕ
-variableCount = 32
+variableCount = 64
 
 -- numbers of terms are below this
 abbrev pub termEnd : ℕ
-termEnd = 64
+termEnd = 128
 
 -- a place of a label takes so many bits: its places are packed in this base
 abbrev pub termBits : ℕ
-termBits = 6
+termBits = 8
 
 abbrev pub termBase : ℕ
-termBase = 64
+termBase = 256
 
--- predicates are numbered 0 to 31, with arities 0 to 4; predicate 0 is equality, of arity 2
+-- predicates are numbered 0 to 31, with arities 0 to 6; predicate 0 is equality, of arity 2
 abbrev pub predicateCount : ℕ
 predicateCount = 32
 
 abbrev pub mostPlaces : ℕ
-mostPlaces = 4
+mostPlaces = 6
 
 abbrev pub equality : ℕ
 equality = 0
@@ -41,18 +42,9 @@ equality = 0
 abbrev pub equalityArity : ℕ
 equalityArity = 2
 
--- what the predicate and the places of a label are multiplied by, the fourth place by 1: 2^24, 2^18, 2^12, 2^6
+-- what the predicate of a label is multiplied by: 2^48
 abbrev pub predicateWeight : ℕ
-predicateWeight = 16777216
-
-abbrev pub firstWeight : ℕ
-firstWeight = 262144
-
-abbrev pub secondWeight : ℕ
-secondWeight = 4096
-
-abbrev pub thirdWeight : ℕ
-thirdWeight = 64
+predicateWeight = 281474976710656
 
 -- what place k of a label is multiplied by, the first being place 0: the last by 1, each one before it by the base more
 abbrev pub weightAt : ℕ → ℕ
@@ -60,4 +52,4 @@ weightAt k = 2 ^ ((mostPlaces - 1 - k) * termBits)
 
 -- what stands in a leaf's first word: above every label
 abbrev pub leafMark : ℕ
-leafMark = 4294967295
+leafMark = 18446744073709551615

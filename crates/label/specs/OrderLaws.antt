@@ -10,7 +10,7 @@ use lib.Dec.{eqb, ltb, leb}
 use borrow.Author.Tests.{ltb-true, ltb-false, leb-true, eqb-true, lt-ltb, le-ltb, eq-eqb, ne-eqb}
 use Rattle.basics.specs.Tests.{and-left, and-right, Flag, isTrue, isFalse, flag, Cmp, below, equal, above, cmp}
 use Rattle.basics.specs.Members.{clash}
-use Rattle.label.specs.Limits.{termBase, leafMark}
+use Rattle.label.specs.Limits.{constantCount, firstParameter, parameterCount, firstVariable, termBase, leafMark}
 use Rattle.label.specs.Terms.{isConstant, isParameter, isVariable, isTerm, kindOf}
 use Rattle.label.specs.Labels.{packed, unpacked, placeFits, placesOf, isLabel, termsOf}
 use Rattle.label.specs.LabelLaws.{place-below, unused-zero, used-term, PlacesFit, Fitting, label-fits, label-below, packed-unpacked}
@@ -20,18 +20,19 @@ use Rattle.label.specs.declared.Kind.the-variants.{Constant, Parameter, 
 
 -- the kind of a term by its number
 data Kinded (t : ℕ) : Type 0 where
-  constant : t < 16 → kindOf t ≡ Constant → Kinded t
-  parameter : 16 ≤ t → t < 20 → kindOf t ≡ Parameter → Kinded t
-  variable : 32 ≤ t → kindOf t ≡ Variable → Kinded t
+  constant : t < constantCount → kindOf t ≡ Constant → Kinded t
+  parameter : firstParameter ≤ t → t < firstParameter + parameterCount → kindOf t ≡ Parameter → Kinded t
+  variable : firstVariable ≤ t → kindOf t ≡ Variable → Kinded t
 
 kinded : (t : ℕ) → isTerm t ≡ true → Kinded t
 unfolding isTerm kindOf isConstant isParameter isVariable
-kinded t e = go (flag (ltb t 16)) (flag (leb 16 t && ltb t 20)) (flag (leb 32 t && ltb t 64))
+kinded t e = go (flag (isConstant t)) (flag (isParameter t)) (flag (isVariable t))
   where
-    go : Flag (ltb t 16) → Flag (leb 16 t && ltb t 20) → Flag (leb 32 t && ltb t 64) → Kinded t
-    go (isTrue p) q r = constant (ltb-true t 16 p) (rw p)
-    go (isFalse p) (isTrue q) r = parameter (leb-true 16 t (and-left _ _ q)) (ltb-true t 20 (and-right (leb 16 t) _ q)) (rw (p, q))
-    go (isFalse p) (isFalse q) (isTrue r) = variable (leb-true 32 t (and-left _ _ r)) (rw (p, q, r))
+    go : Flag (isConstant t) → Flag (isParameter t) → Flag (isVariable t) → Kinded t
+    go (isTrue p) q r = constant (ltb-true t constantCount p) (rw p)
+    go (isFalse p) (isTrue q) r =
+        parameter (leb-true firstParameter t (and-left _ _ q)) (ltb-true t (firstParameter + parameterCount) (and-right (leb firstParameter t) _ q)) (rw (p, q))
+    go (isFalse p) (isFalse q) (isTrue r) = variable (leb-true firstVariable t (and-left _ _ r)) (rw (p, q, r))
     go (isFalse p) (isFalse q) (isFalse r) = clash e (rw (p, q, r))
 
 -- the numbers of terms go by kind
@@ -56,7 +57,10 @@ Fits n k [] = Unit {0}
 Fits n k (t ∷ ts) = (placeFits n k t ≡ true) × Fits n (suc k) ts
 
 pub places-fit : {n : ℕ} {a : Atom} → PlacesFit n a → Fits n 0 (placesOf a)
-places-fit f = (f .first-fits, (f .second-fits, (f .third-fits, (f .fourth-fits, tt))))
+places-fit f = (
+  f .fits 0 (omega arith),
+  (f .fits 1 (omega arith), (f .fits 2 (omega arith), (f .fits 3 (omega arith), (f .fits 4 (omega arith), (f .fits 5 (omega arith), tt))))),
+)
 
 -- a number x with digits behind it
 abbrev horner : ℕ → List ℕ → ℕ

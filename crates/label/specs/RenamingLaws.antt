@@ -11,11 +11,11 @@ use lib.Dec.{eqb, ltb}
 use borrow.Author.Tests.{ltb-true, ltb-false, eqb-true, lt-ltb, le-ltb, le-leb, eq-eqb, ne-eqb}
 use Rattle.basics.specs.Tests.{and-left, and-right, Flag, isTrue, isFalse, flag, one, Cmp, below, equal, above, cmp}
 use Rattle.basics.specs.Members.{mem, clash}
-use Rattle.label.specs.Limits.{termEnd, firstVariable, firstParameter, parameterCount}
+use Rattle.label.specs.Limits.{constantCount, firstParameter, parameterCount, firstVariable, variableCount, termEnd, predicateCount, equalityArity, mostPlaces}
 use Rattle.label.specs.Terms.{isConstant, isParameter, isVariable, isTerm}
-use Rattle.label.specs.Labels.{areArities, packed, predicateOf, unpacked, placeFits, inOrder, isAtom, placesOf, isLabel, termsOf, equates, testOf, labelOf}
+use Rattle.label.specs.Labels.{areArities, placesOf, placeIn, packed, predicateOf, unpacked, placeFits, inOrder, isAtom, isLabel, termsOf, equalAtom, equates, testOf, labelOf}
 use Rattle.label.specs.Renamings.{placed, mapped, moved, renamed, rank, numbering, freeing, Increasing, EachTerm, EachIn}
-use Rattle.label.specs.LabelLaws.{Fitting, PlacesFit, atom-fits, fits-atom, atom-places, label-fits, label-packed, unpacked-packed, unused-zero, used-term}
+use Rattle.label.specs.LabelLaws.{each-place, atom-same, Fitting, PlacesFit, atom-fits, fits-atom, atom-places, label-fits, label-packed, unpacked-packed, unused-zero, used-term}
 use Rattle.label.specs.Order.{termBefore, placesBefore, atomBefore, labelBefore}
 use Rattle.label.specs.OrderLaws.{Fits, places-fit, term-numbers, order-numbers}
 use Rattle.label.specs.declared.Atom.{Atom}
@@ -29,44 +29,46 @@ pub placed-unused : (ρ : ℕ → ℕ) (n k t : ℕ) → n ≤ k → placed ρ n
 unfolding placed
 placed-unused ρ n k t h = rw (le-ltb k n h)
 
-equality-arity : (ar : List ℕ) → areArities ar ≡ true → getD ar 0 0 ≡ 2
+equality-arity : (ar : List ℕ) → areArities ar ≡ true → getD ar 0 0 ≡ equalityArity
 unfolding areArities
-equality-arity ar e = eqb-true _ _ (and-left (eqb (getD ar 0 0) 2) _ (and-right (eqb (length ar) 32) _ e))
+equality-arity ar e = eqb-true _ _ (and-left (eqb (getD ar 0 0) equalityArity) _ (and-right (eqb (length ar) predicateCount) _ e))
 
-predicate-is : (l : ℕ) → unpacked l .predicate ≡ predicateOf l
-unfolding unpacked predicateOf
-predicate-is l = refl
+-- the places of a mapped atom
+pub mapped-place : (ρ : ℕ → ℕ) (n : ℕ) (a : Atom) (k : ℕ) → k < mostPlaces → placeIn (mapped ρ n a) k ≡ placed ρ n k (placeIn a k)
+unfolding mapped
+mapped-place ρ n a k h = each-place (λ j. placeIn (mapped ρ n a) j ≡ placed ρ n j (placeIn a j)) refl refl refl refl refl refl k h
 
-mapped-terms : (ρ : ℕ → ℕ) (n x y z w : ℕ) → take n (placed ρ n 0 x ∷ placed ρ n 1 y ∷ placed ρ n 2 z ∷ placed ρ n 3 w ∷ []) ≡ map ρ (take n (x ∷ y ∷ z ∷ w ∷ []))
-mapped-terms ρ zero x y z w = refl
-mapped-terms ρ (suc zero) x y z w = rw (placed-used ρ 1 0 x (omega arith))
-mapped-terms ρ (suc (suc zero)) x y z w = rw (placed-used ρ 2 0 x (omega arith), placed-used ρ 2 1 y (omega arith))
-mapped-terms ρ (suc (suc (suc zero))) x y z w = rw (placed-used ρ 3 0 x (omega arith), placed-used ρ 3 1 y (omega arith), placed-used ρ 3 2 z (omega arith))
-mapped-terms ρ (suc (suc (suc (suc n)))) x y z w =
-    rw (
-      placed-used ρ (suc (suc (suc (suc n)))) 0 x (omega arith),
-      placed-used ρ (suc (suc (suc (suc n)))) 1 y (omega arith),
-      placed-used ρ (suc (suc (suc (suc n)))) 2 z (omega arith),
-      placed-used ρ (suc (suc (suc (suc n)))) 3 w (omega arith),
-      take-nil n,
-    )
+-- a list whose places from k on are replaced
+abbrev placedFrom : (ℕ → ℕ) → ℕ → ℕ → List ℕ → List ℕ
+placedFrom ρ n k [] = []
+placedFrom ρ n k (t ∷ ts) = placed ρ n k t ∷ placedFrom ρ n (suc k) ts
+
+used-terms : (ρ : ℕ → ℕ) (n k m : ℕ) → m ≡ n - k → (ts : List ℕ) → take m (placedFrom ρ n k ts) ≡ map ρ (take m ts)
+used-terms ρ n k zero e ts = refl
+used-terms ρ n k (suc m) e [] = refl
+used-terms ρ n k (suc m) e (t ∷ ts) = ap₂ _∷_ (placed-used ρ n k t (omega arith)) (used-terms ρ n (suc k) m (omega arith) ts)
+
+mapped-terms : (ρ : ℕ → ℕ) (n : ℕ) (a : Atom) → take n (placesOf (mapped ρ n a)) ≡ map ρ (take n (placesOf a))
+unfolding mapped
+mapped-terms ρ n a = used-terms ρ n 0 n (omega arith) (placesOf a)
 
 -- an atom in order asks its own label
-in-order-test : (ar : List ℕ) → getD ar 0 0 ≡ 2 → (a : Atom) → Fitting ar a → testOf a ≡ labelOf a
+in-order-test : (ar : List ℕ) → getD ar 0 0 ≡ equalityArity → (a : Atom) → Fitting ar a → testOf a ≡ labelOf a
 unfolding testOf equates inOrder
 in-order-test ar two a f = go (flag (eqb (a .predicate) 0))
   where
     go : Flag (eqb (a .predicate) 0) → testOf a ≡ labelOf a
     go (isTrue q) =
         let z : a .predicate ≡ 0 = eqb-true _ _ q in
-        let n : getD ar (a .predicate) 0 ≡ 2 = rw z two in
-        let e₃ = unused-zero _ 2 (a .third) (omega arith) (f .places-fit .third-fits) in
-        let e₄ = unused-zero _ 3 (a .fourth) (omega arith) (f .places-fit .fourth-fits) in
+        let n : getD ar (a .predicate) 0 ≡ equalityArity = rw z two in
+        let unused : (k : ℕ) → k < mostPlaces → equalityArity ≤ k → placeIn a k ≡ 0 = λ k h i. unused-zero _ k (placeIn a k) (omega arith) (f .places-fit .fits k h) in
         let o = f .ordered in
         let k : ltb (a .first) (a .second) ≡ true = rw q at o in
         let h = ltb-true (a .first) (a .second) k in
-        rw (q, ne-eqb (a .first) (a .second) (omega arith), lt-ltb (a .first) (a .second) h)
-        (sym (λ i. labelOf (record { predicate = z i; first = a .first; second = a .second; third = e₃ i; fourth = e₄ i })))
+        let same : a ≡ equalAtom (a .first) (a .second) =
+        atom-same a (equalAtom (a .first) (a .second)) z (each-place (λ j. placeIn a j ≡ placeIn (equalAtom (a .first) (a .second)) j) refl refl
+        (unused 2 (omega arith) (omega arith)) (unused 3 (omega arith) (omega arith)) (unused 4 (omega arith) (omega arith)) (unused 5 (omega arith) (omega arith))) in
+        rw (q, ne-eqb (a .first) (a .second) (omega arith), lt-ltb (a .first) (a .second) h) (ap labelOf (sym same))
     go (isFalse q) = rw q
 
 module _ (P : ℕ → Type 0) (ρ : ℕ → ℕ) (inc : Increasing P ρ) where
@@ -111,7 +113,13 @@ module _ (P : ℕ → Type 0) (ρ : ℕ → ℕ) (inc : Increasing P ρ) where
           clash d (term-numbers t u (used-term n k t (omega arith) (f .0)) (used-term n k u (omega arith) (g .0)) ∙ le-ltb t u (omega arith))
 
   known : {n : ℕ} {a : Atom} → EachTerm P n a → Known n 0 (placesOf a)
-  known p = (p .on-first, (p .on-second, (p .on-third, (p .on-fourth, tt))))
+  known p = (
+    λ h. p .on 0 h (omega arith),
+    (
+      λ h. p .on 1 h (omega arith),
+      (λ h. p .on 2 h (omega arith), (λ h. p .on 3 h (omega arith), (λ h. p .on 4 h (omega arith), (λ h. p .on 5 h (omega arith), tt)))),
+    ),
+  )
 
   mapped-before : (ar : List ℕ) (a b : Atom) → Fitting ar a → Fitting ar b → EachTerm P (getD ar (a .predicate) 0) a → EachTerm P (getD ar (b .predicate) 0) b
       → atomBefore ar a b ≡ true → atomBefore ar (mapped ρ (getD ar (a .predicate) 0) a) (mapped ρ (getD ar (b .predicate) 0) b) ≡ true
@@ -121,7 +129,7 @@ module _ (P : ℕ → Type 0) (ρ : ℕ → ℕ) (inc : Increasing P ρ) where
       same : (n : ℕ) → PlacesFit n a → PlacesFit n b → EachTerm P n a → EachTerm P n b → placesBefore (take n (placesOf a)) (take n (placesOf b)) ≡ true
           → placesBefore (take n (placesOf (mapped ρ n a))) (take n (placesOf (mapped ρ n b))) ≡ true
       same n f g p q d =
-          rw (mapped-terms ρ n (a .first) (a .second) (a .third) (a .fourth), mapped-terms ρ n (b .first) (b .second) (b .third) (b .fourth))
+          rw (mapped-terms ρ n a, mapped-terms ρ n b)
           (places-before n 0 n (omega arith) (placesOf a) (placesOf b) (places-fit f) (places-fit g) (known p) (known q) d)
 
       go : Cmp (a .predicate) (b .predicate) → atomBefore ar (mapped ρ (getD ar (a .predicate) 0) a) (mapped ρ (getD ar (b .predicate) 0) b) ≡ true
@@ -136,7 +144,7 @@ module _ (P : ℕ → Type 0) (ρ : ℕ → ℕ) (inc : Increasing P ρ) where
           clash d (le-ltb (a .predicate) (b .predicate) (omega arith))
 
   -- an equality keeps its smaller term first
-  mapped-order : (n : ℕ) (a : Atom) → (a .predicate ≡ 0 → n ≡ 2) → EachTerm P n a → inOrder a ≡ true → inOrder (mapped ρ n a) ≡ true
+  mapped-order : (n : ℕ) (a : Atom) → (a .predicate ≡ 0 → n ≡ equalityArity) → EachTerm P n a → inOrder a ≡ true → inOrder (mapped ρ n a) ≡ true
   unfolding mapped inOrder
   mapped-order n a two p o = go (flag (eqb (a .predicate) 0))
     where
@@ -145,11 +153,11 @@ module _ (P : ℕ → Type 0) (ρ : ℕ → ℕ) (inc : Increasing P ρ) where
           let e = two (eqb-true _ _ q) in
           let h : ltb (a .first) (a .second) ≡ true = rw q at o in
           rw (q, placed-used ρ n 0 (a .first) (omega arith), placed-used ρ n 1 (a .second) (omega arith))
-          (lt-ltb _ _ (inc .order _ _ (p .on-first (omega arith)) (p .on-second (omega arith)) (ltb-true _ _ h)))
+          (lt-ltb _ _ (inc .order _ _ (p .on 0 (omega arith) (omega arith)) (p .on 1 (omega arith) (omega arith)) (ltb-true _ _ h)))
       go (isFalse q) = rw q
 
   module _ (ar : List ℕ) (good : areArities ar ≡ true) where
-    two-places : (a : Atom) → a .predicate ≡ 0 → getD ar (a .predicate) 0 ≡ 2
+    two-places : (a : Atom) → a .predicate ≡ 0 → getD ar (a .predicate) 0 ≡ equalityArity
     two-places a e = rw e (equality-arity ar good)
 
     -- atoms stay atoms
@@ -161,10 +169,7 @@ module _ (P : ℕ → Type 0) (ρ : ℕ → ℕ) (inc : Increasing P ρ) where
         fits-atom ar _ (record {
           predicate-fits = f .predicate-fits;
           places-fit = record {
-            first-fits = place-maps n 0 (a .first) (p .on-first);
-            second-fits = place-maps n 1 (a .second) (p .on-second);
-            third-fits = place-maps n 2 (a .third) (p .on-third);
-            fourth-fits = place-maps n 3 (a .fourth) (p .on-fourth);
+            fits = λ k h. subst (λ (t : ℕ). placeFits n k t ≡ true) (sym (mapped-place ρ n a k h)) (place-maps n k (placeIn a k) (λ i. p .on k i h));
           };
           ordered = mapped-order n a (two-places a) p (f .ordered);
         })
@@ -204,7 +209,7 @@ module _ (P : ℕ → Type 0) (ρ : ℕ → ℕ) (inc : Increasing P ρ) where
     -- the terms are those that ρ gives
     pub renamed-terms : (l : ℕ) → isLabel ar l ≡ true → EachIn ar P l → termsOf ar (unpacked (renamed ar ρ l)) ≡ map ρ (termsOf ar (unpacked l))
     unfolding termsOf mapped unpacked predicateOf
-    renamed-terms l e p = ap (termsOf ar) (renamed-atom l e p) ∙ mapped-terms ρ (getD ar (l / 16777216) 0) _ _ _ _
+    renamed-terms l e p = ap (termsOf ar) (renamed-atom l e p) ∙ mapped-terms ρ (getD ar (predicateOf l) 0) (unpacked l)
 
 -- closing up and moving apart
 abbrev pub Numbered : List ℕ → ℕ → Type 0
@@ -255,9 +260,16 @@ numbering-high vs m t h = rw (le-ltb t firstVariable h)
 
 variable-term : (t : ℕ) → firstVariable ≤ t → t < termEnd → isTerm t ≡ true
 unfolding isTerm isConstant isParameter isVariable
-variable-term t h k = rw (le-ltb t 16 (omega arith), le-leb 16 t (omega arith), le-ltb t 20 (omega arith), le-leb 32 t h, lt-ltb t 64 k)
+variable-term t h k =
+    rw (
+      le-ltb t constantCount (omega arith),
+      le-leb firstParameter t (omega arith),
+      le-ltb t (firstParameter + parameterCount) (omega arith),
+      le-leb firstVariable t h,
+      lt-ltb t (firstVariable + variableCount) k,
+    )
 
--- the variables vs, renamed from m on, fit below 64: the map keeps the order of the constants, the parameters and vs
+-- the variables vs, renamed from m on, fit below the end of the terms: the map keeps the order of the constants, the parameters and vs
 pub numbering-increasing : (vs : List ℕ) (m : ℕ) → firstVariable ≤ m → m + length vs ≤ termEnd → Increasing (Numbered vs) (numbering vs m)
 numbering-increasing vs m h room = record { terms = λ t p. term t p (cmp t firstVariable); order = λ t u p q l. less t u p q l (cmp t firstVariable) (cmp u firstVariable) }
   where
@@ -287,7 +299,7 @@ numbering-increasing vs m h room = record { terms = λ t p. term t p (cmp t firs
     less t u p q l (equal j) k = both t u p l (omega arith)
     less t u p q l (above j) k = both t u p l (omega arith)
 
--- freeing: constants, the action's parameters, and the variables that stay below 64
+-- freeing: constants, the action's parameters, and the variables that stay below the end of the terms
 abbrev pub Freed : ℕ → ℕ → Type 0
 Freed c t = (isTerm t ≡ true) × ((t < firstParameter + c) ⊎ ((firstVariable ≤ t) × (t + c < termEnd)))
 
@@ -309,7 +321,7 @@ data Image (c t : ℕ) : Type 0 where
   parameter : firstParameter ≤ t → t < firstParameter + c → freeing c t ≡ t + (firstVariable - firstParameter) → Image c t
   variable : firstVariable ≤ t → t + c < termEnd → freeing c t ≡ t + c → Image c t
 
--- the parameters from 16 on turn into variables, which the others follow
+-- the parameters turn into variables, which the others follow
 pub freeing-increasing : (c : ℕ) → c ≤ parameterCount → Increasing (Freed c) (freeing c)
 freeing-increasing c m = record { terms = term; order = less }
   where

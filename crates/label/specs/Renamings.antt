@@ -5,9 +5,9 @@ use mathlib.Core.Path.{_≡_}
 use Prim.Native.Nat.{ℕ, _+_, _-_, _<_}
 use lib.ListN.{getD}
 use lib.Dec.{ltb}
-use Rattle.label.specs.Limits.{firstParameter, firstVariable}
+use Rattle.label.specs.Limits.{firstParameter, firstVariable, mostPlaces}
 use Rattle.label.specs.Terms.{isTerm}
-use Rattle.label.specs.Labels.{packed, unpacked, testOf, predicateOf}
+use Rattle.label.specs.Labels.{placeIn, packed, unpacked, testOf, predicateOf}
 use Rattle.label.specs.declared.Atom.{Atom}
 use Rattle.label.specs.declared.Test.{Test}
 
@@ -23,6 +23,8 @@ mapped ρ n a = record {
   second = placed ρ n 1 (a .second);
   third = placed ρ n 2 (a .third);
   fourth = placed ρ n 3 (a .fourth);
+  fifth = placed ρ n 4 (a .fifth);
+  sixth = placed ρ n 5 (a .sixth);
 }
 
 -- what the label l asks once its terms are replaced
@@ -42,11 +44,11 @@ abbrev pub rank : List ℕ → ℕ → ℕ
 rank [] t = 0
 rank (v ∷ vs) t = cond (ltb v t) 1 0 + rank vs t
 
--- the variables vs renamed to m, m + 1, .. in their order: closing up has m = 32, the second operand of a call apart 32 and the first's count
+-- the variables vs renamed to m, m + 1, .. in their order: closing up has m = firstVariable, the second operand of a call apart that and the first's count
 unfoldable pub numbering : List ℕ → ℕ → ℕ → ℕ
 numbering vs m t = cond (ltb t firstVariable) t (m + rank vs t)
 
--- freeing: parameter 16 + i turns into variable 32 + i, and the other variables move up by the parameter count c
+-- freeing: parameter i turns into variable i, and the other variables move up by the parameter count c
 unfoldable pub freeing : ℕ → ℕ → ℕ
 freeing c t =
     cond (ltb t firstParameter) t
@@ -60,10 +62,7 @@ pub record Increasing (P : ℕ → Type 0) (ρ : ℕ → ℕ) : Type 0 where
 
 -- P names every term of an atom of arity n
 pub record EachTerm (P : ℕ → Type 0) (n : ℕ) (a : Atom) : Type 0 where
-  pub on-first : 0 < n → P (a .first)
-  pub on-second : 1 < n → P (a .second)
-  pub on-third : 2 < n → P (a .third)
-  pub on-fourth : 3 < n → P (a .fourth)
+  pub on : (k : ℕ) → k < n → k < mostPlaces → P (placeIn a k)
 
 -- P names every term of the label l
 abbrev pub EachIn : List ℕ → (ℕ → Type 0) → ℕ → Type 0

@@ -4,7 +4,7 @@ ghost use Prim.Native.Nat.{_+_, _*_, _<_, _≤_};
 ghost use lib.ListN.{length};
 ghost use Rattle.label.specs.Limits.{constantCount, parameterCount, variableCount, termEnd, mostPlaces, predicateCount};
 ghost use Rattle.label.specs.Terms.{isTerm, kindOf, constantTerm, parameterTerm, variableTerm};
-ghost use Rattle.label.specs.Labels.{areArities, packed, predicateOf, placeAt, unpacked, placeFits, isLabel, isLabelUnder, equates, testOf};
+ghost use Rattle.label.specs.Labels.{areArities, packed, predicateOf, placeAt, unpacked, placeFits, isLabel, isLabelUnder, equalAtom, equates, testOf};
 ghost use Rattle.label.specs.Order.{Compared};
 ghost use Rattle.label.specs.Renamings.{mapOf, placed, mapped, moved, renamed};
 ghost use Rattle.label.specs.Callers.{Packable, Mappable, Movable, Replaced};
@@ -28,15 +28,15 @@ impl Term {
 
     pub const PARAMETERS: u64 = 4;
 
-    pub const FIRST_VARIABLE: u64 = 32;
+    pub const FIRST_VARIABLE: u64 = 64;
 
-    pub const VARIABLES: u64 = 32;
+    pub const VARIABLES: u64 = 64;
     // Every term's number is below this.
-    pub const END: u64 = 64;
+    pub const END: u64 = 128;
     // A place of a label takes so many bits: its places are packed in this base.
-    pub const BITS: u64 = 6;
+    pub const BITS: u64 = 8;
 
-    pub const BASE: u64 = 64;
+    pub const BASE: u64 = 256;
 
     // Constant i.
     pub fn constant(i: u64) -> Term
@@ -87,13 +87,15 @@ impl Term {
     }
 }
 
-// A predicate and its four places, unused ones 0.
+// A predicate and its six places, unused ones 0.
 pub struct Atom {
     pub predicate: u64,
     pub first: u64,
     pub second: u64,
     pub third: u64,
     pub fourth: u64,
+    pub fifth: u64,
+    pub sixth: u64,
 }
 
 // An atom as one number.
@@ -114,11 +116,15 @@ impl Atom {
         ensures { λ r. ⌜ r .packed ≡ packed self ⌝ }
     {
         Label {
-            packed: self.predicate * Label::PREDICATE_WEIGHT
-                + self.first * Label::FIRST_WEIGHT
-                + self.second * Label::SECOND_WEIGHT
-                + self.third * Label::THIRD_WEIGHT
-                + self.fourth,
+            packed: (((((self.predicate * Term::BASE + self.first) * Term::BASE + self.second)
+                * Term::BASE
+                + self.third)
+                * Term::BASE
+                + self.fourth)
+                * Term::BASE
+                + self.fifth)
+                * Term::BASE
+                + self.sixth,
         }
     }
 
@@ -144,6 +150,8 @@ impl Atom {
             second: placed(map, n, 1, self.second),
             third: placed(map, n, 2, self.third),
             fourth: placed(map, n, 3, self.fourth),
+            fifth: placed(map, n, 4, self.fifth),
+            sixth: placed(map, n, 5, self.sixth),
         }
     }
 }
@@ -151,21 +159,15 @@ impl Atom {
 impl Label {
     pub const PREDICATES: usize = 32;
 
-    pub const PLACES: u64 = 4;
+    pub const PLACES: u64 = 6;
 
     pub const EQUALITY: u64 = 0;
 
     pub const EQUALITY_ARITY: u64 = 2;
 
-    pub const PREDICATE_WEIGHT: u64 = 16777216;
-
-    pub const FIRST_WEIGHT: u64 = 262144;
-
-    pub const SECOND_WEIGHT: u64 = 4096;
-
-    pub const THIRD_WEIGHT: u64 = 64;
+    pub const PREDICATE_WEIGHT: u64 = 281474976710656;
     // What stands in a leaf's first word: above every label.
-    pub const LEAF: u64 = 4294967295;
+    pub const LEAF: u64 = 18446744073709551615;
 
     // The predicate of the label.
     pub fn predicate(self) -> u64
@@ -186,13 +188,14 @@ impl Label {
     pub fn unpack(self) -> Atom
         ensures { λ r. ⌜ r ≡ unpacked (self .packed) ⌝ }
     {
-        let l = self.packed;
         Atom {
-            predicate: l / Label::PREDICATE_WEIGHT,
-            first: l / Label::FIRST_WEIGHT % Term::BASE,
-            second: l / Label::SECOND_WEIGHT % Term::BASE,
-            third: l / Label::THIRD_WEIGHT % Term::BASE,
-            fourth: l % Term::BASE,
+            predicate: self.predicate(),
+            first: self.place(0),
+            second: self.place(1),
+            third: self.place(2),
+            fourth: self.place(3),
+            fifth: self.place(4),
+            sixth: self.place(5),
         }
     }
 
@@ -201,31 +204,22 @@ impl Label {
         requires { ⌜ predicateCount ≤ length (now arities) ⌝ }
         ensures { λ r. ⌜ r ≡ isLabel (now (arities .entry)) (self .packed) ⌝ }
     {
-        let a = self.unpack();
-        let p = a.predicate as usize;
+        let p = self.predicate() as usize;
         if p >= Label::PREDICATES {
             return false;
         }
         let n = arities[p];
-        if !place_fits(n, 0, a.first) {
-            return false;
-        }
-        if !place_fits(n, 1, a.second) {
-            return false;
-        }
-        if !place_fits(n, 2, a.third) {
-            return false;
-        }
-        if !place_fits(n, 3, a.fourth) {
-            return false;
+        let mut k = 0;
+        while k < Label::PLACES {
+            if !place_fits(n, k, self.place(k)) {
+                return false;
+            }
+            k += 1;
         }
         if p != 0 {
             return true;
         }
-        if a.first >= a.second {
-            return false;
-        }
-        true
+        self.place(0) < self.place(1)
     }
 
     // Whether the list is an arity list and the number a label under it.
@@ -275,6 +269,21 @@ pub fn before(w: u64, v: u64) -> bool
     w < v
 }
 
+// The atom that two terms are equal.
+fn equal(t: u64, u: u64) -> Atom
+    ensures { λ r. ⌜ r ≡ equalAtom t u ⌝ }
+{
+    Atom {
+        predicate: Label::EQUALITY,
+        first: t,
+        second: u,
+        third: 0,
+        fourth: 0,
+        fifth: 0,
+        sixth: 0,
+    }
+}
+
 // What the equality of two terms asks.
 pub fn equate(t: u64, u: u64) -> Test
     requires { ⌜ t < termEnd ⌝ }
@@ -285,13 +294,9 @@ pub fn equate(t: u64, u: u64) -> Test
         return Test::Always;
     }
     if t < u {
-        return Test::Is(Label {
-            packed: t * Label::FIRST_WEIGHT + u * Label::SECOND_WEIGHT,
-        });
+        return Test::Is(equal(t, u).pack());
     }
-    Test::Is(Label {
-        packed: u * Label::FIRST_WEIGHT + t * Label::SECOND_WEIGHT,
-    })
+    Test::Is(equal(u, t).pack())
 }
 
 // Whether place k of a predicate of arity n may hold t.
@@ -328,7 +333,7 @@ fn placed(map: &[u64], n: u64, k: u64, t: u64) -> u64
     0
 }
 
-// Whether the words are an arity list: 32 arities, the first 2, each at most 4.
+// Whether the words are an arity list: 32 arities, the first 2, each at most 6.
 pub fn are_arities(arities: &[u64]) -> bool
     ensures { λ r. ⌜ r ≡ areArities (now (arities .entry)) ⌝ }
 {

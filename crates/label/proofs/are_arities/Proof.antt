@@ -2,15 +2,16 @@ use borrow.Author.Needs.{needs}
 use native.Mathlib.Omega.{arith}
 use Prim.Native.Nat.{ℕ, _-_, _≤_, _<_}
 use lib.ListN.{getD}
+use Rattle.label.specs.Limits.{predicateCount, mostPlaces}
 use Rattle.label.proofs.CodeLaws.{arities-are, arities-more, arities-not-all, arities-not-equality, arities-not-length}
 use Rattle.label.proofs.are_arities.Statement.{statement}
 use Rattle.label.proofs.are_arities.Tie as tie
 
 abbrev Inv-loop : tie.InvT-loop
-Inv-loop arities i₀ i = (i ≤ 32) × ((k : ℕ) → k < i → getD arities k 0 ≤ 4)
+Inv-loop arities i₀ i = (i ≤ predicateCount) × ((k : ℕ) → k < i → getD arities k 0 ≤ mostPlaces)
 
 abbrev μ-loop : tie.MeasureT-loop
-μ-loop arities i₀ i = 32 - i
+μ-loop arities i₀ i = predicateCount - i
 
 returns : tie.Need-returns Inv-loop μ-loop
 returns c = search arities-not-length

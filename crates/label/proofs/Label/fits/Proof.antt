@@ -1,33 +1,53 @@
-use Rattle.label.proofs.CodeLaws.{fits-not-first, fits-not-fourth, fits-not-ordered, fits-not-predicate, fits-not-second, fits-not-third, fits-ordered, fits-other}
+use native.Mathlib.Omega.{arith}
+use Prim.Native.Nat.{_-_, _≤_}
 use borrow.Author.Needs.{needs}
+use Rattle.label.specs.Limits.{mostPlaces}
+use Rattle.label.proofs.CodeLaws.{FitsTo, fits-not-predicate, fits-not, fits-more, fits-other, fits-equality}
 use Rattle.label.proofs.Label.fits.Statement.{statement}
 use Rattle.label.proofs.Label.fits.Tie as tie
 
-returns : tie.Need-returns
+abbrev Inv-loop : tie.InvT-loop
+Inv-loop self arities p n k₀ k = (k ≤ mostPlaces) × FitsTo (self .packed) n k
+
+abbrev μ-loop : tie.MeasureT-loop
+μ-loop self arities p n k₀ k = mostPlaces - k
+
+returns : tie.Need-returns Inv-loop μ-loop
 returns c = search fits-not-predicate
 
-returns-2 : tie.Need-returns-2
-returns-2 c = search fits-not-first
+loop-holds : tie.Need-loop-holds Inv-loop μ-loop
+loop-holds c = (search needs, λ j h. absurd (omega arith))
 
-returns-3 : tie.Need-returns-3
-returns-3 c = search fits-not-second
+returns-2 : tie.Need-returns-2 Inv-loop μ-loop
+returns-2 c = search fits-not
 
-returns-4 : tie.Need-returns-4
-returns-4 c = search fits-not-third
+loop-again : tie.Need-loop-again Inv-loop μ-loop
+loop-again c = (search needs, search fits-more)
 
-returns-5 : tie.Need-returns-5
-returns-5 c = search fits-not-fourth
+returns-3 : tie.Need-returns-3 Inv-loop μ-loop
+returns-3 c = search fits-other
 
-returns-6 : tie.Need-returns-6
-returns-6 c = search fits-other
-
-returns-7 : tie.Need-returns-7
-returns-7 c = search fits-not-ordered
-
-returns-8 : tie.Need-returns-8
-returns-8 c = search fits-ordered
+returns-4 : tie.Need-returns-4 Inv-loop μ-loop
+returns-4 c = search fits-equality
 
 pub fits-spec : {M : Type 1} → statement M
 fits-spec =
     tie.close
-    (tie.spec (λ c κs. search needs) returns (λ c. search needs) (λ c. search needs) (λ c κs. search needs) returns-2 (λ c κs. search needs) returns-3 (λ c κs. search needs) returns-4 (λ c κs. search needs) returns-5 returns-6 returns-7 returns-8)
+    (tie.spec
+    Inv-loop
+    μ-loop
+    (λ c κs. search needs)
+    returns
+    (λ c. search needs)
+    (λ c. search needs)
+    loop-holds
+    (λ c κs. search needs)
+    (λ c κs. search needs)
+    returns-2
+    (λ c. search needs)
+    (λ c. search needs)
+    loop-again
+    returns-3
+    (λ c κs. search needs)
+    (λ c κs. search needs)
+    returns-4)
