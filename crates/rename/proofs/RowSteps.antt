@@ -22,13 +22,13 @@ use Rattle.rename.specs.Calls.{Word, Renamable}
 use Rattle.rename.specs.Steps.{Copied}
 
 -- relabel_word
-pub word-leaf : (g : ℕ → ℕ) {x : ℕ} → x ≡ 4294967295 → x ≡ labelled g x
+pub word-leaf : (g : ℕ → ℕ) {x : ℕ} → x ≡ leafMark → x ≡ labelled g x
 word-leaf g {x} e = rw (eq-eqb x leafMark e)
 
-pub word-movable : {ar map : List ℕ} {x : ℕ} → Word ar map x → (x ≡ 4294967295 → ⊥) → Movable ar map x
+pub word-movable : {ar map : List ℕ} {x : ℕ} → Word ar map x → (x ≡ leafMark → ⊥) → Movable ar map x
 word-movable {ar} {map} {x} w n = record { arities = w .arities; terms = w .terms; label = w .label n }
 
-pub word-branch : (g : ℕ → ℕ) {x y : ℕ} → (x ≡ 4294967295 → ⊥) → y ≡ g x → y ≡ labelled g x
+pub word-branch : (g : ℕ → ℕ) {x y : ℕ} → (x ≡ leafMark → ⊥) → y ≡ g x → y ≡ labelled g x
 word-branch g {x} {y} n e = rw (ne-eqb x leafMark n) e
 
 -- the words of a row

@@ -21,7 +21,7 @@ use Rattle.rename.specs.VariableLaws.{terms-each-occurs, occurs-numbered
 use Rattle.rename.specs.Valuations.{leafOf, Joined, Parted, ApartFree, ClosedBy, OpenedBy, ClosedFree}
 use Rattle.rename.specs.ValuationLaws.{cond-below, leaf-agree, leaf-closedFrom}
 
--- terms below 32 by θa, the variables that follow by θa at the variables vs, those behind them by θb at the variables us
+-- terms that are no variables by θa, the variables that follow by θa at the variables vs, those behind them by θb at the variables us
 joining : List ℕ → List ℕ → (ℕ → ℕ) → (ℕ → ℕ) → ℕ → ℕ
 joining vs us θa θb t =
     cond (ltb t firstVariable) (θa t)
@@ -74,7 +74,7 @@ through ar m d θ η good p q t e = go (cmp t firstVariable)
     go (equal k) = high (omega arith)
     go (above k) = high (omega arith)
 
--- terms below 32 by θ, the variables from m on by θ at the variables vs
+-- terms that are no variables by θ, the variables from m on by θ at the variables vs
 closing : List ℕ → ℕ → (ℕ → ℕ) → ℕ → ℕ
 closing vs m θ t = cond (ltb t firstVariable) (θ t) (θ (getD vs (t - m) 0))
 

@@ -11,7 +11,7 @@ use Rattle.label.specs.Callers.{TermMap}
 use Rattle.diagram.specs.Words.{isListing}
 use Rattle.rename.specs.Maps.{usedVariables}
 
--- the used variables, numbered from `first` on, fit below 64
+-- the used variables, numbered from `first` on, fit below the end of the terms
 pub record Closable (used : List ℕ) (first : ℕ) (map : List ℕ) : Type 0 where
   pub marks : termEnd ≤ length used
   pub whole : termEnd ≤ length map

@@ -112,7 +112,7 @@ module _ (ar : List ℕ) (d : Diagram) (good : Good ar d) where
   unfolding closed
   closed-variables = closedFrom-variables ar firstVariable d (omega arith) closed-room good
 
--- a diagram whose variables follow one another from 32 on stays as it is
+-- a diagram whose variables follow one another from the first on stays as it is
 pub closed-same : (ar : List ℕ) (d : Diagram) (n : ℕ) → Good ar d → variables ar d ≡ consecutive firstVariable n → closed ar d ≡ d
 unfolding closed closedFrom
 closed-same ar d n good v =
@@ -143,7 +143,7 @@ closed-same ar d n good v =
 pub closed-twice : (ar : List ℕ) (d : Diagram) → Good ar d → closed ar (closed ar d) ≡ closed ar d
 closed-twice ar d good = closed-same ar (closed ar d) (length (variables ar d)) (closed-good ar d good) (closed-variables ar d good)
 
--- apart: the operands have 32 variables together at most
+-- apart: the operands have 64 variables together at most
 module _ (ar : List ℕ) (a b : Diagram) (good-a : Good ar a) (good-b : Good ar b) (room : length (variables ar a) + length (variables ar b) ≤ variableCount) where
   after-low : firstVariable ≤ firstVariable + length (variables ar a)
   after-low = omega arith

@@ -9,12 +9,12 @@ use Rattle.diagram.specs.Diagram.{Diagram, relabel}
 use Rattle.diagram.specs.Variables.{occurs}
 use Rattle.rename.specs.Valuations.{leafOf}
 
--- parameter 16 + i turned into variable 32 + i, the other variables moved up by the parameter count c
+-- parameter i turned into variable i, the other variables moved up by the parameter count c
 unfoldable pub freed : List ℕ → ℕ → Diagram → Diagram
 unfolding relabel
 freed ar c d = relabel (renamed ar (freeing c)) d
 
--- no parameter past the count occurs, and no variable would pass 63
+-- no parameter past the count occurs, and no variable would pass the last
 pub record Freeable (ar : List ℕ) (c : ℕ) (d : Diagram) : Type 0 where
   pub count : c ≤ parameterCount
   pub parameters : (t : ℕ) → occurs ar t d ≡ true → t < firstVariable → t < firstParameter + c
@@ -28,7 +28,7 @@ pub record FreedBy (ar : List ℕ) (c : ℕ) (d : Diagram) (η ζ : ℕ → ℕ)
   pub range : (n : ℕ) → ((t : ℕ) → η t < n) → ((t : ℕ) → ζ t < n) → (t : ℕ) → assign t < n
   pub value : (h : ℕ → List ℕ → Bool) → leafOf ar h assign (freed ar c d) ≡ leafOf ar h η d
 
--- an assignment for the freed diagram, read back: parameter 16 + i has what variable 32 + i is assigned
+-- an assignment for the freed diagram, read back: parameter i has what variable i is assigned
 pub record BoundBy (ar : List ℕ) (c : ℕ) (d : Diagram) (θ : ℕ → ℕ) : Type 0 where
   pub assign : ℕ → ℕ
   pub constants : (t : ℕ) → t < firstParameter → assign t ≡ θ t

@@ -1,7 +1,7 @@
 -- Renaming: closing up, moving apart and freeing (document 01, sections 'Combination' and 'Regression').
 --
 -- Definitions
---   freed == parameter 16 + i turned into variable 32 + i, the other variables moved up by the parameter count
+--   freed == parameter i turned into variable i, the other variables moved up by the parameter count
 --
 -- For proofs
 --   Labels, Terms == every label, every term of a diagram has a property
@@ -11,13 +11,13 @@
 --   ClosedFree == the renamed diagram reaches the same leaves under assignments as the diagram
 --   ApartFree == operands apart are assigned freely: each pair of leaves that two assignments reach, one reaches, and back
 --   FreedFree == parameters that are freed are assigned freely, as variables are
---   Freeable == no parameter past the count occurs, and no variable would pass 63
+--   Freeable == no parameter past the count occurs, and no variable would pass the last
 --
 -- Theorems
 --   closed-good: closing up is always possible, and gives a good diagram of as many rows (closed-rows)
---   closed-variables: its variables are 32, 33, ..
+--   closed-variables: its variables follow one another from the first on
 --   closed-twice: closing up twice is closing up once
---   after-good: so for moving apart, if both operands together have at most 32 variables
+--   after-good: so for moving apart, if both operands together have at most 64 variables
 --   apart-disjoint: operands apart have no variable in common
 --   closed-free: closing up changes no leaf that is reached
 --   apart-free: what each operand apart is assigned is chosen freely (one van does not do two vans' work)

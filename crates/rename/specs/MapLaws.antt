@@ -213,7 +213,7 @@ free-terms c rest = tabled-terms (freeAt c) rest (λ t h. free-below c t)
 pub free-numbers : (c : ℕ) (rest : List ℕ) (t : ℕ) → t < termEnd → freeing c t < termEnd → mapOf (tabled (freeAt c) termEnd ++ rest) t ≡ freeing c t
 free-numbers c rest t h k = tabled-at (freeAt c) termEnd rest t h ∙ free-is c t k
 
--- no parameter past the count is marked, and no variable that would pass 63
+-- no parameter past the count is marked, and no variable that would pass the last
 pub marks-freeable : (ar : List ℕ) (c : ℕ) (d : Diagram) (used : List ℕ) → Good ar d → Marks ar d used → c ≤ parameterCount
     → ((t : ℕ) → firstParameter + c ≤ t → t < firstVariable → isUsed used t ≡ false) → ((t : ℕ) → termEnd ≤ t + c → t < termEnd → isUsed used t ≡ false)
     → Freeable ar c d

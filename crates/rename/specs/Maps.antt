@@ -38,6 +38,6 @@ pub record Marks (ar : List ℕ) (d : Diagram) (used : List ℕ) : Type 0 where
 unfoldable pub closeAt : List ℕ → ℕ → ℕ → ℕ
 closeAt used first t = cond (ltb t firstVariable) t (cond (isUsed used t) (numbering (usedVariables used) first t) 0)
 
--- freeing: a variable that would pass 63, which no label of a freed diagram has, 0
+-- freeing: a variable that would pass the last, which no label of a freed diagram has, 0
 unfoldable pub freeAt : ℕ → ℕ → ℕ
 freeAt c t = cond (ltb (freeing c t) termEnd) (freeing c t) 0

@@ -1,3 +1,4 @@
+use Rattle.label.specs.Limits.{termEnd}
 use Rattle.rename.proofs.MapSteps.{Closing, closing-start, closing-numbering, closing-on, closing-end}
 use mathlib.Core.Path.{_≡_}
 use Prim.Native.Nat.{_-_}
@@ -10,7 +11,7 @@ abbrev Inv-loop : tie.InvT-loop
 Inv-loop used first map₀ t₀ next₀ map t next = (length map ≡ length map₀) × Closing used first map₀ map t next
 
 abbrev μ-loop : tie.MeasureT-loop
-μ-loop used first map₀ t₀ next₀ map t next = 64 - t
+μ-loop used first map₀ t₀ next₀ map t next = termEnd - t
 
 loop-holds : tie.Need-loop-holds Inv-loop μ-loop
 loop-holds c = (search needs, search closing-start)

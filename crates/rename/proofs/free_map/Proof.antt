@@ -1,3 +1,4 @@
+use Rattle.label.specs.Limits.{termEnd}
 use Rattle.rename.proofs.MapSteps.{FreeFill, freeing-start, freeing-on, freeing-end}
 use mathlib.Core.Path.{_≡_}
 use Prim.Native.Nat.{_-_}
@@ -10,7 +11,7 @@ abbrev Inv-loop : tie.InvT-loop
 Inv-loop count map₀ t₀ map t = (length map ≡ length map₀) × FreeFill count map₀ map t
 
 abbrev μ-loop : tie.MeasureT-loop
-μ-loop count map₀ t₀ map t = 64 - t
+μ-loop count map₀ t₀ map t = termEnd - t
 
 loop-holds : tie.Need-loop-holds Inv-loop μ-loop
 loop-holds c = (search needs, search freeing-start)
