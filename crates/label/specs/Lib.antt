@@ -60,5 +60,6 @@ pub mod Order
 pub mod Renamings
 pub mod Callers
 pub mod LabelLaws
+pub mod ArityLaws
 pub mod OrderLaws
 pub mod RenamingLaws

@@ -16,6 +16,7 @@ use Rattle.label.specs.Terms.{isConstant, isParameter, isVariable, isTer
 use Rattle.label.specs.Labels.{areArities, placesOf, placeIn, packed, predicateOf, unpacked, placeFits, inOrder, isAtom, isLabel, termsOf, equalAtom, equates, testOf, labelOf}
 use Rattle.label.specs.Renamings.{placed, mapped, moved, renamed, rank, numbering, freeing, Increasing, EachTerm, EachIn}
 use Rattle.label.specs.LabelLaws.{each-place, atom-same, Fitting, PlacesFit, atom-fits, fits-atom, atom-places, label-fits, label-packed, unpacked-packed, unused-zero, used-term}
+use Rattle.label.specs.ArityLaws.{arity-two}
 use Rattle.label.specs.Order.{termBefore, placesBefore, atomBefore, labelBefore}
 use Rattle.label.specs.OrderLaws.{Fits, places-fit, term-numbers, order-numbers}
 use Rattle.label.specs.declared.Atom.{Atom}
@@ -28,10 +29,6 @@ placed-used ρ n k t h = rw (lt-ltb k n h)
 pub placed-unused : (ρ : ℕ → ℕ) (n k t : ℕ) → n ≤ k → placed ρ n k t ≡ 0
 unfolding placed
 placed-unused ρ n k t h = rw (le-ltb k n h)
-
-equality-arity : (ar : List ℕ) → areArities ar ≡ true → getD ar 0 0 ≡ equalityArity
-unfolding areArities
-equality-arity ar e = eqb-true _ _ (and-left (eqb (getD ar 0 0) equalityArity) _ (and-right (eqb (length ar) predicateCount) _ e))
 
 -- the places of a mapped atom
 pub mapped-place : (ρ : ℕ → ℕ) (n : ℕ) (a : Atom) (k : ℕ) → k < mostPlaces → placeIn (mapped ρ n a) k ≡ placed ρ n k (placeIn a k)
@@ -158,7 +155,7 @@ module _ (P : ℕ → Type 0) (ρ : ℕ → ℕ) (inc : Increasing P ρ) where
 
   module _ (ar : List ℕ) (good : areArities ar ≡ true) where
     two-places : (a : Atom) → a .predicate ≡ 0 → getD ar (a .predicate) 0 ≡ equalityArity
-    two-places a e = rw e (equality-arity ar good)
+    two-places a e = rw e (arity-two ar good)
 
     -- atoms stay atoms
     mapped-atom : (a : Atom) → isAtom ar a ≡ true → EachTerm P (getD ar (a .predicate) 0) a → isAtom ar (mapped ρ (getD ar (a .predicate) 0) a) ≡ true
@@ -191,7 +188,7 @@ module _ (P : ℕ → Type 0) (ρ : ℕ → ℕ) (inc : Increasing P ρ) where
     -- nothing is turned round
     pub moved-renamed : (l : ℕ) → isLabel ar l ≡ true → EachIn ar P l → moved ar ρ l ≡ Is (record { packed = renamed ar ρ l })
     unfolding moved renamed
-    moved-renamed l e p = in-order-test ar (equality-arity ar good) _ (atom-fits ar _ (label-atom l e p))
+    moved-renamed l e p = in-order-test ar (arity-two ar good) _ (atom-fits ar _ (label-atom l e p))
 
     labels-before : (l k : ℕ) → Fitting ar (unpacked l) → Fitting ar (unpacked k) → EachIn ar P l → EachIn ar P k → labelBefore ar l k ≡ true
         → atomBefore ar (mapped ρ (getD ar (predicateOf l) 0) (unpacked l)) (mapped ρ (getD ar (predicateOf k) 0) (unpacked k)) ≡ true

@@ -1,20 +1,20 @@
 -- Laws of marking the terms that a listing uses, and of counting the marked variables.
-use mathlib.Core.Path.{_≡_, refl, sym, ap, _∙_}
+use mathlib.Core.Path.{_≡_, refl, sym, ap, subst, _∙_}
 use mathlib.Core.Bool.{Bool, true, false, _||_, cond}
 use mathlib.Core.List.{List, [], _∷_}
-use Prim.Native.Nat.{ℕ, suc, _+_, _-_, _*_, _/_, _%_, _<_, _≤_, zero-le}
+use Prim.Native.Nat.{ℕ, zero, suc, _+_, _-_, _*_, _/_, _<_, _≤_, zero-le}
 use native.Mathlib.Omega.{arith}
 use native.Mathlib.Numerals.{add-one}
 use lib.ListN.{length, getD, set, take, length-set}
-use lib.Seq.{getD-set-same, getD-set-other, take-all}
+use lib.Seq.{getD-set-same, getD-set-other}
 use lib.Dec.{eqb}
 use borrow.Author.Tests.{eqb-true, eqb-false, eq-eqb, ne-eqb}
 use Rattle.basics.specs.Tests.{Flag, isTrue, isFalse, flag, Cmp, cmp, below, equal, above, cond-const}
 use Rattle.basics.specs.Members.{mem}
-use Rattle.label.specs.Limits.{leafMark, termEnd, predicateCount, predicateWeight, firstWeight, secondWeight, thirdWeight, firstVariable, variableCount}
-use Rattle.label.specs.Labels.{termsOf, unpacked}
-use Rattle.label.specs.LabelLaws.{label-fits}
-use Rattle.label.proofs.CodeLaws.{under-all}
+use Rattle.label.specs.Limits.{leafMark, termEnd, mostPlaces, predicateCount, firstVariable, variableCount}
+use Rattle.label.specs.Labels.{placesOf, predicateOf, placeAt, unpacked, isLabel, termsOf}
+use Rattle.label.specs.LabelLaws.{label-fits, predicate-of, place-of, place-end}
+use Rattle.label.specs.ArityLaws.{arity-most, arity-words}
 use Rattle.diagram.specs.Words.{labelAt, rowCount}
 use Rattle.diagram.specs.Listing.{diagramOf}
 use Rattle.diagram.specs.Validity.{Valid}
@@ -50,44 +50,23 @@ module _ (ar ws ms : List ℕ) (i : ℕ) where
   unfolding labelAt
   mark-leaf e = rw (terms-leaf ar ws i e)
 
-  module _ (e : getD ws (i * 3) 0 ≡ leafMark → ⊥) where
-    pub predicate-below : Markable ar ws ms i → getD ws (i * 3) 0 / predicateWeight < predicateCount
-    unfolding labelAt unpacked
-    predicate-below m = label-fits ar (getD ws (i * 3) 0) (branch-row ar ws (rowCount ws) (valid-rows ar ws (m .valid)) i (m .row) e .label) .predicate-fits
+  module _ (e : getD ws (i * 3) 0 ≡ leafMark → ⊥) (m : Markable ar ws ms i) where
+    label : isLabel ar (getD ws (i * 3) 0) ≡ true
+    unfolding labelAt
+    label = branch-row ar ws (rowCount ws) (valid-rows ar ws (m .valid)) i (m .row) e .label
 
-    pub predicate-within : Markable ar ws ms i → getD ws (i * 3) 0 / predicateWeight < length ar
-    predicate-within m = omega (arith, predicate-below m, under-all ar (sym (m .valid .arities)) refl)
+    pub predicate-below : {p : ℕ} → p ≡ predicateOf (getD ws (i * 3) 0) → p < predicateCount
+    predicate-below q =
+        subst (λ (x : ℕ). x < predicateCount) (predicate-of (getD ws (i * 3) 0) ∙ sym q) (label-fits ar (getD ws (i * 3) 0) label .predicate-fits)
 
-    places : rowTerms ar ws i
-        ≡ take (getD ar (getD ws (i * 3) 0 / predicateWeight) 0)
-        (getD ws (i * 3) 0 / firstWeight % termEnd ∷ getD ws (i * 3) 0 / secondWeight % termEnd ∷ getD ws (i * 3) 0 / thirdWeight % termEnd ∷ getD ws (i * 3) 0 % termEnd ∷ [])
-    unfolding labelAt termsOf unpacked
-    places = terms-branch ar ws i e
+    pub predicate-within : {p : ℕ} → p ≡ predicateOf (getD ws (i * 3) 0) → p < length ar
+    predicate-within q = omega (arith, predicate-below q, arity-words ar (m .valid .arities))
 
-    pub mark-none : getD ar (getD ws (i * 3) 0 / predicateWeight) 0 ≡ 0 → ms ≡ marked (rowTerms ar ws i) ms
-    mark-none h = rw (places, h)
+    pub few-places : {p n : ℕ} → p ≡ predicateOf (getD ws (i * 3) 0) → n ≡ getD ar p 0 → n ≤ mostPlaces
+    few-places {p} q d = omega (arith, arity-most ar p (m .valid .arities))
 
-    pub mark-one : getD ar (getD ws (i * 3) 0 / predicateWeight) 0 ≡ 1
-        → set ms (getD ws (i * 3) 0 / firstWeight % termEnd) 1 ≡ marked (rowTerms ar ws i) ms
-    mark-one h = rw (places, h)
-
-    pub mark-two : getD ar (getD ws (i * 3) 0 / predicateWeight) 0 ≡ 2
-        → set (set ms (getD ws (i * 3) 0 / firstWeight % termEnd) 1) (getD ws (i * 3) 0 / secondWeight % termEnd) 1 ≡ marked (rowTerms ar ws i) ms
-    mark-two h = rw (places, h)
-
-    pub mark-three : getD ar (getD ws (i * 3) 0 / predicateWeight) 0 ≡ 3
-        → set (set (set ms (getD ws (i * 3) 0 / firstWeight % termEnd) 1) (getD ws (i * 3) 0 / secondWeight % termEnd) 1) (getD ws (i * 3) 0 / thirdWeight % termEnd) 1
-        ≡ marked (rowTerms ar ws i) ms
-    mark-three h = rw (places, h)
-
-    pub mark-four : (getD ar (getD ws (i * 3) 0 / predicateWeight) 0 ≡ 0 → ⊥) → (getD ar (getD ws (i * 3) 0 / predicateWeight) 0 ≡ 1 → ⊥)
-        → (getD ar (getD ws (i * 3) 0 / predicateWeight) 0 ≡ 2 → ⊥) → (getD ar (getD ws (i * 3) 0 / predicateWeight) 0 ≡ 3 → ⊥)
-        → set (set (set (set ms (getD ws (i * 3) 0 / firstWeight % termEnd) 1) (getD ws (i * 3) 0 / secondWeight % termEnd) 1)
-        (getD ws (i * 3) 0 / thirdWeight % termEnd) 1) (getD ws (i * 3) 0 % termEnd) 1
-        ≡ marked (rowTerms ar ws i) ms
-    mark-four h₀ h₁ h₂ h₃ =
-        let l : List ℕ = getD ws (i * 3) 0 / firstWeight % termEnd ∷ getD ws (i * 3) 0 / secondWeight % termEnd ∷ getD ws (i * 3) 0 / thirdWeight % termEnd ∷ getD ws (i * 3) 0 % termEnd ∷ [] in
-        rw (places, take-all (getD ar (getD ws (i * 3) 0 / predicateWeight) 0) l (omega arith))
+    pub place-within : {k t : ℕ} → k < mostPlaces → t ≡ placeAt (getD ws (i * 3) 0) k → t < termEnd
+    place-within {k} h f = omega (arith, place-end ar (getD ws (i * 3) 0) k label h)
 
 -- the marks after terms were marked
 length-marked : (ts ms : List ℕ) → length (marked ts ms) ≡ length ms
@@ -101,6 +80,39 @@ marked-at (u ∷ us) ms t h = marked-at us (set ms u 1) t (rw length-set h) ∙ 
     go : Flag (eqb t u) → cond (mem eqb t us) 1 (getD (set ms u 1) t 0) ≡ cond (eqb t u || mem eqb t us) 1 (getD ms t 0)
     go (isTrue q) = let e = eqb-true t u q in rw (q, e, getD-set-same ms u 1 0 (omega arith)) (cond-const (mem eqb u us) 1)
     go (isFalse q) = rw (q, getD-set-other ms u t 1 0 (eqb-false t u q))
+
+-- mark_row: the first k places of a branch's label are marked
+pub record MarkedTo (l : ℕ) (ms₀ ms : List ℕ) (n k : ℕ) : Type 0 where
+  pub most : k ≤ n
+  pub few : n ≤ mostPlaces
+  pub marks : ms ≡ marked (take k (placesOf (unpacked l))) ms₀
+
+marked-last : (k : ℕ) (ts ms : List ℕ) → k < length ts → marked (take (suc k) ts) ms ≡ set (marked (take k ts) ms) (getD ts k 0) 1
+marked-last k [] ms h = absurd (omega arith)
+marked-last zero (t ∷ ts) ms h = refl
+marked-last (suc k) (t ∷ ts) ms h = marked-last k ts (set ms t 1) (omega arith)
+
+pub places-start : (l : ℕ) (ms : List ℕ) {n : ℕ} → n ≤ mostPlaces → MarkedTo l ms ms n 0
+places-start l ms h = record { most = zero-le; few = h; marks = refl }
+
+module _ {l : ℕ} {ms₀ ms : List ℕ} {n : ℕ} where
+  pub places-whole : {k : ℕ} → MarkedTo l ms₀ ms n k → length ms ≡ length ms₀
+  places-whole {k} m = ap length (m .marks) ∙ length-marked (take k (placesOf (unpacked l))) ms₀
+
+  pub places-next : {k t : ℕ} → MarkedTo l ms₀ ms n k → k < n → t ≡ placeAt l k → MarkedTo l ms₀ (set ms t 1) n (k + 1)
+  places-next {k} {t} m h e = record {
+    most = omega arith;
+    few = m .few;
+    marks = rw (add-one, marked-last k (placesOf (unpacked l)) ms₀ (omega (arith, m .few)), ← m .marks, place-of l k (omega (arith, m .few)), ← e);
+  }
+
+pub mark-branch : (ar ws ms₀ : List ℕ) (i : ℕ) {p n k : ℕ} {ms : List ℕ} → (getD ws (i * 3) 0 ≡ leafMark → ⊥) → p ≡ predicateOf (getD ws (i * 3) 0)
+    → n ≡ getD ar p 0 → MarkedTo (getD ws (i * 3) 0) ms₀ ms n k → n ≤ k → ms ≡ marked (rowTerms ar ws i) ms₀
+unfolding labelAt termsOf
+mark-branch ar ws ms₀ i {p} {n} {k} e q d m h =
+    let z : k ≡ getD ar (unpacked (getD ws (i * 3) 0) .predicate) 0 =
+    (let y : k ≡ n = omega (arith, m .most) in y ∙ d ∙ ap (λ (x : ℕ). getD ar x 0) (q ∙ sym (predicate-of (getD ws (i * 3) 0)))) in
+    m .marks ∙ ap (λ (x : ℕ). marked (take x (placesOf (unpacked (getD ws (i * 3) 0)))) ms₀) z ∙ rw (terms-branch ar ws i e)
 
 -- used: the terms of the rows before i are marked
 pub record Marking (ar ws ms : List ℕ) (i : ℕ) : Type 0 where
@@ -154,6 +166,9 @@ count-small {x} m e = go (flag (eqb m 0))
     go (isTrue q) = let z : x ≡ 0 = e ∙ rw q in omega arith
     go (isFalse q) = let z : x ≡ 1 = e ∙ rw q in omega arith
 
+plus-none : (n x : ℕ) → x ≡ 0 → n ≡ n + x
+plus-none n x e = omega arith
+
 -- count_variables: n of the variables' marks before t are set
 pub record Counting (ms : List ℕ) (n t : ℕ) : Type 0 where
   pub most : t ≤ termEnd
@@ -182,4 +197,4 @@ module _ {ms : List ℕ} where
   count-end {n} {t} c h =
       let p : termEnd - t ≡ 0 = omega arith in
       let q : setFrom ms t (termEnd - t) ≡ 0 = ap (setFrom ms t) p ∙ set-none ms t in
-      omega (arith, c .sum)
+      plus-none n _ q ∙ c .sum

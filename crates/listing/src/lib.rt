@@ -178,23 +178,13 @@ fn mark_row(arities: &[u64], words: &[u64], marks: &mut [u64], i: usize)
     if l == Label::LEAF {
         return;
     }
-    let n = arities[(l / Label::PREDICATE_WEIGHT) as usize];
-    if n == 0 {
-        return;
+    let label = Label { packed: l };
+    let n = arities[label.predicate() as usize];
+    let mut k = 0;
+    while k < n {
+        marks[label.place(k) as usize] = 1;
+        k += 1;
     }
-    marks[(l / Label::FIRST_WEIGHT % Term::BASE) as usize] = 1;
-    if n == 1 {
-        return;
-    }
-    marks[(l / Label::SECOND_WEIGHT % Term::BASE) as usize] = 1;
-    if n == 2 {
-        return;
-    }
-    marks[(l / Label::THIRD_WEIGHT % Term::BASE) as usize] = 1;
-    if n == 3 {
-        return;
-    }
-    marks[(l % Term::BASE) as usize] = 1;
 }
 
 // Marks the terms that occur in the listing: 1 for each of them, 0 for the others.

@@ -1,6 +1,7 @@
 use mathlib.Core.Path.{_≡_}
 use Prim.Native.Nat.{_-_}
 use lib.ListN.{length}
+use Rattle.label.specs.Limits.{termEnd}
 use borrow.Author.Needs.{needs}
 use Rattle.listing.proofs.MarkLaws.{Clearing, clear-start, clear-next, clear-end}
 use Rattle.listing.proofs.clear.Statement.{statement}
@@ -10,7 +11,7 @@ abbrev Inv-loop : tie.InvT-loop
 Inv-loop marks₀ t₀ marks t = (length marks ≡ length marks₀) × Clearing marks t
 
 abbrev μ-loop : tie.MeasureT-loop
-μ-loop marks₀ t₀ marks t = 64 - t
+μ-loop marks₀ t₀ marks t = termEnd - t
 
 loop-holds : tie.Need-loop-holds Inv-loop μ-loop
 loop-holds c = (search needs, search clear-start)

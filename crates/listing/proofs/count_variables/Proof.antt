@@ -1,4 +1,5 @@
 use Prim.Native.Nat.{_-_}
+use Rattle.label.specs.Limits.{termEnd}
 use borrow.Author.Needs.{needs}
 use Rattle.listing.proofs.MarkLaws.{Counting, count-room, count-start, count-next, count-end}
 use Rattle.listing.proofs.count_variables.Statement.{statement}
@@ -8,7 +9,7 @@ abbrev Inv-loop : tie.InvT-loop
 Inv-loop marks n₀ t₀ n t = Counting marks n t
 
 abbrev μ-loop : tie.MeasureT-loop
-μ-loop marks n₀ t₀ n t = 64 - t
+μ-loop marks n₀ t₀ n t = termEnd - t
 
 loop-holds : tie.Need-loop-holds Inv-loop μ-loop
 loop-holds c = search count-start
