@@ -11,7 +11,7 @@ use lib.Dec.{eqb, leb}
 use borrow.Author.Tests.{eqb-false, ne-eqb, leb-true, le-leb, not-true}
 use Rattle.basics.specs.Tests.{and-left, and-right, Flag, isTrue, isFalse, flag, Either, one, other, either, or-one, or-other, Cmp, cmp, below, equal, above}
 use Rattle.basics.specs.Members.{clash}
-use Rattle.label.specs.Limits.{termEnd}
+use Rattle.label.specs.Limits.{termBase}
 use Rattle.label.specs.Terms.{isVariable}
 use Rattle.label.specs.Labels.{areArities, isLabel, unpacked, termsOf}
 use Rattle.diagram.specs.Diagram.{Diagram, leaf, branch, same}
@@ -22,7 +22,7 @@ use Rattle.diagram.specs.RowLists.{rowTree}
 use Rattle.paths.specs.Paths.{Literal, Step, Path, stepBefore, paths, literals, literalOf, termsIn, through}
 use Rattle.cutting.specs.Match.{start}
 use Rattle.cutting.specs.Cut.{Replacement, Cover, target, MayGo, may, covers, isCover, somePath, everyPath, isFree, mayGo, Choice, goes, stays, choiceBelow, choice}
-use Rattle.cutting.specs.MovedLaws.{terms-below}
+use Rattle.label.specs.ArityLaws.{terms-below}
 use Rattle.cutting.specs.MatchLaws.{matches-sound, matches-complete}
 use Rattle.cutting.specs.Searchable.{PathLabels, AllLabels, Searchable}
 use Rattle.paths.specs.PathLaws.{mem-unmap}
@@ -54,22 +54,22 @@ path-labels ar (branch l t g) f p m =
     go (inr n) rt rf = let u = mem-unmap (stepBefore low) (paths g) p n in rw (u .2) (step-labels ar low (u .0) (f .0) (rf (u .0) (u .1)))
 
 -- ===== Covers =====
-pub in-small : (ar : List ℕ) (ls : List Literal) (t : ℕ) → List·Memᴰ t (termsIn ar ls) → t < termEnd
+pub in-small : (ar : List ℕ) (ls : List Literal) (t : ℕ) → List·Memᴰ t (termsIn ar ls) → t < termBase
 unfolding termsIn
 in-small ar [] t m = absurd (List·Memᴰ·not-nil m)
 in-small ar (l ∷ ls) t m = go (List·Memᴰ·append-cases (termsOf ar (unpacked (l .label))) m) (in-small ar ls t)
   where
-    go : List·Memᴰ t (termsOf ar (unpacked (l .label))) ⊎ List·Memᴰ t (termsIn ar ls) → (List·Memᴰ t (termsIn ar ls) → t < termEnd) → t < termEnd
+    go : List·Memᴰ t (termsOf ar (unpacked (l .label))) ⊎ List·Memᴰ t (termsIn ar ls) → (List·Memᴰ t (termsIn ar ls) → t < termBase) → t < termBase
     go (inl n) rec = terms-below ar (l .label) t n
     go (inr n) rec = rec n
 
 pub searchable : (ar : List ℕ) (ls qs : List Literal) → areArities ar ≡ true → AllLabels ar ls → Searchable ar ls (termsIn ar ls ++ termsIn ar qs)
 searchable ar ls qs g al = record { arities = g; labels = al; holds-terms = λ t m. Memᴰ·append-left (termsIn ar qs) m; small = small }
   where
-    small : (t : ℕ) → List·Memᴰ t (termsIn ar ls ++ termsIn ar qs) → t < termEnd
+    small : (t : ℕ) → List·Memᴰ t (termsIn ar ls ++ termsIn ar qs) → t < termBase
     small t m = go (List·Memᴰ·append-cases (termsIn ar ls) m)
       where
-        go : List·Memᴰ t (termsIn ar ls) ⊎ List·Memᴰ t (termsIn ar qs) → t < termEnd
+        go : List·Memᴰ t (termsIn ar ls) ⊎ List·Memᴰ t (termsIn ar qs) → t < termBase
         go (inl n) = in-small ar ls t n
         go (inr n) = in-small ar qs t n
 

@@ -11,7 +11,7 @@ use lib.Dec.{eqb}
 use borrow.Author.Tests.{eqb-true, eq-eqb}
 use Rattle.basics.specs.Tests.{Either, one, other, either, or-one, or-other}
 use Rattle.basics.specs.Members.{clash}
-use Rattle.label.specs.Limits.{termEnd}
+use Rattle.label.specs.Limits.{termBase}
 use Rattle.label.specs.Labels.{areArities, predicateOf, unpacked, termsOf}
 use Rattle.label.specs.Renamings.{moved}
 use Rattle.diagram.specs.RowLaws.{same-tests}
@@ -20,7 +20,8 @@ use Rattle.paths.specs.Paths.{Literal, termsIn}
 use Rattle.cutting.specs.Match.{Partial, assign, agree, bindTerm, thenBind, bindTerms, turned, ways, waysTo, waysAmong, twice, plainWays, targets, someOf, goOn, matches}
 use Rattle.cutting.specs.Cut.{Matched, plain, found}
 use Rattle.cutting.specs.Searchable.{AllLabels, Searchable}
-use Rattle.cutting.specs.MovedLaws.{asks, moved-asks, asks-turned, asks-twice, label-asks, terms-length, Asked, straight, across, ask-is, ask-always}
+use Rattle.label.specs.ArityLaws.{terms-length}
+use Rattle.cutting.specs.MovedLaws.{asks, moved-asks, asks-turned, asks-twice, label-asks, Asked, straight, across, ask-is, ask-always}
 
 -- σ gives what τ knows
 pub record Extends (σ : ℕ → ℕ) (τ : Partial) : Type 0 where
@@ -183,7 +184,7 @@ module _ (ar : List ℕ) (good : areArities ar ≡ true) where
   way-straight zero us vs e = List·Memᴰ·head (sym e)
   way-straight (suc p) us vs e = List·Memᴰ·head (sym e)
 
-  pub target-complete : (σ : ℕ → ℕ) (ls : List Literal) (T : List ℕ) (l : Literal) → ((t : ℕ) → List·Memᴰ t T → t < termEnd)
+  pub target-complete : (σ : ℕ → ℕ) (ls : List Literal) (T : List ℕ) (l : Literal) → ((t : ℕ) → List·Memᴰ t T → t < termBase)
       → ((t : ℕ) → List·Memᴰ t (termsOf ar (unpacked (l .label))) → List·Memᴰ (σ t) T) → Matched ar σ ls l
       → List·Memᴰ (map σ (termsOf ar (unpacked (l .label)))) (targets ar ls T l)
   unfolding targets

@@ -2,93 +2,65 @@
 use mathlib.Core.Path.{_≡_, refl, sym, ap, ap₂, subst, _∙_}
 use mathlib.Core.Bool.{true}
 use mathlib.Core.List.{List, [], _∷_, map, List·Memᴰ, List·Memᴰ·head, List·Memᴰ·tail, List·Memᴰ·not-nil}
-use Prim.Native.Nat.{ℕ, zero, suc, _/_, _%_, _≤_, _<_}
+use Prim.Native.Nat.{ℕ, zero, suc, _≤_, _<_}
 use native.Mathlib.Omega.{arith}
 use lib.ListN.{length, getD, take}
-use lib.Dec.{eqb, ltb, leb}
-use borrow.Author.Tests.{ltb-true, leb-true, eqb-true, lt-ltb, le-ltb, eq-eqb, ne-eqb}
-use Rattle.basics.specs.Tests.{and-left, and-right, Cmp, cmp, below, equal, above}
-use Rattle.label.specs.Limits.{termEnd}
-use Rattle.label.specs.Labels.{areArities, allAtMost, packed, predicateOf, unpacked, placeFits, inOrder, isLabel, termsOf, equates, testOf, labelOf}
+use lib.Dec.{ltb}
+use borrow.Author.Tests.{ltb-true, lt-ltb, le-ltb, eq-eqb, ne-eqb}
+use Rattle.basics.specs.Tests.{Cmp, cmp, below, equal, above}
+use Rattle.label.specs.Limits.{mostPlaces, equalityArity, termBase}
+use Rattle.label.specs.Labels.{areArities, placesOf, placeIn, atomFrom, packed, predicateOf, unpacked, inOrder, isLabel, termsOf, equates, testOf, labelOf}
 use Rattle.label.specs.Renamings.{placed, mapped, moved}
-use Rattle.label.specs.Callers.{Places}
-use Rattle.label.specs.LabelLaws.{PlacesFit, label-fits, packed-unpacked, unpacked-packed}
+use Rattle.label.specs.LabelLaws.{atom-same, place-from, predicate-of, label-fits, packed-unpacked, unpacked-packed}
+use Rattle.label.specs.ArityLaws.{arity-two, terms-length, term-at, terms-atom, atom-terms, from-places}
+use Rattle.label.specs.RenamingLaws.{placed-used, placed-unused, mapped-place}
 use Rattle.label.specs.declared.Atom.{Atom}
 use Rattle.label.specs.declared.Test.{Test}
 use Rattle.label.specs.declared.Test.the-variants.{Always, Is}
 use Rattle.cutting.specs.Match.{turned}
 
--- the atom of predicate p and terms us
-abbrev pub atomFrom : ℕ → List ℕ → Atom
-atomFrom p us = record { predicate = p; first = getD us 0 0; second = getD us 1 0; third = getD us 2 0; fourth = getD us 3 0 }
-
--- what it asks
+-- what an atom of predicate p and terms us asks
 unfoldable pub asks : ℕ → List ℕ → Test
 asks p us = testOf (atomFrom p us)
 
--- ===== Arities =====
-at-most : (m : ℕ) (xs : List ℕ) (i : ℕ) → allAtMost m xs ≡ true → getD xs i 0 ≤ m
-at-most m [] i e = omega arith
-at-most m (x ∷ xs) zero e = leb-true x m (and-left (leb x m) _ e)
-at-most m (x ∷ xs) (suc i) e = at-most m xs i (and-right (leb x m) _ e)
-
-pub arity-most : (ar : List ℕ) (p : ℕ) → areArities ar ≡ true → getD ar p 0 ≤ 4
-unfolding areArities
-arity-most ar p e = at-most 4 ar p (and-right (eqb (getD ar 0 0) 2) _ (and-right (eqb (length ar) 32) _ e))
-
-pub arity-two : (ar : List ℕ) → areArities ar ≡ true → getD ar 0 0 ≡ 2
-unfolding areArities
-arity-two ar e = eqb-true _ _ (and-left (eqb (getD ar 0 0) 2) _ (and-right (eqb (length ar) 32) _ e))
-
-four : (n : ℕ) → n ≤ 4 → (x y z w : ℕ) → length (take n (x ∷ y ∷ z ∷ w ∷ [])) ≡ n
-four zero h x y z w = refl
-four (suc zero) h x y z w = refl
-four (suc (suc zero)) h x y z w = refl
-four (suc (suc (suc zero))) h x y z w = refl
-four (suc (suc (suc (suc zero)))) h x y z w = refl
-four (suc (suc (suc (suc (suc n))))) h x y z w = absurd (omega arith)
-
--- a label has as many terms as its predicate's arity
-pub terms-length : (ar : List ℕ) (l : ℕ) → areArities ar ≡ true → length (termsOf ar (unpacked l)) ≡ getD ar (predicateOf l) 0
-unfolding termsOf unpacked predicateOf
-terms-length ar l e = four (getD ar (l / 16777216) 0) (arity-most ar (l / 16777216) e) _ _ _ _
-
-mem-take : (n : ℕ) (xs : List ℕ) (t : ℕ) → List·Memᴰ t (take n xs) → List·Memᴰ t xs
-mem-take zero xs t m = absurd (List·Memᴰ·not-nil m)
-mem-take (suc n) [] t m = m
-mem-take (suc n) (x ∷ xs) t (List·Memᴰ·head e) = List·Memᴰ·head e
-mem-take (suc n) (x ∷ xs) t (List·Memᴰ·tail m) = List·Memᴰ·tail (mem-take n xs t m)
-
-among-four : (x y z w : ℕ) → x < 64 → y < 64 → z < 64 → w < 64 → (t : ℕ) → List·Memᴰ t (x ∷ y ∷ z ∷ w ∷ []) → t < 64
-among-four x y z w a b c d t (List·Memᴰ·head e) = rw e a
-among-four x y z w a b c d t (List·Memᴰ·tail (List·Memᴰ·head e)) = rw e b
-among-four x y z w a b c d t (List·Memᴰ·tail (List·Memᴰ·tail (List·Memᴰ·head e))) = rw e c
-among-four x y z w a b c d t (List·Memᴰ·tail (List·Memᴰ·tail (List·Memᴰ·tail (List·Memᴰ·head e)))) = rw e d
-among-four x y z w a b c d t (List·Memᴰ·tail (List·Memᴰ·tail (List·Memᴰ·tail (List·Memᴰ·tail m)))) = absurd (List·Memᴰ·not-nil m)
-
--- terms are below the base of the packing
-pub terms-below : (ar : List ℕ) (l t : ℕ) → List·Memᴰ t (termsOf ar (unpacked l)) → t < termEnd
-unfolding termsOf unpacked
-terms-below ar l t m = among-four _ _ _ _ (omega arith) (omega arith) (omega arith) (omega arith) t (mem-take (getD ar (l / 16777216) 0) _ t m)
-
 -- ===== Replaced labels =====
-place-at : (σ : ℕ → ℕ) (n : ℕ) → n ≤ 4 → (x y z w : ℕ)
-    → (placed σ n 0 x ≡ getD (map σ (take n (x ∷ y ∷ z ∷ w ∷ []))) 0 0) × (placed σ n 1 y ≡ getD (map σ (take n (x ∷ y ∷ z ∷ w ∷ []))) 1 0)
-    × (placed σ n 2 z ≡ getD (map σ (take n (x ∷ y ∷ z ∷ w ∷ []))) 2 0) × (placed σ n 3 w ≡ getD (map σ (take n (x ∷ y ∷ z ∷ w ∷ []))) 3 0)
-unfolding placed
-place-at σ zero h x y z w = (refl, refl, refl, refl)
-place-at σ (suc zero) h x y z w = (refl, refl, refl, refl)
-place-at σ (suc (suc zero)) h x y z w = (refl, refl, refl, refl)
-place-at σ (suc (suc (suc zero))) h x y z w = (refl, refl, refl, refl)
-place-at σ (suc (suc (suc (suc zero)))) h x y z w = (refl, refl, refl, refl)
-place-at σ (suc (suc (suc (suc (suc n))))) h x y z w = absurd (omega arith)
+getD-map : (σ : ℕ → ℕ) (xs : List ℕ) (k : ℕ) → k < length xs → getD (map σ xs) k 0 ≡ σ (getD xs k 0)
+getD-map σ [] k h = absurd (omega arith)
+getD-map σ (x ∷ xs) zero h = refl
+getD-map σ (x ∷ xs) (suc k) h = getD-map σ xs k (omega arith)
+
+map-past : (σ : ℕ → ℕ) (xs : List ℕ) (k : ℕ) → length xs ≤ k → getD (map σ xs) k 0 ≡ 0
+map-past σ [] k h = refl
+map-past σ (x ∷ xs) zero h = absurd (omega arith)
+map-past σ (x ∷ xs) (suc k) h = map-past σ xs k (omega arith)
 
 -- a label asks what its predicate and replaced terms ask
 pub moved-asks : (ar : List ℕ) (σ : ℕ → ℕ) (l : ℕ) → areArities ar ≡ true → moved ar σ l ≡ asks (predicateOf l) (map σ (termsOf ar (unpacked l)))
-unfolding moved asks mapped termsOf unpacked predicateOf
+unfolding moved asks
 moved-asks ar σ l e =
-    let p = place-at σ (getD ar (l / 16777216) 0) (arity-most ar (l / 16777216) e) (l / 262144 % 64) (l / 4096 % 64) (l / 64 % 64) (l % 64) in
-    λ i. testOf (record { predicate = l / 16777216; first = p .0 i; second = p .1 i; third = p .2 i; fourth = p .3 i })
+    ap testOf (atom-same (mapped σ n (unpacked l)) (atomFrom (predicateOf l) ts) (unfold mapped in (predicate-of l))
+    (λ k h. mapped-place σ n (unpacked l) k h ∙ at k h (cmp k n) ∙ sym (place-from (predicateOf l) ts k h)))
+  where
+    n : ℕ
+    n = getD ar (predicateOf l) 0
+
+    ts : List ℕ
+    ts = map σ (termsOf ar (unpacked l))
+
+    few : length (termsOf ar (unpacked l)) ≡ n
+    few = terms-length ar l e
+
+    same : n ≡ getD ar (unpacked l .predicate) 0
+    same = ap (λ (p : ℕ). getD ar p 0) (sym (predicate-of l))
+
+    past : (k : ℕ) → n ≤ k → placed σ n k (placeIn (unpacked l) k) ≡ getD ts k 0
+    past k h = placed-unused σ n k _ h ∙ sym (map-past σ (termsOf ar (unpacked l)) k (omega (arith, few)))
+
+    at : (k : ℕ) → k < mostPlaces → Cmp k n → placed σ n k (placeIn (unpacked l) k) ≡ getD ts k 0
+    at k h (below q) =
+        placed-used σ n k _ q ∙ ap σ (sym (term-at ar (unpacked l) k (omega (arith, same)))) ∙ sym (getD-map σ (termsOf ar (unpacked l)) k (omega (arith, few)))
+    at k h (equal q) = past k (omega arith)
+    at k h (above q) = past k (omega arith)
 
 -- equalities: t = t, and either way round
 pub equates-same : (t u : ℕ) → t ≡ u → equates t u ≡ Always
@@ -126,37 +98,10 @@ unfolding asks testOf
 asks-other p us h = rw (ne-eqb p 0 (omega arith))
 
 -- ===== A label asks itself =====
-fits-unused : (n k t : ℕ) → n ≤ k → placeFits n k t ≡ true → t ≡ 0
-unfolding placeFits
-fits-unused n k t h e = eqb-true t 0 (rw (le-ltb k n h) at e)
-
--- the places of an atom that fits are its terms, and 0
-terms-at : (n : ℕ) → n ≤ 4 → (a : Atom) → PlacesFit n a → let us = take n (a .first ∷ a .second ∷ a .third ∷ a .fourth ∷ []) in
-    (getD us 0 0 ≡ a .first) × (getD us 1 0 ≡ a .second) × (getD us 2 0 ≡ a .third) × (getD us 3 0 ≡ a .fourth)
-terms-at zero h a f = (
-  sym (fits-unused 0 0 _ (omega arith) (f .first-fits)),
-  sym (fits-unused 0 1 _ (omega arith) (f .second-fits)),
-  sym (fits-unused 0 2 _ (omega arith) (f .third-fits)),
-  sym (fits-unused 0 3 _ (omega arith) (f .fourth-fits)),
-)
-terms-at (suc zero) h a f = (
-  refl,
-  sym (fits-unused 1 1 _ (omega arith) (f .second-fits)),
-  sym (fits-unused 1 2 _ (omega arith) (f .third-fits)),
-  sym (fits-unused 1 3 _ (omega arith) (f .fourth-fits)),
-)
-terms-at (suc (suc zero)) h a f = (refl, refl, sym (fits-unused 2 2 _ (omega arith) (f .third-fits)), sym (fits-unused 2 3 _ (omega arith) (f .fourth-fits)))
-terms-at (suc (suc (suc zero))) h a f = (refl, refl, refl, sym (fits-unused 3 3 _ (omega arith) (f .fourth-fits)))
-terms-at (suc (suc (suc (suc zero)))) h a f = (refl, refl, refl, refl)
-terms-at (suc (suc (suc (suc (suc n))))) h a f = absurd (omega arith)
-
 -- a label's atom is that of its predicate and terms
-pub label-atom : (ar : List ℕ) (k : ℕ) → areArities ar ≡ true → isLabel ar k ≡ true → atomFrom (predicateOf k) (termsOf ar (unpacked k)) ≡ unpacked k
-unfolding termsOf predicateOf unpacked
-label-atom ar k g e =
-    let f = label-fits ar k e in
-    let p = terms-at (getD ar (k / 16777216) 0) (arity-most ar (k / 16777216) g) (unpacked k) (f .places-fit) in
-    λ i. record { predicate = k / 16777216; first = p .0 i; second = p .1 i; third = p .2 i; fourth = p .3 i }
+pub label-atom : (ar : List ℕ) (k : ℕ) → isLabel ar k ≡ true → atomFrom (predicateOf k) (termsOf ar (unpacked k)) ≡ unpacked k
+label-atom ar k e =
+    ap (λ (p : ℕ). atomFrom p (termsOf ar (unpacked k))) (sym (predicate-of k)) ∙ terms-atom ar (unpacked k) (label-fits ar k e .places-fit)
 
 -- an equality has two terms, the smaller first
 pub record EqualityTerms (ar : List ℕ) (k : ℕ) : Type 0 where
@@ -166,22 +111,28 @@ pub record EqualityTerms (ar : List ℕ) (k : ℕ) : Type 0 where
   pub are : termsOf ar (unpacked k) ≡ smaller ∷ greater ∷ []
 
 pub equality-terms : (ar : List ℕ) (k : ℕ) → areArities ar ≡ true → isLabel ar k ≡ true → predicateOf k ≡ 0 → EqualityTerms ar k
-unfolding termsOf unpacked inOrder predicateOf
-equality-terms ar k g e z =
-    let f = label-fits ar k e .ordered in
-    let o : ltb (k / 262144 % 64) (k / 4096 % 64) ≡ true = rw (eq-eqb (k / 16777216) 0 z) at f in
-    record {
-      smaller = k / 262144 % 64;
-      greater = k / 4096 % 64;
-      less = ltb-true _ _ o;
-      are = ap (λ (n : ℕ). take n (k / 262144 % 64 ∷ k / 4096 % 64 ∷ k / 64 % 64 ∷ k % 64 ∷ [])) (ap (λ (q : ℕ). getD ar q 0) z ∙ arity-two ar g);
-    }
+unfolding inOrder
+equality-terms ar k g e z = record {
+  smaller = unpacked k .first;
+  greater = unpacked k .second;
+  less = ltb-true _ _ o;
+  are = unfold termsOf in (ap (λ (n : ℕ). take n (placesOf (unpacked k))) two);
+}
+  where
+    none : unpacked k .predicate ≡ 0
+    none = predicate-of k ∙ z
+
+    o : ltb (unpacked k .first) (unpacked k .second) ≡ true
+    o = let f = label-fits ar k e .ordered in rw (eq-eqb (unpacked k .predicate) 0 none) at f
+
+    two : getD ar (unpacked k .predicate) 0 ≡ equalityArity
+    two = ap (λ (q : ℕ). getD ar q 0) none ∙ arity-two ar g
 
 pub label-asks : (ar : List ℕ) (k : ℕ) → areArities ar ≡ true → isLabel ar k ≡ true → asks (predicateOf k) (termsOf ar (unpacked k)) ≡ Is (record { packed = k })
 label-asks ar k g e = go (cmp 0 (predicateOf k))
   where
     itself : labelOf (atomFrom (predicateOf k) (termsOf ar (unpacked k))) ≡ Is (record { packed = k })
-    itself = ap labelOf (label-atom ar k g e) ∙ ap (λ (x : ℕ). Is (record { packed = x })) (packed-unpacked k)
+    itself = ap labelOf (label-atom ar k e) ∙ ap (λ (x : ℕ). Is (record { packed = x })) (packed-unpacked k)
 
     go : Cmp 0 (predicateOf k) → asks (predicateOf k) (termsOf ar (unpacked k)) ≡ Is (record { packed = k })
     go (below h) = asks-other (predicateOf k) _ h ∙ itself
@@ -205,36 +156,15 @@ test-label a k e = ap label e
     label Always = 0
     label (Is x) = x .packed
 
-list-of : (us : List ℕ) → length us ≤ 4 → take (length us) (getD us 0 0 ∷ getD us 1 0 ∷ getD us 2 0 ∷ getD us 3 0 ∷ []) ≡ us
-list-of [] h = refl
-list-of (a ∷ []) h = refl
-list-of (a ∷ b ∷ []) h = refl
-list-of (a ∷ b ∷ c ∷ []) h = refl
-list-of (a ∷ b ∷ c ∷ d ∷ []) h = refl
-list-of (a ∷ b ∷ c ∷ d ∷ e ∷ r) h = absurd (omega arith)
-
 abbrev AllSmall : List ℕ → Type 0
-AllSmall us = (t : ℕ) → List·Memᴰ t us → t < termEnd
-
-getD-small : (us : List ℕ) (i : ℕ) → AllSmall us → getD us i 0 < 64
-getD-small [] i h = omega arith
-getD-small (u ∷ us) zero h = h u (List·Memᴰ·head refl)
-getD-small (u ∷ us) (suc i) h = getD-small us i (λ t m. h t (List·Memᴰ·tail m))
-
-from-places : (p : ℕ) (us : List ℕ) → AllSmall us → Places (atomFrom p us)
-from-places p us h = record { first-below = getD-small us 0 h; second-below = getD-small us 1 h; third-below = getD-small us 2 h; fourth-below = getD-small us 3 h }
+AllSmall us = (t : ℕ) → List·Memᴰ t us → t < termBase
 
 -- the label of predicate p and terms us has that predicate and those terms
 packed-terms : (ar : List ℕ) (p : ℕ) (us : List ℕ) (k : ℕ) → areArities ar ≡ true → length us ≡ getD ar p 0 → AllSmall us → packed (atomFrom p us) ≡ k
     → (predicateOf k ≡ p) × (termsOf ar (unpacked k) ≡ us)
-unfolding predicateOf termsOf unpacked
 packed-terms ar p us k g n h e =
     let a : unpacked k ≡ atomFrom p us = ap unpacked (sym e) ∙ unpacked-packed (atomFrom p us) (from-places p us h) in
-    let q : k / 16777216 ≡ p = ap (λ (x : Atom). x .predicate) a in (
-      q,
-      ap (termsOf ar) a ∙ ap (λ (m : ℕ). take m (getD us 0 0 ∷ getD us 1 0 ∷ getD us 2 0 ∷ getD us 3 0 ∷ [])) (sym n)
-          ∙ list-of us (omega (arith, arity-most ar p g)),
-    )
+    (sym (predicate-of k) ∙ ap (λ (x : Atom). x .predicate) a, ap (termsOf ar) a ∙ atom-terms ar p us g n)
 
 always-not : {A : Type 0} (k : ℕ) → Always ≡ Is (record { packed = k }) → A
 always-not k e = let z : _≡_ {A = ℕ} 0 1 = cc in absurd (omega arith)

@@ -3,7 +3,7 @@ use mathlib.Core.Path.{_≡_}
 use mathlib.Core.Bool.{true}
 use mathlib.Core.List.{List, List·Memᴰ}
 use Prim.Native.Nat.{ℕ, _<_}
-use Rattle.label.specs.Limits.{termEnd}
+use Rattle.label.specs.Limits.{termBase}
 use Rattle.label.specs.Labels.{areArities, isLabel}
 use Rattle.paths.specs.Paths.{Literal, Path, literals, termsIn}
 
@@ -20,4 +20,4 @@ pub record Searchable (ar : List ℕ) (ls : List Literal) (T : List ℕ) : Type 
   pub arities : areArities ar ≡ true
   pub labels : AllLabels ar ls
   pub holds-terms : (t : ℕ) → List·Memᴰ t (termsIn ar ls) → List·Memᴰ t T
-  pub small : (t : ℕ) → List·Memᴰ t T → t < termEnd
+  pub small : (t : ℕ) → List·Memᴰ t T → t < termBase

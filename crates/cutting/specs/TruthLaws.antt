@@ -10,7 +10,7 @@ use lib.ListN.{length-map}
 use lib.Dec.{eqb}
 use borrow.Author.Tests.{eqb-true, eqb-false, eq-eqb, ne-eqb, lt-leb}
 use Rattle.basics.specs.Tests.{Flag, isTrue, isFalse, flag}
-use Rattle.label.specs.Limits.{termEnd, firstVariable}
+use Rattle.label.specs.Limits.{termBase, firstVariable}
 use Rattle.label.specs.Terms.{isVariable}
 use Rattle.label.specs.Labels.{areArities, predicateOf, unpacked, termsOf}
 use Rattle.label.specs.Renamings.{moved}
@@ -24,7 +24,8 @@ use Rattle.apply.specs.ApplyLaws.{eval-node}
 use Rattle.paths.specs.Paths.{Literal, Step, Path, stepBefore, paths, literals, literalOf, termsIn, isEdge, through}
 use Rattle.cutting.specs.Match.{turned}
 use Rattle.cutting.specs.Cut.{Matched, plain, found, Replacement, MayGo, may, reduced, cutAt}
-use Rattle.cutting.specs.MovedLaws.{moved-asks, terms-length, Asked, straight, across, ask-is, ask-always}
+use Rattle.label.specs.ArityLaws.{terms-length}
+use Rattle.cutting.specs.MovedLaws.{moved-asks, Asked, straight, across, ask-is, ask-always}
 use Rattle.paths.specs.PathLaws.{mem-map, mem-unmap}
 use Rattle.cutting.specs.CoverLaws.{in-small}
 
@@ -59,7 +60,7 @@ module _ (ar : List ℕ) (good : areArities ar ≡ true) (s : State) (θ σ : �
       let r = ask-always ar (predicateOf l) (map σ (termsOf ar (unpacked l))) good (length-map (termsOf ar (unpacked l)) σ ∙ terms-length ar l good) (sym (moved-asks ar σ l good) ∙ e) in
       says-after l ∙ ap₂ (λ (p : ℕ) (us : List ℕ). truth s p (map θ us)) (r .0) (r .2) ∙ eq-eqb (θ (r .1)) (θ (r .1)) refl
 
-  moved-is : (l k : ℕ) → ((t : ℕ) → List·Memᴰ t (termsOf ar (unpacked l)) → σ t < termEnd) → moved ar σ l ≡ Is (record { packed = k })
+  moved-is : (l k : ℕ) → ((t : ℕ) → List·Memᴰ t (termsOf ar (unpacked l)) → σ t < termBase) → moved ar σ l ≡ Is (record { packed = k })
       → says ar s (λ t. θ (σ t)) l ≡ says ar s θ k
   unfolding holds atomOf
   moved-is l k small e =
@@ -68,7 +69,7 @@ module _ (ar : List ℕ) (good : areArities ar ≡ true) (s : State) (θ σ : �
       us : List ℕ
       us = map σ (termsOf ar (unpacked l))
 
-      below : (u : ℕ) → List·Memᴰ u us → u < termEnd
+      below : (u : ℕ) → List·Memᴰ u us → u < termBase
       below u m = let r = mem-unmap σ (termsOf ar (unpacked l)) u m in rw (r .2) (small (r .0) (r .1))
 
       go : Asked ar (predicateOf l) us k → truth s (predicateOf l) (map θ us) ≡ truth s (predicateOf k) (map θ (termsOf ar (unpacked k)))
@@ -189,10 +190,10 @@ module _ (ar : List ℕ) (good : areArities ar ≡ true) where
   cover-follows : (s : State) (θ : ℕ → ℕ) (p q : Path) (c : Replacement ar (literals p) (literals q)) → Follows (says ar s θ) p → Follows (says ar s (λ t. θ (c .σ t))) q
   cover-follows s θ p q c fo = record { each = λ l n. at l n (c .matched l n) }
     where
-      small : (l : Literal) → List·Memᴰ l (literals q) → (t : ℕ) → List·Memᴰ t (termsOf ar (unpacked (l .label))) → c .σ t < termEnd
+      small : (l : Literal) → List·Memᴰ l (literals q) → (t : ℕ) → List·Memᴰ t (termsOf ar (unpacked (l .label))) → c .σ t < termBase
       small l n t m = go (List·Memᴰ·append-cases (termsIn ar (literals p)) (c .terms l n t m))
         where
-          go : List·Memᴰ (c .σ t) (termsIn ar (literals p)) ⊎ List·Memᴰ (c .σ t) (termsIn ar (literals q)) → c .σ t < termEnd
+          go : List·Memᴰ (c .σ t) (termsIn ar (literals p)) ⊎ List·Memᴰ (c .σ t) (termsIn ar (literals q)) → c .σ t < termBase
           go (inl i) = in-small ar (literals p) (c .σ t) i
           go (inr i) = in-small ar (literals q) (c .σ t) i
 
@@ -202,7 +203,7 @@ module _ (ar : List ℕ) (good : areArities ar ≡ true) where
 
   low-fixed : (t : ℕ) → t < firstVariable → isVariable t ≡ false
   unfolding isVariable
-  low-fixed t h = rw (lt-leb 32 t h)
+  low-fixed t h = rw (lt-leb firstVariable t h)
 
   -- an edge that may go leaves the highest leaf
   pub cut-highest : (d r : Diagram) (b : Bool) → MayGo ar d b r → (s : State) (os : List ℕ) (x : ℕ) → Highest s os (meaning ar d) x → Highest s os (meaning ar (cutAt r b d)) x

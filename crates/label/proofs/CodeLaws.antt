@@ -14,8 +14,8 @@ use Rattle.label.specs.Terms.{isConstant, isParameter, isVariable, isTer
 use Rattle.label.specs.Labels.{areArities, allAtMost, placesOf, placeIn, atomFrom, packed, predicateOf, placeAt, unpacked, placeFits, inOrder, isAtom, isLabel}
 use Rattle.label.specs.Labels.{isLabelUnder, equalAtom, equates, testOf}
 use Rattle.label.specs.Renamings.{mapOf, placed, mapped, moved, renamed}
-use Rattle.label.specs.Callers.{Packable, TermMap, Mappable, Movable, Replaced}
-use Rattle.label.specs.LabelLaws.{places-below, below-places, place-of, predicate-of, place-fits, fits-list, label-fits, label-places}
+use Rattle.label.specs.Callers.{Places, Packable, TermMap, Mappable, Movable, Replaced}
+use Rattle.label.specs.LabelLaws.{places-below, below-places, place-of, predicate-of, place-fits, fits-list, label-fits, label-ends, label-places}
 use Rattle.label.specs.RenamingLaws.{mapped-place}
 use Rattle.label.specs.declared.Atom.{Atom}
 use Rattle.label.specs.declared.Label.{Label}
@@ -73,10 +73,10 @@ unfolding equates
 equate-more {t} {u} n h e f = rw (ne-eqb t u n, le-ltb t u h) (λ i. Is (record { packed = (f ∙ ap packed e) i }))
 
 -- what is known of the atom that two terms are equal
-pub equal-packs : {t u : ℕ} {a : Atom} → t < termEnd → u < termEnd → a ≡ equalAtom t u → Packable a
+pub equal-packs : {t u : ℕ} {a : Atom} → t < termBase → u < termBase → a ≡ equalAtom t u → Packable a
 equal-packs {t} {u} h k e = subst Packable (sym e) (record {
   predicate-below = omega arith;
-  places = record { first-below = h; second-below = k; third-below = omega arith; fourth-below = omega arith; fifth-below = omega arith; sixth-below = omega arith };
+  places = record { first-below = omega arith; second-below = omega arith; third-below = omega arith; fourth-below = omega arith; fifth-below = omega arith; sixth-below = omega arith };
 })
 
 -- pack
@@ -116,12 +116,12 @@ placed-below map m n k t h = go (flag (ltb k n))
     go (isTrue q) = rw q (m .below t h)
     go (isFalse q) = rw q (omega arith)
 
-mapped-packable : (map : List ℕ) → TermMap map → (n : ℕ) (a : Atom) → Packable a → Packable (mapped (mapOf map) n a)
-mapped-packable map m n a p = record {
+mapped-packable : (map : List ℕ) → TermMap map → (n : ℕ) (a : Atom) → Packable a → Places termEnd a → Packable (mapped (mapOf map) n a)
+mapped-packable map m n a p q = record {
   predicate-below = unfold mapped in (p .predicate-below);
   places =
-      below-places (mapped (mapOf map) n a)
-      (λ k h. subst (λ (t : ℕ). t < termEnd) (sym (mapped-place (mapOf map) n a k h)) (placed-below map m n k _ (places-below a (p .places) k h)));
+      below-places termBase (mapped (mapOf map) n a)
+      (λ k h. omega (arith, mapped-place (mapOf map) n a k h, placed-below map m n k _ (places-below a q k h)));
 }
 
 pub label-packable : (ar : List ℕ) (l : ℕ) → isLabel ar l ≡ true → Packable (unpacked l)
@@ -133,14 +133,14 @@ replaced-is {ar} {map} {l} {a} {r} m e f =
     let p : Packable a = rw e (label-packable ar l (m .label)) in
     record {
       atom = f ∙ ap (λ (x : Atom). mapped (mapOf map) (getD ar (x .predicate) 0) x) e ∙ ap (λ (x : ℕ). mapped (mapOf map) (getD ar x 0) (unpacked l)) (predicate-of l);
-      packable = rw f (mapped-packable map (m .terms) (getD ar (a .predicate) 0) a p);
+      packable = rw f (mapped-packable map (m .terms) (getD ar (a .predicate) 0) a p (rw e (label-ends ar l (m .label))));
     }
 
 pub read-packable : {ar map : List ℕ} {l : ℕ} {a : Atom} → Movable ar map l → a ≡ unpacked l → Packable a
 read-packable {ar} {map} {l} m e = rw e (label-packable ar l (m .label))
 
 pub read-mappable : {ar map : List ℕ} {l : ℕ} {a : Atom} → Movable ar map l → a ≡ unpacked l → Mappable a map
-read-mappable m e = record { whole = m .terms .whole; places = read-packable m e .places }
+read-mappable {ar} {map} {l} m e = record { whole = m .terms .whole; places = rw e (label-ends ar l (m .label)) }
 
 pub moved-is : {ar map : List ℕ} {l : ℕ} {a : Atom} {x : Test} → Replaced ar map l a → x ≡ testOf a → x ≡ moved ar (mapOf map) l
 unfolding moved

@@ -8,10 +8,10 @@ use lib.Dec.{eqb, leb}
 use lib.ListN.{length, getD, take}
 use borrow.Author.Tests.{eqb-true, leb-true}
 use Rattle.basics.specs.Tests.{and-left, and-right, Cmp, below, equal, above, cmp}
-use Rattle.label.specs.Limits.{predicateCount, mostPlaces, equality, equalityArity, termEnd}
-use Rattle.label.specs.Labels.{areArities, allAtMost, placesOf, placeIn, atomFrom, predicateOf, placeAt, unpacked, placeFits, isLabel, termsOf}
+use Rattle.label.specs.Limits.{predicateCount, mostPlaces, equality, equalityArity, termBase, termEnd}
+use Rattle.label.specs.Labels.{areArities, allAtMost, placesOf, placeIn, atomFrom, predicateOf, unpacked, isLabel, termsOf}
 use Rattle.label.specs.Callers.{Places}
-use Rattle.label.specs.LabelLaws.{below-places, place-below, unused-zero, atom-same, place-from, PlacesFit, label-fits, predicate-of}
+use Rattle.label.specs.LabelLaws.{places-below, below-places, place-base, place-of, label-ends, unused-zero, atom-same, place-from, PlacesFit, predicate-of}
 use Rattle.label.specs.declared.Atom.{Atom}
 
 at-most : (m : ℕ) (xs : List ℕ) (i : ℕ) → allAtMost m xs ≡ true → getD xs i 0 ≤ m
@@ -37,6 +37,16 @@ take-length : (n : ℕ) (xs : List ℕ) → n ≤ length xs → length (take n x
 take-length zero xs h = refl
 take-length (suc n) [] h = absurd (omega arith)
 take-length (suc n) (x ∷ xs) h = ap suc (take-length n xs (omega arith))
+
+take-most : (n : ℕ) (xs : List ℕ) → length (take n xs) ≤ n
+take-most zero xs = omega arith
+take-most (suc n) [] = omega arith
+take-most (suc n) (x ∷ xs) = let h = take-most n xs in omega arith
+
+take-short : (n : ℕ) (xs : List ℕ) → length (take n xs) ≤ length xs
+take-short zero xs = omega arith
+take-short (suc n) [] = omega arith
+take-short (suc n) (x ∷ xs) = let h = take-short n xs in omega arith
 
 pub take-at : (n : ℕ) (xs : List ℕ) (k : ℕ) → k < n → getD (take n xs) k 0 ≡ getD xs k 0
 take-at zero xs k h = absurd (omega arith)
@@ -67,21 +77,27 @@ pub term-at : (ar : List ℕ) (a : Atom) (k : ℕ) → k < getD ar (a .predicate
 unfolding termsOf
 term-at ar a k h = take-at (getD ar (a .predicate) 0) (placesOf a) k h
 
--- the terms of a label are below the end of the terms
-pub terms-below : (ar : List ℕ) (l : ℕ) → areArities ar ≡ true → isLabel ar l ≡ true → (t : ℕ) → List·Memᴰ t (termsOf ar (unpacked l)) → t < termEnd
-terms-below ar l g e = mem-at (λ t. t < termEnd) (termsOf ar (unpacked l)) below-end
+-- the terms of a label: what is so of all its places is so of them
+pub terms-are : (P : ℕ → Type 0) (ar : List ℕ) (a : Atom) → ((k : ℕ) → k < getD ar (a .predicate) 0 → k < mostPlaces → P (placeIn a k))
+    → (t : ℕ) → List·Memᴰ t (termsOf ar a) → P t
+unfolding termsOf
+terms-are P ar a f = mem-at P (take n (placesOf a)) (λ k h. subst P (sym (take-at n (placesOf a) k (few k h))) (f k (few k h) (short k h)))
   where
     n : ℕ
-    n = getD ar (unpacked l .predicate) 0
+    n = getD ar (a .predicate) 0
 
-    few : length (termsOf ar (unpacked l)) ≡ n
-    few = terms-length ar l g ∙ ap (λ (p : ℕ). getD ar p 0) (sym (predicate-of l))
+    few : (k : ℕ) → k < length (take n (placesOf a)) → k < n
+    few k h = omega (arith, take-most n (placesOf a))
 
-    below-end : (k : ℕ) → k < length (termsOf ar (unpacked l)) → getD (termsOf ar (unpacked l)) k 0 < termEnd
-    below-end k h =
-        let i : k < n = subst (λ (m : ℕ). k < m) few h in
-        subst (λ (t : ℕ). t < termEnd) (sym (term-at ar (unpacked l) k i))
-        (place-below n k _ (label-fits ar l e .places-fit .fits k (omega (arith, arity-most ar (unpacked l .predicate) g))))
+    short : (k : ℕ) → k < length (take n (placesOf a)) → k < mostPlaces
+    short k h = omega (arith, take-short n (placesOf a))
+
+-- they are below the base of the packing, and if it is a label below the end of the terms
+pub terms-below : (ar : List ℕ) (l t : ℕ) → List·Memᴰ t (termsOf ar (unpacked l)) → t < termBase
+terms-below ar l t m = terms-are (λ u. u < termBase) ar (unpacked l) (λ k h i. subst (λ (u : ℕ). u < termBase) (sym (place-of l k i)) (place-base l k)) t m
+
+pub terms-end : (ar : List ℕ) (l : ℕ) → isLabel ar l ≡ true → (t : ℕ) → List·Memᴰ t (termsOf ar (unpacked l)) → t < termEnd
+terms-end ar l e = terms-are (λ t. t < termEnd) ar (unpacked l) (λ k h i. places-below (unpacked l) (label-ends ar l e) k i)
 
 -- the places of an atom that fits are its terms, and 0
 pub terms-atom : (ar : List ℕ) (a : Atom) → PlacesFit (getD ar (a .predicate) 0) a → atomFrom (a .predicate) (termsOf ar a) ≡ a
@@ -114,11 +130,12 @@ unfolding termsOf
 atom-terms ar p us g e =
     ap (λ (n : ℕ). take n (placesOf (atomFrom p us))) (sym e) ∙ all-places us (omega (arith, arity-most ar p g)) p
 
--- its places are below the end of the terms if the terms are
-getD-below : (us : List ℕ) → ((t : ℕ) → List·Memᴰ t us → t < termEnd) → (k : ℕ) → getD us k 0 < termEnd
-getD-below [] h k = omega arith
-getD-below (u ∷ us) h zero = h u (List·Memᴰ·head refl)
-getD-below (u ∷ us) h (suc k) = getD-below us (λ t m. h t (List·Memᴰ·tail m)) k
+-- its places are below n if the terms are
+getD-below : (n : ℕ) (us : List ℕ) → 0 < n → ((t : ℕ) → List·Memᴰ t us → t < n) → (k : ℕ) → getD us k 0 < n
+getD-below n [] z h k = z
+getD-below n (u ∷ us) z h zero = h u (List·Memᴰ·head refl)
+getD-below n (u ∷ us) z h (suc k) = getD-below n us z (λ t m. h t (List·Memᴰ·tail m)) k
 
-pub from-places : (p : ℕ) (us : List ℕ) → ((t : ℕ) → List·Memᴰ t us → t < termEnd) → Places (atomFrom p us)
-from-places p us h = below-places (atomFrom p us) (λ k i. subst (λ (t : ℕ). t < termEnd) (sym (place-from p us k i)) (getD-below us h k))
+pub from-places : (p : ℕ) (us : List ℕ) → ((t : ℕ) → List·Memᴰ t us → t < termBase) → Places termBase (atomFrom p us)
+from-places p us h =
+    below-places termBase (atomFrom p us) (λ k i. subst (λ (t : ℕ). t < termBase) (sym (place-from p us k i)) (getD-below termBase us (omega arith) h k))

@@ -4,24 +4,24 @@ use mathlib.Core.Path.{_≡_}
 use mathlib.Core.Bool.{true}
 use Prim.Native.Nat.{ℕ, _≤_, _<_}
 use lib.ListN.{length, getD}
-use Rattle.label.specs.Limits.{predicateCount, termEnd}
+use Rattle.label.specs.Limits.{predicateCount, termBase, termEnd}
 use Rattle.label.specs.Labels.{isLabel, predicateOf, unpacked}
 use Rattle.label.specs.Renamings.{mapOf, mapped}
 use Rattle.label.specs.declared.Atom.{Atom}
 
--- every place is below the end of the terms
-pub record Places (a : Atom) : Type 0 where
-  pub first-below : a .first < termEnd
-  pub second-below : a .second < termEnd
-  pub third-below : a .third < termEnd
-  pub fourth-below : a .fourth < termEnd
-  pub fifth-below : a .fifth < termEnd
-  pub sixth-below : a .sixth < termEnd
+-- every place is below n
+pub record Places (n : ℕ) (a : Atom) : Type 0 where
+  pub first-below : a .first < n
+  pub second-below : a .second < n
+  pub third-below : a .third < n
+  pub fourth-below : a .fourth < n
+  pub fifth-below : a .fifth < n
+  pub sixth-below : a .sixth < n
 
 -- an atom that packs
 pub record Packable (a : Atom) : Type 0 where
   pub predicate-below : a .predicate < predicateCount
-  pub places : Places a
+  pub places : Places termBase a
 
 -- a lent map of terms: a term for each term
 pub record TermMap (map : List ℕ) : Type 0 where
@@ -31,7 +31,7 @@ pub record TermMap (map : List ℕ) : Type 0 where
 -- an atom whose places the map has
 pub record Mappable (a : Atom) (map : List ℕ) : Type 0 where
   pub whole : termEnd ≤ length map
-  pub places : Places a
+  pub places : Places termEnd a
 
 -- a label and a map of its terms
 pub record Movable (ar map : List ℕ) (l : ℕ) : Type 0 where

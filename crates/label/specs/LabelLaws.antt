@@ -54,12 +54,12 @@ each-place P p₀ p₁ p₂ p₃ p₄ p₅ (suc (suc (suc (suc zero)))) h = p₄
 each-place P p₀ p₁ p₂ p₃ p₄ p₅ (suc (suc (suc (suc (suc zero))))) h = p₅
 each-place P p₀ p₁ p₂ p₃ p₄ p₅ (suc (suc (suc (suc (suc (suc k)))))) h = absurd (omega arith)
 
--- the places of an atom that are below the end of the terms, by index
-pub places-below : (a : Atom) → Places a → (k : ℕ) → k < mostPlaces → placeIn a k < termEnd
-places-below a p = each-place (λ k. placeIn a k < termEnd) (p .first-below) (p .second-below) (p .third-below) (p .fourth-below) (p .fifth-below) (p .sixth-below)
+-- places below n, by index
+pub places-below : {n : ℕ} (a : Atom) → Places n a → (k : ℕ) → k < mostPlaces → placeIn a k < n
+places-below {n} a p = each-place (λ k. placeIn a k < n) (p .first-below) (p .second-below) (p .third-below) (p .fourth-below) (p .fifth-below) (p .sixth-below)
 
-pub below-places : (a : Atom) → ((k : ℕ) → k < mostPlaces → placeIn a k < termEnd) → Places a
-below-places a h = record {
+pub below-places : (n : ℕ) (a : Atom) → ((k : ℕ) → k < mostPlaces → placeIn a k < n) → Places n a
+below-places n a h = record {
   first-below = h 0 (omega arith);
   second-below = h 1 (omega arith);
   third-below = h 2 (omega arith);
@@ -126,8 +126,12 @@ fits-atom ar a f =
     let e = fits-list n 0 (placesOf a) (λ k h. subst (λ (i : ℕ). placeFits n i (placeIn a k) ≡ true) (omega arith) (f .places-fit .fits k h)) in
     rw (lt-ltb (a .predicate) predicateCount (f .predicate-fits), e, f .ordered)
 
-pub atom-places : (ar : List ℕ) (a : Atom) → isAtom ar a ≡ true → Places a
-atom-places ar a e = below-places a (λ k h. place-below _ k _ (atom-fits ar a e .places-fit .fits k h))
+pub atom-ends : (ar : List ℕ) (a : Atom) → isAtom ar a ≡ true → Places termEnd a
+atom-ends ar a e = below-places termEnd a (λ k h. place-below _ k _ (atom-fits ar a e .places-fit .fits k h))
+
+-- and so below the base of the packing
+pub atom-places : (ar : List ℕ) (a : Atom) → isAtom ar a ≡ true → Places termBase a
+atom-places ar a e = below-places termBase a (λ k h. omega (arith, places-below a (atom-ends ar a e) k h))
 
 -- packing and unpacking are inverse
 module _ (l : ℕ) where
@@ -158,7 +162,7 @@ pub packed-unpacked : (l : ℕ) → packed (unpacked l) ≡ l
 unfolding packed unpacked predicateOf placeAt
 packed-unpacked l = digits l _ _ _ _ _ _ _ _ _ _ _ _ (last-digit l) (digit-4 l) (digit-3 l) (digit-2 l) (digit-1 l) (digit-0 l)
 
-module _ (a : Atom) (p : Places a) where
+module _ (a : Atom) (p : Places termBase a) where
   predicate-back : predicateOf (packed a) ≡ a .predicate
   unfolding packed predicateOf
   predicate-back =
@@ -189,7 +193,7 @@ pub predicate-of : (l : ℕ) → unpacked l .predicate ≡ predicateOf l
 unfolding unpacked
 predicate-of l = refl
 
-pub unpacked-packed : (a : Atom) → Places a → unpacked (packed a) ≡ a
+pub unpacked-packed : (a : Atom) → Places termBase a → unpacked (packed a) ≡ a
 unfolding unpacked
 unpacked-packed a p = atom-same (unpacked (packed a)) a (predicate-back a p) (λ k h. place-of (packed a) k h ∙ place-back a p k h)
 
@@ -199,11 +203,15 @@ unfolding placeAt
 place-base l k = omega arith
 
 -- the labels are the packed atoms
-pub label-packed : (ar : List ℕ) (a : Atom) → Places a → isLabel ar (packed a) ≡ isAtom ar a
+pub label-packed : (ar : List ℕ) (a : Atom) → Places termBase a → isLabel ar (packed a) ≡ isAtom ar a
 unfolding isLabel
 label-packed ar a p = ap (isAtom ar) (unpacked-packed a p)
 
-pub label-places : (ar : List ℕ) (l : ℕ) → isLabel ar l ≡ true → Places (unpacked l)
+pub label-ends : (ar : List ℕ) (l : ℕ) → isLabel ar l ≡ true → Places termEnd (unpacked l)
+unfolding isLabel
+label-ends ar l e = atom-ends ar (unpacked l) e
+
+pub label-places : (ar : List ℕ) (l : ℕ) → isLabel ar l ≡ true → Places termBase (unpacked l)
 unfolding isLabel
 label-places ar l e = atom-places ar (unpacked l) e
 

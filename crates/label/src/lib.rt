@@ -2,7 +2,7 @@
 ghost use mathlib.Core.Path.{_≡_};
 ghost use Prim.Native.Nat.{_+_, _*_, _<_, _≤_};
 ghost use lib.ListN.{length};
-ghost use Rattle.label.specs.Limits.{constantCount, parameterCount, variableCount, termEnd, mostPlaces, predicateCount};
+ghost use Rattle.label.specs.Limits.{constantCount, parameterCount, variableCount, termBase, mostPlaces, predicateCount};
 ghost use Rattle.label.specs.Terms.{isTerm, kindOf, constantTerm, parameterTerm, variableTerm};
 ghost use Rattle.label.specs.Labels.{areArities, packed, predicateOf, placeAt, unpacked, placeFits, isLabel, isLabelUnder, equalAtom, equates, testOf};
 ghost use Rattle.label.specs.Order.{Compared};
@@ -286,8 +286,8 @@ fn equal(t: u64, u: u64) -> Atom
 
 // What the equality of two terms asks.
 pub fn equate(t: u64, u: u64) -> Test
-    requires { ⌜ t < termEnd ⌝ }
-    requires { ⌜ u < termEnd ⌝ }
+    requires { ⌜ t < termBase ⌝ }
+    requires { ⌜ u < termBase ⌝ }
     ensures { λ r. ⌜ r ≡ equates t u ⌝ }
 {
     if t == u {

@@ -10,15 +10,15 @@ use lib.Seq.{getD-set-same, getD-set-other, drop-set-add, take-suc-set}
 use lib.Dec.{eqb}
 use borrow.Author.Tests.{ne-eqb, eqb-true, eqb-false}
 use Rattle.basics.specs.Tests.{Cmp, cmp, below, equal, above, Flag, isTrue, isFalse, flag}
-use Rattle.label.specs.Limits.{leafMark}
+use Rattle.label.specs.Limits.{termEnd, leafMark}
 use Rattle.diagram.specs.Diagram.{Diagram, leaf, branch, same}
 use Rattle.diagram.specs.DiagramLaws.{same-refl}
 use Rattle.diagram.specs.Words.{labelAt, highAt, lowAt}
 use Rattle.diagram.specs.Validity.{tree}
 use Rattle.diagram.specs.Shown.{same-eqb}
-use Rattle.paths.specs.Paths.{Path, stepBefore, paths, literals, isEdge, through}
+use Rattle.paths.specs.Paths.{mostPaths, Path, stepBefore, paths, literals, isEdge, through}
 use Rattle.paths.specs.PathLaws.{paths-leaf, paths-branch, path-short, path-high, path-low, path-in, codes-length, codes-step}
-use Rattle.paths.specs.Routes.{codes, stepOn, pathAt, Rows, Counted, At, Sided, Entered}
+use Rattle.paths.specs.Routes.{codes, stepOn, pathAt, labelEnd, Rows, Counted, At, Sided, Entered}
 use Rattle.paths.specs.Walking.{Stepped, Rest, RestOver, Coming}
 use Rattle.paths.specs.declared.Here.{Here}
 
@@ -33,10 +33,10 @@ module _ {ws : List ℕ} {n : ℕ} (w : Rows ws n) {i : ℕ} (h : i < n) where
   branch-kids : (getD ws (i * 3) 0 ≡ leafMark → ⊥) → (getD ws (i * 3 + 1) 0 < i) × (getD ws (i * 3 + 2) 0 < i)
   branch-kids e = unfold labelAt highAt lowAt in (w .shown .kids i h (unfold labelAt in e))
 
-  label-most : (getD ws (i * 3) 0 ≡ leafMark → ⊥) → getD ws (i * 3) 0 < 536870912
+  label-most : (getD ws (i * 3) 0 ≡ leafMark → ⊥) → getD ws (i * 3) 0 < labelEnd
   label-most e = unfold labelAt in (w .labels i h (unfold labelAt in e))
 
-  pub count-leaf : getD ws (i * 3) 0 ≡ leafMark → 1 ≡ min 257 (length (paths (tree ws i)))
+  pub count-leaf : getD ws (i * 3) 0 ≡ leafMark → 1 ≡ min (suc mostPaths) (length (paths (tree ws i)))
   count-leaf e =
       let p = ap (λ (d : Diagram). length (paths d)) (leaf-tree e) in
       omega (arith, paths-leaf (getD ws (i * 3 + 1) 0))
@@ -48,10 +48,10 @@ module _ {ws : List ℕ} {n : ℕ} (w : Rows ws n) {i : ℕ} (h : i < n) where
     pub low-room : getD ws (i * 3 + 2) 0 < length counts
     low-room = omega (arith, branch-kids e .1, c .room)
 
-    count-high : getD counts (getD ws (i * 3 + 1) 0) 0 ≡ min 257 (length (paths (tree ws (getD ws (i * 3 + 1) 0))))
+    count-high : getD counts (getD ws (i * 3 + 1) 0) 0 ≡ min (suc mostPaths) (length (paths (tree ws (getD ws (i * 3 + 1) 0))))
     count-high = c .each (getD ws (i * 3 + 1) 0) (omega (arith, branch-kids e .0))
 
-    count-low : getD counts (getD ws (i * 3 + 2) 0) 0 ≡ min 257 (length (paths (tree ws (getD ws (i * 3 + 2) 0))))
+    count-low : getD counts (getD ws (i * 3 + 2) 0) 0 ≡ min (suc mostPaths) (length (paths (tree ws (getD ws (i * 3 + 2) 0))))
     count-low = c .each (getD ws (i * 3 + 2) 0) (omega (arith, branch-kids e .1))
 
     count-tree : length (paths (tree ws i)) ≡ length (paths (tree ws (getD ws (i * 3 + 1) 0))) + length (paths (tree ws (getD ws (i * 3 + 2) 0)))
@@ -60,11 +60,11 @@ module _ {ws : List ℕ} {n : ℕ} (w : Rows ws n) {i : ℕ} (h : i < n) where
     pub sum-small : getD counts (getD ws (i * 3 + 1) 0) 0 + getD counts (getD ws (i * 3 + 2) 0) 0 ≤ 514
     sum-small = omega (arith, count-high, count-low)
 
-    pub count-more : 256 < getD counts (getD ws (i * 3 + 1) 0) 0 + getD counts (getD ws (i * 3 + 2) 0) 0 → 257 ≡ min 257 (length (paths (tree ws i)))
+    pub count-more : mostPaths < getD counts (getD ws (i * 3 + 1) 0) 0 + getD counts (getD ws (i * 3 + 2) 0) 0 → suc mostPaths ≡ min (suc mostPaths) (length (paths (tree ws i)))
     count-more k = omega (arith, count-high, count-low, count-tree)
 
-    pub count-sum : getD counts (getD ws (i * 3 + 1) 0) 0 + getD counts (getD ws (i * 3 + 2) 0) 0 ≤ 256
-        → getD counts (getD ws (i * 3 + 1) 0) 0 + getD counts (getD ws (i * 3 + 2) 0) 0 ≡ min 257 (length (paths (tree ws i)))
+    pub count-sum : getD counts (getD ws (i * 3 + 1) 0) 0 + getD counts (getD ws (i * 3 + 2) 0) 0 ≤ mostPaths
+        → getD counts (getD ws (i * 3 + 1) 0) 0 + getD counts (getD ws (i * 3 + 2) 0) 0 ≡ min (suc mostPaths) (length (paths (tree ws i)))
     count-sum k = omega (arith, count-high, count-low, count-tree)
 
 pub leaf-label : (ws : List ℕ) (i : ℕ) → (getD ws (i * 3) 0 ≡ leafMark → ⊥) → labelAt ws i ≡ leafMark → ⊥
@@ -75,12 +75,12 @@ leaf-label ws i e = e
 pub counted-none : (ws counts : List ℕ) → Counted ws counts 0
 counted-none ws counts = record { room = omega arith; each = λ i h. absurd (omega arith) }
 
-pub counted-more : {ws counts : List ℕ} {i r : ℕ} → Counted ws counts i → i < length counts → r ≡ min 257 (length (paths (tree ws i))) → Counted ws (set counts i r) (i + 1)
+pub counted-more : {ws counts : List ℕ} {i r : ℕ} → Counted ws counts i → i < length counts → r ≡ min (suc mostPaths) (length (paths (tree ws i))) → Counted ws (set counts i r) (i + 1)
 counted-more {ws} {counts} {i} {r} c h e = record { room = omega (arith, length-set counts i r); each = λ j l. at j l (cmp j i) }
   where
-    at : (j : ℕ) → j < i + 1 → Cmp j i → getD (set counts i r) j 0 ≡ min 257 (length (paths (tree ws j)))
+    at : (j : ℕ) → j < i + 1 → Cmp j i → getD (set counts i r) j 0 ≡ min (suc mostPaths) (length (paths (tree ws j)))
     at j l (below q) = getD-set-other counts i j r 0 (omega arith) ∙ c .each j q
-    at j l (equal q) = ap (λ (m : ℕ). getD (set counts i r) m 0) q ∙ getD-set-same counts i r 0 h ∙ e ∙ ap (λ (m : ℕ). min 257 (length (paths (tree ws m)))) (sym q)
+    at j l (equal q) = ap (λ (m : ℕ). getD (set counts i r) m 0) q ∙ getD-set-same counts i r 0 h ∙ e ∙ ap (λ (m : ℕ). min (suc mostPaths) (length (paths (tree ws m)))) (sym q)
     at j l (above q) = absurd (omega arith)
 
 pub counted-all : {ws counts : List ℕ} {n i l : ℕ} → Counted ws counts i → n ≤ i → n ≤ l → length counts ≡ l → Counted ws counts n
@@ -94,7 +94,7 @@ module _ {ws counts : List ℕ} {n i k : ℕ} (w : Rows ws n) (c : Counted ws co
   pub step-room : getD ws (i * 3 + 1) 0 < length counts
   step-room = high-room w (a .row) e c (omega (arith, a .row))
 
-  pub step-label : getD ws (i * 3) 0 < 536870912
+  pub step-label : getD ws (i * 3) 0 < labelEnd
   step-label = label-most w (a .row) e
 
   exact : getD counts (getD ws (i * 3 + 1) 0) 0 ≡ length (paths (tree ws (getD ws (i * 3 + 1) 0)))
@@ -288,25 +288,25 @@ module _ {ws : List ℕ} {n : ℕ} (w : Rows ws n) where
   pub coming-start : {k : ℕ} (out : List ℕ) → At ws n (n - 1) k → Coming ws n (n - 1) k out out (n - 1) k 0
   coming-start out a = record { at = a; so-far = refl; length-kept = refl; kept = λ t h. refl }
 
-  module _ {r k : ℕ} {out₀ out : List ℕ} {i m j : ℕ} (q : Coming ws n r k out₀ out i m j) (room : 320 ≤ length out₀) (a : At ws n r k) where
-    short : j + length (codes (pathAt (tree ws i) m)) < 256
+  module _ {r k : ℕ} {out₀ out : List ℕ} {i m j : ℕ} (q : Coming ws n r k out₀ out i m j) (room : termEnd + mostPaths ≤ length out₀) (a : At ws n r k) where
+    short : j + length (codes (pathAt (tree ws i) m)) < mostPaths
     short =
         let e = ap length (q .so-far) in
         let p = path-short (tree ws r) (pathAt (tree ws r) k) (path-in (tree ws r) k (a .path)) in
         omega (
           arith,
           e,
-          length-append (take j (drop 64 out)) (codes (pathAt (tree ws i) m)),
+          length-append (take j (drop termEnd out)) (codes (pathAt (tree ws i) m)),
           codes-length (pathAt (tree ws r) k),
           p,
           a .few,
-          length-take j (drop 64 out),
-          length-drop 64 out,
+          length-take j (drop termEnd out),
+          length-drop termEnd out,
           q .length-kept,
         )
 
     pub coming-end : getD ws (i * 3) 0 ≡ leafMark → Entered ws r k out₀ out j
-    coming-end e = record { are = sym (append-nil (take j (drop 64 out))) ∙ ap (λ (xs : List ℕ). take j (drop 64 out) ++ xs) (sym none) ∙ q .so-far; few = omega (arith, short); kept = q .kept }
+    coming-end e = record { are = sym (append-nil (take j (drop termEnd out))) ∙ ap (λ (xs : List ℕ). take j (drop termEnd out) ++ xs) (sym none) ∙ q .so-far; few = omega (arith, short); kept = q .kept }
       where
         none : codes (pathAt (tree ws i) m) ≡ []
         none = ap (λ (d : Diagram). codes (pathAt d m)) (leaf-tree w (q .at .row) e) ∙ (unfold codes pathAt literals in refl)
@@ -315,22 +315,22 @@ module _ {ws : List ℕ} {n : ℕ} (w : Rows ws n) where
       codes-next : codes (pathAt (tree ws i) m) ≡ s .code ∷ codes (pathAt (tree ws (s .row)) (s .rest))
       codes-next = ap codes (t .is) ∙ codes-step _ (pathAt (tree ws (s .row)) (s .rest)) ∙ ap (λ (c : ℕ). c ∷ codes (pathAt (tree ws (s .row)) (s .rest))) (sym (t .code))
 
-      pub coming-room : 64 + j < length out
+      pub coming-room : termEnd + j < length out
       coming-room = omega (arith, short, q .length-kept)
 
-      pub coming-few : j < 256
+      pub coming-few : j < mostPaths
       coming-few = omega (arith, short)
 
-      pub coming-next : Coming ws n r k out₀ (set out (64 + j) (s .code)) (s .row) (s .rest) (j + 1)
+      pub coming-next : Coming ws n r k out₀ (set out (termEnd + j) (s .code)) (s .row) (s .rest) (j + 1)
       coming-next = record {
         at = t .at;
         so-far = ap (λ (xs : List ℕ). xs ++ codes (pathAt (tree ws (s .row)) (s .rest))) taken
-            ∙ append-assoc (take j (drop 64 out)) (s .code ∷ []) (codes (pathAt (tree ws (s .row)) (s .rest)))
-            ∙ ap (λ (xs : List ℕ). take j (drop 64 out) ++ xs) (sym codes-next) ∙ q .so-far;
-        length-kept = length-set out (64 + j) (s .code) ∙ q .length-kept;
-        kept = λ v h. getD-set-other out (64 + j) v (s .code) 0 (omega arith) ∙ q .kept v h;
+            ∙ append-assoc (take j (drop termEnd out)) (s .code ∷ []) (codes (pathAt (tree ws (s .row)) (s .rest)))
+            ∙ ap (λ (xs : List ℕ). take j (drop termEnd out) ++ xs) (sym codes-next) ∙ q .so-far;
+        length-kept = length-set out (termEnd + j) (s .code) ∙ q .length-kept;
+        kept = λ v h. getD-set-other out (termEnd + j) v (s .code) 0 (omega arith) ∙ q .kept v h;
       }
         where
-          taken : take (j + 1) (drop 64 (set out (64 + j) (s .code))) ≡ take j (drop 64 out) ++ (s .code ∷ [])
-          taken = ap₂ (λ (i : ℕ) (xs : List ℕ). take i xs) (add-one j) (drop-set-add 64 out j (s .code))
-              ∙ take-suc-set (drop 64 out) j (s .code) (omega (arith, length-drop 64 out, coming-room))
+          taken : take (j + 1) (drop termEnd (set out (termEnd + j) (s .code))) ≡ take j (drop termEnd out) ++ (s .code ∷ [])
+          taken = ap₂ (λ (i : ℕ) (xs : List ℕ). take i xs) (add-one j) (drop-set-add termEnd out j (s .code))
+              ∙ take-suc-set (drop termEnd out) j (s .code) (omega (arith, length-drop termEnd out, coming-room))

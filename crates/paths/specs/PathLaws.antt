@@ -10,7 +10,8 @@ use lib.Seq.{ext-getD, getD-append-add}
 use borrow.Author.Tests.{lt-ltb, le-ltb}
 use Rattle.basics.specs.Tests.{Flag, isTrue, isFalse, flag, Cmp, cmp, below, equal, above}
 use Rattle.basics.specs.Members.{mem}
-use Rattle.label.specs.Labels.{isLabel, unpacked}
+use Rattle.label.specs.Limits.{predicateCount, predicateWeight}
+use Rattle.label.specs.Labels.{isLabel, predicateOf, unpacked}
 use Rattle.label.specs.LabelLaws.{label-fits}
 use Rattle.diagram.specs.Diagram.{Diagram, leaf, branch, same}
 use Rattle.diagram.specs.DiagramLaws.{onto-old, onto-leaf, onto-branch}
@@ -24,7 +25,7 @@ use Rattle.diagram.specs.RowDiagrams.{branch-row}
 use Rattle.diagram.specs.DiagramOfListing.{valid-rows, shown-rows, rows-are}
 use Rattle.diagram.specs.ListingValid.{listing-is-valid}
 use Rattle.paths.specs.Paths.{Step, Path, stepBefore, paths, literals, literalOf}
-use Rattle.paths.specs.Routes.{bit, codeOf, codes, stepOn, pathAt, Rows}
+use Rattle.paths.specs.Routes.{bit, codeOf, codes, stepOn, pathAt, labelEnd, Rows}
 
 -- members of a list under a map
 pub mem-map : {A B : Type 0} (f : A → B) (l : List A) (a : A) → List·Memᴰ a l → List·Memᴰ (f a) (map f l)
@@ -183,10 +184,10 @@ paths-are d =
 
 -- ===== The rows of a listing =====
 -- a label has one of 32 predicates
-label-most : (ar : List ℕ) (l : ℕ) → isLabel ar l ≡ true → l < 536870912
-unfolding unpacked
+label-most : (ar : List ℕ) (l : ℕ) → isLabel ar l ≡ true → l < labelEnd
+unfolding unpacked predicateOf
 label-most ar l e =
-    let h : l / 16777216 < 32 = label-fits ar l e .predicate-fits in
+    let h : l / predicateWeight < predicateCount = label-fits ar l e .predicate-fits in
     omega arith
 
 pub listing-rows : (ar ws : List ℕ) → isListing ar ws ≡ true → Rows ws (rowCount ws)

@@ -2,19 +2,19 @@
 use label::Label;
 use label::Term;
 ghost use mathlib.Core.Path.{_≡_};
-ghost use Prim.Native.Nat.{_+_, _-_, _*_, _<_, _≤_, min};
+ghost use Prim.Native.Nat.{suc, _+_, _-_, _*_, _<_, _≤_, min};
 ghost use lib.ListN.{length};
-ghost use Rattle.label.specs.Limits.{leafMark};
+ghost use Rattle.label.specs.Limits.{termEnd, leafMark};
 ghost use Rattle.diagram.specs.Words.{labelAt};
 ghost use Rattle.diagram.specs.Validity.{tree};
-ghost use Rattle.paths.specs.Paths.{paths};
+ghost use Rattle.paths.specs.Paths.{mostPaths, paths};
 ghost use Rattle.paths.specs.Routes.{Rows, Counted, At, pathAt, Sided, Entered};
 ghost use Rattle.paths.specs.Walking.{Stepped};
 
 // Paths of a diagram at most, over which a cut is refused.
 pub const PATHS: usize = 256;
 // What is counted where there are more.
-const MANY: u64 = 257;
+const MANY: u64 = PATHS as u64 + 1;
 // A mark for each term stands before the literals of a path.
 const MARKS: usize = Term::END as usize;
 
@@ -30,7 +30,7 @@ fn count_row(words: &[u64], counts: &[u64], n: usize, i: usize) -> u64
     requires { ⌜ Rows (now words) n ⌝ }
     requires { ⌜ Counted (now words) (now counts) i ⌝ }
     requires { ⌜ i < n ⌝ }
-    ensures { λ r. ⌜ r ≡ min 257 (length (paths (tree (now (words .entry)) i))) ⌝ }
+    ensures { λ r. ⌜ r ≡ min (suc mostPaths) (length (paths (tree (now (words .entry)) i))) ⌝ }
 {
     if words[i * 3] == Label::LEAF {
         return 1;
@@ -128,12 +128,12 @@ pub fn side_of(words: &[u64], counts: &[u64], n: usize, k: u64, r: usize) -> u64
     2
 }
 
-// Writes the literals of path k behind the first 64 entries, and answers how many they are.
-pub fn path_into(words: &[u64], counts: &[u64], n: usize, k: u64, out: &mut [u32]) -> usize
+// Writes the literals of path k behind the marks, and answers how many they are.
+pub fn path_into(words: &[u64], counts: &[u64], n: usize, k: u64, out: &mut [u64]) -> usize
     requires { ⌜ Rows (now words) n ⌝ }
     requires { ⌜ Counted (now words) (now counts) n ⌝ }
     requires { ⌜ At (now words) n (n - 1) k ⌝ }
-    requires { ⌜ 320 ≤ length (now out) ⌝ }
+    requires { ⌜ termEnd + mostPaths ≤ length (now out) ⌝ }
     ensures { λ j. ⌜ Entered (now (words .entry)) (n - 1) k (now (out .entry)) (now (out .exit)) j ⌝ }
 {
     let mut i = n - 1;
@@ -141,7 +141,7 @@ pub fn path_into(words: &[u64], counts: &[u64], n: usize, k: u64, out: &mut [u32
     let mut j = 0;
     while words[i * 3] != Label::LEAF {
         let s = step_on(words, counts, n, i, m);
-        out[MARKS + j] = s.code as u32;
+        out[MARKS + j] = s.code;
         i = s.row;
         m = s.rest;
         j += 1;

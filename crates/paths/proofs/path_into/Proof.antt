@@ -33,41 +33,38 @@ step-on-requires c κs =
     let entry = c .before .before .before .before .before .before .pre in
     (entry .0, (entry .1 .0, (loop .inv .at, leaf-label _ _ (c .if1 .taken))))
 
-cast-out : tie.Need-cast-out Inv-loop μ-loop
-cast-out c = omega (arith, c .before .step-on .ensures .small)
-
 add-out : tie.Need-add-out Inv-loop μ-loop
 add-out c =
-    let loop = c .before .before .before .before .loop in
-    let entry = c .before .before .before .before .before .before .before .before .pre in
-    omega (arith, coming-few (entry .0) (loop .inv) (entry .1 .1 .1) (entry .1 .1 .0) (c .before .step-on .ensures))
+    let loop = c .before .before .before .loop in
+    let entry = c .before .before .before .before .before .before .before .pre in
+    omega (arith, coming-few (entry .0) (loop .inv) (entry .1 .1 .1) (entry .1 .1 .0) (c .step-on .ensures))
 
 mul-out : tie.Need-mul-out Inv-loop μ-loop
 mul-out c =
-    let loop = c .before .before .before .before .loop in
-    let entry = c .before .before .before .before .before .before .before .before .pre in
-    omega (arith, coming-few (entry .0) (loop .inv) (entry .1 .1 .1) (entry .1 .1 .0) (c .before .step-on .ensures))
+    let loop = c .before .before .before .loop in
+    let entry = c .before .before .before .before .before .before .before .pre in
+    omega (arith, coming-few (entry .0) (loop .inv) (entry .1 .1 .1) (entry .1 .1 .0) (c .step-on .ensures))
 
 slice-write-out : tie.Need-slice-write-out Inv-loop μ-loop
 slice-write-out c =
-    let loop = c .before .before .before .before .loop in
-    let entry = c .before .before .before .before .before .before .before .before .pre in
-    coming-room (entry .0) (loop .inv) (entry .1 .1 .1) (entry .1 .1 .0) (c .before .step-on .ensures)
+    let loop = c .before .before .before .loop in
+    let entry = c .before .before .before .before .before .before .before .pre in
+    coming-room (entry .0) (loop .inv) (entry .1 .1 .1) (entry .1 .1 .0) (c .step-on .ensures)
 
 add-j : tie.Need-add-j Inv-loop μ-loop
 add-j c =
-    let loop = c .before .before .before .before .loop in
-    let entry = c .before .before .before .before .before .before .before .before .pre in
-    omega (arith, coming-few (entry .0) (loop .inv) (entry .1 .1 .1) (entry .1 .1 .0) (c .before .step-on .ensures))
+    let loop = c .before .before .before .loop in
+    let entry = c .before .before .before .before .before .before .before .pre in
+    omega (arith, coming-few (entry .0) (loop .inv) (entry .1 .1 .1) (entry .1 .1 .0) (c .step-on .ensures))
 
 loop-less : tie.Need-loop-less Inv-loop μ-loop
-loop-less c = c .before .step-on .ensures .before
+loop-less c = c .step-on .ensures .before
 
 loop-again : tie.Need-loop-again Inv-loop μ-loop
 loop-again c =
-    let loop = c .before .before .before .before .loop in
-    let entry = c .before .before .before .before .before .before .before .before .pre in
-    coming-next (entry .0) (loop .inv) (entry .1 .1 .1) (entry .1 .1 .0) (c .before .step-on .ensures)
+    let loop = c .before .before .before .loop in
+    let entry = c .before .before .before .before .before .before .before .pre in
+    coming-next (entry .0) (loop .inv) (entry .1 .1 .1) (entry .1 .1 .0) (c .step-on .ensures)
 
 same-length : tie.Need-same-length Inv-loop μ-loop
 same-length c = c .before .before .loop .inv .length-kept
@@ -81,4 +78,4 @@ returns c =
 pub path-into-spec : {M : Type 1} → statement M
 path-into-spec =
     tie.close
-    (tie.spec Inv-loop μ-loop sub-i loop-holds mul-if1 mul-if1-2 shared-slice-read-if1 step-on-requires cast-out add-out mul-out slice-write-out add-j loop-less loop-again same-length returns)
+    (tie.spec Inv-loop μ-loop sub-i loop-holds mul-if1 mul-if1-2 shared-slice-read-if1 step-on-requires add-out mul-out slice-write-out add-j loop-less loop-again same-length returns)
