@@ -45,7 +45,7 @@ used-terms ρ n k zero e ts = refl
 used-terms ρ n k (suc m) e [] = refl
 used-terms ρ n k (suc m) e (t ∷ ts) = ap₂ _∷_ (placed-used ρ n k t (omega arith)) (used-terms ρ n (suc k) m (omega arith) ts)
 
-mapped-terms : (ρ : ℕ → ℕ) (n : ℕ) (a : Atom) → take n (placesOf (mapped ρ n a)) ≡ map ρ (take n (placesOf a))
+pub mapped-terms : (ρ : ℕ → ℕ) (n : ℕ) (a : Atom) → take n (placesOf (mapped ρ n a)) ≡ map ρ (take n (placesOf a))
 unfolding mapped
 mapped-terms ρ n a = used-terms ρ n 0 n (omega arith) (placesOf a)
 

@@ -16,7 +16,7 @@ use Rattle.basics.specs.Tests.{and-left, and-right, Either, one, other, either,
 use Rattle.basics.specs.Members.{clash}
 use Rattle.label.specs.Limits.{firstParameter, parameterCount, firstVariable, termEnd}
 use Rattle.label.specs.Terms.{isConstant, isParameter, isVariable, isTerm}
-use Rattle.label.specs.Labels.{areArities, predicateOf, unpacked, isLabel, termsOf}
+use Rattle.label.specs.Labels.{areArities, placesOf, predicateOf, unpacked, isLabel, termsOf}
 use Rattle.label.specs.Renamings.{mapped, renamed, freeing, Increasing, EachTerm, EachIn}
 use Rattle.label.specs.RenamingLaws.{Freed as Freeable, freeing-increasing, renamed-atom, renamed-terms}
 use Rattle.label.specs.declared.Atom.{Atom}
@@ -41,16 +41,15 @@ use Rattle.regression.specs.RegressCall.{anyOccurs, freedOutcome, freeOw
 use Rattle.regression.specs.RegressCallLaws.{any-quiet}
 
 -- the terms of a label, place by place
-each-term : (P : ℕ → Type 0) (n : ℕ) (a : Atom) → Each P (take n (a .first ∷ a .second ∷ a .third ∷ a .fourth ∷ [])) → EachTerm P n a
-each-term P zero a w = record { on-first = λ h. absurd (omega arith); on-second = λ h. absurd (omega arith); on-third = λ h. absurd (omega arith); on-fourth = λ h. absurd (omega arith) }
-each-term P (suc zero) a w = record { on-first = λ h. w .0; on-second = λ h. absurd (omega arith); on-third = λ h. absurd (omega arith); on-fourth = λ h. absurd (omega arith) }
-each-term P (suc (suc zero)) a w = record { on-first = λ h. w .0; on-second = λ h. w .1 .0; on-third = λ h. absurd (omega arith); on-fourth = λ h. absurd (omega arith) }
-each-term P (suc (suc (suc zero))) a w = record { on-first = λ h. w .0; on-second = λ h. w .1 .0; on-third = λ h. w .1 .1 .0; on-fourth = λ h. absurd (omega arith) }
-each-term P (suc (suc (suc (suc n)))) a w = record { on-first = λ h. w .0; on-second = λ h. w .1 .0; on-third = λ h. w .1 .1 .0; on-fourth = λ h. w .1 .1 .1 .0 }
+take-each : (P : ℕ → Type 0) (n : ℕ) (ts : List ℕ) → Each P (take n ts) → (k : ℕ) → k < n → k < length ts → P (getD ts k 0)
+take-each P zero ts w k h i = absurd (omega arith)
+take-each P (suc n) [] w k h i = absurd (omega arith)
+take-each P (suc n) (t ∷ ts) w zero h i = w .0
+take-each P (suc n) (t ∷ ts) w (suc k) h i = take-each P n ts (w .1) k (omega arith) (omega arith)
 
 pub each-in : (P : ℕ → Type 0) (ar : List ℕ) (l : ℕ) → Each P (args (atomOf ar l)) → EachIn ar P l
 unfolding atomOf termsOf predicateOf unpacked
-each-in P ar l w = each-term P (getD ar (predicateOf l) 0) (unpacked l) w
+each-in P ar l w = record { on = take-each P (getD ar (predicateOf l) 0) (placesOf (unpacked l)) w }
 
 same-predicate : (k l : ℕ) (ρ : ℕ → ℕ) (n : ℕ) → unpacked k ≡ mapped ρ n (unpacked l) → predicateOf k ≡ predicateOf l
 unfolding unpacked predicateOf mapped
@@ -97,7 +96,7 @@ pub own-freed : (ar words : List ℕ) (count : ℕ) → anyOccurs ar (diagramOf 
 unfolding freeOwn
 own-freed ar words count e = rw e
 
--- what an accepted call frees: no parameter past the count occurs, and no variable would pass 63
+-- what an accepted call frees: no parameter past the count occurs, and no variable would pass the last
 pub record IsFreed (ar : List ℕ) (count : ℕ) (d r : Diagram) : Type 0 where
   pub is : r ≡ relabel (renamed ar (freeing count)) d
   pub few : count ≤ parameterCount
@@ -113,15 +112,15 @@ data Kinds (t : ℕ) : Type 0 where
 
 kinds : (t : ℕ) → isTerm t ≡ true → Kinds t
 unfolding isTerm isConstant isParameter isVariable
-kinds t e = go (either (ltb t 16) _ e)
+kinds t e = go (either (isConstant t) _ e)
   where
-    rest : Either (leb 16 t && ltb t 20) (leb 32 t && ltb t 64) → Kinds t
-    rest (one q) = parameter (leb-true 16 t (and-left _ _ q)) (ltb-true t 20 (and-right (leb 16 t) _ q))
-    rest (other q) = variable (leb-true 32 t (and-left _ _ q)) (ltb-true t 64 (and-right (leb 32 t) _ q))
+    rest : Either (isParameter t) (isVariable t) → Kinds t
+    rest (one q) = parameter (leb-true firstParameter t (and-left _ _ q)) (ltb-true t (firstParameter + parameterCount) (and-right (leb firstParameter t) _ q))
+    rest (other q) = variable (leb-true firstVariable t (and-left _ _ q)) (ltb-true t termEnd (and-right (leb firstVariable t) _ q))
 
-    go : Either (ltb t 16) ((leb 16 t && ltb t 20) || (leb 32 t && ltb t 64)) → Kinds t
-    go (one q) = constant (ltb-true t 16 q)
-    go (other q) = rest (either (leb 16 t && ltb t 20) _ q)
+    go : Either (isConstant t) (isParameter t || isVariable t) → Kinds t
+    go (one q) = constant (ltb-true t firstParameter q)
+    go (other q) = rest (either (isParameter t) _ q)
 
 terms-isTerm : (ar : List ℕ) (d : Diagram) → Labels ar d → Terms (λ t. isTerm t ≡ true) (meaning ar d)
 unfolding meaning relabel atomOf

@@ -79,11 +79,11 @@ module _ (s : State) (good : Good s) (c : ℕ) (few : firstParameter + c ≤ fir
   unfree-free os θ tu f t = by-kind c (unfree s c os θ (freeing c t) ≡ θ t) t
       (λ h. rw (freeing-constant c t h) (unfree-low os θ t (omega arith) ∙ fixed-constant s [] t h ∙ sym (fixed-constant s os t h) ∙ sym (f .low t (omega arith))))
       (λ h k.
-      let e : (t + 16) - 32 ≡ t - 16 = omega arith in
-      rw (freeing-parameter c t h k) (unfree-mid os θ (t + 16) (omega arith) (omega arith) ∙ ap (λ i. getD os i (s .constant 0)) e
+      let e : (t + (firstVariable - firstParameter)) - firstVariable ≡ t - firstParameter = omega arith in
+      rw (freeing-parameter c t h k) (unfree-mid os θ (t + (firstVariable - firstParameter)) (omega arith) (omega arith) ∙ ap (λ i. getD os i (s .constant 0)) e
       ∙ sym (fixed-parameter s os t h) ∙ sym (f .low t (omega arith))))
       (λ h k. rw (freeing-rest c t h k) (unfree-low os θ t k ∙ fixed-parameter s [] t (omega arith)
-      ∙ sym (tuple-past tu (t - 16) (s .constant 0) (omega arith)) ∙ sym (fixed-parameter s os t (omega arith)) ∙ sym (f .low t k)))
+      ∙ sym (tuple-past tu (t - firstParameter) (s .constant 0) (omega arith)) ∙ sym (fixed-parameter s os t (omega arith)) ∙ sym (f .low t k)))
       (λ h.
       let e : (t + c) - c ≡ t = omega arith in
       rw (freeing-variable c t few h) (unfree-high os θ (t + c) (omega arith) ∙ ap θ e))
@@ -109,10 +109,10 @@ module _ (s : State) (good : Good s) (c : ℕ) (few : firstParameter + c ≤ fir
     low = λ t h. by-kind c (θ (freeing c t) ≡ fixed s (taken θ) t) t
         (λ l. ap θ (freeing-constant c t l) ∙ f .low t h ∙ fixed-constant s [] t l ∙ sym (fixed-constant s (taken θ) t l))
         (λ l k.
-        let e : t + 16 ≡ 32 + (t - 16) = omega arith in
-        ap θ (freeing-parameter c t l k ∙ e) ∙ sym (values-at c (λ i. θ (firstVariable + i)) (t - 16) (s .constant 0) (omega arith)) ∙ sym (fixed-parameter s (taken θ) t l))
+        let e : t + (firstVariable - firstParameter) ≡ firstVariable + (t - firstParameter) = omega arith in
+        ap θ (freeing-parameter c t l k ∙ e) ∙ sym (values-at c (λ i. θ (firstVariable + i)) (t - firstParameter) (s .constant 0) (omega arith)) ∙ sym (fixed-parameter s (taken θ) t l))
         (λ l k. ap θ (freeing-rest c t l k) ∙ f .low t h ∙ fixed-parameter s [] t (omega arith)
-        ∙ sym (tuple-past (values-tuple (s .size) c (λ i. θ (firstVariable + i)) (λ i. f .range (firstVariable + i))) (t - 16) (s .constant 0) (omega arith))
+        ∙ sym (tuple-past (values-tuple (s .size) c (λ i. θ (firstVariable + i)) (λ i. f .range (firstVariable + i))) (t - firstParameter) (s .constant 0) (omega arith))
         ∙ sym (fixed-parameter s (taken θ) t (omega arith)))
         (λ l. absurd (omega arith));
     range = λ t. f .range (freeing c t);

@@ -2,18 +2,19 @@
 use mathlib.Core.Path.{_≡_, refl, ap, ap₂, sym, _∙_, subst}
 use mathlib.Core.Bool.{true, cond}
 use mathlib.Core.List.{List, [], _∷_, map}
-use Prim.Native.Nat.{ℕ, zero, suc, _/_, _<_}
+use Prim.Native.Nat.{ℕ, zero, suc, _<_}
 use native.Mathlib.Omega.{arith}
 use lib.ListN.{length, getD, take}
-use lib.Seq.{take-nil}
 use lib.Dec.{eqb, ltb}
 use borrow.Author.Tests.{eqb-true, eqb-false, lt-ltb, le-ltb, eq-eqb, ne-eqb}
 use Rattle.basics.specs.Tests.{and-left, and-right, Flag, isTrue, isFalse, flag, Cmp, below, equal, above, cmp}
+use Rattle.label.specs.Limits.{equalityArity, termBase}
 use Rattle.label.specs.Terms.{isTerm}
-use Rattle.label.specs.Labels.{areArities, packed, predicateOf, unpacked, placeFits, inOrder, isAtom, isLabel, termsOf, equates, testOf}
-use Rattle.label.specs.LabelLaws.{fits-atom, atom-places, label-fits, label-packed, unpacked-packed}
+use Rattle.label.specs.Labels.{areArities, placesOf, placeIn, equalAtom, packed, predicateOf, unpacked, placeFits, inOrder, isAtom, isLabel, termsOf, equates, testOf}
+use Rattle.label.specs.LabelLaws.{each-place, fits-atom, atom-places, label-fits, label-packed, unpacked-packed}
 use Rattle.label.specs.Renamings.{placed, mapped, moved}
-use Rattle.label.specs.RenamingLaws.{placed-used, placed-unused}
+use Rattle.label.specs.RenamingLaws.{placed-used, placed-unused, mapped-place, mapped-terms}
+use Rattle.label.specs.ArityLaws.{arity-two, atom-terms}
 use Rattle.label.specs.Callers.{Places}
 use Rattle.label.specs.declared.Atom.{Atom}
 use Rattle.label.specs.declared.Label.{Label}
@@ -25,29 +26,11 @@ use Rattle.state.specs.ValueLaws.{map-map, Each-map}
 use Rattle.regression.specs.Result.{asked}
 
 -- what a packed atom says
-pub atom-packed : (ar : List ℕ) (a : Atom) → Places a → atomOf ar (packed a) ≡ atom (a .predicate) (termsOf ar a)
+pub atom-packed : (ar : List ℕ) (a : Atom) → Places termBase a → atomOf ar (packed a) ≡ atom (a .predicate) (termsOf ar a)
 unfolding atomOf unpacked predicateOf
 atom-packed ar a p =
     let e = unpacked-packed a p in
     ap₂ atom (ap (λ (x : Atom). x .predicate) e) (ap (termsOf ar) e)
-
-two-places : (ar : List ℕ) → areArities ar ≡ true → getD ar 0 0 ≡ 2
-unfolding areArities
-two-places ar e = eqb-true _ _ (and-left (eqb (getD ar 0 0) 2) _ (and-right (eqb (length ar) 32) _ e))
-
-mapped-terms : (σ : ℕ → ℕ) (n x y z w : ℕ) → take n (placed σ n 0 x ∷ placed σ n 1 y ∷ placed σ n 2 z ∷ placed σ n 3 w ∷ []) ≡ map σ (take n (x ∷ y ∷ z ∷ w ∷ []))
-mapped-terms σ zero x y z w = refl
-mapped-terms σ (suc zero) x y z w = rw (placed-used σ 1 0 x (omega arith))
-mapped-terms σ (suc (suc zero)) x y z w = rw (placed-used σ 2 0 x (omega arith), placed-used σ 2 1 y (omega arith))
-mapped-terms σ (suc (suc (suc zero))) x y z w = rw (placed-used σ 3 0 x (omega arith), placed-used σ 3 1 y (omega arith), placed-used σ 3 2 z (omega arith))
-mapped-terms σ (suc (suc (suc (suc n)))) x y z w =
-    rw (
-      placed-used σ (suc (suc (suc (suc n)))) 0 x (omega arith),
-      placed-used σ (suc (suc (suc (suc n)))) 1 y (omega arith),
-      placed-used σ (suc (suc (suc (suc n)))) 2 z (omega arith),
-      placed-used σ (suc (suc (suc (suc n)))) 3 w (omega arith),
-      take-nil n,
-    )
 
 test-equality : (a : Atom) → a .predicate ≡ 0 → testOf a ≡ equates (a .first) (a .second)
 unfolding testOf
@@ -74,26 +57,20 @@ module _ (ar : List ℕ) (good : areArities ar ≡ true) (σ : ℕ → ℕ) (ter
       go (above q) = rw (le-ltb k n (omega arith), placed-unused σ n k t (omega arith))
 
   -- an equality of two terms in their order is a label
-  equality-atom : (t u : ℕ) → isTerm t ≡ true → isTerm u ≡ true → t < u → isAtom ar (record { predicate = 0; first = t; second = u; third = 0; fourth = 0 }) ≡ true
+  equality-atom : (t u : ℕ) → isTerm t ≡ true → isTerm u ≡ true → t < u → isAtom ar (equalAtom t u) ≡ true
   unfolding placeFits inOrder
-  equality-atom t u p q h = fits-atom ar (record { predicate = 0; first = t; second = u; third = 0; fourth = 0 }) (record {
+  equality-atom t u p q h = fits-atom ar (equalAtom t u) (record {
     predicate-fits = omega arith;
-    places-fit = rw (two-places ar good) (record { first-fits = p; second-fits = q; third-fits = refl; fourth-fits = refl });
+    places-fit = rw (arity-two ar good) (record { fits = each-place (λ k. placeFits equalityArity k (placeIn (equalAtom t u) k) ≡ true) p q refl refl refl refl });
     ordered = lt-ltb t u h;
   })
 
-  equality-says : (t u : ℕ) → isTerm t ≡ true → isTerm u ≡ true → t < u
-      → atomOf ar (packed (record { predicate = 0; first = t; second = u; third = 0; fourth = 0 })) ≡ atom 0 (t ∷ u ∷ [])
-  unfolding termsOf
+  equality-says : (t u : ℕ) → isTerm t ≡ true → isTerm u ≡ true → t < u → atomOf ar (packed (equalAtom t u)) ≡ atom 0 (t ∷ u ∷ [])
   equality-says t u p q h =
-      atom-packed ar (record { predicate = 0; first = t; second = u; third = 0; fourth = 0 }) (atom-places ar _ (equality-atom t u p q h))
-      ∙ rw (two-places ar good) refl
+      atom-packed ar (equalAtom t u) (atom-places ar _ (equality-atom t u p q h)) ∙ ap (atom 0) (atom-terms ar 0 (t ∷ u ∷ []) good (sym (arity-two ar good)))
 
-  equality-label : (t u : ℕ) → isTerm t ≡ true → isTerm u ≡ true → t < u
-      → isLabel ar (packed (record { predicate = 0; first = t; second = u; third = 0; fourth = 0 })) ≡ true
-  equality-label t u p q h =
-      let e = equality-atom t u p q h in
-      label-packed ar (record { predicate = 0; first = t; second = u; third = 0; fourth = 0 }) (atom-places ar _ e) ∙ e
+  equality-label : (t u : ℕ) → isTerm t ≡ true → isTerm u ≡ true → t < u → isLabel ar (packed (equalAtom t u)) ≡ true
+  equality-label t u p q h = let e = equality-atom t u p q h in label-packed ar (equalAtom t u) (atom-places ar _ e) ∙ e
 
   equates-to : (l a b : ℕ) → isTerm (σ a) ≡ true → isTerm (σ b) ≡ true → atomOf ar l ≡ atom 0 (a ∷ b ∷ []) → MovedTo ar σ l (equates (σ a) (σ b))
   unfolding equates
@@ -119,8 +96,8 @@ module _ (ar : List ℕ) (good : areArities ar ≡ true) (σ : ℕ → ℕ) (ter
       y : ℕ
       y = unpacked l .second
 
-      two : getD ar (predicateOf l) 0 ≡ 2
-      two = rw e (two-places ar good)
+      two : getD ar (predicateOf l) 0 ≡ equalityArity
+      two = rw e (arity-two ar good)
 
       becomes : moved ar σ l ≡ equates (σ x) (σ y)
       becomes =
@@ -128,29 +105,27 @@ module _ (ar : List ℕ) (good : areArities ar ≡ true) (σ : ℕ → ℕ) (ter
           ∙ ap₂ equates (placed-used σ (getD ar (predicateOf l) 0) 0 x (omega (arith, two))) (placed-used σ (getD ar (predicateOf l) 0) 1 y (omega (arith, two)))
 
       says : atomOf ar l ≡ atom 0 (x ∷ y ∷ [])
-      says = ap₂ atom e (ap (λ (n : ℕ). take n (x ∷ y ∷ unpacked l .third ∷ unpacked l .fourth ∷ [])) two)
+      says = ap₂ atom e (ap (λ (n : ℕ). take n (placesOf (unpacked l))) two)
 
       first-term : isTerm x ≡ true
-      first-term = let f = label-fits ar l h .places-fit .first-fits in rw two at f
+      first-term = let f = label-fits ar l h .places-fit .fits 0 (omega arith) in rw two at f
 
       second-term : isTerm y ≡ true
-      second-term = let f = label-fits ar l h .places-fit .second-fits in rw two at f
+      second-term = let f = label-fits ar l h .places-fit .fits 1 (omega arith) in rw two at f
 
   -- any other predicate
   moved-atom : (l : ℕ) → isLabel ar l ≡ true → (predicateOf l ≡ 0 → ⊥) → isAtom ar (mapped σ (getD ar (predicateOf l) 0) (unpacked l)) ≡ true
-  unfolding mapped predicateOf unpacked inOrder
+  unfolding mapped unpacked inOrder
   moved-atom l h e =
       let f = label-fits ar l h in
       let n = getD ar (predicateOf l) 0 in
-      fits-atom ar (mapped σ (getD ar (predicateOf l) 0) (unpacked l)) (record {
+      fits-atom ar (mapped σ n (unpacked l)) (record {
         predicate-fits = f .predicate-fits;
         places-fit = record {
-          first-fits = place-maps n 0 (unpacked l .first) (f .places-fit .first-fits);
-          second-fits = place-maps n 1 (unpacked l .second) (f .places-fit .second-fits);
-          third-fits = place-maps n 2 (unpacked l .third) (f .places-fit .third-fits);
-          fourth-fits = place-maps n 3 (unpacked l .fourth) (f .places-fit .fourth-fits);
+          fits = λ k i.
+              subst (λ (t : ℕ). placeFits n k t ≡ true) (sym (mapped-place σ n (unpacked l) k i)) (place-maps n k (placeIn (unpacked l) k) (f .places-fit .fits k i));
         };
-        ordered = rw (ne-eqb (l / 16777216) 0 e);
+        ordered = rw (ne-eqb (predicateOf l) 0 e);
       })
 
   moved-other : (l : ℕ) → isLabel ar l ≡ true → (predicateOf l ≡ 0 → ⊥) → MovedTo ar σ l (moved ar σ l)
@@ -161,7 +136,7 @@ module _ (ar : List ℕ) (good : areArities ar ≡ true) (σ : ℕ → ℕ) (ter
       subst (MovedTo ar σ l) (sym (test-other (mapped σ (getD ar (predicateOf l) 0) (unpacked l)) e))
       (straight _ (label-packed ar (mapped σ (getD ar (predicateOf l) 0) (unpacked l)) p ∙ m)
       (atom-packed ar (mapped σ (getD ar (predicateOf l) 0) (unpacked l)) p
-      ∙ ap (atom (predicateOf l)) (mapped-terms σ (getD ar (predicateOf l) 0) (unpacked l .first) (unpacked l .second) (unpacked l .third) (unpacked l .fourth))))
+      ∙ ap (atom (predicateOf l)) (mapped-terms σ (getD ar (predicateOf l) 0) (unpacked l))))
 
   pub moved-to : (l : ℕ) → isLabel ar l ≡ true → MovedTo ar σ l (moved ar σ l)
   moved-to l h = go (flag (eqb (predicateOf l) 0))

@@ -51,7 +51,7 @@ unfolding occurs
 anyOccurs ar d t zero = false
 anyOccurs ar d t (suc n) = occurs ar t d || anyOccurs ar d (suc t) n
 
--- a variable that is no argument of a predicate of the arity n: the arguments are 32 .. 31 + n
+-- a variable that is no argument of a predicate of the arity n: the arguments are the first n variables
 abbrev pub unboundVariable : List ℕ → ℕ → Diagram → Bool
 unboundVariable ar n d = anyOccurs ar d (firstVariable + n) (variableCount - n)
 
@@ -95,7 +95,7 @@ unfoldable pub regressResult : List ℕ → List ℕ → List ℕ → List ℕ �
 unfolding regressOutcome listing
 regressResult ar value truths spans workLength out = writtenAs (regressOutcome ar value truths spans (length out) workLength) out
 
--- freeing turns parameter 16 + i into variable 32 + i and moves the other variables up by the parameter count; a variable that would pass 63 is 8
+-- freeing turns parameter i into variable i and moves the other variables up by the parameter count; a variable that would pass 127 is 8
 unfoldable pub freedOutcome : List ℕ → ℕ → Diagram → Outcome Diagram
 unfolding anyOccurs freed
 freedOutcome ar c d = cond (anyOccurs ar d (termEnd - c) c) (refused Variables) (ok (freed ar c d))

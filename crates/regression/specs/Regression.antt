@@ -41,7 +41,7 @@ unfoldable pub overRows : (ℕ → Run Diagram) → Diagram → Run Diagram
 unfolding rowResults rows
 overRows T d = bind (rowResults T (rows d) (rows d) []) (λ results. pure (lastOf results))
 
--- the terms of p(t1..) for the arguments of p, 32 onward in their order: all arguments are replaced together
+-- the terms of p(t1..) for the arguments of p, the first variables in their order: all arguments are replaced together
 unfoldable pub argument : List ℕ → ℕ → ℕ
 argument ts t = cond (ltb t firstVariable) t (getD ts (t - firstVariable) 0)
 

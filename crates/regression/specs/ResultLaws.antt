@@ -6,14 +6,13 @@ use mathlib.Core.Option.{Option, some, none}
 use Prim.Native.Nat.{ℕ, zero, suc, _-_, _≤_, _<_}
 use native.Mathlib.Omega.{arith}
 use lib.ListN.{length, getD, take}
-use lib.Seq.{take-nil}
 use lib.Dec.{eqb}
 use borrow.Author.Tests.{eqb-true, eqb-false, lt-ltb, le-ltb}
 use Rattle.basics.specs.Tests.{Flag, isTrue, isFalse, flag}
 use Rattle.label.specs.Limits.{firstVariable, predicateCount}
 use Rattle.label.specs.Terms.{isTerm, isConstant}
-use Rattle.label.specs.Labels.{areArities, predicateOf, unpacked, placeFits, isLabel, termsOf}
-use Rattle.label.specs.LabelLaws.{label-fits}
+use Rattle.label.specs.Labels.{areArities, placesOf, predicateOf, unpacked, isLabel, termsOf}
+use Rattle.label.specs.LabelLaws.{used-term, label-fits}
 use Rattle.label.specs.Renamings.{moved}
 use Rattle.label.specs.declared.Label.{Label}
 use Rattle.label.specs.declared.Test.{Test}
@@ -142,33 +141,15 @@ zero-term : isTerm 0 ≡ true
 unfolding isTerm isConstant
 zero-term = refl
 
-used-term : (n k t : ℕ) → k < n → placeFits n k t ≡ true → Term t
-unfolding placeFits
-used-term n k t h e = rw (lt-ltb k n h) at e
-
-each-take : (n x y z w : ℕ) → placeFits n 0 x ≡ true → placeFits n 1 y ≡ true → placeFits n 2 z ≡ true → placeFits n 3 w ≡ true
-    → Each Term (take n (x ∷ y ∷ z ∷ w ∷ []))
-each-take zero x y z w a b c d = tt
-each-take (suc zero) x y z w a b c d = (used-term 1 0 x (omega arith) a, tt)
-each-take (suc (suc zero)) x y z w a b c d = (used-term 2 0 x (omega arith) a, (used-term 2 1 y (omega arith) b, tt))
-each-take (suc (suc (suc zero))) x y z w a b c d =
-    (used-term 3 0 x (omega arith) a, (used-term 3 1 y (omega arith) b, (used-term 3 2 z (omega arith) c, tt)))
-each-take (suc (suc (suc (suc n)))) x y z w a b c d = (
-  used-term (suc (suc (suc (suc n)))) 0 x (omega arith) a,
-  (
-    used-term (suc (suc (suc (suc n)))) 1 y (omega arith) b,
-    (
-      used-term (suc (suc (suc (suc n)))) 2 z (omega arith) c,
-      (used-term (suc (suc (suc (suc n)))) 3 w (omega arith) d, rw (take-nil n) tt),
-    ),
-  ),
-)
+each-take : (P : ℕ → Type 0) (n : ℕ) (ts : List ℕ) → ((k : ℕ) → k < n → k < length ts → P (getD ts k 0)) → Each P (take n ts)
+each-take P zero ts f = tt
+each-take P (suc n) [] f = tt
+each-take P (suc n) (t ∷ ts) f = (f 0 (omega arith) (omega arith), each-take P n ts (λ k h i. f (suc k) (omega arith) (omega arith)))
 
 pub label-terms : (ar : List ℕ) (l : ℕ) → isLabel ar l ≡ true → Each Term (termsOf ar (unpacked l))
 unfolding termsOf
 label-terms ar l h =
-    let f = label-fits ar l h .places-fit in
-    each-take (getD ar (unpacked l .predicate) 0) _ _ _ _ (f .first-fits) (f .second-fits) (f .third-fits) (f .fourth-fits)
+    each-take Term (getD ar (unpacked l .predicate) 0) (placesOf (unpacked l)) (λ k i j. used-term _ k _ i (label-fits ar l h .places-fit .fits k j))
 
 -- the arguments of p replaced by terms
 pub argument-low : (ts : List ℕ) (t : ℕ) → t < firstVariable → argument ts t ≡ t
