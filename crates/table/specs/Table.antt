@@ -22,8 +22,13 @@ buckets = 2048
 abbrev pub mostRows : ℕ
 mostRows = 65535
 
+-- half of a word
+abbrev half : ℕ
+half = 4294967296
+
+-- all of a label and of `high` counts: labels of few places differ in their upper halves, scaled leaf values may agree in their lower ones
 abbrev mix : Row → ℕ
-mix r = r .label % 4294967296 * 40503 + r .high % 4294967296 * 60493 + r .low % 4294967296 * 30011 + r .high / 4294967296 % 4294967296 * 52711
+mix r = r .label / half % half * 40503 + r .label % half * 36013 + r .high % half * 60493 + r .high / half % half * 52711 + r .low % half * 30011
 
 -- the bucket of a row
 unfoldable pub hashOf : Row → ℕ

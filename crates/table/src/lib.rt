@@ -5,6 +5,8 @@ ghost use lib.ListN.{length};
 ghost use Rattle.table.specs.Rows.{rowAt, putAt, rows, sameRow, firstIn};
 ghost use Rattle.table.specs.Table.{buckets, hashOf, Table, Addable, AddPost, Touched, Clean};
 
+// Half of a word.
+const HALF: u64 = 4294967296;
 // The number of buckets of the index.
 pub const BUCKETS: usize = 2048;
 
@@ -63,14 +65,16 @@ pub fn same(x: Row, y: Row) -> bool
     x.low == y.low
 }
 
-// The bucket of a row. The upper half of `high` counts too: scaled leaf values may agree in their lower halves.
+// The bucket of a row. All of the label and of `high` counts: labels of few places differ in their upper halves, scaled leaf values may agree in their
+// lower ones.
 pub fn hash(row: Row) -> usize
     ensures { λ r. ⌜ (r ≡ hashOf row) × (r < buckets) ⌝ }
 {
-    let x = row.label % 4294967296 * 40503
-        + row.high % 4294967296 * 60493
-        + row.low % 4294967296 * 30011
-        + row.high / 4294967296 % 4294967296 * 52711;
+    let x = row.label / HALF % HALF * 40503
+        + row.label % HALF * 36013
+        + row.high % HALF * 60493
+        + row.high / HALF % HALF * 52711
+        + row.low % HALF * 30011;
     ((x + x / 1024 + x / 1048576) as usize) % BUCKETS
 }
 
