@@ -1,3 +1,4 @@
+pub mod FillCode
 pub mod PassCode
 pub mod TermCode
 pub mod WordCode

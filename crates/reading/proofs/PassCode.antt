@@ -1,15 +1,16 @@
 -- What the code of atoms and operations needs to know.
-use Prim.Native.Nat.{ℕ, zero, suc, _+_, _-_, _*_, _≤_, _<_}
-use mathlib.Core.Path.{_≡_, refl, sym, ap, subst, _∙_}
+use Prim.Native.Nat.{ℕ, suc, _+_, _-_, _*_, _≤_, _<_}
+use mathlib.Core.Path.{_≡_, refl, sym, ap, ap₂, subst, _∙_}
 use mathlib.Core.List.{List, [], _∷_, _++_}
 use native.Mathlib.Omega.{arith}
 use borrow.Author.Tests.{eq-eqb, ne-eqb, le-leb, lt-leb}
-use lib.ListN.{length, getD, set, length-set}
-use lib.Seq.{getD-set-same, getD-set-other}
+use lib.ListN.{length, getD, take, set, length-set}
+use lib.Seq.{getD-set-same, getD-set-other, take-suc-set}
 use Rattle.refusal.specs.declared.Refusal.{Refusal}
 use Rattle.refusal.specs.declared.Refusal.the-variants.{Form, Name, Arity, Range}
-use Rattle.label.specs.Limits.{predicateCount, termEnd, mostPlaces}
-use Rattle.label.specs.Labels.{testOf}
+use Rattle.label.specs.Limits.{predicateCount, predicateWeight, termEnd, mostPlaces}
+use Rattle.label.specs.Labels.{placesOf, placeIn, atomFrom, unpacked, testOf}
+use Rattle.label.specs.ArityLaws.{arity-most, arity-words}
 use Rattle.label.specs.Callers.{Packable}
 use Rattle.label.specs.declared.Atom.{Atom}
 use Rattle.label.specs.declared.Label.{Label}
@@ -27,12 +28,12 @@ use Rattle.reading.specs.declared.Stepped.{Stepped}
 use Rattle.reading.specs.declared.Stepped.the-variants as S
 use Rattle.reading.specs.declared.Resolved.{Resolved}
 use Rattle.reading.specs.declared.Resolved.the-variants as R
-use Rattle.reading.specs.ArityLaws.{arity-most, arity-words}
 use Rattle.reading.specs.Operations.{Op, opOf, opAt, opsIn}
 use Rattle.reading.specs.Operations.Op.{ask}
-use Rattle.reading.specs.Reading.{Pass, placed, more, asked, begun, termWord, numberWord, atomWord}
+use Rattle.reading.specs.Reading.{Pass, more, asked, begun, termWord, numberWord, atomWord}
 use Rattle.reading.specs.Reading.Judged.{fine}
-use Rattle.reading.specs.Callers.{namesOf, passOf, judgedNumber, Tables, Room, TermBelow, Goes, Steps}
+use Rattle.reading.specs.Callers.{namesOf, placed, atomOf, passOf, judgedNumber, Tables, Room, Fillable, TermBelow, Goes, Steps}
+use Rattle.reading.proofs.FillCode.{whole, empty-unpacked, empty-packs, empty-unfilled, placed-places, placed-other, placed-packs}
 
 -- one operation more
 
@@ -61,15 +62,19 @@ ops-more s n k v h =
     (getD-set-other (set s (n * 2) k) (n * 2 + 1) (i * 2 + 1) v 0 (λ e. omega arith) ∙ getD-set-other s (n * 2) (i * 2 + 1) k 0 (λ e. omega arith)))
     (op-new s n k v h)
 
-pass-ext : (a : Atom) (f d : ℕ) (x y : List Op) → x ≡ y
-    → _≡_ {A = Pass} (record { atom = a; filled = f; due = d; operations = x }) (record { atom = a; filled = f; due = d; operations = y })
-pass-ext a f d x y e = λ i. record { atom = a; filled = f; due = d; operations = e i }
+pass-ext : (q : ℕ) (ts : List ℕ) (d : ℕ) (x y : List Op) → x ≡ y
+    → _≡_ {A = Pass} (record { predicate = q; terms = ts; due = d; operations = x }) (record { predicate = q; terms = ts; due = d; operations = y })
+pass-ext q ts d x y e = λ i. record { predicate = q; terms = ts; due = d; operations = e i }
 
 pub add-goes : (os : List ℕ) (p : Progress) (k v : ℕ) → Room os p
-    → Goes p (more (passOf os p) (opOf k v)) (record { atom = p .atom; filled = p .filled; due = p .due; operations = p .operations + 1 }) (set (set os (p .operations * 2) k) (p .operations * 2 + 1) v)
+    → Goes p (more (passOf os p) (opOf k v)) (record { label = p .label; filled = p .filled; due = p .due; operations = p .operations + 1 })
+    (set (set os (p .operations * 2) k) (p .operations * 2 + 1) v)
 add-goes os p k v r = record {
-  pass = pass-ext (p .atom) (p .filled) (p .due) _ _ (ops-more os (p .operations) k v (r .room));
-  advanced = record { going = record { packable = r .going .packable; places = r .going .places }; one = omega arith };
+  pass = pass-ext _ _ (p .due) _ _ (ops-more os (p .operations) k v (r .room));
+  advanced = record {
+    going = record { packable = r .going .packable; places = r .going .places; unfilled = r .going .unfilled };
+    one = omega arith;
+  };
 }
 
 -- the atom, asked or not
@@ -78,7 +83,7 @@ asked-due : (p : Pass) → (p .due ≡ 0 → ⊥) → asked p ≡ p
 unfolding asked
 asked-due p f = rw (ne-eqb (p .due) 0 f)
 
-asked-none : (p : Pass) → p .due ≡ 0 → asked p ≡ more p (ask (testOf (p .atom)))
+asked-none : (p : Pass) → p .due ≡ 0 → asked p ≡ more p (ask (testOf (atomFrom (p .predicate) (p .terms))))
 unfolding asked
 asked-none p e = rw (eq-eqb (p .due) 0 e)
 
@@ -88,85 +93,92 @@ ask-waits os p r f = record {
   advanced = record { going = r .going; one = omega arith };
 }
 
-module _ (os : List ℕ) (p : Progress) {os′ : List ℕ} {r : Progress} {t : Test} (e : p .due ≡ 0) (q : t ≡ testOf (p .atom)) where
+module _ (os : List ℕ) (p : Progress) (w : Room os p) {os′ : List ℕ} {r : Progress} {a : Atom} {t : Test} (e : p .due ≡ 0) (u : a ≡ atomOf p) (q : t ≡ testOf a) where
   ask-goes : Goes p (more (passOf os p) (ask t)) r os′ → Goes p (asked (passOf os p)) r os′
   ask-goes g = record {
-    pass = g .pass ∙ ap (λ u. more (passOf os p) (ask u)) q ∙ sym (asked-none (passOf os p) e);
+    pass =
+        g .pass
+        ∙ ap (λ x. more (passOf os p) (ask x)) (q ∙ ap testOf (u ∙ sym (whole (atomOf p) (p .filled) (w .going .unfilled))))
+        ∙ sym (asked-none (passOf os p) e);
     advanced = g .advanced;
   }
 
   pub ask-truth : t ≡ Always → Goes p (more (passOf os p) (opOf 2 0)) r os′ → Goes p (asked (passOf os p)) r os′
-  ask-truth z g = ask-goes (record { pass = g .pass ∙ ap (λ u. more (passOf os p) (ask u)) (sym z); advanced = g .advanced })
+  ask-truth z g = ask-goes (record { pass = g .pass ∙ ap (λ x. more (passOf os p) (ask x)) (sym z); advanced = g .advanced })
 
   pub ask-label : {l : Label} → t ≡ Is l → Goes p (more (passOf os p) (opOf 1 (l .packed))) r os′ → Goes p (asked (passOf os p)) r os′
-  ask-label z g = ask-goes (record { pass = g .pass ∙ ap (λ u. more (passOf os p) (ask u)) (sym z); advanced = g .advanced })
+  ask-label z g = ask-goes (record { pass = g .pass ∙ ap (λ x. more (passOf os p) (ask x)) (sym z); advanced = g .advanced })
+
+pub ask-packs : (os : List ℕ) (p : Progress) {a : Atom} → Room os p → a ≡ atomOf p → Packable a
+ask-packs os p r e = rw e (r .going .packable)
 
 -- an atom begins
 
 abbrev start : Progress → ℕ → ℕ → Progress
-start p q n = record { atom = record { predicate = q; first = 0; second = 0; third = 0; fourth = 0 }; filled = 0; due = n; operations = p .operations }
+start p q n = record { label = record { packed = q * predicateWeight }; filled = 0; due = n; operations = p .operations }
 
 pub begin-room : (os : List ℕ) (p : Progress) (q n : ℕ) → Room os p → q < predicateCount → n ≤ mostPlaces → Room os (start p q n)
 begin-room os p q n r h l = record {
-  going = record {
-    packable = record {
-      predicate-below = h;
-      places = record { first-below = omega arith; second-below = omega arith; third-below = omega arith; fourth-below = omega arith };
-    };
-    places = omega arith;
-  };
+  going = record { packable = empty-packs q h; places = omega arith; unfilled = λ k m. empty-unfilled q k };
   room = r .room;
 }
 
 pub begin-goes : (os : List ℕ) (p : Progress) (q n : ℕ) {r : Progress} {os′ : List ℕ} → Goes (start p q n) (asked (passOf os (start p q n))) r os′
     → Goes p (begun (passOf os p) q n) r os′
 unfolding begun
-begin-goes os p q n g = record { pass = g .pass; advanced = record { going = g .advanced .going; one = g .advanced .one } }
+begin-goes os p q n g = record {
+  pass =
+      g .pass
+      ∙ ap (λ (a : Atom). asked (record { predicate = a .predicate; terms = []; due = n; operations = opsIn os (p .operations) })) (empty-unpacked q);
+  advanced = record { going = g .advanced .going; one = g .advanced .one };
+}
 
 -- a place is filled
 
-pub place-first : (a : Atom) (k t : ℕ) → k ≡ 0 → record { predicate = a .predicate; first = t; second = a .second; third = a .third; fourth = a .fourth } ≡ placed a k t
-place-first a k t e = rw e
+abbrev next : Progress → Label → Progress
+next p l = record { label = l; filled = p .filled + 1; due = p .due - 1; operations = p .operations }
 
-pub place-second : (a : Atom) (k t : ℕ) → k ≡ 1 → record { predicate = a .predicate; first = a .first; second = t; third = a .third; fourth = a .fourth } ≡ placed a k t
-place-second a k t e = rw e
-
-pub place-third : (a : Atom) (k t : ℕ) → k ≡ 2 → record { predicate = a .predicate; first = a .first; second = a .second; third = t; fourth = a .fourth } ≡ placed a k t
-place-third a k t e = rw e
-
-pub place-fourth : (a : Atom) (k t : ℕ) → (k ≡ 0 → ⊥) → (k ≡ 1 → ⊥) → (k ≡ 2 → ⊥)
-    → record { predicate = a .predicate; first = a .first; second = a .second; third = a .third; fourth = t } ≡ placed a k t
-place-fourth a zero t f g h = absurd (f refl)
-place-fourth a (suc zero) t f g h = absurd (g refl)
-place-fourth a (suc (suc zero)) t f g h = absurd (h refl)
-place-fourth a (suc (suc (suc k))) t f g h = refl
-
-placed-packs : (a : Atom) (k t : ℕ) → Packable a → t < termEnd → Packable (placed a k t)
-placed-packs a zero t p h = let l = p .places in record { predicate-below = p .predicate-below; places = record { first-below = h; second-below = l .second-below; third-below = l .third-below; fourth-below = l .fourth-below } }
-placed-packs a (suc zero) t p h = let l = p .places in record { predicate-below = p .predicate-below; places = record { first-below = l .first-below; second-below = h; third-below = l .third-below; fourth-below = l .fourth-below } }
-placed-packs a (suc (suc zero)) t p h = let l = p .places in record { predicate-below = p .predicate-below; places = record { first-below = l .first-below; second-below = l .second-below; third-below = h; fourth-below = l .fourth-below } }
-placed-packs a (suc (suc (suc k))) t p h = let l = p .places in record { predicate-below = p .predicate-below; places = record { first-below = l .first-below; second-below = l .second-below; third-below = l .third-below; fourth-below = h } }
-
-abbrev next : Progress → Atom → Progress
-next p b = record { atom = b; filled = p .filled + 1; due = p .due - 1; operations = p .operations }
-
-pub give-room : (os : List ℕ) (p : Progress) (t : ℕ) {b : Atom} → Room os p → t < termEnd → (p .due ≡ 0 → ⊥) → b ≡ placed (p .atom) (p .filled) t → Room os (next p b)
-give-room os p t {b} r h f e = record {
-  going = record { packable = rw e (placed-packs (p .atom) (p .filled) t (r .going .packable) h); places = omega (arith, r .going .places) };
-  room = r .room;
+pub give-fills : (os : List ℕ) (p : Progress) (t : ℕ) → Room os p → t < termEnd → (p .due ≡ 0 → ⊥) → Fillable (p .label .packed) (p .filled) t
+give-fills os p t r h f = record {
+  packable = r .going .packable;
+  place = omega (arith, r .going .places);
+  zero = r .going .unfilled (p .filled) (omega arith);
+  term = omega arith;
 }
+
+module _ (os : List ℕ) (p : Progress) (t : ℕ) (l : Label) (w : Room os p) (f : p .due ≡ 0 → ⊥) (e : unpacked (l .packed) ≡ placed (atomOf p) (p .filled) t) where
+  pub give-room : t < termEnd → Room os (next p l)
+  give-room h = record {
+    going = record {
+      packable = rw e (placed-packs (atomOf p) (p .filled) t (w .going .packable) (omega arith));
+      places = omega (arith, w .going .places);
+      unfilled = λ k m.
+          ap (λ (a : Atom). placeIn a k) e ∙ placed-other (atomOf p) (p .filled) t k (omega arith) ∙ w .going .unfilled k (omega arith);
+    };
+    room = w .room;
+  }
+
+  terms-more : take (p .filled + 1) (placesOf (unpacked (l .packed))) ≡ take (p .filled) (placesOf (atomOf p)) ++ (t ∷ [])
+  terms-more =
+      let n : p .filled + 1 ≡ suc (p .filled) = omega arith in
+      ap (λ (a : Atom). take (p .filled + 1) (placesOf a)) e
+      ∙ ap (λ (ts : List ℕ). take (p .filled + 1) ts) (placed-places (atomOf p) (p .filled) t)
+      ∙ ap (λ (m : ℕ). take m (set (placesOf (atomOf p)) (p .filled) t)) n
+      ∙ take-suc-set (placesOf (atomOf p)) (p .filled) t (omega (arith, w .going .places))
+
+  pub give-goes : {r : Progress} {os′ : List ℕ} → Goes (next p l) (asked (passOf os (next p l))) r os′ → Steps p (termWord (passOf os p) (fine t)) (S.Done r) os′
+  unfolding termWord
+  give-goes g = record {
+    answer =
+        rw (ne-eqb (p .due) 0 f)
+        (ap fine (g .pass ∙ ap₂ (λ (q : ℕ) (ts : List ℕ). asked (record { predicate = q; terms = ts; due = p .due - 1; operations = opsIn os (p .operations) }))
+        (ap (λ (a : Atom). a .predicate) e) terms-more));
+    advanced = record { going = g .advanced .going; one = g .advanced .one };
+  }
 
 pub give-none : (os : List ℕ) (p : Progress) (t : ℕ) → p .due ≡ 0 → Steps p (termWord (passOf os p) (fine t)) (S.Refused Form) os
 unfolding termWord
 give-none os p t e = record { answer = rw (eq-eqb (p .due) 0 e); advanced = tt }
-
-pub give-goes : (os : List ℕ) (p : Progress) (t : ℕ) {b : Atom} {r : Progress} {os′ : List ℕ} → (p .due ≡ 0 → ⊥) → b ≡ placed (p .atom) (p .filled) t
-    → Goes (next p b) (asked (passOf os (next p b))) r os′ → Steps p (termWord (passOf os p) (fine t)) (S.Done r) os′
-unfolding termWord
-give-goes os p t {b} {r} {os′} f e g = record {
-  answer = rw (ne-eqb (p .due) 0 f) (ap fine (g .pass ∙ ap (λ (a : Atom). asked (record { atom = a; filled = p .filled + 1; due = p .due - 1; operations = opsIn os (p .operations) })) e));
-  advanced = record { going = g .advanced .going; one = g .advanced .one };
-}
 
 -- a term, resolved
 

@@ -1,6 +1,6 @@
 -- What the code of words needs to know: a word by its kind, and the words of a line one after another.
 use Prim.Native.Nat.{ℕ, _-_, _*_, _≤_, _<_}
-use mathlib.Core.Path.{_≡_, refl, sym, ap, subst, _∙_}
+use mathlib.Core.Path.{_≡_, refl, sym, ap, ap₂, subst, _∙_}
 use mathlib.Core.Bool.{Bool, true, false}
 use mathlib.Core.List.{List, [], _∷_}
 use native.Mathlib.Omega.{arith}
@@ -9,7 +9,8 @@ use lib.Dec.{leb}
 use lib.ListN.{length, drop, length-drop}
 use Rattle.refusal.specs.declared.Refusal.{Refusal}
 use Rattle.refusal.specs.declared.Refusal.the-variants as F
-use Rattle.label.specs.Limits.{variableCount}
+use Rattle.label.specs.Limits.{equality, equalityArity, variableCount}
+use Rattle.label.specs.declared.Atom.{Atom}
 use Rattle.words.specs.declared.Key.{Key}
 use Rattle.names.specs.Many.{many}
 use Rattle.names.specs.Keys.{keysAt}
@@ -31,6 +32,7 @@ use Rattle.reading.specs.Operations.{Op, opOf, opsIn}
 use Rattle.reading.specs.Reading.{Names, State, pickJudged, andThen, more, begun, termWord, numberWord, atomWord, constantNumber, parameterNumber, variableNumber, metAt, word, with-pass, readWord, readWords, finished, begin, reading}
 use Rattle.reading.specs.Reading.Judged.{fine, refused}
 use Rattle.reading.specs.Callers.{namesOf, passOf, stateOf, judgedNumber, judgedPass, pickRead, readAnswer, refusedRead, judgedWritten, ReadWithin, Reads, Variables, Readable, Going, Room, Advanced, AdvancedBy, Resolves, Meets, Goes, Steps}
+use Rattle.reading.proofs.FillCode.{empty-unpacked, empty-packs, empty-unfilled}
 
 -- a word by its kind
 
@@ -53,7 +55,7 @@ module _ (ns ar : List ℕ) (s : Scope) (vs : List Key) (os : List ℕ) (p : Pro
     unfolding word
     word-number q g = rw q g
 
-    pub word-equal : {r : Progress} → e ≡ E.Equal → Goes p (begun (passOf os p) 0 2) r os′ → Steps p (word (namesOf ns ar s) vs (passOf os p) e) (S.Done r) os′
+    pub word-equal : {r : Progress} → e ≡ E.Equal → Goes p (begun (passOf os p) equality equalityArity) r os′ → Steps p (word (namesOf ns ar s) vs (passOf os p) e) (S.Done r) os′
     unfolding word
     word-equal q g = rw q (record { answer = ap fine (g .pass); advanced = g .advanced })
 
@@ -136,24 +138,18 @@ Answers line place ns ar vs₀ s known vs os r = Reads (reading (namesOf ns ar s
 
 module _ {line : List ℕ} {place₀ : ℕ} {ns ar vs₀ os₀ : List ℕ} {s : Scope} {known : ℕ} where
   pub loop-start : Readable line place₀ ns ar vs₀ os₀ s known
-      → Loop line place₀ ns ar vs₀ os₀ s known vs₀ os₀ place₀ known (record { atom = record { predicate = 0; first = 0; second = 0; third = 0; fourth = 0 }; filled = 0; due = 0; operations = 0 })
+      → Loop line place₀ ns ar vs₀ os₀ s known vs₀ os₀ place₀ known (record { label = record { packed = 0 }; filled = 0; due = 0; operations = 0 })
   loop-start g = record {
     within = g .within;
     table = g .variables;
-    going = record {
-      packable = record {
-        predicate-below = omega arith;
-        places = record { first-below = omega arith; second-below = omega arith; third-below = omega arith; fourth-below = omega arith };
-      };
-      places = omega arith;
-    };
+    going = record { packable = empty-packs equality (omega arith); places = omega arith; unfilled = λ k h. empty-unfilled equality k };
     bytes = omega arith;
     variable-words = refl;
     operation-words = refl;
-    still = ap (λ (ops : List Op).
+    still = ap₂ (λ (q : ℕ) (ops : List Op).
         readWords (namesOf ns ar s) (eventsOf (drop place₀ line))
-        (record { variables = keysAt vs₀ 0 known; pass = record { atom = record { predicate = 0; first = 0; second = 0; third = 0; fourth = 0 }; filled = 0; due = 0; operations = ops } }))
-        (nothing os₀);
+        (record { variables = keysAt vs₀ 0 known; pass = record { predicate = q; terms = []; due = 0; operations = ops } }))
+        (ap (λ (a : Atom). a .predicate) (sym (empty-unpacked equality))) (nothing os₀);
   }
 
   module _ {vs os : List ℕ} {place count : ℕ} {p : Progress} (l : Loop line place₀ ns ar vs₀ os₀ s known vs os place count p) where

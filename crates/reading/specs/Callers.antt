@@ -4,11 +4,12 @@ use mathlib.Core.Path.{_≡_}
 use mathlib.Core.Bool.{Bool, true, false}
 use lib.Dec.{leb}
 use mathlib.Core.List.{List}
-use lib.ListN.{length, drop}
+use lib.ListN.{length, take, drop, set}
 use Rattle.refusal.specs.declared.Refusal.the-variants as F
-use Rattle.label.specs.Limits.{constantCount, parameterCount, predicateCount, termEnd, mostPlaces, variableCount}
-use Rattle.label.specs.Labels.{areArities}
+use Rattle.label.specs.Limits.{constantCount, parameterCount, predicateCount, termBase, termEnd, mostPlaces, variableCount}
+use Rattle.label.specs.Labels.{areArities, placesOf, placeIn, atomFrom, unpacked}
 use Rattle.label.specs.Callers.{Packable}
+use Rattle.label.specs.declared.Atom.{Atom}
 use Rattle.words.specs.declared.Key.{Key}
 use Rattle.events.specs.Front.{eventsOf}
 use Rattle.names.specs.Keys.{keysAt}
@@ -40,9 +41,22 @@ namesOf ns ar s = record {
   binding = s .binding;
 }
 
+-- the atom with the term t in place k
+abbrev pub placed : Atom → ℕ → ℕ → Atom
+placed a k t = atomFrom (a .predicate) (set (placesOf a) k t)
+
+-- the atom under way, its unfilled places 0
+abbrev pub atomOf : Progress → Atom
+atomOf p = unpacked (p .label .packed)
+
 -- the pass whose operations stand in os
 abbrev pub passOf : List ℕ → Progress → Pass
-passOf os p = record { atom = p .atom; filled = p .filled; due = p .due; operations = opsIn os (p .operations) }
+passOf os p = record {
+  predicate = atomOf p .predicate;
+  terms = take (p .filled) (placesOf (atomOf p));
+  due = p .due;
+  operations = opsIn os (p .operations);
+}
 
 abbrev pub judgedNumber : Resolved → Judged ℕ
 judgedNumber (R.Number t) = fine t
@@ -102,7 +116,7 @@ pub record Heads (line : List ℕ) (n : ℕ) (w : Judged Head) (r : Headed) (vs�
   pub answer : judgedHead line vs′ n r ≡ w
   pub within : HeadWithin line r
 
--- the operations lie within the words os, and the variables are 32 at most
+-- the operations lie within the words os, and the variables within their limit
 abbrev pub ReadWithin : List ℕ → Read → Type 0
 ReadWithin os (W.Done n m) = (n * 2 ≤ length os) × (m ≤ variableCount)
 ReadWithin os (W.Refused r) = Unit {0}
@@ -120,7 +134,7 @@ pub record Tables (ns ar : List ℕ) (s : Scope) : Type 0 where
   pub parameters-fit : s .parameters ≤ parameterCount
   pub arities-fit : areArities ar ≡ true
 
--- a table of variables: at most 33 are kept
+-- a table of variables: at most one more than the limit is kept
 pub record Variables (vs : List ℕ) (count : ℕ) : Type 0 where
   pub words : (variableCount + 1) * 2 ≤ length vs
   pub within : count ≤ variableCount + 1
@@ -132,15 +146,23 @@ pub record Readable (line : List ℕ) (place : ℕ) (ns ar vs os : List ℕ) (s 
   pub variables : Variables vs known
   pub words : length line * 2 ≤ length os
 
--- an atom that packs, its terms still due counted
+-- an atom that packs, with places for the terms still due, and 0 in these
 pub record Going (p : Progress) : Type 0 where
-  pub packable : Packable (p .atom)
+  pub packable : Packable (atomOf p)
   pub places : p .filled + p .due ≤ mostPlaces
+  pub unfilled : (k : ℕ) → p .filled ≤ k → placeIn (atomOf p) k ≡ 0
 
 -- and words for one operation more
 pub record Room (os : List ℕ) (p : Progress) : Type 0 where
   pub going : Going p
   pub room : p .operations * 2 + 2 ≤ length os
+
+-- a label whose place k is 0, and a term to stand there
+pub record Fillable (l k t : ℕ) : Type 0 where
+  pub packable : Packable (unpacked l)
+  pub place : k < mostPlaces
+  pub zero : placeIn (unpacked l) k ≡ 0
+  pub term : t < termBase
 
 abbrev pub TermBelow : Resolved → Type 0
 TermBelow (R.Number t) = t < termEnd

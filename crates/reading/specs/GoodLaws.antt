@@ -11,11 +11,12 @@ use lib.ListN.{length, getD, List·getD-eq-default}
 use Rattle.basics.specs.Tests.{Cmp, cmp}
 use Rattle.basics.specs.Tests.Cmp.{below, equal as alike, above}
 use Rattle.refusal.specs.declared.Refusal.the-variants.{Name, Arity, Range, Unbound, Variables}
-use Rattle.label.specs.Limits.{constantCount, firstParameter, parameterCount, firstVariable, variableCount, predicateCount, equality}
+use Rattle.label.specs.Limits.{constantCount, firstParameter, parameterCount, firstVariable, variableCount, termBase, predicateCount, equality, equalityArity}
 use Rattle.label.specs.Terms.{isConstant, isParameter, isVariable, isTerm}
-use Rattle.label.specs.Labels.{areArities, placeFits, inOrder, packed, unpacked, predicateOf, pickTest, labelOf, equates, testOf}
+use Rattle.label.specs.Labels.{areArities, placeFits, inOrder, atomFrom, packed, unpacked, predicateOf, pickTest, labelOf, equates, testOf}
 use Rattle.label.specs.Renamings.{EachTerm, EachIn}
-use Rattle.label.specs.LabelLaws.{term-below, fits-atom, unpacked-packed, label-packed}
+use Rattle.label.specs.LabelLaws.{term-below, place-from, below-places, fits-atom, unpacked-packed, label-packed}
+use Rattle.label.specs.ArityLaws.{arity-two}
 use Rattle.label.specs.Callers.{Places}
 use Rattle.label.specs.declared.Atom.{Atom}
 use Rattle.label.specs.declared.Test.{Test}
@@ -37,9 +38,8 @@ use Rattle.reading.specs.Reading.{Names, Judged, andThen, constantNumber
 use Rattle.reading.specs.Reading.Judged.{fine, refused}
 use Rattle.reading.specs.AllLaws.{all-at}
 use Rattle.reading.specs.JudgedLaws.{apart, fine-one, chosen, passed, chained}
-use Rattle.reading.specs.Tree.{Reading, Result, having, resolveTerm, resolveTerms, atomFrom, testing, resolveAtom, branching, resolveDiagram, writing, diagramReading, depth, Named, reach, GoodTest, GoodReading, NamesFit, Sound}
+use Rattle.reading.specs.Tree.{Reading, Result, having, resolveTerm, resolveTerms, testing, resolveAtom, branching, resolveDiagram, writing, diagramReading, depth, Named, reach, GoodTest, GoodReading, NamesFit, Sound}
 use Rattle.reading.specs.Tree.Reading.{branch}
-use Rattle.reading.specs.ArityLaws.{arity-most, arity-two}
 use Rattle.reading.specs.TreeLaws.{Resolving, terms-resolved, reading-diagram}
 
 -- terms
@@ -161,27 +161,22 @@ module _ (ar : List ℕ) (P : ℕ → Type 0) (w : (t : ℕ) → P t → isTerm 
           let z : length us ≤ k = omega arith in
           rw (le-ltb k n (omega arith), eq-eqb (getD us k 0) 0 (List·getD-eq-default us 0 z))
 
-  place-below : (us : List ℕ) (k : ℕ) → T.All P us → getD us k 0 < 64
+  place-below : (us : List ℕ) (k : ℕ) → T.All P us → getD us k 0 < termBase
   place-below us k a = go (decLt k (length us))
     where
-      go : Dec (k < length us) → getD us k 0 < 64
-      go (yes h) = term-below (getD us k 0) (w (getD us k 0) (all-at P us 0 k a h))
+      go : Dec (k < length us) → getD us k 0 < termBase
+      go (yes h) = omega (arith, term-below (getD us k 0) (w (getD us k 0) (all-at P us 0 k a h)))
       go (no h) =
           let z : length us ≤ k = omega arith in
           let e = List·getD-eq-default us 0 z in
           omega arith
 
   module _ (q : ℕ) (us : List ℕ) (l : length us ≡ getD ar q 0) (a : T.All P us) where
-    places : Places (atomFrom q us)
-    places = record { first-below = place-below us 0 a; second-below = place-below us 1 a; third-below = place-below us 2 a; fourth-below = place-below us 3 a }
+    places : Places termBase (atomFrom q us)
+    places = below-places termBase (atomFrom q us) (λ k h. rw (place-from q us k h) (place-below us k a))
 
     each-term : EachTerm P (getD ar q 0) (atomFrom q us)
-    each-term = record {
-      on-first = λ h. all-at P us 0 0 a (omega arith);
-      on-second = λ h. all-at P us 0 1 a (omega arith);
-      on-third = λ h. all-at P us 0 2 a (omega arith);
-      on-fourth = λ h. all-at P us 0 3 a (omega arith);
-    }
+    each-term = record { on = λ k n h. rw (place-from q us k h) (all-at P us 0 k a (omega arith)) }
 
     each-in : EachIn ar P (packed (atomFrom q us))
     unfolding predicateOf unpacked
@@ -193,12 +188,7 @@ module _ (ar : List ℕ) (P : ℕ → Type 0) (w : (t : ℕ) → P t → isTerm 
           ∙ fits-atom ar (atomFrom q us)
           (record {
             predicate-fits = h;
-            places-fit = record {
-              first-fits = place-is (getD ar q 0) us 0 l a;
-              second-fits = place-is (getD ar q 0) us 1 l a;
-              third-fits = place-is (getD ar q 0) us 2 l a;
-              fourth-fits = place-is (getD ar q 0) us 3 l a;
-            };
+            places-fit = record { fits = λ k h. rw (place-from q us k h) (place-is (getD ar q 0) us k l a) };
             ordered = o;
           }),
       each-in,
@@ -242,7 +232,7 @@ module _ (σ : Names) (P : ℕ → Type 0) (Q : List Key → Type 0) (fits : Nam
   atom-good : (a : T.Atom) (vs : List Key) (g : Result Test) → Q vs → resolveAtom σ vs a ≡ fine g → Keeps (GoodTest (σ .arities) P) Q g
   atom-good (equal a b) vs g k e = tested equality (a ∷ b ∷ []) vs g k (λ us. equal-terms us) e
     where
-      equal-terms : (us : List ℕ) → length us ≡ 2 → T.All P us → GoodTest (σ .arities) P (testOf (atomFrom equality us))
+      equal-terms : (us : List ℕ) → length us ≡ equalityArity → T.All P us → GoodTest (σ .arities) P (testOf (atomFrom equality us))
       equal-terms [] l m = absurd (omega arith)
       equal-terms (t ∷ []) l m = absurd (omega arith)
       equal-terms (t ∷ u ∷ []) l m = equal-good (σ .arities) P w (fits .arity-list) t u (m .0) (m .1 .0)
@@ -280,7 +270,7 @@ module _ (σ : Names) (P : ℕ → Type 0) (Q : List Key → Type 0) (fits : Nam
 pub reading-sound : (σ : Names) → NamesFit σ → (d : T.Diagram) (vs : List Key) (w : Written) → reading σ (diagramEvents d) vs ≡ fine w → Sound σ vs d w
 unfolding diagramReading
 reading-sound σ f d vs w e =
-    let c = chained (resolveDiagram σ vs d) writing w (sym (reading-diagram σ (λ i. arity-most (σ .arities) i (f .arity-list)) d vs) ∙ e) in
+    let c = chained (resolveDiagram σ vs d) writing w (sym (reading-diagram σ d vs) ∙ e) in
     let g = diagram-good σ (Named (length (σ .parameters)) (reach (σ .binding) vs)) (λ us. reach (σ .binding) us ≡ reach (σ .binding) vs) f (λ t n. n .is-term) (names-resolving σ f vs)
     d vs (c .first) refl (c .answers) in
     let p = passed (leb (length (c .first .variables)) variableCount) _ Variables w (c .then) in

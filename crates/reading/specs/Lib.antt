@@ -5,16 +5,16 @@
 --   Names, Binding == the names that stand for something on the line; which variables: any, none, or only the arguments
 --   Judged, andThen, pickJudged == an answer or the refusal; the first refusal decides; the first if true, else the second
 --   constantNumber, parameterNumber == a declared constant, or 2; a parameter of this action, or 6
---   met, pickKeys == the variables met so far, in the order of their first occurrence; 33 are kept
---   lastVariable, numberIn, variableNumber == variables are numbered from 32 by first occurrence; an unknown one is 6 where none may be new
+--   met, pickKeys == the variables met so far, in the order of their first occurrence; one more than the limit is kept
+--   lastVariable, numberIn, variableNumber == variables are numbered by first occurrence; an unknown one is 6 where none may be new
 --
 -- Definitions: the pass
---   Pass, placed, more, pickPass == the atom under way, the terms still due, the operations so far
---   asked, beginning, begun, filling == an atom begins, its places are filled, and it is asked once no term is due
+--   Pass, more, pickPass == the atom under way, how many terms are due, the operations so far
+--   asked, beginning, begun, filling == an atom begins, its terms follow, and it is asked once none is due
 --   termWord, numberWord, atomWord == a term, or 1; a leaf, or 4; a declared predicate, or 2, with its arity, or 3
 --   metAt, word == the variables after a word; a word judged
 --   State, with-pass, readWord, readWords == how far the words are read
---   Written, begin, finished, reading == all words; then more than 32 variables are 8
+--   Written, begin, finished, reading == all words; then more variables than the limit are 8
 --
 -- Definitions: the head of (becomes (p ?a ..) DIAGRAM)
 --   Opening, openingOf, openedNumber, headNumber == its predicate, or 2
@@ -29,7 +29,7 @@
 -- Theorems
 --   reading-diagram: the words of a diagram, read one after another, come to what its tree stands for
 --   reading-sound: what is accepted names nothing unbound, has labels under the arity list and leaves in range
---   reading-counts: where any variable may stand, 8 is judged by all of them, though 33 are kept
+--   reading-counts: where any variable may stand, 8 is judged by all of them, though only one more than the limit is kept
 --
 -- Callers has inner contracts.
 
@@ -43,7 +43,6 @@ pub mod Callers
 -- laws
 pub mod JudgedLaws
 pub mod AllLaws
-pub mod ArityLaws
 pub mod TreeLaws
 pub mod GoodLaws
 pub mod OperationLaws

@@ -25,7 +25,7 @@ use Rattle.reading.specs.Reading.{Names, Judged, pickJudged, andThen, re
 use Rattle.reading.specs.Reading.Judged.{fine, refused}
 use Rattle.reading.specs.Head.{openedNumber, headNumber, Head, argumentsFrom, headArguments, argumentKeys, headKeys}
 use Rattle.reading.specs.Tree.{diagramReading}
-use Rattle.reading.specs.TreeLaws.{Arities, reading-diagram}
+use Rattle.reading.specs.TreeLaws.{reading-diagram}
 use Rattle.reading.specs.JudgedLaws.{apart}
 
 -- the event at a place, where the events from there on are known
@@ -45,9 +45,9 @@ next-splits s i e es p = go (isEnd (nextAt s i .event)) refl
         record { event = cc; rest = cc }
 
 -- (reward DIAGRAM)
-pub reward-words : (σ : Names) → Arities σ → (d : T.Diagram) → T.GoodDiagram d → (vs : List Key)
+pub reward-words : (σ : Names) (d : T.Diagram) → T.GoodDiagram d → (vs : List Key)
     → reading σ (eventsOf (drop (firstWord Reward) (lineBytes (line Reward d)))) vs ≡ diagramReading σ d vs
-reward-words σ w d g vs = ap (λ es. reading σ es vs) (line-events Reward d g) ∙ reading-diagram σ w d vs
+reward-words σ d g vs = ap (λ es. reading σ es vs) (line-events Reward d g) ∙ reading-diagram σ d vs
 
 -- (variant n WEIGHT): the name, and behind it the diagram
 pub variant-words : (w : Words Variant) → GoodWords Variant w

@@ -1,4 +1,5 @@
--- The words pass keeps 33 variables, and yet judges 8 by all: more than 32 distinct names are refused, and up to 32 none is left out.
+-- The words pass keeps one variable more than the limit, and yet judges 8 by all: more distinct names than the limit are refused, and up to
+-- it none is left out.
 use Prim.Native.Nat.{_+_, _≤_, _<_}
 use mathlib.Core.Path.{_≡_, refl, sym, ap, _∙_}
 use mathlib.Core.Bool.{Bool, true, false}
@@ -23,9 +24,9 @@ use Rattle.reading.specs.Reading.Judged.{fine, refused}
 use Rattle.reading.specs.Occurrences.{variableKeys, occurring}
 use Rattle.reading.specs.JudgedLaws.{apart, chained}
 
--- 33 of them
+-- those that are kept
 abbrev kept : List Key → List Key
-kept us = take 33 us
+kept us = take (variableCount + 1) us
 
 pick-same : (b : Bool) (x : List Key) → pickKeys b x x ≡ x
 pick-same true x = refl
@@ -34,23 +35,23 @@ pick-same false x = refl
 -- one variable more, in the table and among all
 met-kept : (us : List Key) (k : Key) → met Any (kept us) k ≡ kept (pickKeys (isAmong k us) us (us ++ (k ∷ [])))
 unfolding met
-met-kept us k = go (decLt (length us) 33)
+met-kept us k = go (decLt (length us) (variableCount + 1))
   where
-    by-test : (b : Bool) → length us < 33 → pickKeys b us (us ++ (k ∷ [])) ≡ kept (pickKeys b us (us ++ (k ∷ [])))
-    by-test true h = sym (take-all 33 us (omega arith))
-    by-test false h = sym (take-all 33 (us ++ (k ∷ [])) (omega (arith, length-append us (k ∷ []))))
+    by-test : (b : Bool) → length us < variableCount + 1 → pickKeys b us (us ++ (k ∷ [])) ≡ kept (pickKeys b us (us ++ (k ∷ [])))
+    by-test true h = sym (take-all (variableCount + 1) us (omega arith))
+    by-test false h = sym (take-all (variableCount + 1) (us ++ (k ∷ [])) (omega (arith, length-append us (k ∷ []))))
 
-    full : (b : Bool) → 33 ≤ length us → kept us ≡ kept (pickKeys b us (us ++ (k ∷ [])))
+    full : (b : Bool) → variableCount + 1 ≤ length us → kept us ≡ kept (pickKeys b us (us ++ (k ∷ [])))
     full true h = refl
-    full false h = sym (take-append-le 33 us (k ∷ []) h)
+    full false h = sym (take-append-le (variableCount + 1) us (k ∷ []) h)
 
-    go : Dec (length us < 33)
+    go : Dec (length us < variableCount + 1)
         → pickKeys (isAmong k (kept us)) (kept us) (pickKeys (leb (length (kept us)) variableCount) (kept us ++ (k ∷ [])) (kept us))
         ≡ kept (pickKeys (isAmong k us) us (us ++ (k ∷ [])))
-    go (yes h) = rw (take-all 33 us (omega arith), le-leb (length us) variableCount (omega arith)) (by-test (isAmong k us) h)
+    go (yes h) = rw (take-all (variableCount + 1) us (omega arith), le-leb (length us) variableCount (omega arith)) (by-test (isAmong k us) h)
     go (no h) =
-        let l : 33 ≤ length us = omega arith in
-        rw (length-take-le 33 us l) (pick-same (isAmong k (kept us)) (kept us) ∙ full (isAmong k us) l)
+        let l : variableCount + 1 ≤ length us = omega arith in
+        rw (length-take-le (variableCount + 1) us l) (pick-same (isAmong k (kept us)) (kept us) ∙ full (isAmong k us) l)
 
 -- the variables after all words
 abbrev metBy : Binding → List Key → List Event → List Key
@@ -82,19 +83,19 @@ words-met σ (e ∷ es) s t p =
     words-met σ es (c .first) t (c .then)
     ∙ ap (λ vs. metBy (σ .binding) vs es) (sym (passed-on (metAt (σ .binding) (s .variables) e) (word σ (metAt (σ .binding) (s .variables) e) (s .pass) e) (c .first) (c .answers)))
 
--- 8 above 32 variables
+-- 8 above the limit of variables
 abbrev judged : List Key → List Op → Judged Written
 judged vs o = pickJudged (leb (length vs) variableCount) (fine (record { variables = vs; operations = o })) (refused F.Variables)
 
--- the count of the table against 32 is that of all
+-- the count of the table against the limit is that of all
 count-kept : (us : List Key) (o : List Op) → judged (kept us) o ≡ judged us o
-count-kept us o = go (decLt (length us) 33)
+count-kept us o = go (decLt (length us) (variableCount + 1))
   where
-    go : Dec (length us < 33) → judged (kept us) o ≡ judged us o
-    go (yes h) = ap (λ vs. judged vs o) (take-all 33 us (omega arith))
+    go : Dec (length us < variableCount + 1) → judged (kept us) o ≡ judged us o
+    go (yes h) = ap (λ vs. judged vs o) (take-all (variableCount + 1) us (omega arith))
     go (no h) =
-        let l : 33 ≤ length us = omega arith in
-        rw (length-take-le 33 us l, lt-leb (length us) variableCount (omega arith))
+        let l : variableCount + 1 ≤ length us = omega arith in
+        rw (length-take-le (variableCount + 1) us l, lt-leb (length us) variableCount (omega arith))
 
 -- a reward's words without a fault: 8 by all of their variables, or all of them in their order
 pub reading-counts : (σ : Names) → σ .binding ≡ Any → (es : List Event) (s : State) → readWords σ es (begin []) ≡ fine s

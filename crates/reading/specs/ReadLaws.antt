@@ -18,7 +18,6 @@ use Rattle.reading.specs.declared.Read.the-variants as W
 use Rattle.reading.specs.Operations.{opsIn}
 use Rattle.reading.specs.Reading.{Names, Written, reading}
 use Rattle.reading.specs.Tree.{Reading, opsOf, diagramReading, depth, Named, reach, GoodReading, NamesFit}
-use Rattle.reading.specs.ArityLaws.{arity-most}
 use Rattle.reading.specs.TreeLaws.{reading-diagram}
 use Rattle.reading.specs.GoodLaws.{reading-sound}
 use Rattle.reading.specs.OperationLaws.{InRange, operations-range, leaf-range, label-range}
@@ -44,7 +43,7 @@ pub record Diagrammed (σ : Names) (vs : List Key) (d : T.Diagram) (n : ℕ) (os
 module _ (σ : Names) (f : NamesFit σ) (d : T.Diagram) (es : List Event) (e : es ≡ diagramEvents d) (ks : List Key) {vs os : List ℕ} where
   -- the answer is that of the tree, refusals too
   pub read-answer : {r : Read} → Reads (reading σ es ks) r vs os → judgedWritten vs os r ≡ diagramReading σ d ks
-  read-answer g = g .answer ∙ ap (λ x. reading σ x ks) e ∙ reading-diagram σ (λ i. arity-most (σ .arities) i (f .arity-list)) d ks
+  read-answer g = g .answer ∙ ap (λ x. reading σ x ks) e ∙ reading-diagram σ d ks
 
   pub read-diagram : {n m : ℕ} → Reads (reading σ es ks) (W.Done n m) vs os → Diagrammed σ ks d n os
   read-diagram {n} {m} g =

@@ -1,6 +1,6 @@
 -- A line's words with a diagram in it, one after another: what each word stands for, and the first fault (document 01, section 'Text',
 -- and under the refusals: 'word by word 2, 3, 6, 4, with 3 found at the predicate's own word; then its diagram 8').
-use Prim.Native.Nat.{ℕ, zero, suc, _+_, _-_, min}
+use Prim.Native.Nat.{ℕ, _+_, _-_, min}
 use mathlib.Core.Bool.{Bool, true, false}
 use mathlib.Core.List.{List, [], _∷_, _++_}
 use lib.Dec.{eqb, leb}
@@ -9,8 +9,7 @@ use Rattle.refusal.specs.declared.Refusal.{Refusal}
 use Rattle.refusal.specs.declared.Refusal.the-variants.{Form, Name, Arity, Range, Unbound, Variables}
 use Rattle.label.specs.Limits.{variableCount, equality, equalityArity}
 use Rattle.label.specs.Terms.{constantTerm, parameterTerm, variableTerm}
-use Rattle.label.specs.Labels.{testOf}
-use Rattle.label.specs.declared.Atom.{Atom}
+use Rattle.label.specs.Labels.{atomFrom, testOf}
 use Rattle.diagram.specs.Sizes.{highestValue}
 use Rattle.words.specs.declared.Key.{Key}
 use Rattle.names.specs.Keys.{placeOf, isAmong}
@@ -58,8 +57,8 @@ abbrev pub pickKeys : Bool → List Key → List Key → List Key
 pickKeys true x y = x
 pickKeys false x y = y
 
--- the variables met so far, in the order of their first occurrence, after ?name. 33 are kept: a line with more than 32 is refused whatever
--- the others are
+-- the variables met so far, in the order of their first occurrence, after ?name. One more than the limit is kept: a line with more than
+-- that many is refused whatever the others are
 unfoldable pub met : Binding → List Key → Key → List Key
 met Any vs k = pickKeys (isAmong k vs) vs (pickKeys (leb (length vs) variableCount) (vs ++ (k ∷ [])) vs)
 met None vs k = vs
@@ -67,9 +66,10 @@ met Only vs k = vs
 
 -- the place of the last variable that has a number
 abbrev pub lastVariable : ℕ
-lastVariable = 31
+lastVariable = variableCount - 1
 
--- 'numbered from 32 by first occurrence'. A variable past the 32nd is given the last number: its line is refused after its words (8)
+-- numbered by first occurrence, from the first variable's number on. A variable past the last is given the last number: its line is refused
+-- after its words (8)
 unfoldable pub numberIn : List Key → Key → ℕ
 numberIn vs k = variableTerm (min (placeOf k vs) lastVariable)
 
@@ -81,23 +81,16 @@ variableNumber Only vs k = pickJudged (isAmong k vs) (fine (numberIn vs k)) (ref
 
 -- atoms and operations
 
--- the atom under way with the places filled so far, how many those are, how many terms are still due; the operations so far
+-- the atom under way: its predicate, its terms so far, how many are still due; and the operations so far
 pub record Pass : Type 0 where
-  pub atom : Atom
-  pub filled : ℕ
+  pub predicate : ℕ
+  pub terms : List ℕ
   pub due : ℕ
   pub operations : List Op
 
--- the atom with the term t at place k
-abbrev pub placed : Atom → ℕ → ℕ → Atom
-placed a zero t = record { predicate = a .predicate; first = t; second = a .second; third = a .third; fourth = a .fourth }
-placed a (suc zero) t = record { predicate = a .predicate; first = a .first; second = t; third = a .third; fourth = a .fourth }
-placed a (suc (suc zero)) t = record { predicate = a .predicate; first = a .first; second = a .second; third = t; fourth = a .fourth }
-placed a (suc (suc (suc k))) t = record { predicate = a .predicate; first = a .first; second = a .second; third = a .third; fourth = t }
-
 -- one operation more
 abbrev pub more : Pass → Op → Pass
-more p o = record { atom = p .atom; filled = p .filled; due = p .due; operations = p .operations ++ (o ∷ []) }
+more p o = record { predicate = p .predicate; terms = p .terms; due = p .due; operations = p .operations ++ (o ∷ []) }
 
 abbrev pub pickPass : Bool → Pass → Pass → Pass
 pickPass true x y = x
@@ -105,28 +98,18 @@ pickPass false x y = y
 
 -- an atom is asked once none of its terms is due
 unfoldable pub asked : Pass → Pass
-asked p = pickPass (eqb (p .due) 0) (more p (ask (testOf (p .atom)))) p
+asked p = pickPass (eqb (p .due) 0) (more p (ask (testOf (atomFrom (p .predicate) (p .terms))))) p
 
 -- an atom of the predicate q begins, n terms due
 abbrev pub beginning : Pass → ℕ → ℕ → Pass
-beginning p q n = record {
-  atom = record { predicate = q; first = 0; second = 0; third = 0; fourth = 0 };
-  filled = 0;
-  due = n;
-  operations = p .operations;
-}
+beginning p q n = record { predicate = q; terms = []; due = n; operations = p .operations }
 
 unfoldable pub begun : Pass → ℕ → ℕ → Pass
 begun p q n = asked (beginning p q n)
 
--- the term t fills the next place
+-- the term t is the next one
 abbrev pub filling : Pass → ℕ → Pass
-filling p t = record {
-  atom = placed (p .atom) (p .filled) t;
-  filled = p .filled + 1;
-  due = p .due - 1;
-  operations = p .operations;
-}
+filling p t = record { predicate = p .predicate; terms = p .terms ++ (t ∷ []); due = p .due - 1; operations = p .operations }
 
 -- where no term is due the line is not the grammar
 unfoldable pub termWord : Pass → Judged ℕ → Judged Pass
@@ -192,7 +175,7 @@ pub record Written : Type 0 where
   pub variables : List Key
   pub operations : List Op
 
--- after all words, more than 32 variables are 8
+-- after all words, more variables than the limit are 8
 abbrev pub finished : State → Judged Written
 finished s =
     pickJudged (leb (length (s .variables)) variableCount)
@@ -202,7 +185,7 @@ finished s =
 abbrev pub begin : List Key → State
 begin vs = record {
   variables = vs;
-  pass = record { atom = record { predicate = 0; first = 0; second = 0; third = 0; fourth = 0 }; filled = 0; due = 0; operations = [] };
+  pass = record { predicate = equality; terms = []; due = 0; operations = [] };
 }
 
 -- the words es, the variables vs known before them

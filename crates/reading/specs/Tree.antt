@@ -8,9 +8,8 @@ use lib.ListN.{length, getD}
 use Rattle.refusal.specs.declared.Refusal.the-variants.{Name, Arity, Range, Variables}
 use Rattle.label.specs.Limits.{constantCount, firstParameter, parameterCount, firstVariable, variableCount, predicateCount, equality}
 use Rattle.label.specs.Terms.{isTerm}
-use Rattle.label.specs.Labels.{areArities, testOf, isLabel}
+use Rattle.label.specs.Labels.{areArities, atomFrom, testOf, isLabel}
 use Rattle.label.specs.Renamings.{EachIn}
-use Rattle.label.specs.declared.Atom.{Atom}
 use Rattle.label.specs.declared.Test.{Test}
 use Rattle.label.specs.declared.Test.the-variants.{Always, Is}
 use Rattle.diagram.specs.Sizes.{highestValue}
@@ -57,10 +56,6 @@ abbrev pub resolveTerms : Names → List Key → List T.Term → Judged (Result 
 resolveTerms σ vs [] = fine (record { value = []; variables = vs })
 resolveTerms σ vs (t ∷ ts) = andThen (resolveTerm σ vs t) (λ g. andThen (resolveTerms σ (g .variables) ts) (joined (g .value)))
 
--- the atom of the predicate p with the terms ts, unused places 0
-abbrev pub atomFrom : ℕ → List ℕ → Atom
-atomFrom p ts = record { predicate = p; first = getD ts 0 0; second = getD ts 1 0; third = getD ts 2 0; fourth = getD ts 3 0 }
-
 abbrev pub testing : ℕ → Result (List ℕ) → Judged (Result Test)
 testing p g = fine (record { value = testOf (atomFrom p (g .value)); variables = g .variables })
 
@@ -91,7 +86,7 @@ abbrev pub opsOf : Reading → List Op
 opsOf (number v) = leafOp v ∷ []
 opsOf (branch t h f) = ask t ∷ (opsOf h ++ (opsOf f ++ (step ∷ [])))
 
--- after all words, more than 32 variables are 8
+-- after all words, more variables than the limit are 8
 abbrev pub writing : Result Reading → Judged Written
 writing g =
     pickJudged (leb (length (g .variables)) variableCount)
@@ -107,13 +102,13 @@ abbrev pub depth : Reading → ℕ
 depth (number v) = 0
 depth (branch t h f) = suc (max (depth h) (depth f))
 
--- which terms may be named, c parameters of the action and n variables: constants, parameters 16 onward, variables 32 onward
+-- which terms may be named, c parameters of the action and n variables: constants, parameters and variables from their first on
 pub record Named (c n t : ℕ) : Type 0 where
   pub is-term : isTerm t ≡ true
   pub parameters : firstParameter + c ≤ t → firstVariable ≤ t
   pub variables : t < firstVariable + n
 
--- how many variables: in a reward up to 32, in a weight none, in a truth diagram its arguments vs
+-- how many variables: in a reward up to the limit, in a weight none, in a truth diagram its arguments vs
 abbrev pub reach : Binding → List Key → ℕ
 reach Any vs = variableCount
 reach None vs = 0
@@ -136,7 +131,7 @@ pub record NamesFit (σ : Names) : Type 0 where
   pub arity-list : areArities (σ .arities) ≡ true
 
 -- what the words of a line with the diagram d come to, where they are not refused: the operations of a diagram that is as deep as d at most and
--- names nothing unbound, and at most 32 variables
+-- names nothing unbound, and no more variables than the limit
 pub record Sound (σ : Names) (vs : List Key) (d : T.Diagram) (w : Written) : Type 0 where
   pub tree : Reading
   pub operations : w .operations ≡ opsOf tree

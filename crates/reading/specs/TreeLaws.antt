@@ -1,16 +1,15 @@
 -- The words of a diagram, read one after another, come to what its tree stands for.
-use Prim.Native.Nat.{ℕ, suc, _+_, _-_, _≤_}
+use Prim.Native.Nat.{ℕ, suc, _+_}
 use mathlib.Core.Path.{_≡_, refl, sym, ap, subst, _∙_}
 use mathlib.Core.Bool.{Bool, true, false}
 use mathlib.Core.List.{List, [], _∷_, _++_, append-assoc, append-nil, map}
 use native.Mathlib.Omega.{arith}
-use borrow.Author.Tests.{eq-eqb, ne-eqb, eqb-true}
+use borrow.Author.Tests.{eq-eqb, ne-eqb}
 use lib.Dec.{eqb, leb}
 use lib.ListN.{length, getD}
 use Rattle.refusal.specs.declared.Refusal.the-variants.{Name, Arity, Range, Variables}
-use Rattle.label.specs.Limits.{mostPlaces, equality, variableCount}
-use Rattle.label.specs.Labels.{testOf}
-use Rattle.label.specs.declared.Atom.{Atom}
+use Rattle.label.specs.Limits.{equality, variableCount}
+use Rattle.label.specs.Labels.{atomFrom, testOf}
 use Rattle.label.specs.declared.Test.{Test}
 use Rattle.diagram.specs.Sizes.{highestValue}
 use Rattle.words.specs.Bytes.{valueOf}
@@ -27,10 +26,10 @@ use Rattle.events.specs.declared.Event.the-variants as E
 use Rattle.events.specs.Events.{termEvent, atomEvents, diagramEvents}
 use Rattle.reading.specs.Operations.{Op}
 use Rattle.reading.specs.Operations.Op.{leafOp, ask, step}
-use Rattle.reading.specs.Reading.{Names, Judged, pickJudged, andThen, Pass, placed, more, asked, beginning, begun, filling, termWord, numberWord, atomWord, word, State, with-pass, readWord, readWords, finished, begin, reading}
+use Rattle.reading.specs.Reading.{Names, Judged, pickJudged, andThen, Pass, more, asked, beginning, begun, filling, termWord, numberWord, atomWord, word, State, with-pass, readWord, readWords, finished, begin, reading}
 use Rattle.reading.specs.Reading.Judged.{fine, refused}
 use Rattle.reading.specs.JudgedLaws.{apart}
-use Rattle.reading.specs.Tree.{Reading, Result, having, resolveTerm, joined, resolveTerms, atomFrom, testing, resolveAtom, branching, resolveDiagram, opsOf, writing, diagramReading}
+use Rattle.reading.specs.Tree.{Reading, Result, having, resolveTerm, joined, resolveTerms, testing, resolveAtom, branching, resolveDiagram, opsOf, writing, diagramReading}
 use Rattle.reading.specs.Tree.Reading.{number}
 
 abbrev at : List Key → Pass → State
@@ -121,23 +120,14 @@ count-resolved : (σ : Names) (ts : List T.Term) (vs : List Key) (g : Result (Li
 count-resolved σ ts vs g e =
     terms-resolved σ (λ u. Unit {0}) (λ us. Unit {0}) (record { each = λ us t k q z. (tt, tt) }) ts vs g tt e .count
 
--- the places of an atom, filled one after another
-abbrev filledBy : Atom → ℕ → List ℕ → Atom
-filledBy a k [] = a
-filledBy a k (t ∷ ts) = filledBy (placed a k t) (k + 1) ts
-
-filled-from : (q : ℕ) (us : List ℕ) → length us ≤ mostPlaces → filledBy (record { predicate = q; first = 0; second = 0; third = 0; fourth = 0 }) 0 us ≡ atomFrom q us
-filled-from q [] h = refl
-filled-from q (a ∷ []) h = refl
-filled-from q (a ∷ b ∷ []) h = refl
-filled-from q (a ∷ b ∷ c ∷ []) h = refl
-filled-from q (a ∷ b ∷ c ∷ d ∷ []) h = refl
-filled-from q (a ∷ b ∷ c ∷ d ∷ e ∷ us) h = absurd (omega arith)
-
-given-operations : (us : List ℕ) (p : Pass) → p .due ≡ length us → given p us .operations ≡ p .operations ++ (ask (testOf (filledBy (p .atom) (p .filled) us)) ∷ [])
+-- the atom's terms one after another, and its test
+given-operations : (us : List ℕ) (p : Pass) → p .due ≡ length us
+    → given p us .operations ≡ p .operations ++ (ask (testOf (atomFrom (p .predicate) (p .terms ++ us))) ∷ [])
 unfolding asked
-given-operations [] p e = rw (eq-eqb (p .due) 0 e)
-given-operations (t ∷ us) p e = given-operations us (filling p t) (omega arith)
+given-operations [] p e = rw (eq-eqb (p .due) 0 e, append-nil (p .terms))
+given-operations (t ∷ us) p e =
+    given-operations us (filling p t) (omega arith)
+    ∙ ap (λ ts. p .operations ++ (ask (testOf (atomFrom (p .predicate) ts)) ∷ [])) (append-assoc (p .terms) (t ∷ []) us)
 
 -- what follows a part of a line
 
@@ -154,44 +144,34 @@ follows-on σ es o (refused r) e q f = e ∙ f
 abbrev question : Test → List Op
 question t = ask t ∷ []
 
-terms-follow : (σ : Names) (q : ℕ) (ts : List T.Term) (es : List Event) (vs : List Key) (p : Pass) → length ts ≤ mostPlaces
+terms-follow : (σ : Names) (q : ℕ) (ts : List T.Term) (es : List Event) (vs : List Key) (p : Pass)
     → Follows σ (readWords σ (map termEvent ts ++ es) (at vs (begun p q (length ts)))) es (p .operations) question (andThen (resolveTerms σ vs ts) (testing q))
 unfolding begun
-terms-follow σ q ts es vs p h =
+terms-follow σ q ts es vs p =
     follows-on σ es question (andThen (resolveTerms σ vs ts) (testing q)) (terms-words σ ts es vs (beginning p q (length ts)) refl) refl
     (go (resolveTerms σ vs ts) (count-resolved σ ts vs))
   where
     go : (j : Judged (Result (List ℕ))) → ((g : Result (List ℕ)) → j ≡ fine g → length (g .value) ≡ length ts)
         → Follows σ (andThen j (λ g. readWords σ es (at (g .variables) (given (beginning p q (length ts)) (g .value))))) es (p .operations) question (andThen j (testing q))
     go (fine g) l =
-        let n : length (g .value) ≡ length ts = l g refl in (
-          given (beginning p q (length ts)) (g .value),
-          given-operations (g .value) (beginning p q (length ts)) (sym n)
-              ∙ ap (λ a. p .operations ++ (ask (testOf a) ∷ [])) (filled-from q (g .value) (omega arith)),
-          refl,
-        )
+        (given (beginning p q (length ts)) (g .value), given-operations (g .value) (beginning p q (length ts)) (sym (l g refl)), refl)
     go (refused r) l = refl
 
 -- an atom by its name's checks
-atom-checked : (σ : Names) (q : ℕ) (ts : List T.Term) (es : List Event) (vs : List Key) (p : Pass) (b c : Bool) → (c ≡ true → length ts ≤ mostPlaces)
+atom-checked : (σ : Names) (q : ℕ) (ts : List T.Term) (es : List Event) (vs : List Key) (p : Pass) (b c : Bool)
     → Follows σ (andThen (with-pass vs (pickJudged b (pickJudged c (fine (begun p q (length ts))) (refused Arity)) (refused Name))) (readWords σ (map termEvent ts ++ es)))
     es (p .operations) question (pickJudged b (pickJudged c (andThen (resolveTerms σ vs ts) (testing q)) (refused Arity)) (refused Name))
-atom-checked σ q ts es vs p true true w = terms-follow σ q ts es vs p (w refl)
-atom-checked σ q ts es vs p true false w = refl
-atom-checked σ q ts es vs p false c w = refl
+atom-checked σ q ts es vs p true true = terms-follow σ q ts es vs p
+atom-checked σ q ts es vs p true false = refl
+atom-checked σ q ts es vs p false c = refl
 
--- an arity list: no arity above 4
-abbrev pub Arities : Names → Type 0
-Arities σ = (i : ℕ) → getD (σ .arities) i 0 ≤ mostPlaces
-
-atom-follows : (σ : Names) → Arities σ → (a : T.Atom) (es : List Event) (vs : List Key) (p : Pass)
+atom-follows : (σ : Names) (a : T.Atom) (es : List Event) (vs : List Key) (p : Pass)
     → Follows σ (readWords σ (atomEvents a ++ es) (at vs p)) es (p .operations) question (resolveAtom σ vs a)
 unfolding readWords word atomWord
-atom-follows σ w (equal a b) es vs p = terms-follow σ equality (a ∷ b ∷ []) es vs p (omega arith)
-atom-follows σ w (holds q ts) es vs p =
+atom-follows σ (equal a b) es vs p = terms-follow σ equality (a ∷ b ∷ []) es vs p
+atom-follows σ (holds q ts) es vs p =
     let n : ℕ = placeOf (keyOf q) (σ .predicates) + 1 in
     atom-checked σ n ts es vs p (isAmong (keyOf q) (σ .predicates)) (eqb (length ts) (getD (σ .arities) n 0))
-    (λ e. omega (arith, w n, eqb-true (length ts) (getD (σ .arities) n 0) e))
 
 -- diagrams
 
@@ -235,25 +215,25 @@ test-follows σ es fs gs before X d e (fine g) f ihd ihe =
     true-follows σ es (g .value) before X gs e (d (g .variables)) (follows-on σ (gs ++ E.Step ∷ es) opsOf (d (g .variables)) (f .2) (f .1) (ihd g (f .0))) ihe
 test-follows σ es fs gs before X d e (refused r) f ihd ihe = f
 
-diagram-follows : (σ : Names) → Arities σ → (d : T.Diagram) (es : List Event) (vs : List Key) (p : Pass)
+diagram-follows : (σ : Names) (d : T.Diagram) (es : List Event) (vs : List Key) (p : Pass)
     → Follows σ (readWords σ (diagramEvents d ++ es) (at vs p)) es (p .operations) opsOf (resolveDiagram σ vs d)
 unfolding readWords word numberWord
-diagram-follows σ w (numeral n) es vs p = number-follows σ (valueOf n) es vs p (leb (valueOf n) highestValue)
-diagram-follows σ w (conditional a d e) es vs p =
+diagram-follows σ (numeral n) es vs p = number-follows σ (valueOf n) es vs p (leb (valueOf n) highestValue)
+diagram-follows σ (conditional a d e) es vs p =
     let fs : List Event = diagramEvents d in
     let gs : List Event = diagramEvents e in
     follows-on σ es opsOf (resolveDiagram σ vs (conditional a d e)) (ap (λ l. readWords σ l (at vs p)) (events-join (atomEvents a) fs gs es)) refl
     (test-follows σ es fs gs (p .operations) (readWords σ (atomEvents a ++ (fs ++ (gs ++ E.Step ∷ es))) (at vs p)) (λ us. resolveDiagram σ us d) (λ us. resolveDiagram σ us e)
-    (resolveAtom σ vs a) (atom-follows σ w a (fs ++ (gs ++ E.Step ∷ es)) vs p)
-    (λ g q. diagram-follows σ w d (gs ++ E.Step ∷ es) (g .variables) q)
-    (λ h q. diagram-follows σ w e (E.Step ∷ es) (h .variables) q))
+    (resolveAtom σ vs a) (atom-follows σ a (fs ++ (gs ++ E.Step ∷ es)) vs p)
+    (λ g q. diagram-follows σ d (gs ++ E.Step ∷ es) (g .variables) q)
+    (λ h q. diagram-follows σ e (E.Step ∷ es) (h .variables) q))
 
 -- the words of a diagram come to what its tree stands for
-pub reading-diagram : (σ : Names) → Arities σ → (d : T.Diagram) (vs : List Key) → reading σ (diagramEvents d) vs ≡ diagramReading σ d vs
+pub reading-diagram : (σ : Names) (d : T.Diagram) (vs : List Key) → reading σ (diagramEvents d) vs ≡ diagramReading σ d vs
 unfolding reading diagramReading readWords
-reading-diagram σ w d vs =
+reading-diagram σ d vs =
     ap (λ l. andThen (readWords σ l (begin vs)) finished) (sym (append-nil (diagramEvents d)))
-    ∙ go (resolveDiagram σ vs d) (diagram-follows σ w d [] vs (begin vs .pass))
+    ∙ go (resolveDiagram σ vs d) (diagram-follows σ d [] vs (begin vs .pass))
   where
     X : Judged State
     X = readWords σ (diagramEvents d ++ []) (begin vs)

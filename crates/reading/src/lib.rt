@@ -1,6 +1,5 @@
 // The words of a line with a diagram: names resolved, faults found word by word, and the operations that the diagram is built by.
 use events::Event;
-use label::Atom;
 use label::Label;
 use label::Term;
 use label::Test;
@@ -11,16 +10,17 @@ ghost use mathlib.Core.List.{[]};
 ghost use Prim.Native.Nat.{_+_, _*_, _≤_, _<_, min};
 ghost use lib.ListN.{length, drop};
 ghost use Rattle.label.specs.Limits.{constantCount, parameterCount, predicateCount, termEnd, mostPlaces};
+ghost use Rattle.label.specs.Labels.{unpacked};
 ghost use Rattle.label.specs.Terms.{variableTerm};
 ghost use Rattle.events.specs.Front.{isEnd, eventsOf};
 ghost use Rattle.names.specs.Keys.{keysAt};
 ghost use Rattle.names.specs.Layout.{constantsAt, declaredAt, parametersAt};
 ghost use Rattle.reading.specs.Head.{openingOf, argumentOf, headNumber, argumentsFrom, headArguments};
 ghost use Rattle.reading.specs.Operations.{opOf};
-ghost use Rattle.reading.specs.Reading.{placed, asked, begun, termWord, numberWord, atomWord, more, constantNumber, parameterNumber, lastVariable, variableNumber, met, metAt, word, reading};
+ghost use Rattle.reading.specs.Reading.{asked, begun, termWord, numberWord, atomWord, more, constantNumber, parameterNumber, lastVariable, variableNumber, met, metAt, word, reading};
 ghost use Rattle.reading.specs.declared.Binding.the-variants.{Any, Only};
 ghost use Rattle.reading.specs.Reading.Judged.{fine};
-ghost use Rattle.reading.specs.Callers.{namesOf, passOf, judgedNumber, readAnswer, refusedRead, Reads, Opens, Heads, Tables, Variables, Readable, Room, TermBelow, Resolves, Meets, Goes, Steps};
+ghost use Rattle.reading.specs.Callers.{namesOf, placed, passOf, judgedNumber, readAnswer, refusedRead, Reads, Opens, Heads, Tables, Variables, Readable, Room, Fillable, TermBelow, Resolves, Meets, Goes, Steps};
 
 // The first words of operations: a leaf, a label to ask, t = t to ask, a row step.
 pub const LEAF: u64 = 0;
@@ -31,8 +31,10 @@ pub const TRUTH: u64 = 2;
 
 pub const STEP: u64 = 3;
 
-// The place of the last variable that has a number.
-const LAST_VARIABLE: usize = 31;
+// So many variables have numbers, the last of them at this place.
+const VARIABLES: usize = Term::VARIABLES as usize;
+
+const LAST_VARIABLE: usize = VARIABLES - 1;
 
 // Which variables may be named: any, numbered as they come; none; those in the table.
 pub enum Binding {
@@ -49,9 +51,10 @@ pub struct Scope {
     pub binding: Binding,
 }
 
-// The atom under way, how many of its places are filled, how many terms are due; how many operations are written.
+// The atom under way as a label, its unfilled places 0, how many of them are filled, how many terms are due; how many operations are
+// written.
 struct Progress {
-    atom: Atom,
+    label: Label,
     filled: usize,
     due: usize,
     operations: usize,
@@ -119,8 +122,8 @@ fn ask(operations: &mut [u64], pass: Progress) -> Progress
     if pass.due != 0 {
         return pass;
     }
-    let atom = pass.atom;
-    let test = atom.test();
+    let label = pass.label;
+    let test = label.unpack().test();
     match test {
         Test::Always => add(operations, pass, TRUTH, 0),
         Test::Is(label) => add(operations, pass, ASK, label.packed),
@@ -135,12 +138,8 @@ fn begin(operations: &mut [u64], pass: Progress, predicate: u64, due: usize) -> 
     ensures { λ r. ⌜ Goes pass (begun (passOf (now (operations .entry)) pass) predicate due) r (now (operations .exit)) ⌝ }
 {
     let next = Progress {
-        atom: Atom {
-            predicate: predicate,
-            first: 0,
-            second: 0,
-            third: 0,
-            fourth: 0,
+        label: Label {
+            packed: predicate * Label::PREDICATE_WEIGHT,
         },
         filled: 0,
         due: due,
@@ -149,25 +148,13 @@ fn begin(operations: &mut [u64], pass: Progress, predicate: u64, due: usize) -> 
     ask(operations, next)
 }
 
-// The atom with the term t at place k.
-fn place(a: Atom, k: usize, t: u64) -> Atom
-    ensures { λ r. ⌜ r ≡ placed a k t ⌝ }
+// The label with the term t in its place k, which is 0.
+fn fill(l: Label, k: u64, t: u64) -> Label
+    requires { ⌜ Fillable (l .packed) k t ⌝ }
+    ensures { λ r. ⌜ unpacked (r .packed) ≡ placed (unpacked (l .packed)) k t ⌝ }
 {
-    let mut b = a;
-    if k == 0 {
-        b.first = t;
-        return b;
-    }
-    if k == 1 {
-        b.second = t;
-        return b;
-    }
-    if k == 2 {
-        b.third = t;
-        return b;
-    }
-    b.fourth = t;
-    b
+    let packed = l.packed + (t << (Label::PLACES - 1 - k) * Term::BITS);
+    Label { packed: packed }
 }
 
 // The term t fills the next place of the atom.
@@ -181,7 +168,7 @@ fn give(operations: &mut [u64], pass: Progress, t: u64) -> Stepped
     }
     let k = pass.filled;
     let next = Progress {
-        atom: place(pass.atom, k, t),
+        label: fill(pass.label, k as u64, t),
         filled: k + 1,
         due: pass.due - 1,
         operations: pass.operations,
@@ -320,7 +307,7 @@ fn join(variables: &mut [u64], count: usize, key: Key) -> usize
     if names::find(variables, 0, count, key) < count {
         return count;
     }
-    if LAST_VARIABLE + 1 < count {
+    if VARIABLES < count {
         return count;
     }
     names::put(variables, count * 2, key);
@@ -424,7 +411,7 @@ fn is_end(event: Event) -> bool
 fn finish(count: usize, operations: usize) -> Read
     ensures { λ r. ⌜ r ≡ readAnswer count operations ⌝ }
 {
-    if LAST_VARIABLE + 1 < count {
+    if VARIABLES < count {
         return Read::Refused(Refusal::Variables);
     }
     Read::Done(operations, count)
@@ -458,13 +445,7 @@ pub fn read_words(
     let mut place = at;
     let mut count = known;
     let mut pass = Progress {
-        atom: Atom {
-            predicate: 0,
-            first: 0,
-            second: 0,
-            third: 0,
-            fourth: 0,
-        },
+        label: Label { packed: 0 },
         filled: 0,
         due: 0,
         operations: 0,

@@ -12,4 +12,4 @@ returns c = search begin-goes
 
 pub begin-spec : {M : Type 1} → statement M
 begin-spec =
-    tie.close (tie.spec ask-requires (λ c. search needs) returns)
+    tie.close (tie.spec (λ c. search needs) ask-requires (λ c. search needs) returns)

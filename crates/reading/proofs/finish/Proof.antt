@@ -1,6 +1,5 @@
 -- `reading::finish` meets its contract. Assumes nothing.
 use Rattle.reading.proofs.WordCode.{finish-many, finish-done}
-use borrow.Author.Needs.{needs}
 use Rattle.reading.proofs.finish.Statement.{statement}
 use Rattle.reading.proofs.finish.Tie as tie
 
@@ -12,4 +11,4 @@ returns-2 c = search finish-done
 
 pub finish-spec : {M : Type 1} → statement M
 finish-spec =
-    tie.close (tie.spec (λ c. search needs) returns returns-2)
+    tie.close (tie.spec returns returns-2)

@@ -1,11 +1,14 @@
 -- `reading::give` meets its contract. Assumes nothing.
-use Rattle.reading.proofs.PassCode.{give-none, give-room, give-goes}
+use Rattle.reading.proofs.PassCode.{give-none, give-fills, give-room, give-goes}
 use borrow.Author.Needs.{needs}
 use Rattle.reading.proofs.give.Statement.{statement}
 use Rattle.reading.proofs.give.Tie as tie
 
 returns : tie.Need-returns
 returns c = search give-none
+
+fill-requires : tie.Need-fill-requires
+fill-requires c κs = search give-fills
 
 ask-requires : tie.Need-ask-requires
 ask-requires c κs = search give-room
@@ -15,4 +18,4 @@ returns-2 c = search give-goes
 
 pub give-spec : {M : Type 1} → statement M
 give-spec =
-    tie.close (tie.spec returns (λ c κs. search needs) (λ c. search needs) (λ c. search needs) ask-requires (λ c. search needs) returns-2)
+    tie.close (tie.spec returns fill-requires (λ c. search needs) (λ c. search needs) ask-requires (λ c. search needs) returns-2)
