@@ -12,7 +12,7 @@ use Rattle.refusal.specs.declared.Refusal.the-variants.{Listing, Buffer, Unboun
 use Rattle.refusal.specs.Outcome.{ok, refused}
 use Rattle.basics.specs.Tests.{Cmp, below, equal, above, cmp, Either, one, other, either, and-left, and-right, or-one, or-other}
 use Rattle.basics.specs.Members.{clash}
-use Rattle.label.specs.Limits.{firstParameter, parameterCount, firstVariable, termEnd}
+use Rattle.label.specs.Limits.{constantCount, firstParameter, parameterCount, firstVariable, termEnd}
 use Rattle.label.specs.Terms.{isConstant, isParameter, isVariable, isTerm}
 use Rattle.label.specs.LabelLaws.{term-below}
 use Rattle.label.specs.Renamings.{renamed, freeing, mapOf}
@@ -47,15 +47,15 @@ use Rattle.freeing.specs.MarkLaws.{used-any}
 -- a term below the variables is a constant or a parameter
 low-term : (t : ℕ) → isTerm t ≡ true → t < firstVariable → t < firstParameter + parameterCount
 unfolding isTerm isConstant isParameter isVariable
-low-term t e h = go (either (ltb t 16) _ e)
+low-term t e h = go (either (isConstant t) _ e)
   where
-    rest : Either (leb 16 t && ltb t 20) (leb 32 t && ltb t 64) → t < firstParameter + parameterCount
-    rest (one q) = ltb-true t 20 (and-right (leb 16 t) _ q)
-    rest (other q) = absurd (omega (arith, leb-true 32 t (and-left _ _ q)))
+    rest : Either (isParameter t) (isVariable t) → t < firstParameter + parameterCount
+    rest (one q) = ltb-true t (firstParameter + parameterCount) (and-right (leb firstParameter t) _ q)
+    rest (other q) = absurd (omega (arith, leb-true firstVariable t (and-left _ _ q)))
 
-    go : Either (ltb t 16) ((leb 16 t && ltb t 20) || (leb 32 t && ltb t 64)) → t < firstParameter + parameterCount
-    go (one q) = omega (arith, ltb-true t 16 q)
-    go (other q) = rest (either (leb 16 t && ltb t 20) _ q)
+    go : Either (isConstant t) (isParameter t || isVariable t) → t < firstParameter + parameterCount
+    go (one q) = omega (arith, ltb-true t constantCount q)
+    go (other q) = rest (either (isParameter t) _ q)
 
 -- `write_freed`
 length-relabelled : (g : ℕ → ℕ) (ws : List ℕ) → length (relabelled g ws) ≡ length ws
@@ -89,17 +89,17 @@ module _ {ar words : List ℕ} {count : ℕ} {out : List ℕ} (task : FreeTask a
   pub task-valid : Valid ar words
   task-valid = listing-is-valid ar words (task .listing)
 
-  module _ {ms : List ℕ} (u : Used ar (diagramOf words) ms) {b : Bool} (p : b ≡ anySet ms (16 + count) (4 - count)) where
-    unbound : anySet ms (16 + count) (4 - count) ≡ anyOccurs ar (diagramOf words) (firstParameter + count) (parameterCount - count)
-    unbound = used-any ar (diagramOf words) ms u (16 + count) (4 - count) (omega arith)
+  module _ {ms : List ℕ} (u : Used ar (diagramOf words) ms) {b : Bool} (p : b ≡ anySet ms (firstParameter + count) (parameterCount - count)) where
+    unbound : anySet ms (firstParameter + count) (parameterCount - count) ≡ anyOccurs ar (diagramOf words) (firstParameter + count) (parameterCount - count)
+    unbound = used-any ar (diagramOf words) ms u (firstParameter + count) (parameterCount - count) (omega arith)
 
     pub own-unbound : b ≡ true → FreedWith (freeOwn ar words count) (Refused Unbound) out out
     unfolding freeOwn
     own-unbound e = let q = sym unbound ∙ sym p ∙ e in record { answer = rw q; result = rw q }
 
-    module _ (e : b ≡ false) {c : Bool} (r : c ≡ anySet ms (64 - count) count) where
-      past : anySet ms (64 - count) count ≡ anyOccurs ar (diagramOf words) (termEnd - count) count
-      past = used-any ar (diagramOf words) ms u (64 - count) count (omega (arith, task .few))
+    module _ (e : b ≡ false) {c : Bool} (r : c ≡ anySet ms (termEnd - count) count) where
+      past : anySet ms (termEnd - count) count ≡ anyOccurs ar (diagramOf words) (termEnd - count) count
+      past = used-any ar (diagramOf words) ms u (termEnd - count) count (omega (arith, task .few))
 
       pub own-variables : c ≡ true → FreedWith (freeOwn ar words count) (Refused Variables) out out
       unfolding freeOwn freedOutcome
@@ -169,21 +169,21 @@ module _ (ar words : List ℕ) (count : ℕ) (out : List ℕ) (w : ℕ) where
       e : b ≡ true
       e = not-false b f
 
-      pub free-short : length out < 3072 → Says (Refused Buffer) out
+      pub free-short : length out < resultWords → Says (Refused Buffer) out
       free-short h = says (free-buffer ar words count (length out) w (sym p ∙ e) (or-one _ _ (lt-ltb (length out) resultWords h)))
 
-      pub free-narrow : w < 6144 → Says (Refused Buffer) out
+      pub free-narrow : w < spaceWords → Says (Refused Buffer) out
       free-narrow h = says (free-buffer ar words count (length out) w (sym p ∙ e) (or-other (ltb (length out) resultWords) _ (lt-ltb w spaceWords h)))
 
-      module _ (h : 3072 ≤ length out) (k : 6144 ≤ w) where
-        pub free-many : 4 < count → Says (Refused Range) out
+      module _ (h : resultWords ≤ length out) (k : spaceWords ≤ w) where
+        pub free-many : parameterCount < count → Says (Refused Range) out
         free-many l = says (free-range ar words count (length out) w (sym p ∙ e) h k l)
 
-        pub free-task : count ≤ 4 → FreeTask ar words count out
+        pub free-task : count ≤ parameterCount → FreeTask ar words count out
         free-task l =
             let v = listing-is-valid ar words (sym p ∙ e) in
             record { listing = sym p ∙ e; few = l; room = omega (arith, v .whole, v .few) }
 
-        pub free-done : count ≤ 4 → {r : Freed} {out′ : List ℕ} → FreedWith (freeOwn ar words count) r out out′ → Says r out′
+        pub free-done : count ≤ parameterCount → {r : Freed} {out′ : List ℕ} → FreedWith (freeOwn ar words count) r out out′ → Says r out′
         unfolding freeAnswer freeResult
         free-done l g = let z = free-own ar words count (length out) w (sym p ∙ e) h k l in (rw z (g .answer), rw z (g .result))

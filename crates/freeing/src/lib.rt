@@ -32,17 +32,17 @@ fn write_freed(arities: &[u64], words: &[u64], count: u64, out: &mut [u64])
     requires { ⌜ Freeable (now arities) count (diagramOf (now words)) ⌝ }
     ensures { λ _. ⌜ now (out .exit) ≡ writtenAs (ok (freed (now (arities .entry)) count (diagramOf (now (words .entry))))) (now (out .entry)) ⌝ }
 {
-    let mut map = [0u64; 64];
+    let mut map = [0u64; Term::END as usize];
     rename::free_map(count, &mut map);
     rename::relabel_rows(arities, words, &map, out);
 }
 
-// Frees a listing: no parameter past the count (6), no variable that would pass 63 (8).
+// Frees a listing: no parameter past the count (6), no variable that would pass the last (8).
 pub fn free_checked(arities: &[u64], words: &[u64], count: u64, out: &mut [u64]) -> Freed
     requires { ⌜ FreeTask (now arities) (now words) count (now out) ⌝ }
     ensures { λ r. ⌜ FreedWith (freeOwn (now (arities .entry)) (now (words .entry)) count) r (now (out .entry)) (now (out .exit)) ⌝ }
 {
-    let mut marks = [0u64; 64];
+    let mut marks = [0u64; Term::END as usize];
     listing::used(arities, words, &mut marks);
     let n = count as usize;
     let parameters = (Term::PARAMETERS as usize) - n;
