@@ -1,22 +1,21 @@
 -- Laws of the checks of a regression call, and of its answer.
 use mathlib.Core.Path.{_≡_, refl, sym, ap, subst, _∙_}
 use mathlib.Core.Bool.{Bool, true, false, not, _&&_, _||_, cond}
-use mathlib.Core.List.{List, [], _∷_}
+use mathlib.Core.List.{List}
 use mathlib.Core.Option.{Option, some, none}
-use Prim.Native.Nat.{ℕ, zero, suc, _+_, _*_, _-_, _/_, _≤_, _<_}
+use Prim.Native.Nat.{ℕ, suc, _+_, _*_, _-_, _/_, _≤_, _<_}
 use native.Mathlib.Omega.{arith}
 use native.Mathlib.Numerals.{add-one}
 use lib.ListN.{length, getD, length-map}
-use lib.Dec.{eqb, ltb, leb}
-use borrow.Author.Tests.{eq-eqb, ne-eqb, eqb-true, eqb-false, leb-true, ltb-true, ltb-false, lt-ltb, le-ltb}
+use lib.Dec.{eqb, ltb}
+use borrow.Author.Tests.{eq-eqb, ne-eqb, eqb-true, eqb-false, ltb-true, ltb-false, lt-ltb, le-ltb}
 use Rattle.refusal.specs.declared.Refusal.{Refusal}
 use Rattle.refusal.specs.declared.Refusal.the-variants.{Truth, Unbound}
 use Rattle.refusal.specs.Outcome.{Outcome, refused}
 use Rattle.basics.specs.Tests.{and-left, and-right, Flag, isTrue, isFalse, flag, Cmp, below, equal, above, cmp, or-one, or-other}
 use Rattle.basics.specs.Members.{mem, clash}
-use Rattle.label.specs.Limits.{leafMark}
-use Rattle.label.specs.Labels.{areArities, allAtMost}
-use Rattle.label.proofs.CodeLaws.{under-all}
+use Rattle.label.specs.Limits.{firstVariable, variableCount, predicateCount, mostPlaces, leafMark}
+use Rattle.label.specs.ArityLaws.{arity-most, arity-words}
 use Rattle.diagram.specs.Diagram.{Diagram, leaf, branch, same}
 use Rattle.diagram.specs.Rows.{rows}
 use Rattle.diagram.specs.Words.{labelAt, highAt, rowCount, upTo, isListing}
@@ -73,47 +72,47 @@ listed-some ar truths spans p {w} {ws} {b} e n q r = rw (ne-eqb (truthCount span
 -- `are_listed`: those below p are listings
 pub record ListedTo (ar truths spans : List ℕ) (p : ℕ) : Type 0 where
   pub first : 1 ≤ p
-  pub last : p ≤ 32
-  pub left : areListings ar truths spans 1 31 ≡ areListings ar truths spans p (32 - p)
+  pub last : p ≤ predicateCount
+  pub left : areListings ar truths spans 1 (predicateCount - 1) ≡ areListings ar truths spans p (predicateCount - p)
 
 pub listed-start : (ar truths spans : List ℕ) → ListedTo ar truths spans 1
 listed-start ar truths spans = record { first = omega arith; last = omega arith; left = refl }
 
 module _ {ar truths spans : List ℕ} {p : ℕ} (g : ListedTo ar truths spans p) where
-  module _ (h : p < 32) {b : Bool} (e : b ≡ isListedAt ar truths spans p) where
-    next : areListings ar truths spans 1 31 ≡ (b && areListings ar truths spans (suc p) (32 - suc p))
+  module _ (h : p < predicateCount) {b : Bool} (e : b ≡ isListedAt ar truths spans p) where
+    next : areListings ar truths spans 1 (predicateCount - 1) ≡ (b && areListings ar truths spans (suc p) (predicateCount - suc p))
     next =
-        let n : 32 - p ≡ suc (32 - suc p) = omega arith in
-        g .left ∙ ap (areListings ar truths spans p) n ∙ listings-cons ar truths spans p (32 - suc p)
-        ∙ ap (λ (x : Bool). x && areListings ar truths spans (suc p) (32 - suc p)) (sym e)
+        let n : predicateCount - p ≡ suc (predicateCount - suc p) = omega arith in
+        g .left ∙ ap (areListings ar truths spans p) n ∙ listings-cons ar truths spans p (predicateCount - suc p)
+        ∙ ap (λ (x : Bool). x && areListings ar truths spans (suc p) (predicateCount - suc p)) (sym e)
 
-    pub listed-stop : not b ≡ true → false ≡ areListings ar truths spans 1 31
+    pub listed-stop : not b ≡ true → false ≡ areListings ar truths spans 1 (predicateCount - 1)
     listed-stop z = sym (next ∙ go b z)
       where
-        go : (x : Bool) → not x ≡ true → (x && areListings ar truths spans (suc p) (32 - suc p)) ≡ false
+        go : (x : Bool) → not x ≡ true → (x && areListings ar truths spans (suc p) (predicateCount - suc p)) ≡ false
         go true q = clash q refl
         go false q = refl
 
     pub listed-on : not b ≡ false → ListedTo ar truths spans (p + 1)
     listed-on z = record { first = omega arith; last = omega arith; left = rw add-one (next ∙ go b z) }
       where
-        go : (x : Bool) → not x ≡ false → (x && areListings ar truths spans (suc p) (32 - suc p)) ≡ areListings ar truths spans (suc p) (32 - suc p)
+        go : (x : Bool) → not x ≡ false → (x && areListings ar truths spans (suc p) (predicateCount - suc p)) ≡ areListings ar truths spans (suc p) (predicateCount - suc p)
         go true q = refl
         go false q = clash refl q
 
-  pub listed-end : 32 ≤ p → true ≡ areListings ar truths spans 1 31
+  pub listed-end : predicateCount ≤ p → true ≡ areListings ar truths spans 1 (predicateCount - 1)
   listed-end h =
-      let n : 32 - p ≡ 0 = omega arith in
+      let n : predicateCount - p ≡ 0 = omega arith in
       sym (g .left ∙ ap (areListings ar truths spans p) n ∙ listings-none ar truths spans p)
 
 -- `is_high_leaf`
-pub high-branch : (ws : List ℕ) (k : ℕ) → (getD ws (k * 3) 0 ≡ 4294967295 → ⊥) → false ≡ isHighLeaf ws k
+pub high-branch : (ws : List ℕ) (k : ℕ) → (getD ws (k * 3) 0 ≡ leafMark → ⊥) → false ≡ isHighLeaf ws k
 unfolding isHighLeaf labelAt highAt
-high-branch ws k n = rw (ne-eqb (getD ws (k * 3) 0) 4294967295 n)
+high-branch ws k n = rw (ne-eqb (getD ws (k * 3) 0) leafMark n)
 
-pub high-value : (ws : List ℕ) (k : ℕ) → getD ws (k * 3) 0 ≡ 4294967295 → ltb 1 (getD ws (k * 3 + 1) 0) ≡ isHighLeaf ws k
+pub high-value : (ws : List ℕ) (k : ℕ) → getD ws (k * 3) 0 ≡ leafMark → ltb 1 (getD ws (k * 3 + 1) 0) ≡ isHighLeaf ws k
 unfolding isHighLeaf labelAt highAt
-high-value ws k e = rw (eq-eqb (getD ws (k * 3) 0) 4294967295 e)
+high-value ws k e = rw (eq-eqb (getD ws (k * 3) 0) leafMark e)
 
 -- `has_high_leaf`: no leaf before row k is above 1
 pub record LowTo (ws : List ℕ) (k : ℕ) : Type 0 where
@@ -171,9 +170,9 @@ module _ {ar ws : List ℕ} (v : Valid ar ws) where
           absurd (omega arith)
 
 -- `has_unbound`
-pub unbound-is : (ar ws : List ℕ) (n : ℕ) {ms : List ℕ} {b : Bool} → n ≤ 4 → Used ar (diagramOf ws) ms → b ≡ anySet ms (32 + n) (32 - n)
+pub unbound-is : (ar ws : List ℕ) (n : ℕ) {ms : List ℕ} {b : Bool} → n ≤ mostPlaces → Used ar (diagramOf ws) ms → b ≡ anySet ms (firstVariable + n) (variableCount - n)
     → b ≡ unboundVariable ar n (diagramOf ws)
-unbound-is ar ws n {ms} h u e = e ∙ used-any ar (diagramOf ws) ms u (32 + n) (32 - n) (omega arith)
+unbound-is ar ws n {ms} h u e = e ∙ used-any ar (diagramOf ws) ms u (firstVariable + n) (variableCount - n) (omega arith)
 
 -- `judge`
 module _ (ar ws : List ℕ) (n : ℕ) {b : Bool} (e : b ≡ leafAbove 1 (diagramOf ws)) where
@@ -188,20 +187,11 @@ module _ (ar ws : List ℕ) (n : ℕ) {b : Bool} (e : b ≡ leafAbove 1 (diagram
     judge-passed z = rw (sym e ∙ low, sym d ∙ z)
 
 -- `judge_at`
-arity-most : (ar : List ℕ) (p : ℕ) → areArities ar ≡ true → getD ar p 0 ≤ 4
-unfolding areArities
-arity-most ar p e = go ar p (and-right (eqb (getD ar 0 0) 2) _ (and-right (eqb (length ar) 32) _ e))
-  where
-    go : (xs : List ℕ) (i : ℕ) → allAtMost 4 xs ≡ true → getD xs i 0 ≤ 4
-    go [] i h = omega arith
-    go (x ∷ xs) zero h = leb-true x 4 (and-left _ _ h)
-    go (x ∷ xs) (suc i) h = go xs i (and-right (leb x 4) _ h)
-
-module _ {ar truths spans : List ℕ} (lent : Lent ar truths spans) {p : ℕ} (at : Between 1 p 32) where
+module _ {ar truths spans : List ℕ} (lent : Lent ar truths spans) {p : ℕ} (at : Between 1 p predicateCount) where
   pub judge-place : p < length ar
-  judge-place = omega (arith, at .to-last, under-all ar (sym (lent .arities)) refl)
+  judge-place = omega (arith, at .to-last, arity-words ar (lent .arities))
 
-  pub judge-arity : getD ar p 0 ≤ 4
+  pub judge-arity : getD ar p 0 ≤ mostPlaces
   judge-arity = arity-most ar p (lent .arities)
 
   module _ {w : ℕ} (e : w ≡ getD spans (p * 2 + 1) 0) where
@@ -211,7 +201,7 @@ module _ {ar truths spans : List ℕ} (lent : Lent ar truths spans) {p : ℕ} (a
     module _ (n : w ≡ 0 → ⊥) {ws : List ℕ} (q : ws ≡ truthWords truths spans p) where
       pub judge-valid : Valid ar ws
       judge-valid = rw q (listing-is-valid ar (truthWords truths spans p)
-          (listings-at ar truths spans 1 31 (lent .listings) p (at .from-first) (let z = at .to-last in omega arith) (λ z. n (e ∙ z))))
+          (listings-at ar truths spans 1 (predicateCount - 1) (lent .listings) p (at .from-first) (let z = at .to-last in omega arith) (λ z. n (e ∙ z))))
 
       pub judge-some : {v : Verdict} → v ≡ verdictOn ar (getD ar p 0) (diagramOf ws) → v ≡ verdictOf ar (getD ar p 0) (truthsOf truths spans p)
       judge-some r = rw (truths-some truths spans p (λ z. n (e ∙ z))) (r ∙ ap (λ (x : List ℕ). verdictOn ar (getD ar p 0) (diagramOf x)) q)
@@ -219,8 +209,8 @@ module _ {ar truths spans : List ℕ} (lent : Lent ar truths spans) {p : ℕ} (a
 -- `judge_all`: those below p pass
 pub record JudgedTo (ar truths spans : List ℕ) (p : ℕ) : Type 0 where
   pub first : 1 ≤ p
-  pub last : p ≤ 32
-  pub left : (after : Outcome Diagram) → checkTruths ar (truthsOf truths spans) 1 31 after ≡ checkTruths ar (truthsOf truths spans) p (32 - p) after
+  pub last : p ≤ predicateCount
+  pub left : (after : Outcome Diagram) → checkTruths ar (truthsOf truths spans) 1 (predicateCount - 1) after ≡ checkTruths ar (truthsOf truths spans) p (predicateCount - p) after
 
 pub judged-start : (ar truths spans : List ℕ) → JudgedTo ar truths spans 1
 judged-start ar truths spans = record { first = omega arith; last = omega arith; left = λ after. refl }
@@ -235,22 +225,22 @@ check-verdict ar n (some d) after = go (leafAbove 1 d) (unboundVariable ar n d)
     go false false = refl
 
 module _ {ar truths spans : List ℕ} {p : ℕ} (g : JudgedTo ar truths spans p) where
-  pub judged-between : p < 32 → Between 1 p 32
+  pub judged-between : p < predicateCount → Between 1 p predicateCount
   judged-between h = record { from-first = g .first; to-last = h }
 
-  module _ (h : p < 32) {v : Verdict} (e : v ≡ verdictOf ar (getD ar p 0) (truthsOf truths spans p)) where
-    judged-next : (after : Outcome Diagram) → checkTruths ar (truthsOf truths spans) 1 31 after
-        ≡ afterVerdict v (checkTruths ar (truthsOf truths spans) (suc p) (32 - suc p) after)
+  module _ (h : p < predicateCount) {v : Verdict} (e : v ≡ verdictOf ar (getD ar p 0) (truthsOf truths spans p)) where
+    judged-next : (after : Outcome Diagram) → checkTruths ar (truthsOf truths spans) 1 (predicateCount - 1) after
+        ≡ afterVerdict v (checkTruths ar (truthsOf truths spans) (suc p) (predicateCount - suc p) after)
     judged-next after =
-        let n : 32 - p ≡ suc (32 - suc p) = omega arith in
-        g .left after ∙ ap (λ (m : ℕ). checkTruths ar (truthsOf truths spans) p m after) n ∙ checks-cons ar (truthsOf truths spans) p (32 - suc p) after
-        ∙ check-verdict ar (getD ar p 0) (truthsOf truths spans p) (checkTruths ar (truthsOf truths spans) (suc p) (32 - suc p) after)
-        ∙ ap (λ (x : Verdict). afterVerdict x (checkTruths ar (truthsOf truths spans) (suc p) (32 - suc p) after)) (sym e)
+        let n : predicateCount - p ≡ suc (predicateCount - suc p) = omega arith in
+        g .left after ∙ ap (λ (m : ℕ). checkTruths ar (truthsOf truths spans) p m after) n ∙ checks-cons ar (truthsOf truths spans) p (predicateCount - suc p) after
+        ∙ check-verdict ar (getD ar p 0) (truthsOf truths spans p) (checkTruths ar (truthsOf truths spans) (suc p) (predicateCount - suc p) after)
+        ∙ ap (λ (x : Verdict). afterVerdict x (checkTruths ar (truthsOf truths spans) (suc p) (predicateCount - suc p) after)) (sym e)
 
     pub judged-stop : {w : Refusal} → v ≡ Refused w → Judged ar truths spans v
     judged-stop {w} z = record {
       each = λ after. judged-next after
-          ∙ ap (λ (x : Verdict). afterVerdict x (checkTruths ar (truthsOf truths spans) (suc p) (32 - suc p) after)) z
+          ∙ ap (λ (x : Verdict). afterVerdict x (checkTruths ar (truthsOf truths spans) (suc p) (predicateCount - suc p) after)) z
           ∙ sym (ap (λ (x : Verdict). afterVerdict x after) z);
     }
 
@@ -258,12 +248,12 @@ module _ {ar truths spans : List ℕ} {p : ℕ} (g : JudgedTo ar truths spans p)
     judged-on z = record {
       first = omega arith;
       last = omega arith;
-      left = rw add-one (λ after. judged-next after ∙ ap (λ (x : Verdict). afterVerdict x (checkTruths ar (truthsOf truths spans) (suc p) (32 - suc p) after)) z);
+      left = rw add-one (λ after. judged-next after ∙ ap (λ (x : Verdict). afterVerdict x (checkTruths ar (truthsOf truths spans) (suc p) (predicateCount - suc p) after)) z);
     }
 
-  pub judged-end : 32 ≤ p → Judged ar truths spans Passed
+  pub judged-end : predicateCount ≤ p → Judged ar truths spans Passed
   judged-end h = record {
     each = λ after.
-        let n : 32 - p ≡ 0 = omega arith in
+        let n : predicateCount - p ≡ 0 = omega arith in
         g .left after ∙ ap (λ (m : ℕ). checkTruths ar (truthsOf truths spans) p m after) n ∙ checks-none ar (truthsOf truths spans) p after;
   }

@@ -121,7 +121,7 @@ fn has_unbound(arities: &[u64], words: &[u64], n: usize) -> bool
     requires { ⌜ n ≤ mostPlaces ⌝ }
     ensures { λ r. ⌜ r ≡ unboundVariable (now (arities .entry)) n (diagramOf (now (words .entry))) ⌝ }
 {
-    let mut marks = [0u64; 64];
+    let mut marks = [0u64; Term::END as usize];
     listing::used(arities, words, &mut marks);
     let first = (Term::FIRST_VARIABLE as usize) + n;
     let left = (Term::VARIABLES as usize) - n;

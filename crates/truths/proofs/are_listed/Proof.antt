@@ -1,6 +1,7 @@
 use borrow.Author.Needs.{needs}
 use Rattle.truths.specs.TruthCheckLaws.{ListedTo, listed-start, listed-stop, listed-on, listed-end}
 use Prim.Native.Nat.{_-_}
+use Rattle.label.specs.Limits.{predicateCount}
 use Rattle.truths.proofs.are_listed.Statement.{statement}
 use Rattle.truths.proofs.are_listed.Tie as tie
 
@@ -8,7 +9,7 @@ abbrev Inv-loop : tie.InvT-loop
 Inv-loop arities truths spans p₀ p = ListedTo arities truths spans p
 
 abbrev μ-loop : tie.MeasureT-loop
-μ-loop arities truths spans p₀ p = 32 - p
+μ-loop arities truths spans p₀ p = predicateCount - p
 
 loop-holds : tie.Need-loop-holds Inv-loop μ-loop
 loop-holds c = search listed-start
