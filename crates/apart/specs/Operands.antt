@@ -13,7 +13,7 @@ use Rattle.listing.specs.Used.{Used}
 use Rattle.store.specs.Space.{Holds}
 use Rattle.combine.specs.Calls.{Callable}
 
--- what `enter` requires: a listing with its terms marked, numbers below 64 for its variables from `first` on, a place for the number of each row, and a space
+-- what `enter` requires: a listing with its terms marked, numbers below the end of the terms for its variables from `first` on, a place for the number of each row, and a space
 pub record Enterable (ar ws used : List ℕ) (first : ℕ) (s heads links : List ℕ) (count : ℕ) (numbers : List ℕ) : Type 0 where
   pub valid : Valid ar ws
   pub marks : Used ar (diagramOf ws) used
@@ -22,7 +22,7 @@ pub record Enterable (ar ws used : List ℕ) (first : ℕ) (s heads links : List
   pub places : mostRows ≤ length numbers
   pub holds : Holds s heads links count
 
--- what `combine_moved` requires: a call whose operands have their terms marked and 32 variables together at most, the second's from `first` on
+-- what `combine_moved` requires: a call whose operands have their terms marked and 64 variables together at most, the second's from `first` on
 pub record Separable (ar x y usedX usedY : List ℕ) (first : ℕ) (out work : List ℕ) : Type 0 where
   pub call : Callable ar x y out work
   pub first-marks : Used ar (diagramOf x) usedX

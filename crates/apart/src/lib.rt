@@ -162,7 +162,7 @@ fn join(
     }
 }
 
-// Combines two listings of at most 32 variables together: the first closed up, the second's variables from `first` on. Marked terms occur.
+// Combines two listings of at most 64 variables together: the first closed up, the second's variables from `first` on. Marked terms occur.
 fn combine_moved(
     op: Operation,
     arities: &[u64],

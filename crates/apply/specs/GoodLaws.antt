@@ -96,7 +96,7 @@ occurs-apply op ar t a b h = go (flag (occurs ar t a)) (flag (occurs ar t b))
     go (isFalse e) (isTrue d) = other d
     go (isFalse e) (isFalse d) = clash h (quiet-apply op ar t a b e d)
 
--- a diagram has at most 32 variables
+-- a diagram has at most 64 variables
 pick-length : (b : Bool) (t : ℕ) (xs : List ℕ) → length (pickList b (t ∷ xs) xs) ≤ suc (length xs)
 pick-length true t xs = omega arith
 pick-length false t xs = omega arith

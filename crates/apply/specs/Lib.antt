@@ -17,7 +17,7 @@
 --   tooHigh, overflows == the operation on two leaves is above 10^18; on some pair of leaves
 --   add, formed == one row more unless it is there; the rows that the pairs form, behind rows that are there
 --   operandRows, rowsFormed == an apart call forms the renamed operands' rows; how many rows a call forms
---   tooMany == more than 32 variables, both operands' together when apart
+--   tooMany == more than 64 variables, both operands' together when apart
 --   EveryLabel == a property of every label of a diagram
 --
 -- Definitions: the call

@@ -31,7 +31,7 @@
 -- Definitions: variables
 --   occurs == a term stands in a label of the diagram
 --   occurring, variables, pickList == those of n terms that occur; the variables, ascending
---   closedFrom, closed == the used variables renamed to m, m + 1, ..; to 32, 33, ..: closing up
+--   closedFrom, closed == the used variables renamed to m, m + 1, ..; from the first variable on: closing up
 --   after == the second operand's variables follow after the first's: apart
 --
 -- Theorems

@@ -34,7 +34,7 @@ unfoldable pub closedFrom : List ℕ → ℕ → Diagram → Diagram
 unfolding variables relabel
 closedFrom ar m d = relabel (renamed ar (numbering (variables ar d) m)) d
 
--- closing up: the used variables become 32, 33, .. in their order
+-- closing up: the used variables become the first ones in their order
 unfoldable pub closed : List ℕ → Diagram → Diagram
 unfolding closedFrom
 closed ar d = closedFrom ar firstVariable d

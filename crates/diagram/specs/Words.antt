@@ -22,7 +22,7 @@ lowAt ws i = getD ws (i * 3 + 2) 0
 abbrev pub rowCount : List ℕ → ℕ
 rowCount ws = length ws / 3
 
--- a leaf is 4294967295, its value (0 to 10^18), 0
+-- a leaf is the leaf mark, its value (0 to 10^18), 0
 unfoldable pub isLeafRow : List ℕ → ℕ → Bool
 isLeafRow ws i = eqb (labelAt ws i) leafMark && (leb (highAt ws i) highestValue && eqb (lowAt ws i) 0)
 
