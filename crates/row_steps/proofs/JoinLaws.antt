@@ -53,13 +53,13 @@ most-apply op a b h = most-course op (course op a b) h
 
 -- `join`
 module _ (op : Operation) (a b : Diagram) (rs : List Diagram) where
-  answer-at : {i n p : ℕ} → At i n p ≡ joinAnswer op 4096 a b rs
+  answer-at : {i n p : ℕ} → At i n p ≡ joinAnswer op mostPairs a b rs
       → (pairCount op a b ≤ mostPairs) × (overflows (operate op) (pairs op a b) ≡ false) × (length (rowsAfter op a b rs) ≤ spaceRows)
       × (i ≡ index (apply (operate op) a b) (rowsAfter op a b rs)) × (n ≡ length (rowsAfter op a b rs))
   unfolding joinAnswer
-  answer-at {i} {n} {p} e = go (flag (ltb 4096 (pairCount op a b))) (flag (overflows (operate op) (pairs op a b))) (flag (ltb spaceRows (length (rowsAfter op a b rs))))
+  answer-at {i} {n} {p} e = go (flag (ltb mostPairs (pairCount op a b))) (flag (overflows (operate op) (pairs op a b))) (flag (ltb spaceRows (length (rowsAfter op a b rs))))
     where
-      go : Flag (ltb 4096 (pairCount op a b)) → Flag (overflows (operate op) (pairs op a b)) → Flag (ltb spaceRows (length (rowsAfter op a b rs)))
+      go : Flag (ltb mostPairs (pairCount op a b)) → Flag (overflows (operate op) (pairs op a b)) → Flag (ltb spaceRows (length (rowsAfter op a b rs)))
           → (pairCount op a b ≤ mostPairs) × (overflows (operate op) (pairs op a b) ≡ false) × (length (rowsAfter op a b rs) ≤ spaceRows)
           × (i ≡ index (apply (operate op) a b) (rowsAfter op a b rs)) × (n ≡ length (rowsAfter op a b rs))
       go (isTrue x) y z = let k : At i n p ≡ TooManyPairs = rw x at e in let w : _≡_ {A = ℕ} 0 1 = cc in absurd (omega arith)
@@ -69,11 +69,11 @@ module _ (op : Operation) (a b : Diagram) (rs : List Diagram) where
           let k : At i n p ≡ At (index (apply (operate op) a b) (rowsAfter op a b rs)) (length (rowsAfter op a b rs)) (pairCount op a b) = rw (x, y, z) at e in
           (ltb-false _ _ x, y, ltb-false _ _ z, (cc), (cc))
 
-  answer-many : TooManyPairs ≡ joinAnswer op 4096 a b rs → mostPairs < pairCount op a b
+  answer-many : TooManyPairs ≡ joinAnswer op mostPairs a b rs → mostPairs < pairCount op a b
   unfolding joinAnswer
-  answer-many e = go (flag (ltb 4096 (pairCount op a b))) (flag (overflows (operate op) (pairs op a b))) (flag (ltb spaceRows (length (rowsAfter op a b rs))))
+  answer-many e = go (flag (ltb mostPairs (pairCount op a b))) (flag (overflows (operate op) (pairs op a b))) (flag (ltb spaceRows (length (rowsAfter op a b rs))))
     where
-      go : Flag (ltb 4096 (pairCount op a b)) → Flag (overflows (operate op) (pairs op a b)) → Flag (ltb spaceRows (length (rowsAfter op a b rs))) → mostPairs < pairCount op a b
+      go : Flag (ltb mostPairs (pairCount op a b)) → Flag (overflows (operate op) (pairs op a b)) → Flag (ltb spaceRows (length (rowsAfter op a b rs))) → mostPairs < pairCount op a b
       go (isTrue x) y z = ltb-true _ _ x
       go (isFalse x) (isTrue y) z = let k : TooManyPairs ≡ TooHighValue = rw (x, y) at e in let w : _≡_ {A = ℕ} 0 1 = cc in absurd (omega arith)
       go (isFalse x) (isFalse y) (isTrue z) = let k : TooManyPairs ≡ NoRoom = rw (x, y, z) at e in let w : _≡_ {A = ℕ} 0 1 = cc in absurd (omega arith)
@@ -82,11 +82,11 @@ module _ (op : Operation) (a b : Diagram) (rs : List Diagram) where
           let w : _≡_ {A = ℕ} 0 1 = cc in
           absurd (omega arith)
 
-  answer-high : TooHighValue ≡ joinAnswer op 4096 a b rs → (pairCount op a b ≤ mostPairs) × (overflows (operate op) (pairs op a b) ≡ true)
+  answer-high : TooHighValue ≡ joinAnswer op mostPairs a b rs → (pairCount op a b ≤ mostPairs) × (overflows (operate op) (pairs op a b) ≡ true)
   unfolding joinAnswer
-  answer-high e = go (flag (ltb 4096 (pairCount op a b))) (flag (overflows (operate op) (pairs op a b))) (flag (ltb spaceRows (length (rowsAfter op a b rs))))
+  answer-high e = go (flag (ltb mostPairs (pairCount op a b))) (flag (overflows (operate op) (pairs op a b))) (flag (ltb spaceRows (length (rowsAfter op a b rs))))
     where
-      go : Flag (ltb 4096 (pairCount op a b)) → Flag (overflows (operate op) (pairs op a b)) → Flag (ltb spaceRows (length (rowsAfter op a b rs)))
+      go : Flag (ltb mostPairs (pairCount op a b)) → Flag (overflows (operate op) (pairs op a b)) → Flag (ltb spaceRows (length (rowsAfter op a b rs)))
           → (pairCount op a b ≤ mostPairs) × (overflows (operate op) (pairs op a b) ≡ true)
       go (isTrue x) y z = let k : TooHighValue ≡ TooManyPairs = rw x at e in let w : _≡_ {A = ℕ} 0 1 = cc in absurd (omega arith)
       go (isFalse x) (isTrue y) z = (ltb-false _ _ x, y)
@@ -96,12 +96,12 @@ module _ (op : Operation) (a b : Diagram) (rs : List Diagram) where
           let w : _≡_ {A = ℕ} 0 1 = cc in
           absurd (omega arith)
 
-  answer-none : NoRoom ≡ joinAnswer op 4096 a b rs
+  answer-none : NoRoom ≡ joinAnswer op mostPairs a b rs
       → (pairCount op a b ≤ mostPairs) × (overflows (operate op) (pairs op a b) ≡ false) × (spaceRows < length (rowsAfter op a b rs))
   unfolding joinAnswer
-  answer-none e = go (flag (ltb 4096 (pairCount op a b))) (flag (overflows (operate op) (pairs op a b))) (flag (ltb spaceRows (length (rowsAfter op a b rs))))
+  answer-none e = go (flag (ltb mostPairs (pairCount op a b))) (flag (overflows (operate op) (pairs op a b))) (flag (ltb spaceRows (length (rowsAfter op a b rs))))
     where
-      go : Flag (ltb 4096 (pairCount op a b)) → Flag (overflows (operate op) (pairs op a b)) → Flag (ltb spaceRows (length (rowsAfter op a b rs)))
+      go : Flag (ltb mostPairs (pairCount op a b)) → Flag (overflows (operate op) (pairs op a b)) → Flag (ltb spaceRows (length (rowsAfter op a b rs)))
           → (pairCount op a b ≤ mostPairs) × (overflows (operate op) (pairs op a b) ≡ false) × (spaceRows < length (rowsAfter op a b rs))
       go (isTrue x) y z = let k : NoRoom ≡ TooManyPairs = rw x at e in let w : _≡_ {A = ℕ} 0 1 = cc in absurd (omega arith)
       go (isFalse x) (isTrue y) z = let k : NoRoom ≡ TooHighValue = rw (x, y) at e in let w : _≡_ {A = ℕ} 0 1 = cc in absurd (omega arith)
@@ -112,7 +112,7 @@ module _ (op : Operation) (a b : Diagram) (rs : List Diagram) where
           absurd (omega arith)
 
 module _ {op : Operation} {a b : Diagram} {s₀ : List ℕ} {count : ℕ} {r : Joined} {s heads links index : List ℕ} (v : Valued (diagramsOf s₀ count))
-    (j : Joint op 4096 a b s₀ count r s heads links index) where
+    (j : Joint op mostPairs a b s₀ count r s heads links index) where
   abbrev D : Diagram
   D = apply (operate op) a b
 

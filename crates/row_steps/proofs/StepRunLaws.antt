@@ -203,7 +203,7 @@ noting {d} {rs} {j} {n} {s} {heads} {links} {s₂} {memo₂} {n₂} {i} f m b q 
     noted-more (noted-later o q) (o i a .0) c (t .0) (t .1 ∙ e ∙ ap exchanged (sym (o i a .1)))
 
 module _ {s heads links memo : List ℕ} {count i : ℕ} (x : Exchangeable s heads links memo count i) where
-  pub small-row : i < 2048
+  pub small-row : i < spaceRows
   small-row = omega (arith, x .row, x .holds .table .within)
 
   pub memo-room : i < length memo
@@ -226,7 +226,7 @@ module _ {s heads links memo : List ℕ} {count i : ℕ} (x : Exchangeable s hea
       there = subst (λ (d : Diagram). mem same d (diagramsOf s count) ≡ true) (z .2) (there-mem (x .holds) (k - 1) (z .1))
 
   -- a leaf
-  module _ (m : getD s (i * 3) 0 ≡ 4294967295) {v : ℕ} (q : v ≡ 1 - getD s (i * 3 + 1) 0) {r : Formed} {s′ heads′ links′ : List ℕ}
+  module _ (m : getD s (i * 3) 0 ≡ leafMark) {v : ℕ} (q : v ≡ 1 - getD s (i * 3 + 1) 0) {r : Formed} {s′ heads′ links′ : List ℕ}
       (f : Formation (leaf v) (add (leaf v) (diagramsOf s count)) r s′ heads′ links′) where
     leaf-is : leaf v ≡ exchanged (tree s i)
     unfolding labelAt highAt
@@ -255,7 +255,7 @@ module _ {s heads links memo : List ℕ} {count i : ℕ} (x : Exchangeable s hea
       exchange-leaf-small = row-small (row-known leaf-formation e) (onto-mem (exchanged (tree s i)) (diagramsOf s count))
 
   -- a branch
-  module _ (m : getD s (i * 3) 0 ≡ 4294967295 → ⊥) where
+  module _ (m : getD s (i * 3) 0 ≡ leafMark → ⊥) where
     kids : (getD s (i * 3 + 1) 0 < i) × (getD s (i * 3 + 2) 0 < i)
     unfolding labelAt highAt lowAt
     kids = row-kids (x .holds) i (x .row) m
@@ -358,7 +358,7 @@ module _ {s heads links memo : List ℕ} {count i : ℕ} (x : Exchangeable s hea
 never : {P : Type 0} (n k j : ℕ) → k < n → _≡_ {A = ℕ} (getD (replicate n 0) k 0) (suc j) → P
 never n k j h e = let z : _≡_ {A = ℕ} (getD (replicate n 0) k 0) 0 = getD-replicate n k 0 0 h in let w : 0 ≡ suc j = sym z ∙ e in absurd (omega arith)
 
-pub none-noted : {s heads links : List ℕ} {count i : ℕ} (n : ℕ) → 2048 ≤ n → Holds s heads links count → i < count → Exchangeable s heads links (replicate n 0) count i
+pub none-noted : {s heads links : List ℕ} {count i : ℕ} (n : ℕ) → spaceRows ≤ n → Holds s heads links count → i < count → Exchangeable s heads links (replicate n 0) count i
 none-noted {s} {heads} {links} {count} {i} n l h r = record {
   holds = h;
   noted = record { places = rw length-replicate l; each = λ k j q e. never n k j (omega arith) e };
@@ -384,7 +384,7 @@ module _ {plan index s heads links : List ℕ} {count test high low : ℕ} (read
   unfolding rowStep
   from-test z = ran-bind (form (tree s test)) (others (tree s high) (tree s low)) (gave-old (ready .space .holds) (three .test-there)) z
 
-  pub step-full : r₁ ≡ Full → Ran (rowStep (tree s test) (tree s high) (tree s low)) s count (Refused NoSpace 2048) s₁ heads₁ links₁ index
+  pub step-full : r₁ ≡ Full → Ran (rowStep (tree s test) (tree s high) (tree s low)) s count (Refused NoSpace spaceRows) s₁ heads₁ links₁ index
   step-full e = from-test (ran-stop (form (exchanged (tree s test))) (lefts (tree s test) (tree s high) (tree s low))
       (full-ran s count (exchanged (tree s test)) (one-most (exchanged (tree s test)) (most-exchanged (tree s test))) (ready .space .values) (ready .clean) (full-known f₁ e)))
 
@@ -453,7 +453,7 @@ module _ {plan index s heads links : List ℕ} {count test high low : ℕ} (read
 -- `test_step`: T formed before the step adds nothing in it
 module _ (T t f : Diagram) {plan index s₀ heads₀ links₀ : List ℕ} {count : ℕ} (ready : Ready plan index s₀ heads₀ links₀ count) (small : AtMost highestValue T)
     {r₁ : Formed} {s₁ heads₁ links₁ : List ℕ} (f₁ : Formation T (onto T (diagramsOf s₀ count)) r₁ s₁ heads₁ links₁) where
-  pub formed-step-full : r₁ ≡ Full → Ran (rowStep T t f) s₀ count (Refused NoSpace 2048) s₁ heads₁ links₁ index
+  pub formed-step-full : r₁ ≡ Full → Ran (rowStep T t f) s₀ count (Refused NoSpace spaceRows) s₁ heads₁ links₁ index
   unfolding rowStep
   formed-step-full e = ran-stop (form T) (others t f) (full-ran s₀ count T small (ready .space .values) (ready .clean) (full-known f₁ e))
 
@@ -504,7 +504,7 @@ module _ (T t f : Diagram) {plan index s₀ heads₀ links₀ : List ℕ} {count
 -- with the test of what is asked
 module _ (test : Test) {plan index s₀ heads₀ links₀ : List ℕ} {count high low : ℕ} (ready : Ready plan index s₀ heads₀ links₀ count) (two : Two count high low)
     {r₁ : Formed} {s₁ heads₁ links₁ : List ℕ} (f₁ : Formation (testDiagram test) (onto (testDiagram test) (diagramsOf s₀ count)) r₁ s₁ heads₁ links₁) where
-  pub test-step-full : r₁ ≡ Full → Ran (rowStep (testDiagram test) (tree s₀ high) (tree s₀ low)) s₀ count (Refused NoSpace 2048) s₁ heads₁ links₁ index
+  pub test-step-full : r₁ ≡ Full → Ran (rowStep (testDiagram test) (tree s₀ high) (tree s₀ low)) s₀ count (Refused NoSpace spaceRows) s₁ heads₁ links₁ index
   test-step-full e = formed-step-full (testDiagram test) (tree s₀ high) (tree s₀ low) ready (one-most (testDiagram test) (most-test test)) f₁ e
 
   module _ {i n : ℕ} (e₁ : r₁ ≡ FormedRow i n) where
