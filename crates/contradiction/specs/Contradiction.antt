@@ -17,13 +17,13 @@ use Rattle.cutting.specs.Cut.{everyPath}
 -- ===== In document 02's words =====
 
 -- the terms of a literal, place by place
-abbrev pub placesOf : List ℕ → Literal → List ℕ
-placesOf ar l = termsOf ar (unpacked (l .label))
+abbrev pub literalTerms : List ℕ → Literal → List ℕ
+literalTerms ar l = termsOf ar (unpacked (l .label))
 
 -- the literal is an equality, and names the terms t and u
 pub record Equates (ar : List ℕ) (l : Literal) (t u : ℕ) : Type 0 where
   pub equates : predicateOf (l .label) ≡ equality
-  pub terms : placesOf ar l ≡ t ∷ u ∷ []
+  pub terms : literalTerms ar l ≡ t ∷ u ∷ []
 
 -- the true equalities among the literals join t and u: the least equivalence that holds them, so through any number of them
 pub data Joined (ar : List ℕ) (ls : List Literal) : ℕ → ℕ → Type 0 where
@@ -44,7 +44,7 @@ Agree ar ls (t ∷ ts) (u ∷ us) = Joined ar ls t u × Agree ar ls ts us
 pub data Contradicts (ar : List ℕ) (ls : List Literal) : Type 0 where
   unequal : {t u : ℕ} (l : Literal) → List·Memᴰ l ls → l .sign ≡ false → Equates ar l t u → Joined ar ls t u → Contradicts ar ls
   differ : (l m : Literal) → List·Memᴰ l ls → List·Memᴰ m ls → predicateOf (l .label) ≡ predicateOf (m .label)
-      → Agree ar ls (placesOf ar l) (placesOf ar m) → l .sign ≡ true → m .sign ≡ false → Contradicts ar ls
+      → Agree ar ls (literalTerms ar l) (literalTerms ar m) → l .sign ≡ true → m .sign ≡ false → Contradicts ar ls
 
 -- "every path .. that has a leaf other than W contradicts itself by equality"
 abbrev pub LeadsTo : List ℕ → ℕ → Diagram → Type 0
@@ -65,7 +65,7 @@ joinTerms (t ∷ u ∷ v ∷ ts) r x = r x
 -- a true equality joins the terms that it names
 unfoldable pub joinLiteral : List ℕ → Literal → (ℕ → ℕ) → ℕ → ℕ
 unfolding joining
-joinLiteral ar l r x = cond (l .sign && eqb (predicateOf (l .label)) equality) (joinTerms (placesOf ar l) r x) (r x)
+joinLiteral ar l r x = cond (l .sign && eqb (predicateOf (l .label)) equality) (joinTerms (literalTerms ar l) r x) (r x)
 
 -- terms that the true equalities join, and no others, have one representative
 unfoldable pub representative : List ℕ → List Literal → ℕ → ℕ

@@ -9,18 +9,19 @@ use lib.Dec.{eqb}
 use borrow.Author.Tests.{eqb-true, eqb-false, eq-eqb}
 use Rattle.basics.specs.Tests.{and-left, and-right, Flag, isTrue, isFalse, flag, Either, one, other, either, or-one, or-other, Cmp, cmp, below, equal, above}
 use Rattle.basics.specs.Members.{clash}
-use Rattle.label.specs.Limits.{termEnd}
+use Rattle.label.specs.Limits.{termBase}
 use Rattle.label.specs.Labels.{areArities, predicateOf, unpacked, termsOf}
+use Rattle.label.specs.ArityLaws.{arity-two, terms-length, terms-below}
 use Rattle.label.specs.declared.Test.{Test}
 use Rattle.label.specs.declared.Test.the-variants.{Always, Is}
 use Rattle.diagram.specs.Diagram.{Diagram}
 use Rattle.paths.specs.Paths.{Literal, Path, paths, literals}
 use Rattle.paths.specs.PathLaws.{mem-unmap}
-use Rattle.cutting.specs.MovedLaws.{asks, asks-twice, moved-asks, terms-length, terms-below, arity-two, Two, two, length-two, Asked, straight, across, ask-is, ask-always}
+use Rattle.cutting.specs.MovedLaws.{asks, asks-twice, moved-asks, Two, two, length-two, Asked, straight, across, ask-is, ask-always}
 use Rattle.cutting.specs.CoverLaws.{every-path-out, every-path-in}
-use Rattle.contradiction.specs.Contradiction.{placesOf, Equates, Agree, Contradicts, unequal, differ, LeadsTo, representative, someLiteral, asked, asksFor}
+use Rattle.contradiction.specs.Contradiction.{literalTerms, Equates, Agree, Contradicts, unequal, differ, LeadsTo, representative, someLiteral, asked, asksFor}
 use Rattle.contradiction.specs.Contradiction.{affirms, isSaid, clashes, clashUnder, contradicts, passes, leadsTo}
-use Rattle.contradiction.specs.JoinLaws.{one-joined, named-one, joined-one, representative-below}
+use Rattle.contradiction.specs.JoinLaws.{one-joined, named-one, joined-one, terms-base, representative-below}
 
 -- ===== Some literal =====
 
@@ -71,19 +72,19 @@ module _ (ar : List ℕ) (good : areArities ar ≡ true) (ls : List Literal) whe
   R = representative ar ls
 
   -- what a literal asks, by its predicate and its terms' representatives
-  asked-is : (l : Literal) → asked ar R l ≡ asks (predicateOf (l .label)) (map R (placesOf ar l))
+  asked-is : (l : Literal) → asked ar R l ≡ asks (predicateOf (l .label)) (map R (literalTerms ar l))
   asked-is l = moved-asks ar R (l .label) good
 
-  asked-long : (l : Literal) → length (map R (placesOf ar l)) ≡ getD ar (predicateOf (l .label)) 0
-  asked-long l = length-map (placesOf ar l) R ∙ terms-length ar (l .label) good
+  asked-long : (l : Literal) → length (map R (literalTerms ar l)) ≡ getD ar (predicateOf (l .label)) 0
+  asked-long l = length-map (literalTerms ar l) R ∙ terms-length ar (l .label) good
 
-  asked-small : (l : Literal) (t : ℕ) → List·Memᴰ t (map R (placesOf ar l)) → t < termEnd
+  asked-small : (l : Literal) (t : ℕ) → List·Memᴰ t (map R (literalTerms ar l)) → t < termBase
   asked-small l t m =
-      let u = mem-unmap R (placesOf ar l) t m in
-      subst (λ (x : ℕ). x < termEnd) (sym (u .2)) (representative-below ar ls (u .0) (terms-below ar (l .label) (u .0) (u .1)))
+      let u = mem-unmap R (literalTerms ar l) t m in
+      subst (λ (x : ℕ). x < termBase) (sym (u .2)) (representative-below termBase ar ls (terms-base ar ls) (u .0) (terms-below ar (l .label) (u .0) (u .1)))
 
-  asked-label : (l : Literal) (k : ℕ) → asked ar R l ≡ Is (record { packed = k }) → Asked ar (predicateOf (l .label)) (map R (placesOf ar l)) k
-  asked-label l k e = ask-is ar (predicateOf (l .label)) (map R (placesOf ar l)) k good (asked-long l) (asked-small l) (sym (asked-is l) ∙ e)
+  asked-label : (l : Literal) (k : ℕ) → asked ar R l ≡ Is (record { packed = k }) → Asked ar (predicateOf (l .label)) (map R (literalTerms ar l)) k
+  asked-label l k e = ask-is ar (predicateOf (l .label)) (map R (literalTerms ar l)) k good (asked-long l) (asked-small l) (sym (asked-is l) ∙ e)
 
   -- an equality of terms with one representative is plain truth
   names-truth : (l : Literal) (t u : ℕ) → Equates ar l t u → R t ≡ R u → asked ar R l ≡ Always
@@ -92,46 +93,46 @@ module _ (ar : List ℕ) (good : areArities ar ≡ true) (ls : List Literal) whe
       ∙ ap (λ (x : ℕ). asks 0 (x ∷ R u ∷ [])) e ∙ asks-twice (R u)
 
   truth-names : (l : Literal) → asked ar R l ≡ Always → (t : ℕ) × (u : ℕ) × Equates ar l t u × (R t ≡ R u)
-  truth-names l e = go (ask-always ar (predicateOf (l .label)) (map R (placesOf ar l)) good (asked-long l) (sym (asked-is l) ∙ e))
+  truth-names l e = go (ask-always ar (predicateOf (l .label)) (map R (literalTerms ar l)) good (asked-long l) (sym (asked-is l) ∙ e))
     where
-      go : (predicateOf (l .label) ≡ 0) × (v : ℕ) × (map R (placesOf ar l) ≡ v ∷ v ∷ []) → (t : ℕ) × (u : ℕ) × Equates ar l t u × (R t ≡ R u)
-      go x = at (twins-is R (placesOf ar l) (x .1) (x .2))
+      go : (predicateOf (l .label) ≡ 0) × (v : ℕ) × (map R (literalTerms ar l) ≡ v ∷ v ∷ []) → (t : ℕ) × (u : ℕ) × Equates ar l t u × (R t ≡ R u)
+      go x = at (twins-is R (literalTerms ar l) (x .1) (x .2))
         where
-          at : Twins R (placesOf ar l) → (t : ℕ) × (u : ℕ) × Equates ar l t u × (R t ≡ R u)
+          at : Twins R (literalTerms ar l) → (t : ℕ) × (u : ℕ) × Equates ar l t u × (R t ≡ R u)
           at (twins t u z q) = (t, u, record { equates = x .0; terms = z }, q)
 
   -- ===== What the test finds contradicts =====
 
   -- a true literal that asks for a label is no equality, and so has the label's predicate and terms
   affirmed : (l : Literal) (k : ℕ) → List·Memᴰ l ls → l .sign ≡ true → asked ar R l ≡ Is (record { packed = k })
-      → (0 < predicateOf (l .label)) × (predicateOf k ≡ predicateOf (l .label)) × (termsOf ar (unpacked k) ≡ map R (placesOf ar l))
+      → (0 < predicateOf (l .label)) × (predicateOf k ≡ predicateOf (l .label)) × (termsOf ar (unpacked k) ≡ map R (literalTerms ar l))
   affirmed l k i s e = go (cmp 0 (predicateOf (l .label)))
     where
-      equates : predicateOf (l .label) ≡ 0 → Two (placesOf ar l) → asked ar R l ≡ Always
+      equates : predicateOf (l .label) ≡ 0 → Two (literalTerms ar l) → asked ar R l ≡ Always
       equates z (two t u q) = let n : Equates ar l t u = record { equates = z; terms = q } in names-truth l t u n (named-one ar ls l t u i s n)
 
       no-label : {A : Type 0} → asked ar R l ≡ Always → A
       no-label a = let b : Always ≡ Is (record { packed = k }) = sym a ∙ e in let z : _≡_ {A = ℕ} 0 1 = cc in absurd (omega arith)
 
-      at : 0 < predicateOf (l .label) → Asked ar (predicateOf (l .label)) (map R (placesOf ar l)) k
-          → (0 < predicateOf (l .label)) × (predicateOf k ≡ predicateOf (l .label)) × (termsOf ar (unpacked k) ≡ map R (placesOf ar l))
+      at : 0 < predicateOf (l .label) → Asked ar (predicateOf (l .label)) (map R (literalTerms ar l)) k
+          → (0 < predicateOf (l .label)) × (predicateOf k ≡ predicateOf (l .label)) × (termsOf ar (unpacked k) ≡ map R (literalTerms ar l))
       at h (straight p q) = (h, p, q)
       at h (across z p q) = absurd (omega arith)
 
       go : Cmp 0 (predicateOf (l .label))
-          → (0 < predicateOf (l .label)) × (predicateOf k ≡ predicateOf (l .label)) × (termsOf ar (unpacked k) ≡ map R (placesOf ar l))
+          → (0 < predicateOf (l .label)) × (predicateOf k ≡ predicateOf (l .label)) × (termsOf ar (unpacked k) ≡ map R (literalTerms ar l))
       go (below h) = at h (asked-label l k e)
       go (equal z) =
-          no-label (equates (sym z) (length-two (placesOf ar l) (terms-length ar (l .label) good ∙ ap (λ (p : ℕ). getD ar p 0) (sym z) ∙ arity-two ar good)))
+          no-label (equates (sym z) (length-two (literalTerms ar l) (terms-length ar (l .label) good ∙ ap (λ (p : ℕ). getD ar p 0) (sym z) ∙ arity-two ar good)))
       go (above h) = absurd (omega arith)
 
   two-agree : (l m : Literal) (k : ℕ) → List·Memᴰ l ls → List·Memᴰ m ls → l .sign ≡ true → m .sign ≡ false
       → asked ar R l ≡ Is (record { packed = k }) → asked ar R m ≡ Is (record { packed = k }) → Contradicts ar ls
   two-agree l m k i j s f e d = go (affirmed l k i s e) (asked-label m k d)
     where
-      go : (0 < predicateOf (l .label)) × (predicateOf k ≡ predicateOf (l .label)) × (termsOf ar (unpacked k) ≡ map R (placesOf ar l))
-          → Asked ar (predicateOf (m .label)) (map R (placesOf ar m)) k → Contradicts ar ls
-      go a (straight p q) = differ l m i j (sym (a .1) ∙ p) (one-agree ar ls (placesOf ar l) (placesOf ar m) (sym (a .2) ∙ q)) s f
+      go : (0 < predicateOf (l .label)) × (predicateOf k ≡ predicateOf (l .label)) × (termsOf ar (unpacked k) ≡ map R (literalTerms ar l))
+          → Asked ar (predicateOf (m .label)) (map R (literalTerms ar m)) k → Contradicts ar ls
+      go a (straight p q) = differ l m i j (sym (a .1) ∙ p) (one-agree ar ls (literalTerms ar l) (literalTerms ar m) (sym (a .2) ∙ q)) s f
       go a (across z p q) = absurd (omega (arith, a .0, a .1, p))
 
   not-true : (b : Bool) → not b ≡ true → b ≡ false
@@ -170,7 +171,7 @@ module _ (ar : List ℕ) (good : areArities ar ≡ true) (ls : List Literal) whe
       clash-in m j f (go (asked ar R m) refl)
     where
       same : asked ar R l ≡ asked ar R m
-      same = asked-is l ∙ ap₂ asks p (agree-one ar ls (placesOf ar l) (placesOf ar m) a) ∙ sym (asked-is m)
+      same = asked-is l ∙ ap₂ asks p (agree-one ar ls (literalTerms ar l) (literalTerms ar m) a) ∙ sym (asked-is m)
 
       affirm : (k : ℕ) → asked ar R m ≡ Is (record { packed = k }) → affirms ar R k l ≡ true
       affirm k q = unfold affirms in (rw (s, same, q) (eq-eqb k k refl))

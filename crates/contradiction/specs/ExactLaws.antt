@@ -9,8 +9,9 @@ use lib.ListN.{getD}
 use lib.Dec.{eqb}
 use borrow.Author.Tests.{eqb-true, eq-eqb, ne-eqb}
 use Rattle.basics.specs.Tests.{and-left, and-right, Flag, isTrue, isFalse, flag, Cmp, cmp, below, equal, above}
-use Rattle.label.specs.Limits.{firstParameter, parameterCount, firstVariable, termEnd}
+use Rattle.label.specs.Limits.{firstParameter, parameterCount, firstVariable, termBase}
 use Rattle.label.specs.Labels.{areArities, predicateOf, unpacked, termsOf}
+use Rattle.label.specs.ArityLaws.{arity-two, terms-length}
 use Rattle.diagram.specs.Diagram.{Diagram, leaf, branch, relabel}
 use Rattle.diagram.specs.Words.{equalLists}
 use Rattle.diagram.specs.WordLaws.{lists-equal, equal-lists}
@@ -21,10 +22,10 @@ use Rattle.state.specs.Highest.{start}
 use Rattle.state.specs.ValueLaws.{low-lt, low-ge, by-low, map-same}
 use Rattle.paths.specs.Paths.{Literal, Step, Path, stepBefore, paths, literals, literalOf}
 use Rattle.paths.specs.PathLaws.{mem-unmap}
-use Rattle.cutting.specs.MovedLaws.{terms-length, arity-two, Two, two, length-two}
+use Rattle.cutting.specs.MovedLaws.{Two, two, length-two}
 use Rattle.cutting.specs.TruthLaws.{says, value-says, Follows, tells as tells-both}
-use Rattle.contradiction.specs.Contradiction.{placesOf, Equates, Contradicts, unequal, differ, LeadsTo, representative, someLiteral, contradicts}
-use Rattle.contradiction.specs.JoinLaws.{one-joined, named-one, representative-below}
+use Rattle.contradiction.specs.Contradiction.{literalTerms, Equates, Contradicts, unequal, differ, LeadsTo, representative, someLiteral, contradicts}
+use Rattle.contradiction.specs.JoinLaws.{one-joined, named-one, terms-base, representative-below}
 use Rattle.contradiction.specs.ContradictionLaws.{some-out, some-in, one-agree, contradicts-sound, contradicts-not}
 use Rattle.contradiction.specs.StateLaws.{says-terms}
 
@@ -33,13 +34,13 @@ use Rattle.contradiction.specs.StateLaws.{says-terms}
 module _ (ar : List ℕ) (ls : List Literal) where
   -- the literal says that the predicate p is true of the objects os
   unfoldable pub tells : ℕ → List ℕ → Literal → Bool
-  tells p os l = l .sign && (eqb (predicateOf (l .label)) p && equalLists (map (representative ar ls) (placesOf ar l)) os)
+  tells p os l = l .sign && (eqb (predicateOf (l .label)) p && equalLists (map (representative ar ls) (literalTerms ar l)) os)
 
-  -- a term's object is its representative, and what the literals say is true
+  -- a term's object is its representative, and what the literals say is true; an object for each number that a place of a label has room for
   unfoldable pub described : State
   unfolding tells
   described = record {
-    size = termEnd;
+    size = termBase;
     constant = λ c. low firstParameter c (representative ar ls c) 0;
     fact = λ p os. someLiteral (tells p os) ls;
   }
@@ -53,15 +54,15 @@ module _ (ar : List ℕ) (ls : List Literal) where
   unfolding described
   described-good = record {
     some = omega arith;
-    placed = λ c. by-low (low firstParameter c (representative ar ls c) 0 < termEnd) firstParameter c
-        (λ h. rw (low-lt firstParameter c (representative ar ls c) 0 h) (representative-below ar ls c (omega arith)))
+    placed = λ c. by-low (low firstParameter c (representative ar ls c) 0 < termBase) firstParameter c
+        (λ h. rw (low-lt firstParameter c (representative ar ls c) 0 h) (representative-below termBase ar ls (terms-base ar ls) c (omega arith)))
         (λ h. rw (low-ge firstParameter c (representative ar ls c) 0 h) (omega arith));
   }
 
-  objects-tuple : (c i : ℕ) → i + c ≤ parameterCount → Tuple termEnd c (objects c i)
+  objects-tuple : (c i : ℕ) → i + c ≤ parameterCount → Tuple termBase c (objects c i)
   unfolding objects
   objects-tuple zero i h = none
-  objects-tuple (suc c) i h = more (representative-below ar ls (firstParameter + i) (omega arith)) (objects-tuple c (suc i) (omega arith))
+  objects-tuple (suc c) i h = more (representative-below termBase ar ls (terms-base ar ls) (firstParameter + i) (omega arith)) (objects-tuple c (suc i) (omega arith))
 
   objects-at : (c i k d : ℕ) → k < c → getD (objects c i) k d ≡ representative ar ls (firstParameter + (i + k))
   unfolding objects
@@ -89,10 +90,10 @@ module _ (ar : List ℕ) (ls : List Literal) where
 
   module _ (good : areArities ar ≡ true) (free : Contradicts ar ls → ⊥) (l : Literal) (i : List·Memᴰ l ls) where
     abbrev Os : List ℕ
-    Os = map (representative ar ls) (placesOf ar l)
+    Os = map (representative ar ls) (literalTerms ar l)
 
-    equality-truth : predicateOf (l .label) ≡ 0 → Two (placesOf ar l) → truth described (predicateOf (l .label)) Os ≡ l .sign
-    equality-truth z (two t u e) = truth-names (predicateOf (l .label)) (placesOf ar l) t u z e ∙ go (flag (l .sign))
+    equality-truth : predicateOf (l .label) ≡ 0 → Two (literalTerms ar l) → truth described (predicateOf (l .label)) Os ≡ l .sign
+    equality-truth z (two t u e) = truth-names (predicateOf (l .label)) (literalTerms ar l) t u z e ∙ go (flag (l .sign))
       where
         n : Equates ar l t u
         n = record { equates = z; terms = e }
@@ -110,11 +111,11 @@ module _ (ar : List ℕ) (ls : List Literal) where
         another : l .sign ≡ false → (k : Literal) × List·Memᴰ k ls × (tells (predicateOf (l .label)) Os k ≡ true) → ⊥
         another s x =
             let k = x .0 in
-            let q : (k .sign && (eqb (predicateOf (k .label)) (predicateOf (l .label)) && equalLists (map (representative ar ls) (placesOf ar k)) Os)) ≡ true = unfold tells in (x .2) in
+            let q : (k .sign && (eqb (predicateOf (k .label)) (predicateOf (l .label)) && equalLists (map (representative ar ls) (literalTerms ar k)) Os)) ≡ true = unfold tells in (x .2) in
             let a = and-right (k .sign) _ q in
             let same = eqb-true _ _ (and-left (eqb (predicateOf (k .label)) (predicateOf (l .label))) _ a) in
-            let places = lists-equal (map (representative ar ls) (placesOf ar k)) Os (and-right (eqb (predicateOf (k .label)) (predicateOf (l .label))) _ a) in
-            free (differ k l (x .1) i same (one-agree ar ls (placesOf ar k) (placesOf ar l) places) (and-left (k .sign) _ q) s)
+            let places = lists-equal (map (representative ar ls) (literalTerms ar k)) Os (and-right (eqb (predicateOf (k .label)) (predicateOf (l .label))) _ a) in
+            free (differ k l (x .1) i same (one-agree ar ls (literalTerms ar k) (literalTerms ar l) places) (and-left (k .sign) _ q) s)
 
         none-says : l .sign ≡ false → Flag (someLiteral (tells (predicateOf (l .label)) Os) ls) → someLiteral (tells (predicateOf (l .label)) Os) ls ≡ false
         none-says s (isFalse e) = e
@@ -130,27 +131,27 @@ module _ (ar : List ℕ) (ls : List Literal) where
         go : Cmp 0 (predicateOf (l .label)) → truth described (predicateOf (l .label)) Os ≡ l .sign
         go (below h) = other-truth h
         go (equal z) =
-            equality-truth (sym z) (length-two (placesOf ar l) (terms-length ar (l .label) good ∙ ap (λ (p : ℕ). getD ar p 0) (sym z) ∙ arity-two ar good))
+            equality-truth (sym z) (length-two (literalTerms ar l) (terms-length ar (l .label) good ∙ ap (λ (p : ℕ). getD ar p 0) (sym z) ∙ arity-two ar good))
         go (above h) = absurd (omega arith)
 
-    says-literal : (c : ℕ) → c ≤ parameterCount → Each (λ t. t < firstParameter + c) (placesOf ar l) → says ar described (start described (objects c 0)) (l .label) ≡ l .sign
+    says-literal : (c : ℕ) → c ≤ parameterCount → Each (λ t. t < firstParameter + c) (literalTerms ar l) → says ar described (start described (objects c 0)) (l .label) ≡ l .sign
     says-literal c few small =
         says-terms ar described (start described (objects c 0)) l
         ∙ ap (truth described (predicateOf (l .label)))
-        (map-same (λ t. t < firstParameter + c) (start described (objects c 0)) (representative ar ls) (term-object c few) (placesOf ar l) small)
+        (map-same (λ t. t < firstParameter + c) (start described (objects c 0)) (representative ar ls) (term-object c few) (literalTerms ar l) small)
         ∙ literal-truth
 
 -- ===== The terms of a path =====
 
 -- every term of the path's literals is in P
 pub record PathTerms (P : ℕ → Type 0) (ar : List ℕ) (p : Path) : Type 0 where
-  pub each : (l : Literal) → List·Memᴰ l (literals p) → Each P (placesOf ar l)
+  pub each : (l : Literal) → List·Memᴰ l (literals p) → Each P (literalTerms ar l)
 
 step-terms : (P : ℕ → Type 0) (ar : List ℕ) (s : Step) (p : Path) → Each P (termsOf ar (unpacked (s .label))) → PathTerms P ar p → PathTerms P ar (stepBefore s p)
 unfolding literals stepBefore
 step-terms P ar s p e k = record { each = at }
   where
-    at : (l : Literal) → List·Memᴰ l (literalOf s ∷ map literalOf (p .steps)) → Each P (placesOf ar l)
+    at : (l : Literal) → List·Memᴰ l (literalOf s ∷ map literalOf (p .steps)) → Each P (literalTerms ar l)
     at l (List·Memᴰ·head q) = rw q e
     at l (List·Memᴰ·tail m) = k .each l m
 

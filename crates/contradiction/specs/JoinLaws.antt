@@ -6,11 +6,11 @@ use Prim.Native.Nat.{ℕ, _<_}
 use lib.Dec.{eqb}
 use borrow.Author.Tests.{eqb-true, eq-eqb}
 use Rattle.basics.specs.Tests.{Flag, isTrue, isFalse, flag}
-use Rattle.label.specs.Limits.{equality, termEnd}
-use Rattle.label.specs.Labels.{predicateOf}
+use Rattle.label.specs.Limits.{equality, termBase, termEnd}
+use Rattle.label.specs.Labels.{predicateOf, isLabel}
+use Rattle.label.specs.ArityLaws.{terms-below, terms-end}
 use Rattle.paths.specs.Paths.{Literal}
-use Rattle.cutting.specs.MovedLaws.{terms-below}
-use Rattle.contradiction.specs.Contradiction.{placesOf, Equates, Joined, named, itself, turned, along, joining, joinTerms, joinLiteral, representative}
+use Rattle.contradiction.specs.Contradiction.{literalTerms, Equates, Joined, named, itself, turned, along, joining, joinTerms, joinLiteral, representative}
 
 -- a literal joins two terms, or leaves the representatives as they are
 pub data Joins (ar : List ℕ) (l : Literal) : Type 0 where
@@ -18,22 +18,22 @@ pub data Joins (ar : List ℕ) (l : Literal) : Type 0 where
   leaves : ((r : ℕ → ℕ) (x : ℕ) → joinLiteral ar l r x ≡ r x) → Joins ar l
 
 -- by its sign, its predicate and its terms
-literal-is : (ar : List ℕ) (l : Literal) (b : Bool) (ts : List ℕ) → (l .sign && eqb (predicateOf (l .label)) equality) ≡ b → placesOf ar l ≡ ts
+literal-is : (ar : List ℕ) (l : Literal) (b : Bool) (ts : List ℕ) → (l .sign && eqb (predicateOf (l .label)) equality) ≡ b → literalTerms ar l ≡ ts
     → (r : ℕ → ℕ) (x : ℕ) → joinLiteral ar l r x ≡ cond b (joinTerms ts r x) (r x)
 unfolding joinLiteral
 literal-is ar l b ts e f r x =
-    ap (λ (c : Bool). cond c (joinTerms (placesOf ar l) r x) (r x)) e ∙ ap (λ (us : List ℕ). cond b (joinTerms us r x) (r x)) f
+    ap (λ (c : Bool). cond c (joinTerms (literalTerms ar l) r x) (r x)) e ∙ ap (λ (us : List ℕ). cond b (joinTerms us r x) (r x)) f
 
 pub literal-names : (ar : List ℕ) (l : Literal) (t u : ℕ) → l .sign ≡ true → Equates ar l t u → (r : ℕ → ℕ) (x : ℕ) → joinLiteral ar l r x ≡ joining t u r x
 literal-names ar l t u s n = literal-is ar l true (t ∷ u ∷ []) (rw (s, n .equates)) (n .terms)
 
 pub literal-stays : (ar : List ℕ) (l : Literal) → (l .sign && eqb (predicateOf (l .label)) equality) ≡ false → (r : ℕ → ℕ) (x : ℕ) → joinLiteral ar l r x ≡ r x
-literal-stays ar l e = literal-is ar l false (placesOf ar l) e refl
+literal-stays ar l e = literal-is ar l false (literalTerms ar l) e refl
 
 pub joins-is : (ar : List ℕ) (l : Literal) → Joins ar l
-joins-is ar l = go (flag (l .sign)) (flag (eqb (predicateOf (l .label)) equality)) (placesOf ar l) refl
+joins-is ar l = go (flag (l .sign)) (flag (eqb (predicateOf (l .label)) equality)) (literalTerms ar l) refl
   where
-    go : Flag (l .sign) → Flag (eqb (predicateOf (l .label)) equality) → (ts : List ℕ) → placesOf ar l ≡ ts → Joins ar l
+    go : Flag (l .sign) → Flag (eqb (predicateOf (l .label)) equality) → (ts : List ℕ) → literalTerms ar l ≡ ts → Joins ar l
     go (isFalse s) q ts e = leaves (literal-stays ar l (rw s))
     go (isTrue s) (isFalse q) ts e = leaves (literal-stays ar l (rw (s, q)))
     go (isTrue s) (isTrue q) [] e = leaves (literal-is ar l true [] (rw (s, q)) e)
@@ -122,23 +122,39 @@ joined-one itself = refl
 joined-one (turned j) = sym (joined-one j)
 joined-one (along j k) = joined-one j ∙ joined-one k
 
--- ===== Representatives are terms =====
+-- ===== Representatives are as small as terms =====
 
-pub representative-below : (ar : List ℕ) (ls : List Literal) (x : ℕ) → x < termEnd → representative ar ls x < termEnd
+-- every term of the literals is below n
+pub record TermsBelow (n : ℕ) (ar : List ℕ) (ls : List Literal) : Type 0 where
+  pub each : (l : Literal) → List·Memᴰ l ls → (t : ℕ) → List·Memᴰ t (literalTerms ar l) → t < n
+
+-- below the base of the packing they all are, and below the end of the terms if the literals have labels
+pub terms-base : (ar : List ℕ) (ls : List Literal) → TermsBelow termBase ar ls
+terms-base ar ls = record { each = λ l m t i. terms-below ar (l .label) t i }
+
+pub terms-labels : (ar : List ℕ) (ls : List Literal) → ((l : Literal) → List·Memᴰ l ls → isLabel ar (l .label) ≡ true) → TermsBelow termEnd ar ls
+terms-labels ar ls e = record { each = λ l m t i. terms-end ar (l .label) (e l m) t i }
+
+-- the terms that an equality names are its terms
+pub first-named : {ar : List ℕ} {l : Literal} {t u : ℕ} → Equates ar l t u → List·Memᴰ t (literalTerms ar l)
+first-named {t = t} n = subst (List·Memᴰ t) (sym (n .terms)) (List·Memᴰ·head refl)
+
+pub second-named : {ar : List ℕ} {l : Literal} {t u : ℕ} → Equates ar l t u → List·Memᴰ u (literalTerms ar l)
+second-named {u = u} n = subst (List·Memᴰ u) (sym (n .terms)) (List·Memᴰ·tail (List·Memᴰ·head refl))
+
+pub representative-below : (n : ℕ) (ar : List ℕ) (ls : List Literal) → TermsBelow n ar ls → (x : ℕ) → x < n → representative ar ls x < n
 unfolding representative
-representative-below ar [] x h = h
-representative-below ar (l ∷ ls) x h = go (joins-is ar l) (representative-below ar ls)
+representative-below n ar [] k x h = h
+representative-below n ar (l ∷ ls) k x h =
+    go (joins-is ar l) (representative-below n ar ls (record { each = λ m i. k .each m (List·Memᴰ·tail i) }))
   where
     r : ℕ → ℕ
     r = representative ar ls
 
-    go : Joins ar l → ((y : ℕ) → y < termEnd → representative ar ls y < termEnd) → joinLiteral ar l r x < termEnd
-    go (leaves e) b = subst (λ (y : ℕ). y < termEnd) (sym (e r x)) (b x h)
-    go (joins t u s n e) b = subst (λ (y : ℕ). y < termEnd) (sym (e r x)) (at (flag (eqb (r x) (r t))))
+    go : Joins ar l → ((y : ℕ) → y < n → representative ar ls y < n) → joinLiteral ar l r x < n
+    go (leaves e) b = subst (λ (y : ℕ). y < n) (sym (e r x)) (b x h)
+    go (joins t u s q e) b = subst (λ (y : ℕ). y < n) (sym (e r x)) (at (flag (eqb (r x) (r t))))
       where
-        small : u < termEnd
-        small = terms-below ar (l .label) u (subst (List·Memᴰ u) (sym (n .terms)) (List·Memᴰ·tail (List·Memᴰ·head refl)))
-
-        at : Flag (eqb (r x) (r t)) → joining t u r x < termEnd
-        at (isTrue q) = subst (λ (y : ℕ). y < termEnd) (sym (joining-here t u r x (eqb-true (r x) (r t) q))) (b u small)
-        at (isFalse q) = subst (λ (y : ℕ). y < termEnd) (sym (joining-other t u r x q)) (b x h)
+        at : Flag (eqb (r x) (r t)) → joining t u r x < n
+        at (isTrue f) = subst (λ (y : ℕ). y < n) (sym (joining-here t u r x (eqb-true (r x) (r t) f))) (b u (k .each l (List·Memᴰ·head refl) u (second-named q)))
+        at (isFalse f) = subst (λ (y : ℕ). y < n) (sym (joining-other t u r x f)) (b x h)

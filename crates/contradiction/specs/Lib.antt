@@ -1,7 +1,7 @@
 -- Paths that contradict themselves by equality (document 02, L5).
 --
 -- Definitions: in document 02's words
---   placesOf, Equates == the terms of a literal, place by place; it is an equality and names the terms t and u
+--   literalTerms, Equates == the terms of a literal, place by place; it is an equality and names the terms t and u
 --   Joined == the true equalities among the literals join t and u, through any number of them: the least equivalence that holds them
 --   Agree == two lists of terms agree place by place under them
 --   Contradicts == they join two terms that a false equality names, or two literals on one predicate agree and differ in truth
@@ -22,7 +22,8 @@
 --   satisfied: a path over constants and parameters that does not contradict itself is followed in some state, for some tuple
 --   leads-exact: so a diagram over them that has the value w in every state, for every tuple, passes: the rule asks no more
 --
--- For proofs: tells, described, objects == the state that literals describe, and its objects for the parameters; PathTerms
+-- For proofs: TermsBelow == every term of the literals is below n; PathTerms == every term of a path's literals is named
+--   tells, described, objects == the state that literals describe, and its objects for the parameters
 -- Examples has document 02's example and its neighbours, by computation; AgreeLaws are for proofs of the code.
 
 pub mod Contradiction

@@ -11,12 +11,12 @@ use Rattle.diagram.specs.Diagram.{Diagram, leaf}
 use Rattle.state.specs.State.{State, atomOf, meaning, truth, holds, value}
 use Rattle.paths.specs.Paths.{Literal, Path, paths, literals}
 use Rattle.cutting.specs.TruthLaws.{says, value-says, Follows, Followed, walk, tells}
-use Rattle.contradiction.specs.Contradiction.{placesOf, Equates, Joined, named, itself, turned, along, Agree, Contradicts, unequal, differ, LeadsTo, leadsTo}
+use Rattle.contradiction.specs.Contradiction.{literalTerms, Equates, Joined, named, itself, turned, along, Agree, Contradicts, unequal, differ, LeadsTo, leadsTo}
 use Rattle.contradiction.specs.ContradictionLaws.{leads-sound}
 
 module _ (ar : List ℕ) (s : State) (θ : ℕ → ℕ) where
   -- a literal's truth, by its predicate and the objects of its terms
-  pub says-terms : (l : Literal) → says ar s θ (l .label) ≡ truth s (predicateOf (l .label)) (map θ (placesOf ar l))
+  pub says-terms : (l : Literal) → says ar s θ (l .label) ≡ truth s (predicateOf (l .label)) (map θ (literalTerms ar l))
   unfolding holds atomOf
   says-terms l = refl
 
@@ -42,7 +42,7 @@ module _ (ar : List ℕ) (s : State) (θ : ℕ → ℕ) where
     not-followed (unequal {t = t} {u = u} l m e n j) = eqb-false (θ t) (θ u) (sym (says-names l t u n) ∙ f .each l m ∙ e) (joined-objects j)
     not-followed (differ l m i j q a x y) =
         true≢false
-        (sym x ∙ sym (f .each l i) ∙ says-terms l ∙ ap₂ (truth s) q (agree-objects (placesOf ar l) (placesOf ar m) a) ∙ sym (says-terms m) ∙ f .each m j ∙ y)
+        (sym x ∙ sym (f .each l i) ∙ says-terms l ∙ ap₂ (truth s) q (agree-objects (literalTerms ar l) (literalTerms ar m) a) ∙ sym (says-terms m) ∙ f .each m j ∙ y)
 
 -- a diagram all of whose paths to leaves other than w contradict themselves has the value w, in every state and under every valuation
 pub leads-value : (ar : List ℕ) (w : ℕ) (d : Diagram) → LeadsTo ar w d → (s : State) (θ : ℕ → ℕ) → value s (meaning ar d) θ ≡ w
