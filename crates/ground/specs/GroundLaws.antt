@@ -1,7 +1,7 @@
 -- Ground listings have equal numbers exactly if they are equal: where each constant has an object of its own, facts decide each ground label freely.
 use mathlib.Core.Path.{_≡_, refl, ap, ap₂, sym, subst, _∙_}
-use mathlib.Core.Logic.{_≢_, _⊎_, inl, inr}
-use mathlib.Core.Bool.{Bool, true, false, not, _&&_, _||_, cond}
+use mathlib.Core.Logic.{_≢_}
+use mathlib.Core.Bool.{Bool, true, false, not, _&&_, _||_}
 use mathlib.Core.List.{List, [], _∷_, map}
 use Prim.Native.Nat.{ℕ, zero, suc, pred, _<_}
 use native.Mathlib.Omega.{arith}
@@ -13,10 +13,9 @@ use Rattle.basics.specs.Tests.{and-left, and-right, Flag, isTrue, isFalse, flag
 use Rattle.basics.specs.Members.{clash}
 use Rattle.label.specs.Limits.{constantCount, equality, firstParameter, leafMark}
 use Rattle.label.specs.Terms.{isConstant}
-use Rattle.label.specs.Labels.{predicateOf, unpacked, termsOf, isLabel, areArities}
-use Rattle.label.specs.LabelLaws.{label-below}
-use Rattle.label.specs.Order.{placesBefore, atomBefore, labelBefore}
-use Rattle.label.specs.OrderLaws.{order-strict-total}
+use Rattle.label.specs.Labels.{atomFrom, packed, predicateOf, unpacked, termsOf, isLabel, areArities}
+use Rattle.label.specs.LabelLaws.{packed-unpacked, label-below}
+use Rattle.label.specs.ArityLaws.{terms-length}
 use Rattle.diagram.specs.Diagram.{Diagram, leaf, branch, eval}
 use Rattle.diagram.specs.Words.{labelAt, highAt, lowAt, rowCount, equalLists, isListing}
 use Rattle.diagram.specs.Listing.{treeAt, diagramOf}
@@ -38,7 +37,7 @@ use Rattle.state.specs.Lent.{someBelow}
 use Rattle.state.specs.LentLaws.{some-made, some-found}
 use Rattle.state.specs.ValueLaws.{low-lt, low-ge, by-low, value-same}
 use Rattle.state.specs.HighestLaws.{bound-tuple, start-fits, highest-is, highest-one}
-use Rattle.cutting.specs.MovedLaws.{terms-length}
+use Rattle.cutting.specs.MovedLaws.{label-atom}
 use Rattle.ground.specs.Ground.{allConstants, isGroundLabel, isGround, valueIn, StateUnder, DistinctConstants, ownObjects, EqualNumbers}
 
 -- ===== Labels =====
@@ -46,18 +45,8 @@ use Rattle.ground.specs.Ground.{allConstants, isGroundLabel, isGround, v
 -- a label is its predicate and its terms
 pub label-one : (ar : List ℕ) (l k : ℕ) → isLabel ar l ≡ true → isLabel ar k ≡ true → predicateOf l ≡ predicateOf k
     → termsOf ar (unpacked l) ≡ termsOf ar (unpacked k) → l ≡ k
-unfolding atomBefore unpacked predicateOf
-label-one ar l k el ek p t = go (order-strict-total ar .trichotomous l k el ek)
-  where
-    same : (j i : ℕ) → predicateOf j ≡ predicateOf i → termsOf ar (unpacked j) ≡ termsOf ar (unpacked i) → isLabel ar j ≡ true → labelBefore ar j i ≡ false
-    same j i q u e =
-        ap₂ (λ (x : ℕ) (xs : List ℕ). cond (eqb (predicateOf j) x) (placesBefore (termsOf ar (unpacked j)) xs) (ltb (predicateOf j) x)) (sym q) (sym u)
-        ∙ order-strict-total ar .irreflexive j e
-
-    go : (labelBefore ar l k ≡ true) ⊎ ((l ≡ k) ⊎ (labelBefore ar k l ≡ true)) → l ≡ k
-    go (inl h) = clash h (same l k p t el)
-    go (inr (inl h)) = h
-    go (inr (inr h)) = clash h (same k l (sym p) (sym t) ek)
+label-one ar l k el ek p t =
+    sym (packed-unpacked l) ∙ ap packed (sym (label-atom ar l el) ∙ ap₂ atomFrom p t ∙ label-atom ar k ek) ∙ packed-unpacked k
 
 -- the labels of a row's diagram are labels of rows
 tree-labels : (Q : ℕ → Type 0) (ar ws : List ℕ) → Valid ar ws → ((i : ℕ) → i < rowCount ws → labelAt ws i ≢ leafMark → Q (labelAt ws i))
