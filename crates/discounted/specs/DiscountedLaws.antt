@@ -5,7 +5,7 @@ use Prim.Native.Nat.{ℕ, zero, suc, _*_, _^_, _≤_, _<_, max}
 use native.Mathlib.Omega.{arith}
 use native.Mathlib.Nat.{mul-comm, mul-assoc, mul-add, mul-le-mul-left, mul-pos, pow-zero, pow-suc}
 use Rattle.basics.specs.Tests.{Cmp, below, equal, above, cmp}
-use Rattle.label.specs.Labels.{unpacked, predicateOf, termsOf}
+use Rattle.label.specs.Labels.{packed, unpacked, predicateOf, termsOf}
 use Rattle.state.specs.Max.{maxTo, maxTuples, maxOf, sumOf}
 use Rattle.state.specs.State.{meaning, State, Good}
 use Rattle.state.specs.Highest.{highest}
@@ -136,7 +136,7 @@ number-over-scale m good l s g = rw (demand-3 m good l s g) (bellman-over-scale 
 
 -- document 01's run: after one backup 30 / 8 where nothing is true and 120 / 8 with stock at the hub
 pub run-discounted : Equal (discounted runModel 1 nothingTrue) (ratio 15 4) × Equal (discounted runModel 1 stockAtHub) (whole 15)
-unfolding discounted unpacked predicateOf termsOf
+unfolding discounted packed unpacked predicateOf termsOf
 run-discounted = (
   record { left-some = omega arith; right-some = omega arith; cross = refl },
   record { left-some = omega arith; right-some = omega arith; cross = refl },

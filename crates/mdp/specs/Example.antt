@@ -2,9 +2,11 @@
 use mathlib.Core.Bool.{Bool, false, _&&_}
 use mathlib.Core.List.{List, [], _∷_}
 use mathlib.Core.Option.{some, none}
-use Prim.Native.Nat.{ℕ, zero, suc}
+use Prim.Native.Nat.{ℕ, zero, suc, _-_}
 use lib.ListN.{replicate}
 use lib.Dec.{eqb}
+use Rattle.label.specs.Limits.{predicateCount, equalityArity, firstParameter, firstVariable}
+use Rattle.label.specs.Labels.{atomFrom, equalAtom, packed}
 use Rattle.diagram.specs.Diagram.{Diagram, leaf, branch}
 use Rattle.state.specs.State.{State}
 use Rattle.regression.specs.Regression.{Truths}
@@ -19,18 +21,31 @@ forFirst d (suc (suc p)) = none
 abbrev pub noTruths : Truths
 noTruths p = none
 
--- document 01's run: hub is constant 0, stock predicate 1
+-- document 01's run: hub is constant 0, stock predicate 1; the labels of stock(t), and of t = u for t below u
+abbrev pub hub : ℕ
+hub = 0
+
+abbrev pub stock : ℕ → ℕ
+stock t = packed (atomFrom 1 (t ∷ []))
+
+abbrev pub equals : ℕ → ℕ → ℕ
+equals t u = packed (equalAtom t u)
+
+-- its action's truth diagram: (if (= !d ?s) 1 (if (stock ?s) 1 0))
+abbrev pub runTruth : Diagram
+runTruth = branch (equals firstParameter firstVariable) (leaf 1) (branch (stock firstVariable) (leaf 1) (leaf 0))
+
 abbrev pub runModel : Model
 runModel = record {
-  arities = 2 ∷ 1 ∷ replicate 30 0;
+  arities = equalityArity ∷ 1 ∷ replicate (predicateCount - 2) 0;
   total = 4;
   numerator = 1;
   denominator = 2;
-  reward = branch 16777216 (leaf 10) (leaf 0);
+  reward = branch (stock hub) (leaf 10) (leaf 0);
   actions = record {
     count = 1;
     variants =
-        record { weight = leaf 3; truths = forFirst (branch 4325376 (leaf 1) (branch 25165824 (leaf 1) (leaf 0))) }
+        record { weight = leaf 3; truths = forFirst runTruth }
         ∷ record { weight = leaf 1; truths = noTruths }
         ∷ [];
   } ∷ [];

@@ -5,7 +5,7 @@ use mathlib.Core.Option.{Option, some, none}
 use Prim.Native.Nat.{ℕ, zero, suc, _<_}
 use native.Mathlib.Omega.{arith}
 use lib.ListN.{getD}
-use Rattle.label.specs.Limits.{leafMark, predicateCount}
+use Rattle.label.specs.Limits.{firstParameter, firstVariable, leafMark, predicateCount}
 use Rattle.label.specs.Terms.{isTerm, isConstant, isParameter, isVariable}
 use Rattle.label.specs.Labels.{areArities, isLabel, isAtom, placeFits, inOrder, packed, unpacked, predicateOf, termsOf}
 use Rattle.label.specs.Renamings.{renamed, mapped, placed, numbering}
@@ -16,28 +16,30 @@ use Rattle.diagram.specs.Listings.{is-listing-good}
 use Rattle.diagram.specs.Variables.{closed}
 use Rattle.state.specs.State.{atomOf, meaning}
 use Rattle.mdp.specs.Model.{GoodTruthDiagram, GoodModel}
-use Rattle.mdp.specs.Example.{forFirst, runModel}
+use Rattle.mdp.specs.Example.{forFirst, hub, stock, equals, runTruth, runModel}
 
 abbrev ar : List ℕ
 ar = runModel .arities
 
-abbrev truthDiagram : Diagram
-truthDiagram = branch 4325376 (leaf 1) (branch 25165824 (leaf 1) (leaf 0))
+-- its labels have the numbers of document 02, L8: stock(hub) 2^48, hub = ?v0 64 · 2^32
+pub run-labels : (stock hub ≡ 281474976710656) × (equals hub firstVariable ≡ 274877906944)
+unfolding packed
+run-labels = (refl, refl)
 
 reward-good : Good ar (runModel .reward)
-unfolding isListing areArities isLabel isAtom unpacked placeFits isTerm isConstant isParameter isVariable inOrder isLeafRow isBranchRow labelAt highAt lowAt areDistinct equalRows areNumbered finish diagramOf treeAt
-reward-good = is-listing-good ar (leafMark ∷ 10 ∷ 0 ∷ leafMark ∷ 0 ∷ 0 ∷ 16777216 ∷ 0 ∷ 1 ∷ []) refl
+unfolding isListing areArities isLabel isAtom packed unpacked placeFits isTerm isConstant isParameter isVariable inOrder isLeafRow isBranchRow labelAt highAt lowAt areDistinct equalRows areNumbered finish diagramOf treeAt
+reward-good = is-listing-good ar (leafMark ∷ 10 ∷ 0 ∷ leafMark ∷ 0 ∷ 0 ∷ stock hub ∷ 0 ∷ 1 ∷ []) refl
 
 weight-good : Good ar (leaf 3) × Good ar (leaf 1)
-unfolding isListing areArities isLabel isAtom unpacked placeFits isTerm isConstant isParameter isVariable inOrder isLeafRow isBranchRow labelAt highAt lowAt areDistinct equalRows areNumbered finish diagramOf treeAt
+unfolding isListing areArities isLabel isAtom packed unpacked placeFits isTerm isConstant isParameter isVariable inOrder isLeafRow isBranchRow labelAt highAt lowAt areDistinct equalRows areNumbered finish diagramOf treeAt
 weight-good = (is-listing-good ar (leafMark ∷ 3 ∷ 0 ∷ []) refl, is-listing-good ar (leafMark ∷ 1 ∷ 0 ∷ []) refl)
 
-truth-good : Good ar truthDiagram
-unfolding isListing areArities isLabel isAtom unpacked placeFits isTerm isConstant isParameter isVariable inOrder isLeafRow isBranchRow labelAt highAt lowAt areDistinct equalRows areNumbered finish diagramOf treeAt
-truth-good = is-listing-good ar (leafMark ∷ 1 ∷ 0 ∷ leafMark ∷ 0 ∷ 0 ∷ 25165824 ∷ 0 ∷ 1 ∷ 4325376 ∷ 0 ∷ 2 ∷ []) refl
+truth-good : Good ar runTruth
+unfolding isListing areArities isLabel isAtom packed unpacked placeFits isTerm isConstant isParameter isVariable inOrder isLeafRow isBranchRow labelAt highAt lowAt areDistinct equalRows areNumbered finish diagramOf treeAt
+truth-good = is-listing-good ar (leafMark ∷ 1 ∷ 0 ∷ leafMark ∷ 0 ∷ 0 ∷ stock firstVariable ∷ 0 ∷ 1 ∷ equals firstParameter firstVariable ∷ 0 ∷ 2 ∷ []) refl
 
-truth-diagram-good : GoodTruthDiagram ar 1 1 truthDiagram
-unfolding meaning relabel atomOf unpacked termsOf predicateOf
+truth-diagram-good : GoodTruthDiagram ar 1 1 runTruth
+unfolding meaning relabel atomOf packed unpacked termsOf predicateOf
 truth-diagram-good = record {
   listed = truth-good;
   bits = (omega arith, (omega arith, omega arith));
@@ -74,7 +76,7 @@ run-model-good = record {
   );
 }
   where
-    done : (p : ℕ) (d : Diagram) → 0 < p → p < predicateCount → forFirst truthDiagram p ≡ some d → GoodTruthDiagram ar 1 (getD ar p 0) d
+    done : (p : ℕ) (d : Diagram) → 0 < p → p < predicateCount → forFirst runTruth p ≡ some d → GoodTruthDiagram ar 1 (getD ar p 0) d
     done zero d h k e = absurd (omega arith)
-    done (suc zero) d h k e = let q : truthDiagram ≡ d = cc in subst (GoodTruthDiagram ar 1 1) q truth-diagram-good
+    done (suc zero) d h k e = let q : runTruth ≡ d = cc in subst (GoodTruthDiagram ar 1 1) q truth-diagram-good
     done (suc (suc p)) d h k e = nothing e

@@ -23,7 +23,7 @@
 --   begin, runFrom, run == the reward and 0, then a list of calls
 --
 -- Definitions: document 01's run
---   forFirst, noTruths, runModel == its model
+--   forFirst, noTruths, hub, stock, equals, runTruth, runModel == its labels and its model
 --   nothingTrue, isNought, stockAtHub == its two states
 --   shown, eightModel, ab, ba == what (value) prints; the model and the labels of other marked cases
 --
@@ -34,6 +34,7 @@
 --   cut-is: a cut leaves a diagram of the same values
 --   value-is: so the number that valuing answers after a run is Mk of the lent state
 --   table: the ten marked cases, by computation
+--   run-labels: the labels of document 01's run have the numbers of document 02, L8
 --   run-model-good: the model of document 01's run is one that reading can accept
 
 -- definitions

@@ -59,7 +59,7 @@ abbrev pub Every : {A : Type 0} → (A → Type 0) → List A → Type 0
 Every P [] = Unit {0}
 Every P (a ∷ l) = P a × Every P l
 
--- a truth diagram of a predicate of n places, of an action with c parameters: leaves 0 and 1, the arguments, 32 onward, and no other variable, and
+-- a truth diagram of a predicate of n places, of an action with c parameters: leaves 0 and 1, the arguments, the first variable onward, and no other variable, and
 -- the action's parameters only
 pub record GoodTruthDiagram (ar : List ℕ) (c n : ℕ) (d : Diagram) : Type 0 where
   pub listed : Good ar d

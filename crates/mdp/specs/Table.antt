@@ -1,12 +1,13 @@
 -- The ten marked cases of document 01's checklist, computed from the definitions.
 use mathlib.Core.Path.{_≡_, refl}
 use mathlib.Core.List.{List, [], _∷_}
-use Prim.Native.Nat.{ℕ, _^_}
+use Prim.Native.Nat.{ℕ, _+_, _-_, _^_}
 use lib.ListN.{replicate}
 use Rattle.refusal.specs.declared.Refusal.the-variants.{Value, Scale, Nothing}
 use Rattle.refusal.specs.Outcome.{ok, refused, andThen}
+use Rattle.label.specs.Limits.{predicateCount, equalityArity, firstVariable}
 use Rattle.label.specs.Terms.{isVariable}
-use Rattle.label.specs.Labels.{termsOf, unpacked, predicateOf, packed, testOf, equates}
+use Rattle.label.specs.Labels.{atomFrom, termsOf, unpacked, predicateOf, packed, testOf, equates}
 use Rattle.label.specs.Renamings.{moved, renamed, mapped, placed, numbering, freeing}
 use Rattle.diagram.specs.Sizes.{highestValue}
 use Rattle.diagram.specs.Diagram.{leaf}
@@ -37,7 +38,7 @@ shown m l s = (highest s [] (meaning (m .arities) (run m l .diagram)), run m l .
 -- S = 8, reward 1, one action that changes nothing
 abbrev eightModel : Model
 eightModel = record {
-  arities = 2 ∷ replicate 31 0;
+  arities = equalityArity ∷ replicate (predicateCount - 1) 0;
   total = 4;
   numerator = 1;
   denominator = 2;
@@ -45,12 +46,12 @@ eightModel = record {
   actions = record { count = 0; variants = record { weight = leaf 4; truths = noTruths } ∷ [] } ∷ [];
 }
 
--- p(?a ?b) and p(?b ?a), with ?a = 32, ?b = 33
+-- p(?a ?b) and p(?b ?a), where p is predicate 1, ?a and ?b the first two variables
 abbrev ab : ℕ
-ab = 25300992
+ab = packed (atomFrom 1 (firstVariable ∷ (firstVariable + 1) ∷ []))
 
 abbrev ba : ℕ
-ba = 25559040
+ba = packed (atomFrom 1 ((firstVariable + 1) ∷ firstVariable ∷ []))
 
 -- The run's three values; both cut answers; 10^18 + 0 passes and 10^18 + 1 is refused; with S = 8 the 19th backup passes and the 20th is 12; the truth
 -- diagram of p(?a ?b) testing p(?a ?b), used at p(?b ?a), is the test of p(?b ?a).
@@ -63,6 +64,6 @@ pub table : (shown runModel [] nothingTrue ≡ (0, 0, 1))
     × (diagramAnswer Sum Shared (runModel .arities) (leaf highestValue) (leaf 1) ≡ Refused Value)
     × (run eightModel (replicate 19 aBackup) .steps ≡ 19)
     × (backup eightModel 19 (run eightModel (replicate 19 aBackup) .diagram) ≡ refused Scale)
-    × (andThen (truthAt (2 ∷ 2 ∷ replicate 30 0) (forFirst (labelTest ab)) ba []) (λ r. ok (r .0)) ≡ ok (labelTest ba))
+    × (andThen (truthAt (equalityArity ∷ 2 ∷ replicate (predicateCount - 2) 0) (forFirst (labelTest ab)) ba []) (λ r. ok (r .0)) ≡ ok (labelTest ba))
 unfolding run highest meaning scale cutAnswer diagramAnswer combination rowsFormed formed ends pairs pairCount overflows apply backup truthAt variables closed after moved testOf equates renamed numbering freeing mapped placed packed unpacked predicateOf termsOf isVariable
 table = (refl, refl, refl, refl, refl, refl, refl, refl, refl, refl)
