@@ -33,13 +33,6 @@ pub enum Led {
     Many,
 }
 
-// A literal's number as a word.
-fn wide(x: u32) -> u64
-    ensures { λ r. ⌜ r ≡ x ⌝ }
-{
-    x as u64
-}
-
 // x, but `to` in the place of `from`.
 fn exchanged(x: u64, from: u64, to: u64) -> u64
     ensures { λ r. ⌜ r ≡ cond (eqb x from) to x ⌝ }
@@ -94,14 +87,14 @@ fn join_literal(table: &mut [u64], x: u64)
 }
 
 // Finds the representatives under the true equalities among the literals.
-fn join_all(literals: &[u32], table: &mut [u64])
+fn join_all(literals: &[u64], table: &mut [u64])
     requires { ⌜ termEnd ≤ length (now table) ⌝ }
     ensures { λ _. ⌜ Represented (now (literals .entry)) 0 (now (table .exit)) ⌝ }
 {
     separate(table);
     let mut j = literals.len();
     while j > 0 {
-        join_literal(table, wide(literals[j - 1]));
+        join_literal(table, literals[j - 1]);
         j -= 1;
     }
 }
@@ -121,13 +114,13 @@ fn affirms(arities: &[u64], table: &[u64], x: u64, k: u64) -> bool
 }
 
 // Whether one of the literals does.
-fn is_affirmed(arities: &[u64], literals: &[u32], table: &[u64], k: u64) -> bool
+fn is_affirmed(arities: &[u64], literals: &[u64], table: &[u64], k: u64) -> bool
     requires { ⌜ Readable (now arities) (now literals) (now table) ⌝ }
     ensures { λ r. ⌜ r ≡ someLiteral (affirms (now (arities .entry)) (mapOf (now (table .entry))) k) (literalsIn (now (literals .entry))) ⌝ }
 {
     let mut j = 0;
     while j < literals.len() {
-        if affirms(arities, table, wide(literals[j]), k) {
+        if affirms(arities, table, literals[j], k) {
             return true;
         }
         j += 1;
@@ -136,7 +129,7 @@ fn is_affirmed(arities: &[u64], literals: &[u32], table: &[u64], k: u64) -> bool
 }
 
 // Whether the literal x is false, and asks for plain truth or what one of the literals says is true.
-fn clashes(arities: &[u64], literals: &[u32], table: &[u64], x: u64) -> bool
+fn clashes(arities: &[u64], literals: &[u64], table: &[u64], x: u64) -> bool
     requires { ⌜ Readable (now arities) (now literals) (now table) ⌝ }
     requires { ⌜ Movable (now arities) (now table) (x / 2) ⌝ }
     ensures { λ r. ⌜ r ≡ clashes (now (arities .entry)) (mapOf (now (table .entry))) (literalsIn (now (literals .entry))) (literalAt x) ⌝ }
@@ -151,13 +144,13 @@ fn clashes(arities: &[u64], literals: &[u32], table: &[u64], x: u64) -> bool
 }
 
 // Whether one of the literals does.
-fn clash(arities: &[u64], literals: &[u32], table: &[u64]) -> bool
+fn clash(arities: &[u64], literals: &[u64], table: &[u64]) -> bool
     requires { ⌜ Readable (now arities) (now literals) (now table) ⌝ }
     ensures { λ r. ⌜ r ≡ clashUnder (now (arities .entry)) (mapOf (now (table .entry))) (literalsIn (now (literals .entry))) ⌝ }
 {
     let mut j = 0;
     while j < literals.len() {
-        if clashes(arities, literals, table, wide(literals[j])) {
+        if clashes(arities, literals, table, literals[j]) {
             return true;
         }
         j += 1;
@@ -166,7 +159,7 @@ fn clash(arities: &[u64], literals: &[u32], table: &[u64]) -> bool
 }
 
 // Whether the literals contradict themselves by equality.
-fn contradicts(arities: &[u64], literals: &[u32]) -> bool
+fn contradicts(arities: &[u64], literals: &[u64]) -> bool
     requires { ⌜ Labelled (now arities) (now literals) ⌝ }
     ensures { λ r. ⌜ r ≡ contradicts (now (arities .entry)) (literalsIn (now (literals .entry))) ⌝ }
 {
@@ -180,7 +173,7 @@ fn is_impossible(arities: &[u64], words: &[u64], counts: &[u64], n: usize, k: u6
     requires { ⌜ Route (now arities) (now words) (now counts) n k ⌝ }
     ensures { λ r. ⌜ r ≡ contradicts (now (arities .entry)) (literals (pathAt (tree (now (words .entry)) (n - 1)) k)) ⌝ }
 {
-    let mut out = [0u32; PATH_WORDS];
+    let mut out = [0u64; PATH_WORDS];
     let j = paths::path_into(words, counts, n, k, &mut out);
     contradicts(arities, &out[TERMS..TERMS + j])
 }

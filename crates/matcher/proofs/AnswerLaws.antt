@@ -6,15 +6,16 @@ use Prim.Native.Nat.{ℕ, _+_, _-_, _≤_, _<_}
 use native.Mathlib.Omega.{arith}
 use lib.ListN.{length, getD, take, drop, replicate, length-take, length-replicate, getD-replicate}
 use lib.Seq.{length-take-le, take-add, drop-at, getD-take}
+use Rattle.label.specs.Limits.{termEnd}
 use Rattle.label.specs.Labels.{areArities}
 use Rattle.diagram.specs.Validity.{tree}
 use Rattle.diagram.specs.ListingValid.{listing-is-valid}
-use Rattle.paths.specs.Paths.{Literal, Path, literals, termsIn}
+use Rattle.paths.specs.Paths.{mostPaths, Literal, Path, literals, termsIn}
 use Rattle.cutting.specs.Match.{start, matches}
 use Rattle.cutting.specs.Cut.{covers}
 use Rattle.cutting.specs.Searchable.{PathLabels}
 use Rattle.cutting.specs.CoverLaws.{in-small}
-use Rattle.matcher.specs.Search.{literalsIn}
+use Rattle.matcher.specs.Search.{AllInRange, literalsIn}
 use Rattle.paths.specs.Routes.{pathAt}
 use Rattle.matcher.specs.Covering.{Coverable}
 use Rattle.matcher.specs.Stored.{Marks, Enterable, Stored, Ready, BothStored, Answers}
@@ -24,13 +25,14 @@ use Rattle.matcher.proofs.CoversLaws.{bothTerms, covers-setting, covers
 
 -- ===== search =====
 module _ {into from : List ℕ} {a b : ℕ} (g : BothStored into a from b) where
-  pub into-long : 64 + a ≡ length (take (64 + a) into)
-  into-long = sym (length-take-le (64 + a) into (g .into-room))
+  pub into-long : termEnd + a ≡ length (take (termEnd + a) into)
+  into-long = sym (length-take-le (termEnd + a) into (g .into-room))
 
-  pub search-ready : {tab theta : List ℕ} → length tab ≡ 128 → length theta ≡ 64 → ((v : ℕ) → v < 64 → getD theta v 0 ≡ v)
-      → Ready (take (64 + b - 64) (drop 64 from)) (take (64 + a) into) tab theta
+  pub search-ready : {tab theta : List ℕ} → length tab ≡ termEnd + termEnd → length theta ≡ termEnd → ((v : ℕ) → v < termEnd → getD theta v 0 ≡ v)
+      → Ready (take (termEnd + b - termEnd) (drop termEnd from)) (take (termEnd + a) into) tab theta
   search-ready x y same = record {
-    few = omega (arith, length-take (64 + b - 64) (drop 64 from), g .few);
+    few = omega (arith, length-take (termEnd + b - termEnd) (drop termEnd from), g .few);
+    ranged = let e : b ≡ termEnd + b - termEnd = omega arith in subst (λ (i : ℕ). AllInRange (take i (drop termEnd from))) e (g .ranged);
     sorted = g .sorted;
     tab-room = omega arith;
     theta-room = omega arith;
@@ -38,49 +40,49 @@ module _ {into from : List ℕ} {a b : ℕ} (g : BothStored into a from b) where
   }
 
   -- the literals behind the marks
-  into-literals : literalsIn (drop 64 (take (64 + a) into)) ≡ literalsIn (take a (drop 64 into))
+  into-literals : literalsIn (drop termEnd (take (termEnd + a) into)) ≡ literalsIn (take a (drop termEnd into))
   into-literals =
-      ap literalsIn (ap (drop 64) (take-add 64 a into) ∙ drop-at (take 64 into) (take a (drop 64 into)) 64 (length-take-le 64 into (omega (arith, g .into-room))))
+      ap literalsIn (ap (drop termEnd) (take-add termEnd a into) ∙ drop-at (take termEnd into) (take a (drop termEnd into)) termEnd (length-take-le termEnd into (omega (arith, g .into-room))))
 
   module _ (ar : List ℕ) (p : Path) (sp : Stored ar p into a) where
-    into-marks : Marks ar (λ t. getD (take (64 + a) into) t 0) (literals p)
+    into-marks : Marks ar (λ t. getD (take (termEnd + a) into) t 0) (literals p)
     into-marks = record { has = has; of = of }
       where
-        same : (t : ℕ) → t < 64 → getD (take (64 + a) into) t 0 ≡ getD into t 0
-        same t h = getD-take (64 + a) into t 0 (omega arith)
+        same : (t : ℕ) → t < termEnd → getD (take (termEnd + a) into) t 0 ≡ getD into t 0
+        same t h = getD-take (termEnd + a) into t 0 (omega arith)
 
-        has : (t : ℕ) → List·Memᴰ t (termsIn ar (literals p)) → 0 < getD (take (64 + a) into) t 0
+        has : (t : ℕ) → List·Memᴰ t (termsIn ar (literals p)) → 0 < getD (take (termEnd + a) into) t 0
         has t m = omega (arith, same t (in-small ar (literals p) t m), sp .marks .has t m)
 
-        of : (t : ℕ) → t < 64 → 0 < getD (take (64 + a) into) t 0 → List·Memᴰ t (termsIn ar (literals p))
+        of : (t : ℕ) → t < termEnd → 0 < getD (take (termEnd + a) into) t 0 → List·Memᴰ t (termsIn ar (literals p))
         of t h m = sp .marks .of t h (omega (arith, same t h))
 
-  tab-marks : (tab : List ℕ) → ((t : ℕ) → t < 64 → getD tab (64 + t) 0 ≡ getD from t 0) → (ar : List ℕ) (q : Path) → Stored ar q from b
-      → Marks ar (λ t. getD tab (64 + t) 0) (literals q)
+  tab-marks : (tab : List ℕ) → ((t : ℕ) → t < termEnd → getD tab (termEnd + t) 0 ≡ getD from t 0) → (ar : List ℕ) (q : Path) → Stored ar q from b
+      → Marks ar (λ t. getD tab (termEnd + t) 0) (literals q)
   tab-marks tab copied ar q sq = record {
     has = λ t m. omega (arith, copied t (in-small ar (literals q) t m), sq .marks .has t m);
     of = λ t h m. sq .marks .of t h (omega (arith, copied t h));
   }
 
-  module _ {tab : List ℕ} (copied : (t : ℕ) → t < 64 → getD tab (64 + t) 0 ≡ getD from t 0) where
-    pub search-answers : {r : Bool} → PartsPost (take (64 + b - 64) (drop 64 from)) (take (64 + a) into) tab r → Answers into a from b r
+  module _ {tab : List ℕ} (copied : (t : ℕ) → t < termEnd → getD tab (termEnd + t) 0 ≡ getD from t 0) where
+    pub search-answers : {r : Bool} → PartsPost (take (termEnd + b - termEnd) (drop termEnd from)) (take (termEnd + a) into) tab r → Answers into a from b r
     search-answers {r} s = record { each = each }
       where
         each : (ar : List ℕ) → areArities ar ≡ true → (p q : Path) → PathLabels ar p → PathLabels ar q → Stored ar p into a → Stored ar q from b → r ≡ covers ar p q
         each ar good p q np nq sp sq =
             s .answer ar (bothTerms ar good p q np nq) (covers-setting ar good p q np nq first (λ l m. subst (List·Memᴰ l) second m) (into-marks ar p sp) (tab-marks tab copied ar q sq))
-            ∙ ap (λ (ls : List Literal). matches ar ls (bothTerms ar good p q np nq) (literalsIn (take (64 + b - 64) (drop 64 from))) start) first
-            ∙ covers-order ar good p q np nq (literalsIn (take (64 + b - 64) (drop 64 from))) (λ l m. subst (List·Memᴰ l) second m) (λ l m. subst (List·Memᴰ l) (sym second) m)
+            ∙ ap (λ (ls : List Literal). matches ar ls (bothTerms ar good p q np nq) (literalsIn (take (termEnd + b - termEnd) (drop termEnd from))) start) first
+            ∙ covers-order ar good p q np nq (literalsIn (take (termEnd + b - termEnd) (drop termEnd from))) (λ l m. subst (List·Memᴰ l) second m) (λ l m. subst (List·Memᴰ l) (sym second) m)
           where
-            first : literalsIn (drop 64 (take (64 + a) into)) ≡ literals p
+            first : literalsIn (drop termEnd (take (termEnd + a) into)) ≡ literals p
             first = into-literals ∙ sp .are
 
-            second : literalsIn (take (64 + b - 64) (drop 64 from)) ≡ literals q
-            second = let e : 64 + b - 64 ≡ b = omega arith in ap (λ (i : ℕ). literalsIn (take i (drop 64 from))) e ∙ sq .are
+            second : literalsIn (take (termEnd + b - termEnd) (drop termEnd from)) ≡ literals q
+            second = let e : termEnd + b - termEnd ≡ b = omega arith in ap (λ (i : ℕ). literalsIn (take i (drop termEnd from))) e ∙ sq .are
 
 -- ===== covers =====
 module _ {ar ws counts : List ℕ} {n p q : ℕ} (g : Coverable ar ws counts n p q) where
-  pub covers-first : (m : ℕ) → 320 ≤ m → Enterable ar ws counts n p (replicate m 0)
+  pub covers-first : (m : ℕ) → termEnd + mostPaths ≤ m → Enterable ar ws counts n p (replicate m 0)
   covers-first m h = record {
     listed = g .listed;
     whole = g .whole;
@@ -91,7 +93,7 @@ module _ {ar ws counts : List ℕ} {n p q : ℕ} (g : Coverable ar ws counts n p
     clear = λ t k. getD-replicate m t 0 0 (omega arith);
   }
 
-  pub covers-second : (m : ℕ) → 320 ≤ m → Enterable ar ws counts n q (replicate m 0)
+  pub covers-second : (m : ℕ) → termEnd + mostPaths ≤ m → Enterable ar ws counts n q (replicate m 0)
   covers-second m h = record {
     listed = g .listed;
     whole = g .whole;

@@ -1,4 +1,8 @@
+pub mod AlongLaws
+pub mod TermLaws
 pub mod WayLaws
+pub mod BindLaws
+pub mod FindLaws
 pub mod TargetLaws
 pub mod MaskLaws
 pub mod FailureLaws

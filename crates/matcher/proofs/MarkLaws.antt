@@ -1,61 +1,31 @@
 -- Marking the terms of literals, and the tables that a search starts from.
-use mathlib.Core.Path.{_≡_, refl, sym, ap, subst, _∙_}
+use mathlib.Core.Path.{_≡_, refl, sym, ap, ap₂, subst, _∙_}
 use mathlib.Core.Logic.{_⊎_, inl, inr}
+use mathlib.Core.Bool.{true}
 use mathlib.Core.List.{List, [], _∷_, List·Memᴰ, List·Memᴰ·head, List·Memᴰ·tail}
-use Prim.Native.Nat.{ℕ, _+_, _-_, _/_, _%_, _≤_, _<_}
+use Prim.Native.Nat.{ℕ, _+_, _-_, _/_, _≤_, _<_}
 use native.Mathlib.Omega.{arith}
-use lib.ListN.{length, getD, set, take, drop, length-set}
-use lib.Seq.{getD-set-same, getD-set-other, take-all, drop-set-lt, getD-drop}
+use native.Mathlib.Numerals.{add-one}
+use lib.ListN.{length, getD, set, drop, length-set}
+use lib.Seq.{getD-set-same, getD-set-other, drop-set-lt, getD-drop}
 use Rattle.basics.specs.Tests.{Cmp, cmp, below, equal, above}
-use Rattle.label.specs.Limits.{termEnd, firstVariable, predicateWeight, firstWeight, secondWeight, thirdWeight}
-use Rattle.label.specs.Labels.{unpacked, termsOf}
-use Rattle.label.specs.LabelLaws.{label-fits}
+use Rattle.label.specs.Limits.{termEnd, firstVariable, mostPlaces}
+use Rattle.label.specs.Labels.{areArities, isLabel, predicateOf, placeAt}
 use Rattle.label.proofs.CodeLaws.{under-all}
 use Rattle.listing.specs.Used.{marked}
-use Rattle.cutting.specs.MovedLaws.{terms-below}
-use Rattle.matcher.specs.Search.{late, Unplaced}
+use Rattle.cutting.specs.MovedLaws.{arity-most}
+use Rattle.matcher.specs.Search.{InRange, along, late, Unplaced}
 use Rattle.matcher.specs.Stored.{termsOfCode, Markable, Unmarked, Marking}
-
--- ===== The terms of a literal, by its places =====
-module _ (ar ms : List ℕ) (x : ℕ) where
-  pub predicate-within : Markable ar ms x → x / 2 / predicateWeight < length ar
-  unfolding unpacked
-  predicate-within m = omega (arith, label-fits ar (x / 2) (m .label) .predicate-fits, under-all ar (sym (m .arities)) refl)
-
-  places : termsOfCode ar x
-      ≡ take (getD ar (x / 2 / predicateWeight) 0) (x / 2 / firstWeight % termEnd ∷ x / 2 / secondWeight % termEnd ∷ x / 2 / thirdWeight % termEnd ∷ x / 2 % termEnd ∷ [])
-  unfolding termsOfCode termsOf unpacked
-  places = refl
-
-  pub mark-none : getD ar (x / 2 / predicateWeight) 0 ≡ 0 → ms ≡ marked (termsOfCode ar x) ms
-  mark-none h = rw (places, h)
-
-  pub mark-one : getD ar (x / 2 / predicateWeight) 0 ≡ 1 → set ms (x / 2 / firstWeight % termEnd) 1 ≡ marked (termsOfCode ar x) ms
-  mark-one h = rw (places, h)
-
-  pub mark-two : getD ar (x / 2 / predicateWeight) 0 ≡ 2
-      → set (set ms (x / 2 / firstWeight % termEnd) 1) (x / 2 / secondWeight % termEnd) 1 ≡ marked (termsOfCode ar x) ms
-  mark-two h = rw (places, h)
-
-  pub mark-three : getD ar (x / 2 / predicateWeight) 0 ≡ 3
-      → set (set (set ms (x / 2 / firstWeight % termEnd) 1) (x / 2 / secondWeight % termEnd) 1) (x / 2 / thirdWeight % termEnd) 1 ≡ marked (termsOfCode ar x) ms
-  mark-three h = rw (places, h)
-
-  pub mark-four : (getD ar (x / 2 / predicateWeight) 0 ≡ 0 → ⊥) → (getD ar (x / 2 / predicateWeight) 0 ≡ 1 → ⊥)
-      → (getD ar (x / 2 / predicateWeight) 0 ≡ 2 → ⊥) → (getD ar (x / 2 / predicateWeight) 0 ≡ 3 → ⊥)
-      → set (set (set (set ms (x / 2 / firstWeight % termEnd) 1) (x / 2 / secondWeight % termEnd) 1) (x / 2 / thirdWeight % termEnd) 1) (x / 2 % termEnd) 1
-      ≡ marked (termsOfCode ar x) ms
-  mark-four h₀ h₁ h₂ h₃ =
-      let l : List ℕ = x / 2 / firstWeight % termEnd ∷ x / 2 / secondWeight % termEnd ∷ x / 2 / thirdWeight % termEnd ∷ x / 2 % termEnd ∷ [] in
-      rw (places, take-all (getD ar (x / 2 / predicateWeight) 0) l (omega arith))
+use Rattle.matcher.proofs.AlongLaws.{along-suc, marked-snoc}
+use Rattle.matcher.proofs.TermLaws.{label-range, terms-along, in-place}
 
 -- ===== Marks after terms were marked =====
 abbrev AllTerms : List ℕ → Type 0
 AllTerms ts = (t : ℕ) → List·Memᴰ t ts → t < termEnd
 
-code-terms : (ar : List ℕ) (x : ℕ) → AllTerms (termsOfCode ar x)
+code-terms : (ar : List ℕ) (x : ℕ) → areArities ar ≡ true → isLabel ar (x / 2) ≡ true → AllTerms (termsOfCode ar x)
 unfolding termsOfCode
-code-terms ar x t w = terms-below ar (x / 2) t w
+code-terms ar x g e t w = let p = in-place ar (x / 2) g t w in subst (λ (v : ℕ). v < termEnd) (sym (p .2)) (label-range ar (x / 2) e .places (p .0) (p .1))
 
 pub length-marked : (ts ms : List ℕ) → length (marked ts ms) ≡ length ms
 length-marked [] ms = refl
@@ -93,6 +63,49 @@ marked-from (u ∷ us) ms t h = go (marked-from us (set ms u 1) t h) (cmp t u)
     go (inl k) (below q) = was (omega arith) k
     go (inl k) (above q) = was (omega arith) k
 
+-- ===== mark_places =====
+
+-- the first k places of the label l are marked
+pub record MarkingPlaces (ms₀ : List ℕ) (l n : ℕ) (ms : List ℕ) (k : ℕ) : Type 0 where
+  pub most : k ≤ n
+  pub is : ms ≡ marked (along (placeAt l) k) ms₀
+
+pub places-start : (ms : List ℕ) (l n : ℕ) → MarkingPlaces ms l n ms 0
+unfolding along
+places-start ms l n = record { most = omega arith; is = refl }
+
+pub places-term : {l n k t : ℕ} → InRange l → n ≤ mostPlaces → k < n → t ≡ placeAt l k → t < termEnd
+places-term {k = k} r h q e = omega (arith, r .places k (omega arith))
+
+pub places-next : {ms₀ : List ℕ} {l n : ℕ} {ms : List ℕ} {k t : ℕ} → MarkingPlaces ms₀ l n ms k → k < n → t ≡ placeAt l k → MarkingPlaces ms₀ l n (set ms t 1) (k + 1)
+places-next {ms₀} {l} {n} {ms} {k} {t} m h e = record {
+  most = omega arith;
+  is = ap₂ (λ (xs : List ℕ) (v : ℕ). set xs v 1) (m .is) e ∙ sym (marked-snoc (along (placeAt l) k) (placeAt l k) ms₀)
+      ∙ ap (λ (ts : List ℕ). marked ts ms₀) (sym (along-suc (placeAt l) k) ∙ ap (along (placeAt l)) (sym (add-one k)));
+}
+
+pub places-end : {ms₀ : List ℕ} {l n : ℕ} {ms : List ℕ} {k : ℕ} → MarkingPlaces ms₀ l n ms k → n ≤ k → ms ≡ marked (along (placeAt l) n) ms₀
+places-end {ms₀} {l} {n} {ms} m h = let e = m .most in subst (λ (i : ℕ). ms ≡ marked (along (placeAt l) i) ms₀) (omega arith) (m .is)
+
+pub places-length : {ms₀ : List ℕ} {l n : ℕ} {ms : List ℕ} {k : ℕ} → MarkingPlaces ms₀ l n ms k → length ms ≡ length ms₀
+places-length {ms₀} {l} {k = k} m = ap length (m .is) ∙ length-marked (along (placeAt l) k) ms₀
+
+-- ===== mark_literal =====
+module _ {ar ms : List ℕ} {x : ℕ} (m : Markable ar ms x) where
+  pub literal-range : InRange (x / 2)
+  literal-range = label-range ar (x / 2) (m .label)
+
+  pub predicate-within : {p : ℕ} → p ≡ predicateOf (x / 2) → p < length ar
+  predicate-within e = omega (arith, literal-range .predicate, under-all ar (sym (m .arities)) refl)
+
+  pub literal-few : {p : ℕ} → p ≡ predicateOf (x / 2) → getD ar p 0 ≤ mostPlaces
+  literal-few {p} e = omega (arith, arity-most ar p (m .arities))
+
+  pub literal-marked : {p : ℕ} {ms′ : List ℕ} → p ≡ predicateOf (x / 2) → ms′ ≡ marked (along (placeAt (x / 2)) (getD ar p 0)) ms → ms′ ≡ marked (termsOfCode ar x) ms
+  unfolding termsOfCode
+  literal-marked e q =
+      q ∙ ap (λ (ts : List ℕ). marked ts ms) (ap (λ (i : ℕ). along (placeAt (x / 2)) (getD ar i 0)) e ∙ sym (terms-along ar (x / 2) (m .arities)))
+
 -- ===== mark_path =====
 module _ {ar out₀ : List ℕ} {n : ℕ} (u : Unmarked ar out₀ n) where
   pub marking-start : Marking ar out₀ out₀ 0
@@ -113,7 +126,7 @@ module _ {ar out₀ : List ℕ} {n : ℕ} (u : Unmarked ar out₀ n) where
       pub marking-next : {out′ : List ℕ} → out′ ≡ marked (termsOfCode ar x) out → Marking ar out₀ out′ (i + 1)
       marking-next {out′} q = subst (λ (xs : List ℕ). Marking ar out₀ xs (i + 1)) (sym (q ∙ ap (λ (y : ℕ). marked (termsOfCode ar y) out) (e ∙ same-code))) (record {
         length-kept = length-marked ts out ∙ m .length-kept;
-        behind = drop-marked ts out (small i) ∙ m .behind;
+        behind = drop-marked ts out (λ t. small i t h) ∙ m .behind;
         has = λ j t k w. has j t k w (cmp j i);
         of = λ t k w. of t k (marked-from ts out t w);
       })
@@ -121,13 +134,13 @@ module _ {ar out₀ : List ℕ} {n : ℕ} (u : Unmarked ar out₀ n) where
           ts : List ℕ
           ts = termsOfCode ar (getD out₀ (termEnd + i) 0)
 
-          small : (j t : ℕ) → List·Memᴰ t (termsOfCode ar (getD out₀ (termEnd + j) 0)) → t < termEnd
-          small j = code-terms ar (getD out₀ (termEnd + j) 0)
+          small : (j t : ℕ) → j < n → List·Memᴰ t (termsOfCode ar (getD out₀ (termEnd + j) 0)) → t < termEnd
+          small j t k = code-terms ar (getD out₀ (termEnd + j) 0) (u .arities) (u .labels j k) t
 
           has : (j t : ℕ) → j < i + 1 → List·Memᴰ t (termsOfCode ar (getD out₀ (termEnd + j) 0)) → Cmp j i → 0 < getD (marked ts out) t 0
-          has j t k w (below c) = marked-stays ts out t (omega (arith, small j t w, u .room, m .length-kept)) (m .has j t c w)
+          has j t k w (below c) = marked-stays ts out t (omega (arith, small j t (omega arith) w, u .room, m .length-kept)) (m .has j t c w)
           has j t k w (equal c) =
-              marked-set ts out t (omega (arith, small j t w, u .room, m .length-kept))
+              marked-set ts out t (omega (arith, small j t (omega arith) w, u .room, m .length-kept))
               (subst (λ (l : ℕ). List·Memᴰ t (termsOfCode ar (getD out₀ (termEnd + l) 0))) c w)
           has j t k w (above c) = absurd (omega arith)
 

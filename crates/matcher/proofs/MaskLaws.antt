@@ -1,5 +1,5 @@
 -- Masks are sets: or, and, one bit, the variables of a label.
-use mathlib.Core.Path.{_≡_, refl, sym, ap, _∙_}
+use mathlib.Core.Path.{_≡_, refl, sym, ap, subst, _∙_}
 use mathlib.Core.Logic.{_⊎_, inl, inr}
 use mathlib.Core.Bool.{true}
 use Prim.Native.Nat.{ℕ, zero, suc, _+_, _-_, _*_, _/_, _%_, _^_, _≤_, _<_, min, max}
@@ -8,8 +8,9 @@ use lib.Pow.{shr-shr, shl-exact}
 use lib.Bits.{bitAnd, bitOr, and-step, or-step, shifted-half, shifted-even}
 use lib.Dec.{eqb}
 use borrow.Author.Tests.{eqb-true}
+use Rattle.basics.specs.Tests.{Cmp, cmp, below, equal, above}
 use Rattle.label.specs.Limits.{firstVariable, variableCount, termEnd, mostPlaces}
-use Rattle.matcher.specs.Search.{placeOf}
+use Rattle.label.specs.Labels.{placeAt}
 use Rattle.matcher.specs.Failure.{bitAt, In, One, Variables}
 
 max-two : (a b : ℕ) → a < 2 → b < 2 → max a b < 2
@@ -119,27 +120,20 @@ one-some t f h = record {
     exact = shift-exact (t - firstVariable) (omega arith)
 
 -- ===== The variables of a label =====
-pub variables-is : (l : ℕ) {p q r s : ℕ} → One (placeOf l 0) p → One (placeOf l 1) q → One (placeOf l 2) r → One (placeOf l 3) s
-    → Variables l (bitOr (bitOr (bitOr p q) r) s)
-variables-is l {p} {q} {r} {s} a b c d = record { has = has; only = only }
+pub variables-start : (l : ℕ) → Variables l 0 0
+variables-start l = record { has = λ k i h. absurd (omega arith); only = λ i h. absurd (zero-none i h) }
+
+pub variables-next : {l k t m o : ℕ} → Variables l k m → t ≡ placeAt l k → One t o → Variables l (k + 1) (bitOr m o)
+variables-next {l} {k} {t} {m} {o} v e w = record { has = λ j i h q. has j i h q (cmp j k); only = λ i h. only i (in-either i m o h) }
   where
-    has : (j i : ℕ) → placeOf l j ≡ firstVariable + i → In (bitOr (bitOr (bitOr p q) r) s) i
-    has zero i e = in-left i (bitOr (bitOr p q) r) s (in-left i (bitOr p q) r (in-left i p q (a .has i e)))
-    has (suc zero) i e = in-left i (bitOr (bitOr p q) r) s (in-left i (bitOr p q) r (in-right i p q (b .has i e)))
-    has (suc (suc zero)) i e = in-left i (bitOr (bitOr p q) r) s (in-right i (bitOr p q) r (c .has i e))
-    has (suc (suc (suc j))) i e = in-right i (bitOr (bitOr p q) r) s (d .has i e)
+    has : (j i : ℕ) → j < k + 1 → placeAt l j ≡ firstVariable + i → Cmp j k → In (bitOr m o) i
+    has j i h q (below c) = in-left i m o (v .has j i c q)
+    has j i h q (equal c) = in-right i m o (w .has i (e ∙ ap (placeAt l) (sym c) ∙ q))
+    has j i h q (above c) = absurd (omega arith)
 
-    only : (i : ℕ) → In (bitOr (bitOr (bitOr p q) r) s) i → (j : ℕ) × (j < mostPlaces) × (placeOf l j ≡ firstVariable + i)
-    only i h = last (in-either i (bitOr (bitOr p q) r) s h)
-      where
-        first : In p i ⊎ In q i → (j : ℕ) × (j < mostPlaces) × (placeOf l j ≡ firstVariable + i)
-        first (inl o) = (0, omega arith, a .only i o)
-        first (inr o) = (1, omega arith, b .only i o)
+    only : (i : ℕ) → In m i ⊎ In o i → (j : ℕ) × (j < k + 1) × (placeAt l j ≡ firstVariable + i)
+    only i (inl h) = let r = v .only i h in (r .0, omega (arith, r .1), r .2)
+    only i (inr h) = (k, omega arith, sym e ∙ w .only i h)
 
-        third : In (bitOr p q) i ⊎ In r i → (j : ℕ) × (j < mostPlaces) × (placeOf l j ≡ firstVariable + i)
-        third (inl o) = first (in-either i p q o)
-        third (inr o) = (2, omega arith, c .only i o)
-
-        last : In (bitOr (bitOr p q) r) i ⊎ In s i → (j : ℕ) × (j < mostPlaces) × (placeOf l j ≡ firstVariable + i)
-        last (inl o) = third (in-either i (bitOr p q) r o)
-        last (inr o) = (3, omega arith, d .only i o)
+pub variables-end : {l k m : ℕ} → Variables l k m → k ≤ mostPlaces → mostPlaces ≤ k → Variables l mostPlaces m
+variables-end {l} {k} {m} v h j = let e : k ≡ mostPlaces = omega arith in subst (λ (n : ℕ). Variables l n m) e v

@@ -1,20 +1,22 @@
 -- What a failure says of matches: which way a match takes a literal, and which ways do not fit it.
 use mathlib.Core.Path.{_≡_, refl, sym, ap, ap₂, subst, _∙_}
 use mathlib.Core.Bool.{true, cond}
-use mathlib.Core.List.{List, [], _∷_, map, List·Memᴰ, List·Memᴰ·head, List·Memᴰ·tail, List·Memᴰ·not-nil}
+use mathlib.Core.List.{List, [], _∷_, map, List·Memᴰ, List·Memᴰ·head, List·Memᴰ·tail}
 use mathlib.Core.Option.{Option, some, none}
-use Prim.Native.Nat.{ℕ, zero, suc, _/_, _<_}
+use Prim.Native.Nat.{ℕ, _/_, _<_}
 use native.Mathlib.Omega.{arith}
 use lib.ListN.{drop}
 use borrow.Author.Tests.{eq-eqb, lt-leb}
-use Rattle.label.specs.Limits.{firstVariable, termEnd}
+use Rattle.label.specs.Limits.{firstVariable, termEnd, mostPlaces}
 use Rattle.label.specs.Terms.{isVariable}
-use Rattle.label.specs.Labels.{isLabel, termsOf, unpacked}
+use Rattle.label.specs.Labels.{isLabel, placeAt, termsOf, unpacked}
 use Rattle.paths.specs.Paths.{Literal}
 use Rattle.cutting.specs.Match.{Partial, start, agree, bindTerm, thenBind, bindTerms, targets}
 use Rattle.cutting.specs.Cut.{Matched}
 use Rattle.cutting.specs.MatchLaws.{Solves, binds-some, binds-only, target-sound, target-complete}
-use Rattle.matcher.specs.Search.{literalAt, literalsIn, placeOf, fourOf, Setting}
+use Rattle.matcher.specs.Search.{literalAt, literalsIn, placesIn, wayPlace, wayPlaces, Setting}
+use Rattle.matcher.specs.declared.Way.{Way}
+use Rattle.matcher.proofs.AlongLaws.{along-same, along-equal, along-map}
 use Rattle.matcher.proofs.TargetLaws.{replacedBy, WayOf, way-out}
 
 -- what τ knows, else u
@@ -62,19 +64,15 @@ misfit τ σ ts us e q h =
     let z : _≡_ {A = ℕ} 0 1 = cc in
     absurd (omega arith)
 
--- the four places of a label
-pub place-in : (l j : ℕ) → List·Memᴰ (placeOf l j) (fourOf l)
-place-in l zero = List·Memᴰ·head refl
-place-in l (suc zero) = List·Memᴰ·tail (List·Memᴰ·head refl)
-place-in l (suc (suc zero)) = List·Memᴰ·tail (List·Memᴰ·tail (List·Memᴰ·head refl))
-place-in l (suc (suc (suc j))) = List·Memᴰ·tail (List·Memᴰ·tail (List·Memᴰ·tail (List·Memᴰ·head refl)))
+-- σ takes the places of the label l by the way w
+abbrev pub Takes : (ℕ → ℕ) → ℕ → Way → Type 0
+Takes σ l w = (k : ℕ) → k < mostPlaces → σ (placeAt l k) ≡ wayPlace w k
 
-pub four-place : (l u : ℕ) → List·Memᴰ u (fourOf l) → (j : ℕ) × (placeOf l j ≡ u)
-four-place l u (List·Memᴰ·head e) = (0, sym e)
-four-place l u (List·Memᴰ·tail (List·Memᴰ·head e)) = (1, sym e)
-four-place l u (List·Memᴰ·tail (List·Memᴰ·tail (List·Memᴰ·head e))) = (2, sym e)
-four-place l u (List·Memᴰ·tail (List·Memᴰ·tail (List·Memᴰ·tail (List·Memᴰ·head e)))) = (3, sym e)
-four-place l u (List·Memᴰ·tail (List·Memᴰ·tail (List·Memᴰ·tail (List·Memᴰ·tail q)))) = absurd (List·Memᴰ·not-nil q)
+pub takes-list : (σ : ℕ → ℕ) (l : ℕ) (w : Way) → Takes σ l w → map σ (placesIn l) ≡ wayPlaces w
+takes-list σ l w h = along-map σ (placeAt l) mostPlaces ∙ along-same (λ k. σ (placeAt l k)) (wayPlace w) mostPlaces h
+
+pub list-takes : (σ : ℕ → ℕ) (l : ℕ) (w : Way) → map σ (placesIn l) ≡ wayPlaces w → Takes σ l w
+list-takes σ l w e = along-equal (λ k. σ (placeAt l k)) (wayPlace w) mostPlaces (sym (along-map σ (placeAt l) mostPlaces) ∙ e)
 
 -- a match takes literal x by one of its ways
 module _ (ar T ord into tab : List ℕ) (s : Setting ar T ord into tab) (qs : List Literal) (z : Solves ar (literalsIn (drop termEnd into)) T qs start) where
@@ -94,12 +92,12 @@ module _ (ar T ord into tab : List ℕ) (s : Setting ar T ord into tab) (qs : Li
     taken = way-out ar T ord into tab s x label (map (z .σ) (termsOf ar (unpacked (x / 2))))
         (target-complete ar (s .search .arities) (z .σ) (literalsIn (drop termEnd into)) T (literalAt x) (s .search .small) (z .image (literalAt x) m) (z .matched (literalAt x) m))
 
-    pub taken-is : (w : WayOf ar T ord into tab s x label (map (z .σ) (termsOf ar (unpacked (x / 2)))))
-        → map (z .σ) (fourOf (x / 2)) ≡ w .a ∷ w .b ∷ w .c ∷ w .d ∷ []
+    pub taken-is : (w : WayOf ar T ord into tab s x label (map (z .σ) (termsOf ar (unpacked (x / 2))))) → Takes (z .σ) (x / 2) (w .way)
     taken-is w =
-        binds-only (z .σ) all all (fourOf (x / 2)) (w .a ∷ w .b ∷ w .c ∷ w .d ∷ [])
+        list-takes (z .σ) (x / 2) (w .way)
+        (binds-only (z .σ) all all (placesIn (x / 2)) (wayPlaces (w .way))
         (sym (w .same all (ap some (constant-stays 0 (omega arith)))) ∙ bind-known (termsOf ar (unpacked (x / 2))) all (z .σ) (λ t i. refl))
-        (record { known = λ t u e. cc }) .1
+        (record { known = λ t u e. cc }) .1)
 
     -- a literal whose terms are all known and that is not met: no match agrees with theta on its terms
     pub unmet : (theta : List ℕ) → ((t : ℕ) → List·Memᴰ t (termsOf ar (unpacked (x / 2))) → z .σ t ≡ replacedBy theta t)

@@ -8,18 +8,20 @@ use lib.ListN.{length, getD, take, drop, replicate, length-take, length-drop, le
 use lib.Seq.{take-add, take-all, getD-take, getD-drop}
 use Rattle.basics.specs.Tests.{Flag, isTrue, isFalse, flag, Cmp, cmp, below, equal, above}
 use Rattle.basics.specs.Members.{clash}
+use Rattle.label.specs.Limits.{termEnd}
 use Rattle.label.specs.Labels.{unpacked, termsOf}
 use Rattle.paths.specs.Paths.{Literal}
 use Rattle.cutting.specs.Match.{start, matches}
 use Rattle.cutting.specs.Searchable.{Searchable}
 use Rattle.cutting.specs.MatchLaws.{in-terms, matches-order}
-use Rattle.matcher.specs.Search.{literalAt, literalsIn, placeOf, Setting}
+use Rattle.matcher.specs.Search.{InRange, AllInRange, literalAt, literalsIn, Setting}
 use Rattle.matcher.specs.Stored.{Ready, PartPost}
 use Rattle.matcher.specs.Parts.{Strangers, SeenTo, Reordered, Separable, PartTaken, PartsPost}
+use Rattle.matcher.proofs.TermLaws.{in-place}
 use Rattle.matcher.proofs.WayLaws.{untaken, unleft}
 use Rattle.matcher.proofs.TargetLaws.{mem-at, at-mem}
 use Rattle.matcher.proofs.CoversLaws.{of-terms, variable-not}
-use Rattle.matcher.proofs.OrderLaws.{seen-start, seen-apart}
+use Rattle.matcher.proofs.OrderLaws.{reordered-range, seen-start, seen-apart}
 use Rattle.matcher.proofs.JoinLaws.{matches-fewer, Disjoint, matches-join}
 
 -- ===== Literals by number =====
@@ -35,24 +37,6 @@ append-literals : (xs ys : List ℕ) → literalsIn (xs ++ ys) ≡ literalsIn xs
 unfolding literalsIn
 append-literals [] ys = refl
 append-literals (x ∷ xs) ys = ap (λ (r : List Literal). literalAt x ∷ r) (append-literals xs ys)
-
-mem-take : (n : ℕ) (xs : List ℕ) (t : ℕ) → List·Memᴰ t (take n xs) → List·Memᴰ t xs
-mem-take zero xs t m = absurd (List·Memᴰ·not-nil m)
-mem-take (suc n) [] t m = absurd (List·Memᴰ·not-nil m)
-mem-take (suc n) (x ∷ xs) t (List·Memᴰ·head e) = List·Memᴰ·head e
-mem-take (suc n) (x ∷ xs) t (List·Memᴰ·tail m) = List·Memᴰ·tail (mem-take n xs t m)
-
--- a term of the literal x stands in one of its places
-term-place : (ar : List ℕ) (x t : ℕ) → List·Memᴰ t (termsOf ar (unpacked (literalAt x .label))) → (j : ℕ) × (j < 4) × (t ≡ placeOf (x / 2) j)
-unfolding termsOf unpacked literalAt
-term-place ar x t m = go (mem-take (getD ar (x / 2 / 16777216) 0) (placeOf (x / 2) 0 ∷ placeOf (x / 2) 1 ∷ placeOf (x / 2) 2 ∷ placeOf (x / 2) 3 ∷ []) t m)
-  where
-    go : List·Memᴰ t (placeOf (x / 2) 0 ∷ placeOf (x / 2) 1 ∷ placeOf (x / 2) 2 ∷ placeOf (x / 2) 3 ∷ []) → (j : ℕ) × (j < 4) × (t ≡ placeOf (x / 2) j)
-    go (List·Memᴰ·head e) = (0, omega arith, e)
-    go (List·Memᴰ·tail (List·Memᴰ·head e)) = (1, omega arith, e)
-    go (List·Memᴰ·tail (List·Memᴰ·tail (List·Memᴰ·head e))) = (2, omega arith, e)
-    go (List·Memᴰ·tail (List·Memᴰ·tail (List·Memᴰ·tail (List·Memᴰ·head e)))) = (3, omega arith, e)
-    go (List·Memᴰ·tail (List·Memᴰ·tail (List·Memᴰ·tail (List·Memᴰ·tail n)))) = absurd (List·Memᴰ·not-nil n)
 
 -- literals of one list that are all in another
 abbrev Among : List ℕ → List ℕ → Type 0
@@ -87,15 +71,25 @@ front-at ord k l n =
     let h : x .0 < k = omega (arith, x .1, length-take k ord) in
     (x .0, h, omega (arith, x .1, length-take k ord), x .2 ∙ ap literalAt (getD-take k ord (x .0) 0 h))
 
+-- a part's labels are in range
+pub part-range : (ord : List ℕ) (k m : ℕ) → AllInRange ord → AllInRange (take m (drop k ord))
+part-range ord k m g = record { each = at }
+  where
+    at : (i : ℕ) → i < length (take m (drop k ord)) → InRange (getD (take m (drop k ord)) i 0 / 2)
+    at i h =
+        let q : i < m = omega (arith, length-take m (drop k ord)) in
+        subst (λ (y : ℕ). InRange (y / 2)) (sym (getD-take m (drop k ord) i 0 q ∙ getD-drop k ord i 0))
+        (g .each (k + i) (omega (arith, length-take m (drop k ord), length-drop k ord)))
+
 -- fewer literals, and a table with the same marks
 setting-part : {ar T ord₀ into tab₀ : List ℕ} (xs tab : List ℕ) → Setting ar T ord₀ into tab₀ → Among xs ord₀
-    → ((v : ℕ) → 64 ≤ v → getD tab v 0 ≡ getD tab₀ v 0) → Setting ar T xs into tab
+    → ((v : ℕ) → termEnd ≤ v → getD tab v 0 ≡ getD tab₀ v 0) → Setting ar T xs into tab
 setting-part {ar} {T} {ord₀} {into} {tab₀} xs tab s f k = record {
   search = s .search;
   labels = record { each = λ l m. s .labels .each l (f l m) };
   own = λ t m. let o = of-terms ar (literalsIn xs) t m in s .own t (in-terms ar (literalsIn ord₀) (o .0) t (f (o .0) (o .1)) (o .2));
-  has = λ t m. omega (arith, s .has t m, k (64 + t) (omega arith));
-  of = λ t h m. s .of t h (omega (arith, k (64 + t) (omega arith)));
+  has = λ t m. omega (arith, s .has t m, k (termEnd + t) (omega arith));
+  of = λ t h m. s .of t h (omega (arith, k (termEnd + t) (omega arith)));
 }
 
 -- ===== match_parts =====
@@ -107,13 +101,13 @@ pub record Parted (ord₀ into tab₀ theta₀ ord tab theta seen : List ℕ) (k
   pub ready : Ready ord into tab theta
   pub tab-count : length tab ≡ length tab₀
   pub theta-count : length theta ≡ length theta₀
-  pub seen-count : length seen ≡ 64
-  pub tab-kept : (v : ℕ) → 64 ≤ v → getD tab v 0 ≡ getD tab₀ v 0
+  pub seen-count : length seen ≡ termEnd
+  pub tab-kept : (v : ℕ) → termEnd ≤ v → getD tab v 0 ≡ getD tab₀ v 0
   pub seen-to : SeenTo ord seen k
   pub strangers : Strangers ord seen k
-  pub so-far : (ar T : List ℕ) → Setting ar T ord₀ into tab₀ → matches ar (literalsIn (drop 64 into)) T (literalsIn (take k ord)) start ≡ true
+  pub so-far : (ar T : List ℕ) → Setting ar T ord₀ into tab₀ → matches ar (literalsIn (drop termEnd into)) T (literalsIn (take k ord)) start ≡ true
 
-pub parted-start : {ord into tab theta : List ℕ} → Ready ord into tab theta → (m : ℕ) → m ≡ 64 → Parted ord into tab theta ord tab theta (replicate m 0) 0
+pub parted-start : {ord into tab theta : List ℕ} → Ready ord into tab theta → (m : ℕ) → m ≡ termEnd → Parted ord into tab theta ord tab theta (replicate m 0) 0
 parted-start {ord} {into} {tab} {theta} g m e = let s = seen-start ord m (omega arith) in record {
   most = omega arith;
   reordered = record { length-same = refl; front = λ i h. refl; back = λ i a b. (i, a, b, refl); forth = λ i a b. (i, a, b, refl) };
@@ -129,13 +123,13 @@ parted-start {ord} {into} {tab} {theta} g m e = let s = seen-start ord m (omega 
 
 module _ {ord₀ into tab₀ theta₀ ord tab theta seen : List ℕ} {k : ℕ} (p : Parted ord₀ into tab₀ theta₀ ord tab theta seen k) where
   pub parted-separable : k < length ord → Separable ord seen k
-  parted-separable h = record { seen-to = p .seen-to; some = h; few = p .ready .few }
+  parted-separable h = record { ranged = p .ready .ranged; seen-to = p .seen-to; some = h; few = p .ready .few }
 
   pub parted-end : length ord ≤ k → PartsPost ord₀ into tab₀ true
   parted-end h = record {
     answer = λ ar T s.
-        sym (p .so-far ar T s) ∙ ap (λ (xs : List ℕ). matches ar (literalsIn (drop 64 into)) T (literalsIn xs) start) (take-all k ord h)
-        ∙ matches-order ar (literalsIn (drop 64 into)) T (s .search) (literalsIn ord) (literalsIn ord₀) start (reordered-in (p .reordered)) (reordered-out (p .reordered));
+        sym (p .so-far ar T s) ∙ ap (λ (xs : List ℕ). matches ar (literalsIn (drop termEnd into)) T (literalsIn xs) start) (take-all k ord h)
+        ∙ matches-order ar (literalsIn (drop termEnd into)) T (s .search) (literalsIn ord) (literalsIn ord₀) start (reordered-in (p .reordered)) (reordered-out (p .reordered));
   }
 
   module _ {e : ℕ} {ord′ seen′ : List ℕ} (t : PartTaken ord k e ord′ seen′) where
@@ -184,6 +178,7 @@ module _ {ord₀ into tab₀ theta₀ ord tab theta seen : List ℕ} {k : ℕ} (
     pub parted-ready : Ready (take (e - k) (drop k ord′)) into tab theta
     parted-ready = record {
       few = omega (arith, length-take (e - k) (drop k ord′), t .most, t .more, p .ready .few);
+      ranged = part-range ord′ k (e - k) (reordered-range (t .reordered) (p .ready .ranged));
       sorted = p .ready .sorted;
       tab-room = p .ready .tab-room;
       theta-room = p .ready .theta-room;
@@ -200,24 +195,25 @@ module _ {ord₀ into tab₀ theta₀ ord tab theta seen : List ℕ} {k : ℕ} (
 
     module _ {r : Bool} {tab′ theta′ : List ℕ} (a : PartPost (take (e - k) (drop k ord′)) into tab r tab′ theta′) where
       pub parted-fail : not r ≡ true → PartsPost ord₀ into tab₀ false
-      parted-fail q = record { answer = λ ar T s. go ar T s (flag (matches ar (literalsIn (drop 64 into)) T (literalsIn ord₀) start)) }
+      parted-fail q = record { answer = λ ar T s. go ar T s (flag (matches ar (literalsIn (drop termEnd into)) T (literalsIn ord₀) start)) }
         where
-          go : (ar T : List ℕ) → Setting ar T ord₀ into tab₀ → Flag (matches ar (literalsIn (drop 64 into)) T (literalsIn ord₀) start)
-              → false ≡ matches ar (literalsIn (drop 64 into)) T (literalsIn ord₀) start
+          go : (ar T : List ℕ) → Setting ar T ord₀ into tab₀ → Flag (matches ar (literalsIn (drop termEnd into)) T (literalsIn ord₀) start)
+              → false ≡ matches ar (literalsIn (drop termEnd into)) T (literalsIn ord₀) start
           go ar T s (isFalse z) = sym z
           go ar T s (isTrue z) =
-              clash (matches-fewer ar (literalsIn (drop 64 into)) T (s .search) (literalsIn ord₀) (literalsIn (take (e - k) (drop k ord′))) part-among z)
+              clash (matches-fewer ar (literalsIn (drop termEnd into)) T (s .search) (literalsIn ord₀) (literalsIn (take (e - k) (drop k ord′))) part-among z)
               (sym (a .answer ar T (part-setting ar T s)) ∙ untaken q)
 
       disjoint : (ar : List ℕ) (ls : List Literal) (T : List ℕ) (ok : Searchable ar ls T)
           → Disjoint ar ls T ok (literalsIn (take k ord′)) (literalsIn (take (e - k) (drop k ord′)))
+      unfolding literalAt
       disjoint ar ls T ok l m n o u v w =
           let x = front-at ord′ k l n in
           let y = part-at ord′ k (e - k) m o in
           let z = t .reordered .back (y .0) (y .1) (omega (arith, y .2, t .reordered .length-same)) in
-          let b = term-place ar (getD ord (x .0) 0) u (subst (λ (i : Literal). List·Memᴰ u (termsOf ar (unpacked (i .label)))) (x .3 ∙ ap literalAt (t .reordered .front (x .0) (x .1))) v) in
-          let d = term-place ar (getD ord (z .0) 0) u (subst (λ (i : Literal). List·Memᴰ u (termsOf ar (unpacked (i .label)))) (y .3 ∙ ap literalAt (z .3)) w) in
-          variable-not u (seen-apart (p .seen-to) (p .strangers) (x .0) (z .0) (b .0) (d .0) (x .1) (b .1) (z .1) (z .2) u (b .2) (d .2))
+          let b = in-place ar (getD ord (x .0) 0 / 2) (ok .arities) u (subst (λ (i : Literal). List·Memᴰ u (termsOf ar (unpacked (i .label)))) (x .3 ∙ ap literalAt (t .reordered .front (x .0) (x .1))) v) in
+          let d = in-place ar (getD ord (z .0) 0 / 2) (ok .arities) u (subst (λ (i : Literal). List·Memᴰ u (termsOf ar (unpacked (i .label)))) (y .3 ∙ ap literalAt (z .3)) w) in
+          variable-not u (seen-apart (p .seen-to) (p .strangers) (x .0) (z .0) (b .0) (d .0) (x .1) (b .1) (z .1) (z .2) (d .1) u (b .2) (d .2))
 
       pub parted-next : not r ≡ false → length seen′ ≡ length seen → length tab′ ≡ length tab → length theta′ ≡ length theta
           → Parted ord₀ into tab₀ theta₀ ord′ tab′ theta′ seen′ e
@@ -226,6 +222,7 @@ module _ {ord₀ into tab₀ theta₀ ord tab theta seen : List ℕ} {k : ℕ} (
         reordered = whole;
         ready = record {
           few = omega (arith, p .ready .few, t .reordered .length-same);
+          ranged = reordered-range (t .reordered) (p .ready .ranged);
           sorted = p .ready .sorted;
           tab-room = omega (arith, p .ready .tab-room);
           theta-room = omega (arith, p .ready .theta-room);
@@ -252,10 +249,10 @@ module _ {ord₀ into tab₀ theta₀ ord tab theta seen : List ℕ} {k : ℕ} (
               (ap literalAt (getD-take k ord (x .0) 0 (x .1)) ∙ sym (x .3 ∙ ap literalAt (t .reordered .front (x .0) (x .1))))
               (literal-at (take k ord) (x .0) (omega (arith, x .1, x .2, length-take k ord, t .reordered .length-same)))
 
-          so-far : (ar T : List ℕ) → Setting ar T ord₀ into tab₀ → matches ar (literalsIn (drop 64 into)) T (literalsIn (take e ord′)) start ≡ true
+          so-far : (ar T : List ℕ) → Setting ar T ord₀ into tab₀ → matches ar (literalsIn (drop termEnd into)) T (literalsIn (take e ord′)) start ≡ true
           so-far ar T s =
-              ap (λ (qs : List Literal). matches ar (literalsIn (drop 64 into)) T qs start) joined
-              ∙ matches-join ar (literalsIn (drop 64 into)) T (s .search) (literalsIn (take k ord′)) (literalsIn (take (e - k) (drop k ord′)))
-              (disjoint ar (literalsIn (drop 64 into)) T (s .search))
-              (matches-fewer ar (literalsIn (drop 64 into)) T (s .search) (literalsIn (take k ord)) (literalsIn (take k ord′)) before (p .so-far ar T s))
+              ap (λ (qs : List Literal). matches ar (literalsIn (drop termEnd into)) T qs start) joined
+              ∙ matches-join ar (literalsIn (drop termEnd into)) T (s .search) (literalsIn (take k ord′)) (literalsIn (take (e - k) (drop k ord′)))
+              (disjoint ar (literalsIn (drop termEnd into)) T (s .search))
+              (matches-fewer ar (literalsIn (drop termEnd into)) T (s .search) (literalsIn (take k ord)) (literalsIn (take k ord′)) before (p .so-far ar T s))
               (sym (a .answer ar T (part-setting ar T s)) ∙ unleft q)

@@ -2,56 +2,75 @@
 use mathlib.Core.Path.{_≡_, refl, sym, ap, ap₂, subst, _∙_}
 use mathlib.Core.Logic.{_⊎_, inl, inr}
 use mathlib.Core.Bool.{Bool, true, false, cond}
-use mathlib.Core.List.{List, [], _∷_, map, List·Memᴰ, List·Memᴰ·head, List·Memᴰ·tail, List·Memᴰ·not-nil}
+use mathlib.Core.List.{List, [], _∷_, map, List·Memᴰ, List·Memᴰ·head, List·Memᴰ·tail}
 use mathlib.Core.Option.{Option, some, none}
 use Prim.Native.Nat.{ℕ, zero, suc, _+_, _-_, _*_, _/_, _%_, _≤_, _<_}
 use native.Mathlib.Omega.{arith}
 use native.Mathlib.Numerals.{add-one}
 use lib.ListN.{length, getD, take, drop}
 use lib.Seq.{drop-cons}
-use lib.Dec.{eqb, leb}
-use borrow.Author.Tests.{leb-true, eqb-true}
-use Rattle.basics.specs.Tests.{and-left, and-right, Cmp, cmp, below, equal, above}
+use lib.Dec.{eqb, ltb}
+use borrow.Author.Tests.{eqb-true}
+use Rattle.basics.specs.Tests.{Flag, isTrue, isFalse, flag, Cmp, cmp, below, equal, above}
 use Rattle.basics.specs.Members.{clash}
-use Rattle.label.specs.Labels.{isLabel, termsOf, unpacked}
+use Rattle.label.specs.Limits.{firstVariable, termEnd, mostPlaces, equalityArity}
+use Rattle.label.specs.Labels.{isLabel, placeAt, termsOf, unpacked}
 use Rattle.diagram.specs.RowLaws.{same-tests}
 use Rattle.paths.specs.Paths.{Literal, termsIn}
 use Rattle.cutting.specs.Match.{Partial, assign, agree, bindTerm, thenBind, bindTerms, targets, someOf, goOn, matches}
-use Rattle.cutting.specs.MovedLaws.{terms-below}
 use Rattle.cutting.specs.MatchLaws.{some-in, some-out, target-image, target-complete, in-terms}
-use Rattle.matcher.specs.Search.{literalAt, literalsIn, placeOf, fourOf, termAt, segment, known, Slots, Replacing, wayAt, wayCount, allKnown, Images, Met, Tabled, Setting, Inside}
+use Rattle.matcher.specs.Search.{
+  literalAt,
+  literalsIn,
+  InRange,
+  AllInRange,
+  placesIn,
+  turn,
+  wayPlace,
+  wayPlaces,
+  isNothing,
+  termAt,
+  segment,
+  known,
+  Slots,
+  Replacing,
+  wayAt,
+  wayCount,
+  allKnown,
+  Images,
+  Met,
+  Sorted,
+  Tabled,
+  Setting,
+  Inside,
+}
 use Rattle.matcher.specs.declared.Way.{Way}
-use Rattle.matcher.specs.declared.Way.the-variants.{Terms}
-use Rattle.matcher.proofs.WayLaws.{known-some, known-same}
+use Rattle.matcher.proofs.AlongLaws.{none-some}
+use Rattle.matcher.proofs.TermLaws.{in-place}
+use Rattle.matcher.proofs.WayLaws.{turn-below}
+use Rattle.matcher.proofs.BindLaws.{known-some, known-same}
+use Rattle.matcher.proofs.FindLaws.{known-at}
 use Rattle.matcher.proofs.NogoodLaws.{bind-known}
 use Rattle.matcher.proofs.TargetLaws.{WayView, no-view, one-view, turned-view, twice-view, way-view, WayTo, way-in, replacedBy, Meets, meets}
 
-pub none-some : {A : Type 0} {B : Type 0} (a : A) → none ≡ some a → B
-none-some a e = let z : _≡_ {A = ℕ} 0 1 = cc in absurd (omega arith)
-
 -- ===== Places and literals =====
-pub place-small : (l j : ℕ) → placeOf l j < 64
-place-small l zero = omega arith
-place-small l (suc zero) = omega arith
-place-small l (suc (suc zero)) = omega arith
-place-small l (suc (suc (suc j))) = omega arith
-
 module _ {ord tab : List ℕ} {n : ℕ} (t : Tabled ord tab n) where
-  term-at : (k j : ℕ) → j < 4 → termAt ord (k * 4 + j) ≡ placeOf (getD ord k 0 / 2) j
+  term-at : (k j : ℕ) → j < mostPlaces → termAt ord (k * mostPlaces + j) ≡ placeAt (getD ord k 0 / 2) j
   term-at k j h =
-      let a : (k * 4 + j) / 4 ≡ k = omega arith in
-      let b : (k * 4 + j) % 4 ≡ j = omega arith in
-      ap₂ (λ (i q : ℕ). placeOf (getD ord i 0 / 2) q) a b
+      let a : (k * mostPlaces + j) / mostPlaces ≡ k = omega arith in
+      let b : (k * mostPlaces + j) % mostPlaces ≡ j = omega arith in
+      ap₂ (λ (i q : ℕ). placeAt (getD ord i 0 / 2) q) a b
 
-  pub slots-at : {k x : ℕ} → k < n → x ≡ getD ord k 0 → Slots tab (k * 4) (x / 2)
-  slots-at {k} {x} h e = record {
+  pub slots-at : {k x : ℕ} → AllInRange ord → k < n → x ≡ getD ord k 0 → Slots tab (k * mostPlaces) (x / 2)
+  slots-at {k} {x} g h e = record {
     room = omega (arith, t .tab-room);
-    seen = λ j l. subst (λ (v : ℕ). getD tab v 0 ≤ k * 4 + j + 1) (at j l) (t .seen (k * 4 + j) (omega arith));
-    only = λ j v l p q. t .only (k * 4 + j) v (omega arith) p q ∙ at j l;
+    range = subst (λ (y : ℕ). InRange (y / 2)) (sym e) (g .each k (omega (arith, t .room)));
+    seen = λ j l. subst (λ (v : ℕ). getD tab v 0 ≤ k * mostPlaces + j + 1) (at j l) (t .seen (k * mostPlaces + j) (omega arith));
+    only = λ j v l p q. t .only (k * mostPlaces + j) v (omega arith) p q ∙ at j l;
   }
     where
-      at : (j : ℕ) → j < 4 → termAt ord (k * 4 + j) ≡ placeOf (x / 2) j
-      at j l = term-at k j l ∙ ap (λ (y : ℕ). placeOf (y / 2) j) (sym e)
+      at : (j : ℕ) → j < mostPlaces → termAt ord (k * mostPlaces + j) ≡ placeAt (x / 2) j
+      at j l = term-at k j l ∙ ap (λ (y : ℕ). placeAt (y / 2) j) (sym e)
 
 pub segment-cons : (ord : List ℕ) (k n : ℕ) → k < n → n ≤ length ord → segment ord k n ≡ literalAt (getD ord k 0) ∷ segment ord (k + 1) n
 unfolding segment literalsIn
@@ -129,74 +148,66 @@ known-bind (t ∷ ts) (u ∷ us) τ τ′ f k e = go (eqb (f t) u) refl (sym (ap
     go false q z rec = none-some τ′ z
 
 -- ===== One literal =====
-module _ {ord into tab theta : List ℕ} {n k x : ℕ} (t : Tabled ord tab n) (r : Replacing tab theta (k * 4)) (h : k < n) (e : x ≡ getD ord k 0) where
+module _ {ord into tab theta : List ℕ} {n k x : ℕ} (t : Tabled ord tab n) (r : Replacing tab theta (k * mostPlaces)) (h : k < n) (e : x ≡ getD ord k 0) where
   module _ (ar T : List ℕ) (s : Setting ar T ord into tab) where
     abbrev pub rest : Partial → Bool
-    rest τ = matches ar (literalsIn (drop 64 into)) T (segment ord (k + 1) n) τ
+    rest τ = matches ar (literalsIn (drop termEnd into)) T (segment ord (k + 1) n) τ
 
     pub label-x : isLabel ar (x / 2) ≡ true
     label-x = ap (λ (y : ℕ). isLabel ar (y / 2)) e ∙ label-at k s (omega (arith, t .room))
 
-    pub step : (τ : Partial) → matches ar (literalsIn (drop 64 into)) T (segment ord k n) τ
-        ≡ someOf (targets ar (literalsIn (drop 64 into)) T (literalAt x)) (λ us. goOn (bindTerms τ (termsOf ar (unpacked (x / 2))) us) rest)
+    pub step : (τ : Partial) → matches ar (literalsIn (drop termEnd into)) T (segment ord k n) τ
+        ≡ someOf (targets ar (literalsIn (drop termEnd into)) T (literalAt x)) (λ us. goOn (bindTerms τ (termsOf ar (unpacked (x / 2))) us) rest)
     unfolding matches literalAt
     step τ =
-        ap (λ (qs : List Literal). matches ar (literalsIn (drop 64 into)) T qs τ) (segment-cons ord k n h (t .room))
-        ∙ ap (λ (y : ℕ). matches ar (literalsIn (drop 64 into)) T (literalAt y ∷ segment ord (k + 1) n) τ) (sym e)
+        ap (λ (qs : List Literal). matches ar (literalsIn (drop termEnd into)) T qs τ) (segment-cons ord k n h (t .room))
+        ∙ ap (λ (y : ℕ). matches ar (literalsIn (drop termEnd into)) T (literalAt y ∷ segment ord (k + 1) n) τ) (sym e)
 
-    zero-known : known tab theta (k * 4) 0 ≡ some 0
-    zero-known = known-zero theta (k * 4) t (r .stays 0 (omega arith))
+    zero-known : known tab theta (k * mostPlaces) 0 ≡ some 0
+    zero-known = known-zero theta (k * mostPlaces) t (r .stays 0 (omega arith))
 
     -- a way that goes on to the end
-    pub way-hits : (j a b c d : ℕ) → j < wayCount into x → wayAt into tab x j ≡ Terms a b c d
-        → goOn (bindTerms (known tab theta (k * 4)) (fourOf (x / 2)) (a ∷ b ∷ c ∷ d ∷ [])) rest ≡ true
-        → matches ar (literalsIn (drop 64 into)) T (segment ord k n) (known tab theta (k * 4)) ≡ true
-    way-hits j a b c d l q z =
-        let w = way-in ar T ord into tab s x label-x (way-view into tab x j l) a b c d q in
-        step (known tab theta (k * 4)) ∙ some-in (targets ar (literalsIn (drop 64 into)) T (literalAt x)) _ (w .terms) (w .one-of)
-        (ap (λ o. goOn o rest) (w .same (known tab theta (k * 4)) zero-known) ∙ z)
+    pub way-hits : (j : ℕ) (w : Way) → j < wayCount into x → wayAt into tab x j ≡ w → isNothing w ≡ false
+        → goOn (bindTerms (known tab theta (k * mostPlaces)) (placesIn (x / 2)) (wayPlaces w)) rest ≡ true
+        → matches ar (literalsIn (drop termEnd into)) T (segment ord k n) (known tab theta (k * mostPlaces)) ≡ true
+    way-hits j w l q f z =
+        let v = way-in ar T ord into tab s x label-x (subst (WayView into tab x) q (way-view into tab x j l)) f in
+        step (known tab theta (k * mostPlaces)) ∙ some-in (targets ar (literalsIn (drop termEnd into)) T (literalAt x)) _ (v .terms) (v .one-of)
+        (ap (λ o. goOn o rest) (v .same (known tab theta (k * mostPlaces)) zero-known) ∙ z)
 
     -- what is known stays within T
-    pub inside-after : (j a b c d : ℕ) → j < wayCount into x → wayAt into tab x j ≡ Terms a b c d → Inside T (known tab theta (k * 4)) → (τ′ : Partial)
-        → bindTerms (known tab theta (k * 4)) (fourOf (x / 2)) (a ∷ b ∷ c ∷ d ∷ []) ≡ some τ′ → Inside T τ′
-    inside-after j a b c d l q i τ′ z =
-        record
-        { each = λ v y lo hi p. at v y lo hi (bind-values (termsOf ar (unpacked (x / 2))) (w .terms) (known tab theta (k * 4)) τ′ (w .same (known tab theta (k * 4)) zero-known ∙ z) v y p) }
+    pub inside-after : (j : ℕ) (w : Way) → j < wayCount into x → wayAt into tab x j ≡ w → isNothing w ≡ false → Inside T (known tab theta (k * mostPlaces)) → (τ′ : Partial)
+        → bindTerms (known tab theta (k * mostPlaces)) (placesIn (x / 2)) (wayPlaces w) ≡ some τ′ → Inside T τ′
+    inside-after j w l q f i τ′ z =
+        record {
+          each = λ v y lo hi p. at v y lo hi (bind-values (termsOf ar (unpacked (x / 2))) (o .terms) (known tab theta (k * mostPlaces)) τ′
+              (o .same (known tab theta (k * mostPlaces)) zero-known ∙ z) v y p);
+        }
       where
-        w : WayTo ar (literalsIn (drop 64 into)) T x a b c d
-        w = way-in ar T ord into tab s x label-x (way-view into tab x j l) a b c d q
+        o : WayTo ar (literalsIn (drop termEnd into)) T x w
+        o = way-in ar T ord into tab s x label-x (subst (WayView into tab x) q (way-view into tab x j l)) f
 
-        at : (v y : ℕ) → 32 ≤ v → v < 64 → (known tab theta (k * 4) v ≡ some y) ⊎ List·Memᴰ y (w .terms) → List·Memᴰ y T
+        at : (v y : ℕ) → firstVariable ≤ v → v < termEnd → (known tab theta (k * mostPlaces) v ≡ some y) ⊎ List·Memᴰ y (o .terms) → List·Memᴰ y T
         at v y lo hi (inl p) = i .each v y lo hi p
-        at v y lo hi (inr m) = target-image ar (literalsIn (drop 64 into)) T (literalAt x) (s .search .holds-terms) (w .terms) (w .one-of) y m
+        at v y lo hi (inr m) = target-image ar (literalsIn (drop termEnd into)) T (literalAt x) (s .search .holds-terms) (o .terms) (o .one-of) y m
 
 pub some-inj : (a b : ℕ) → some a ≡ some b → a ≡ b
 some-inj a b e = cc
 
 -- a way has terms
-pub view-small : {into tab : List ℕ} {x : ℕ} {w : Way} → WayView into tab x w → (a b c d : ℕ) → w ≡ Terms a b c d → (v : ℕ) → List·Memᴰ v (a ∷ b ∷ c ∷ d ∷ []) → v < 64
-view-small {into} {tab} {x} view a b c d e v m = go view e
+pub view-terms : {into tab : List ℕ} {x : ℕ} {w : Way} → Sorted into → WayView into tab x w → (k : ℕ) → k < mostPlaces → wayPlace w k < termEnd
+unfolding wayPlace
+view-terms s no-view k h = omega arith
+view-terms s (one-view i l q) k h = s .ranged i l .places k h
+view-terms s (turned-view i l p q) k h = s .ranged i l .places (turn k) (turn-below k h)
+view-terms s (twice-view t l p q o) k h = go (flag (ltb k equalityArity))
   where
-    four : a < 64 → b < 64 → c < 64 → d < 64 → (m : List·Memᴰ v (a ∷ b ∷ c ∷ d ∷ [])) → v < 64
-    four h i j k (List·Memᴰ·head q) = rw q h
-    four h i j k (List·Memᴰ·tail (List·Memᴰ·head q)) = rw q i
-    four h i j k (List·Memᴰ·tail (List·Memᴰ·tail (List·Memᴰ·head q))) = rw q j
-    four h i j k (List·Memᴰ·tail (List·Memᴰ·tail (List·Memᴰ·tail (List·Memᴰ·head q)))) = rw q k
-    four h i j k (List·Memᴰ·tail (List·Memᴰ·tail (List·Memᴰ·tail (List·Memᴰ·tail q)))) = absurd (List·Memᴰ·not-nil q)
+    go : Flag (ltb k equalityArity) → cond (ltb k equalityArity) t 0 < termEnd
+    go (isTrue e) = rw e l
+    go (isFalse e) = rw e (omega arith)
 
-    shown : (y a′ b′ c′ d′ : ℕ) → Terms a′ b′ c′ d′ ≡ Terms a b c d → a′ < 64 → b′ < 64 → c′ < 64 → d′ < 64 → v < 64
-    shown y a′ b′ c′ d′ q h i j k =
-        let p₁ : a′ ≡ a = cc in let p₂ : b′ ≡ b = cc in let p₃ : c′ ≡ c = cc in let p₄ : d′ ≡ d = cc in
-        four (omega arith) (omega arith) (omega arith) (omega arith) m
-
-    go : {w : Way} → WayView into tab x w → w ≡ Terms a b c d → v < 64
-    go no-view q = let z : _≡_ {A = ℕ} 0 1 = cc in absurd (omega arith)
-    go (one-view i h p) q = let y = getD into (64 + i) 0 / 2 in shown y _ _ _ _ q (place-small y 0) (place-small y 1) (place-small y 2) (place-small y 3)
-    go (turned-view i h p z) q = let y = getD into (64 + i) 0 / 2 in shown y _ _ _ _ q (place-small y 1) (place-small y 0) (place-small y 2) (place-small y 3)
-    go (twice-view u h p z o) q = shown 0 u u 0 0 q h h (omega arith) (omega arith)
-
-pub replacing-kept : {tab theta theta′ : List ℕ} {m : ℕ} → ((v : ℕ) → v < 32 → getD tab v 0 ≡ 0) → Replacing tab theta m → length theta′ ≡ length theta
-    → ((v : ℕ) → v < 64 → getD tab v 0 ≤ m → getD theta′ v 0 ≡ getD theta v 0) → Replacing tab theta′ m
+pub replacing-kept : {tab theta theta′ : List ℕ} {m : ℕ} → ((v : ℕ) → v < firstVariable → getD tab v 0 ≡ 0) → Replacing tab theta m → length theta′ ≡ length theta
+    → ((v : ℕ) → v < termEnd → getD tab v 0 ≤ m → getD theta′ v 0 ≡ getD theta v 0) → Replacing tab theta′ m
 replacing-kept {m = m} fixed r l k = record {
   room = omega (arith, r .room);
   stays = λ v h. k v (omega arith) (omega (arith, fixed v h)) ∙ r .stays v h;
@@ -204,78 +215,57 @@ replacing-kept {m = m} fixed r l k = record {
 }
 
 -- ===== A literal whose terms are known =====
-all-four : (tab : List ℕ) (m l : ℕ) → allKnown tab m l ≡ true → (j : ℕ) → getD tab (placeOf l j) 0 ≤ m
-unfolding allKnown
-all-four tab m l e zero = leb-true _ _ (and-left (leb (getD tab (placeOf l 0) 0) m) _ e)
-all-four tab m l e (suc zero) = leb-true _ _ (and-left (leb (getD tab (placeOf l 1) 0) m) _ (and-right (leb (getD tab (placeOf l 0) 0) m) _ e))
-all-four tab m l e (suc (suc zero)) =
-    leb-true _ _ (and-left (leb (getD tab (placeOf l 2) 0) m) _ (and-right (leb (getD tab (placeOf l 1) 0) m) _ (and-right (leb (getD tab (placeOf l 0) 0) m) _ e)))
-all-four tab m l e (suc (suc (suc j))) =
-    leb-true _ _ (and-right (leb (getD tab (placeOf l 2) 0) m) _ (and-right (leb (getD tab (placeOf l 1) 0) m) _ (and-right (leb (getD tab (placeOf l 0) 0) m) _ e)))
+module _ {ord : List ℕ} (into : List ℕ) {tab theta : List ℕ} {n k x : ℕ} (t : Tabled ord tab n) (g : AllInRange ord) (r : Replacing tab theta (k * mostPlaces)) (h : k < n) (e : x ≡ getD ord k 0)
+    {b : Bool} (q : b ≡ allKnown tab (k * mostPlaces) (x / 2)) (f : b ≡ true) where
+  pub known-early : (j : ℕ) → j < mostPlaces → getD tab (placeAt (x / 2) j) 0 ≤ k * mostPlaces
+  known-early = known-at tab (k * mostPlaces) (x / 2) (sym q ∙ f)
 
--- a term of a label is one of its places
-pub term-place : (ar : List ℕ) (l u : ℕ) → List·Memᴰ u (termsOf ar (unpacked l)) → (j : ℕ) × (u ≡ placeOf l j)
-unfolding termsOf unpacked
-term-place ar l u m = four (mem-take (getD ar (l / 16777216) 0) (fourOf l) u m)
-  where
-    mem-take : (n : ℕ) (xs : List ℕ) (u : ℕ) → List·Memᴰ u (take n xs) → List·Memᴰ u xs
-    mem-take zero xs u m = absurd (List·Memᴰ·not-nil m)
-    mem-take (suc n) [] u m = m
-    mem-take (suc n) (x ∷ xs) u (List·Memᴰ·head e) = List·Memᴰ·head e
-    mem-take (suc n) (x ∷ xs) u (List·Memᴰ·tail m) = List·Memᴰ·tail (mem-take n xs u m)
-
-    four : List·Memᴰ u (fourOf l) → (j : ℕ) × (u ≡ placeOf l j)
-    four (List·Memᴰ·head e) = (0, e)
-    four (List·Memᴰ·tail (List·Memᴰ·head e)) = (1, e)
-    four (List·Memᴰ·tail (List·Memᴰ·tail (List·Memᴰ·head e))) = (2, e)
-    four (List·Memᴰ·tail (List·Memᴰ·tail (List·Memᴰ·tail (List·Memᴰ·head e)))) = (3, e)
-    four (List·Memᴰ·tail (List·Memᴰ·tail (List·Memᴰ·tail (List·Memᴰ·tail q)))) = absurd (List·Memᴰ·not-nil q)
-
-module _ {ord : List ℕ} (into : List ℕ) {tab theta : List ℕ} {n k x : ℕ} (t : Tabled ord tab n) (r : Replacing tab theta (k * 4)) (h : k < n) (e : x ≡ getD ord k 0)
-    {b : Bool} (q : b ≡ allKnown tab (k * 4) (x / 2)) (f : b ≡ true) where
-  pub known-early : (j : ℕ) → getD tab (placeOf (x / 2) j) 0 ≤ k * 4
-  known-early = all-four tab (k * 4) (x / 2) (sym q ∙ f)
+  slots : Slots tab (k * mostPlaces) (x / 2)
+  slots = slots-at t g h e
 
   -- no term comes first here
-  pub none-here : (v : ℕ) → v < 64 → k * 4 < getD tab v 0 → (k + 1) * 4 < getD tab v 0
-  none-here v p l = go (cmp ((k + 1) * 4) (getD tab v 0))
+  pub none-here : (v : ℕ) → v < termEnd → k * mostPlaces < getD tab v 0 → (k + 1) * mostPlaces < getD tab v 0
+  none-here v p l = go (cmp ((k + 1) * mostPlaces) (getD tab v 0))
     where
-      not-here : getD tab v 0 ≤ (k + 1) * 4 → ⊥
+      not-here : getD tab v 0 ≤ (k + 1) * mostPlaces → ⊥
       not-here u =
-          let j = getD tab v 0 - k * 4 - 1 in
-          let w = slots-at t h e .only (getD tab v 0 - k * 4 - 1) v (omega arith) p (omega arith) in
-          let z = known-early (getD tab v 0 - k * 4 - 1) in
-          let y : getD tab v 0 ≤ k * 4 = subst (λ (i : ℕ). getD tab i 0 ≤ k * 4) (sym w) z in
+          let j = getD tab v 0 - k * mostPlaces - 1 in
+          let w = slots .only (getD tab v 0 - k * mostPlaces - 1) v (omega arith) p (omega arith) in
+          let z = known-early (getD tab v 0 - k * mostPlaces - 1) (omega arith) in
+          let y : getD tab v 0 ≤ k * mostPlaces = subst (λ (i : ℕ). getD tab i 0 ≤ k * mostPlaces) (sym w) z in
           omega arith
 
-      go : Cmp ((k + 1) * 4) (getD tab v 0) → (k + 1) * 4 < getD tab v 0
+      go : Cmp ((k + 1) * mostPlaces) (getD tab v 0) → (k + 1) * mostPlaces < getD tab v 0
       go (below c) = c
       go (equal c) = absurd (not-here (omega arith))
       go (above c) = absurd (not-here (omega arith))
 
-  pub same-known : known tab theta (k * 4) ≡ known tab theta ((k + 1) * 4)
-  same-known = known-same tab theta theta (k * 4) ((k + 1) * 4) (omega arith) (λ v p l. refl) none-here
+  pub same-known : known tab theta (k * mostPlaces) ≡ known tab theta ((k + 1) * mostPlaces)
+  same-known = known-same tab theta theta (k * mostPlaces) ((k + 1) * mostPlaces) (omega arith) (λ v p l. refl) none-here
 
-  pub known-replacing : Replacing tab theta ((k + 1) * 4)
-  known-replacing = record { room = r .room; stays = r .stays; terms = λ v p l. r .terms v p (back v p l (cmp (getD tab v 0) (k * 4 + 1))) }
+  pub known-replacing : Replacing tab theta ((k + 1) * mostPlaces)
+  known-replacing = record { room = r .room; stays = r .stays; terms = λ v p l. r .terms v p (back v p l (cmp (getD tab v 0) (k * mostPlaces + 1))) }
     where
-      back : (v : ℕ) → v < 64 → getD tab v 0 ≤ (k + 1) * 4 → Cmp (getD tab v 0) (k * 4 + 1) → getD tab v 0 ≤ k * 4
+      back : (v : ℕ) → v < termEnd → getD tab v 0 ≤ (k + 1) * mostPlaces → Cmp (getD tab v 0) (k * mostPlaces + 1) → getD tab v 0 ≤ k * mostPlaces
       back v p l (below c) = omega arith
       back v p l (equal c) = absurd (omega (arith, none-here v p (omega arith)))
       back v p l (above c) = absurd (omega (arith, none-here v p (omega arith)))
 
-  pub known-images : x < 4294967296 → Images theta x
-  known-images l = record { room = r .room; small = l; terms = λ j p. r .terms (placeOf (x / 2) j) (place-small (x / 2) j) (known-early j) }
+  pub known-images : Images theta (x / 2)
+  known-images = record { room = r .room; range = slots .range; terms = λ j p. r .terms (placeAt (x / 2) j) (slots .range .places j p) (known-early j p) }
 
-  module _ (ar T : List ℕ) (s : Setting ar T ord into tab) (ins : Inside T (known tab theta (k * 4))) where
-    terms-known : (u : ℕ) → List·Memᴰ u (termsOf ar (unpacked (x / 2))) → known tab theta (k * 4) u ≡ some (replacedBy theta u)
+  module _ (ar T : List ℕ) (s : Setting ar T ord into tab) (ins : Inside T (known tab theta (k * mostPlaces))) where
+    term-below : (u : ℕ) → List·Memᴰ u (termsOf ar (unpacked (x / 2))) → u < termEnd
+    term-below u m = let p = in-place ar (x / 2) (s .search .arities) u m in subst (λ (v : ℕ). v < termEnd) (sym (p .2)) (slots .range .places (p .0) (p .1))
+
+    terms-known : (u : ℕ) → List·Memᴰ u (termsOf ar (unpacked (x / 2))) → known tab theta (k * mostPlaces) u ≡ some (replacedBy theta u)
     terms-known u m =
-        let p = term-place ar (x / 2) u m in
-        known-some tab theta (k * 4) u (terms-below ar (x / 2) u m) (subst (λ (v : ℕ). getD tab v 0 ≤ k * 4) (sym (p .1)) (known-early (p .0)))
+        let p = in-place ar (x / 2) (s .search .arities) u m in
+        known-some tab theta (k * mostPlaces) u (term-below u m) (subst (λ (v : ℕ). getD tab v 0 ≤ k * mostPlaces) (sym (p .2)) (known-early (p .0) (p .1)))
 
     terms-inside : (u : ℕ) → List·Memᴰ u (termsOf ar (unpacked (x / 2))) → List·Memᴰ (replacedBy theta u) T
     unfolding literalAt
-    terms-inside u m = go (cmp u 32)
+    terms-inside u m = go (cmp u firstVariable)
       where
         own : List·Memᴰ u (termsIn ar (literalsIn ord))
         own = in-terms ar (literalsIn ord) (literalAt (getD ord k 0)) u (there (t .room)) (subst (λ (y : ℕ). List·Memᴰ u (termsOf ar (unpacked (y / 2)))) e m)
@@ -288,10 +278,10 @@ module _ {ord : List ℕ} (into : List ℕ) {tab theta : List ℕ} {n k x : ℕ}
                 mem-at (x ∷ xs) zero h = List·Memᴰ·head refl
                 mem-at (x ∷ xs) (suc i) h = List·Memᴰ·tail (mem-at xs i (omega arith))
 
-        variable : 32 ≤ u → List·Memᴰ (replacedBy theta u) T
-        variable l = ins .each u (replacedBy theta u) l (terms-below ar (x / 2) u m) (terms-known u m)
+        variable : firstVariable ≤ u → List·Memᴰ (replacedBy theta u) T
+        variable l = ins .each u (replacedBy theta u) l (term-below u m) (terms-known u m)
 
-        go : Cmp u 32 → List·Memᴰ (replacedBy theta u) T
+        go : Cmp u firstVariable → List·Memᴰ (replacedBy theta u) T
         go (below c) = subst (λ (w : ℕ). List·Memᴰ w T) (sym (r .stays u c)) (s .own u own)
         go (equal c) = variable (omega arith)
         go (above c) = variable (omega arith)
@@ -300,34 +290,34 @@ module _ {ord : List ℕ} (into : List ℕ) {tab theta : List ℕ} {n k x : ℕ}
     us = map (replacedBy theta) (termsOf ar (unpacked (x / 2)))
 
     -- what is bound is the image alone
-    bound : (vs : List ℕ) → goOn (bindTerms (known tab theta (k * 4)) (termsOf ar (unpacked (x / 2))) vs) (rest t r h e ar T s) ≡ true
-        → (vs ≡ us) × (rest t r h e ar T s (known tab theta (k * 4)) ≡ true)
+    bound : (vs : List ℕ) → goOn (bindTerms (known tab theta (k * mostPlaces)) (termsOf ar (unpacked (x / 2))) vs) (rest t r h e ar T s) ≡ true
+        → (vs ≡ us) × (rest t r h e ar T s (known tab theta (k * mostPlaces)) ≡ true)
     unfolding us
-    bound vs z = go (bindTerms (known tab theta (k * 4)) (termsOf ar (unpacked (x / 2))) vs) refl z
+    bound vs z = go (bindTerms (known tab theta (k * mostPlaces)) (termsOf ar (unpacked (x / 2))) vs) refl z
       where
-        go : (o : Option Partial) → bindTerms (known tab theta (k * 4)) (termsOf ar (unpacked (x / 2))) vs ≡ o → goOn o (rest t r h e ar T s) ≡ true
-            → (vs ≡ map (replacedBy theta) (termsOf ar (unpacked (x / 2)))) × (rest t r h e ar T s (known tab theta (k * 4)) ≡ true)
+        go : (o : Option Partial) → bindTerms (known tab theta (k * mostPlaces)) (termsOf ar (unpacked (x / 2))) vs ≡ o → goOn o (rest t r h e ar T s) ≡ true
+            → (vs ≡ map (replacedBy theta) (termsOf ar (unpacked (x / 2)))) × (rest t r h e ar T s (known tab theta (k * mostPlaces)) ≡ true)
         go none p w = clash w refl
         go (some τ) p w =
-            let y = known-bind (termsOf ar (unpacked (x / 2))) vs (known tab theta (k * 4)) τ (replacedBy theta) terms-known p in
+            let y = known-bind (termsOf ar (unpacked (x / 2))) vs (known tab theta (k * mostPlaces)) τ (replacedBy theta) terms-known p in
             (y .0, ap (rest t r h e ar T s) (sym (y .1)) ∙ w)
 
     pub met : {m : Bool} → Met into theta x m → Meets ar T ord into tab s x (label-x t r h e ar T s) theta (r .stays 0 (omega arith)) m
     met w = meets ar T ord into tab s x (label-x t r h e ar T s) theta (r .stays 0 (omega arith)) w
 
     pub is-met : {m : Bool} → Met into theta x m → m ≡ true
-        → matches ar (literalsIn (drop 64 into)) T (segment ord k n) (known tab theta (k * 4)) ≡ rest t r h e ar T s (known tab theta (k * 4))
+        → matches ar (literalsIn (drop termEnd into)) T (segment ord k n) (known tab theta (k * mostPlaces)) ≡ rest t r h e ar T s (known tab theta (k * mostPlaces))
     unfolding us
     is-met w g = same-tests _ _ forth back
       where
-        forth : matches ar (literalsIn (drop 64 into)) T (segment ord k n) (known tab theta (k * 4)) ≡ true → rest t r h e ar T s (known tab theta (k * 4)) ≡ true
+        forth : matches ar (literalsIn (drop termEnd into)) T (segment ord k n) (known tab theta (k * mostPlaces)) ≡ true → rest t r h e ar T s (known tab theta (k * mostPlaces)) ≡ true
         forth z =
-            let u = some-out (targets ar (literalsIn (drop 64 into)) T (literalAt x)) _ (sym (step t r h e ar T s (known tab theta (k * 4))) ∙ z) in
+            let u = some-out (targets ar (literalsIn (drop termEnd into)) T (literalAt x)) _ (sym (step t r h e ar T s (known tab theta (k * mostPlaces))) ∙ z) in
             bound (u .0) (u .2) .1
 
-        back : rest t r h e ar T s (known tab theta (k * 4)) ≡ true → matches ar (literalsIn (drop 64 into)) T (segment ord k n) (known tab theta (k * 4)) ≡ true
+        back : rest t r h e ar T s (known tab theta (k * mostPlaces)) ≡ true → matches ar (literalsIn (drop termEnd into)) T (segment ord k n) (known tab theta (k * mostPlaces)) ≡ true
         back z =
-            step t r h e ar T s (known tab theta (k * 4))
-            ∙ some-in (targets ar (literalsIn (drop 64 into)) T (literalAt x)) _ (map (replacedBy theta) (termsOf ar (unpacked (x / 2))))
-            (unfold literalAt in (target-complete ar (s .search .arities) (replacedBy theta) (literalsIn (drop 64 into)) T (literalAt x) (s .search .small) terms-inside (met w .yes g)))
-            (ap (λ o. goOn o (rest t r h e ar T s)) (bind-known (termsOf ar (unpacked (x / 2))) (known tab theta (k * 4)) (replacedBy theta) terms-known) ∙ z)
+            step t r h e ar T s (known tab theta (k * mostPlaces))
+            ∙ some-in (targets ar (literalsIn (drop termEnd into)) T (literalAt x)) _ (map (replacedBy theta) (termsOf ar (unpacked (x / 2))))
+            (unfold literalAt in (target-complete ar (s .search .arities) (replacedBy theta) (literalsIn (drop termEnd into)) T (literalAt x) (s .search .small) terms-inside (met w .yes g)))
+            (ap (λ o. goOn o (rest t r h e ar T s)) (bind-known (termsOf ar (unpacked (x / 2))) (known tab theta (k * mostPlaces)) (replacedBy theta) terms-known) ∙ z)

@@ -22,9 +22,10 @@ use Rattle.cutting.specs.Searchable.{PathLabels}
 use Rattle.cutting.specs.CoverLaws.{path-labels}
 use Rattle.paths.specs.PathLaws.{paths-branch}
 use Rattle.paths.specs.Routes.{bit, codeOf, codes, stepOn, pathAt, At, Entered}
-use Rattle.matcher.specs.Search.{literalAt, literalsIn}
+use Rattle.matcher.specs.Search.{InRange, literalAt, literalsIn}
 use Rattle.matcher.specs.Stored.{termsOfCode, Unmarked, Marking, Enterable, Stored}
 use Rattle.paths.specs.PathLaws.{path-in, path-high, path-low, codes-step}
+use Rattle.matcher.proofs.TermLaws.{label-range}
 use Rattle.matcher.proofs.CoversLaws.{of-terms}
 
 -- ===== Literals and their numbers =====
@@ -151,6 +152,17 @@ module _ {ar ws counts : List ℕ} {n k : ℕ} {out out₁ : List ℕ} {j : ℕ}
     into-code : (i : ℕ) → i < j → getD (take (termEnd + j) out₂) (termEnd + i) 0 ≡ getD (codes p) i 0
     into-code i h = getD-take (termEnd + j) out₂ (termEnd + i) 0 (omega arith) ∙ behind-at i ∙ at i h
 
+    same-code : (i : ℕ) → i < j → getD (take (termEnd + j) out₂) (termEnd + i) 0 ≡ getD out₁ (termEnd + i) 0
+    same-code i h = getD-take (termEnd + j) out₂ (termEnd + i) 0 (omega arith) ∙ behind-at i
+
+    code-range : (i : ℕ) → i < j → InRange (getD out₁ (termEnd + i) 0 / 2)
+    code-range i h = label-range ar (getD out₁ (termEnd + i) 0 / 2) (enter-unmarked .labels i h)
+
+    ranged : (i : ℕ) → i < length (take j (drop termEnd out₂)) → InRange (getD (take j (drop termEnd out₂)) i 0 / 2)
+    ranged i h =
+        let q : i < j = omega (arith, length-take j (drop termEnd out₂)) in
+        subst (λ (y : ℕ). InRange (y / 2)) (sym (getD-take j (drop termEnd out₂) i 0 q ∙ getD-drop termEnd out₂ i 0 ∙ behind-at i)) (code-range i q)
+
     terms-code : (i : ℕ) (l : Literal) → i < j → getD (codes p) i 0 / 2 ≡ l .label → termsOfCode ar (getD out₁ (termEnd + i) 0) ≡ termsOf ar (unpacked (l .label))
     unfolding termsOfCode
     terms-code i l h q = ap (λ (x : ℕ). termsOf ar (unpacked x)) (ap (λ (x : ℕ). x / 2) (at i h) ∙ q)
@@ -160,7 +172,8 @@ module _ {ar ws counts : List ℕ} {n k : ℕ} {out out₁ : List ℕ} {j : ℕ}
     enter-stored = record {
       few = e .few;
       are = ap (λ (xs : List ℕ). literalsIn (take j xs)) (m .behind) ∙ ap literalsIn (e .are) ∙ codes-are p;
-      sorted = record { room = omega (arith, count); order = order };
+      sorted = record { room = omega (arith, count); order = order; ranged = λ i h. subst (λ (y : ℕ). InRange (y / 2)) (sym (same-code i (omega (arith, count)))) (code-range i (omega (arith, count))) };
+      ranged = record { each = ranged };
       marks = record { has = has; of = of };
     }
       where

@@ -10,23 +10,48 @@ use lib.ListN.{length, getD, drop}
 use lib.Bits.{bitAnd, bitOr}
 use Rattle.basics.specs.Tests.{Cmp, cmp, below, equal, above}
 use Rattle.basics.specs.Members.{clash}
-use Rattle.label.specs.Limits.{firstVariable, variableCount, termEnd}
-use Rattle.label.specs.Labels.{isLabel, termsOf, unpacked}
+use Rattle.label.specs.Limits.{firstVariable, variableCount, termEnd, mostPlaces}
+use Rattle.label.specs.Labels.{isLabel, placeAt, termsOf, unpacked}
 use Rattle.paths.specs.Paths.{Literal}
 use Rattle.cutting.specs.Match.{Partial, start, bindTerms, goOn, matches}
 use Rattle.cutting.specs.MatchLaws.{Solves}
-use Rattle.matcher.specs.Search.{literalAt, literalsIn, placeOf, fourOf, segment, known, Slots, Replacing, TryPost, no-way, a-way, wayAt, wayCount, allKnown, Met, Tabled, Setting, Inside}
+use Rattle.matcher.specs.Search.{
+  literalAt,
+  literalsIn,
+  InRange,
+  placesIn,
+  segment,
+  known,
+  Slots,
+  Replacing,
+  wayPlace,
+  wayPlaces,
+  isNothing,
+  BindPost,
+  TryPost,
+  no-way,
+  a-way,
+  wayAt,
+  wayCount,
+  allKnown,
+  Met,
+  Tabled,
+  Setting,
+  Inside,
+}
 use Rattle.matcher.specs.Failure.{In, Variables, Bound, Agrees, Nogood, Remembers, RecallPost, RememberPost, isFound, maskOf, HandedUp, Solving, SolvePost}
 use Rattle.matcher.specs.declared.Way.{Way}
-use Rattle.matcher.specs.declared.Way.the-variants.{Terms}
 use Rattle.matcher.specs.declared.Answer.{Answer}
 use Rattle.matcher.specs.declared.Answer.the-variants.{Found, Failed, Weary}
-use Rattle.matcher.proofs.WayLaws.{untaken, unleft, known-some, known-none, known-same}
-use Rattle.matcher.proofs.TargetLaws.{WayView, way-view, meets}
+use Rattle.matcher.proofs.AlongLaws.{none-some, along-in, along-of}
+use Rattle.matcher.proofs.TermLaws.{in-place}
+use Rattle.matcher.proofs.WayLaws.{untaken, unleft}
+use Rattle.matcher.proofs.BindLaws.{known-some, known-none, known-same}
+use Rattle.matcher.proofs.TargetLaws.{way-view, meets}
 use Rattle.matcher.proofs.MaskLaws.{in-left, in-right, in-either, in-both, in-second}
 use Rattle.matcher.proofs.FailureLaws.{nogood-same, recalled-nogood, remembers-more}
-use Rattle.matcher.proofs.NogoodLaws.{orOf, map-at, bound-images, misfit, place-in, four-place, constant-stays, taken, taken-is, unmet}
-use Rattle.matcher.proofs.SolveLaws.{none-some, some-inj, place-small, slots-at, segment-cons, segment-end, bind-values, label-x, way-hits, inside-after, view-small, term-place, none-here, known-early, same-known, known-replacing, is-met}
+use Rattle.matcher.proofs.NogoodLaws.{orOf, map-at, bound-images, misfit, Takes, takes-list, constant-stays, taken, taken-is, unmet}
+use Rattle.matcher.proofs.SolveLaws.{some-inj, slots-at, segment-cons, segment-end, bind-values, label-x, way-hits, inside-after, view-terms, none-here, known-early, same-known, known-replacing, is-met}
 
 -- ===== Answers =====
 failed-is : (p q : ℕ) → Failed p ≡ Failed q → p ≡ q
@@ -46,7 +71,7 @@ found-weary e = let z : _≡_ {A = ℕ} 0 1 = cc in absurd (omega arith)
 
 -- a failure with its promise
 failed-post : {ord into tab theta store theta′ store′ : List ℕ} {k bound q : ℕ} → Nogood ord into tab q theta firstVariable → ((i : ℕ) → In q i → In bound i)
-    → ((v : ℕ) → v < termEnd → getD tab v 0 ≤ k * 4 → getD theta′ v 0 ≡ getD theta v 0) → Remembers ord into tab store′
+    → ((v : ℕ) → v < termEnd → getD tab v 0 ≤ k * mostPlaces → getD theta′ v 0 ≡ getD theta v 0) → Remembers ord into tab store′
     → SolvePost ord into tab theta store k bound (Failed q) theta′ store′
 failed-post {ord} {into} {tab} {theta} {q = q} g w k m = record {
   found = λ e. not-found q e;
@@ -62,7 +87,7 @@ pub solve-end : {ord into tab theta store : List ℕ} {k bound : ℕ} → k ≡ 
 unfolding matches
 solve-end {ord} {into} {tab} {theta} {store} {k} {bound} e g = record {
   found = λ z ar T s i.
-      ap (λ (qs : List Literal). matches ar (literalsIn (drop termEnd into)) T qs (known tab theta (k * 4)))
+      ap (λ (qs : List Literal). matches ar (literalsIn (drop termEnd into)) T qs (known tab theta (k * mostPlaces)))
       (ap (λ (m : ℕ). segment ord m (length ord)) e ∙ segment-end ord (length ord));
   failed = λ q z. not-failed q z;
   within = λ q z. not-failed q z;
@@ -97,7 +122,7 @@ pub record Level (ord into tab theta store : List ℕ) (k x bound vars total : �
   pub solving : Solving ord into tab theta store k bound
   pub low : k < length ord
   pub is : x ≡ getD ord k 0
-  pub variables : Variables (x / 2) vars
+  pub variables : Variables (x / 2) mostPlaces vars
   pub count : total ≡ wayCount into x
 
 module _ {ord into tab theta store : List ℕ} {k x bound vars total : ℕ} (y : Level ord into tab theta store k x bound vars total) where
@@ -105,54 +130,54 @@ module _ {ord into tab theta store : List ℕ} {k x bound vars total : ℕ} (y :
   level-in =
       subst (λ (i : ℕ). List·Memᴰ (literalAt i) (segment ord 0 (length ord))) (sym (y .is)) (in-segment ord (length ord) k k 0 (omega arith) (y .low) (omega arith))
 
-  pub level-slots : Slots tab (k * 4) (x / 2)
-  level-slots = slots-at (y .solving .tabled) (y .low) (y .is)
+  pub level-slots : Slots tab (k * mostPlaces) (x / 2)
+  level-slots = slots-at (y .solving .tabled) (y .solving .ranged) (y .low) (y .is)
 
   -- what is known at the next level
-  level-bound : Bound tab (bitOr bound vars) ((k + 1) * 4)
-  level-bound = record { early = early; has = λ i h l. has i h l (cmp (getD tab (firstVariable + i) 0) (k * 4 + 1)) }
+  level-bound : Bound tab (bitOr bound vars) ((k + 1) * mostPlaces)
+  level-bound = record { early = early; has = λ i h l. has i h l (cmp (getD tab (firstVariable + i) 0) (k * mostPlaces + 1)) }
     where
-      early : (i : ℕ) → i < variableCount → In (bitOr bound vars) i → getD tab (firstVariable + i) 0 ≤ (k + 1) * 4
+      early : (i : ℕ) → i < variableCount → In (bitOr bound vars) i → getD tab (firstVariable + i) 0 ≤ (k + 1) * mostPlaces
       early i h o = go (in-either i bound vars o)
         where
-          go : In bound i ⊎ In vars i → getD tab (firstVariable + i) 0 ≤ (k + 1) * 4
+          go : In bound i ⊎ In vars i → getD tab (firstVariable + i) 0 ≤ (k + 1) * mostPlaces
           go (inl q) = omega (arith, y .solving .bounds .early i h q)
           go (inr q) =
               let w = y .variables .only i q in
-              subst (λ (v : ℕ). getD tab v 0 ≤ (k + 1) * 4) (w .2) (omega (arith, level-slots .seen (w .0) (w .1), w .1))
+              subst (λ (v : ℕ). getD tab v 0 ≤ (k + 1) * mostPlaces) (w .2) (omega (arith, level-slots .seen (w .0) (w .1), w .1))
 
-      here : (i : ℕ) → i < variableCount → k * 4 < getD tab (firstVariable + i) 0 → getD tab (firstVariable + i) 0 ≤ (k + 1) * 4 → In (bitOr bound vars) i
+      here : (i : ℕ) → i < variableCount → k * mostPlaces < getD tab (firstVariable + i) 0 → getD tab (firstVariable + i) 0 ≤ (k + 1) * mostPlaces → In (bitOr bound vars) i
       here i h l m =
-          in-right i bound vars (y .variables .has (getD tab (firstVariable + i) 0 - k * 4 - 1) i
-          (sym (level-slots .only (getD tab (firstVariable + i) 0 - k * 4 - 1) (firstVariable + i) (omega arith) (omega arith) (omega arith))))
+          in-right i bound vars (y .variables .has (getD tab (firstVariable + i) 0 - k * mostPlaces - 1) i (omega arith)
+          (sym (level-slots .only (getD tab (firstVariable + i) 0 - k * mostPlaces - 1) (firstVariable + i) (omega arith) (omega arith) (omega arith))))
 
-      has : (i : ℕ) → i < variableCount → getD tab (firstVariable + i) 0 ≤ (k + 1) * 4 → Cmp (getD tab (firstVariable + i) 0) (k * 4 + 1) → In (bitOr bound vars) i
+      has : (i : ℕ) → i < variableCount → getD tab (firstVariable + i) 0 ≤ (k + 1) * mostPlaces → Cmp (getD tab (firstVariable + i) 0) (k * mostPlaces + 1) → In (bitOr bound vars) i
       has i h l (below c) = in-left i bound vars (y .solving .bounds .has i h (omega arith))
       has i h l (equal c) = here i h (omega arith) l
       has i h l (above c) = here i h (omega arith) l
 
   -- a variable that comes first here is one of the literal's terms
-  level-here : (i : ℕ) → i < variableCount → k * 4 < getD tab (firstVariable + i) 0 → getD tab (firstVariable + i) 0 ≤ (k + 1) * 4 → List·Memᴰ (firstVariable + i) (fourOf (x / 2))
+  level-here : (i : ℕ) → i < variableCount → k * mostPlaces < getD tab (firstVariable + i) 0 → getD tab (firstVariable + i) 0 ≤ (k + 1) * mostPlaces → List·Memᴰ (firstVariable + i) (placesIn (x / 2))
   level-here i h l m =
-      let w = level-slots .only (getD tab (firstVariable + i) 0 - k * 4 - 1) (firstVariable + i) (omega arith) (omega arith) (omega arith) in
-      subst (λ (v : ℕ). List·Memᴰ v (fourOf (x / 2))) (sym w) (place-in (x / 2) (getD tab (firstVariable + i) 0 - k * 4 - 1))
+      let w = level-slots .only (getD tab (firstVariable + i) 0 - k * mostPlaces - 1) (firstVariable + i) (omega arith) (omega arith) (omega arith) in
+      subst (λ (v : ℕ). List·Memᴰ v (placesIn (x / 2))) (sym w) (along-in (placeAt (x / 2)) mostPlaces (getD tab (firstVariable + i) 0 - k * mostPlaces - 1) (omega arith))
 
 -- ===== The ways tried so far =====
 
 -- theta now, and no match that has the words of theta on the mask takes literal x by a way before j
 pub record Trying (ord into tab theta store : List ℕ) (k x bound vars total : ℕ) (theta′ store′ : List ℕ) (mask j : ℕ) : Type 0 where
   pub level : Level ord into tab theta store k x bound vars total
-  pub kept : (v : ℕ) → v < termEnd → getD tab v 0 ≤ k * 4 → getD theta′ v 0 ≡ getD theta v 0
+  pub kept : (v : ℕ) → v < termEnd → getD tab v 0 ≤ k * mostPlaces → getD theta′ v 0 ≡ getD theta v 0
   pub length-kept : length theta′ ≡ length theta
   pub store-kept : length store′ ≡ length store
   pub within : (i : ℕ) → In mask i → In bound i
   pub old : (i : ℕ) → In vars i → In bound i → In mask i
   pub remembers : Remembers ord into tab store′
   pub failed : (i : ℕ) → i < j → (ar T : List ℕ) → Setting ar T ord into tab → (z : Solves ar (literalsIn (drop termEnd into)) T (segment ord 0 (length ord)) start)
-      → Agrees mask theta firstVariable (z .σ) → (a b c d : ℕ) → wayAt into tab x i ≡ Terms a b c d → map (z .σ) (fourOf (x / 2)) ≡ a ∷ b ∷ c ∷ d ∷ [] → ⊥
+      → Agrees mask theta firstVariable (z .σ) → isNothing (wayAt into tab x i) ≡ false → Takes (z .σ) (x / 2) (wayAt into tab x i) → ⊥
 
 pub trying-start : {ord into tab theta store : List ℕ} {k x bound vars total : ℕ} → Solving ord into tab theta store k bound → (k ≡ length ord → ⊥)
-    → x ≡ getD ord k 0 → Variables (x / 2) vars → total ≡ wayCount into x
+    → x ≡ getD ord k 0 → Variables (x / 2) mostPlaces vars → total ≡ wayCount into x
     → Trying ord into tab theta store k x bound vars total theta store (bitAnd vars bound) 0
 trying-start {k = k} {bound = bound} {vars = vars} g f e v c = record {
   level = record { solving = g; low = omega (arith, g .most, f); is = e; variables = v; count = c };
@@ -170,11 +195,11 @@ module _ {ord into tab theta store : List ℕ} {k x bound vars total : ℕ} {the
   tabled : Tabled ord tab (length ord)
   tabled = y .level .solving .tabled
 
-  replacing : Replacing tab theta (k * 4)
+  replacing : Replacing tab theta (k * mostPlaces)
   replacing = y .level .solving .replacing
 
-  now-known : known tab theta′ (k * 4) ≡ known tab theta (k * 4)
-  now-known = sym (known-same tab theta theta′ (k * 4) (k * 4) (omega arith) (y .kept) (λ v p q. q))
+  now-known : known tab theta′ (k * mostPlaces) ≡ known tab theta (k * mostPlaces)
+  now-known = sym (known-same tab theta theta′ (k * mostPlaces) (k * mostPlaces) (omega arith) (y .kept) (λ v p q. q))
 
   pub trying-room : termEnd ≤ length theta′
   trying-room = omega (arith, y .length-kept, replacing .room)
@@ -184,8 +209,8 @@ module _ {ord into tab theta store : List ℕ} {k x bound vars total : ℕ} {the
     nothing = λ ar T s z a.
         let lab = label-x tabled replacing (y .level .low) (y .level .is) ar T s in
         let w = taken ar T ord into tab s (segment ord 0 (length ord)) z x lab (level-in (y .level)) in
-        y .failed (w .place) (omega (arith, w .counted, y .level .count)) ar T s z a (w .a) (w .b) (w .c) (w .d) (w .is)
-        (taken-is ar T ord into tab s (segment ord 0 (length ord)) z x lab (level-in (y .level)) w);
+        y .failed (w .place) (omega (arith, w .counted, y .level .count)) ar T s z a (ap isNothing (w .is) ∙ w .some-way)
+        (subst (Takes (z .σ) (x / 2)) (sym (w .is)) (taken-is ar T ord into tab s (segment ord 0 (length ord)) z x lab (level-in (y .level)) w));
   }
 
   now-failed : total ≤ j → Nogood ord into tab mask theta′ firstVariable
@@ -197,29 +222,29 @@ module _ {ord into tab theta store : List ℕ} {k x bound vars total : ℕ} {the
 
   -- a match that agrees on the mask agrees with what is known of the literal's terms
   agrees-old : (ar T : List ℕ) (s : Setting ar T ord into tab) (z : Solves ar (literalsIn (drop termEnd into)) T (segment ord 0 (length ord)) start)
-      → Agrees mask theta firstVariable (z .σ) → (u w : ℕ) → List·Memᴰ u (fourOf (x / 2)) → known tab theta′ (k * 4) u ≡ some w → z .σ u ≡ w
-  agrees-old ar T s z a u w m e = go (cmp u firstVariable) (cmp (getD tab u 0) (k * 4 + 1))
+      → Agrees mask theta firstVariable (z .σ) → (u w : ℕ) → List·Memᴰ u (placesIn (x / 2)) → known tab theta′ (k * mostPlaces) u ≡ some w → z .σ u ≡ w
+  agrees-old ar T s z a u w m e = go (cmp u firstVariable) (cmp (getD tab u 0) (k * mostPlaces + 1))
     where
-      place : (j : ℕ) × (placeOf (x / 2) j ≡ u)
-      place = four-place (x / 2) u m
+      place : (j : ℕ) × (j < mostPlaces) × (u ≡ placeAt (x / 2) j)
+      place = along-of (placeAt (x / 2)) mostPlaces u m
 
       small : u < termEnd
-      small = subst (λ (i : ℕ). i < termEnd) (place .1) (place-small (x / 2) (place .0))
+      small = subst (λ (i : ℕ). i < termEnd) (sym (place .2)) (level-slots (y .level) .range .places (place .0) (place .1))
 
-      word : getD tab u 0 ≤ k * 4 → getD theta u 0 ≡ w
-      word l = sym (y .kept u small l) ∙ some-inj _ _ (sym (known-some tab theta′ (k * 4) u small l) ∙ e)
+      word : getD tab u 0 ≤ k * mostPlaces → getD theta u 0 ≡ w
+      word l = sym (y .kept u small l) ∙ some-inj _ _ (sym (known-some tab theta′ (k * mostPlaces) u small l) ∙ e)
 
-      variable : firstVariable ≤ u → getD tab u 0 ≤ k * 4 → z .σ u ≡ w
+      variable : firstVariable ≤ u → getD tab u 0 ≤ k * mostPlaces → z .σ u ≡ w
       variable l o =
           let q : firstVariable + (u - firstVariable) ≡ u = omega arith in
-          let b = y .level .solving .bounds .has (u - firstVariable) (omega (arith, small)) (subst (λ (i : ℕ). getD tab i 0 ≤ k * 4) (sym q) o) in
-          let v = y .level .variables .has (place .0) (u - firstVariable) (place .1 ∙ sym q) in
+          let b = y .level .solving .bounds .has (u - firstVariable) (omega (arith, small)) (subst (λ (i : ℕ). getD tab i 0 ≤ k * mostPlaces) (sym q) o) in
+          let v = y .level .variables .has (place .0) (u - firstVariable) (place .1) (sym (place .2) ∙ sym q) in
           subst (λ (i : ℕ). z .σ i ≡ getD theta i 0) q (a (u - firstVariable) (omega (arith, small)) (y .old (u - firstVariable) v b)) ∙ word o
 
-      late : k * 4 < getD tab u 0 → z .σ u ≡ w
-      late o = none-some w (sym (known-none tab theta′ (k * 4) u small o) ∙ e)
+      late : k * mostPlaces < getD tab u 0 → z .σ u ≡ w
+      late o = none-some w (sym (known-none tab theta′ (k * mostPlaces) u small o) ∙ e)
 
-      go : Cmp u firstVariable → Cmp (getD tab u 0) (k * 4 + 1) → z .σ u ≡ w
+      go : Cmp u firstVariable → Cmp (getD tab u 0) (k * mostPlaces + 1) → z .σ u ≡ w
       go (below p) c =
           constant-stays ar T ord into tab s (segment ord 0 (length ord)) z u p ∙ sym (replacing .stays u p) ∙ word (omega (arith, tabled .fixed u p))
       go (equal p) (below c) = variable (omega arith) (omega arith)
@@ -229,15 +254,15 @@ module _ {ord into tab theta store : List ℕ} {k x bound vars total : ℕ} {the
       go (above p) (equal c) = late (omega arith)
       go (above p) (above c) = late (omega arith)
 
-  module _ (l : j < total) {b : Bool} {theta₁ : List ℕ} (p : TryPost tab theta′ (k * 4) x b theta₁ (wayAt into tab x j)) (len : length theta₁ ≡ length theta′) where
+  module _ (l : j < total) {b : Bool} {theta₁ : List ℕ} (p : TryPost tab theta′ (k * mostPlaces) x b theta₁ (wayAt into tab x j)) (len : length theta₁ ≡ length theta′) where
     j-less : j < wayCount into x
     j-less = omega (arith, y .level .count)
 
-    try-kept : (w : Way) → TryPost tab theta′ (k * 4) x b theta₁ w → (v : ℕ) → v < termEnd → getD tab v 0 ≤ k * 4 → getD theta₁ v 0 ≡ getD theta′ v 0
-    try-kept w (no-way f g) v q z = ap (λ (th : List ℕ). getD th v 0) g
-    try-kept w (a-way f) v q z = f .kept v q z
+    try-kept : (w : Way) → TryPost tab theta′ (k * mostPlaces) x b theta₁ w → (v : ℕ) → v < termEnd → getD tab v 0 ≤ k * mostPlaces → getD theta₁ v 0 ≡ getD theta′ v 0
+    try-kept w (no-way n f g) v q z = ap (λ (th : List ℕ). getD th v 0) g
+    try-kept w (a-way n f) v q z = f .kept v q z
 
-    kept-on : (v : ℕ) → v < termEnd → getD tab v 0 ≤ k * 4 → getD theta₁ v 0 ≡ getD theta v 0
+    kept-on : (v : ℕ) → v < termEnd → getD tab v 0 ≤ k * mostPlaces → getD theta₁ v 0 ≡ getD theta v 0
     kept-on v q z = try-kept (wayAt into tab x j) p v q z ∙ y .kept v q z
 
     -- the way does not fit
@@ -254,53 +279,70 @@ module _ {ord into tab theta store : List ℕ} {k x bound vars total : ℕ} {the
     }
       where
         miss : (ar T : List ℕ) (s : Setting ar T ord into tab) (z : Solves ar (literalsIn (drop termEnd into)) T (segment ord 0 (length ord)) start)
-            → Agrees mask theta firstVariable (z .σ) → (w : Way) → TryPost tab theta′ (k * 4) x b theta₁ w → (a b₁ c d : ℕ) → w ≡ Terms a b₁ c d
-            → map (z .σ) (fourOf (x / 2)) ≡ a ∷ b₁ ∷ c ∷ d ∷ [] → ⊥
-        miss ar T s z ag w (no-way g o) a b₁ c d q e = let o : _≡_ {A = ℕ} 0 1 = cc in absurd (omega arith)
-        miss ar T s z ag w (a-way {a = a′} {b = b′} {c = c′} {d = d′} g) a b₁ c d q e =
-            let u : a ∷ b₁ ∷ c ∷ d ∷ [] ≡ a′ ∷ b′ ∷ c′ ∷ d′ ∷ [] = cc in
-            misfit (known tab theta′ (k * 4)) (z .σ) (fourOf (x / 2)) (a′ ∷ b′ ∷ c′ ∷ d′ ∷ []) (g .no f) (e ∙ u) (agrees-old ar T s z ag)
+            → Agrees mask theta firstVariable (z .σ) → TryPost tab theta′ (k * mostPlaces) x b theta₁ (wayAt into tab x j)
+            → isNothing (wayAt into tab x j) ≡ false → Takes (z .σ) (x / 2) (wayAt into tab x j) → ⊥
+        miss ar T s z ag (no-way n g o) q e = clash n q
+        miss ar T s z ag (a-way n g) q e =
+            misfit (known tab theta′ (k * mostPlaces)) (z .σ) (placesIn (x / 2)) (wayPlaces (wayAt into tab x j)) (g .no f) (takes-list (z .σ) (x / 2) (wayAt into tab x j) e)
+            (agrees-old ar T s z ag)
 
         more : (i : ℕ) → i < j + 1 → Cmp i j → (ar T : List ℕ) → Setting ar T ord into tab
             → (z : Solves ar (literalsIn (drop termEnd into)) T (segment ord 0 (length ord)) start) → Agrees mask theta firstVariable (z .σ)
-            → (a b c d : ℕ) → wayAt into tab x i ≡ Terms a b c d → map (z .σ) (fourOf (x / 2)) ≡ a ∷ b ∷ c ∷ d ∷ [] → ⊥
+            → isNothing (wayAt into tab x i) ≡ false → Takes (z .σ) (x / 2) (wayAt into tab x i) → ⊥
         more i q (below o) = y .failed i o
-        more i q (equal o) = λ ar T s z ag a b c d w e. miss ar T s z ag (wayAt into tab x j) p a b c d (ap (wayAt into tab x) (sym o) ∙ w) e
+        more i q (equal o) = λ ar T s z ag n e.
+            miss ar T s z ag p (ap (λ (a : ℕ). isNothing (wayAt into tab x a)) (sym o) ∙ n) (subst (λ (a : ℕ). Takes (z .σ) (x / 2) (wayAt into tab x a)) o e)
         more i q (above o) = absurd (omega arith)
 
     module _ (f : b ≡ true) where
       -- what the way binds
-      fits : (w : Way) → TryPost tab theta′ (k * 4) x b theta₁ w → (a b₁ c d : ℕ) → w ≡ Terms a b₁ c d
-          → bindTerms (known tab theta (k * 4)) (fourOf (x / 2)) (a ∷ b₁ ∷ c ∷ d ∷ []) ≡ some (known tab theta₁ ((k + 1) * 4))
-      fits w (no-way g z) a b₁ c d q = let z : _≡_ {A = ℕ} 0 1 = cc in absurd (omega arith)
-      fits w (a-way {a = a′} {b = b′} {c = c′} {d = d′} g) a b₁ c d q =
-          let m : a′ ∷ b′ ∷ c′ ∷ d′ ∷ [] ≡ a ∷ b₁ ∷ c ∷ d ∷ [] = cc in
-          let i : k * 4 + 4 ≡ (k + 1) * 4 = omega arith in
-          ap₂ (λ (τ : Partial) (us : List ℕ). bindTerms τ (fourOf (x / 2)) us) (sym now-known) (sym m) ∙ g .yes f ∙ ap (λ (o : ℕ). some (known tab theta₁ o)) i
-
-      some-way : (w : Way) → TryPost tab theta′ (k * 4) x b theta₁ w → WayView into tab x w → (v : ℕ) → v < termEnd → getD tab v 0 ≤ (k + 1) * 4 → getD theta₁ v 0 < termEnd
-      some-way w (no-way g z) view v q u = clash f g
-      some-way w (a-way {a = a′} {b = b′} {c = c′} {d = d′} g) view v q u =
-          go (bind-values (fourOf (x / 2)) (a′ ∷ b′ ∷ c′ ∷ d′ ∷ []) (known tab theta (k * 4)) (known tab theta₁ ((k + 1) * 4))
-          (fits (Terms a′ b′ c′ d′) (a-way g) a′ b′ c′ d′ refl) v (getD theta₁ v 0) (known-some tab theta₁ ((k + 1) * 4) v q u))
+      is-way : isNothing (wayAt into tab x j) ≡ false
+      is-way = go p
         where
-          old : Cmp (getD tab v 0) (k * 4 + 1) → known tab theta (k * 4) v ≡ some (getD theta₁ v 0) → getD theta₁ v 0 < termEnd
-          old (below c₁) z = let m : getD theta v 0 ≡ getD theta₁ v 0 = some-inj _ _ (sym (known-some tab theta (k * 4) v q (omega arith)) ∙ z) in omega (arith, replacing .terms v q (omega arith))
-          old (equal c₁) z = none-some _ (sym (known-none tab theta (k * 4) v q (omega arith)) ∙ z)
-          old (above c₁) z = none-some _ (sym (known-none tab theta (k * 4) v q (omega arith)) ∙ z)
+          go : TryPost tab theta′ (k * mostPlaces) x b theta₁ (wayAt into tab x j) → isNothing (wayAt into tab x j) ≡ false
+          go (no-way n g z) = clash f g
+          go (a-way n g) = n
 
-          go : (known tab theta (k * 4) v ≡ some (getD theta₁ v 0)) ⊎ List·Memᴰ (getD theta₁ v 0) (a′ ∷ b′ ∷ c′ ∷ d′ ∷ []) → getD theta₁ v 0 < termEnd
-          go (inl z) = old (cmp (getD tab v 0) (k * 4 + 1)) z
-          go (inr m) = view-small view a′ b′ c′ d′ refl (getD theta₁ v 0) m
+      binds : BindPost tab theta′ (k * mostPlaces) (x / 2) (wayAt into tab x j) b theta₁
+      binds = go p
+        where
+          go : TryPost tab theta′ (k * mostPlaces) x b theta₁ (wayAt into tab x j) → BindPost tab theta′ (k * mostPlaces) (x / 2) (wayAt into tab x j) b theta₁
+          go (no-way n g z) = clash f g
+          go (a-way n g) = g
+
+      fits : bindTerms (known tab theta (k * mostPlaces)) (placesIn (x / 2)) (wayPlaces (wayAt into tab x j)) ≡ some (known tab theta₁ ((k + 1) * mostPlaces))
+      fits =
+          let i : k * mostPlaces + mostPlaces ≡ (k + 1) * mostPlaces = omega arith in
+          ap (λ (τ : Partial). bindTerms τ (placesIn (x / 2)) (wayPlaces (wayAt into tab x j))) (sym now-known) ∙ binds .yes f
+          ∙ ap (λ (o : ℕ). some (known tab theta₁ o)) i
+
+      new-terms : (v : ℕ) → v < termEnd → getD tab v 0 ≤ (k + 1) * mostPlaces → getD theta₁ v 0 < termEnd
+      new-terms v q u =
+          go (bind-values (placesIn (x / 2)) (wayPlaces (wayAt into tab x j)) (known tab theta (k * mostPlaces)) (known tab theta₁ ((k + 1) * mostPlaces)) fits
+          v (getD theta₁ v 0) (known-some tab theta₁ ((k + 1) * mostPlaces) v q u))
+        where
+          old : Cmp (getD tab v 0) (k * mostPlaces + 1) → known tab theta (k * mostPlaces) v ≡ some (getD theta₁ v 0) → getD theta₁ v 0 < termEnd
+          old (below c) z =
+              let m : getD theta v 0 ≡ getD theta₁ v 0 = some-inj _ _ (sym (known-some tab theta (k * mostPlaces) v q (omega arith)) ∙ z) in
+              omega (arith, replacing .terms v q (omega arith))
+          old (equal c) z = none-some _ (sym (known-none tab theta (k * mostPlaces) v q (omega arith)) ∙ z)
+          old (above c) z = none-some _ (sym (known-none tab theta (k * mostPlaces) v q (omega arith)) ∙ z)
+
+          go : (known tab theta (k * mostPlaces) v ≡ some (getD theta₁ v 0)) ⊎ List·Memᴰ (getD theta₁ v 0) (wayPlaces (wayAt into tab x j)) → getD theta₁ v 0 < termEnd
+          go (inl z) = old (cmp (getD tab v 0) (k * mostPlaces + 1)) z
+          go (inr m) =
+              let r = along-of (wayPlace (wayAt into tab x j)) mostPlaces (getD theta₁ v 0) m in
+              omega (arith, view-terms (y .level .solving .sorted) (way-view into tab x j j-less) (r .0) (r .1), r .2)
 
       pub trying-next : Solving ord into tab theta₁ store′ (k + 1) (bitOr bound vars)
       trying-next = record {
         tabled = tabled;
+        ranged = y .level .solving .ranged;
         sorted = y .level .solving .sorted;
         replacing = record {
           room = omega (arith, len, y .length-kept, replacing .room);
           stays = λ v q. kept-on v (omega arith) (omega (arith, tabled .fixed v q)) ∙ replacing .stays v q;
-          terms = some-way (wayAt into tab x j) p (way-view into tab x j j-less);
+          terms = new-terms;
         };
         most = omega (arith, y .level .low);
         bounds = level-bound (y .level);
@@ -308,21 +350,16 @@ module _ {ord into tab theta store : List ℕ} {k x bound vars total : ℕ} {the
       }
 
       module _ {r : Answer} {theta₂ store₂ : List ℕ} (z : SolvePost ord into tab theta₁ store′ (k + 1) (bitOr bound vars) r theta₂ store₂) where
-        kept₂ : (v : ℕ) → v < termEnd → getD tab v 0 ≤ k * 4 → getD theta₂ v 0 ≡ getD theta v 0
+        kept₂ : (v : ℕ) → v < termEnd → getD tab v 0 ≤ k * mostPlaces → getD theta₂ v 0 ≡ getD theta v 0
         kept₂ v q u = z .kept v q (omega arith) ∙ kept-on v q u
 
-        hit : r ≡ Found → (ar T : List ℕ) (s : Setting ar T ord into tab) → Inside T (known tab theta (k * 4))
-            → matches ar (literalsIn (drop termEnd into)) T (segment ord k (length ord)) (known tab theta (k * 4)) ≡ true
-        hit g ar T s ins = go (wayAt into tab x j) p refl
-          where
-            go : (w : Way) → TryPost tab theta′ (k * 4) x b theta₁ w → wayAt into tab x j ≡ w
-                → matches ar (literalsIn (drop termEnd into)) T (segment ord k (length ord)) (known tab theta (k * 4)) ≡ true
-            go w (no-way q u) o = clash f q
-            go w (a-way {a = a′} {b = b′} {c = c′} {d = d′} q) o =
-                let m = fits (wayAt into tab x j) p a′ b′ c′ d′ o in
-                way-hits tabled replacing (y .level .low) (y .level .is) ar T s j a′ b′ c′ d′ j-less o
-                (ap (λ u. goOn u (λ τ. matches ar (literalsIn (drop termEnd into)) T (segment ord (k + 1) (length ord)) τ)) m
-                ∙ z .found g ar T s (inside-after tabled replacing (y .level .low) (y .level .is) ar T s j a′ b′ c′ d′ j-less o ins (known tab theta₁ ((k + 1) * 4)) m))
+        hit : r ≡ Found → (ar T : List ℕ) (s : Setting ar T ord into tab) → Inside T (known tab theta (k * mostPlaces))
+            → matches ar (literalsIn (drop termEnd into)) T (segment ord k (length ord)) (known tab theta (k * mostPlaces)) ≡ true
+        hit g ar T s ins =
+            way-hits tabled replacing (y .level .low) (y .level .is) ar T s j (wayAt into tab x j) j-less refl is-way
+            (ap (λ u. goOn u (λ τ. matches ar (literalsIn (drop termEnd into)) T (segment ord (k + 1) (length ord)) τ)) fits
+            ∙ z .found g ar T s (inside-after tabled replacing (y .level .low) (y .level .is) ar T s j (wayAt into tab x j) j-less refl is-way ins
+            (known tab theta₁ ((k + 1) * mostPlaces)) fits))
 
         -- the answer is handed up: a failure depends on nothing that was bound here
         pub trying-up : {g : Bool} → HandedUp r bound g → g ≡ true → SolvePost ord into tab theta store k bound r theta₂ store₂
@@ -353,56 +390,56 @@ module _ {ord into tab theta store : List ℕ} {k x bound vars total : ℕ} {the
             is-q : r ≡ Failed q
             is-q = u .no g₁ ∙ ap Failed (sym e)
 
-            late : (i : ℕ) → i < variableCount → In q i → getD tab (firstVariable + i) 0 ≤ (k + 1) * 4
+            late : (i : ℕ) → i < variableCount → In q i → getD tab (firstVariable + i) 0 ≤ (k + 1) * mostPlaces
             late i h o = level-bound (y .level) .early i h (z .within q is-q i o)
 
             here : (ar T : List ℕ) (s : Setting ar T ord into tab) (zs : Solves ar (literalsIn (drop termEnd into)) T (segment ord 0 (length ord)) start)
-                → Agrees (bitOr mask (bitAnd q bound)) theta firstVariable (zs .σ) → (w : Way) → TryPost tab theta′ (k * 4) x b theta₁ w → (a b₁ c d : ℕ) → w ≡ Terms a b₁ c d
-                → map (zs .σ) (fourOf (x / 2)) ≡ a ∷ b₁ ∷ c ∷ d ∷ [] → ⊥
-            here ar T s zs ag w (no-way o t) a b₁ c d q₁ m = clash f o
-            here ar T s zs ag w (a-way {a = a′} {b = b′} {c = c′} {d = d′} t) a b₁ c d q₁ m =
-                z .failed q is-q .nothing ar T s zs (λ i h o. word i h o (cmp (getD tab (firstVariable + i) 0) (k * 4 + 1)))
+                → Agrees (bitOr mask (bitAnd q bound)) theta firstVariable (zs .σ) → Takes (zs .σ) (x / 2) (wayAt into tab x j) → ⊥
+            here ar T s zs ag m = z .failed q is-q .nothing ar T s zs (λ i h o. word i h o (cmp (getD tab (firstVariable + i) 0) (k * mostPlaces + 1)))
               where
-                images : map (zs .σ) (fourOf (x / 2)) ≡ map (λ i. orOf (known tab theta₁ (k * 4 + 4) i) i) (fourOf (x / 2))
+                images : map (zs .σ) (placesIn (x / 2)) ≡ map (λ i. orOf (known tab theta₁ (k * mostPlaces + mostPlaces) i) i) (placesIn (x / 2))
                 images =
-                    let v : a ∷ b₁ ∷ c ∷ d ∷ [] ≡ a′ ∷ b′ ∷ c′ ∷ d′ ∷ [] = cc in
-                    m ∙ v ∙ sym (bound-images (known tab theta′ (k * 4)) (known tab theta₁ (k * 4 + 4)) (fourOf (x / 2)) (a′ ∷ b′ ∷ c′ ∷ d′ ∷ []) (t .yes f))
+                    takes-list (zs .σ) (x / 2) (wayAt into tab x j) m
+                    ∙ sym (bound-images (known tab theta′ (k * mostPlaces)) (known tab theta₁ (k * mostPlaces + mostPlaces)) (placesIn (x / 2)) (wayPlaces (wayAt into tab x j)) (binds .yes f))
 
-                new : (i : ℕ) → i < variableCount → In q i → k * 4 < getD tab (firstVariable + i) 0 → zs .σ (firstVariable + i) ≡ getD theta₁ (firstVariable + i) 0
+                new : (i : ℕ) → i < variableCount → In q i → k * mostPlaces < getD tab (firstVariable + i) 0 → zs .σ (firstVariable + i) ≡ getD theta₁ (firstVariable + i) 0
                 new i h o n =
                     let c = late i h o in
-                    map-at (zs .σ) (λ i. orOf (known tab theta₁ (k * 4 + 4) i) i) (fourOf (x / 2)) images (firstVariable + i) (level-here (y .level) i h n c)
-                    ∙ ap (λ r. orOf r (firstVariable + i)) (known-some tab theta₁ (k * 4 + 4) (firstVariable + i) (omega arith) (omega arith))
+                    map-at (zs .σ) (λ i. orOf (known tab theta₁ (k * mostPlaces + mostPlaces) i) i) (placesIn (x / 2)) images (firstVariable + i) (level-here (y .level) i h n c)
+                    ∙ ap (λ r. orOf r (firstVariable + i)) (known-some tab theta₁ (k * mostPlaces + mostPlaces) (firstVariable + i) (omega arith) (omega arith))
 
-                word : (i : ℕ) → i < variableCount → In q i → Cmp (getD tab (firstVariable + i) 0) (k * 4 + 1) → zs .σ (firstVariable + i) ≡ getD theta₁ (firstVariable + i) 0
+                word : (i : ℕ) → i < variableCount → In q i → Cmp (getD tab (firstVariable + i) 0) (k * mostPlaces + 1) → zs .σ (firstVariable + i) ≡ getD theta₁ (firstVariable + i) 0
                 word i h o (below n) =
-                    let c : getD tab (firstVariable + i) 0 ≤ k * 4 = omega arith in
+                    let c : getD tab (firstVariable + i) 0 ≤ k * mostPlaces = omega arith in
                     ag i h (in-right i mask (bitAnd q bound) (in-both i q bound o (y .level .solving .bounds .has i h c))) ∙ sym (kept-on (firstVariable + i) (omega arith) c)
                 word i h o (equal n) = new i h o (omega arith)
                 word i h o (above n) = new i h o (omega arith)
 
             more : (i : ℕ) → i < j + 1 → Cmp i j → (ar T : List ℕ) → Setting ar T ord into tab
                 → (zs : Solves ar (literalsIn (drop termEnd into)) T (segment ord 0 (length ord)) start) → Agrees (bitOr mask (bitAnd q bound)) theta firstVariable (zs .σ)
-                → (a b c d : ℕ) → wayAt into tab x i ≡ Terms a b c d → map (zs .σ) (fourOf (x / 2)) ≡ a ∷ b ∷ c ∷ d ∷ [] → ⊥
+                → isNothing (wayAt into tab x i) ≡ false → Takes (zs .σ) (x / 2) (wayAt into tab x i) → ⊥
             more i h (below o) = λ ar T s zs ag. y .failed i o ar T s zs (λ v g m. ag v g (in-left v mask (bitAnd q bound) m))
-            more i h (equal o) = λ ar T s zs ag a b c d w m. here ar T s zs ag (wayAt into tab x j) p a b c d (ap (wayAt into tab x) (sym o) ∙ w) m
+            more i h (equal o) = λ ar T s zs ag n m. here ar T s zs ag (subst (λ (a : ℕ). Takes (zs .σ) (x / 2) (wayAt into tab x a)) o m)
             more i h (above o) = absurd (omega arith)
 
 -- ===== A literal whose terms are known =====
 module _ {ord into tab theta store : List ℕ} {k x bound : ℕ} (g : Solving ord into tab theta store k bound) (h : k ≡ length ord → ⊥) (e : x ≡ getD ord k 0)
-    {b : Bool} (q : b ≡ allKnown tab (k * 4) (x / 2)) (f : b ≡ true) where
+    {b : Bool} (q : b ≡ allKnown tab (k * mostPlaces) (x / 2)) (f : b ≡ true) where
   low : k < length ord
   low = omega (arith, g .most, h)
 
-  early-in : (i : ℕ) → i < variableCount → (j : ℕ) → placeOf (x / 2) j ≡ firstVariable + i → In bound i
-  early-in i l j o =
-      g .bounds .has i l (subst (λ (v : ℕ). getD tab v 0 ≤ k * 4) o (known-early into (g .tabled) (g .replacing) low e q f j))
+  range : InRange (x / 2)
+  range = slots-at (g .tabled) (g .ranged) low e .range
 
-  pub unmet-post : {vars : ℕ} {m : Bool} → Variables (x / 2) vars → Met into theta x m → not m ≡ true → SolvePost ord into tab theta store k bound (Failed vars) theta store
+  early-in : (i : ℕ) → i < variableCount → (j : ℕ) → j < mostPlaces → placeAt (x / 2) j ≡ firstVariable + i → In bound i
+  early-in i l j p o =
+      g .bounds .has i l (subst (λ (v : ℕ). getD tab v 0 ≤ k * mostPlaces) o (known-early into (g .tabled) (g .ranged) (g .replacing) low e q f j p))
+
+  pub unmet-post : {vars : ℕ} {m : Bool} → Variables (x / 2) mostPlaces vars → Met into theta x m → not m ≡ true → SolvePost ord into tab theta store k bound (Failed vars) theta store
   unmet-post {vars} v w n = failed-post (record { nothing = nothing }) within (λ v p l. refl) (g .remembers)
     where
       within : (i : ℕ) → In vars i → In bound i
-      within i o = let p = v .only i o in early-in i (omega (arith, place-small (x / 2) (p .0), p .2)) (p .0) (p .2)
+      within i o = let p = v .only i o in early-in i (omega (arith, range .places (p .0) (p .1), p .2)) (p .0) (p .1) (p .2)
 
       nothing : (ar T : List ℕ) → Setting ar T ord into tab → (z : Solves ar (literalsIn (drop termEnd into)) T (segment ord 0 (length ord)) start)
           → Agrees vars theta firstVariable (z .σ) → ⊥
@@ -419,17 +456,17 @@ module _ {ord into tab theta store : List ℕ} {k x bound : ℕ} (g : Solving or
           same : (u : ℕ) → List·Memᴰ u (termsOf ar (unpacked (x / 2))) → z .σ u ≡ getD theta u 0
           same u m = go (cmp u firstVariable)
             where
-              place : (j : ℕ) × (u ≡ placeOf (x / 2) j)
-              place = term-place ar (x / 2) u m
+              place : (j : ℕ) × (j < mostPlaces) × (u ≡ placeAt (x / 2) j)
+              place = in-place ar (x / 2) (s .search .arities) u m
 
               small : u < termEnd
-              small = subst (λ (i : ℕ). i < termEnd) (sym (place .1)) (place-small (x / 2) (place .0))
+              small = subst (λ (i : ℕ). i < termEnd) (sym (place .2)) (range .places (place .0) (place .1))
 
               variable : firstVariable ≤ u → z .σ u ≡ getD theta u 0
               variable l =
                   let o : firstVariable + (u - firstVariable) ≡ u = omega arith in
                   subst (λ (i : ℕ). z .σ i ≡ getD theta i 0) o
-                  (a (u - firstVariable) (omega (arith, small)) (v .has (place .0) (u - firstVariable) (sym (place .1) ∙ sym o)))
+                  (a (u - firstVariable) (omega (arith, small)) (v .has (place .0) (u - firstVariable) (place .1) (sym (place .2) ∙ sym o)))
 
               go : Cmp u firstVariable → z .σ u ≡ getD theta u 0
               go (below c) = constant-stays ar T ord into tab s (segment ord 0 (length ord)) z u c ∙ sym (g .replacing .stays u c)
@@ -439,18 +476,19 @@ module _ {ord into tab theta store : List ℕ} {k x bound : ℕ} (g : Solving or
   pub met-next : Solving ord into tab theta store (k + 1) bound
   met-next = record {
     tabled = g .tabled;
+    ranged = g .ranged;
     sorted = g .sorted;
-    replacing = known-replacing into (g .tabled) (g .replacing) low e q f;
+    replacing = known-replacing into (g .tabled) (g .ranged) (g .replacing) low e q f;
     most = omega (arith, low);
     bounds = record {
       early = λ i l o. omega (arith, g .bounds .early i l o);
-      has = λ i l o. back i l o (cmp (k * 4) (getD tab (firstVariable + i) 0));
+      has = λ i l o. back i l o (cmp (k * mostPlaces) (getD tab (firstVariable + i) 0));
     };
     remembers = g .remembers;
   }
     where
-      back : (i : ℕ) → i < variableCount → getD tab (firstVariable + i) 0 ≤ (k + 1) * 4 → Cmp (k * 4) (getD tab (firstVariable + i) 0) → In bound i
-      back i l o (below c) = absurd (omega (arith, none-here into (g .tabled) (g .replacing) low e q f (firstVariable + i) (omega arith) c))
+      back : (i : ℕ) → i < variableCount → getD tab (firstVariable + i) 0 ≤ (k + 1) * mostPlaces → Cmp (k * mostPlaces) (getD tab (firstVariable + i) 0) → In bound i
+      back i l o (below c) = absurd (omega (arith, none-here into (g .tabled) (g .ranged) (g .replacing) low e q f (firstVariable + i) (omega arith) c))
       back i l o (equal c) = g .bounds .has i l (omega arith)
       back i l o (above c) = g .bounds .has i l (omega arith)
 
@@ -458,9 +496,9 @@ module _ {ord into tab theta store : List ℕ} {k x bound : ℕ} (g : Solving or
       → SolvePost ord into tab theta store (k + 1) bound r theta′ store′ → SolvePost ord into tab theta store k bound r theta′ store′
   met-post w n z = record {
     found = λ o ar T s i.
-        is-met into (g .tabled) (g .replacing) low e q f ar T s i w (unleft n)
-        ∙ ap (λ (τ : Partial). matches ar (literalsIn (drop termEnd into)) T (segment ord (k + 1) (length ord)) τ) (same-known into (g .tabled) (g .replacing) low e q f)
-        ∙ z .found o ar T s (subst (λ (τ : Partial). Inside T τ) (same-known into (g .tabled) (g .replacing) low e q f) i);
+        is-met into (g .tabled) (g .ranged) (g .replacing) low e q f ar T s i w (unleft n)
+        ∙ ap (λ (τ : Partial). matches ar (literalsIn (drop termEnd into)) T (segment ord (k + 1) (length ord)) τ) (same-known into (g .tabled) (g .ranged) (g .replacing) low e q f)
+        ∙ z .found o ar T s (subst (λ (τ : Partial). Inside T τ) (same-known into (g .tabled) (g .ranged) (g .replacing) low e q f) i);
     failed = z .failed;
     within = z .within;
     weary = z .weary;

@@ -6,9 +6,10 @@ use mathlib.Core.List.{List}
 use Prim.Native.Nat.{ℕ, zero, suc, _+_, _*_, _/_, _%_, _≤_, _<_}
 use lib.ListN.{length, getD, drop}
 use Rattle.label.specs.Limits.{firstVariable, variableCount, termEnd, mostPlaces}
+use Rattle.label.specs.Labels.{placeAt}
 use Rattle.cutting.specs.Match.{start, matches}
 use Rattle.cutting.specs.MatchLaws.{Solves}
-use Rattle.matcher.specs.Search.{literalsIn, placeOf, segment, known, Replacing, Sorted, Tabled, Setting, Inside}
+use Rattle.matcher.specs.Search.{AllInRange, literalsIn, segment, known, Replacing, Sorted, Tabled, Setting, Inside}
 use Rattle.matcher.specs.declared.Answer.{Answer}
 use Rattle.matcher.specs.declared.Answer.the-variants.{Found, Failed, Weary}
 
@@ -28,10 +29,10 @@ pub record One (t m : ℕ) : Type 0 where
   pub has : (i : ℕ) → t ≡ firstVariable + i → In m i
   pub only : (i : ℕ) → In m i → t ≡ firstVariable + i
 
--- m is the set of the variables of the label l
-pub record Variables (l m : ℕ) : Type 0 where
-  pub has : (j i : ℕ) → placeOf l j ≡ firstVariable + i → In m i
-  pub only : (i : ℕ) → In m i → (j : ℕ) × (j < mostPlaces) × (placeOf l j ≡ firstVariable + i)
+-- m is the set of the variables in the first n places of the label l
+pub record Variables (l n m : ℕ) : Type 0 where
+  pub has : (k i : ℕ) → k < n → placeAt l k ≡ firstVariable + i → In m i
+  pub only : (i : ℕ) → In m i → (k : ℕ) × (k < n) × (placeAt l k ≡ firstVariable + i)
 
 -- bound is the set of the variables that come first before place m
 pub record Bound (tab : List ℕ) (bound m : ℕ) : Type 0 where
@@ -131,25 +132,27 @@ pub record HandedUp (a : Answer) (bound : ℕ) (r : Bool) : Type 0 where
 -- what the search of the literals from k on starts from
 pub record Solving (ord into tab theta store : List ℕ) (k bound : ℕ) : Type 0 where
   pub tabled : Tabled ord tab (length ord)
+  pub ranged : AllInRange ord
   pub sorted : Sorted into
-  pub replacing : Replacing tab theta (k * 4)
+  pub replacing : Replacing tab theta (k * mostPlaces)
   pub most : k ≤ length ord
-  pub bounds : Bound tab bound (k * 4)
+  pub bounds : Bound tab bound (k * mostPlaces)
   pub remembers : Remembers ord into tab store
 
 -- a match of the literals from k on, beyond what is known; or no match at all has the words of theta on the mask; or the store has no rows
 pub record SolvePost (ord into tab theta store : List ℕ) (k bound : ℕ) (r : Answer) (theta′ store′ : List ℕ) : Type 0 where
-  pub found : r ≡ Found → (ar T : List ℕ) → Setting ar T ord into tab → Inside T (known tab theta (k * 4))
-      → matches ar (literalsIn (drop termEnd into)) T (segment ord k (length ord)) (known tab theta (k * 4)) ≡ true
+  pub found : r ≡ Found → (ar T : List ℕ) → Setting ar T ord into tab → Inside T (known tab theta (k * mostPlaces))
+      → matches ar (literalsIn (drop termEnd into)) T (segment ord k (length ord)) (known tab theta (k * mostPlaces)) ≡ true
   pub failed : (q : ℕ) → r ≡ Failed q → Nogood ord into tab q theta firstVariable
   pub within : (q : ℕ) → r ≡ Failed q → (i : ℕ) → In q i → In bound i
   pub weary : r ≡ Weary → length store < storeWords
-  pub kept : (v : ℕ) → v < termEnd → getD tab v 0 ≤ k * 4 → getD theta′ v 0 ≡ getD theta v 0
+  pub kept : (v : ℕ) → v < termEnd → getD tab v 0 ≤ k * mostPlaces → getD theta′ v 0 ≡ getD theta v 0
   pub remembers : Remembers ord into tab store′
 
 -- what the search of all literals starts from, and what it gives
 pub record Decidable (ord into tab theta : List ℕ) : Type 0 where
   pub tabled : Tabled ord tab (length ord)
+  pub ranged : AllInRange ord
   pub sorted : Sorted into
   pub replacing : Replacing tab theta 0
 

@@ -1,4 +1,4 @@
--- Paths as the search has them (document 01, section 'Cut'): literals as numbers, behind 64 marks, one for each term.
+-- Paths as the search has them (document 01, section 'Cut'): literals as numbers, behind marks, one for each term.
 use mathlib.Core.Path.{_≡_}
 use mathlib.Core.Bool.{Bool, true}
 use mathlib.Core.List.{List, List·Memᴰ}
@@ -7,11 +7,11 @@ use lib.ListN.{length, getD, take, drop}
 use Rattle.label.specs.Limits.{firstVariable, termEnd}
 use Rattle.label.specs.Labels.{areArities, isLabel, unpacked, termsOf}
 use Rattle.diagram.specs.Words.{rowCount, isListing}
-use Rattle.paths.specs.Paths.{Literal, Path, literals, termsIn}
+use Rattle.paths.specs.Paths.{mostPaths, Literal, Path, literals, termsIn}
 use Rattle.cutting.specs.Match.{start, matches}
 use Rattle.cutting.specs.Cut.{covers}
 use Rattle.cutting.specs.Searchable.{PathLabels}
-use Rattle.matcher.specs.Search.{literalsIn, Sorted, Setting}
+use Rattle.matcher.specs.Search.{AllInRange, literalsIn, Sorted, Setting}
 use Rattle.paths.specs.Routes.{Rows, Counted, At}
 
 -- table marks the terms of the literals
@@ -33,7 +33,7 @@ pub record Markable (ar marks : List ℕ) (x : ℕ) : Type 0 where
 pub record Unmarked (ar out : List ℕ) (n : ℕ) : Type 0 where
   pub arities : areArities ar ≡ true
   pub room : termEnd + n ≤ length out
-  pub few : n < 256
+  pub few : n < mostPaths
   pub clear : (t : ℕ) → t < termEnd → getD out t 0 ≡ 0
   pub labels : (j : ℕ) → j < n → isLabel ar (getD out (termEnd + j) 0 / 2) ≡ true
 
@@ -51,19 +51,21 @@ pub record Enterable (ar ws counts : List ℕ) (n k : ℕ) (out : List ℕ) : Ty
   pub rows : Rows ws n
   pub counted : Counted ws counts n
   pub path : At ws n (n - 1) k
-  pub room : 320 ≤ length out
+  pub room : termEnd + mostPaths ≤ length out
   pub clear : (t : ℕ) → t < termEnd → getD out t 0 ≡ 0
 
 -- the j literals of the path stand in order behind the marks of its terms
 pub record Stored (ar : List ℕ) (p : Path) (out : List ℕ) (j : ℕ) : Type 0 where
-  pub few : j < 256
+  pub few : j < mostPaths
   pub are : literalsIn (take j (drop termEnd out)) ≡ literals p
   pub sorted : Sorted (take (termEnd + j) out)
+  pub ranged : AllInRange (take j (drop termEnd out))
   pub marks : Marks ar (λ t. getD out t 0) (literals p)
 
 -- what a search of its own starts from: literals, those of the first path, room for the table, and terms that are no variables stay
 pub record Ready (ord into tab theta : List ℕ) : Type 0 where
-  pub few : length ord < 256
+  pub few : length ord < mostPaths
+  pub ranged : AllInRange ord
   pub sorted : Sorted into
   pub tab-room : termEnd + termEnd ≤ length tab
   pub theta-room : termEnd ≤ length theta
@@ -80,7 +82,8 @@ pub record BothStored (into : List ℕ) (a : ℕ) (from : List ℕ) (b : ℕ) : 
   pub into-room : termEnd + a ≤ length into
   pub sorted : Sorted (take (termEnd + a) into)
   pub from-room : termEnd + b ≤ length from
-  pub few : b < 256
+  pub ranged : AllInRange (take b (drop termEnd from))
+  pub few : b < mostPaths
 
 -- what the search answers of two stored paths
 pub record Answers (into : List ℕ) (a : ℕ) (from : List ℕ) (b : ℕ) (r : Bool) : Type 0 where

@@ -1,22 +1,26 @@
 // Whether one path covers another: a search for a replacement of variables, part by part.
 use label::Label;
 use label::Term;
+use label::Test;
+use paths::PATHS;
 ghost use mathlib.Core.Path.{_≡_};
-ghost use mathlib.Core.Bool.{true, false};
+ghost use mathlib.Core.Bool.{true, false, cond};
 ghost use Prim.Native.Nat.{ℕ, _+_, _-_, _*_, _/_, _%_, _<_, _≤_};
 ghost use lib.ListN.{length, getD};
-ghost use lib.Dec.{eqb};
-ghost use Rattle.label.specs.Limits.{termEnd, variableCount};
+ghost use lib.Dec.{eqb, ltb};
+ghost use Rattle.label.specs.Limits.{termEnd, variableCount, mostPlaces, equalityArity};
+ghost use Rattle.label.specs.Labels.{placeAt};
 ghost use Rattle.diagram.specs.Validity.{tree};
 ghost use Rattle.listing.specs.Used.{marked};
-ghost use Rattle.paths.specs.Paths.{paths};
+ghost use Rattle.paths.specs.Paths.{mostPaths};
 ghost use Rattle.cutting.specs.Cut.{covers};
 ghost use Rattle.matcher.specs.Covering.{Coverable};
-ghost use Rattle.matcher.specs.Parts.{isSeen, shares, Ranked, Best, Takable, Taken, Separable, PartTaken, PartsPost, kindOf, Kinds, WayPost, WaysPost};
+ghost use Rattle.matcher.specs.Parts.{isSeen, shares, Ranked, Best, Takable, Taken, Separable, PartTaken, PartsPost, kindCount, kindOf, Kinds, WayPost, WaysPost};
 ghost use Rattle.matcher.specs.Stored.{termsOfCode, Markable, Unmarked, Marking, Enterable, Stored, Ready, PartPost, BothStored, Answers};
-ghost use Rattle.paths.specs.Routes.{pathAt};
-ghost use Rattle.matcher.specs.Search.{fourOf, slotFits, slotAfter, Slots, BindPost, alike, plainWay, equalWay, wayAt, wayCount, TryPost, allKnown};
-ghost use Rattle.matcher.specs.Search.{Sorted, Finds, Images, Digits, Met, numberOf, termAt, Unplaced, Placing};
+ghost use Rattle.paths.specs.Routes.{pathAt, labelEnd};
+ghost use Rattle.matcher.specs.Search.{InRange, AllInRange, along, isEquality, turn, wayPlace, isNothing, late, slotFits, slotAfter, Slots, BindPost};
+ghost use Rattle.matcher.specs.Search.{alike, plainWay, equalWay, wayAt, wayCount, TryPost, allKnown, Sorted, Finds, Images, Met, imageLabel, termAt};
+ghost use Rattle.matcher.specs.Search.{Unplaced, Placing};
 ghost use Rattle.matcher.specs.Failure.{bitAt, In, One, Variables, Same, storeRows, storeWords, RecallPost, Copied, Rewritten, RememberPost};
 ghost use Rattle.matcher.specs.Failure.{isFound, isWeary, maskOf, HandedUp, Solving, SolvePost, Decidable, Decided};
 
@@ -25,31 +29,33 @@ const TERMS: usize = Term::END as usize;
 
 const FIRST_VARIABLE: usize = Term::FIRST_VARIABLE as usize;
 
-// What the predicate of a literal's number is multiplied by; below it are the equalities.
-const LITERAL_WEIGHT: u64 = Label::PREDICATE_WEIGHT * 2;
+const PLACES: usize = Label::PLACES as usize;
 
-// The words of a path: a mark for each term, and behind them at most 255 literals.
-const PATH_WORDS: usize = 320;
+// The words of a path: a mark for each term, and behind them its literals, fewer than there may be paths.
+const PATH_WORDS: usize = TERMS + PATHS;
 
 // The words of the table: for each term its first place, and behind them a mark for each term.
-const TABLE_WORDS: usize = 128;
+const TABLE_WORDS: usize = TERMS + TERMS;
 
 // The first place of a variable that has none yet: behind all places.
-const LATE: u32 = 2000;
+const LATE: u64 = PATHS as u64 * Label::PLACES;
+
+// A literal's kind is its predicate and sign.
+const KINDS: usize = Label::PREDICATES * 2;
 
 // The ranks of literals that share no seen variable begin here, and all ranks are below the second.
 const STRANGE: u64 = 100;
 
 const WORST: u64 = 200;
 
-const VARIABLES: usize = 32;
+const VARIABLES: usize = Term::VARIABLES as usize;
 
 // The store of failures: for each literal the last mask that it failed on, then rows of a flag, a mask and a word for each variable.
 const ROWS: usize = 256;
 
-const ROW_WORDS: usize = 34;
+const ROW_WORDS: usize = VARIABLES + 2;
 
-const STORE_WORDS: usize = 8960;
+const STORE_WORDS: usize = ROWS + ROWS * ROW_WORDS;
 
 // For so many failures no store is made.
 const FEW: u64 = 64;
@@ -67,102 +73,129 @@ enum Answer {
     Weary,
 }
 
-// What the four places of a literal may become.
+// What the places of a literal may become: those of a label, those of an equality's label turned round, a term twice, or nothing.
 enum Way {
-    Terms(u64, u64, u64, u64),
+    Straight(u64),
+    Turned(u64),
+    Twice(u64),
     Nothing,
 }
 
-// An entry of a table as a number.
-fn wide(x: u32) -> u64
-    ensures { λ r. ⌜ r ≡ x ⌝ }
-    ensures { λ r. ⌜ r < 4294967296 ⌝ }
+// Whether the literal x is an equality or its negation.
+fn is_equality(x: u64) -> bool
+    ensures { λ r. ⌜ r ≡ isEquality x ⌝ }
 {
-    x as u64
+    Label { packed: x / 2 }.predicate() == Label::EQUALITY
+}
+
+// Place k of two places turned round.
+fn turned(k: u64) -> u64
+    ensures { λ r. ⌜ r ≡ turn k ⌝ }
+{
+    if k == 0 {
+        return 1;
+    }
+    if k == 1 {
+        return 0;
+    }
+    k
+}
+
+// What place k becomes by the way.
+fn target(way: Way, k: u64) -> u64
+    requires { ⌜ k < mostPlaces ⌝ }
+    ensures { λ r. ⌜ r ≡ wayPlace way k ⌝ }
+{
+    match way {
+        Way::Straight(c) => Label { packed: c }.place(k),
+        Way::Turned(c) => Label { packed: c }.place(turned(k)),
+        Way::Twice(t) => twice(t, k),
+        Way::Nothing => 0,
+    }
+}
+
+// Place k of an equality of the term t and itself.
+fn twice(t: u64, k: u64) -> u64
+    ensures { λ r. ⌜ r ≡ cond (ltb k equalityArity) t 0 ⌝ }
+{
+    if k < Label::EQUALITY_ARITY {
+        return t;
+    }
+    0
+}
+
+// Whether the way is none.
+fn is_nothing(way: Way) -> bool
+    ensures { λ r. ⌜ r ≡ isNothing way ⌝ }
+{
+    match way {
+        Way::Straight(_) => false,
+        Way::Turned(_) => false,
+        Way::Twice(_) => false,
+        Way::Nothing => true,
+    }
 }
 
 // The term t, met at place m, is to become u: it is written where it comes first, else compared.
-fn place(tab: &[u32], theta: &mut [u64], m: u64, t: usize, u: u64) -> bool
+fn place(tab: &[u64], theta: &mut [u64], m: u64, t: usize, u: u64) -> bool
     requires { ⌜ t < length (now tab) ⌝ }
     requires { ⌜ t < length (now theta) ⌝ }
-    requires { ⌜ m < 4096 ⌝ }
+    requires { ⌜ m < late + mostPlaces ⌝ }
     ensures { λ r. ⌜ r ≡ slotFits (now (tab .entry)) (now (theta .entry)) m t u ⌝ }
     ensures { λ _. ⌜ now (theta .exit) ≡ slotAfter (now (tab .entry)) (now (theta .entry)) m t u ⌝ }
 {
-    if wide(tab[t]) == m + 1 {
+    if tab[t] == m + 1 {
         theta[t] = u;
         return true;
     }
     theta[t] == u
 }
 
-// The four places of the label l, from place m on, are to become a, b, c, d.
-fn bind(tab: &[u32], theta: &mut [u64], m: u64, l: u64, a: u64, b: u64, c: u64, d: u64) -> bool
+// The places of the label l, from place m on, are to go the way.
+fn bind(tab: &[u64], theta: &mut [u64], m: u64, l: u64, way: Way) -> bool
     requires { ⌜ Slots (now tab) m l ⌝ }
     requires { ⌜ termEnd ≤ length (now theta) ⌝ }
-    requires { ⌜ m + 4 < 4096 ⌝ }
-    ensures { λ r. ⌜ BindPost (now (tab .entry)) (now (theta .entry)) m l a b c d r (now (theta .exit)) ⌝ }
+    requires { ⌜ m < late ⌝ }
+    ensures { λ r. ⌜ BindPost (now (tab .entry)) (now (theta .entry)) m l way r (now (theta .exit)) ⌝ }
 {
-    if !place(
-        tab,
-        theta,
-        m,
-        (l / Label::FIRST_WEIGHT % Term::BASE) as usize,
-        a,
-    ) {
-        return false;
+    let mut k = 0;
+    while k < Label::PLACES {
+        let t = Label { packed: l }.place(k);
+        let u = target(way, k);
+        if !place(tab, theta, m + k, t as usize, u) {
+            return false;
+        }
+        k += 1;
     }
-    if !place(
-        tab,
-        theta,
-        m + 1,
-        (l / Label::SECOND_WEIGHT % Term::BASE) as usize,
-        b,
-    ) {
-        return false;
-    }
-    if !place(
-        tab,
-        theta,
-        m + 2,
-        (l / Label::THIRD_WEIGHT % Term::BASE) as usize,
-        c,
-    ) {
-        return false;
-    }
-    place(tab, theta, m + 3, (l % Term::BASE) as usize, d)
+    true
 }
 
 // Whether two literals have one predicate and one sign.
 fn alike(x: u64, y: u64) -> bool
     ensures { λ r. ⌜ r ≡ alike x y ⌝ }
 {
-    if x / LITERAL_WEIGHT != y / LITERAL_WEIGHT {
+    let p = Label { packed: x / 2 }.predicate();
+    let q = Label { packed: y / 2 }.predicate();
+    if p != q {
         return false;
     }
     x % 2 == y % 2
 }
 
 // Way j of the literal x of another predicate than equality.
-fn plain_way(into: &[u32], x: u64, j: usize) -> Way
+fn plain_way(into: &[u64], x: u64, j: usize) -> Way
     requires { ⌜ termEnd + j < length (now into) ⌝ }
     ensures { λ r. ⌜ r ≡ plainWay (now (into .entry)) x j ⌝ }
 {
-    let y = wide(into[TERMS + j]);
+    let y = into[TERMS + j];
     if !alike(x, y) {
         return Way::Nothing;
     }
-    let c = y / 2;
-    Way::Terms(
-        c / Label::FIRST_WEIGHT % Term::BASE,
-        c / Label::SECOND_WEIGHT % Term::BASE,
-        c / Label::THIRD_WEIGHT % Term::BASE,
-        c % Term::BASE,
-    )
+    Way::Straight(y / 2)
 }
 
 // Way j of an equality: literal j / 2, turned round for odd j; behind these t = t for each term.
-fn equal_way(into: &[u32], tab: &[u32], x: u64, j: usize) -> Way
+fn equal_way(into: &[u64], tab: &[u64], x: u64, j: usize) -> Way
     requires { ⌜ termEnd ≤ length (now into) ⌝ }
     requires { ⌜ termEnd + termEnd ≤ length (now tab) ⌝ }
     requires { ⌜ j < (length (now into) - termEnd) * 2 + termEnd ⌝ }
@@ -170,98 +203,88 @@ fn equal_way(into: &[u32], tab: &[u32], x: u64, j: usize) -> Way
 {
     let n = into.len() - TERMS;
     if j < n * 2 {
-        let y = wide(into[TERMS + j / 2]);
+        let y = into[TERMS + j / 2];
         if !alike(x, y) {
             return Way::Nothing;
         }
-        let c = y / 2;
         if j % 2 == 0 {
-            return Way::Terms(
-                c / Label::FIRST_WEIGHT % Term::BASE,
-                c / Label::SECOND_WEIGHT % Term::BASE,
-                c / Label::THIRD_WEIGHT % Term::BASE,
-                c % Term::BASE,
-            );
+            return Way::Straight(y / 2);
         }
-        return Way::Terms(
-            c / Label::SECOND_WEIGHT % Term::BASE,
-            c / Label::FIRST_WEIGHT % Term::BASE,
-            c / Label::THIRD_WEIGHT % Term::BASE,
-            c % Term::BASE,
-        );
+        return Way::Turned(y / 2);
     }
     let t = j - n * 2;
     if x % 2 != 1 {
         return Way::Nothing;
     }
-    if wide(into[t]) != 0 {
-        return Way::Terms(t as u64, t as u64, 0, 0);
+    if into[t] != 0 {
+        return Way::Twice(t as u64);
     }
-    if wide(tab[TERMS + t]) != 0 {
-        return Way::Terms(t as u64, t as u64, 0, 0);
+    if tab[TERMS + t] != 0 {
+        return Way::Twice(t as u64);
     }
     Way::Nothing
 }
 
 // Way j of the literal x.
-fn way_at(into: &[u32], tab: &[u32], x: u64, j: usize) -> Way
+fn way_at(into: &[u64], tab: &[u64], x: u64, j: usize) -> Way
     requires { ⌜ termEnd ≤ length (now into) ⌝ }
     requires { ⌜ termEnd + termEnd ≤ length (now tab) ⌝ }
     requires { ⌜ j < wayCount (now into) x ⌝ }
     ensures { λ r. ⌜ r ≡ wayAt (now (into .entry)) (now (tab .entry)) x j ⌝ }
 {
-    if x < LITERAL_WEIGHT {
+    if is_equality(x) {
         return equal_way(into, tab, x, j);
     }
     plain_way(into, x, j)
 }
 
 // How many ways there are for the literal x.
-fn way_count(into: &[u32], x: u64) -> usize
+fn way_count(into: &[u64], x: u64) -> usize
     requires { ⌜ termEnd ≤ length (now into) ⌝ }
     ensures { λ r. ⌜ r ≡ wayCount (now (into .entry)) x ⌝ }
 {
-    if x < LITERAL_WEIGHT {
+    if is_equality(x) {
         return (into.len() - TERMS) * 2 + TERMS;
     }
     into.len() - TERMS
 }
 
 // Tries way j for the literal x, whose places stand from m on.
-fn attempt(into: &[u32], tab: &[u32], theta: &mut [u64], m: u64, x: u64, j: usize) -> bool
+fn attempt(into: &[u64], tab: &[u64], theta: &mut [u64], m: u64, x: u64, j: usize) -> bool
     requires { ⌜ termEnd ≤ length (now into) ⌝ }
     requires { ⌜ termEnd + termEnd ≤ length (now tab) ⌝ }
     requires { ⌜ j < wayCount (now into) x ⌝ }
     requires { ⌜ Slots (now tab) m (x / 2) ⌝ }
     requires { ⌜ termEnd ≤ length (now theta) ⌝ }
-    requires { ⌜ m + 4 < 4096 ⌝ }
+    requires { ⌜ m < late ⌝ }
     ensures { λ r. ⌜ TryPost (now (tab .entry)) (now (theta .entry)) m x r (now (theta .exit)) (wayAt (now (into .entry)) (now (tab .entry)) x j) ⌝ }
 {
-    let Way::Terms(a, b, c, d) = way_at(into, tab, x, j) else {
+    let way = way_at(into, tab, x, j);
+    if is_nothing(way) {
         return false;
-    };
-    bind(tab, theta, m, x / 2, a, b, c, d)
+    }
+    bind(tab, theta, m, x / 2, way)
 }
 
 // Whether the terms of the label l are all known before place m.
-fn all_known(tab: &[u32], m: u64, l: u64) -> bool
+fn all_known(tab: &[u64], m: u64, l: u64) -> bool
     requires { ⌜ termEnd ≤ length (now tab) ⌝ }
+    requires { ⌜ InRange l ⌝ }
     ensures { λ r. ⌜ r ≡ allKnown (now (tab .entry)) m l ⌝ }
 {
-    if wide(tab[(l / Label::FIRST_WEIGHT % Term::BASE) as usize]) > m {
-        return false;
+    let mut k = 0;
+    while k < Label::PLACES {
+        let t = Label { packed: l }.place(k);
+        if tab[t as usize] > m {
+            return false;
+        }
+        k += 1;
     }
-    if wide(tab[(l / Label::SECOND_WEIGHT % Term::BASE) as usize]) > m {
-        return false;
-    }
-    if wide(tab[(l / Label::THIRD_WEIGHT % Term::BASE) as usize]) > m {
-        return false;
-    }
-    wide(tab[(l % Term::BASE) as usize]) <= m
+    true
 }
 
-// Whether y is one of the literals in order behind the first 64 entries.
-fn find(into: &[u32], y: u64) -> bool
+// Whether y is one of the literals in order behind the marks.
+fn find(into: &[u64], y: u64) -> bool
     requires { ⌜ Sorted (now into) ⌝ }
     ensures { λ r. ⌜ Finds (now (into .entry)) y r ⌝ }
 {
@@ -269,7 +292,7 @@ fn find(into: &[u32], y: u64) -> bool
     let mut high = into.len();
     while low < high {
         let mid = low + (high - low) / 2;
-        let x = wide(into[mid]);
+        let x = into[mid];
         if x == y {
             return true;
         }
@@ -283,40 +306,35 @@ fn find(into: &[u32], y: u64) -> bool
 }
 
 // Whether the literal x, all of whose terms are known, becomes one of the literals or t = t true.
-fn is_met(into: &[u32], theta: &[u64], x: u64) -> bool
+fn is_met(into: &[u64], theta: &[u64], x: u64) -> bool
     requires { ⌜ Sorted (now into) ⌝ }
-    requires { ⌜ Images (now theta) x ⌝ }
+    requires { ⌜ Images (now theta) (x / 2) ⌝ }
     ensures { λ r. ⌜ Met (now (into .entry)) (now (theta .entry)) x r ⌝ }
 {
-    let l = x / 2;
-    let a = theta[(l / Label::FIRST_WEIGHT % Term::BASE) as usize];
-    let b = theta[(l / Label::SECOND_WEIGHT % Term::BASE) as usize];
-    if x >= LITERAL_WEIGHT {
-        let c = theta[(l / Label::THIRD_WEIGHT % Term::BASE) as usize];
-        let d = theta[(l % Term::BASE) as usize];
-        return find(into, number(x / LITERAL_WEIGHT, a, b, c, d, x % 2));
+    if !is_equality(x) {
+        return find(into, image(theta, x / 2) * 2 + x % 2);
     }
-    if a == b {
+    let t = Label { packed: x / 2 }.place(0);
+    let u = Label { packed: x / 2 }.place(1);
+    let Test::Is(l) = label::equate(theta[t as usize], theta[u as usize]) else {
         return x % 2 == 1;
-    }
-    if a < b {
-        return find(into, number(0, a, b, 0, 0, x % 2));
-    }
-    find(into, number(0, b, a, 0, 0, x % 2))
+    };
+    find(into, l.packed * 2 + x % 2)
 }
 
-// The number of a literal.
-fn number(p: u64, a: u64, b: u64, c: u64, d: u64, s: u64) -> u64
-    requires { ⌜ Digits p a b c d s ⌝ }
-    ensures { λ r. ⌜ r ≡ numberOf p a b c d s ⌝ }
+// The label that l becomes under theta, with its places in their order.
+fn image(theta: &[u64], l: u64) -> u64
+    requires { ⌜ Images (now theta) l ⌝ }
+    ensures { λ r. ⌜ (r ≡ imageLabel (now (theta .entry)) l) × (r < labelEnd) ⌝ }
 {
-    (p * Label::PREDICATE_WEIGHT
-        + a * Label::FIRST_WEIGHT
-        + b * Label::SECOND_WEIGHT
-        + c * Label::THIRD_WEIGHT
-        + d)
-        * 2
-        + s
+    let mut n = Label { packed: l }.predicate();
+    let mut k = 0;
+    while k < Label::PLACES {
+        let t = Label { packed: l }.place(k);
+        n = n * Term::BASE + theta[t as usize];
+        k += 1;
+    }
+    n
 }
 
 // The variable t alone as a set; a term that is no variable is in no set.
@@ -347,13 +365,16 @@ fn part_of(a: u64, b: u64) -> bool
 
 // The variables of the label l.
 fn variables_of(l: u64) -> u64
-    ensures { λ r. ⌜ Variables l r ⌝ }
+    requires { ⌜ InRange l ⌝ }
+    ensures { λ r. ⌜ Variables l mostPlaces r ⌝ }
 {
-    let a = one((l / Label::FIRST_WEIGHT % Term::BASE) as usize);
-    let b = one((l / Label::SECOND_WEIGHT % Term::BASE) as usize);
-    let c = one((l / Label::THIRD_WEIGHT % Term::BASE) as usize);
-    let d = one((l % Term::BASE) as usize);
-    a | b | c | d
+    let mut mask = 0;
+    let mut k = 0;
+    while k < Label::PLACES {
+        mask = mask | one(Label { packed: l }.place(k) as usize);
+        k += 1;
+    }
+    mask
 }
 
 // The row for a failure of literal k on the mask. Nothing but time depends on it.
@@ -523,9 +544,9 @@ fn is_handed_up(answer: Answer, bound: u64) -> bool
 // Whether a replacement beyond theta takes the literals from k on to those of the first path, or to t = t true. Tries each literal in turn, and
 // goes back when one has no match: past all literals that the failure does not depend on. The variables of `bound` are known.
 fn solve(
-    ord: &[u32],
-    into: &[u32],
-    tab: &[u32],
+    ord: &[u64],
+    into: &[u64],
+    tab: &[u64],
     theta: &mut [u64],
     store: &mut [u64],
     k: usize,
@@ -537,8 +558,8 @@ fn solve(
     if k == ord.len() {
         return Answer::Found;
     }
-    let x = wide(ord[k]);
-    if all_known(tab, (k * 4) as u64, x / 2) {
+    let x = ord[k];
+    if all_known(tab, k as u64 * Label::PLACES, x / 2) {
         if !is_met(into, theta, x) {
             return Answer::Failed(variables_of(x / 2));
         }
@@ -553,7 +574,7 @@ fn solve(
     let mut mask = vars & bound;
     let mut j = 0;
     while j < total {
-        if attempt(into, tab, theta, (k * 4) as u64, x, j) {
+        if attempt(into, tab, theta, k as u64 * Label::PLACES, x, j) {
             let answer = solve(ord, into, tab, theta, store, k + 1, bound | vars);
             if is_handed_up(answer, bound) {
                 return answer;
@@ -569,7 +590,7 @@ fn solve(
 }
 
 // The search with a store of failures.
-fn search_long(ord: &[u32], into: &[u32], tab: &[u32], theta: &mut [u64]) -> bool
+fn search_long(ord: &[u64], into: &[u64], tab: &[u64], theta: &mut [u64]) -> bool
     requires { ⌜ Decidable (now ord) (now into) (now tab) (now theta) ⌝ }
     ensures { λ r. ⌜ Decided (now (ord .entry)) (now (into .entry)) (now (tab .entry)) r (now (theta .exit)) ⌝ }
 {
@@ -579,7 +600,7 @@ fn search_long(ord: &[u32], into: &[u32], tab: &[u32], theta: &mut [u64]) -> boo
 }
 
 // The search without one, as long as few levels fail; else with one.
-fn decide(ord: &[u32], into: &[u32], tab: &[u32], theta: &mut [u64]) -> bool
+fn decide(ord: &[u64], into: &[u64], tab: &[u64], theta: &mut [u64]) -> bool
     requires { ⌜ Decidable (now ord) (now into) (now tab) (now theta) ⌝ }
     ensures { λ r. ⌜ Decided (now (ord .entry)) (now (into .entry)) (now (tab .entry)) r (now (theta .exit)) ⌝ }
 {
@@ -591,37 +612,29 @@ fn decide(ord: &[u32], into: &[u32], tab: &[u32], theta: &mut [u64]) -> bool
     is_found(answer)
 }
 
-// Place m of literals one after the other, four to a literal.
-fn term_at(ord: &[u32], m: usize) -> usize
-    requires { ⌜ m < length (now ord) * 4 ⌝ }
+// Place m of literals one after the other, as many places to each as a label has.
+fn term_at(ord: &[u64], m: usize) -> usize
+    requires { ⌜ m < length (now ord) * mostPlaces ⌝ }
+    requires { ⌜ AllInRange (now ord) ⌝ }
     ensures { λ r. ⌜ (r ≡ termAt (now (ord .entry)) m) × (r < termEnd) ⌝ }
 {
-    let l = wide(ord[m / 4]) / 2;
-    let j = m % 4;
-    if j == 0 {
-        return (l / Label::FIRST_WEIGHT % Term::BASE) as usize;
-    }
-    if j == 1 {
-        return (l / Label::SECOND_WEIGHT % Term::BASE) as usize;
-    }
-    if j == 2 {
-        return (l / Label::THIRD_WEIGHT % Term::BASE) as usize;
-    }
-    (l % Term::BASE) as usize
+    let x = ord[m / PLACES];
+    Label { packed: x / 2 }.place((m % PLACES) as u64) as usize
 }
 
 // Writes the places, counted from 1, where the terms of the first n literals come first.
-fn first_places(ord: &[u32], n: usize, tab: &mut [u32])
+fn first_places(ord: &[u64], n: usize, tab: &mut [u64])
     requires { ⌜ n ≤ length (now ord) ⌝ }
-    requires { ⌜ n < 256 ⌝ }
+    requires { ⌜ n < mostPaths ⌝ }
+    requires { ⌜ AllInRange (now ord) ⌝ }
     requires { ⌜ Unplaced (now tab) ⌝ }
-    ensures { λ _. ⌜ Placing (now (ord .entry)) (now (tab .entry)) (now (tab .exit)) (n * 4) ⌝ }
+    ensures { λ _. ⌜ Placing (now (ord .entry)) (now (tab .entry)) (now (tab .exit)) (n * mostPlaces) ⌝ }
 {
     let mut m = 0;
-    while m < n * 4 {
+    while m < n * PLACES {
         let t = term_at(ord, m);
-        if wide(tab[t]) > (m + 1) as u64 {
-            tab[t] = (m + 1) as u32;
+        if tab[t] > m as u64 + 1 {
+            tab[t] = m as u64 + 1;
             m += 1;
         } else {
             m += 1;
@@ -629,39 +642,38 @@ fn first_places(ord: &[u32], n: usize, tab: &mut [u32])
     }
 }
 
+// Marks the terms in the first n places of the label l.
+fn mark_places(marks: &mut [u64], l: u64, n: u64)
+    requires { ⌜ termEnd ≤ length (now marks) ⌝ }
+    requires { ⌜ InRange l ⌝ }
+    requires { ⌜ n ≤ mostPlaces ⌝ }
+    ensures { λ _. ⌜ now (marks .exit) ≡ marked (along (placeAt l) n) (now (marks .entry)) ⌝ }
+{
+    let mut k = 0;
+    while k < n {
+        let t = Label { packed: l }.place(k);
+        marks[t as usize] = 1;
+        k += 1;
+    }
+}
+
 // Marks the terms of the literal x.
-fn mark_literal(arities: &[u64], marks: &mut [u32], x: u64)
+fn mark_literal(arities: &[u64], marks: &mut [u64], x: u64)
     requires { ⌜ Markable (now arities) (now marks) x ⌝ }
     ensures { λ _. ⌜ now (marks .exit) ≡ marked (termsOfCode (now (arities .entry)) x) (now (marks .entry)) ⌝ }
 {
-    let l = x / 2;
-    let n = arities[(l / Label::PREDICATE_WEIGHT) as usize];
-    if n == 0 {
-        return;
-    }
-    marks[(l / Label::FIRST_WEIGHT % Term::BASE) as usize] = 1;
-    if n == 1 {
-        return;
-    }
-    marks[(l / Label::SECOND_WEIGHT % Term::BASE) as usize] = 1;
-    if n == 2 {
-        return;
-    }
-    marks[(l / Label::THIRD_WEIGHT % Term::BASE) as usize] = 1;
-    if n == 3 {
-        return;
-    }
-    marks[(l % Term::BASE) as usize] = 1;
+    let p = Label { packed: x / 2 }.predicate();
+    mark_places(marks, x / 2, arities[p as usize]);
 }
 
 // Marks the terms of the n literals behind the marks.
-fn mark_path(arities: &[u64], out: &mut [u32], n: usize)
+fn mark_path(arities: &[u64], out: &mut [u64], n: usize)
     requires { ⌜ Unmarked (now arities) (now out) n ⌝ }
     ensures { λ _. ⌜ Marking (now (arities .entry)) (now (out .entry)) (now (out .exit)) n ⌝ }
 {
     let mut i = 0;
     while i < n {
-        let x = wide(out[TERMS + i]);
+        let x = out[TERMS + i];
         mark_literal(arities, out, x);
         i += 1;
     }
@@ -674,7 +686,7 @@ fn enter_path(
     counts: &[u64],
     n: usize,
     k: u64,
-    out: &mut [u32],
+    out: &mut [u64],
 ) -> usize
     requires { ⌜ Enterable (now arities) (now words) (now counts) n k (now out) ⌝ }
     ensures { λ j. ⌜ Stored (now (arities .entry)) (pathAt (tree (now (words .entry)) (n - 1)) k) (now (out .exit)) j ⌝ }
@@ -684,8 +696,8 @@ fn enter_path(
     j
 }
 
-// Copies the marks of 64 terms behind the table.
-fn copy_marks(marks: &[u32], tab: &mut [u32])
+// Copies the marks of the terms behind the table.
+fn copy_marks(marks: &[u64], tab: &mut [u64])
     requires { ⌜ termEnd ≤ length (now marks) ⌝ }
     requires { ⌜ termEnd + termEnd ≤ length (now tab) ⌝ }
     ensures { λ _. ⌜ ((t : ℕ) → t < termEnd → getD (now (tab .exit)) (termEnd + t) 0 ≡ getD (now (marks .entry)) t 0) ⌝ }
@@ -710,7 +722,7 @@ fn keep_terms(theta: &mut [u64])
 }
 
 // No variable has a place yet.
-fn unplace(tab: &mut [u32])
+fn unplace(tab: &mut [u64])
     requires { ⌜ termEnd + termEnd ≤ length (now tab) ⌝ }
     ensures { λ _. ⌜ Unplaced (now (tab .exit)) ⌝ }
     ensures { λ _. ⌜ ((v : ℕ) → termEnd ≤ v → getD (now (tab .exit)) v 0 ≡ getD (now (tab .entry)) v 0) ⌝ }
@@ -724,7 +736,7 @@ fn unplace(tab: &mut [u32])
 }
 
 // Whether a replacement takes the literals of ord to those of the first path, or to t = t true.
-fn match_part(ord: &[u32], into: &[u32], tab: &mut [u32], theta: &mut [u64]) -> bool
+fn match_part(ord: &[u64], into: &[u64], tab: &mut [u64], theta: &mut [u64]) -> bool
     requires { ⌜ Ready (now ord) (now into) (now tab) (now theta) ⌝ }
     ensures { λ r. ⌜ PartPost (now (ord .entry)) (now (into .entry)) (now (tab .entry)) r (now (tab .exit)) (now (theta .exit)) ⌝ }
 {
@@ -740,65 +752,68 @@ struct Pick {
 }
 
 // Whether the term t is a variable that was seen.
-fn is_seen(seen: &[u32], t: usize) -> bool
+fn is_seen(seen: &[u64], t: usize) -> bool
     requires { ⌜ t < length (now seen) ⌝ }
     ensures { λ r. ⌜ r ≡ isSeen (now (seen .entry)) t ⌝ }
 {
     if t < FIRST_VARIABLE {
         return false;
     }
-    wide(seen[t]) > 0
+    seen[t] > 0
 }
 
 // Whether the literal x has a variable that was seen.
-fn shares(seen: &[u32], x: u64) -> bool
+fn shares(seen: &[u64], x: u64) -> bool
     requires { ⌜ termEnd ≤ length (now seen) ⌝ }
+    requires { ⌜ InRange (x / 2) ⌝ }
     ensures { λ r. ⌜ r ≡ shares (now (seen .entry)) x ⌝ }
 {
-    let l = x / 2;
-    if is_seen(seen, (l / Label::FIRST_WEIGHT % Term::BASE) as usize) {
-        return true;
+    let mut k = 0;
+    while k < Label::PLACES {
+        let t = Label { packed: x / 2 }.place(k);
+        if is_seen(seen, t as usize) {
+            return true;
+        }
+        k += 1;
     }
-    if is_seen(seen, (l / Label::SECOND_WEIGHT % Term::BASE) as usize) {
-        return true;
-    }
-    if is_seen(seen, (l / Label::THIRD_WEIGHT % Term::BASE) as usize) {
-        return true;
-    }
-    is_seen(seen, (l % Term::BASE) as usize)
+    false
 }
 
 // 1 if the term t is a variable that was not seen, else 0.
-fn is_new(seen: &[u32], t: usize) -> u64
+fn is_new(seen: &[u64], t: usize) -> u64
     requires { ⌜ t < length (now seen) ⌝ }
     ensures { λ r. ⌜ r ≤ 1 ⌝ }
 {
     if t < FIRST_VARIABLE {
         return 0;
     }
-    if wide(seen[t]) > 0 {
+    if seen[t] > 0 {
         return 0;
     }
     1
 }
 
 // How many places of the literal x have variables that were not seen.
-fn new_places(seen: &[u32], x: u64) -> u64
+fn new_places(seen: &[u64], x: u64) -> u64
     requires { ⌜ termEnd ≤ length (now seen) ⌝ }
-    ensures { λ r. ⌜ r ≤ 4 ⌝ }
+    requires { ⌜ InRange (x / 2) ⌝ }
+    ensures { λ r. ⌜ r ≤ mostPlaces ⌝ }
 {
-    let l = x / 2;
-    let a = is_new(seen, (l / Label::FIRST_WEIGHT % Term::BASE) as usize);
-    let b = is_new(seen, (l / Label::SECOND_WEIGHT % Term::BASE) as usize);
-    let c = is_new(seen, (l / Label::THIRD_WEIGHT % Term::BASE) as usize);
-    let d = is_new(seen, (l % Term::BASE) as usize);
-    a + b + c + d
+    let mut n = 0;
+    let mut k = 0;
+    while k < Label::PLACES {
+        let t = Label { packed: x / 2 }.place(k);
+        n = n + is_new(seen, t as usize);
+        k += 1;
+    }
+    n
 }
 
 // The rank of the literal x: without a new variable it comes at once. Fewer new variables come first, equalities behind others, and behind all the
 // literals that share no variable.
-fn rank(seen: &[u32], x: u64) -> u64
+fn rank(seen: &[u64], x: u64) -> u64
     requires { ⌜ termEnd ≤ length (now seen) ⌝ }
+    requires { ⌜ InRange (x / 2) ⌝ }
     ensures { λ r. ⌜ Ranked (now (seen .entry)) x r ⌝ }
 {
     let n = new_places(seen, x) * 2;
@@ -808,23 +823,24 @@ fn rank(seen: &[u32], x: u64) -> u64
     if !shares(seen, x) {
         return STRANGE + n;
     }
-    if x < LITERAL_WEIGHT {
+    if is_equality(x) {
         return n + 1;
     }
     n
 }
 
 // The literal of lowest rank from k on.
-fn best(ord: &[u32], seen: &[u32], k: usize) -> Pick
+fn best(ord: &[u64], seen: &[u64], k: usize) -> Pick
     requires { ⌜ k < length (now ord) ⌝ }
     requires { ⌜ termEnd ≤ length (now seen) ⌝ }
+    requires { ⌜ AllInRange (now ord) ⌝ }
     ensures { λ r. ⌜ Best (now (ord .entry)) (now (seen .entry)) k r ⌝ }
 {
     let mut i = k;
     let mut at = k;
     let mut low = WORST;
     while i < ord.len() {
-        let r = rank(seen, wide(ord[i]));
+        let r = rank(seen, ord[i]);
         if r == 0 {
             return Pick { at: i, rank: 0 };
         }
@@ -839,32 +855,20 @@ fn best(ord: &[u32], seen: &[u32], k: usize) -> Pick
     Pick { at: at, rank: low }
 }
 
-// The terms of the literal x are seen.
-fn see(seen: &mut [u32], x: u64)
-    requires { ⌜ termEnd ≤ length (now seen) ⌝ }
-    ensures { λ _. ⌜ now (seen .exit) ≡ marked (fourOf (x / 2)) (now (seen .entry)) ⌝ }
-{
-    let l = x / 2;
-    seen[(l / Label::FIRST_WEIGHT % Term::BASE) as usize] = 1;
-    seen[(l / Label::SECOND_WEIGHT % Term::BASE) as usize] = 1;
-    seen[(l / Label::THIRD_WEIGHT % Term::BASE) as usize] = 1;
-    seen[(l % Term::BASE) as usize] = 1;
-}
-
 // Takes the literal `at` as the one at place k; that one goes to its place.
-fn take_literal(ord: &mut [u32], seen: &mut [u32], k: usize, at: usize)
+fn take_literal(ord: &mut [u64], seen: &mut [u64], k: usize, at: usize)
     requires { ⌜ Takable (now ord) (now seen) k at ⌝ }
     ensures { λ _. ⌜ Taken (now (ord .entry)) k (now (ord .exit)) (now (seen .exit)) ⌝ }
 {
     let x = ord[at];
     ord[at] = ord[k];
     ord[k] = x;
-    see(seen, wide(x));
+    mark_places(seen, x / 2, Label::PLACES);
 }
 
 // Puts a part at place k: literals, one after the other, that share a variable with one before or have no new one. Answers where it ends; what is
 // behind it shares none.
-fn next_part(ord: &mut [u32], seen: &mut [u32], k: usize) -> usize
+fn next_part(ord: &mut [u64], seen: &mut [u64], k: usize) -> usize
     requires { ⌜ Separable (now ord) (now seen) k ⌝ }
     ensures { λ e. ⌜ PartTaken (now (ord .entry)) k e (now (ord .exit)) (now (seen .exit)) ⌝ }
 {
@@ -883,11 +887,11 @@ fn next_part(ord: &mut [u32], seen: &mut [u32], k: usize) -> usize
 }
 
 // Whether a replacement takes the literals of ord to those of the first path, or to t = t true: each part is searched by itself.
-fn search_parts(ord: &mut [u32], into: &[u32], tab: &mut [u32], theta: &mut [u64]) -> bool
+fn search_parts(ord: &mut [u64], into: &[u64], tab: &mut [u64], theta: &mut [u64]) -> bool
     requires { ⌜ Ready (now ord) (now into) (now tab) (now theta) ⌝ }
     ensures { λ r. ⌜ PartsPost (now (ord .entry)) (now (into .entry)) (now (tab .entry)) r ⌝ }
 {
-    let mut seen = [0u32; TERMS];
+    let mut seen = [0u64; TERMS];
     let mut k = 0;
     while k < ord.len() {
         let e = next_part(ord, &mut seen, k);
@@ -901,9 +905,9 @@ fn search_parts(ord: &mut [u32], into: &[u32], tab: &mut [u32], theta: &mut [u64
 
 // Whether the literal x is an equality that is true.
 fn is_equal(x: u64) -> bool
-    ensures { λ r. ⌜ (r ≡ false → x < 33554432 → x % 2 ≡ 1 → ⊥) ⌝ }
+    ensures { λ r. ⌜ (r ≡ false → isEquality x ≡ true → x % 2 ≡ 1 → ⊥) ⌝ }
 {
-    if x >= LITERAL_WEIGHT {
+    if !is_equality(x) {
         return false;
     }
     x % 2 == 1
@@ -913,18 +917,18 @@ fn is_equal(x: u64) -> bool
 fn kind(x: u64) -> usize
     ensures { λ r. ⌜ r ≡ kindOf x ⌝ }
 {
-    (x / LITERAL_WEIGHT * 2 + x % 2) as usize
+    (Label { packed: x / 2 }.predicate() * 2 + x % 2) as usize
 }
 
 // Marks the kinds of the literals of the first path.
-fn mark_kinds(into: &[u32], kinds: &mut [u32])
-    requires { ⌜ termEnd ≤ length (now kinds) ⌝ }
+fn mark_kinds(into: &[u64], kinds: &mut [u64])
+    requires { ⌜ kindCount ≤ length (now kinds) ⌝ }
     ensures { λ _. ⌜ Kinds (now (into .entry)) (now (kinds .exit)) (length (now (into .entry))) ⌝ }
 {
     let mut j = TERMS;
     while j < into.len() {
-        let k = kind(wide(into[j]));
-        if k < TERMS {
+        let k = kind(into[j]);
+        if k < KINDS {
             kinds[k] = 1;
             j += 1;
         } else {
@@ -934,29 +938,29 @@ fn mark_kinds(into: &[u32], kinds: &mut [u32])
 }
 
 // Whether the literal x has a way: one of the first path has its kind, or it may become t = t.
-fn has_way(kinds: &[u32], x: u64) -> bool
-    requires { ⌜ termEnd ≤ length (now kinds) ⌝ }
+fn has_way(kinds: &[u64], x: u64) -> bool
+    requires { ⌜ kindCount ≤ length (now kinds) ⌝ }
     ensures { λ r. ⌜ WayPost (now (kinds .entry)) x r ⌝ }
 {
     if is_equal(x) {
         return true;
     }
     let k = kind(x);
-    if k >= TERMS {
+    if k >= KINDS {
         return true;
     }
-    wide(kinds[k]) > 0
+    kinds[k] > 0
 }
 
 // Whether each literal of ord has a way.
-fn have_ways(ord: &[u32], into: &[u32]) -> bool
+fn have_ways(ord: &[u64], into: &[u64]) -> bool
     ensures { λ r. ⌜ WaysPost (now (ord .entry)) (now (into .entry)) r ⌝ }
 {
-    let mut kinds = [0u32; TERMS];
+    let mut kinds = [0u64; KINDS];
     mark_kinds(into, &mut kinds);
     let mut i = 0;
     while i < ord.len() {
-        if !has_way(&kinds, wide(ord[i])) {
+        if !has_way(&kinds, ord[i]) {
             return false;
         }
         i += 1;
@@ -965,7 +969,7 @@ fn have_ways(ord: &[u32], into: &[u32]) -> bool
 }
 
 // The same, after a quick look whether each literal has a way at all.
-fn match_parts(ord: &mut [u32], into: &[u32], tab: &mut [u32], theta: &mut [u64]) -> bool
+fn match_parts(ord: &mut [u64], into: &[u64], tab: &mut [u64], theta: &mut [u64]) -> bool
     requires { ⌜ Ready (now ord) (now into) (now tab) (now theta) ⌝ }
     ensures { λ r. ⌜ PartsPost (now (ord .entry)) (now (into .entry)) (now (tab .entry)) r ⌝ }
 {
@@ -976,11 +980,11 @@ fn match_parts(ord: &mut [u32], into: &[u32], tab: &mut [u32], theta: &mut [u64]
 }
 
 // Whether a replacement takes the b literals behind the marks of `from` to the a literals behind those of `into`, or to t = t true.
-fn search(into: &[u32], a: usize, from: &mut [u32], b: usize) -> bool
+fn search(into: &[u64], a: usize, from: &mut [u64], b: usize) -> bool
     requires { ⌜ BothStored (now into) a (now from) b ⌝ }
     ensures { λ r. ⌜ Answers (now (into .entry)) a (now (from .entry)) b r ⌝ }
 {
-    let mut tab = [0u32; TABLE_WORDS];
+    let mut tab = [0u64; TABLE_WORDS];
     let mut theta = [0u64; TERMS];
     copy_marks(from, &mut tab);
     keep_terms(&mut theta);
@@ -997,8 +1001,8 @@ pub fn covers(arities: &[u64], words: &[u64], counts: &[u64], n: usize, p: u64, 
     requires { ⌜ Coverable (now arities) (now words) (now counts) n p q ⌝ }
     ensures { λ r. ⌜ r ≡ covers (now (arities .entry)) (pathAt (tree (now (words .entry)) (n - 1)) p) (pathAt (tree (now (words .entry)) (n - 1)) q) ⌝ }
 {
-    let mut into = [0u32; PATH_WORDS];
-    let mut from = [0u32; PATH_WORDS];
+    let mut into = [0u64; PATH_WORDS];
+    let mut from = [0u64; PATH_WORDS];
     let a = enter_path(arities, words, counts, n, p, &mut into);
     let b = enter_path(arities, words, counts, n, q, &mut from);
     search(&into, a, &mut from, b)

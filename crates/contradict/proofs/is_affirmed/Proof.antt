@@ -1,3 +1,4 @@
+use mathlib.Core.Path.{refl}
 use native.Mathlib.Omega.{arith}
 use Prim.Native.Nat.{_-_}
 use lib.ListN.{length}
@@ -19,22 +20,22 @@ loop-holds c = from-start _ _
 
 affirms-requires : tie.Need-affirms-requires Inv-loop μ-loop
 affirms-requires c κs =
-    let at-loop-test = c .before .before in
+    let at-loop-test = c .before in
     let entry = at-loop-test .before .before .before .before .before in
-    literal-movable (entry .pre) (at-loop-test .loop-test .taken) (c .wide .ensures)
+    literal-movable (entry .pre) (at-loop-test .loop-test .taken) refl
 
 returns : tie.Need-returns Inv-loop μ-loop
 returns c =
-    let at-loop-test = c .before .before .before .before in
-    from-hit _ _ (at-loop-test .before .loop .inv) (at-loop-test .loop-test .taken) (c .before .affirms .ensures) (c .before .before .wide .ensures) (c .if1 .taken)
+    let at-loop-test = c .before .before .before in
+    from-hit _ _ (at-loop-test .before .loop .inv) (at-loop-test .loop-test .taken) (c .before .affirms .ensures) refl (c .if1 .taken)
 
 loop-less : tie.Need-loop-less Inv-loop μ-loop
-loop-less c = omega (arith, c .before .before .before .before .loop-test .taken)
+loop-less c = omega (arith, c .before .before .before .loop-test .taken)
 
 loop-again : tie.Need-loop-again Inv-loop μ-loop
 loop-again c =
-    let at-loop-test = c .before .before .before .before in
-    from-next _ _ (at-loop-test .before .loop .inv) (at-loop-test .loop-test .taken) (c .before .affirms .ensures) (c .before .before .wide .ensures) (c .if1 .left)
+    let at-loop-test = c .before .before .before in
+    from-next _ _ (at-loop-test .before .loop .inv) (at-loop-test .loop-test .taken) (c .before .affirms .ensures) refl (c .if1 .left)
 
 returns-2 : tie.Need-returns-2 Inv-loop μ-loop
 returns-2 c = from-end _ _ (c .before .loop .inv) (c .loop-test .left)
@@ -42,4 +43,4 @@ returns-2 c = from-end _ _ (c .before .loop .inv) (c .loop-test .left)
 pub is-affirmed-spec : {M : Type 1} → statement M
 is-affirmed-spec =
     tie.close
-    (tie.spec Inv-loop μ-loop loop-holds (λ c. search needs) (λ c. search needs) (λ c κs. search needs) affirms-requires returns (λ c. search needs) loop-less loop-again returns-2)
+    (tie.spec Inv-loop μ-loop loop-holds (λ c. search needs) (λ c. search needs) affirms-requires returns (λ c. search needs) loop-less loop-again returns-2)

@@ -1,4 +1,4 @@
-use mathlib.Core.Path.{_∙_}
+use mathlib.Core.Path.{refl, _∙_}
 use mathlib.Core.List.{[]}
 use native.Mathlib.Omega.{arith}
 use borrow.Author.Needs.{needs}
@@ -37,7 +37,6 @@ use Rattle.matcher.proofs.recall.Reads as recall-reads
 use Rattle.matcher.proofs.remember.Reads as remember-reads
 use Rattle.matcher.proofs.variables_of.Reads as variables-of-reads
 use Rattle.matcher.proofs.way_count.Reads as way-count-reads
-use Rattle.matcher.proofs.wide.Reads as wide-reads
 use Rattle.matcher.proofs.+solve.{statement}
 use Rattle.matcher.proofs.+solve.Tie.{close}
 
@@ -60,8 +59,6 @@ solve-μ-loop ord into tab theta₀ store₀ k bound x vars total mask₀ j₀ t
 pub +solve-spec : {M : Type 1} → statement M
 +solve-spec =
     close μ-solve λ t. solve-lts.spec (
-      wide-reads.Asked,
-      wide-reads.Learnt,
       all-known-reads.Asked,
       all-known-reads.Learnt,
       is-met-reads.Asked,
@@ -90,52 +87,50 @@ pub +solve-spec : {M : Type 1} → statement M
     (λ c. let if1 = c .if1 in
     let solving = c .before .before .before .before .before .before .pre .1 in
     solve-end (if1 .taken) solving)
-    -- mul-wide
+    -- mul-x
     (λ c. let solving = c .before .before .before .before .before .before .pre .1 in
     omega (arith, solving .tabled .few, solving .most))
-    -- shared-slice-read-wide
+    -- shared-slice-read-x
     (λ c. let if1 = c .before .if1 in
     let solving = c .before .before .before .before .before .before .before .pre .1 in
     omega (arith, solving .most, if1 .left))
-    (λ c κs. search needs)
     -- mul-all-known
-    (λ c. let solving = c .before .before .before .before .before .before .before .before .pre .1 in
+    (λ c. let solving = c .before .before .before .before .before .before .before .pre .1 in
     omega (arith, solving .tabled .few, solving .most))
     -- all-known-requires
-    (λ c κs. let solving = c .before .before .before .before .before .before .before .before .pre .1 in
-    omega (arith, solving .tabled .tab-room))
+    (λ c κs. let if1 = c .before .if1 in
+    let solving = c .before .before .before .before .before .before .before .pre .1 in
+    (omega (arith, solving .tabled .tab-room), (solving .ranged .each _ (omega (arith, solving .most, if1 .left)))))
     -- is-met-requires
     (λ c κs. let if2 = c .before .if2 in
     let all-known = c .before .before .all-known in
-    let wide = c .before .before .before .wide in
-    let if1 = c .before .before .before .before .before .if1 in
-    let solving = c .before .before .before .before .before .before .before .before .before .before .before .pre .1 in (
-      solving .sorted,
-      known-images [] (solving .tabled) (solving .replacing) (omega (arith, solving .most, if1 .left)) (wide .ensures .0) (all-known .ensures)
-          (if2 .taken) (wide .ensures .1),
-    ))
-    (λ c κs. search needs) (λ c. search needs)
+    let if1 = c .before .before .before .before .if1 in
+    let solving = c .before .before .before .before .before .before .before .before .before .before .pre .1 in
+    (solving .sorted, known-images [] (solving .tabled) (solving .ranged) (solving .replacing) (omega (arith, solving .most, if1 .left)) refl (all-known .ensures) (if2 .taken)))
+    -- variables-of-requires
+    (λ c κs. let if1 = c .before .before .before .before .before .before .if1 in
+    let solving = c .before .before .before .before .before .before .before .before .before .before .before .before .pre .1 in
+    solving .ranged .each _ (omega (arith, solving .most, if1 .left)))
+    (λ c. search needs)
     -- returns-2
     (λ c. let variables-of = c .variables-of in
     let if3 = c .before .if3 in
     let is-met = c .before .before .is-met in
     let if2 = c .before .before .before .before .if2 in
     let all-known = c .before .before .before .before .before .all-known in
-    let wide = c .before .before .before .before .before .before .wide in
-    let if1 = c .before .before .before .before .before .before .before .before .if1 in
-    let solving = c .before .before .before .before .before .before .before .before .before .before .before .before .before .before .pre .1 in
-    unmet-post solving (if1 .left) (wide .ensures .0) (all-known .ensures) (if2 .taken) (variables-of .ensures) (is-met .ensures) (if3 .taken))
+    let if1 = c .before .before .before .before .before .before .before .if1 in
+    let solving = c .before .before .before .before .before .before .before .before .before .before .before .before .before .pre .1 in
+    unmet-post solving (if1 .left) refl (all-known .ensures) (if2 .taken) (variables-of .ensures) (is-met .ensures) (if3 .taken))
     -- add-solve
-    (λ c. let solving = c .before .before .before .before .before .before .before .before .before .before .before .before .before .before .before .pre .1 in
+    (λ c. let solving = c .before .before .before .before .before .before .before .before .before .before .before .before .before .before .pre .1 in
     omega (arith, solving .tabled .few, solving .most))
     -- solve-requires
     (λ c κs. let if2 = c .before .before .before .before .before .if2 in
     let all-known = c .before .before .before .before .before .before .all-known in
-    let wide = c .before .before .before .before .before .before .before .wide in
-    let if1 = c .before .before .before .before .before .before .before .before .before .if1 in
-    let pre = c .before .before .before .before .before .before .before .before .before .before .before .before .before .before .before .pre in
-    let solving = c .before .before .before .before .before .before .before .before .before .before .before .before .before .before .before .pre .1 in
-    (omega (arith, pre .0, solving .most, if1 .left), met-next solving (if1 .left) (wide .ensures .0) (all-known .ensures) (if2 .taken)))
+    let if1 = c .before .before .before .before .before .before .before .before .if1 in
+    let pre = c .before .before .before .before .before .before .before .before .before .before .before .before .before .before .pre in
+    let solving = c .before .before .before .before .before .before .before .before .before .before .before .before .before .before .pre .1 in
+    (omega (arith, pre .0, solving .most, if1 .left), met-next solving (if1 .left) refl (all-known .ensures) (if2 .taken)))
     -- same-length-2
     (λ c. let solve = c .before .before .before .before .solve in
     solve .kept .1 .1 .1 .0)
@@ -149,51 +144,54 @@ pub +solve-spec : {M : Type 1} → statement M
     let is-met = c .before .before .before .before .before .before .before .before .is-met in
     let if2 = c .before .before .before .before .before .before .before .before .before .before .if2 in
     let all-known = c .before .before .before .before .before .before .before .before .before .before .before .all-known in
-    let wide = c .before .before .before .before .before .before .before .before .before .before .before .before .wide in
-    let if1 = c .before .before .before .before .before .before .before .before .before .before .before .before .before .before .if1 in
-    let solving = past .before .before .before .before .pre .1 in
-    met-post solving (if1 .left) (wide .ensures .0) (all-known .ensures) (if2 .taken) (is-met .ensures) (if3 .left) (solve .ensures))
+    let if1 = c .before .before .before .before .before .before .before .before .before .before .before .before .before .if1 in
+    let solving = past .before .before .before .pre .1 in
+    met-post solving (if1 .left) refl (all-known .ensures) (if2 .taken) (is-met .ensures) (if3 .left) (solve .ensures))
     -- recall-requires
-    (λ c κs. let solving = c .before .before .before .before .before .before .before .before .before .before .before .before .pre .1 in
+    (λ c κs. let solving = c .before .before .before .before .before .before .before .before .before .before .before .pre .1 in
     (solving .replacing .room, (solving .remembers .some, omega (arith, solving .tabled .few, solving .most))))
-    (λ c κs. search needs) (λ c. search needs) (λ c. search needs)
+    (λ c κs. search needs)
+    (λ c. search needs)
+    (λ c. search needs)
     -- returns-4
     (λ c. let if4 = c .if4 in
     let is-found = c .before .is-found in
     let recall = c .before .before .recall in
-    let solving = c .before .before .before .before .before .before .before .before .before .before .before .before .before .before .before .pre .1 in
+    let solving = c .before .before .before .before .before .before .before .before .before .before .before .before .before .before .pre .1 in
     solve-recalled solving (recall .ensures) (is-found .ensures) (if4 .taken))
-    (λ c κs. search needs)
+    -- variables-of-requires-2
+    (λ c κs. let if1 = c .before .before .before .before .before .before .before .before .if1 in
+    let solving = c .before .before .before .before .before .before .before .before .before .before .before .before .before .before .pre .1 in
+    solving .ranged .each _ (omega (arith, solving .most, if1 .left)))
     -- way-count-requires
-    (λ c κs. let solving = c .before .before .before .before .before .before .before .before .before .before .before .before .before .before .before .before .pre .1 in
+    (λ c κs. let solving = c .before .before .before .before .before .before .before .before .before .before .before .before .before .before .before .pre .1 in
     solving .sorted .room)
     -- loop-holds
-    (λ c. let past = c .before .before .before .before .before .before .before .before .before .before .before .before .before .before .before .before in
-    let way-count = c .way-count in
+    (λ c. let way-count = c .way-count in
     let variables-of2 = c .before .variables-of2 in
-    let wide = c .before .before .before .before .before .before .before .before .before .wide in
-    let if1 = c .before .before .before .before .before .before .before .before .before .before .before .if1 in
-    let solving = past .before .pre .1 in
-    trying-start solving (if1 .left) (wide .ensures .0) (variables-of2 .ensures) (way-count .ensures))
+    let if1 = c .before .before .before .before .before .before .before .before .before .before .if1 in
+    let solving = c .before .before .before .before .before .before .before .before .before .before .before .before .before .before .before .before .pre .1 in
+    trying-start solving (if1 .left) refl (variables-of2 .ensures) (way-count .ensures))
     -- mul-attempt
     (λ c. let past = c .before .before .before .before .before .before .before .before .before .before .before .before .before .before .before .before in
-    let solving = past .before .before .before .before .pre .1 in
+    let solving = past .before .before .before .pre .1 in
     omega (arith, solving .tabled .few, solving .most))
     -- attempt-requires
     (λ c κs. let past = c .before .before .before .before .before .before .before .before .before .before .before .before .before .before .before .before in
     let loop-test = c .before .loop-test in
     let loop = c .before .before .loop in
     let way-count = c .before .before .before .way-count in
-    let solving = past .before .before .before .before .pre .1 in (
+    let if1 = c .before .before .before .before .before .before .before .before .before .before .before .before .before .if1 in
+    let solving = past .before .before .before .pre .1 in (
       solving .sorted .room,
       (
         solving .tabled .tab-room,
-        (omega (arith, way-count .ensures, loop-test .taken), (level-slots (loop .inv .level), (trying-room (loop .inv), omega (arith, solving .tabled .few, solving .most)))),
+        (omega (arith, way-count .ensures, loop-test .taken), (level-slots (loop .inv .level), (trying-room (loop .inv), omega (arith, solving .tabled .few, solving .most, if1 .left)))),
       ),
     ))
     -- add-solve-2
     (λ c. let past = c .before .before .before .before .before .before .before .before .before .before .before .before .before .before .before .before in
-    let solving = past .before .before .before .before .before .before .before .before .before .before .pre .1 in
+    let solving = past .before .before .before .before .before .before .before .before .before .pre .1 in
     omega (arith, solving .tabled .few, solving .most))
     -- solve-requires-2
     (λ c κs. let past = c .before .before .before .before .before .before .before .before .before .before .before .before .before .before .before .before in
@@ -201,9 +199,9 @@ pub +solve-spec : {M : Type 1} → statement M
     let attempt = c .before .before .before .before .before .attempt in
     let loop-test = c .before .before .before .before .before .before .before .loop-test in
     let loop = c .before .before .before .before .before .before .before .before .loop in
-    let if1 = past .before .before .before .before .if1 in
-    let pre = past .before .before .before .before .before .before .before .before .before .before .pre in
-    let solving = past .before .before .before .before .before .before .before .before .before .before .pre .1 in
+    let if1 = past .before .before .before .if1 in
+    let pre = past .before .before .before .before .before .before .before .before .before .pre in
+    let solving = past .before .before .before .before .before .before .before .before .before .pre .1 in
     (omega (arith, pre .0, solving .most, if1 .left), trying-next (loop .inv) (loop-test .taken) (attempt .ensures) (attempt .kept .1 .1 .0) (if5 .taken)))
     (λ c κs. search needs)
     -- same-length-6
@@ -224,7 +222,8 @@ pub +solve-spec : {M : Type 1} → statement M
     let loop-test = c .before .before .before .before .before .before .before .before .before .before .before .before .before .before .loop-test in
     let loop = c .before .before .before .before .before .before .before .before .before .before .before .before .before .before .before .loop in
     trying-up (loop .inv) (loop-test .taken) (attempt .ensures) (attempt .kept .1 .1 .0) (if5 .taken) (solve2 .ensures) (is-handed-up .ensures) (if6 .taken))
-    (λ c κs. search needs) (λ c. search needs)
+    (λ c κs. search needs)
+    (λ c. search needs)
     -- loop-less
     (λ c. let loop-test = c .before .before .before .before .before .before .before .before .before .before .before .before .before .before .before .loop-test in
     omega (arith, loop-test .taken))
@@ -252,7 +251,7 @@ pub +solve-spec : {M : Type 1} → statement M
     -- remember-requires
     (λ c κs. let past = c .before .before .before .before .before .before .before .before .before .before .before .before .before .before .before .before in
     let loop = c .before .before .before .loop in
-    let solving = past .before .before .before .before .before .pre .1 in
+    let solving = past .before .before .before .before .pre .1 in
     (trying-room (loop .inv), (loop .inv .remembers .some, omega (arith, solving .tabled .few, solving .most))))
     -- same-length-8
     (λ c. let loop = c .before .before .before .before .before .before .loop in

@@ -1,22 +1,56 @@
-use Rattle.matcher.proofs.WayLaws.{known-1, known-2, known-3, known-4}
 use borrow.Author.Needs.{needs}
+use native.Mathlib.Omega.{arith}
+use Prim.Native.Nat.{_-_}
+use Rattle.label.specs.Limits.{mostPlaces}
+use Rattle.matcher.proofs.FindLaws.{Knowing, knowing-start, knowing-not, knowing-next, knowing-end}
 use Rattle.matcher.proofs.all_known.Statement.{statement}
 use Rattle.matcher.proofs.all_known.Tie as tie
 
-returns : tie.Need-returns
-returns c = search known-1
+abbrev Inv-loop : tie.InvT-loop
+Inv-loop tab m l k₀ k = Knowing tab m l k
 
-returns-2 : tie.Need-returns-2
-returns-2 c = search known-2
+abbrev μ-loop : tie.MeasureT-loop
+μ-loop tab m l k₀ k = mostPlaces - k
 
-returns-3 : tie.Need-returns-3
-returns-3 c = search known-3
+loop-holds : tie.Need-loop-holds Inv-loop μ-loop
+loop-holds c = knowing-start _ _ _
 
-returns-4 : tie.Need-returns-4
-returns-4 c = search known-4
+place-requires : tie.Need-place-requires Inv-loop μ-loop
+place-requires c κs = search needs
+
+mul-if1 : tie.Need-mul-if1 Inv-loop μ-loop
+mul-if1 c = omega (arith, c .place .ensures, c .before .before .before .before .pre .1 .places _ (c .before .loop-test .taken))
+
+shared-slice-read-if1 : tie.Need-shared-slice-read-if1 Inv-loop μ-loop
+shared-slice-read-if1 c = omega (arith, c .before .place .ensures, c .before .before .before .before .before .pre .1 .places _ (c .before .before .loop-test .taken), c .before .before .before .before .before .pre .0)
+
+returns : tie.Need-returns Inv-loop μ-loop
+returns c = search knowing-not
+
+add-k : tie.Need-add-k Inv-loop μ-loop
+add-k c = search needs
+
+loop-less : tie.Need-loop-less Inv-loop μ-loop
+loop-less c = search needs
+
+loop-again : tie.Need-loop-again Inv-loop μ-loop
+loop-again c = search knowing-next
+
+returns-2 : tie.Need-returns-2 Inv-loop μ-loop
+returns-2 c = search knowing-end
 
 pub all-known-spec : {M : Type 1} → statement M
 all-known-spec =
     tie.close
-    (tie.spec (λ c. search needs) (λ c. search needs) (λ c κs. search needs) returns (λ c. search needs) (λ c. search needs) (λ c κs. search needs) returns-2
-    (λ c. search needs) (λ c. search needs) (λ c κs. search needs) returns-3 (λ c. search needs) (λ c. search needs) (λ c κs. search needs) returns-4)
+    (tie.spec
+    Inv-loop
+    μ-loop
+    loop-holds
+    place-requires
+    mul-if1
+    shared-slice-read-if1
+    returns
+    add-k
+    loop-less
+    loop-again
+    returns-2)

@@ -1,3 +1,4 @@
+use mathlib.Core.Path.{refl}
 use lib.ListN.{length}
 use Prim.Native.Nat.{_-_}
 use borrow.Author.Needs.{needs}
@@ -15,26 +16,26 @@ loop-holds : tie.Need-loop-holds Inv-loop μ-loop
 loop-holds c = choosing-start _ (c .before .before .pre .0)
 
 rank-requires : tie.Need-rank-requires Inv-loop μ-loop
-rank-requires c κs = c .before .before .before .before .before .before .pre .1
+rank-requires c κs =
+    let entry = c .before .before .before .before .before .pre in
+    (entry .1 .0, entry .1 .1 .each _ (c .before .loop-test .taken))
 
 returns : tie.Need-returns Inv-loop μ-loop
-returns c = choosing-known (c .before .before .before .before .before .loop .inv) (c .before .before .before .before .loop-test .taken)
+returns c = choosing-known (c .before .before .before .before .loop .inv) (c .before .before .before .loop-test .taken)
 
 loop-again : tie.Need-loop-again Inv-loop μ-loop
 loop-again c =
     let rank = c .before .before .rank in
-    let wide = c .before .before .before .wide in
-    let loop-test = c .before .before .before .before .before .loop-test in
-    let loop = c .before .before .before .before .before .before .loop in
-    choosing-lower (loop .inv) (loop-test .taken) (wide .ensures .0) (rank .ensures) (c .if2 .taken)
+    let loop-test = c .before .before .before .before .loop-test in
+    let loop = c .before .before .before .before .before .loop in
+    choosing-lower (loop .inv) (loop-test .taken) refl (rank .ensures) (c .if2 .taken)
 
 loop-again-2 : tie.Need-loop-again-2 Inv-loop μ-loop
 loop-again-2 c =
     let rank = c .before .before .rank in
-    let wide = c .before .before .before .wide in
-    let loop-test = c .before .before .before .before .before .loop-test in
-    let loop = c .before .before .before .before .before .before .loop in
-    choosing-same (loop .inv) (loop-test .taken) (wide .ensures .0) (rank .ensures) (c .if2 .left)
+    let loop-test = c .before .before .before .before .loop-test in
+    let loop = c .before .before .before .before .before .loop in
+    choosing-same (loop .inv) (loop-test .taken) refl (rank .ensures) (c .if2 .left)
 
 returns-2 : tie.Need-returns-2 Inv-loop μ-loop
 returns-2 c = choosing-end (c .before .loop .inv) (c .loop-test .left)
@@ -42,5 +43,5 @@ returns-2 c = choosing-end (c .before .loop .inv) (c .loop-test .left)
 pub best-spec : {M : Type 1} → statement M
 best-spec =
     tie.close
-    (tie.spec Inv-loop μ-loop loop-holds (λ c. search needs) (λ c. search needs) (λ c κs. search needs) rank-requires returns (λ c. search needs)
+    (tie.spec Inv-loop μ-loop loop-holds (λ c. search needs) (λ c. search needs) rank-requires returns (λ c. search needs)
     (λ c. search needs) loop-again (λ c. search needs) (λ c. search needs) loop-again-2 returns-2)

@@ -1,42 +1,73 @@
-use Rattle.matcher.proofs.WayLaws.{bind-1, bind-2, bind-3, bind-4}
 use borrow.Author.Needs.{needs}
+use Rattle.label.specs.Limits.{mostPlaces}
+use mathlib.Core.Path.{_∙_}
+use Prim.Native.Nat.{_-_}
+use native.Mathlib.Omega.{arith}
+use Rattle.matcher.proofs.BindLaws.{Binding, binding-start, binding-fails, binding-next, binding-end}
 use Rattle.matcher.proofs.bind.Statement.{statement}
 use Rattle.matcher.proofs.bind.Tie as tie
 
-returns : tie.Need-returns
-returns c = search bind-1
+abbrev Inv-loop : tie.InvT-loop
+Inv-loop tab theta₀ m l way k₀ theta k = Binding tab theta₀ m l way theta k
 
-returns-2 : tie.Need-returns-2
-returns-2 c = search bind-2
+abbrev μ-loop : tie.MeasureT-loop
+μ-loop tab theta₀ m l way k₀ theta k = mostPlaces - k
 
-returns-3 : tie.Need-returns-3
-returns-3 c =
-    let place3 = c .before .before .before .place3 in
-    let if2 = c .before .before .before .before .before .if2 in
-    let place2 = c .before .before .before .before .before .before .before .before .place2 in
-    let if1 = c .before .before .before .before .before .before .before .before .before .before .if1 in
-    let place = c .before .before .before .before .before .before .before .before .before .before .before .before .before .place in
-    let past-12 = c .before .before .before .before .before .before .before .before .before .before .before .before in
-    let entry = past-12 .before .before .before .before .before .pre in
-    bind-3 _ _ _ _ _ (entry .0) (entry .1 .0) (place .ensures .0) (place .ensures .1) (if1 .left) (place2 .ensures .0) (place2 .ensures .1) (if2 .left)
-    (place3 .ensures .0) (place3 .ensures .1) (c .if3 .taken)
+loop-holds : tie.Need-loop-holds Inv-loop μ-loop
+loop-holds c = binding-start _ _ _ _ _
 
-returns-4 : tie.Need-returns-4
-returns-4 c =
-    let place4 = c .before .before .place4 in
-    let if3 = c .before .before .before .before .if3 in
-    let place3 = c .before .before .before .before .before .before .before .place3 in
-    let if2 = c .before .before .before .before .before .before .before .before .before .if2 in
-    let place2 = c .before .before .before .before .before .before .before .before .before .before .before .before .place2 in
-    let if1 = c .before .before .before .before .before .before .before .before .before .before .before .before .before .before .if1 in
-    let past-12 = c .before .before .before .before .before .before .before .before .before .before .before .before in
-    let place = past-12 .before .before .before .before .before .place in
-    let entry = past-12 .before .before .before .before .before .before .before .before .before .pre in
-    bind-4 _ _ _ _ _ (entry .0) (entry .1 .0) (place .ensures .0) (place .ensures .1) (if1 .left) (place2 .ensures .0) (place2 .ensures .1) (if2 .left)
-    (place3 .ensures .0) (place3 .ensures .1) (if3 .left) (place4 .ensures .0) (place4 .ensures .1)
+place-requires : tie.Need-place-requires Inv-loop μ-loop
+place-requires c κs = search needs
+
+target-requires : tie.Need-target-requires Inv-loop μ-loop
+target-requires c κs = search needs
+
+add-place : tie.Need-add-place Inv-loop μ-loop
+add-place c = omega (arith, c .before .before .before .loop-test .taken, c .before .before .before .before .before .before .before .pre .1 .1)
+
+place-requires-2 : tie.Need-place-requires-2 Inv-loop μ-loop
+place-requires-2 c κs =
+    let range = c .before .before .before .before .before .before .before .pre .0 .range .places _ (c .before .before .before .loop-test .taken) in (
+      omega (arith, c .before .before .place .ensures, range, c .before .before .before .before .before .before .before .pre .0 .room),
+      (omega (arith, c .before .before .place .ensures, range, c .before .before .before .before .loop .inv .length-kept, c .before .before .before .before .before .before .before .pre .1 .0), omega (arith, c .before .before .before .loop-test .taken, c .before .before .before .before .before .before .before .pre .1 .1)),
+    )
+
+same-length : tie.Need-same-length Inv-loop μ-loop
+same-length c = c .before .before .before .place2 .kept .1 .0 ∙ c .before .before .before .before .before .before .before .before .loop .inv .length-kept
+
+returns : tie.Need-returns Inv-loop μ-loop
+returns c = binding-fails (c .before .before .before .before .before .before .before .before .before .before .before .pre .0) (c .before .before .before .before .before .before .before .before .before .before .before .pre .1 .0) (c .before .before .before .before .before .before .before .before .loop .inv) (c .before .before .before .before .before .before .before .loop-test .taken) (c .before .before .before .before .before .before .place .ensures) (c .before .before .before .before .before .target .ensures) (c .before .before .before .place2 .ensures .0) (c .before .before .before .place2 .ensures .1) (c .if1 .taken)
+
+add-k : tie.Need-add-k Inv-loop μ-loop
+add-k c = omega (arith, c .before .before .before .before .before .before .before .loop-test .taken)
+
+loop-less : tie.Need-loop-less Inv-loop μ-loop
+loop-less c = omega (arith, c .before .before .before .before .before .before .before .loop-test .taken)
+
+loop-again : tie.Need-loop-again Inv-loop μ-loop
+loop-again c = binding-next (c .before .before .before .before .before .before .before .before .before .before .before .pre .0) (c .before .before .before .before .before .before .before .before .before .before .before .pre .1 .0) (c .before .before .before .before .before .before .before .before .loop .inv) (c .before .before .before .before .before .before .before .loop-test .taken) (c .before .before .before .before .before .before .place .ensures) (c .before .before .before .before .before .target .ensures) (c .before .before .before .place2 .ensures .0) (c .before .before .before .place2 .ensures .1) (c .if1 .left)
+
+same-length-2 : tie.Need-same-length-2 Inv-loop μ-loop
+same-length-2 c = c .before .loop .inv .length-kept
+
+returns-2 : tie.Need-returns-2 Inv-loop μ-loop
+returns-2 c = binding-end (c .before .loop .inv) (c .loop-test .left)
 
 pub bind-spec : {M : Type 1} → statement M
 bind-spec =
     tie.close
-    (tie.spec (λ c κs. search needs) (λ c. search needs) returns (λ c. search needs) (λ c κs. search needs) (λ c. search needs) returns-2 (λ c. search needs)
-    (λ c κs. search needs) (λ c. search needs) returns-3 (λ c. search needs) (λ c κs. search needs) (λ c. search needs) returns-4)
+    (tie.spec
+    Inv-loop
+    μ-loop
+    loop-holds
+    place-requires
+    target-requires
+    add-place
+    place-requires-2
+    same-length
+    returns
+    add-k
+    loop-less
+    loop-again
+    same-length-2
+    returns-2)

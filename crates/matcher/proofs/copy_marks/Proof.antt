@@ -1,3 +1,4 @@
+use Rattle.label.specs.Limits.{termEnd}
 use borrow.Author.Needs.{needs}
 use native.Mathlib.Omega.{arith}
 use Prim.Native.Nat.{_-_, _≤_}
@@ -9,7 +10,7 @@ abbrev Inv-loop : tie.InvT-loop
 Inv-loop marks tab₀ t₀ tab t = Copying marks tab₀ tab t
 
 abbrev μ-loop : tie.MeasureT-loop
-μ-loop marks tab₀ t₀ tab t = 64 - t
+μ-loop marks tab₀ t₀ tab t = termEnd - t
 
 loop-holds : tie.Need-loop-holds Inv-loop μ-loop
 loop-holds c = copying-start

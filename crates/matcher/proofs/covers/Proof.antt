@@ -1,3 +1,6 @@
+use Prim.Native.Nat.{_+_}
+use Rattle.label.specs.Limits.{termEnd}
+use Rattle.paths.specs.Paths.{mostPaths}
 use Rattle.matcher.proofs.AnswerLaws.{covers-first, covers-second, covers-answer}
 use lib.Dec.{lit≤}
 use borrow.Author.Needs.{needs}
@@ -5,10 +8,10 @@ use Rattle.matcher.proofs.covers.Statement.{statement}
 use Rattle.matcher.proofs.covers.Tie as tie
 
 enter-path-requires : tie.Need-enter-path-requires
-enter-path-requires c κs = covers-first (c .before .before .before .before .pre) 320 (lit≤ tt)
+enter-path-requires c κs = covers-first (c .before .before .before .before .pre) (termEnd + mostPaths) (lit≤ tt)
 
 enter-path-requires-2 : tie.Need-enter-path-requires-2
-enter-path-requires-2 c κs = covers-second (c .before .before .before .before .before .before .before .pre) 320 (lit≤ tt)
+enter-path-requires-2 c κs = covers-second (c .before .before .before .before .before .before .before .pre) (termEnd + mostPaths) (lit≤ tt)
 
 returns : tie.Need-returns
 returns c =

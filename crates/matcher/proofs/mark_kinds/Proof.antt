@@ -1,10 +1,10 @@
-use Rattle.matcher.specs.Parts.{Kinds}
-use lib.ListN.{length, length-set}
-use Prim.Native.Nat.{_-_}
 use native.Mathlib.Omega.{arith}
 use mathlib.Core.Path.{_≡_, refl, _∙_}
-use borrow.Author.Needs.{needs}
+use Prim.Native.Nat.{_-_}
+use lib.ListN.{length, length-set}
+use Rattle.matcher.specs.Parts.{Kinds}
 use Rattle.matcher.proofs.SomeWayLaws.{kinds-start, kinds-marked, kinds-other, kinds-end}
+use borrow.Author.Needs.{needs}
 use Rattle.matcher.proofs.mark_kinds.Statement.{statement}
 use Rattle.matcher.proofs.mark_kinds.Tie as tie
 
@@ -17,25 +17,42 @@ abbrev μ-loop : tie.MeasureT-loop
 loop-holds : tie.Need-loop-holds Inv-loop μ-loop
 loop-holds c = (refl, kinds-start (c .before .before .pre))
 
+mul-kind : tie.Need-mul-kind Inv-loop μ-loop
+mul-kind c = search needs
+
+shared-slice-read-kind : tie.Need-shared-slice-read-kind Inv-loop μ-loop
+shared-slice-read-kind c = search needs
+
+kind-requires : tie.Need-kind-requires Inv-loop μ-loop
+kind-requires c κs = search needs
+
 mul-kinds : tie.Need-mul-kinds Inv-loop μ-loop
 mul-kinds c = omega (arith, c .if1 .taken)
 
 slice-write-kinds : tie.Need-slice-write-kinds Inv-loop μ-loop
-slice-write-kinds c = omega (arith, c .if1 .taken, c .before .before .before .before .before .loop .inv .1 .room)
+slice-write-kinds c = omega (arith, c .if1 .taken, c .before .before .before .before .loop .inv .1 .room)
+
+add-j : tie.Need-add-j Inv-loop μ-loop
+add-j c = search needs
+
+loop-less : tie.Need-loop-less Inv-loop μ-loop
+loop-less c = search needs
 
 loop-again : tie.Need-loop-again Inv-loop μ-loop
 loop-again c =
-    let wide = c .before .before .wide in
-    let loop = c .before .before .before .before .before .loop in (
-      length-set (loop .kinds) (c .before .kind .result) 1 ∙ loop .inv .0,
-      kinds-marked (loop .inv .1) (wide .ensures .0) (c .before .kind .ensures) (c .if1 .taken),
-    )
+    let loop = c .before .before .before .before .loop in
+    (length-set (loop .kinds) (c .before .kind .result) 1 ∙ loop .inv .0, kinds-marked (loop .inv .1) refl (c .before .kind .ensures) (c .if1 .taken))
+
+add-j-2 : tie.Need-add-j-2 Inv-loop μ-loop
+add-j-2 c = search needs
+
+loop-less-2 : tie.Need-loop-less-2 Inv-loop μ-loop
+loop-less-2 c = search needs
 
 loop-again-2 : tie.Need-loop-again-2 Inv-loop μ-loop
 loop-again-2 c =
-    let wide = c .before .before .wide in
-    let loop = c .before .before .before .before .before .loop in
-    (loop .inv .0, kinds-other (loop .inv .1) (wide .ensures .0) (c .before .kind .ensures) (c .if1 .left))
+    let loop = c .before .before .before .before .loop in
+    (loop .inv .0, kinds-other (loop .inv .1) refl (c .before .kind .ensures) (c .if1 .left))
 
 same-length : tie.Need-same-length Inv-loop μ-loop
 same-length c = c .before .loop .inv .0
@@ -46,5 +63,20 @@ returns c = kinds-end (c .before .loop .inv .1) (c .loop-test .left)
 pub mark-kinds-spec : {M : Type 1} → statement M
 mark-kinds-spec =
     tie.close
-    (tie.spec Inv-loop μ-loop loop-holds (λ c. search needs) (λ c. search needs) (λ c κs. search needs) (λ c κs. search needs) mul-kinds slice-write-kinds
-    (λ c. search needs) (λ c. search needs) loop-again (λ c. search needs) (λ c. search needs) loop-again-2 same-length returns)
+    (tie.spec
+    Inv-loop
+    μ-loop
+    loop-holds
+    mul-kind
+    shared-slice-read-kind
+    kind-requires
+    mul-kinds
+    slice-write-kinds
+    add-j
+    loop-less
+    loop-again
+    add-j-2
+    loop-less-2
+    loop-again-2
+    same-length
+    returns)

@@ -1,40 +1,34 @@
-use borrow.Author.Needs.{needs}
 use native.Mathlib.Omega.{arith}
-use lib.ListN.{length-set}
-use Rattle.matcher.proofs.MarkLaws.{predicate-within, mark-none, mark-one, mark-two, mark-three, mark-four}
+use Rattle.matcher.proofs.MarkLaws.{literal-range, predicate-within, literal-few, literal-marked}
+use borrow.Author.Needs.{needs}
 use Rattle.matcher.proofs.mark_literal.Statement.{statement}
 use Rattle.matcher.proofs.mark_literal.Tie as tie
 
-shared-slice-read-n : tie.Need-shared-slice-read-n
-shared-slice-read-n c = search predicate-within
+predicate-requires : tie.Need-predicate-requires
+predicate-requires c κs = search needs
+
+mul-mark-places : tie.Need-mul-mark-places
+mul-mark-places c = omega (arith, predicate-within (c .before .before .before .before .pre) (c .before .predicate .ensures))
+
+shared-slice-read-mark-places : tie.Need-shared-slice-read-mark-places
+shared-slice-read-mark-places c = predicate-within (c .before .before .before .before .before .pre) (c .before .before .predicate .ensures)
+
+mark-places-requires : tie.Need-mark-places-requires
+mark-places-requires c κs = (c .before .before .before .before .before .pre .room, (literal-range (c .before .before .before .before .before .pre), literal-few (c .before .before .before .before .before .pre) (c .before .before .predicate .ensures)))
+
+same-length : tie.Need-same-length
+same-length c = search needs
 
 returns : tie.Need-returns
-returns c = search mark-none
-
-returns-2 : tie.Need-returns-2
-returns-2 c = search mark-one
-
-slice-write-marks-2 : tie.Need-slice-write-marks-2
-slice-write-marks-2 c = simp length-set (omega arith)
-
-returns-3 : tie.Need-returns-3
-returns-3 c = search mark-two
-
-slice-write-marks-3 : tie.Need-slice-write-marks-3
-slice-write-marks-3 c = simp length-set (omega arith)
-
-returns-4 : tie.Need-returns-4
-returns-4 c = search mark-three
-
-slice-write-marks-4 : tie.Need-slice-write-marks-4
-slice-write-marks-4 c = simp length-set (omega arith)
-
-returns-5 : tie.Need-returns-5
-returns-5 c = search mark-four
+returns c = literal-marked (c .before .before .before .before .before .before .before .before .pre) (c .before .before .before .before .before .predicate .ensures) (c .before .before .mark-places .ensures)
 
 pub mark-literal-spec : {M : Type 1} → statement M
 mark-literal-spec =
     tie.close
-    (tie.spec (λ c. search needs) shared-slice-read-n returns (λ c. search needs) (λ c. search needs) (λ c. search needs) returns-2 (λ c. search needs)
-    slice-write-marks-2 (λ c. search needs) returns-3 (λ c. search needs) slice-write-marks-3 (λ c. search needs) returns-4 (λ c. search needs)
-    slice-write-marks-4 (λ c. search needs) returns-5)
+    (tie.spec
+    predicate-requires
+    mul-mark-places
+    shared-slice-read-mark-places
+    mark-places-requires
+    same-length
+    returns)

@@ -1,4 +1,4 @@
-use borrow.Author.Needs.{needs}
+use mathlib.Core.Path.{refl}
 use native.Mathlib.Omega.{arith}
 use Prim.Native.Nat.{_-_, _≤_}
 use Rattle.matcher.proofs.MarkLaws.{marking-start, marking-room, marking-markable, marking-next, marking-end}
@@ -15,36 +15,35 @@ abbrev μ-loop : tie.MeasureT-loop
 loop-holds : tie.Need-loop-holds Inv-loop μ-loop
 loop-holds c = (omega arith, marking-start (c .before .before .pre))
 
-add-wide : tie.Need-add-wide Inv-loop μ-loop
-add-wide c = omega (arith, c .loop-test .taken, c .before .before .before .before .pre .few)
+add-x : tie.Need-add-x Inv-loop μ-loop
+add-x c = omega (arith, c .loop-test .taken, c .before .before .before .before .pre .few)
 
-mul-wide : tie.Need-mul-wide Inv-loop μ-loop
-mul-wide c = omega (arith, c .loop-test .taken, c .before .before .before .before .pre .few)
+mul-x : tie.Need-mul-x Inv-loop μ-loop
+mul-x c = omega (arith, c .loop-test .taken, c .before .before .before .before .pre .few)
 
-slice-read-wide : tie.Need-slice-read-wide Inv-loop μ-loop
-slice-read-wide c = marking-room (c .before .before .before .before .before .pre) (c .before .before .loop .inv .1) (c .before .loop-test .taken)
+slice-read-x : tie.Need-slice-read-x Inv-loop μ-loop
+slice-read-x c = marking-room (c .before .before .before .before .before .pre) (c .before .before .loop .inv .1) (c .before .loop-test .taken)
 
 mark-literal-requires : tie.Need-mark-literal-requires Inv-loop μ-loop
 mark-literal-requires c κs =
-    let loop-test = c .before .before .before .loop-test in
-    let loop = c .before .before .before .before .loop in
-    let entry = c .before .before .before .before .before .before .before .pre in
-    marking-markable (entry) (loop .inv .1) (loop-test .taken) (c .before .wide .ensures .0)
+    let loop-test = c .before .before .loop-test in
+    let loop = c .before .before .before .loop in
+    let entry = c .before .before .before .before .before .before .pre in
+    marking-markable entry (loop .inv .1) (loop-test .taken) refl
 
 add-i : tie.Need-add-i Inv-loop μ-loop
-add-i c = omega (arith, c .before .before .before .before .before .before .loop-test .taken, c .before .before .before .before .before .before .before .before .before .before .pre .few)
+add-i c = omega (arith, c .before .before .before .before .before .loop-test .taken, c .before .before .before .before .before .before .before .before .before .pre .few)
 
 loop-less : tie.Need-loop-less Inv-loop μ-loop
-loop-less c = omega (arith, c .before .before .before .before .before .before .loop-test .taken)
+loop-less c = omega (arith, c .before .before .before .before .before .loop-test .taken)
 
 loop-again : tie.Need-loop-again Inv-loop μ-loop
 loop-again c =
     let mark-literal = c .before .before .mark-literal in
-    let wide = c .before .before .before .before .wide in
-    let loop-test = c .before .before .before .before .before .before .loop-test in
-    let loop = c .before .before .before .before .before .before .before .loop in
-    let entry = c .before .before .before .before .before .before .before .before .before .before .pre in
-    (omega (arith, loop-test .taken), marking-next (entry) (loop .inv .1) (loop-test .taken) (wide .ensures .0) (mark-literal .ensures))
+    let loop-test = c .before .before .before .before .before .loop-test in
+    let loop = c .before .before .before .before .before .before .loop in
+    let entry = c .before .before .before .before .before .before .before .before .before .pre in
+    (omega (arith, loop-test .taken), marking-next entry (loop .inv .1) (loop-test .taken) refl (mark-literal .ensures))
 
 same-length : tie.Need-same-length Inv-loop μ-loop
 same-length c = c .before .loop .inv .1 .length-kept
@@ -55,4 +54,4 @@ returns c = marking-end (c .before .before .before .before .pre) (c .before .loo
 pub mark-path-spec : {M : Type 1} → statement M
 mark-path-spec =
     tie.close
-    (tie.spec Inv-loop μ-loop loop-holds add-wide mul-wide slice-read-wide (λ c κs. search needs) mark-literal-requires add-i loop-less loop-again same-length returns)
+    (tie.spec Inv-loop μ-loop loop-holds add-x mul-x slice-read-x mark-literal-requires add-i loop-less loop-again same-length returns)

@@ -8,7 +8,9 @@ unplace-requires : tie.Need-unplace-requires
 unplace-requires c κs = c .before .before .before .before .before .pre .tab-room
 
 first-places-requires : tie.Need-first-places-requires
-first-places-requires c κs = (omega arith, (c .before .before .before .before .before .before .before .before .before .pre .few, c .before .before .before .unplace .ensures .0))
+first-places-requires c κs =
+    let entry = c .before .before .before .before .before .before .before .before .before .pre in
+    (omega arith, (entry .few, (entry .ranged, c .before .before .before .unplace .ensures .0)))
 
 decide-requires : tie.Need-decide-requires
 decide-requires c κs =

@@ -13,7 +13,7 @@ abbrev μ-loop : tie.MeasureT-loop
 μ-loop ord₀ seen₀ k e₀ ord seen e = length ord₀ - e
 
 best-requires : tie.Need-best-requires Inv-loop μ-loop
-best-requires c κs = (c .before .before .before .before .pre .some, c .before .before .before .before .pre .seen-to .room)
+best-requires c κs = let entry = c .before .before .before .before .pre in (entry .some, (entry .seen-to .room, entry .ranged))
 
 take-literal-requires : tie.Need-take-literal-requires Inv-loop μ-loop
 take-literal-requires c κs = parting-takable (c .before .before .before .before .before .before .before .pre) (c .before .before .best .ensures)
@@ -25,7 +25,9 @@ loop-holds : tie.Need-loop-holds Inv-loop μ-loop
 loop-holds c = (refl, parting-start (c .before .before .before .before .before .before .before .before .before .before .before .before .pre) (c .before .before .before .before .take-literal .ensures))
 
 best-requires-2 : tie.Need-best-requires-2 Inv-loop μ-loop
-best-requires-2 c κs = (c .before .before .loop-test .taken, c .before .before .before .loop .inv .1 .seen-to .room)
+best-requires-2 c κs =
+    let loop = c .before .before .before .loop in
+    (c .before .before .loop-test .taken, (loop .inv .1 .seen-to .room, loop .inv .1 .ranged))
 
 same-length : tie.Need-same-length Inv-loop μ-loop
 same-length c =

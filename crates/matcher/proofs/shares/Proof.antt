@@ -1,21 +1,52 @@
-use Rattle.matcher.proofs.OrderLaws.{shares-1, shares-2, shares-3, shares-4}
 use borrow.Author.Needs.{needs}
+use native.Mathlib.Omega.{arith}
+use Prim.Native.Nat.{_-_}
+use Rattle.label.specs.Limits.{mostPlaces}
+use Rattle.matcher.proofs.OrderLaws.{Sharing, sharing-start, sharing-hit, sharing-next, sharing-end}
 use Rattle.matcher.proofs.shares.Statement.{statement}
 use Rattle.matcher.proofs.shares.Tie as tie
 
-returns : tie.Need-returns
-returns c = search shares-1
+abbrev Inv-loop : tie.InvT-loop
+Inv-loop seen x k₀ k = Sharing seen x k
 
-returns-2 : tie.Need-returns-2
-returns-2 c = search shares-2
+abbrev μ-loop : tie.MeasureT-loop
+μ-loop seen x k₀ k = mostPlaces - k
 
-returns-3 : tie.Need-returns-3
-returns-3 c = search shares-3
+loop-holds : tie.Need-loop-holds Inv-loop μ-loop
+loop-holds c = sharing-start _ _
 
-returns-4 : tie.Need-returns-4
-returns-4 c = search shares-4
+place-requires : tie.Need-place-requires Inv-loop μ-loop
+place-requires c κs = search needs
+
+is-seen-requires : tie.Need-is-seen-requires Inv-loop μ-loop
+is-seen-requires c κs = omega (arith, c .place .ensures, c .before .before .before .before .pre .1 .places _ (c .before .loop-test .taken), c .before .before .before .before .pre .0)
+
+returns : tie.Need-returns Inv-loop μ-loop
+returns c = search sharing-hit
+
+add-k : tie.Need-add-k Inv-loop μ-loop
+add-k c = search needs
+
+loop-less : tie.Need-loop-less Inv-loop μ-loop
+loop-less c = search needs
+
+loop-again : tie.Need-loop-again Inv-loop μ-loop
+loop-again c = search sharing-next
+
+returns-2 : tie.Need-returns-2 Inv-loop μ-loop
+returns-2 c = search sharing-end
 
 pub shares-spec : {M : Type 1} → statement M
 shares-spec =
     tie.close
-    (tie.spec (λ c κs. search needs) returns (λ c κs. search needs) returns-2 (λ c κs. search needs) returns-3 (λ c κs. search needs) returns-4)
+    (tie.spec
+    Inv-loop
+    μ-loop
+    loop-holds
+    place-requires
+    is-seen-requires
+    returns
+    add-k
+    loop-less
+    loop-again
+    returns-2)

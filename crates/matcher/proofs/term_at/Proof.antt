@@ -1,21 +1,19 @@
-use native.Mathlib.Omega.{arith}
-use Rattle.matcher.proofs.PlaceLaws.{term-0, term-1, term-2, term-3}
+use Rattle.matcher.proofs.PlaceLaws.{term-within}
 use borrow.Author.Needs.{needs}
 use Rattle.matcher.proofs.term_at.Statement.{statement}
 use Rattle.matcher.proofs.term_at.Tie as tie
 
+mul-x : tie.Need-mul-x
+mul-x c = search needs
+
+shared-slice-read-x : tie.Need-shared-slice-read-x
+shared-slice-read-x c = search needs
+
+place-requires : tie.Need-place-requires
+place-requires c κs = search needs
+
 returns : tie.Need-returns
-returns c = (search term-0, omega arith)
-
-returns-2 : tie.Need-returns-2
-returns-2 c = (search term-1, omega arith)
-
-returns-3 : tie.Need-returns-3
-returns-3 c = (search term-2, omega arith)
-
-returns-4 : tie.Need-returns-4
-returns-4 c = (search term-3, omega arith)
+returns c = (c .place .ensures, term-within (c .before .before .before .pre .1) (c .before .before .before .pre .0) (c .place .ensures))
 
 pub term-at-spec : {M : Type 1} → statement M
-term-at-spec =
-    tie.close (tie.spec (λ c. search needs) (λ c. search needs) (λ c κs. search needs) returns returns-2 returns-3 returns-4)
+term-at-spec = tie.close (tie.spec mul-x shared-slice-read-x place-requires returns)

@@ -1,3 +1,4 @@
+use Rattle.label.specs.Limits.{firstVariable}
 use lib.ListN.{length-set}
 use borrow.Author.Needs.{needs}
 use native.Mathlib.Omega.{arith}
@@ -10,7 +11,7 @@ abbrev Inv-loop : tie.InvT-loop
 Inv-loop tab₀ v₀ tab v = Unplacing tab₀ tab v
 
 abbrev μ-loop : tie.MeasureT-loop
-μ-loop tab₀ v₀ tab v = 32 - v
+μ-loop tab₀ v₀ tab v = firstVariable - v
 
 loop-holds : tie.Need-loop-holds Inv-loop μ-loop
 loop-holds c = unplacing-start _

@@ -1,11 +1,49 @@
-use Rattle.matcher.proofs.MaskLaws.{variables-is}
 use borrow.Author.Needs.{needs}
+use Rattle.matcher.specs.Failure.{Variables}
+use Rattle.label.specs.Limits.{mostPlaces}
+use Prim.Native.Nat.{_-_, _≤_}
+use native.Mathlib.Omega.{arith}
+use Rattle.matcher.proofs.MaskLaws.{variables-start, variables-next, variables-end}
 use Rattle.matcher.proofs.variables_of.Statement.{statement}
 use Rattle.matcher.proofs.variables_of.Tie as tie
 
-returns : tie.Need-returns
-returns c = search variables-is
+abbrev Inv-loop : tie.InvT-loop
+Inv-loop l mask₀ k₀ mask k = (k ≤ mostPlaces) × Variables l k mask
+
+abbrev μ-loop : tie.MeasureT-loop
+μ-loop l mask₀ k₀ mask k = mostPlaces - k
+
+loop-holds : tie.Need-loop-holds Inv-loop μ-loop
+loop-holds c = (omega arith, variables-start _)
+
+place-requires : tie.Need-place-requires Inv-loop μ-loop
+place-requires c κs = search needs
+
+one-requires : tie.Need-one-requires Inv-loop μ-loop
+one-requires c κs = omega (arith, c .place .ensures, c .before .before .before .pre .places _ (c .before .loop-test .taken))
+
+add-k : tie.Need-add-k Inv-loop μ-loop
+add-k c = search needs
+
+loop-less : tie.Need-loop-less Inv-loop μ-loop
+loop-less c = search needs
+
+loop-again : tie.Need-loop-again Inv-loop μ-loop
+loop-again c = (omega (arith, c .before .before .loop-test .taken), variables-next (c .before .before .before .loop .inv .1) (c .before .place .ensures) (c .one .ensures))
+
+returns : tie.Need-returns Inv-loop μ-loop
+returns c = variables-end (c .before .loop .inv .1) (c .before .loop .inv .0) (c .loop-test .left)
 
 pub variables-of-spec : {M : Type 1} → statement M
 variables-of-spec =
-    tie.close (tie.spec (λ c κs. search needs) (λ c κs. search needs) (λ c κs. search needs) (λ c κs. search needs) returns)
+    tie.close
+    (tie.spec
+    Inv-loop
+    μ-loop
+    loop-holds
+    place-requires
+    one-requires
+    add-k
+    loop-less
+    loop-again
+    returns)
