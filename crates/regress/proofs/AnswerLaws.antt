@@ -150,13 +150,13 @@ module _ (ar value truths spans out work : List ℕ) where
         t : areListings ar truths spans 1 (predicateCount - 1) ≡ true
         t = sym q ∙ not-false d g
 
-        pub regress-short : length out < 3072 → Says (Refused Buffer) out
+        pub regress-short : length out < resultWords → Says (Refused Buffer) out
         regress-short h = says (regress-buffer ar value truths spans (length out) (length work) v t (or-one _ _ (lt-ltb (length out) resultWords h)))
 
-        pub regress-narrow : length work < 6144 → Says (Refused Buffer) out
+        pub regress-narrow : length work < spaceWords → Says (Refused Buffer) out
         regress-narrow h = says (regress-buffer ar value truths spans (length out) (length work) v t (or-other (ltb (length out) resultWords) _ (lt-ltb (length work) spaceWords h)))
 
-        module _ (h : 3072 ≤ length out) (k : 6144 ≤ length work) where
+        module _ (h : resultWords ≤ length out) (k : spaceWords ≤ length work) where
           pub regress-lent : Lent ar truths spans
           regress-lent = record { arities = listing-is-valid ar value v .arities; listings = t }
 

@@ -10,8 +10,9 @@ use Rattle.refusal.specs.declared.Refusal.{Refusal}
 use Rattle.refusal.specs.Outcome.{Outcome, ok, refused, andThen}
 use Rattle.basics.specs.Members.{clash}
 use Rattle.basics.specs.Tests.{Cmp, below, equal, above, cmp}
-use Rattle.label.specs.Labels.{isLabel, unpacked, inOrder}
-use Rattle.label.specs.LabelLaws.{label-fits, label-below}
+use Rattle.label.specs.Limits.{predicateCount, predicateWeight}
+use Rattle.label.specs.Labels.{isLabel, predicateOf, unpacked, inOrder}
+use Rattle.label.specs.LabelLaws.{label-fits}
 use Rattle.diagram.specs.Diagram.{Diagram, leaf, same}
 use Rattle.diagram.specs.Validity.{tree}
 use Rattle.diagram.specs.Sizes.{spaceRows}
@@ -35,7 +36,7 @@ use Rattle.row_steps.specs.RunLaws.{in-room, ran-bind, ran-stop, ran-cast, ran-
 use Rattle.truths.specs.TruthChecks.{Lent}
 use Rattle.regress.specs.declared.Task.{Task}
 use Rattle.regress.specs.declared.Task.the-variants.{Leaf, Branch}
-use Rattle.regress.specs.Keeping.{Known, formedTruth, Asking, slotLabel, slotRow, Stands, Keeps, KeptRan}
+use Rattle.regress.specs.Keeping.{Known, formedTruth, Asking, slots, slotBase, slotLabel, slotRow, Stands, Keeps, KeptRan}
 use Rattle.regress.specs.Tasks.{taskRun, Tasked, toldAs}
 use Rattle.regress.proofs.RowsLaws.{leaf-told, ready-on}
 
@@ -73,34 +74,35 @@ zero-label : (ar : List ℕ) → isLabel ar 0 ≡ true → ⊥
 unfolding unpacked inOrder
 zero-label ar h = clash (label-fits ar 0 h .ordered) refl
 
-pub keeps-start : (ar : List ℕ) (T : Truths) (s : List ℕ) (count n : ℕ) → n ≡ 1024 → Keeps ar T s count (replicate n 0)
+pub keeps-start : (ar : List ℕ) (T : Truths) (s : List ℕ) (count n : ℕ) → n ≡ slots → Keeps ar T s count (replicate n 0)
 keeps-start ar T s count n e = record {
   places = length-replicate n 0 ∙ e;
-  each = λ b h z. absurd (zero-label ar (subst (λ (x : ℕ). isLabel ar (x / 65536) ≡ true) (getD-replicate n b 0 0 (omega arith)) z));
+  each = λ b h z. absurd (zero-label ar (subst (λ (x : ℕ). isLabel ar (x / slotBase) ≡ true) (getD-replicate n b 0 0 (omega arith)) z));
 }
 
 -- `kept_truth`
-pub asking-below : {ar truths spans : List ℕ} {l : ℕ} → Asking ar truths spans l → l < 4294967295
-asking-below {ar} {truths} {spans} {l} q = label-below ar l (q .label)
+pub asking-below : {ar truths spans : List ℕ} {l : ℕ} → Asking ar truths spans l → l < predicateCount * predicateWeight
+unfolding unpacked predicateOf
+asking-below {ar} {truths} {spans} {l} q = omega (arith, label-fits ar l (q .label) .predicate-fits)
 
 module _ {ar truths spans : List ℕ} {l : ℕ} (q : Asking ar truths spans l) {plan index s₀ heads₀ links₀ : List ℕ} {count : ℕ} (ready : Ready plan index s₀ heads₀ links₀ count)
-    {kept : List ℕ} (k : Keeps ar (truthsOf truths spans) s₀ count kept) {h : ℕ} (inside : h < 1024) where
+    {kept : List ℕ} (k : Keeps ar (truthsOf truths spans) s₀ count kept) {h : ℕ} (inside : h < slots) where
   abbrev T : Truths
   T = truthsOf truths spans
 
-  stands : getD kept h 0 / 65536 ≡ l → Stands ar T s₀ count l (getD kept h 0 % 65536)
-  stands e = subst (λ (x : ℕ). Stands ar T s₀ count x (getD kept h 0 % 65536)) e (k .each h inside (rw e (q .label)))
+  stands : getD kept h 0 / slotBase ≡ l → Stands ar T s₀ count l (getD kept h 0 % slotBase)
+  stands e = subst (λ (x : ℕ). Stands ar T s₀ count x (getD kept h 0 % slotBase)) e (k .each h inside (rw e (q .label)))
 
-  pub kept-hit : getD kept h 0 / 65536 ≡ l → KeptRan ar T (formedTruth ar T l) s₀ count (Row (getD kept h 0 % 65536) count) s₀ heads₀ links₀ index kept
+  pub kept-hit : getD kept h 0 / slotBase ≡ l → KeptRan ar T (formedTruth ar T l) s₀ count (Row (getD kept h 0 % slotBase) count) s₀ heads₀ links₀ index kept
   kept-hit e =
       let x = stands e in
-      let a = known-again (formedTruth ar T l) (tree s₀ (getD kept h 0 % 65536)) (diagramsOf s₀ count) (steady-formed ar T l) (x .known) (in-room (ready .space .holds)) in
-      let g : Gave (formedTruth ar T l) s₀ count (getD kept h 0 % 65536) count s₀ = record { there = x .there; more = omega arith; gives = a; stays = λ j p. refl } in
+      let a = known-again (formedTruth ar T l) (tree s₀ (getD kept h 0 % slotBase)) (diagramsOf s₀ count) (steady-formed ar T l) (x .known) (in-room (ready .space .holds)) in
+      let g : Gave (formedTruth ar T l) s₀ count (getD kept h 0 % slotBase) count s₀ = record { there = x .there; more = omega arith; gives = a; stays = λ j p. refl } in
       record {
         ran = record {
           space = ready .space;
           clean = ready .clean;
-          row = λ i n z. let p : getD kept h 0 % 65536 ≡ i = cc in let r : count ≡ n = cc in rw (← p, ← r) g;
+          row = λ i n z. let p : getD kept h 0 % slotBase ≡ i = cc in let r : count ≡ n = cc in rw (← p, ← r) g;
           refusal = λ w n z. let y : _≡_ {A = ℕ} 0 1 = cc in absurd (omega arith);
         };
         keeps = λ i n z. let r : count ≡ n = cc in rw (← r) k;
@@ -114,13 +116,13 @@ module _ {ar truths spans : List ℕ} {l : ℕ} (q : Asking ar truths spans l) {
       gave : Gave (formedTruth ar T l) s₀ count i n s
       gave = x .row i n e
 
-      pub kept-small : i < 2048
+      pub kept-small : i < slotBase
       kept-small = omega (arith, gave .there, ran-answer e x .space .holds .table .within)
 
       pub kept-place : h < length kept
       kept-place = omega (arith, k .places)
 
-      pub kept-new : KeptRan ar T (formedTruth ar T l) s₀ count (Row i n) s heads links index′ (set kept h (l * 65536 + i))
+      pub kept-new : KeptRan ar T (formedTruth ar T l) s₀ count (Row i n) s heads links index′ (set kept h (l * slotBase + i))
       kept-new = record { ran = ran-answer e x; keeps = λ j m z. let p : n ≡ m = cc in rw (← p) keeps }
         where
           older : Keeps ar T s n kept
@@ -129,23 +131,23 @@ module _ {ar truths spans : List ℕ} {l : ℕ} (q : Asking ar truths spans l) {
           newest : Stands ar T s n l i
           newest = record { there = gave .there; known = known-now (formedTruth ar T l) (tree s i) (diagramsOf s₀ count) (diagramsOf s n) (gave .gives) }
 
-          each : (b : ℕ) → b < 1024 → Cmp b h → isLabel ar (slotLabel (set kept h (l * 65536 + i)) b) ≡ true
-              → Stands ar T s n (slotLabel (set kept h (l * 65536 + i)) b) (slotRow (set kept h (l * 65536 + i)) b)
+          each : (b : ℕ) → b < slots → Cmp b h → isLabel ar (slotLabel (set kept h (l * slotBase + i)) b) ≡ true
+              → Stands ar T s n (slotLabel (set kept h (l * slotBase + i)) b) (slotRow (set kept h (l * slotBase + i)) b)
           each b o (below c) z =
-              let d : getD (set kept h (l * 65536 + i)) b 0 ≡ getD kept b 0 = getD-set-other kept h b (l * 65536 + i) 0 (λ y. omega arith) in
-              subst (λ (v : ℕ). Stands ar T s n (v / 65536) (v % 65536)) (sym d) (older .each b o (subst (λ (v : ℕ). isLabel ar (v / 65536) ≡ true) d z))
+              let d : getD (set kept h (l * slotBase + i)) b 0 ≡ getD kept b 0 = getD-set-other kept h b (l * slotBase + i) 0 (λ y. omega arith) in
+              subst (λ (v : ℕ). Stands ar T s n (v / slotBase) (v % slotBase)) (sym d) (older .each b o (subst (λ (v : ℕ). isLabel ar (v / slotBase) ≡ true) d z))
           each b o (above c) z =
-              let d : getD (set kept h (l * 65536 + i)) b 0 ≡ getD kept b 0 = getD-set-other kept h b (l * 65536 + i) 0 (λ y. omega arith) in
-              subst (λ (v : ℕ). Stands ar T s n (v / 65536) (v % 65536)) (sym d) (older .each b o (subst (λ (v : ℕ). isLabel ar (v / 65536) ≡ true) d z))
+              let d : getD (set kept h (l * slotBase + i)) b 0 ≡ getD kept b 0 = getD-set-other kept h b (l * slotBase + i) 0 (λ y. omega arith) in
+              subst (λ (v : ℕ). Stands ar T s n (v / slotBase) (v % slotBase)) (sym d) (older .each b o (subst (λ (v : ℕ). isLabel ar (v / slotBase) ≡ true) d z))
           each b o (equal c) z =
-              let d : getD (set kept h (l * 65536 + i)) b 0 ≡ l * 65536 + i = rw c (getD-set-same kept h (l * 65536 + i) 0 kept-place) in
-              let u : l ≡ (l * 65536 + i) / 65536 = omega (arith, kept-small) in
-              let v : i ≡ (l * 65536 + i) % 65536 = omega (arith, kept-small) in
-              subst (λ (w : ℕ). Stands ar T s n (w / 65536) (w % 65536)) (sym d)
-              (subst (λ (w : ℕ). Stands ar T s n w ((l * 65536 + i) % 65536)) u (subst (λ (w : ℕ). Stands ar T s n l w) v newest))
+              let d : getD (set kept h (l * slotBase + i)) b 0 ≡ l * slotBase + i = rw c (getD-set-same kept h (l * slotBase + i) 0 kept-place) in
+              let u : l ≡ (l * slotBase + i) / slotBase = omega (arith, kept-small) in
+              let v : i ≡ (l * slotBase + i) % slotBase = omega (arith, kept-small) in
+              subst (λ (w : ℕ). Stands ar T s n (w / slotBase) (w % slotBase)) (sym d)
+              (subst (λ (w : ℕ). Stands ar T s n w ((l * slotBase + i) % slotBase)) u (subst (λ (w : ℕ). Stands ar T s n l w) v newest))
 
-          keeps : Keeps ar T s n (set kept h (l * 65536 + i))
-          keeps = record { places = length-set kept h (l * 65536 + i) ∙ k .places; each = λ b o z. each b o (cmp b h) z }
+          keeps : Keeps ar T s n (set kept h (l * slotBase + i))
+          keeps = record { places = length-set kept h (l * slotBase + i) ∙ k .places; each = λ b o z. each b o (cmp b h) z }
 
 -- `regressed_row`: T formed before its row step adds nothing in it
 step-formed : (m : Run Diagram) (t f : Diagram) → bind (bind m form) (λ x. rowStep x t f) ≡ bind m (λ x. rowStep x t f)

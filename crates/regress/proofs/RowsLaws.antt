@@ -59,20 +59,20 @@ task-branch : (ws numbers : List ℕ) (k : ℕ) → labelAt ws k ≢ leafMark
 unfolding taskAt
 task-branch ws numbers k e = rw (ne-eqb (labelAt ws k) leafMark e)
 
-pub read-leaf : (ws numbers : List ℕ) (k : ℕ) → getD ws (k * 3) 0 ≡ 4294967295 → Leaf (getD ws (k * 3 + 1) 0) ≡ taskAt ws numbers k
+pub read-leaf : (ws numbers : List ℕ) (k : ℕ) → getD ws (k * 3) 0 ≡ leafMark → Leaf (getD ws (k * 3 + 1) 0) ≡ taskAt ws numbers k
 unfolding labelAt highAt
 read-leaf ws numbers k e = sym (task-leaf ws numbers k e)
 
-pub read-branch : (ws numbers : List ℕ) (k : ℕ) {t f : ℕ} → (getD ws (k * 3) 0 ≡ 4294967295 → ⊥) → t ≡ getD numbers (getD ws (k * 3 + 1) 0) 0
+pub read-branch : (ws numbers : List ℕ) (k : ℕ) {t f : ℕ} → (getD ws (k * 3) 0 ≡ leafMark → ⊥) → t ≡ getD numbers (getD ws (k * 3 + 1) 0) 0
     → f ≡ getD numbers (getD ws (k * 3 + 2) 0) 0 → Branch (getD ws (k * 3) 0) t f ≡ taskAt ws numbers k
 unfolding labelAt highAt lowAt
 read-branch ws numbers k e p q = (λ i. Branch (getD ws (k * 3) 0) (p i) (q i)) ∙ sym (task-branch ws numbers k e)
 
-pub read-high : {ws numbers : List ℕ} {k : ℕ} → Taskable ws numbers k → (getD ws (k * 3) 0 ≡ 4294967295 → ⊥) → getD ws (k * 3 + 1) 0 < length numbers
+pub read-high : {ws numbers : List ℕ} {k : ℕ} → Taskable ws numbers k → (getD ws (k * 3) 0 ≡ leafMark → ⊥) → getD ws (k * 3 + 1) 0 < length numbers
 unfolding labelAt highAt
 read-high t e = t .high e
 
-pub read-low : {ws numbers : List ℕ} {k : ℕ} → Taskable ws numbers k → (getD ws (k * 3) 0 ≡ 4294967295 → ⊥) → getD ws (k * 3 + 2) 0 < length numbers
+pub read-low : {ws numbers : List ℕ} {k : ℕ} → Taskable ws numbers k → (getD ws (k * 3) 0 ≡ leafMark → ⊥) → getD ws (k * 3 + 2) 0 < length numbers
 unfolding labelAt lowAt
 read-low t e = t .low e
 
@@ -147,7 +147,7 @@ module _ {T : ℕ → Run Diagram} {ar ws s₀ : List ℕ} {count : ℕ} {s numb
       low = λ e. omega (arith, kids e .1, g .places, valid .few);
     }
 
-    pub going-few : k < 1024
+    pub going-few : k < mostRows
     going-few = omega (arith, valid .few)
 
     -- its task

@@ -1,22 +1,21 @@
 -- Laws of T at a label: the map of its arguments, and what the code forms.
 use mathlib.Core.Path.{_≡_, refl, sym, ap, subst, _∙_, fun-ext}
 use mathlib.Core.Bool.{Bool, true, false, not, cond}
-use mathlib.Core.List.{List, [], _∷_}
+use mathlib.Core.List.{List}
 use mathlib.Core.Option.{Option, some, none}
-use Prim.Native.Nat.{ℕ, zero, suc, _+_, _-_, _≤_, _<_}
+use Prim.Native.Nat.{ℕ, _+_, _-_, _≤_, _<_}
 use native.Mathlib.Omega.{arith}
-use lib.ListN.{length, getD, set, take, length-set, List·getD-eq-default}
-use lib.Seq.{getD-take, getD-set-same, getD-set-other}
+use lib.ListN.{length, getD, set, length-set, List·getD-eq-default}
+use lib.Seq.{getD-set-same, getD-set-other}
 use lib.Dec.{eqb}
 use borrow.Author.Tests.{eqb-true, eqb-false, not-true}
 use Rattle.basics.specs.Members.{clash}
 use Rattle.basics.specs.Tests.{and-left, and-right, Flag, isTrue, isFalse, flag, Cmp, below, equal, above, cmp}
-use Rattle.label.specs.Limits.{termEnd}
-use Rattle.label.specs.Labels.{areArities, termsOf, unpacked, predicateOf}
-use Rattle.label.specs.LabelLaws.{term-below, label-below, label-fits}
-use Rattle.label.proofs.CodeLaws.{under-all}
+use Rattle.label.specs.Limits.{firstVariable, termEnd, predicateCount, mostPlaces, leafMark}
+use Rattle.label.specs.Labels.{areArities, placesOf, termsOf, unpacked, predicateOf, placeAt}
+use Rattle.label.specs.LabelLaws.{term-below, label-below, label-fits, place-of, predicate-of}
+use Rattle.label.specs.ArityLaws.{arity-most, arity-words, take-at, take-past}
 use Rattle.label.specs.Renamings.{mapOf}
-use Rattle.label.specs.declared.Atom.{Atom}
 use Rattle.label.specs.declared.Label.{Label}
 use Rattle.label.specs.declared.Test.the-variants.{Is}
 use Rattle.diagram.specs.Sizes.{highestValue}
@@ -47,82 +46,62 @@ use Rattle.regress.specs.Tasks.{Mapping, toldAs, usedPlaces, Usable, Arg
 use Rattle.regress.specs.Keeping.{formedTruth, Asking}
 
 -- `argument_term`
-pub argument-is-low : (ts : List ℕ) {t : ℕ} → t < 32 → t ≡ argument ts t
+pub argument-is-low : (ts : List ℕ) {t : ℕ} → t < firstVariable → t ≡ argument ts t
 argument-is-low ts {t} h = sym (argument-low ts t h)
 
-pub argument-is-unused : (n : ℕ) (a : Atom) (t : ℕ) → 32 ≤ t → n ≤ t - 32 → 0 ≡ argument (usedPlaces n a) t
-argument-is-unused n a t h k = sym (argument-high (usedPlaces n a) t h ∙ past n (a .first ∷ a .second ∷ a .third ∷ a .fourth ∷ []) (t - 32) k)
-  where
-    past : (m : ℕ) (xs : List ℕ) (i : ℕ) → m ≤ i → getD (take m xs) i 0 ≡ 0
-    past zero xs i q = refl
-    past (suc m) [] i q = refl
-    past (suc m) (x ∷ xs) zero q = absurd (omega arith)
-    past (suc m) (x ∷ xs) (suc i) q = past m xs i (omega arith)
+module _ (n l t : ℕ) (h : firstVariable ≤ t) where
+  pub argument-is-unused : n ≤ t - firstVariable → 0 ≡ argument (usedPlaces n (unpacked l)) t
+  argument-is-unused k = sym (argument-high (usedPlaces n (unpacked l)) t h ∙ take-past n (placesOf (unpacked l)) (t - firstVariable) k)
 
-module _ (n : ℕ) (a : Atom) (t : ℕ) (h : 32 ≤ t) (k : t - 32 < n) where
-  used : argument (usedPlaces n a) t ≡ getD (a .first ∷ a .second ∷ a .third ∷ a .fourth ∷ []) (t - 32) 0
-  used = argument-high (usedPlaces n a) t h ∙ getD-take n (a .first ∷ a .second ∷ a .third ∷ a .fourth ∷ []) (t - 32) 0 k
-
-  pub argument-is-first : t - 32 ≡ 0 → a .first ≡ argument (usedPlaces n a) t
-  argument-is-first e = sym (used ∙ ap (λ (i : ℕ). getD (a .first ∷ a .second ∷ a .third ∷ a .fourth ∷ []) i 0) e)
-
-  pub argument-is-second : t - 32 ≡ 1 → a .second ≡ argument (usedPlaces n a) t
-  argument-is-second e = sym (used ∙ ap (λ (i : ℕ). getD (a .first ∷ a .second ∷ a .third ∷ a .fourth ∷ []) i 0) e)
-
-  pub argument-is-third : t - 32 ≡ 2 → a .third ≡ argument (usedPlaces n a) t
-  argument-is-third e = sym (used ∙ ap (λ (i : ℕ). getD (a .first ∷ a .second ∷ a .third ∷ a .fourth ∷ []) i 0) e)
-
-  pub argument-is-fourth : t - 32 ≡ 3 → a .fourth ≡ argument (usedPlaces n a) t
-  argument-is-fourth e = sym (used ∙ ap (λ (i : ℕ). getD (a .first ∷ a .second ∷ a .third ∷ a .fourth ∷ []) i 0) e)
-
-  pub argument-is-past : (t - 32 ≡ 0 → ⊥) → (t - 32 ≡ 1 → ⊥) → (t - 32 ≡ 2 → ⊥) → (t - 32 ≡ 3 → ⊥) → 0 ≡ argument (usedPlaces n a) t
-  argument-is-past x y z w = sym (used ∙ List·getD-eq-default (a .first ∷ a .second ∷ a .third ∷ a .fourth ∷ []) 0 {n = t - 32} (omega arith))
+  pub argument-is-place : n ≤ mostPlaces → t - firstVariable < n → {x : ℕ} → x ≡ placeAt l (t - firstVariable) → x ≡ argument (usedPlaces n (unpacked l)) t
+  argument-is-place m k e =
+      e ∙ sym (argument-high (usedPlaces n (unpacked l)) t h ∙ take-at n (placesOf (unpacked l)) (t - firstVariable) k ∙ place-of l (t - firstVariable) (omega arith))
 
 -- `argument_map`: the first t words are written
-pub record Arguing (ar : List ℕ) (l : ℕ) (a : Atom) (n : ℕ) (map : List ℕ) (t : ℕ) : Type 0 where
-  pub atom : a ≡ unpacked l
-  pub arity : n ≡ getD ar (a .predicate) 0
+pub record Arguing (ar : List ℕ) (l n : ℕ) (map : List ℕ) (t : ℕ) : Type 0 where
+  pub arity : n ≡ getD ar (predicateOf l) 0
+  pub few : n ≤ mostPlaces
   pub whole : length map ≡ termEnd
   pub within : t ≤ termEnd
-  pub each : (u : ℕ) → u < t → getD map u 0 ≡ argument (usedPlaces n a) u
+  pub each : (u : ℕ) → u < t → getD map u 0 ≡ argument (usedPlaces n (unpacked l)) u
 
-pub arguing-start : {ar map : List ℕ} {l : ℕ} {a : Atom} → Arguable ar l map → a ≡ unpacked l → Arguing ar l a (getD ar (a .predicate) 0) map 0
-arguing-start h e = record { atom = e; arity = refl; whole = h .room; within = omega arith; each = λ u k. absurd (omega arith) }
+module _ {ar map : List ℕ} {l : ℕ} (h : Arguable ar l map) {p : ℕ} (e : p ≡ predicateOf l) where
+  pub arguing-start : Arguing ar l (getD ar p 0) map 0
+  arguing-start = record {
+    arity = ap (λ (q : ℕ). getD ar q 0) e;
+    few = arity-most ar p (h .arities);
+    whole = h .room;
+    within = omega arith;
+    each = λ u k. absurd (omega arith);
+  }
 
-pub arguing-room : {ar map : List ℕ} {l : ℕ} {a : Atom} → Arguable ar l map → a ≡ unpacked l → a .predicate < length ar
-arguing-room {ar} {map} {l} {a} h e =
-    let b : unpacked l .predicate < 32 = label-fits ar l (h .label) .predicate-fits in
-    let w : 32 ≤ length ar = under-all ar (sym (h .arities)) refl in
-    rw e (omega arith)
+  pub arguing-room : p < length ar
+  arguing-room = omega (arith, e, arity-words ar (h .arities), predicate-of l, label-fits ar l (h .label) .predicate-fits)
 
-pub arguing-on : {ar map : List ℕ} {l : ℕ} {a : Atom} {n t x : ℕ} → Arguing ar l a n map t → t < 64 → x ≡ argument (usedPlaces n a) t → Arguing ar l a n (set map t x) (t + 1)
-arguing-on {ar} {map} {l} {a} {n} {t} {x} g h e = record {
-  atom = g .atom;
-  arity = g .arity;
-  whole = length-set map t x ∙ g .whole;
-  within = omega arith;
-  each = λ u k. each u k (cmp u t);
-}
-  where
-    each : (u : ℕ) → u < t + 1 → Cmp u t → getD (set map t x) u 0 ≡ argument (usedPlaces n a) u
-    each u k (below q) = getD-set-other map t u x 0 (λ z. omega arith) ∙ g .each u q
-    each u k (equal q) = rw q (getD-set-same map t x 0 (omega (arith, g .whole)) ∙ e)
-    each u k (above q) = absurd (omega arith)
+module _ {ar map : List ℕ} {l n t : ℕ} (g : Arguing ar l n map t) where
+  pub arguing-on : {x : ℕ} → t < termEnd → x ≡ argument (usedPlaces n (unpacked l)) t → Arguing ar l n (set map t x) (t + 1)
+  arguing-on {x} h e = record {
+    arity = g .arity;
+    few = g .few;
+    whole = length-set map t x ∙ g .whole;
+    within = omega arith;
+    each = λ u k. each u k (cmp u t);
+  }
+    where
+      each : (u : ℕ) → u < t + 1 → Cmp u t → getD (set map t x) u 0 ≡ argument (usedPlaces n (unpacked l)) u
+      each u k (below q) = getD-set-other map t u x 0 (λ z. omega arith) ∙ g .each u q
+      each u k (equal q) = rw q (getD-set-same map t x 0 (omega (arith, g .whole)) ∙ e)
+      each u k (above q) = absurd (omega arith)
 
-pub arguing-end : {ar map : List ℕ} {l : ℕ} {a : Atom} {n t : ℕ} → Arguing ar l a n map t → 64 ≤ t → Argued ar l map
-unfolding termsOf
-arguing-end {ar} {map} {l} {a} {n} {t} g h = record {
-  whole = g .whole;
-  each = λ u k. g .each u (omega arith) ∙ ap (λ (m : ℕ). argument (usedPlaces m a) u) (g .arity) ∙ ap (λ (b : Atom). argument (usedPlaces (getD ar (b .predicate) 0) b) u) (g .atom);
-}
+  pub arguing-end : termEnd ≤ t → Argued ar l map
+  unfolding termsOf
+  arguing-end h = record {
+    whole = g .whole;
+    each = λ u k. g .each u (omega arith)
+        ∙ ap (λ (m : ℕ). argument (usedPlaces m (unpacked l)) u) (g .arity ∙ ap (λ (p : ℕ). getD ar p 0) (sym (predicate-of l)));
+  }
 
 -- `replace_arguments`
-take-past : (n : ℕ) (xs : List ℕ) (i : ℕ) → length xs ≤ i → getD (take n xs) i 0 ≡ 0
-take-past zero xs i h = refl
-take-past (suc n) [] i h = refl
-take-past (suc n) (x ∷ xs) zero h = absurd (omega arith)
-take-past (suc n) (x ∷ xs) (suc i) h = take-past n xs i (omega arith)
-
 module _ {ar ws : List ℕ} {l : ℕ} (u : Usable ar ws l) where
   arities : areArities ar ≡ true
   arities = listing-is-valid ar ws (u .listing) .arities
@@ -149,7 +128,7 @@ module _ {ar ws : List ℕ} {l : ℕ} (u : Usable ar ws l) where
     past t h =
         List·getD-eq-default map 0 (omega (arith, g .whole))
         ∙ sym (argument-high Ts t (omega arith)
-        ∙ take-past (getD ar (unpacked l .predicate) 0) (unpacked l .first ∷ unpacked l .second ∷ unpacked l .third ∷ unpacked l .fourth ∷ []) (t - 32) (omega arith))
+        ∙ take-past (getD ar (unpacked l .predicate) 0) (placesOf (unpacked l)) (t - firstVariable) (omega (arith, arity-most ar (unpacked l .predicate) arities)))
 
     same-map : (t : ℕ) → Cmp t termEnd → mapOf map t ≡ argument Ts t
     same-map t (below h) = g .each t h
@@ -189,12 +168,11 @@ ran-formed {m} {s₀} {count} {r} {s} {heads} {links} {index} x = record {
 }
 
 module _ {ar truths spans : List ℕ} {l : ℕ} (q : Asking ar truths spans l) where
-  pub label-predicate : {p : ℕ} → p ≡ predicateOf l → p < 32
-  unfolding predicateOf unpacked
-  label-predicate e = omega (arith, label-fits ar l (q .label) .predicate-fits)
+  pub label-predicate : {p : ℕ} → p ≡ predicateOf l → p < predicateCount
+  label-predicate e = omega (arith, predicate-of l, label-fits ar l (q .label) .predicate-fits)
 
   pub label-testable : Testable (Is (record { packed = l }))
-  label-testable = record { label = λ k e. let z : record { packed = l } ≡ k = cc in subst (λ (x : Label). x .packed < 4294967295) z (label-below ar l (q .label)) }
+  label-testable = record { label = λ k e. let z : record { packed = l } ≡ k = cc in subst (λ (x : Label). x .packed < leafMark) z (label-below ar l (q .label)) }
 
   module _ {p : ℕ} (e : p ≡ predicateOf l) where
     has-some : hasTruth spans p ≡ true → (truthOf (truthsOf truths spans) p ≡ some (diagramOf (truthWords truths spans p))) × (isListing ar (truthWords truths spans p) ≡ true)
@@ -204,7 +182,7 @@ module _ {ar truths spans : List ℕ} {l : ℕ} (q : Asking ar truths spans l) w
         let y = not-true (eqb (truthCount spans p) 0) (and-right (not (eqb p 0)) _ h) in
         let n : truthCount spans p ≡ 0 → ⊥ = eqb-false _ _ y in (
           rw x (truths-some truths spans p n),
-          listings-at ar truths spans 1 31 (q .lent .listings) p (let z : p ≡ 0 → ⊥ = eqb-false _ _ x in omega arith) (let z = label-predicate e in omega arith) n,
+          listings-at ar truths spans 1 (predicateCount - 1) (q .lent .listings) p (let z : p ≡ 0 → ⊥ = eqb-false _ _ x in omega arith) (let z = label-predicate e in omega arith) n,
         )
 
     has-no : hasTruth spans p ≡ false → truthOf (truthsOf truths spans) p ≡ none

@@ -7,6 +7,7 @@ use lib.ListN.{length, getD}
 use Rattle.basics.specs.Members.{Within}
 use Rattle.refusal.specs.Outcome.{ok}
 use Rattle.label.specs.Labels.{isLabel}
+use Rattle.diagram.specs.Sizes.{spaceRows}
 use Rattle.diagram.specs.Diagram.{Diagram, same}
 use Rattle.diagram.specs.Validity.{tree}
 use Rattle.store.specs.Space.{diagramsOf}
@@ -26,15 +27,18 @@ pub record Asking (ar truths spans : List ℕ) (l : ℕ) : Type 0 where
   pub lent : Lent ar truths spans
   pub label : isLabel ar l ≡ true
 
--- slots for labels; a slot has label · 2^16 + the row of its T
+-- slots for labels; a slot has the label times the number of rows that a space may have, and the row of its T
 abbrev pub slots : ℕ
 slots = 1024
 
+abbrev pub slotBase : ℕ
+slotBase = spaceRows
+
 abbrev pub slotLabel : List ℕ → ℕ → ℕ
-slotLabel kept b = getD kept b 0 / 65536
+slotLabel kept b = getD kept b 0 / slotBase
 
 abbrev pub slotRow : List ℕ → ℕ → ℕ
-slotRow kept b = getD kept b 0 % 65536
+slotRow kept b = getD kept b 0 % slotBase
 
 -- a step that was run, and whose rows are among rs
 pub record Known {A : Type 0} (m : Run A) (a : A) (rs : List Diagram) : Type 0 where

@@ -2,14 +2,14 @@
 use mathlib.Core.Path.{_≡_}
 use mathlib.Core.Logic.{_≢_}
 use mathlib.Core.Bool.{true, cond}
-use mathlib.Core.List.{List, [], _∷_}
+use mathlib.Core.List.{List}
 use Prim.Native.Nat.{ℕ, _+_, _*_, _≤_, _<_}
 use lib.ListN.{length, getD, take}
 use lib.Dec.{eqb}
 use Rattle.refusal.specs.declared.Refusal.the-variants.{Space}
 use Rattle.label.specs.Limits.{leafMark, termEnd}
 use Rattle.label.specs.Terms.{isTerm}
-use Rattle.label.specs.Labels.{areArities, isLabel, termsOf, unpacked}
+use Rattle.label.specs.Labels.{areArities, placesOf, isLabel, termsOf, unpacked}
 use Rattle.label.specs.Renamings.{mapOf, moved}
 use Rattle.label.specs.Callers.{TermMap}
 use Rattle.label.specs.declared.Atom.{Atom}
@@ -70,7 +70,7 @@ pub record Usable (ar ws : List ℕ) (l : ℕ) : Type 0 where
 
 -- the used places of an atom of arity n
 abbrev pub usedPlaces : ℕ → Atom → List ℕ
-usedPlaces n a = take n (a .first ∷ a .second ∷ a .third ∷ a .fourth ∷ [])
+usedPlaces n a = take n (placesOf a)
 
 -- what writing the map of a label's arguments requires
 pub record Arguable (ar : List ℕ) (l : ℕ) (map : List ℕ) : Type 0 where

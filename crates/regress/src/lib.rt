@@ -1,5 +1,4 @@
 // The regression call. What it is stands in regression.
-use label::Atom;
 use label::Label;
 use label::Term;
 use label::Test;
@@ -11,11 +10,11 @@ use truths::Verdict;
 use write::Listed;
 ghost use mathlib.Core.Path.{_≡_};
 ghost use mathlib.Core.Bool.{true};
-ghost use Prim.Native.Nat.{_<_};
+ghost use Prim.Native.Nat.{_≤_, _<_};
 ghost use lib.ListN.{length};
 ghost use Rattle.diagram.specs.Listing.{diagramOf};
 ghost use Rattle.regression.specs.RegressCall.{writtenAs, truthsOf, regressedAs, regressAnswer, regressResult};
-ghost use Rattle.label.specs.Limits.{leafMark};
+ghost use Rattle.label.specs.Limits.{mostPlaces};
 ghost use Rattle.diagram.specs.Validity.{tree};
 ghost use Rattle.row_steps.specs.Running.{Ready, Ran};
 ghost use Rattle.diagram.specs.Words.{isListing};
@@ -121,9 +120,10 @@ fn replace(
     Stepped::Row(root, n)
 }
 
-// What replaces the term t, where the arguments of a predicate of arity n become the places of an atom.
-fn argument_term(a: Atom, n: u64, t: u64) -> u64
-    ensures { λ r. ⌜ r ≡ argument (usedPlaces n a) t ⌝ }
+// What replaces the term t, where the arguments of a predicate of arity n become the terms of a label.
+fn argument_term(label: u64, n: u64, t: u64) -> u64
+    requires { ⌜ n ≤ mostPlaces ⌝ }
+    ensures { λ r. ⌜ r ≡ argument (usedPlaces n (unpacked label)) t ⌝ }
 {
     if t < Term::FIRST_VARIABLE {
         return t;
@@ -132,19 +132,7 @@ fn argument_term(a: Atom, n: u64, t: u64) -> u64
     if k >= n {
         return 0;
     }
-    if k == 0 {
-        return a.first;
-    }
-    if k == 1 {
-        return a.second;
-    }
-    if k == 2 {
-        return a.third;
-    }
-    if k == 3 {
-        return a.fourth;
-    }
-    0
+    Label { packed: label }.place(k)
 }
 
 // Writes the map that turns the arguments of a label's predicate into its terms.
@@ -152,12 +140,11 @@ fn argument_map(arities: &[u64], label: u64, map: &mut [u64])
     requires { ⌜ Arguable (now arities) label (now map) ⌝ }
     ensures { λ _. ⌜ Argued (now (arities .entry)) label (now (map .exit)) ⌝ }
 {
-    let a = Label { packed: label }.unpack();
-    let p = a.predicate as usize;
+    let p = Label { packed: label }.predicate() as usize;
     let n = arities[p];
     let mut t = 0u64;
     while t < Term::END {
-        map[t as usize] = argument_term(a, n, t);
+        map[t as usize] = argument_term(label, n, t);
         t += 1;
     }
 }
@@ -178,7 +165,7 @@ fn replace_arguments(
     requires { ⌜ Ready (now plan) (now index) (now space) (now heads) (now links) count ⌝ }
     ensures { λ r. ⌜ Ran (replacement (now (arities .entry)) (argument (termsOf (now (arities .entry)) (unpacked label))) (diagramOf (now (words .entry)))) (now (space .entry)) count r (now (space .exit)) (now (heads .exit)) (now (links .exit)) (now (index .exit)) ⌝ }
 {
-    let mut map = [0u64; 64];
+    let mut map = [0u64; Term::END as usize];
     argument_map(arities, label, &mut map);
     replace(
         arities,
@@ -238,14 +225,17 @@ fn form_truth(
 const SLOTS: usize = 1024;
 
 // A slot has its label times this, and the row of T.
-const SLOT_WEIGHT: u64 = 65536;
+const SLOT_BASE: u64 = diagram::SPACE_ROWS as u64;
 
-// The slot of a label.
+// Half of a word.
+const HALF: u64 = 4294967296;
+
+// The slot of a label. Both halves count: labels of few places differ in their upper halves.
 fn slot(label: u64) -> usize
-    requires { ⌜ label < leafMark ⌝ }
     ensures { λ r. ⌜ r < slots ⌝ }
 {
-    ((label * 2654435769 / 4194304) as usize) % SLOTS
+    let x = (label / HALF % HALF * 40503 + label % HALF * 36013) % HALF;
+    ((x * 2654435769 / 4194304) as usize) % SLOTS
 }
 
 // T for a label, kept for a label that occurs again.
@@ -269,8 +259,8 @@ fn kept_truth(
 {
     let h = slot(label);
     let e = kept[h];
-    if e / SLOT_WEIGHT == label {
-        let i = (e % SLOT_WEIGHT) as usize;
+    if e / SLOT_BASE == label {
+        let i = (e % SLOT_BASE) as usize;
         return Stepped::Row(i, count);
     }
     let r = form_truth(
@@ -288,7 +278,7 @@ fn kept_truth(
     let Stepped::Row(i, n) = r else {
         return r;
     };
-    kept[h] = label * SLOT_WEIGHT + i as u64;
+    kept[h] = label * SLOT_BASE + i as u64;
     Stepped::Row(i, n)
 }
 

@@ -3,9 +3,6 @@ use borrow.Author.Needs.{needs}
 use Rattle.regress.proofs.kept_truth.Statement.{statement}
 use Rattle.regress.proofs.kept_truth.Tie as tie
 
-slot-requires : tie.Need-slot-requires
-slot-requires c κs = asking-below (c .before .before .before .before .before .before .before .before .before .pre .0)
-
 returns : tie.Need-returns
 returns c =
     let c1 = c .before .before .before .before .before .before .before .before .before .before .before .before in
@@ -48,6 +45,6 @@ returns-3 c =
 pub kept-truth-spec : {M : Type 1} → statement M
 kept-truth-spec =
     tie.close
-    (tie.spec slot-requires (λ c. search needs) (λ c. search needs) returns (λ c κs. search needs) (λ c. search needs) (λ c. search needs) (λ c. search needs) (λ c. search needs)
+    (tie.spec (λ c κs. search needs) (λ c. search needs) (λ c. search needs) returns (λ c κs. search needs) (λ c. search needs) (λ c. search needs) (λ c. search needs) (λ c. search needs)
     (λ c. search needs) (λ c. search needs) (λ c. search needs) returns-2 mul-kept add-kept (λ c. search needs) slice-write-kept (λ c. search needs) (λ c. search needs)
     (λ c. search needs) (λ c. search needs) (λ c. search needs) (λ c. search needs) returns-3)
