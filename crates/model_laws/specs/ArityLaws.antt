@@ -13,7 +13,7 @@ use borrow.Author.Tests.{eq-eqb, le-leb}
 use Rattle.basics.specs.Tests.{and-left, and-right}
 use Rattle.label.specs.Limits.{predicateCount, mostPlaces, equality, equalityArity}
 use Rattle.label.specs.Labels.{areArities, allAtMost}
-use Rattle.reading.specs.ArityLaws.{arity-two, arity-words}
+use Rattle.label.specs.ArityLaws.{arity-two, arity-words}
 
 -- every predicate has the places that it had, or had none
 pub record Grown (ar br : List ℕ) : Type 0 where

@@ -3,18 +3,19 @@
 use mathlib.Core.Path.{_≡_, refl, sym, ap, subst, _∙_}
 use mathlib.Core.Logic.{_⊎_, inl, inr}
 use mathlib.Core.Bool.{true, false}
-use mathlib.Core.List.{List, [], _∷_}
+use mathlib.Core.List.{List, [], _∷_, List·Memᴰ, List·Memᴰ·head, List·Memᴰ·tail}
 use Prim.Native.Nat.{ℕ, zero, suc, _+_, _<_}
 use native.Mathlib.Omega.{arith}
 use lib.ListN.{length, getD, take}
 use lib.Dec.{eqb, ltb}
-use borrow.Author.Tests.{eqb-true, ne-eqb, le-ltb}
+use borrow.Author.Tests.{ne-eqb}
 use Rattle.basics.specs.Tests.{cond-const}
 use Rattle.basics.specs.Members.{mem}
-use Rattle.label.specs.Limits.{firstParameter, firstVariable, variableCount}
+use Rattle.label.specs.Limits.{firstParameter, firstVariable, variableCount, mostPlaces}
 use Rattle.label.specs.Terms.{isTerm, isConstant}
-use Rattle.label.specs.Labels.{placeFits, isLabel, termsOf, unpacked}
-use Rattle.label.specs.LabelLaws.{PlacesFit, Fitting, label-fits, fits-atom}
+use Rattle.label.specs.Labels.{placesOf, placeIn, placeFits, isLabel, termsOf, unpacked}
+use Rattle.label.specs.LabelLaws.{PlacesFit, Fitting, label-fits, fits-atom, unused-zero}
+use Rattle.label.specs.ArityLaws.{terms-are}
 use Rattle.label.specs.declared.Atom.{Atom}
 use Rattle.diagram.specs.Diagram.{Diagram, leaf, branch, relabel}
 use Rattle.diagram.specs.Listing.{Fine, Good}
@@ -31,48 +32,27 @@ use Rattle.model_laws.specs.ActionLaws.{every-mono}
 
 -- ===== Labels =====
 
-abbrev places : Atom → List ℕ
-places a = a .first ∷ a .second ∷ a .third ∷ a .fourth ∷ []
-
 -- all places of the atom a are 0, as those of a predicate without places are
 record Bare (a : Atom) : Type 0 where
-  first : a .first ≡ 0
-  second : a .second ≡ 0
-  third : a .third ≡ 0
-  fourth : a .fourth ≡ 0
-
-place-zero : (k t : ℕ) → placeFits 0 k t ≡ true → t ≡ 0
-unfolding placeFits
-place-zero k t e = let z : ltb k 0 ≡ false = le-ltb k 0 (omega arith) in eqb-true t 0 (rw z at e)
+  at : (k : ℕ) → k < mostPlaces → placeIn a k ≡ 0
 
 bare : (a : Atom) → PlacesFit 0 a → Bare a
-bare a f = record {
-  first = place-zero 0 (a .first) (f .first-fits);
-  second = place-zero 1 (a .second) (f .second-fits);
-  third = place-zero 2 (a .third) (f .third-fits);
-  fourth = place-zero 3 (a .fourth) (f .fourth-fits);
-}
+bare a f = record { at = λ k h. unused-zero 0 k (placeIn a k) (omega arith) (f .fits k h) }
 
 zero-fits : (n k t : ℕ) → t ≡ 0 → placeFits n k t ≡ true
 unfolding placeFits isTerm isConstant
 zero-fits n k t e = rw e (cond-const (ltb k n) true)
 
 bare-fits : (n : ℕ) (a : Atom) → Bare a → PlacesFit n a
-bare-fits n a b = record {
-  first-fits = zero-fits n 0 (a .first) (b .first);
-  second-fits = zero-fits n 1 (a .second) (b .second);
-  third-fits = zero-fits n 2 (a .third) (b .third);
-  fourth-fits = zero-fits n 3 (a .fourth) (b .fourth);
-}
+bare-fits n a b = record { fits = λ k h. zero-fits n k (placeIn a k) (b .at k h) }
 
-each-take : (P : ℕ → Type 0) (n : ℕ) (ts : List ℕ) → Each P ts → Each P (take n ts)
-each-take P zero ts h = tt
-each-take P (suc n) [] h = tt
-each-take P (suc n) (t ∷ ts) h = (h .0, each-take P n ts (h .1))
+each-member : (P : ℕ → Type 0) (ts : List ℕ) → ((t : ℕ) → List·Memᴰ t ts → P t) → Each P ts
+each-member P [] h = tt
+each-member P (t ∷ ts) h = (h t (List·Memᴰ·head refl), each-member P ts (λ u m. h u (List·Memᴰ·tail m)))
 
--- P names all places if it names 0
-bare-each : (P : ℕ → Type 0) → P 0 → (n : ℕ) (a : Atom) → Bare a → Each P (take n (places a))
-bare-each P p n a b = each-take P n (places a) (rw (b .first) p, (rw (b .second) p, (rw (b .third) p, (rw (b .fourth) p, tt))))
+-- P names all terms if it names 0
+bare-each : (P : ℕ → Type 0) → P 0 → (br : List ℕ) (a : Atom) → Bare a → Each P (termsOf br a)
+bare-each P p br a b = each-member P (termsOf br a) (terms-are P br a (λ k h i. subst P (sym (b .at k i)) p))
 
 each-not : (t : ℕ) (ts : List ℕ) → Each (λ u. eqb t u ≡ false) ts → mem eqb t ts ≡ false
 each-not t [] h = refl
@@ -84,6 +64,14 @@ module _ (ar br : List ℕ) (grown : Grown ar br) where
   Way a = (getD br (a .predicate) 0 ≡ getD ar (a .predicate) 0) ⊎ (getD ar (a .predicate) 0 ≡ 0)
 
   module _ (a : Atom) (f : Fitting ar a) where
+    same-terms : getD br (a .predicate) 0 ≡ getD ar (a .predicate) 0 → termsOf br a ≡ termsOf ar a
+    unfolding termsOf
+    same-terms e = ap (λ (n : ℕ). take n (placesOf a)) e
+
+    no-terms : getD ar (a .predicate) 0 ≡ 0 → termsOf ar a ≡ []
+    unfolding termsOf
+    no-terms e = ap (λ (n : ℕ). take n (placesOf a)) e
+
     bare-at : getD ar (a .predicate) 0 ≡ 0 → Bare a
     bare-at e = bare a (subst (λ (n : ℕ). PlacesFit n a) e (f .places-fit))
 
@@ -95,20 +83,19 @@ module _ (ar br : List ℕ) (grown : Grown ar br) where
         go (inr e) = bare-fits (getD br (a .predicate) 0) a (bare-at e)
 
     each-grown : (P : ℕ → Type 0) → P 0 → Each P (termsOf ar a) → Each P (termsOf br a)
-    unfolding termsOf
     each-grown P p h = go (grown .each (a .predicate))
       where
-        go : Way a → Each P (take (getD br (a .predicate) 0) (places a))
-        go (inl e) = rw e h
-        go (inr e) = bare-each P p (getD br (a .predicate) 0) a (bare-at e)
+        go : Way a → Each P (termsOf br a)
+        go (inl e) = subst (Each P) (sym (same-terms e)) h
+        go (inr e) = bare-each P p br a (bare-at e)
 
     mem-grown : (t : ℕ) → 0 < t → mem eqb t (termsOf br a) ≡ mem eqb t (termsOf ar a)
-    unfolding termsOf
     mem-grown t h = go (grown .each (a .predicate))
       where
-        go : Way a → mem eqb t (take (getD br (a .predicate) 0) (places a)) ≡ mem eqb t (take (getD ar (a .predicate) 0) (places a))
-        go (inl e) = rw e
-        go (inr e) = rw e (each-not t (take (getD br (a .predicate) 0) (places a)) (bare-each (λ u. eqb t u ≡ false) (ne-eqb t 0 (λ z. omega arith)) (getD br (a .predicate) 0) a (bare-at e)))
+        go : Way a → mem eqb t (termsOf br a) ≡ mem eqb t (termsOf ar a)
+        go (inl e) = ap (mem eqb t) (same-terms e)
+        go (inr e) =
+            each-not t (termsOf br a) (bare-each (λ u. eqb t u ≡ false) (ne-eqb t 0 (λ z. omega arith)) br a (bare-at e)) ∙ sym (ap (mem eqb t) (no-terms e))
 
   label-grown : (l : ℕ) → isLabel ar l ≡ true → isLabel br l ≡ true
   unfolding isLabel
