@@ -1,8 +1,9 @@
 -- The session before the first line is good (document 01, section 'Text').
 use mathlib.Core.Path.{_≡_, refl}
-use Prim.Native.Nat.{ℕ, zero, suc, _<_}
+use Prim.Native.Nat.{ℕ, zero, suc, _-_, _<_}
 use native.Mathlib.Omega.{arith}
 use lib.ListN.{getD, replicate}
+use Rattle.label.specs.Limits.{predicateCount}
 use Rattle.label.specs.Labels.{areArities}
 use Rattle.session.specs.Session.{opening}
 use Rattle.session.specs.Good.{GoodTables, GoodParts, GoodSession}
@@ -16,7 +17,7 @@ zeros (suc n) (suc i) = zeros n i
 no-arity : (p : ℕ) → 0 < p → getD (opening .model .arities) p 0 ≡ 0
 unfolding opening
 no-arity zero h = absurd (omega arith)
-no-arity (suc p) h = zeros 31 p
+no-arity (suc p) h = zeros (predicateCount - 1) p
 
 opening-tables : GoodTables (opening .names) (opening .model .arities)
 unfolding opening areArities
