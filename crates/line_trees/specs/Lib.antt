@@ -8,7 +8,7 @@
 --   variablesAfter == variables in the order of their first occurrence
 --   numbered, termNumber, termNumbers == a declared constant, or 2; a parameter or variable that is allowed here, or 6
 --   atomTest == what an atom asks: a declared predicate, or 2, with its arity, or 3; then its terms
---   diagramWords, readTree == a number in its range, or 4; atom, part for true, part for false; after all words more than 32 variables are 8
+--   diagramWords, readTree == a number in its range, or 4; atom, part for true, part for false; after all words more variables than the limit are 8
 --
 -- Definitions: one line
 --   rewardTree == (reward DIAGRAM): words, row steps, closed up; last 9 for model rows
@@ -27,8 +27,6 @@
 --   reply-unwritten: the reply to bytes that no well-formed line writes is refusal 1
 --   reply-answers: so every line in bytes has the reply of TreeAnswer; reply-only: and no other
 --   text-trees: the answers of a text are those of TextTrees; trees-only: and no others are
---
--- The arity list that reply-tree asks for is kept from line to line (session_laws, reply-sound); text-trees asks for nothing.
 
 -- definitions
 pub mod TreeReading

@@ -14,7 +14,7 @@ use Rattle.refusal.specs.Outcome.{Outcome, ok, andThen}
 use Rattle.refusal.specs.Outcome.Outcome.{refused as refusedWith}
 use Rattle.label.specs.Limits.{equality, variableCount}
 use Rattle.label.specs.Terms.{variableTerm}
-use Rattle.label.specs.Labels.{testOf}
+use Rattle.label.specs.Labels.{atomFrom, testOf}
 use Rattle.label.specs.declared.Test.{Test}
 use Rattle.diagram.specs.Sizes.{highestValue}
 use Rattle.diagram.specs.Diagram.{Diagram}
@@ -32,7 +32,7 @@ use Rattle.reading.specs.declared.Binding.the-variants.{Any, None, Only}
 use Rattle.reading.specs.Reading.{Names, Judged, pickJudged, constantNumber, parameterNumber, met, numberIn, variableNumber}
 use Rattle.reading.specs.Reading.{andThen as judgedThen}
 use Rattle.reading.specs.Reading.Judged.{fine, refused}
-use Rattle.reading.specs.Tree.{Reading, Result, having, resolveTerm, joined, resolveTerms, atomFrom, testing, resolveAtom, branching, resolveDiagram}
+use Rattle.reading.specs.Tree.{Reading, Result, having, resolveTerm, joined, resolveTerms, testing, resolveAtom, branching, resolveDiagram}
 use Rattle.reading.specs.Tree.Reading.{number, branch}
 use Rattle.session.specs.Session.{Session, refuseIf}
 use Rattle.session.specs.Facts.{predicateOf}
@@ -74,7 +74,7 @@ module _ (σ : Session) (b : Binding) (ps vs : List Key) (S : List Key → List 
   abbrev names : Names
   names = namesFor (σ .names) (σ .model .arities) b ps
 
-  -- the same value, where the line has 32 variables at most
+  -- the same value, where the line's variables are within the limit
   abbrev Same : {A : Type 0} → List T.Term → Result A → A → Type 0
   Same ts g x = (length vs ≤ variableCount → g .value ≡ x) × S (g .variables) ts
 
@@ -141,7 +141,7 @@ module _ (σ : Session) (b : Binding) (ps vs : List Key) (S : List Key → List 
 
 -- ===== Which variables a line may have =====
 
--- the same reading where the line has 32 variables at most, and as many variables against 32
+-- the same reading where the line's variables are within the limit, and their count against it
 abbrev pub Counted : List Key → Result Reading → Reading → Type 0
 Counted vs g r = (length vs ≤ variableCount → g .value ≡ r) × (leb (length (g .variables)) variableCount ≡ leb (length vs) variableCount)
 
@@ -185,7 +185,7 @@ reads-only σ ps vs d = tracked σ Only ps vs (Stay vs) (record { each = each; c
         (same-number σ Only ps vs (Stay vs) ts vs refl (isAmong (keyOf n) vs) (numberIn vs (keyOf n)) (variableTerm (placeOf (keyOf n) vs)) Unbound
         (λ few c. number-exact vs (keyOf n) few (ltb-true (placeOf (keyOf n) vs) (length vs) c)))
 
--- a reward: any variables, of which the pass keeps 33
+-- a reward: any variables, of which the pass keeps one more than the limit
 record Met (vs ws : List Key) (ts : List T.Term) : Type 0 where
   all : List Key
   keeps : ws ≡ kept all

@@ -7,7 +7,6 @@ use Prim.Native.Nat.{ℕ, suc}
 use native.Mathlib.Omega.{arith}
 use lib.ListN.{length}
 use Rattle.basics.specs.Tests.{Flag, isTrue, isFalse, flag}
-use Rattle.label.specs.Labels.{areArities}
 use Rattle.text.specs.declared.Kind.{Kind}
 use Rattle.text.specs.Line.{isBad, Words, Line, lineBytes, GoodLine}
 use Rattle.text.specs.Line.Line.{line}
@@ -16,7 +15,6 @@ use Rattle.text.specs.LineUnique.{line-exact}
 use Rattle.session.specs.Session.{Session}
 use Rattle.session.specs.Replies.{Reply, reply}
 use Rattle.session.specs.Texts.{linesOf, hasBytes, Progress, replied, afterLine, afterLines, afterRest, closing, beginning, textRead, textAnswers}
-use Rattle.session_laws.specs.TextLaws.{Sound, reply-sound, text-sound}
 use Rattle.line_trees.specs.TextTrees.{TreeAnswer, TreeAnswers, TextTrees}
 use Rattle.line_trees.specs.TextTrees.TreeAnswer.{blank, written, unwritten}
 use Rattle.line_trees.specs.TextTrees.TreeAnswers.{none, next}
@@ -28,7 +26,7 @@ use Rattle.line_trees.specs.TreeReplyLaws.{reply-tree, only-bad, reply-u
 no-bad : (k : Kind) → Words k → isBad k ≡ true → ⊥
 no-bad k w h = subst Words (only-bad k (λ z. true≢false (sym h ∙ z))) w
 
-module _ (σ : Session) (few : areArities (σ .model .arities) ≡ true) (number : ℕ) where
+module _ (σ : Session) (number : ℕ) where
   -- the reply to a line in bytes is that of the tree that writes it
   pub reply-answers : (s : List ℕ) → TreeAnswer σ number s (reply σ number s)
   unfolding reply
@@ -48,49 +46,39 @@ module _ (σ : Session) (few : areArities (σ .model .arities) ≡ true) (number
           let x = line-exact (b ∷ s) .written h in
           let l : Line = line (lineKind (b ∷ s)) (x .0) in
           subst (λ (t : List ℕ). TreeAnswer σ number t (reply σ number t)) (sym (x .2))
-          (subst (TreeAnswer σ number (lineBytes l)) (sym (reply-tree σ few number l (x .1))) (written l (x .1)))
+          (subst (TreeAnswer σ number (lineBytes l)) (sym (reply-tree σ number l (x .1))) (written l (x .1)))
 
   -- and there is no other
   pub reply-only : {s : List ℕ} {y : Reply} → TreeAnswer σ number s y → y ≡ reply σ number s
   unfolding reply
   reply-only blank = refl
-  reply-only (written l g) = sym (reply-tree σ few number l g)
+  reply-only (written l g) = sym (reply-tree σ number l g)
   reply-only (unwritten s some other) = sym (reply-unwritten σ number s some other)
 
 -- ===== Lines =====
 
-arities-of : (σ : Session) → Sound σ → areArities (σ .model .arities) ≡ true
-arities-of σ h = h .good .tables .arities
-
-lines-answers : (p : Progress) → Sound (p .session) → (ls : List (List ℕ)) → TreeAnswers p ls (afterLines p ls)
+lines-answers : (p : Progress) (ls : List (List ℕ)) → TreeAnswers p ls (afterLines p ls)
 unfolding afterLines afterLine
-lines-answers p h [] = none p
-lines-answers p h (s ∷ ls) =
+lines-answers p [] = none p
+lines-answers p (s ∷ ls) =
     let y = reply (p .session) (suc (p .lines)) s in
     let r : Progress = replied p (hasBytes s) y in
-    next p (afterLines r ls) s ls y (reply-answers (p .session) (arities-of (p .session) h) (suc (p .lines)) s)
-    (lines-answers r (reply-sound (p .session) h (suc (p .lines)) s) ls)
+    next p (afterLines r ls) s ls y (reply-answers (p .session) (suc (p .lines)) s) (lines-answers r ls)
 
-lines-only : {p q : Progress} {ls : List (List ℕ)} → Sound (p .session) → TreeAnswers p ls q → q ≡ afterLines p ls
+lines-only : {p q : Progress} {ls : List (List ℕ)} → TreeAnswers p ls q → q ≡ afterLines p ls
 unfolding afterLines afterLine
-lines-only h (none p) = refl
-lines-only h (next p q s ls y a rest) =
-    let e = reply-only (p .session) (arities-of (p .session) h) (suc (p .lines)) a in
-    lines-only (subst (λ (z : Reply). Sound (z .session)) (sym e) (reply-sound (p .session) h (suc (p .lines)) s)) rest
-    ∙ ap (λ (z : Reply). afterLines (replied p (hasBytes s) z) ls) e
+lines-only (none p) = refl
+lines-only (next p q s ls y a rest) =
+    lines-only rest ∙ ap (λ (z : Reply). afterLines (replied p (hasBytes s) z) ls) (reply-only (p .session) (suc (p .lines)) a)
 
 -- ===== A whole text =====
-
-beginning-sound : Sound (beginning .session)
-unfolding afterLines
-beginning-sound = text-sound []
 
 -- the answers of a text are those of the trees of its lines
 pub text-trees : (s : List ℕ) → TextTrees s (textAnswers s)
 unfolding textAnswers textRead
 text-trees s = record {
   read = afterLines beginning (linesOf s .whole);
-  lines = lines-answers beginning beginning-sound (linesOf s .whole);
+  lines = lines-answers beginning (linesOf s .whole);
   end = textRead s;
   rest = refl;
   answers = refl;
@@ -100,5 +88,5 @@ text-trees s = record {
 pub trees-only : (s bs : List ℕ) → TextTrees s bs → bs ≡ textAnswers s
 unfolding textAnswers textRead
 trees-only s bs t =
-    let e : t .end ≡ textRead s = t .rest ∙ ap (λ (p : Progress). afterRest p (linesOf s .rest)) (lines-only beginning-sound (t .lines)) in
+    let e : t .end ≡ textRead s = t .rest ∙ ap (λ (p : Progress). afterRest p (linesOf s .rest)) (lines-only (t .lines)) in
     t .answers ∙ ap (λ (p : Progress). p .bytes ++ closing (p .session .part) (p .met)) e

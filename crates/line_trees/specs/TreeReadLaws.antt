@@ -26,7 +26,7 @@ use Rattle.reading.specs.Reading.Judged.{fine, refused}
 use Rattle.reading.specs.JudgedLaws.{fine-one, passed, chained}
 use Rattle.reading.specs.Tree.{Reading, Result, resolveAtom, branching, resolveDiagram, opsOf, writing, diagramReading, depth}
 use Rattle.reading.specs.Tree.Reading.{branch}
-use Rattle.reading.specs.TreeLaws.{Arities, reading-diagram}
+use Rattle.reading.specs.TreeLaws.{reading-diagram}
 use Rattle.build.specs.Machine.{mostTests}
 use Rattle.session.specs.Session.{Session, refuseIf}
 use Rattle.session.specs.Modelling.{outcomeOf, namesFor}
@@ -48,13 +48,12 @@ resolved-depth ν (conditional a d e) vs g z =
 
 -- a diagram that is built, in either way, and what follows
 pub read-built : {A : Type 0} (machine : List Op → Outcome Diagram) (tree : Reading → Outcome Diagram) → ((r : Reading) → depth r ≤ mostTests → machine (opsOf r) ≡ tree r)
-    → (σ : Session) (b : Binding) (ps vs ws : List Key) → Arities (namesFor (σ .names) (σ .model .arities) b ps)
-    → (d : T.Diagram) → T.brackets d ≤ mostTests → Reads σ b ps vs ws d → (k : Diagram → Outcome A)
+    → (σ : Session) (b : Binding) (ps vs ws : List Key) (d : T.Diagram) → T.brackets d ≤ mostTests → Reads σ b ps vs ws d → (k : Diagram → Outcome A)
     → andThen (outcomeOf (reading (namesFor (σ .names) (σ .model .arities) b ps) (diagramEvents d) ws)) (λ w. andThen (machine (w .operations)) k)
     ≡ andThen (readTree σ ps vs d) (λ r. andThen (tree r) k)
 unfolding diagramReading readTree
-read-built machine tree law σ b ps vs ws few d shallow reads k =
-    ap (λ (j : Judged Written). andThen (outcomeOf j) (λ w. andThen (machine (w .operations)) k)) (reading-diagram ν few d ws)
+read-built machine tree law σ b ps vs ws d shallow reads k =
+    ap (λ (j : Judged Written). andThen (outcomeOf j) (λ w. andThen (machine (w .operations)) k)) (reading-diagram ν d ws)
     ∙ go (resolveDiagram ν ws d) (diagramWords σ ps vs d) (λ g e. omega (arith, resolved-depth ν d ws g e)) reads
   where
     ν : Names

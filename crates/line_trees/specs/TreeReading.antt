@@ -10,7 +10,7 @@ use Rattle.refusal.specs.declared.Refusal.the-variants.{Name, Arity, Range, Unb
 use Rattle.refusal.specs.Outcome.{Outcome, ok, andThen}
 use Rattle.label.specs.Limits.{equality, variableCount}
 use Rattle.label.specs.Terms.{constantTerm, parameterTerm, variableTerm}
-use Rattle.label.specs.Labels.{testOf}
+use Rattle.label.specs.Labels.{atomFrom, testOf}
 use Rattle.label.specs.declared.Test.{Test}
 use Rattle.diagram.specs.Sizes.{highestValue}
 use Rattle.words.specs.Bytes.{valueOf}
@@ -22,12 +22,12 @@ use Rattle.forms.specs.Tree.Mark.{plain, variable, parameter}
 use Rattle.forms.specs.Tree.Term.{term}
 use Rattle.forms.specs.Tree.Atom.{equal, holds}
 use Rattle.forms.specs.Tree.Diagram.{number as numeral, branch as conditional}
-use Rattle.reading.specs.Tree.{Reading, atomFrom}
+use Rattle.reading.specs.Tree.{Reading}
 use Rattle.reading.specs.Tree.Reading.{number, branch}
 use Rattle.session.specs.Session.{Session, refuseIf}
 use Rattle.session.specs.Facts.{predicateOf}
 
--- ===== Variables: 'numbered from 32 by first occurrence on the line' =====
+-- ===== Variables: 'numbered .. by first occurrence on the line', from the first variable's number on (document 02, L8) =====
 
 -- the terms of an atom and of a diagram in the order of the words
 abbrev pub atomTerms : T.Atom → List T.Term
@@ -80,6 +80,6 @@ module _ (σ : Session) (ps vs : List Key) where
       andThen (diagramWords e) (λ f.
       ok (branch t h f))))
 
-  -- after all words more than 32 variables are 8
+  -- after all words more variables than the limit are 8
   unfoldable pub readTree : T.Diagram → Outcome Reading
   readTree d = andThen (diagramWords d) (λ r. refuseIf (not (leb (length vs) variableCount)) Variables (ok r))

@@ -10,7 +10,6 @@ use lib.Dec.{ltb, leb, eqb}
 use lib.ListN.{length, getD}
 use Rattle.refusal.specs.declared.Refusal.the-variants.{Form, Name, Arity, Truth, Space}
 use Rattle.refusal.specs.Outcome.{Outcome, ok, refused, andThen}
-use Rattle.label.specs.Labels.{areArities}
 use Rattle.words.specs.Bytes.{valueOf}
 use Rattle.words.specs.Keys.{keyOf}
 use Rattle.words.specs.declared.Key.{Key}
@@ -32,7 +31,6 @@ use Rattle.events.specs.Contents.{keysIn, numbersIn}
 use Rattle.reading.specs.declared.Binding.the-variants.{Any, None, Only}
 use Rattle.reading.specs.Reading.{Names as ReadingNames, pickJudged, reading}
 use Rattle.reading.specs.Reading.Judged.{fine, refused as judged}
-use Rattle.reading.specs.ArityLaws.{arity-most}
 use Rattle.reading.specs.Head.{headNumber, openedNumber, headArguments}
 use Rattle.build.specs.Build.{textDiagram, rewardDiagram}
 use Rattle.build.specs.Machine.{mostTests, built, builtClosed}
@@ -84,19 +82,19 @@ map-numbers (o ∷ os) = ap (λ (l : List ℕ). valueOf o ∷ l) (map-numbers os
 
 -- ===== Lines with a diagram =====
 
-module _ (σ : Session) (few : areArities (σ .model .arities) ≡ true) where
+module _ (σ : Session) where
   reward-tree : (d : T.Diagram) → T.brackets d ≤ mostTests → rewardRead (σ .names) (σ .model .arities) (σ .rows) (diagramEvents d) ≡ rewardTree σ d
   unfolding rewardRead rewardTree
   reward-tree d shallow =
       read-built (builtClosed (σ .model .arities)) (rewardDiagram (σ .model .arities)) (built-reward (σ .model .arities))
-      σ Any [] (variablesAfter [] (diagramTerms d)) [] (λ i. arity-most (σ .model .arities) i few) d shallow (reads-any σ [] d)
+      σ Any [] (variablesAfter [] (diagramTerms d)) [] d shallow (reads-any σ [] d)
       (λ x. refuseIf (ltb mostModelRows (rowsWith (σ .rows) x)) Space (ok x))
 
   weight-tree : (k : Key) (d : T.Diagram) → T.brackets d ≤ mostTests → weightRead (σ .names) (σ .model .arities) (σ .rows) k (diagramEvents d) ≡ weightTree σ k d
   unfolding weightRead weightTree
   weight-tree k d shallow =
       ap (refuseIf (isAmong k (σ .names .variants)) Name)
-      (read-built built textDiagram built-text σ None (σ .names .parameters) [] [] (λ i. arity-most (σ .model .arities) i few) d shallow (reads-none σ (σ .names .parameters) d)
+      (read-built built textDiagram built-text σ None (σ .names .parameters) [] [] d shallow (reads-none σ (σ .names .parameters) d)
       (λ x. refuseIf (leb mostVariants (length (σ .names .variants)) || ltb mostModelRows (rowsWith (σ .rows) x)) Space (ok x)))
 
   truth-tree : (w : Words K.Becomes) → GoodWords K.Becomes w → T.brackets (w .2) ≤ mostTests
@@ -142,7 +140,7 @@ module _ (σ : Session) (few : areArities (σ .model .arities) ≡ true) where
 
       diagram : by-words p (diagramEvents (w .2)) vs ≡ andThen by-tree (λ x. ok (paired x))
       diagram =
-          read-built built textDiagram built-text σ Only ps vs vs (λ i. arity-most ar i few) (w .2) shallow (reads-only σ ps vs (w .2)) (checks paired)
+          read-built built textDiagram built-text σ Only ps vs vs (w .2) shallow (reads-only σ ps vs (w .2)) (checks paired)
           ∙ steps-then (readTree σ ps vs (w .2)) textDiagram (checks (λ x. x)) (λ x. ok (paired x)) (checks paired)
           (λ x. last x (leafAbove 1 x) (ltb mostModelRows (rowsWith (σ .rows) x)))
 
@@ -206,13 +204,13 @@ module _ (σ : Session) (few : areArities (σ .model .arities) ≡ true) where
 -- ===== A line in bytes =====
 
 -- what a well-formed line writes is answered as its tree says
-pub reply-tree : (σ : Session) → areArities (σ .model .arities) ≡ true → (number : ℕ) (l : Line) → GoodLine l → reply σ number (lineBytes l) ≡ treeReply σ number l
+pub reply-tree : (σ : Session) (number : ℕ) (l : Line) → GoodLine l → reply σ number (lineBytes l) ≡ treeReply σ number l
 unfolding reply replyTo treeReply
-reply-tree σ few number (line k w) g =
+reply-tree σ number (line k w) g =
     let s : List ℕ = lineBytes (line k w) in
     ap (λ (j : Kind). replyTo σ number j (wordsOf j s)) (line-complete (line k w) g)
     ∙ ap (replyTo σ number k) (line-events k w (g .0))
-    ∙ ap (placed σ number (allowed σ (ruleOf k (σ .part)))) (done-tree σ few number k w (g .0) (g .1))
+    ∙ ap (placed σ number (allowed σ (ruleOf k (σ .part)))) (done-tree σ number k w (g .0) (g .1))
 
 -- the kind of lines that are not the grammar; no tree is of it
 pub only-bad : (k : Kind) → (isBad k ≡ false → ⊥) → k ≡ K.Bad

@@ -1,4 +1,4 @@
--- Variables by first occurrence: those met first stay first, and the pass over words, which keeps 33 of them, loses none that has a number.
+-- Variables by first occurrence: those met first stay first, and the pass over words, which keeps one more than the limit, loses none that has a number.
 use mathlib.Core.Path.{_≡_, refl, sym, ap, _∙_}
 use mathlib.Core.Bool.{Bool, true, false, cond}
 use mathlib.Core.List.{List, [], _∷_, _++_, append-nil, append-assoc}
@@ -110,7 +110,7 @@ met-kept us k = go (decLt (length us) (suc variableCount))
         let l : suc variableCount ≤ length us = omega arith in
         rw (length-take-le (suc variableCount) us l) (pick-same (isAmong k (kept us)) (kept us) ∙ full (isAmong k us) l)
 
--- and their count against 32 is that of all
+-- and their count against the limit is that of all
 pub count-kept : (us : List Key) → leb (length (kept us)) variableCount ≡ leb (length us) variableCount
 count-kept us = go (decLt (length us) (suc variableCount))
   where
@@ -120,7 +120,7 @@ count-kept us = go (decLt (length us) (suc variableCount))
         let l : suc variableCount ≤ length us = omega arith in
         rw (length-take-le (suc variableCount) us l, lt-leb (length us) variableCount (omega arith))
 
--- a variable that is met: it is among all of the line, and where these are 32 at most, it has the number of its place among them
+-- a variable that is met: it is among all of the line, and where these are within the limit, it has the number of its place among them
 pub record Numbered (vs ws : List Key) (k : Key) : Type 0 where
   pub among : isAmong k vs ≡ true
   pub number : length vs ≤ variableCount → numberIn ws k ≡ variableTerm (placeOf k vs)
