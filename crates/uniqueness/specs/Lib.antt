@@ -4,7 +4,7 @@
 --   Choice, Meaning == a choice of true or false for all labels, choices against equality included; the leaf that each choice leads to
 --   TheOnly, TheOnlyListing == a good diagram that means M, and the only ordered reduced one; a listing that means M, and the only one
 --   readThrough == a choice for new labels as one for the old: the truth of what a label asks once its terms are replaced together, t = t plain truth
---   closingUp, closedMeaning == the used variables renamed to 32, 33, .. in their order; a meaning closed up so
+--   closingUp, closedMeaning == the used variables renamed to the first ones in their order; a meaning closed up so
 --   TheOnlyClosed, TheOnlyClosedListing == the only one that means M closed up; the used variables are those of the only diagram that means M
 --
 -- Definitions: what the calls mean

@@ -47,7 +47,7 @@ pub record TheOnlyListing (ar : List ℕ) (M : Meaning) (words : List ℕ) : Typ
 abbrev pub readThrough : List ℕ → (ℕ → ℕ) → Choice → Choice
 readThrough ar ρ c l = asked c (moved ar ρ l)
 
--- 'Closing up renames the used variables to 32, 33, .. in their order': those of d
+-- 'Closing up renames the used variables to 32, 33, .. in their order', 64, 65, .. since L8: those of d
 abbrev pub closingUp : List ℕ → Diagram → ℕ → ℕ
 closingUp ar d = numbering (variables ar d) firstVariable
 
@@ -106,7 +106,7 @@ regressMeaning ar truths d c = eval (nextChoice ar truths c) d
 
 -- ===== Freeing =====
 
--- 'Freeing turns parameter 16 + i into variable 32 + i and moves the other variables up by the action's parameter count'
+-- 'Freeing turns parameter 16 + i into variable 32 + i and moves the other variables up by the action's parameter count'; 64 + i since L8
 unfoldable pub freeMeaning : List ℕ → ℕ → Diagram → Meaning
 unfolding eval
 freeMeaning ar count d c = eval (readThrough ar (freeing count) c) d

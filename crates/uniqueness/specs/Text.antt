@@ -58,7 +58,7 @@ pub record WeightOf (σ : Session) (n : List ℕ) (t : T.Diagram) (τ : Session)
   pub behind : τ ≡ withVariant σ (keyOf n) diagram
   pub is : Writes (namesFor (σ .names) (σ .model .arities) None (σ .names .parameters)) [] t diagram
 
--- (becomes (p ?a ..) DIAGRAM): the arguments, numbered from 32 in their order, and the parameters of the last action
+-- (becomes (p ?a ..) DIAGRAM): the arguments, numbered as the first variables in their order, and the parameters of the last action
 abbrev pub predicateNumber : Session → List ℕ → ℕ
 predicateNumber σ p = placeOf (keyOf p) (σ .names .predicates) + 1
 

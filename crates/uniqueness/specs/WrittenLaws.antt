@@ -28,7 +28,6 @@ use Rattle.reading.specs.Reading.{Names, Written, reading}
 use Rattle.reading.specs.Reading.Judged.{fine}
 use Rattle.reading.specs.Tree.{Reading, resolveDiagram, opsOf, writing, diagramReading, depth, Named, reach, GoodReading, NamesFit}
 use Rattle.reading.specs.Tree.Reading.{number, branch as conditional}
-use Rattle.reading.specs.ArityLaws.{arity-most}
 use Rattle.reading.specs.JudgedLaws.{passed, chained}
 use Rattle.reading.specs.TreeLaws.{reading-diagram}
 use Rattle.reading.specs.GoodLaws.{reading-sound}
@@ -78,7 +77,7 @@ pub record Resolved (names : Names) (vs : List Key) (t : T.Diagram) (w : Written
 pub resolved : (names : Names) → NamesFit names → (t : T.Diagram) (vs : List Key) (w : Written) → reading names (diagramEvents t) vs ≡ fine w → Resolved names vs t w
 unfolding diagramReading
 resolved names fit t vs w e =
-    let c = chained (resolveDiagram names vs t) writing w (sym (reading-diagram names (λ i. arity-most (names .arities) i (fit .arity-list)) t vs) ∙ e) in
+    let c = chained (resolveDiagram names vs t) writing w (sym (reading-diagram names t vs) ∙ e) in
     let p = passed (leb (length (c .first .variables)) variableCount) _ Variables w (c .then) in
     let s = reading-sound names fit t vs w e in
     let o : w .operations ≡ opsOf (c .first .value) = ap (λ (x : Written). x .operations) (sym (p .1)) in
