@@ -38,7 +38,7 @@ use Rattle.reading.specs.Head.{Head, headNumber, headArguments, headKeys}
 use Rattle.reading.specs.Callers.{namesOf as tableNames, judgedPredicate, PredicateWithin, Opens, judgedHead, HeadWithin, Heads}
 use Rattle.reading.specs.LineLaws.{becomes-arguments}
 use Rattle.reading.specs.JudgedLaws.{fine-one, chained}
-use Rattle.reading.specs.ArityLaws.{arity-most, arity-words}
+use Rattle.label.specs.ArityLaws.{arity-most, arity-words}
 use Rattle.build.specs.declared.Built.{Built}
 use Rattle.build.specs.declared.Built.the-variants.{Done, Refused}
 use Rattle.build.specs.Writing.{builtAs}

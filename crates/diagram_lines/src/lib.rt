@@ -3,6 +3,7 @@ use answers::Answer;
 use build::Built;
 use declare::Counts;
 use label::Label;
+use label::Term;
 use memory::Numbers;
 use memory::Said;
 use reading::Binding;
@@ -39,8 +40,8 @@ ghost use Rattle.diagram_lines.specs.Lines.{roomed, roomedAs, lowered, l
 // Rows of all listings of a model.
 const MODEL_ROWS: usize = model::LISTING_WORDS / 3;
 
-// Words of a table of 33 variables.
-const VARIABLE_WORDS: usize = 66;
+// Words of a table of variables, which keeps one more than the limit.
+const VARIABLE_WORDS: usize = (Term::VARIABLES as usize + 1) * 2;
 
 // The rows of a diagram that is built, or 9 where there is no room beside it, or the model's listings, with so many words in use, have none for them.
 fn room(built: Built, full: bool, words: usize) -> Built
