@@ -10,13 +10,14 @@ use native.Mathlib.Numerals.{add-one}
 use lib.ListN.{length, getD, take, drop, replicate, length-append}
 use lib.Seq.{take-at, take-all, ext-getD, getD-take, length-take-le}
 use lib.Dec.{leb, eqb}
-use borrow.Author.Tests.{le-leb, lt-leb, eq-eqb, ne-eqb, eqb-true, leb-true, leb-false, not-true, not-false}
-use Rattle.basics.specs.Tests.{Cmp, below, equal, above, cmp, and-left, and-right, Flag, isTrue, isFalse, flag}
+use borrow.Author.Tests.{le-leb, lt-leb, eq-eqb, ne-eqb, leb-true, leb-false, not-true, not-false}
+use Rattle.basics.specs.Tests.{Cmp, below, equal, above, cmp, Flag, isTrue, isFalse, flag}
 use Rattle.basics.specs.Members.{clash}
 use Rattle.refusal.specs.declared.Refusal.{Refusal}
 use Rattle.refusal.specs.declared.Refusal.the-variants.{Truth, Unbound}
-use Rattle.label.specs.Limits.{firstParameter, parameterCount, firstVariable, termEnd, predicateCount, mostPlaces, equality, equalityArity}
+use Rattle.label.specs.Limits.{firstParameter, parameterCount, firstVariable, termEnd, predicateCount, equality}
 use Rattle.label.specs.Labels.{areArities}
+use Rattle.label.specs.ArityLaws.{arity-words}
 use Rattle.diagram.specs.Sizes.{resultWords}
 use Rattle.diagram.specs.Diagram.{Diagram, same}
 use Rattle.diagram.specs.DiagramLaws.{same-eq, same-refl}
@@ -111,7 +112,7 @@ module _ (ar : List ℕ) (c n : ℕ) (ws : List ℕ) {l : Bool} (e : l ≡ isLis
         go false true i = refl
         go false false i = let z : _≡_ {A = ℕ} 0 1 = cc in absurd (omega arith)
 
-    pub truth-rest : {r : Bool} → v ≡ Pass → r ≡ not (anyOccurs ar (diagramOf ws) (16 + c) (32 - (16 + c))) → r ≡ isTruth ar c n ws
+    pub truth-rest : {r : Bool} → v ≡ Pass → r ≡ not (anyOccurs ar (diagramOf ws) (firstParameter + c) (firstVariable - (firstParameter + c))) → r ≡ isTruth ar c n ws
     unfolding isTruth
     truth-rest {r} i h = goes (passed e f) (go (leafAbove 1 (diagramOf ws)) (unboundVariable ar n (diagramOf ws)) (sym q ∙ i))
       where
@@ -125,7 +126,7 @@ module _ (ar : List ℕ) (c : ℕ) (ws : List ℕ) {l : Bool} (e : l ≡ isListi
   unfolding isWeight
   weight-unlisted f = stops _ (refused e f)
 
-  pub weight-rest : {r : Bool} → not l ≡ false → r ≡ not (anyOccurs ar (diagramOf ws) (16 + c) (64 - (16 + c))) → r ≡ isWeight ar c ws
+  pub weight-rest : {r : Bool} → not l ≡ false → r ≡ not (anyOccurs ar (diagramOf ws) (firstParameter + c) (termEnd - (firstParameter + c))) → r ≡ isWeight ar c ws
   unfolding isWeight
   weight-rest f h = goes (passed e f) h
 
@@ -139,7 +140,7 @@ module _ (ar ws : List ℕ) {l : Bool} (e : l ≡ isListing ar ws) where
     unfolding isValue
     value-open g = goes (passed e f) (stops _ (refused q g))
 
-    pub value-rest : {r : Bool} → not b ≡ false → r ≡ not (anyOccurs ar (diagramOf ws) 16 16) → r ≡ isValue ar ws
+    pub value-rest : {r : Bool} → not b ≡ false → r ≡ not (anyOccurs ar (diagramOf ws) firstParameter (firstVariable - firstParameter)) → r ≡ isValue ar ws
     unfolding isValue
     value-rest g h = goes (passed e f) (goes (passed q g) h)
 
@@ -245,8 +246,7 @@ inside-within {b} start count used {room} e f h = let k = leb-true (start + coun
 
 -- an arity list has a place for each predicate
 pub arity-place : (ar : List ℕ) {p : ℕ} → areArities ar ≡ true → p < predicateCount → p < length ar
-unfolding areArities
-arity-place ar e h = let k = eqb-true (length ar) predicateCount (and-left (eqb (length ar) predicateCount) _ e) in omega arith
+arity-place ar e h = omega (arith, arity-words ar e)
 
 -- skipped, or not
 skips : {x : Bool} (y : Bool) → x ≡ true → true ≡ (x || y)
@@ -300,7 +300,7 @@ module _ (ar listings table : List ℕ) (used c i : ℕ) {b : Bool} (e : b ≡ l
     variant-rest g h = goes (passed e f) (goes (passed weighed g) h)
 
 pub variant-room : (table : List ℕ) (a v n : ℕ) → a * actionWords + actionWords ≤ length table → v < n → n ≤ mostVariants
-    → a * 530 + 2 + v * 66 + variantWords ≤ length table
+    → a * actionWords + 2 + v * variantWords + variantWords ≤ length table
 variant-room table a v n h l k = omega arith
 
 module _ (ar listings table : List ℕ) (used a : ℕ) where

@@ -3,6 +3,7 @@ use lib.Dec.{lit≤}
 use Prim.Native.Nat.{_/_, _*_}
 use native.Mathlib.Omega.{arith}
 use borrow.Author.Needs.{needs}
+use Rattle.diagram.specs.Sizes.{resultWords}
 use Rattle.checking.proofs.is_closed.Statement.{statement}
 use Rattle.checking.proofs.is_closed.Tie as tie
 
@@ -10,7 +11,7 @@ copy-requires : tie.Need-copy-requires
 copy-requires c κs = let p = closed-few _ _ (c .before .before .before .pre) in (omega arith, search needs)
 
 close-up-requires : tie.Need-close-up-requires
-close-up-requires c κs = copy-closable _ _ (c .before .before .before .before .before .before .pre) 3072 (lit≤ tt) (c .before .before .copy2 .ensures)
+close-up-requires c κs = copy-closable _ _ (c .before .before .before .before .before .before .pre) resultWords (lit≤ tt) (c .before .before .copy2 .ensures)
 
 begins-requires : tie.Need-begins-requires
 begins-requires c κs = let p = closed-few _ _ (c .before .before .before .before .before .before .before .before .before .pre) in search needs
@@ -19,7 +20,7 @@ returns : tie.Need-returns
 returns c =
     let at-copy2 = c .before .before .before .before .before .before in
     let entry = at-copy2 .before .before .before .before in
-    closed-tells _ _ (entry .pre) 3072 (lit≤ tt) (at-copy2 .copy2 .ensures) (c .before .before .before .close-up .ensures) (c .begins .ensures)
+    closed-tells _ _ (entry .pre) resultWords (lit≤ tt) (at-copy2 .copy2 .ensures) (c .before .before .before .close-up .ensures) (c .begins .ensures)
 
 pub is-closed-spec : {M : Type 1} → statement M
 is-closed-spec =

@@ -1,5 +1,5 @@
 use Rattle.checking.proofs.TestLaws.{truth-outside, truth-equality, truth-none, truth-some, arity-place, inside-within}
-use Rattle.cutting.specs.MovedLaws.{arity-most}
+use Rattle.label.specs.ArityLaws.{arity-most}
 use native.Mathlib.Omega.{arith}
 use Prim.Native.Nat.{_+_, _*_}
 use lib.ListN.{getD}
