@@ -102,7 +102,7 @@ fn turned(k: u64) -> u64
 }
 
 // What place k becomes by the way.
-fn target(way: Way, k: u64) -> u64
+fn way_place(way: Way, k: u64) -> u64
     requires { ⌜ k < mostPlaces ⌝ }
     ensures { λ r. ⌜ r ≡ wayPlace way k ⌝ }
 {
@@ -161,7 +161,7 @@ fn bind(tab: &[u64], theta: &mut [u64], m: u64, l: u64, way: Way) -> bool
     let mut k = 0;
     while k < Label::PLACES {
         let t = Label { packed: l }.place(k);
-        let u = target(way, k);
+        let u = way_place(way, k);
         if !place(tab, theta, m + k, t as usize, u) {
             return false;
         }
