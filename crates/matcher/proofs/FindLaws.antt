@@ -11,12 +11,12 @@ use borrow.Author.Tests.{le-leb, lt-leb, leb-true}
 use Rattle.basics.specs.Tests.{Cmp, cmp, below, equal, above}
 use Rattle.basics.specs.Members.{clash}
 use Rattle.label.specs.Limits.{termEnd, termBase, predicateCount, mostPlaces, equality}
-use Rattle.label.specs.Labels.{predicateOf, placeAt, packed, equates}
+use Rattle.label.specs.Labels.{predicateOf, placeAt, atomFrom, packed, equates}
 use Rattle.label.specs.declared.Label.{Label}
 use Rattle.label.specs.declared.Test.{Test}
 use Rattle.label.specs.declared.Test.the-variants.{Always, Is}
 use Rattle.paths.specs.Routes.{labelEnd}
-use Rattle.cutting.specs.MovedLaws.{atomFrom, equates-same, equates-less, equates-more}
+use Rattle.cutting.specs.MovedLaws.{equates-same, equates-less, equates-more}
 use Rattle.matcher.specs.Search.{isEquality, allOf, allKnown, Sorted, Finds, imageOf, Images, packing, imageLabel, Met, truth, other, intoCount}
 use Rattle.matcher.specs.Search.{equal as matched}
 use Rattle.matcher.proofs.AlongLaws.{all-more, all-not, all-at}

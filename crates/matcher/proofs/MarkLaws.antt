@@ -11,9 +11,9 @@ use lib.Seq.{getD-set-same, getD-set-other, drop-set-lt, getD-drop}
 use Rattle.basics.specs.Tests.{Cmp, cmp, below, equal, above}
 use Rattle.label.specs.Limits.{termEnd, firstVariable, mostPlaces}
 use Rattle.label.specs.Labels.{areArities, isLabel, predicateOf, placeAt}
+use Rattle.label.specs.ArityLaws.{arity-most}
 use Rattle.label.proofs.CodeLaws.{under-all}
 use Rattle.listing.specs.Used.{marked}
-use Rattle.cutting.specs.MovedLaws.{arity-most}
 use Rattle.matcher.specs.Search.{InRange, along, late, Unplaced}
 use Rattle.matcher.specs.Stored.{termsOfCode, Markable, Unmarked, Marking}
 use Rattle.matcher.proofs.AlongLaws.{along-suc, marked-snoc}

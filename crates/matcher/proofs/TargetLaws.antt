@@ -26,14 +26,15 @@ use borrow.Author.Tests.{ltb-true, ltb-false, eqb-true, eqb-false, eq-eqb}
 use Rattle.basics.specs.Tests.{and-left, and-right, Flag, isTrue, isFalse, flag}
 use Rattle.basics.specs.Members.{clash}
 use Rattle.label.specs.Limits.{termEnd, termBase, mostPlaces}
-use Rattle.label.specs.Labels.{areArities, isLabel, predicateOf, unpacked, termsOf, packed, equates, testOf}
+use Rattle.label.specs.Labels.{areArities, isLabel, predicateOf, atomFrom, unpacked, termsOf, packed, equates, testOf}
+use Rattle.label.specs.ArityLaws.{terms-length, arity-two}
 use Rattle.label.specs.Renamings.{moved}
 use Rattle.label.specs.declared.Test.{Test}
 use Rattle.label.specs.declared.Test.the-variants.{Always, Is}
 use Rattle.paths.specs.Paths.{Literal}
 use Rattle.cutting.specs.Match.{Partial, bindTerms, turned, ways, waysAmong, plainWays, targets}
 use Rattle.cutting.specs.Cut.{Matched, plain, found}
-use Rattle.cutting.specs.MovedLaws.{atomFrom, asks, moved-asks, asks-other, EqualityTerms, equality-terms, terms-length, arity-two, Two, two, length-two}
+use Rattle.cutting.specs.MovedLaws.{asks, moved-asks, asks-other, EqualityTerms, equality-terms, Two, two, length-two}
 use Rattle.cutting.specs.MatchLaws.{lit, among-in, among-out, twice-in, twice-out}
 use Rattle.matcher.specs.Search.{
   literalAt,

@@ -13,8 +13,8 @@ use Rattle.basics.specs.Tests.{Cmp, cmp, below, equal, above}
 use Rattle.label.specs.Limits.{termEnd, mostPlaces}
 use Rattle.label.specs.Labels.{areArities, isLabel, predicateOf, placeAt, unpacked, placesOf, placeFits, termsOf}
 use Rattle.label.specs.LabelLaws.{label-fits, place-of, place-fits, place-end}
+use Rattle.label.specs.ArityLaws.{terms-length, arity-most}
 use Rattle.cutting.specs.Match.{Partial, bindTerms}
-use Rattle.cutting.specs.MovedLaws.{terms-length, arity-most}
 use Rattle.matcher.specs.Search.{InRange, along, placesIn}
 use Rattle.matcher.proofs.AlongLaws.{along-length, along-at, along-of, along-list, bind-unused}
 
