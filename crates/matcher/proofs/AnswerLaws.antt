@@ -14,14 +14,13 @@ use Rattle.paths.specs.Paths.{mostPaths, Literal, Path, literals, termsIn}
 use Rattle.cutting.specs.Match.{start, matches}
 use Rattle.cutting.specs.Cut.{covers}
 use Rattle.cutting.specs.Searchable.{PathLabels}
-use Rattle.cutting.specs.CoverLaws.{in-small}
 use Rattle.matcher.specs.Search.{AllInRange, literalsIn}
 use Rattle.paths.specs.Routes.{pathAt}
 use Rattle.matcher.specs.Covering.{Coverable}
 use Rattle.matcher.specs.Stored.{Marks, Enterable, Stored, Ready, BothStored, Answers}
 use Rattle.matcher.specs.Parts.{PartsPost}
 use Rattle.matcher.proofs.StoreLaws.{listed-labels}
-use Rattle.matcher.proofs.CoversLaws.{bothTerms, covers-setting, covers-order}
+use Rattle.matcher.proofs.CoversLaws.{terms-below, bothTerms, covers-setting, covers-order}
 
 -- ===== search =====
 module _ {into from : List ℕ} {a b : ℕ} (g : BothStored into a from b) where
@@ -44,7 +43,7 @@ module _ {into from : List ℕ} {a b : ℕ} (g : BothStored into a from b) where
   into-literals =
       ap literalsIn (ap (drop termEnd) (take-add termEnd a into) ∙ drop-at (take termEnd into) (take a (drop termEnd into)) termEnd (length-take-le termEnd into (omega (arith, g .into-room))))
 
-  module _ (ar : List ℕ) (p : Path) (sp : Stored ar p into a) where
+  module _ (ar : List ℕ) (good : areArities ar ≡ true) (p : Path) (np : PathLabels ar p) (sp : Stored ar p into a) where
     into-marks : Marks ar (λ t. getD (take (termEnd + a) into) t 0) (literals p)
     into-marks = record { has = has; of = of }
       where
@@ -52,15 +51,15 @@ module _ {into from : List ℕ} {a b : ℕ} (g : BothStored into a from b) where
         same t h = getD-take (termEnd + a) into t 0 (omega arith)
 
         has : (t : ℕ) → List·Memᴰ t (termsIn ar (literals p)) → 0 < getD (take (termEnd + a) into) t 0
-        has t m = omega (arith, same t (in-small ar (literals p) t m), sp .marks .has t m)
+        has t m = omega (arith, same t (terms-below ar good (literals p) (np .each) t m), sp .marks .has t m)
 
         of : (t : ℕ) → t < termEnd → 0 < getD (take (termEnd + a) into) t 0 → List·Memᴰ t (termsIn ar (literals p))
         of t h m = sp .marks .of t h (omega (arith, same t h))
 
-  tab-marks : (tab : List ℕ) → ((t : ℕ) → t < termEnd → getD tab (termEnd + t) 0 ≡ getD from t 0) → (ar : List ℕ) (q : Path) → Stored ar q from b
+  tab-marks : (tab : List ℕ) → ((t : ℕ) → t < termEnd → getD tab (termEnd + t) 0 ≡ getD from t 0) → (ar : List ℕ) → areArities ar ≡ true → (q : Path) → PathLabels ar q → Stored ar q from b
       → Marks ar (λ t. getD tab (termEnd + t) 0) (literals q)
-  tab-marks tab copied ar q sq = record {
-    has = λ t m. omega (arith, copied t (in-small ar (literals q) t m), sq .marks .has t m);
+  tab-marks tab copied ar good q nq sq = record {
+    has = λ t m. omega (arith, copied t (terms-below ar good (literals q) (nq .each) t m), sq .marks .has t m);
     of = λ t h m. sq .marks .of t h (omega (arith, copied t h));
   }
 
@@ -70,7 +69,7 @@ module _ {into from : List ℕ} {a b : ℕ} (g : BothStored into a from b) where
       where
         each : (ar : List ℕ) → areArities ar ≡ true → (p q : Path) → PathLabels ar p → PathLabels ar q → Stored ar p into a → Stored ar q from b → r ≡ covers ar p q
         each ar good p q np nq sp sq =
-            s .answer ar (bothTerms ar good p q np nq) (covers-setting ar good p q np nq first (λ l m. subst (List·Memᴰ l) second m) (into-marks ar p sp) (tab-marks tab copied ar q sq))
+            s .answer ar (bothTerms ar good p q np nq) (covers-setting ar good p q np nq first (λ l m. subst (List·Memᴰ l) second m) (into-marks ar good p np sp) (tab-marks tab copied ar good q nq sq))
             ∙ ap (λ (ls : List Literal). matches ar ls (bothTerms ar good p q np nq) (literalsIn (take (termEnd + b - termEnd) (drop termEnd from))) start) first
             ∙ covers-order ar good p q np nq (literalsIn (take (termEnd + b - termEnd) (drop termEnd from))) (λ l m. subst (List·Memᴰ l) second m) (λ l m. subst (List·Memᴰ l) (sym second) m)
           where

@@ -17,7 +17,7 @@ use Rattle.label.specs.Labels.{areArities, unpacked, termsOf}
 use Rattle.paths.specs.Paths.{Literal, Path, literals, termsIn}
 use Rattle.cutting.specs.Match.{Partial, start, matches}
 use Rattle.cutting.specs.Cut.{covers}
-use Rattle.cutting.specs.Searchable.{Searchable}
+use Rattle.cutting.specs.Searchable.{AllLabels, Searchable}
 use Rattle.cutting.specs.MatchLaws.{in-terms, matches-sound, matches-order}
 use Rattle.cutting.specs.Searchable.{PathLabels}
 use Rattle.cutting.specs.CoverLaws.{searchable}
@@ -26,6 +26,7 @@ use Rattle.matcher.specs.Search.{literalsIn, segment, known, Replacing, 
 use Rattle.matcher.specs.Failure.{storeWords, rowOf, Remembers, isFound, isWeary, Solving, SolvePost, Decidable, Decided}
 use Rattle.matcher.specs.declared.Answer.{Answer}
 use Rattle.matcher.specs.declared.Answer.the-variants.{Found, Failed, Weary}
+use Rattle.matcher.proofs.TermLaws.{label-range, in-place}
 use Rattle.matcher.proofs.MaskLaws.{zero-none}
 use Rattle.matcher.proofs.SolveLaws.{replacing-kept}
 use Rattle.matcher.proofs.BindLaws.{known-some, known-none, known-past}
@@ -41,6 +42,13 @@ of-terms ar (l ∷ ls) t m = go (List·Memᴰ·append-cases (termsOf ar (unpacke
         → (k : Literal) × List·Memᴰ k (l ∷ ls) × List·Memᴰ t (termsOf ar (unpacked (k .label)))
     go (inl n) rec = (l, List·Memᴰ·head refl, n)
     go (inr n) rec = let r = rec n in (r .0, List·Memᴰ·tail (r .1), r .2)
+
+-- terms of labels are below the end of the terms
+pub terms-below : (ar : List ℕ) → areArities ar ≡ true → (ls : List Literal) → AllLabels ar ls → (t : ℕ) → List·Memᴰ t (termsIn ar ls) → t < termEnd
+terms-below ar good ls labels t m =
+    let o = of-terms ar ls t m in
+    let p = in-place ar (o .0 .label) good t (o .2) in
+    subst (λ (v : ℕ). v < termEnd) (sym (p .2)) (label-range ar (o .0 .label) (labels .each (o .0) (o .1)) .places (p .0) (p .1))
 
 -- at the start only what is no variable is known
 pub variable-not : (t : ℕ) → t < firstVariable → isVariable t ≡ false
@@ -176,6 +184,7 @@ module _ {ord into tab theta : List ℕ} (g : Ready ord into tab theta) {tab₁ 
     placed ar T e = record {
       search = e .search;
       labels = e .labels;
+      below = e .below;
       own = e .own;
       has = λ t m. omega (arith, e .has t m, same t);
       of = λ t h m. e .of t h (omega (arith, same t));
@@ -193,6 +202,13 @@ module _ (ar : List ℕ) (good : areArities ar ≡ true) (p q : Path) (np : Path
   abbrev pub bothTerms : List ℕ
   bothTerms = termsIn ar (literals p) ++ termsIn ar (literals q)
 
+  both-below : (t : ℕ) → List·Memᴰ t bothTerms → t < termEnd
+  both-below t m = go (List·Memᴰ·append-cases (termsIn ar (literals p)) m)
+    where
+      go : List·Memᴰ t (termsIn ar (literals p)) ⊎ List·Memᴰ t (termsIn ar (literals q)) → t < termEnd
+      go (inl n) = terms-below ar good (literals p) (np .each) t n
+      go (inr n) = terms-below ar good (literals q) (nq .each) t n
+
   covers-searchable : Searchable ar (literals p) bothTerms
   covers-searchable = searchable ar (literals p) (literals q) good (np .each)
 
@@ -202,6 +218,7 @@ module _ (ar : List ℕ) (good : areArities ar ≡ true) (p q : Path) (np : Path
   covers-setting {ord} {into} {tab} e f mp mq = record {
     search = subst (λ (ls : List Literal). Searchable ar ls bothTerms) (sym e) covers-searchable;
     labels = record { each = λ l m. nq .each .each l (f l m) };
+    below = both-below;
     own = own;
     has = has;
     of = of;

@@ -87,6 +87,7 @@ setting-part : {ar T ord₀ into tab₀ : List ℕ} (xs tab : List ℕ) → Sett
 setting-part {ar} {T} {ord₀} {into} {tab₀} xs tab s f k = record {
   search = s .search;
   labels = record { each = λ l m. s .labels .each l (f l m) };
+  below = s .below;
   own = λ t m. let o = of-terms ar (literalsIn xs) t m in s .own t (in-terms ar (literalsIn ord₀) (o .0) t (f (o .0) (o .1)) (o .2));
   has = λ t m. omega (arith, s .has t m, k (termEnd + t) (omega arith));
   of = λ t h m. s .of t h (omega (arith, k (termEnd + t) (omega arith)));

@@ -357,7 +357,7 @@ module _ (ar T ord into tab : List ℕ) (set : Setting ar T ord into tab) (x : �
   twice-of : (t : ℕ) → List·Memᴰ t T → isEquality x ≡ true → x % 2 ≡ 1 → WayOf (t ∷ t ∷ [])
   twice-of t m l q = record {
     place = intoCount into * 2 + t;
-    counted = omega (arith, count-equal into x refl l, set .search .small t m);
+    counted = omega (arith, count-equal into x refl l, set .below t m);
     way = Twice t;
     is = go (has (intoCount into * 2 + t - intoCount into * 2) back);
     some-way = refl;

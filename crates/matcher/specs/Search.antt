@@ -215,6 +215,7 @@ pub record Tabled (ord tab : List ℕ) (n : ℕ) : Type 0 where
 pub record Setting (ar : List ℕ) (T ord into tab : List ℕ) : Type 0 where
   pub search : Searchable ar (literalsIn (drop termEnd into)) T
   pub labels : AllLabels ar (literalsIn ord)
+  pub below : (t : ℕ) → List·Memᴰ t T → t < termEnd
   pub own : (t : ℕ) → List·Memᴰ t (termsIn ar (literalsIn ord)) → List·Memᴰ t T
   pub has : (t : ℕ) → List·Memᴰ t T → 0 < getD into t 0 + getD tab (termEnd + t) 0
   pub of : (t : ℕ) → t < termEnd → 0 < getD into t 0 + getD tab (termEnd + t) 0 → List·Memᴰ t T

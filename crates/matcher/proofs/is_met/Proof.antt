@@ -41,7 +41,11 @@ shared-slice-read-equate-2 : tie.Need-shared-slice-read-equate-2
 shared-slice-read-equate-2 c = omega (arith, c .before .before .place2 .ensures, c .before .before .before .before .before .before .before .before .pre .1 .range .places 1 (omega arith), c .before .before .before .before .before .before .before .before .pre .1 .room)
 
 equate-requires : tie.Need-equate-requires
-equate-requires c κs = (image-small (c .before .before .before .before .before .before .before .before .pre .1) 0 (omega arith) (c .before .before .before .place .ensures), image-small (c .before .before .before .before .before .before .before .before .pre .1) 1 (omega arith) (c .before .before .place2 .ensures))
+equate-requires c κs =
+    let images = c .before .before .before .before .before .before .before .before .pre .1 in (
+      omega (arith, image-small images 0 (omega arith) (c .before .before .before .place .ensures)),
+      omega (arith, image-small images 1 (omega arith) (c .before .before .place2 .ensures)),
+    )
 
 enum-known-l : tie.Need-enum-known-l
 enum-known-l c = search needs
