@@ -28,11 +28,11 @@ half = 4294967296
 
 -- all of a label and of `high` counts: labels of few places differ in their upper halves, scaled leaf values may agree in their lower ones
 abbrev mix : Row → ℕ
-mix r = r .label / half % half * 40503 + r .label % half * 36013 + r .high % half * 60493 + r .high / half % half * 52711 + r .low % half * 30011
+mix r = r .label / half % half * 44453 + r .label % half * 33739 + r .high % half * 57641 + r .high / half % half * 60493 + r .low % half * 25717
 
 -- the bucket of a row
 unfoldable pub hashOf : Row → ℕ
-hashOf r = (mix r + mix r / 1024 + mix r / 1048576) % buckets
+hashOf r = (mix r + mix r / 128 + mix r / 131072) % buckets
 
 -- the bucket of the row at place i
 unfoldable pub hashAt : List ℕ → ℕ → ℕ

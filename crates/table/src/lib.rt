@@ -70,12 +70,12 @@ pub fn same(x: Row, y: Row) -> bool
 pub fn hash(row: Row) -> usize
     ensures { λ r. ⌜ (r ≡ hashOf row) × (r < buckets) ⌝ }
 {
-    let x = row.label / HALF % HALF * 40503
-        + row.label % HALF * 36013
-        + row.high % HALF * 60493
-        + row.high / HALF % HALF * 52711
-        + row.low % HALF * 30011;
-    ((x + x / 1024 + x / 1048576) as usize) % BUCKETS
+    let x = row.label / HALF % HALF * 44453
+        + row.label % HALF * 33739
+        + row.high % HALF * 57641
+        + row.high / HALF % HALF * 60493
+        + row.low % HALF * 25717;
+    ((x + x / 128 + x / 131072) as usize) % BUCKETS
 }
 
 // The place of the row among the first count rows, by the hash index.
