@@ -8,13 +8,13 @@ use crate::refusal::{require, Refusal};
 use crate::regress::{self, Truths};
 use crate::slips::Slips;
 use crate::state::{self, State};
-use crate::terms::{Arities, CONSTANTS, EQUALITY, FIRST_PARAMETER, FIRST_VARIABLE, PARAMETERS, PREDICATES};
+use crate::terms::{Arities, CONSTANTS, EQUALITY, FIRST_PARAMETER, FIRST_VARIABLE, PARAMETERS, PLACES, PREDICATES};
 use std::collections::BTreeSet;
 
 pub const RESULT_WORDS: usize = ROWS * ROW_WORDS;
 pub const SPACE_WORDS: usize = SPACE_ROWS * ROW_WORDS;
-/// Predicate and four objects.
-pub const FACT_WORDS: usize = 5;
+/// Predicate and objects, one for each place of a label.
+pub const FACT_WORDS: usize = 1 + PLACES;
 
 /// The lengths of the lent result buffer and working space, in words.
 #[derive(Clone, Copy, Debug)]
@@ -81,7 +81,7 @@ pub fn cut(value: &[u64], arities: &[u64], lent: Lent) -> Result<(Vec<u64>, Edge
     Ok((write_listing(&cut.diagram), cut.edge))
 }
 
-/// A lent state: n, the object of each constant, and facts of five words each.
+/// A lent state: n, the object of each constant, and the facts, `FACT_WORDS` words each.
 pub fn value(value: &[u64], arities: &[u64], objects: u64, constants: &[u64], facts: &[u64]) -> Result<u64, Refusal> {
     let arities = read_arities(arities)?;
     let value = read_listing(value, &arities)?;

@@ -78,7 +78,7 @@ impl Declarations {
     }
 }
 
-/// Looks up the words of one line's diagram. Variables are numbered from 32 by first occurrence on the line.
+/// Looks up the words of one line's diagram. Variables are numbered from the first one on by first occurrence on the line.
 pub struct Lookup<'a> {
     declarations: &'a Declarations,
     parameters: &'a [String],

@@ -2,12 +2,11 @@
 
 use crate::diagram::{Diagram, Row, Space, LARGEST, ROWS};
 use crate::refusal::{require, Refusal};
-use crate::terms::{is_constant, is_parameter, is_variable, Arities, Label, EQUALITY, LARGEST_ARITY, PREDICATES};
+use crate::terms::{is_constant, is_parameter, is_variable, Arities, Label, EQUALITY, LARGEST_ARITY, LEAF_MARK, PREDICATES};
 
-pub const LEAF_MARK: u64 = 4_294_967_295;
 pub const ROW_WORDS: usize = 3;
 
-/// Exactly 32 arities, equality's 2 first, none above 4.
+/// Exactly 32 arities, equality's 2 first, none above the highest.
 pub fn read_arities(words: &[u64]) -> Result<Arities, Refusal> {
     let arities: Arities = words.try_into().map_err(|_| Refusal::Listing)?;
     require(arities[EQUALITY as usize] == 2, Refusal::Listing)?;

@@ -47,7 +47,7 @@ fn replace(space: &mut Space, diagram: &Diagram, replacement: &impl Fn(Term) -> 
     rebuild(space, diagram, &mut |_, label| Ok(Diagram::test(label.replaced(replacement))))
 }
 
-/// The truth diagram used at p(t1 ..): variable 32 + i is replaced by the term at place i.
+/// The truth diagram used at p(t1 ..): its variable number i, from 0, is replaced by the term at place i.
 fn with_arguments(space: &mut Space, truth: &Diagram, label: Label, slips: Slips) -> Result<Diagram, Refusal> {
     let places = label.places();
     let argument = |term: Term| if is_variable(term) { places[(term - FIRST_VARIABLE) as usize] } else { term };
@@ -75,7 +75,7 @@ pub fn regress_in(space: &mut Space, diagram: &Diagram, truths: &Truths, slips: 
     rebuild(space, diagram, &mut test)
 }
 
-/// Parameter 16 + i becomes variable 32 + i; the other variables move up by the parameter count.
+/// Parameter number i becomes variable number i, both from 0; the other variables move up by the parameter count.
 pub fn free(diagram: &Diagram, parameters: u64) -> Result<Diagram, Refusal> {
     require(diagram.variables().iter().all(|v| v + parameters <= LAST_VARIABLE), Refusal::Variables)?;
     Ok(diagram.renamed(&|term| {

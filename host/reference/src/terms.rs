@@ -1,19 +1,27 @@
-//! Document 01, "Terms, labels, listings": terms and labels.
+//! Document 01, "Terms, labels, listings": terms and labels, as wide as document 02 makes them (L8). Every number of the packing stands here, once.
 
-/// A constant (0 to 15), an action parameter (16 to 19) or a variable (32 to 63).
+/// A constant (0 to 15), an action parameter (16 to 19) or a variable (64 to 127).
 pub type Term = u64;
 
 pub const CONSTANTS: u64 = 16;
 pub const FIRST_PARAMETER: Term = 16;
 pub const PARAMETERS: u64 = 4;
-pub const FIRST_VARIABLE: Term = 32;
-pub const VARIABLES: u64 = 32;
+pub const FIRST_VARIABLE: Term = 64;
+pub const VARIABLES: u64 = 64;
 pub const LAST_VARIABLE: Term = FIRST_VARIABLE + VARIABLES - 1;
 
 pub const EQUALITY: u64 = 0;
 /// Equality and predicates 1 to 31.
 pub const PREDICATES: usize = 32;
-pub const LARGEST_ARITY: u64 = 4;
+/// The terms that a label has room for, and so the highest arity.
+pub const PLACES: usize = 6;
+pub const LARGEST_ARITY: u64 = PLACES as u64;
+
+/// The bits that a term takes in a label; the predicate stands above them all.
+pub const TERM_BITS: usize = 8;
+pub const PREDICATE_BIT: usize = TERM_BITS * PLACES;
+/// The first word of a leaf's row, which is no label.
+pub const LEAF_MARK: u64 = u64::MAX;
 
 /// The arity of each predicate; the first is equality's, 2.
 pub type Arities = [u64; PREDICATES];
@@ -30,23 +38,28 @@ pub fn is_variable(term: Term) -> bool {
     (FIRST_VARIABLE..=LAST_VARIABLE).contains(&term)
 }
 
-/// predicate · 2^24 + t1 · 2^18 + t2 · 2^12 + t3 · 2^6 + t4. Unused places are 0, so labels compare as these numbers.
+/// predicate · 2^48 + t1 · 2^40 + t2 · 2^32 + .. + t6: eight bits a term, the first place highest. Unused places are 0, so labels compare as these numbers.
 #[derive(Clone, Copy, Debug, PartialEq, Eq, PartialOrd, Ord, Hash)]
 pub struct Label(pub u64);
 
 impl Label {
     pub fn pack(predicate: u64, terms: &[Term]) -> Label {
-        let place = |i: usize| terms.get(i).copied().unwrap_or(0);
-        Label((predicate << 24) + (place(0) << 18) + (place(1) << 12) + (place(2) << 6) + place(3))
+        let places = terms.iter().enumerate().map(|(place, term)| term << Label::bit_of(place));
+        Label((predicate << PREDICATE_BIT) + places.sum::<u64>())
+    }
+
+    /// The lowest bit of a place.
+    fn bit_of(place: usize) -> usize {
+        TERM_BITS * (PLACES - 1 - place)
     }
 
     pub fn predicate(self) -> u64 {
-        self.0 >> 24
+        self.0 >> PREDICATE_BIT
     }
 
-    /// All four places, unused ones included.
-    pub fn places(self) -> [Term; 4] {
-        [self.0 >> 18 & 63, self.0 >> 12 & 63, self.0 >> 6 & 63, self.0 & 63]
+    /// All six places, unused ones included.
+    pub fn places(self) -> [Term; PLACES] {
+        std::array::from_fn(|place| self.0 >> Label::bit_of(place) & ((1 << TERM_BITS) - 1))
     }
 
     /// The label with every term replaced, all together. An unused place holds 0, which is a constant, and

@@ -3,14 +3,21 @@
 use reference::calls::{combine, cut, free, regress, value, Lent, RESULT_WORDS, SPACE_WORDS};
 use reference::combine::{Names, Operator};
 use reference::diagram::{Diagram, Row, Space, LARGEST};
-use reference::listing::{write_listing, LEAF_MARK};
+use reference::listing::write_listing;
 use reference::refusal::Refusal;
-use reference::terms::{Label, Test, EQUALITY};
+use reference::terms::{
+    Label, Test, EQUALITY, FIRST_PARAMETER, FIRST_VARIABLE, LAST_VARIABLE, LEAF_MARK, PREDICATES, PREDICATE_BIT, VARIABLES,
+};
 
-/// Predicate 1 has arity 2, predicate 2 arity 1, all others 0.
+/// The first parameter, and the first two variables.
+const P: u64 = FIRST_PARAMETER;
+const X: u64 = FIRST_VARIABLE;
+const Y: u64 = X + 1;
+
+/// Predicate 1 has arity 2, predicate 2 arity 1, predicate 3 arity 6, all others 0.
 fn arities() -> Vec<u64> {
-    let mut arities = vec![0; 32];
-    arities[..3].copy_from_slice(&[2, 2, 1]);
+    let mut arities = vec![0; PREDICATES];
+    arities[..4].copy_from_slice(&[2, 2, 1, 6]);
     arities
 }
 
@@ -43,13 +50,16 @@ fn listings() {
     assert!(!case(&[[LEAF_MARK, 0, 1]]));
     assert!(!case(&[]));
     assert!(!is_listing(&[LEAF_MARK, 0]));
-    assert!(case(&[leaf(1), leaf(0), row(p(32, 63), 0, 1)]));
-    assert!(!case(&[leaf(1), leaf(0), row(p(32, 31), 0, 1)]), "31 is no term");
-    assert!(!case(&[leaf(1), leaf(0), row(p(20, 32), 0, 1)]), "20 is no term");
+    assert!(case(&[leaf(1), leaf(0), row(p(64, 127), 0, 1)]));
+    assert!(!case(&[leaf(1), leaf(0), row(p(64, 63), 0, 1)]), "63 is no term");
+    assert!(!case(&[leaf(1), leaf(0), row(p(128, 64), 0, 1)]), "128 is no term");
+    assert!(!case(&[leaf(1), leaf(0), row(p(20, 64), 0, 1)]), "20 is no term");
     assert!(case(&[leaf(1), leaf(0), row(p(19, 15), 0, 1)]));
+    assert!(case(&[leaf(1), leaf(0), row(Label::pack(3, &[0, 15, 16, 19, 64, 127]).0, 0, 1)]));
+    assert!(!case(&[leaf(1), leaf(0), row(Label::pack(3, &[0, 15, 16, 19, 64, 20]).0, 0, 1)]), "20 in the last place");
     assert!(!case(&[leaf(1), leaf(0), row(q(1) + 1, 0, 1)]), "an unused place");
-    assert!(!case(&[leaf(1), leaf(0), row(32 << 24, 0, 1)]), "no such predicate");
-    assert!(case(&[leaf(1), leaf(0), row(31 << 24, 0, 1)]));
+    assert!(!case(&[leaf(1), leaf(0), row((PREDICATES as u64) << PREDICATE_BIT, 0, 1)]), "no such predicate");
+    assert!(case(&[leaf(1), leaf(0), row((PREDICATES as u64 - 1) << PREDICATE_BIT, 0, 1)]));
     assert!(case(&[leaf(1), leaf(0), row(same(0, 1), 0, 1)]));
     assert!(!case(&[leaf(1), leaf(0), row(same(1, 0), 0, 1)]), "equality's larger term first");
     assert!(!case(&[leaf(1), leaf(0), row(same(1, 1), 0, 1)]), "t = t");
@@ -62,9 +72,48 @@ fn listings() {
     assert!(case(&[leaf(1), leaf(0), row(q(2), 0, 1), row(q(1), 2, 1)]));
 }
 
+/// The numbers as documents 01 and 02 write them: stock(hub), hub = ?v0, a label of six places, and the leaf's mark.
+#[test]
+fn labels() {
+    assert_eq!(Label::pack(1, &[0]).0, 281_474_976_710_656);
+    assert_eq!(Test::atom(EQUALITY, &[64, 0]), Test::Is(Label(64 << 32)));
+    let six = Label::pack(31, &[0, 15, 16, 19, 64, 127]);
+    assert_eq!(six.0, (31 << 48) + (15 << 32) + (16 << 24) + (19 << 16) + (64 << 8) + 127);
+    assert_eq!((six.predicate(), six.places()), (31, [0, 15, 16, 19, 64, 127]));
+    assert_eq!(leaf(7), [18_446_744_073_709_551_615, 7, 0]);
+}
+
+/// "Listings of the old kind meet 14": four places of six bits, variables from 32 on, the leaf's mark 2^32 - 1.
+#[test]
+fn old_listings() {
+    const OLD_LEAF: u64 = 4_294_967_295;
+    let old = |predicate: u64, terms: [u64; 4]| terms.iter().fold(predicate, |word, term| (word << 6) + term);
+    let refused = |words: &[u64]| {
+        let truths: [Option<&[u64]>; PREDICATES] = std::array::from_fn(|predicate| (predicate == 2).then_some(words));
+        let answers = [
+            sum(words, &leaf(0)).map(|_| ()),
+            sum(&leaf(0), words).map(|_| ()),
+            regress(words, &[None; PREDICATES], &arities(), Lent::ENOUGH).map(|_| ()),
+            regress(&leaf(0), &truths, &arities(), Lent::ENOUGH).map(|_| ()),
+            free(words, 0, &arities(), Lent::ENOUGH).map(|_| ()),
+            cut(words, &arities(), Lent::ENOUGH).map(|_| ()),
+            value(words, &arities(), 1, &[], &[]).map(|_| ()),
+        ];
+        answers.into_iter().all(|answer| answer == Err(Refusal::Listing))
+    };
+    assert!(refused(&[OLD_LEAF, 7, 0]));
+    let labels = [old(1, [0, 32, 0, 0]), old(2, [63, 0, 0, 0]), old(0, [0, 32, 0, 0]), old(3, [0, 15, 16, 19]), old(31, [0; 4])];
+    for label in labels {
+        assert!(refused(&[OLD_LEAF, 1, 0, OLD_LEAF, 0, 0, label, 0, 1]), "{label}");
+        assert!(refused(&[LEAF_MARK, 1, 0, LEAF_MARK, 0, 0, label, 0, 1]), "{label} over leaves of the new kind");
+    }
+    assert!(refused(&[OLD_LEAF, 1, 0, OLD_LEAF, 0, 0, Label::pack(1, &[0, X]).0, 0, 1]), "a label of the new kind over old leaves");
+    assert!(!refused(&[LEAF_MARK, 1, 0, LEAF_MARK, 0, 0, Label::pack(1, &[0, X]).0, 0, 1]));
+}
+
 /// The labels that tests are numbered by.
 fn label(n: u64) -> Label {
-    Label::pack(1, &[32 + n / 32, 32 + n % 32])
+    Label::pack(1, &[X + n / VARIABLES, X + n % VARIABLES])
 }
 
 /// A chain of tests from the label numbered `first` on: leaves `base`, `base` + 1, .. in turn under their true edges, the next one under the last false edge.
@@ -130,7 +179,7 @@ fn rows_of_a_listing() {
         for i in 0..length {
             let number = length - 1 - i;
             let below = if i == 0 { length } else { length + i };
-            words.extend([Label::pack(1, &[32 + number / 32, 32 + number % 32]).0, number, below]);
+            words.extend([label(number).0, number, below]);
         }
         words
     };
@@ -148,8 +197,10 @@ fn arity_lists() {
     wrong[0] = 1;
     assert_eq!(with(&wrong), Err(Refusal::Listing));
     wrong = arities();
-    wrong[31] = 5;
+    wrong[31] = 7;
     assert_eq!(with(&wrong), Err(Refusal::Listing));
+    wrong[31] = 6;
+    assert_eq!(with(&wrong), Ok((leaf(0), 1)));
     assert_eq!(with(&arities()[..31]), Err(Refusal::Listing));
     assert_eq!(with(&[&arities()[..], &[0]].concat()), Err(Refusal::Listing));
 }
@@ -175,38 +226,49 @@ fn pair_count() {
 #[test]
 fn truth_diagrams() {
     let call = |truth: &[u64], lent| {
-        let mut truths: [Option<&[u64]>; 32] = [None; 32];
+        let mut truths: [Option<&[u64]>; PREDICATES] = [None; PREDICATES];
         truths[2] = Some(truth);
-        regress(&test_of(2, &[40]), &truths, &arities(), lent)
+        regress(&test_of(2, &[X + 8]), &truths, &arities(), lent)
     };
-    assert_eq!(call(&test_of(2, &[32]), Lent::ENOUGH), Ok(test_of(2, &[40])));
-    assert_eq!(call(&test_of(1, &[32, 19]), Lent::ENOUGH), Ok(test_of(1, &[40, 19])));
-    assert_eq!(call(&test_of(1, &[32, 33]), Lent::ENOUGH), Err(Refusal::Unbound));
+    assert_eq!(call(&test_of(2, &[X]), Lent::ENOUGH), Ok(test_of(2, &[X + 8])));
+    assert_eq!(call(&test_of(1, &[X, P + 3]), Lent::ENOUGH), Ok(test_of(1, &[X + 8, P + 3])));
+    assert_eq!(call(&test_of(1, &[X, Y]), Lent::ENOUGH), Err(Refusal::Unbound));
     assert_eq!(call(&leaf(2), Lent::ENOUGH), Err(Refusal::Truth));
     assert_eq!(call(&leaf(2), Lent { result: 0, space: 0 }), Err(Refusal::Buffer));
     assert_eq!(call(&[], Lent { result: 0, space: 0 }), Err(Refusal::Listing));
-    let both = [LEAF_MARK, 2, 0, LEAF_MARK, 0, 0, Label::pack(2, &[33]).0, 0, 1];
+    let both = [LEAF_MARK, 2, 0, LEAF_MARK, 0, 0, Label::pack(2, &[Y]).0, 0, 1];
     assert_eq!(call(&both, Lent::ENOUGH), Err(Refusal::Truth), "7 comes before 6");
 }
 
 #[test]
 fn equality_of_arguments_becomes_truth() {
-    let mut truths: [Option<&[u64]>; 32] = [None; 32];
-    let truth = test_of(EQUALITY, &[32, 33]);
+    let mut truths: [Option<&[u64]>; PREDICATES] = [None; PREDICATES];
+    let truth = test_of(EQUALITY, &[X, Y]);
     truths[1] = Some(&truth);
-    assert_eq!(regress(&test_of(1, &[40, 40]), &truths, &arities(), Lent::ENOUGH), Ok(leaf(1)));
-    assert_eq!(regress(&test_of(1, &[41, 40]), &truths, &arities(), Lent::ENOUGH), Ok(test_of(EQUALITY, &[40, 41])));
+    assert_eq!(regress(&test_of(1, &[X + 8, X + 8]), &truths, &arities(), Lent::ENOUGH), Ok(leaf(1)));
+    assert_eq!(regress(&test_of(1, &[X + 9, X + 8]), &truths, &arities(), Lent::ENOUGH), Ok(test_of(EQUALITY, &[X + 8, X + 9])));
+}
+
+/// Six arguments turned round, replaced together.
+#[test]
+fn six_arguments() {
+    let mut truths: [Option<&[u64]>; PREDICATES] = [None; PREDICATES];
+    let truth = test_of(3, &[X + 5, X + 4, X + 3, X + 2, Y, X]);
+    truths[3] = Some(&truth);
+    let value = test_of(3, &[LAST_VARIABLE, 1, P, Y, Y, 15]);
+    assert_eq!(regress(&value, &truths, &arities(), Lent::ENOUGH), Ok(test_of(3, &[15, Y, Y, P, 1, LAST_VARIABLE])));
 }
 
 #[test]
 fn freeing() {
     let call = |words: &[u64], count| free(words, count, &arities(), Lent::ENOUGH);
-    assert_eq!(call(&test_of(1, &[16, 32]), 1), Ok(test_of(1, &[32, 33])));
-    assert_eq!(call(&test_of(1, &[16, 32]), 4), Ok(test_of(1, &[32, 36])));
-    assert_eq!(call(&test_of(1, &[17, 63]), 5), Err(Refusal::Range));
-    assert_eq!(call(&test_of(1, &[17, 63]), 1), Err(Refusal::Unbound));
-    assert_eq!(call(&test_of(1, &[17, 63]), 2), Err(Refusal::Variables));
-    assert_eq!(call(&test_of(1, &[17, 61]), 2), Ok(test_of(1, &[33, 63])));
+    assert_eq!(call(&test_of(1, &[P, X]), 1), Ok(test_of(1, &[X, Y])));
+    assert_eq!(call(&test_of(1, &[P, X]), 4), Ok(test_of(1, &[X, X + 4])));
+    assert_eq!(call(&test_of(1, &[P + 1, LAST_VARIABLE]), 5), Err(Refusal::Range));
+    assert_eq!(call(&test_of(1, &[P + 1, LAST_VARIABLE]), 1), Err(Refusal::Unbound));
+    assert_eq!(call(&test_of(1, &[P + 1, LAST_VARIABLE]), 2), Err(Refusal::Variables));
+    assert_eq!(call(&test_of(1, &[17, 125]), 2), Ok(test_of(1, &[65, 127])));
+    assert_eq!(call(&test_of(1, &[17, 126]), 2), Err(Refusal::Variables), "a variable would be 128");
 }
 
 #[test]
@@ -215,26 +277,31 @@ fn valuing() {
     assert_eq!(call(&leaf(7), 1, &[], &[]), Ok(7));
     assert_eq!(call(&leaf(7), 0, &[], &[]), Err(Refusal::Range));
     assert_eq!(call(&leaf(7), 2, &[2], &[]), Err(Refusal::Range));
-    assert_eq!(call(&leaf(7), 2, &[1], &[1, 0, 2, 0, 0]), Err(Refusal::Range));
-    assert_eq!(call(&leaf(7), 2, &[1], &[2, 1, 9, 9, 9]), Ok(7), "unused places are ignored");
-    assert_eq!(call(&test_of(2, &[16]), 0, &[], &[]), Err(Refusal::Range), "4 comes before 6");
-    assert_eq!(call(&test_of(2, &[16]), 1, &[], &[]), Err(Refusal::Unbound));
-    assert_eq!(call(&test_of(2, &[0]), 2, &[1], &[2, 1, 0, 0, 0]), Ok(1));
-    assert_eq!(call(&test_of(2, &[0]), 2, &[0], &[2, 1, 0, 0, 0]), Ok(0));
-    assert_eq!(call(&test_of(1, &[32, 33]), 1_000, &[], &[1, 5, 999, 0, 0]), Ok(1));
-    assert_eq!(call(&test_of(1, &[32, 33]), 1_001, &[], &[]), Err(Refusal::Valuations));
-    assert_eq!(call(&test_of(1, &[16, 33]), 1_001, &[], &[]), Err(Refusal::Unbound), "6 comes before 15");
+    assert_eq!(call(&leaf(7), 2, &[1], &[1, 0, 2, 0, 0, 0, 0]), Err(Refusal::Range));
+    assert_eq!(call(&leaf(7), 2, &[1], &[2, 1, 9, 9, 9, 9, 9]), Ok(7), "unused places are ignored");
+    assert_eq!(call(&leaf(7), 2, &[1], &[3, 1, 1, 1, 1, 1, 2]), Err(Refusal::Range), "the sixth place is used");
+    assert_eq!(call(&leaf(7), 2, &[1], &[3, 9, 9, 9, 9, 9]), Ok(7), "words behind the last whole row");
+    assert_eq!(call(&test_of(2, &[P]), 0, &[], &[]), Err(Refusal::Range), "4 comes before 6");
+    assert_eq!(call(&test_of(2, &[P]), 1, &[], &[]), Err(Refusal::Unbound));
+    assert_eq!(call(&test_of(2, &[0]), 2, &[1], &[2, 1, 0, 0, 0, 0, 0]), Ok(1));
+    assert_eq!(call(&test_of(2, &[0]), 2, &[0], &[2, 1, 0, 0, 0, 0, 0]), Ok(0));
+    assert_eq!(call(&test_of(1, &[X, Y]), 1_000, &[], &[1, 5, 999, 0, 0, 0, 0]), Ok(1));
+    assert_eq!(call(&test_of(1, &[X, Y]), 1_001, &[], &[]), Err(Refusal::Valuations));
+    assert_eq!(call(&test_of(1, &[P, Y]), 1_001, &[], &[]), Err(Refusal::Unbound), "6 comes before 15");
+    let all_six = test_of(3, &[X, Y, X + 2, X + 3, X + 4, X + 5]);
+    assert_eq!(call(&all_six, 10, &[], &[3, 1, 2, 3, 4, 5, 9]), Ok(1));
+    assert_eq!(call(&all_six, 11, &[], &[]), Err(Refusal::Valuations));
 }
 
 #[test]
 fn cutting() {
     let call = |words: &[u64]| cut(words, &arities(), Lent::ENOUGH);
     assert_eq!(call(&leaf(1)), Err(Refusal::Nothing));
-    assert_eq!(call(&test_of(2, &[32])), Err(Refusal::Nothing));
+    assert_eq!(call(&test_of(2, &[X])), Err(Refusal::Nothing));
     // q(?a) or else q(?b): the false edge of q(?a) may go, since the path by q(?a) covers the one by q(?b).
     let label = |v: u64| Label::pack(2, &[v]).0;
-    let either = [LEAF_MARK, 1, 0, LEAF_MARK, 0, 0, label(33), 0, 1, label(32), 0, 2];
+    let either = [LEAF_MARK, 1, 0, LEAF_MARK, 0, 0, label(Y), 0, 1, label(X), 0, 2];
     let (left, edge) = call(&either).unwrap();
     assert_eq!(edge, (3, false));
-    assert_eq!(left, test_of(2, &[32]));
+    assert_eq!(left, test_of(2, &[X]));
 }

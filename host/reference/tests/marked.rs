@@ -1,4 +1,4 @@
-//! Document 01's run byte for byte, and the marked cases of its checklist.
+//! Document 01's run byte for byte, its labels as document 02 numbers them (L8), and the marked cases of its checklist.
 
 use reference::bellman::{Bellman, PlainAction, PlainModel, PlainVariant};
 use reference::combine::{combine, Names, Operator};
@@ -8,7 +8,7 @@ use reference::regress::{regress, Truths};
 use reference::session::{answers, run, Answer};
 use reference::slips::Slips;
 use reference::state::State;
-use reference::terms::{Label, Test};
+use reference::terms::{Label, Test, FIRST_PARAMETER, FIRST_VARIABLE, PREDICATES};
 use reference::tree::Tree;
 
 const RUN: &[u8] = include_bytes!("../../../examples/sample.txt");
@@ -18,10 +18,10 @@ const PRINTED: &str = "\
 (backup 1 6)
 (row 0 leaf 120)
 (row 1 leaf 30)
-(row 2 16777216 0 1)
+(row 2 281474976710656 0 1)
 (row 3 leaf 0)
-(row 4 16777216 0 3)
-(row 5 131072 2 4)
+(row 4 281474976710656 0 3)
+(row 5 274877906944 2 4)
 (cut 5 false 5)
 (value 30 1 8)
 (refused 16 18)
@@ -70,10 +70,11 @@ fn scale_of_eight() {
 
 #[test]
 fn arguments_are_replaced_together() {
-    let truths = Truths::from([(1, test_of(&[32, 33]))]);
-    assert_eq!(regress(&test_of(&[33, 32]), &truths, Slips::NONE), Ok(test_of(&[33, 32])));
+    let (a, b) = (FIRST_VARIABLE, FIRST_VARIABLE + 1);
+    let truths = Truths::from([(1, test_of(&[a, b]))]);
+    assert_eq!(regress(&test_of(&[b, a]), &truths, Slips::NONE), Ok(test_of(&[b, a])));
     let in_turn = Slips { arguments_in_turn: true, ..Slips::NONE };
-    assert_eq!(regress(&test_of(&[33, 32]), &truths, in_turn), Ok(test_of(&[32, 32])));
+    assert_eq!(regress(&test_of(&[b, a]), &truths, in_turn), Ok(test_of(&[a, a])));
 }
 
 /// The run's model and states, worked out without diagrams.
@@ -85,12 +86,12 @@ fn run_by_brute_force() {
         yes: Box::new(Tree::Number(1)),
         no: Box::new(no),
     };
-    let filled = test(0, &[16, 32], test(1, &[32], Tree::Number(0)));
+    let filled = test(0, &[FIRST_PARAMETER, FIRST_VARIABLE], test(1, &[FIRST_VARIABLE], Tree::Number(0)));
     let variants = vec![
         PlainVariant { weight: Tree::Number(3), truths: [(1, filled)].into() },
         PlainVariant { weight: Tree::Number(1), truths: [].into() },
     ];
-    let mut arities = [0; 32];
+    let mut arities = [0; PREDICATES];
     arities[..2].copy_from_slice(&[2, 1]);
     let reward = Tree::If { predicate: 1, terms: vec![0], yes: Box::new(Tree::Number(10)), no: Box::new(Tree::Number(0)) };
     let actions = vec![PlainAction { parameters: 1, variants }];

@@ -27,6 +27,7 @@ fn arguments_in_turn() {
     let slips = Slips { arguments_in_turn: true, ..Slips::NONE };
     assert!(caught("meaning-arguments-together", slips));
     assert!(caught("meaning-arguments-exchanged", slips));
+    assert!(caught("meaning-six-arguments", slips));
 }
 
 #[test]

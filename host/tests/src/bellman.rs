@@ -9,10 +9,14 @@ use reference::session::{Answer, Session};
 use reference::slips::Slips;
 use std::path::Path;
 
+/// One model in four has predicates of up to six places.
+const SIZES: [Size; 4] = [Size::SMALL, Size::SMALL, Size::SMALL, Size::PLACES];
+
 /// One random model with a random list of backups and cuts. A wrong value is described.
 pub fn check(seed: u64, slips: Slips, tally: &mut Tally) -> Result<(), String> {
     let random = &mut Random::new(seed);
-    let (signature, plain) = model(random, Size::SMALL);
+    let size = *random.pick(&SIZES);
+    let (signature, plain) = model(random, size);
     let mut session = Session::new(slips);
     for line in write_model(&signature, &plain) {
         session.take(line.as_bytes()).map_err(|refusal| format!("{line} is refused with {}", refusal.number()))?;
@@ -20,7 +24,7 @@ pub fn check(seed: u64, slips: Slips, tally: &mut Tally) -> Result<(), String> {
     let mut bellman = Bellman::new(&plain);
     let mut states = Vec::new();
     for _ in 0..4 {
-        let objects = random.between(1, Size::SMALL.objects);
+        let objects = random.between(1, size.objects);
         states.push(state(random, &signature, objects));
     }
     for _ in 0..6 {
@@ -50,14 +54,15 @@ pub fn check(seed: u64, slips: Slips, tally: &mut Tally) -> Result<(), String> {
 /// One random model with backups and cuts as a text for a program: how many values it printed, all of them those of the equation.
 pub fn check_program(program: &Path, seed: u64) -> Result<u64, String> {
     let random = &mut Random::new(seed);
-    let (signature, plain) = model(random, Size::SMALL);
+    let size = *random.pick(&SIZES);
+    let (signature, plain) = model(random, size);
     let mut lines = write_model(&signature, &plain);
     let model_lines = lines.len();
     // the state at each (value) line, in their order
     let mut states = Vec::new();
     for _ in 0..6 {
         lines.push(random.pick(&["(backup)", "(cut)", "(cut)"]).to_string());
-        let objects = random.between(1, Size::SMALL.objects);
+        let objects = random.between(1, size.objects);
         let state = state(random, &signature, objects);
         lines.extend(write_state(&state));
         lines.push("(value)".to_string());

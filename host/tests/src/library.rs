@@ -2,14 +2,16 @@
 //! behind them compared.
 
 use crate::listings::damage;
+use crate::old::old_listing;
 use crate::random::Random;
 use crate::shapes::{diagram, leaves, Atoms, Shape};
 use reference::calls::{self as right, Lent, FACT_WORDS, RESULT_WORDS, SPACE_WORDS};
 use reference::combine::{Names, Operator};
+use reference::diagram::Diagram;
 use reference::listing::{read_arities, read_listing, write_listing};
 use reference::refusal::Refusal;
 use reference::state::VALUATIONS;
-use reference::terms::{Label, FIRST_PARAMETER, FIRST_VARIABLE, LAST_VARIABLE, PREDICATES};
+use reference::terms::{Label, FIRST_PARAMETER, FIRST_VARIABLE, LARGEST_ARITY, LAST_VARIABLE, PARAMETERS, PREDICATES, VARIABLES};
 use std::collections::BTreeMap;
 use yindolve::calls;
 
@@ -127,9 +129,9 @@ fn lent_arities(random: &mut Random, atoms: &Atoms) -> Vec<u64> {
     let mut arities = atoms.arities.to_vec();
     if random.once_in(50) {
         match random.below(4) {
-            0 => arities[0] = random.below(5),
-            1 => arities[random.below(32) as usize] = *random.pick(&[5, 6, u64::MAX]),
-            2 => arities.truncate(random.below(32) as usize),
+            0 => arities[0] = random.below(LARGEST_ARITY + 1),
+            1 => arities[random.below(PREDICATES as u64) as usize] = *random.pick(&[LARGEST_ARITY + 1, LARGEST_ARITY + 2, u64::MAX]),
+            2 => arities.truncate(random.below(PREDICATES as u64) as usize),
             _ => arities.push(0),
         }
     }
@@ -137,7 +139,7 @@ fn lent_arities(random: &mut Random, atoms: &Atoms) -> Vec<u64> {
 }
 
 fn check_listing(random: &mut Random, answers: &mut Answers) -> Result<(), String> {
-    let (parameters, variables) = (random.below(5), random.between(1, 32));
+    let (parameters, variables) = (random.below(PARAMETERS + 1), random.between(1, VARIABLES));
     let atoms = &Atoms::random(random, parameters, variables);
     let (shape, leaves) = (Shape::any(random, 8), leaves(random));
     let mut words = listing(random, atoms, shape, &leaves);
@@ -152,19 +154,20 @@ fn check_listing(random: &mut Random, answers: &mut Answers) -> Result<(), Strin
 
 type Combination = fn(&[u64], &[u64], &[u64], &mut [u64], &mut [u64], &mut u64, &mut u64) -> Result<(), yindolve::Refusal>;
 
+const COMBINATIONS: [(&str, Combination, Operator, Names); 6] = [
+    ("sum apart", calls::sum_apart, Operator::Sum, Names::Apart),
+    ("sum shared", calls::sum_shared, Operator::Sum, Names::Shared),
+    ("product apart", calls::product_apart, Operator::Product, Names::Apart),
+    ("product shared", calls::product_shared, Operator::Product, Names::Shared),
+    ("max apart", calls::max_apart, Operator::Max, Names::Apart),
+    ("max shared", calls::max_shared, Operator::Max, Names::Shared),
+];
+
 fn check_combination(random: &mut Random, answers: &mut Answers) -> Result<(), String> {
-    let combinations: [(&str, Combination, Operator, Names); 6] = [
-        ("sum apart", calls::sum_apart, Operator::Sum, Names::Apart),
-        ("sum shared", calls::sum_shared, Operator::Sum, Names::Shared),
-        ("product apart", calls::product_apart, Operator::Product, Names::Apart),
-        ("product shared", calls::product_shared, Operator::Product, Names::Shared),
-        ("max apart", calls::max_apart, Operator::Max, Names::Apart),
-        ("max shared", calls::max_shared, Operator::Max, Names::Shared),
-    ];
-    let (call, library, operator, names) = *random.pick(&combinations);
-    let (parameters, variables) = (random.below(3), *random.pick(&[3, 8, 16]));
+    let (call, library, operator, names) = *random.pick(&COMBINATIONS);
+    let (parameters, variables) = (random.below(3), *random.pick(&[3, 16, 48]));
     let mut atoms = Atoms::random(random, parameters, variables);
-    if random.once_in(8) {
+    if random.once_in(4) {
         atoms.terms = (FIRST_VARIABLE..=LAST_VARIABLE).collect();
     }
     let arities = lent_arities(random, &atoms);
@@ -266,12 +269,12 @@ fn check_regression(random: &mut Random, answers: &mut Answers) -> Result<(), St
 }
 
 fn check_freeing(random: &mut Random, answers: &mut Answers) -> Result<(), String> {
-    let (parameters, variables) = (random.below(5), random.between(1, 32));
+    let (parameters, variables) = (random.below(PARAMETERS + 1), random.between(1, VARIABLES));
     let atoms = &Atoms::random(random, parameters, variables);
     let arities = lent_arities(random, atoms);
     let (shape, leaves) = (Shape::any(random, 8), leaves(random));
     let words = listing(random, atoms, shape, &leaves);
-    let count = if random.once_in(10) { *random.pick(&[5, 1 << 32, u64::MAX]) } else { random.below(6) };
+    let count = if random.once_in(10) { *random.pick(&[PARAMETERS + 1, 1 << 32, u64::MAX]) } else { random.below(PARAMETERS + 2) };
     compare(
         random,
         answers,
@@ -286,7 +289,8 @@ fn check_freeing(random: &mut Random, answers: &mut Answers) -> Result<(), Strin
 }
 
 fn check_cut(random: &mut Random, answers: &mut Answers) -> Result<(), String> {
-    let (parameters, variables) = (random.below(2), random.between(1, 6));
+    let most = if random.once_in(4) { VARIABLES } else { 6 };
+    let (parameters, variables) = (random.below(2), random.between(1, most));
     let atoms = &Atoms::random(random, parameters, variables);
     let arities = lent_arities(random, atoms);
     let shape = match random.below(6) {
@@ -333,7 +337,7 @@ fn check_value(random: &mut Random, answers: &mut Answers) -> Result<(), String>
         facts.push(if random.once_in(20) { random.below(40) } else { *random.pick(&atoms.predicates) });
         let arity = atoms.arities.get(facts[facts.len() - 1] as usize).copied().unwrap_or(0);
         let unused = random.next();
-        facts.extend((0..4).map(|place| if place < arity { object(random) } else { unused }));
+        facts.extend((0..LARGEST_ARITY).map(|place| if place < arity { object(random) } else { unused }));
     }
     facts.truncate(facts.len().saturating_sub(random.below(2 * FACT_WORDS as u64) as usize));
     compare(
@@ -345,9 +349,39 @@ fn check_value(random: &mut Random, answers: &mut Answers) -> Result<(), String>
     )
 }
 
+/// A listing of the old kind meets 14 in every call that takes one, as each operand.
+fn check_old_listing(random: &mut Random) -> Result<(), String> {
+    let atoms = Atoms::random(random, PARAMETERS, VARIABLES);
+    let (shape, leaves) = (Shape::small(random), leaves(random));
+    let labels = atoms.labels(random, shape.levels);
+    let Some(old) = old_listing(&diagram(random, &labels, shape.width, &leaves)) else {
+        return Ok(());
+    };
+    let (arities, leaf) = (&atoms.arities[..], &write_listing(&Diagram::leaf(0))[..]);
+    let (result, work) = (&mut vec![0; RESULT_WORDS][..], &mut vec![0; SPACE_WORDS][..]);
+    let (first, second, third) = (&mut 0, &mut 0, &mut 0);
+    let mut met = vec![("check", calls::check(arities, &old))];
+    let spans: Vec<u64> =
+        (0..PREDICATES as u64).flat_map(|predicate| if predicate == 1 { [0, old.len() as u64] } else { [0, 0] }).collect();
+    for (call, combination, ..) in COMBINATIONS {
+        met.push((call, combination(arities, &old, leaf, result, work, first, second)));
+        met.push((call, combination(arities, leaf, &old, result, work, first, second)));
+    }
+    met.push(("regress", calls::regress(arities, &old, &[], &[], result, work, first)));
+    met.push(("regress, a truth diagram", calls::regress(arities, leaf, &old, &spans, result, work, first)));
+    met.push(("free", calls::free(arities, &old, 0, result, work, first)));
+    met.push(("cut", calls::cut(arities, &old, result, work, first, second, third)));
+    met.push(("value", calls::value(arities, &old, 1, &[], &[], first)));
+    match met.iter().find(|(_, answer)| *answer != Err(yindolve::Refusal::Listing)) {
+        Some((call, answer)) => Err(format!("{call} answers {answer:?} to {old:?}, of the old kind")),
+        None => Ok(()),
+    }
+}
+
 /// One call of each kind.
 pub fn check(seed: u64, answers: &mut Answers) -> Result<(), String> {
     let random = &mut Random::new(seed);
+    check_old_listing(random)?;
     check_listing(random, answers)?;
     check_combination(random, answers)?;
     check_regression(random, answers)?;

@@ -1,10 +1,11 @@
 //! Random texts about one limit each: at it, just below and just past it.
 
 use crate::random::Random;
+use reference::terms::{LARGEST_ARITY, PARAMETERS, PLACES, VARIABLES};
 
 /// The lines of a text about one limit.
 pub fn lines(random: &mut Random) -> Vec<String> {
-    match random.below(11) {
+    match random.below(12) {
         0 => declarations(random),
         1 => variables(random),
         2 => brackets(random),
@@ -15,6 +16,7 @@ pub fn lines(random: &mut Random) -> Vec<String> {
         7 => valuations(random),
         8 => pairs(random),
         9 => paths_of_weights(random),
+        10 => freed(random),
         _ => variants_apart(random),
     }
 }
@@ -33,6 +35,13 @@ fn conjunction(count: u64) -> String {
     (0..count).rev().fold("1".to_string(), |inner, v| format!("(if (p ?x{v}) {inner} 0)"))
 }
 
+/// One of tests of q, of up to six variables each: more variables than brackets that may be open.
+fn wide_conjunction(count: u64) -> String {
+    let variables: Vec<String> = (0..count).map(|v| format!(" ?x{v}")).collect();
+    let test = |inner: String, six: &[String]| format!("(if (q{}{}) {inner} 0)", six.concat(), six[0].repeat(PLACES - six.len()));
+    variables.chunks(PLACES).rev().fold("1".to_string(), test)
+}
+
 fn model(before: Vec<String>, reward: String) -> Vec<String> {
     let after = ["(action go)", "(variant only 100)", "(start)"].map(str::to_string);
     before.into_iter().chain([format!("(reward {reward})")]).chain(after).collect()
@@ -40,11 +49,13 @@ fn model(before: Vec<String>, reward: String) -> Vec<String> {
 
 fn declarations(random: &mut Random) -> Vec<String> {
     let mut lines: Vec<String> = numbered(about(random, 16), |i| format!("(constant c{i})")).collect();
-    lines.extend(numbered(about(random, 31), |i| format!("(predicate p{i} {})", i % 6)));
+    lines.push(format!("(predicate wide {})", about(random, LARGEST_ARITY)));
+    lines.extend(numbered(about(random, 31), |i| format!("(predicate p{i} {})", i % (LARGEST_ARITY + 1))));
     lines.push("(reward (if (= c15 c16) 1 (if (p30) 2 0)))".to_string());
-    lines.push("(reward (if (= c15 c0) 1 (if (p24) 2 0)))".to_string());
+    lines.push("(reward (if (= c15 c0) 1 (if (p28) (if (wide c0 c1 c2 c3 c4 c5) 2 3) 0)))".to_string());
+    lines.push("(reward (if (= c15 c0) 1 (if (p28) 2 0)))".to_string());
     lines.extend(numbered(about(random, 8), |i| format!("(action a{i})")));
-    let parameters: String = numbered(about(random, 4), |i| format!(" !x{i}")).collect();
+    let parameters: String = numbered(about(random, PARAMETERS), |i| format!(" !x{i}")).collect();
     lines.push(format!("(action wide{parameters})"));
     lines.extend(numbered(about(random, 8), |i| format!("(variant v{i} {})", 20 - i)));
     lines.push("(start)".to_string());
@@ -52,8 +63,8 @@ fn declarations(random: &mut Random) -> Vec<String> {
 }
 
 fn variables(random: &mut Random) -> Vec<String> {
-    let reward = conjunction(about(random, 32));
-    let mut lines = model(vec!["(predicate p 1)".to_string()], reward);
+    let reward = wide_conjunction(about(random, VARIABLES));
+    let mut lines = model(vec![format!("(predicate q {LARGEST_ARITY})")], reward);
     lines.extend(["(show)", "(cut)", "(objects 1)", "(value)"].map(str::to_string));
     lines
 }
@@ -113,14 +124,45 @@ fn valuations(random: &mut Random) -> Vec<String> {
     lines
 }
 
-/// A backup whose variables, set apart, are about 32.
+/// A backup whose variables, set apart, are about 64.
 fn variants_apart(random: &mut Random) -> Vec<String> {
-    let (variables, variants) = *random.pick(&[(8, 3), (11, 2), (10, 2), (16, 1), (17, 1), (4, 7), (5, 6), (4, 8)]);
+    let (variables, variants) = *random.pick(&[(16, 3), (22, 2), (21, 2), (32, 1), (33, 1), (8, 7), (9, 6), (8, 8)]);
     let parameters: String = numbered(random.below(5), |i| format!(" !a{i}")).collect();
     let mut lines = vec!["(predicate p 1)".to_string(), format!("(total {variants})"), format!("(reward {})", conjunction(variables))];
     lines.push(format!("(action go{parameters})"));
     lines.extend(numbered(variants, |i| format!("(variant v{i} 1)")));
     lines.extend(["(start)", "(backup)", "(cut)", "(backup)"].map(str::to_string));
+    lines
+}
+
+/// Two backups. In the second, the first action's sum has 63 variables, which its parameters move up: one, and the last of them is the last there is.
+fn freed(random: &mut Random) -> Vec<String> {
+    const SIDES: [&str; 7] = [
+        "(if (a) (if (b) (if (c) 1 0) 0) 0)",
+        "(if (a) (if (b) (if (c) 0 1) 0) 0)",
+        "(if (a) (if (b) 0 (if (c) 1 0)) 0)",
+        "(if (a) (if (b) 0 (if (c) 0 1)) 0)",
+        "(if (a) 0 (if (b) (if (c) 1 0) 0))",
+        "(if (a) 0 (if (b) (if (c) 0 1) 0))",
+        "(if (a) 0 (if (b) 0 1))",
+    ];
+    const QUARTERS: [&str; 4] =
+        ["(if (a) (if (b) 1 0) 0)", "(if (a) (if (b) 0 1) 0)", "(if (a) 0 (if (b) 1 0))", "(if (a) 0 (if (b) 0 1))"];
+    let predicates = [("a", 0), ("b", 0), ("c", 0), ("d", 0), ("e", 0), ("f", 0), ("p", 1), ("q", 2)];
+    let mut lines: Vec<String> = predicates.iter().map(|(name, arity)| format!("(predicate {name} {arity})")).collect();
+    lines.extend(["(total 1)", "(discount 1 1)", "(reward (if (p ?x) 1 0))"].map(str::to_string));
+    let parameters: String = numbered(random.below(PARAMETERS), |i| format!(" !x{i}")).collect();
+    lines.push(format!("(action wide{parameters})"));
+    for (i, weight) in SIDES.iter().enumerate() {
+        lines.push(format!("(variant v{i} {weight})"));
+        lines.extend([("a", "d"), ("b", "e"), ("c", "f")].map(|(now, next)| format!("(becomes ({now}) (if ({next}) 1 0))")));
+    }
+    lines.push("(action seen !x0 !x1 !x2 !x3)".to_string());
+    for (i, weight) in QUARTERS.iter().enumerate() {
+        lines.extend([format!("(variant v{i} {weight})"), format!("(becomes (p ?x) (if (q !x{i} ?x) 1 0))")]);
+        lines.extend(["(becomes (q ?x ?y) 0)", "(becomes (a) 1)", "(becomes (b) 1)", "(becomes (c) 1)"].map(str::to_string));
+    }
+    lines.extend(["(start)", "(backup)", "(backup)", "(objects 1)", "(value)"].map(str::to_string));
     lines
 }
 

@@ -1,14 +1,30 @@
-//! Lent listings, whole and damaged, and the refusals of library calls.
+//! Lent listings, whole, damaged and of the old kind, and the refusals of library calls.
 
 use crate::meaning::diagram;
 use crate::models::{terms, Signature, Size};
+use crate::old::{old_listing, OLD_LEAF_MARK};
 use crate::random::Random;
 use crate::tally::Tally;
 use reference::calls::{combine, cut, free, regress, value, Lent, RESULT_WORDS, SPACE_WORDS};
 use reference::combine::{Names, Operator};
-use reference::listing::{read_listing, write_listing, LEAF_MARK};
+use reference::diagram::LARGEST;
+use reference::listing::{read_listing, write_listing};
 use reference::refusal::Refusal;
-use reference::terms::{FIRST_VARIABLE, LAST_VARIABLE, PREDICATES};
+use reference::terms::{Arities, FIRST_VARIABLE, LAST_VARIABLE, LEAF_MARK, PARAMETERS, PREDICATES, PREDICATE_BIT};
+
+/// Words that come near to a number, a label or a leaf's mark.
+const WORDS: [u64; 10] = [
+    0,
+    1,
+    LAST_VARIABLE,
+    LAST_VARIABLE + 1,
+    OLD_LEAF_MARK,
+    1 << PREDICATE_BIT,
+    (PREDICATES as u64) << PREDICATE_BIT,
+    LARGEST + 1,
+    LEAF_MARK - 1,
+    LEAF_MARK,
+];
 
 /// One small damage to the words of a listing.
 pub fn damage(random: &mut Random, words: &mut Vec<u64>) {
@@ -16,7 +32,7 @@ pub fn damage(random: &mut Random, words: &mut Vec<u64>) {
     match random.below(6) {
         0 => words[at] = words[at].wrapping_add(1),
         1 => words[at] = words[at].wrapping_sub(1),
-        2 => words[at] = *random.pick(&[0, 1, 63, 64, LEAF_MARK, LEAF_MARK + 1, 1 << 24, 32 << 24, 1_000_000_000_000_000_001, u64::MAX]),
+        2 => words[at] = *random.pick(&WORDS),
         3 => {
             words.pop();
         }
@@ -32,12 +48,39 @@ pub fn damage(random: &mut Random, words: &mut Vec<u64>) {
     }
 }
 
-/// A listing that is taken is the very listing of its diagram, so no two damaged ones stand for one diagram; every call agrees on 14.
+/// What every call that takes a listing answers, with these words as one of its operands.
+fn every_call(random: &mut Random, words: &[u64], arities: &Arities) -> Vec<Result<(), Refusal>> {
+    let lent = Lent { result: RESULT_WORDS - usize::from(random.once_in(10)), space: SPACE_WORDS };
+    let leaf = [LEAF_MARK, 1, 0];
+    let names = *random.pick(&[Names::Apart, Names::Shared]);
+    let mut truths: [Option<&[u64]>; PREDICATES] = [None; PREDICATES];
+    truths[1] = Some(words);
+    let count = random.between(0, PARAMETERS + 1);
+    let objects = random.between(0, 3);
+    vec![
+        combine(Operator::Sum, names, words, &leaf, arities, lent).map(|_| ()),
+        combine(Operator::Product, names, &leaf, words, arities, lent).map(|_| ()),
+        regress(words, &[None; PREDICATES], arities, lent).map(|_| ()),
+        regress(&leaf, &truths, arities, lent).map(|_| ()),
+        free(words, count, arities, lent).map(|_| ()),
+        cut(words, arities, lent).map(|_| ()),
+        value(words, arities, objects, &[random.below(3)], &[]).map(|_| ()),
+    ]
+}
+
+/// A listing that is taken is the very listing of its diagram, so no two damaged ones stand for one diagram; every call agrees on 14, which it gives to every
+/// listing of the old kind.
 pub fn check(seed: u64, tally: &mut Tally) -> Result<(), String> {
     let random = &mut Random::new(seed);
-    let signature = Signature::random(random, Size::SMALL);
-    let lent = diagram(random, &signature, &terms(&signature, 4, 4), 4);
+    let size = *random.pick(&[Size::SMALL, Size::PLACES]);
+    let signature = Signature::random(random, size);
+    let lent = diagram(random, &signature, &terms(&signature, PARAMETERS, 4), 4);
     let highest_first = LAST_VARIABLE + 1 - lent.variables().len() as u64;
+    if let Some(old) = old_listing(&lent) {
+        if every_call(random, &old, &signature.arities).iter().any(|answer| *answer != Err(Refusal::Listing)) {
+            return Err(format!("{old:?}, of the old kind, is taken"));
+        }
+    }
     let mut words = write_listing(&lent.numbered_from(random.between(FIRST_VARIABLE, highest_first)));
     for _ in 0..random.below(3) {
         if !words.is_empty() {
@@ -51,22 +94,7 @@ pub fn check(seed: u64, tally: &mut Tally) -> Result<(), String> {
             return Err(format!("{words:?} is taken for another listing"));
         }
     }
-    let lent = Lent { result: RESULT_WORDS - usize::from(random.once_in(10)), space: SPACE_WORDS };
-    let leaf = [LEAF_MARK, 1, 0];
-    let names = *random.pick(&[Names::Apart, Names::Shared]);
-    let mut truths: [Option<&[u64]>; PREDICATES] = [None; PREDICATES];
-    truths[1] = Some(&words);
-    let count = random.between(0, 5);
-    let objects = random.between(0, 3);
-    let answers = [
-        combine(Operator::Sum, names, &words, &leaf, arities, lent).map(|_| ()),
-        combine(Operator::Product, names, &leaf, &words, arities, lent).map(|_| ()),
-        regress(&leaf, &truths, arities, lent).map(|_| ()),
-        free(&words, count, arities, lent).map(|_| ()),
-        cut(&words, arities, lent).map(|_| ()),
-        value(&words, arities, objects, &[random.below(3)], &[]).map(|_| ()),
-    ];
-    for answer in answers {
+    for answer in every_call(random, &words, arities) {
         if (answer == Err(Refusal::Listing)) != read.is_err() {
             return Err(format!("{answer:?} for {words:?}"));
         }

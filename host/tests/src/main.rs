@@ -8,7 +8,7 @@
 //!     tests text SEED
 //!
 //! `self` holds the reference against brute force, the weight rule over all states that matter, compares ground listings by their values, sees that blank
-//! lines change nothing but line numbers, counts the refusals met, and sees that each of document 01's slips is caught.
+//! lines change nothing but line numbers and that listings of the old kind meet 14, counts the refusals met, and sees that each of document 01's slips is caught.
 //! `program` feeds random texts to a program and to the reference. `bellman` holds the values that a program prints against brute force,
 //! without the reference's diagrams. `library` (feature `library`) makes random calls of the static
 //! library and of the reference, whole texts too, and sees that each call gave each of its answers.
@@ -28,6 +28,7 @@ mod limits;
 mod listings;
 mod meaning;
 mod models;
+mod old;
 mod order;
 mod program;
 mod random;

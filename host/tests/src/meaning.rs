@@ -74,7 +74,8 @@ fn is_listing(diagram: &Diagram, signature: &Signature) -> bool {
 /// A combination leads every choice to the operator's result of the operands' leaves; apart, its value is that of the operands' values.
 pub fn check_combination(seed: u64, tally: &mut Tally) -> Result<(), String> {
     let random = &mut Random::new(seed);
-    let signature = Signature::random(random, Size::SMALL);
+    let size = *random.pick(&[Size::SMALL, Size::PLACES]);
+    let signature = Signature::random(random, size);
     let terms = terms(&signature, 1, 3);
     let (a, b) = (diagram(random, &signature, &terms, 4), diagram(random, &signature, &terms, 4));
     let operator = *random.pick(&OPERATORS);
@@ -104,7 +105,7 @@ pub fn check_combination(seed: u64, tally: &mut Tally) -> Result<(), String> {
     Ok(())
 }
 
-/// Parameter 16 becomes a variable of its own.
+/// The first parameter becomes a variable of its own.
 fn without_parameters(diagram: &Diagram) -> Diagram {
     reference::regress::free(diagram, 1).expect("few variables")
 }
@@ -112,7 +113,8 @@ fn without_parameters(diagram: &Diagram) -> Diagram {
 /// The regressed diagram leads a valuation in the old state where the diagram leads it in the next one.
 pub fn check_regression(seed: u64, slips: Slips, tally: &mut Tally) -> Result<(), String> {
     let random = &mut Random::new(seed);
-    let (signature, plain) = model(random, Size::SMALL);
+    let size = *random.pick(&[Size::SMALL, Size::PLACES]);
+    let (signature, plain) = model(random, size);
     let action = random.pick(&plain.actions);
     let variant = random.pick(&action.variants);
     let value = diagram(random, &signature, &terms(&signature, 0, 3), 3);
@@ -135,11 +137,12 @@ pub fn check_regression(seed: u64, slips: Slips, tally: &mut Tally) -> Result<()
     Ok(())
 }
 
-/// Cuts, one after another, keep the value in every state of one and two objects.
+/// Cuts, one after another, keep the value in every state of one and two objects; of two objects only in some where predicates have many places.
 pub fn check_cut(seed: u64, slips: Slips, tally: &mut Tally) -> Result<(), String> {
     let random = &mut Random::new(seed);
-    let size = Size { constants: 1, predicates: 2, ..Size::SMALL };
-    let signature = Signature::random(random, size);
+    let many_places = random.once_in(4);
+    let size = if many_places { Size::PLACES } else { Size::SMALL };
+    let signature = Signature::random(random, Size { constants: 1, predicates: 2, ..size });
     let mut cut_so_far = diagram(random, &signature, &terms(&signature, 0, 3), 4);
     let whole = cut_so_far.clone();
     for _ in 0..3 {
@@ -152,7 +155,8 @@ pub fn check_cut(seed: u64, slips: Slips, tally: &mut Tally) -> Result<(), Strin
         }
     }
     expect(is_listing(&cut_so_far, &signature), || "the result is no listing".to_string())?;
-    for state in every_state(&signature, 1).into_iter().chain(every_state(&signature, 2)) {
+    let of_two = if many_places { (0..60).map(|_| state(random, &signature, 2)).collect() } else { every_state(&signature, 2) };
+    for state in every_state(&signature, 1).into_iter().chain(of_two) {
         let value = |d: &Diagram| value(d, &signature.arities, &state).expect("few valuations");
         expect(value(&cut_so_far) == value(&whole), || format!("value {}, not {}, in {state:?}", value(&cut_so_far), value(&whole)))?;
     }

@@ -6,7 +6,9 @@ use reference::bellman::{PlainAction, PlainModel, PlainVariant};
 use reference::declarations::DEFAULT_DISCOUNT;
 use reference::diagram::LARGEST;
 use reference::state::State;
-use reference::terms::{is_constant, is_parameter, Arities, Term, EQUALITY, FIRST_PARAMETER, FIRST_VARIABLE, PREDICATES};
+use reference::terms::{
+    is_constant, is_parameter, Arities, Term, EQUALITY, FIRST_PARAMETER, FIRST_VARIABLE, LARGEST_ARITY, PREDICATES, VARIABLES,
+};
 use reference::tree::Tree;
 use std::collections::{BTreeMap, BTreeSet};
 
@@ -50,11 +52,17 @@ impl Size {
         divisor: 3,
     };
 
+    /// Predicates of up to all places, over two objects.
+    pub const PLACES: Size = Size { predicates: 2, arity: LARGEST_ARITY, objects: 2, ..Size::SMALL };
+
+    /// Rewards of up to all variables and a few more.
+    pub const VARIABLES: Size = Size { variables: VARIABLES + 6, depth: 5, ..Size::PLACES };
+
     /// Backups soon meet the limits.
     pub const LARGE: Size = Size {
         constants: 3,
         predicates: 6,
-        arity: 4,
+        arity: LARGEST_ARITY,
         variables: 5,
         depth: 5,
         weight_depth: 3,
@@ -233,6 +241,18 @@ pub fn state(random: &mut Random, signature: &Signature, objects: u64) -> State 
         if random.once_in(often) {
             facts.insert(fact);
         }
+    }
+    State { objects, constants, facts }
+}
+
+/// A state of some few facts, where all of them would be too many to go through.
+pub fn sparse_state(random: &mut Random, signature: &Signature, objects: u64) -> State {
+    let constants = (0..signature.constants).map(|_| random.below(objects)).collect();
+    let mut facts = BTreeSet::new();
+    for _ in 0..random.below(40) {
+        let predicate = random.between(1, signature.predicates);
+        let places = signature.arities[predicate as usize];
+        facts.insert((predicate, (0..places).map(|_| random.below(objects)).collect()));
     }
     State { objects, constants, facts }
 }

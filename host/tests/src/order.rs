@@ -1,7 +1,10 @@
 //! The order of labels by places beside that of the numbers (document 02, L3).
 
 use crate::random::Random;
-use reference::terms::{is_constant, is_parameter, Arities, Label, Term, Test, EQUALITY, FIRST_PARAMETER, FIRST_VARIABLE, PREDICATES};
+use reference::terms::{
+    is_constant, is_parameter, Arities, Label, Term, Test, CONSTANTS, EQUALITY, FIRST_PARAMETER, FIRST_VARIABLE, LARGEST_ARITY,
+    LAST_VARIABLE, PARAMETERS, PREDICATES,
+};
 use std::cmp::Ordering;
 
 /// By predicate, then by the first used place that differs: constants before parameters before variables, and then by number.
@@ -18,7 +21,7 @@ fn by_places(a: Label, b: Label, arities: &Arities) -> Ordering {
 
 fn term(random: &mut Random) -> Term {
     let few = random.below(3);
-    *random.pick(&[few, FIRST_PARAMETER + few, FIRST_VARIABLE + few, 15, 19, 63])
+    *random.pick(&[few, FIRST_PARAMETER + few, FIRST_VARIABLE + few, CONSTANTS - 1, FIRST_PARAMETER + PARAMETERS - 1, LAST_VARIABLE])
 }
 
 fn label(random: &mut Random, predicate: u64, arities: &Arities) -> Option<Label> {
@@ -33,9 +36,9 @@ fn label(random: &mut Random, predicate: u64, arities: &Arities) -> Option<Label
 pub fn check(seed: u64) -> Result<(), String> {
     let random = &mut Random::new(seed);
     let mut arities = [0; PREDICATES];
-    arities.fill_with(|| random.below(5));
+    arities.fill_with(|| random.below(LARGEST_ARITY + 1));
     arities[EQUALITY as usize] = 2;
-    let labels: Vec<Label> = (0..20).filter_map(|i| label(random, [0, 1, 2, 31][i % 4], &arities)).collect();
+    let labels: Vec<Label> = (0..20).filter_map(|i| label(random, [EQUALITY, 1, 2, PREDICATES as u64 - 1][i % 4], &arities)).collect();
     for (a, b) in labels.iter().flat_map(|a| labels.iter().map(move |b| (*a, *b))) {
         if by_places(a, b, &arities) != a.cmp(&b) {
             return Err(format!("{a:?} and {b:?} under {arities:?}"));

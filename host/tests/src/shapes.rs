@@ -2,7 +2,9 @@
 
 use crate::random::Random;
 use reference::diagram::{Diagram, Row, Space, LARGEST};
-use reference::terms::{Arities, Label, Term, Test, EQUALITY, FIRST_PARAMETER, FIRST_VARIABLE, PREDICATES, VARIABLES};
+use reference::terms::{
+    Arities, Label, Term, Test, CONSTANTS, EQUALITY, FIRST_PARAMETER, FIRST_VARIABLE, LARGEST_ARITY, PREDICATES, VARIABLES,
+};
 use std::collections::BTreeSet;
 
 /// What labels are drawn from: some predicates and some terms.
@@ -18,13 +20,13 @@ impl Atoms {
         let mut arities = [0; PREDICATES];
         arities[EQUALITY as usize] = 2;
         for arity in &mut arities[1..] {
-            *arity = random.below(5);
+            *arity = random.below(LARGEST_ARITY + 1);
         }
         let mut predicates = vec![EQUALITY];
         for _ in 0..random.between(1, 8) {
             predicates.push(random.between(1, PREDICATES as u64 - 1));
         }
-        let mut terms: Vec<Term> = (0..random.below(4)).map(|_| random.below(16)).collect();
+        let mut terms: Vec<Term> = (0..random.below(4)).map(|_| random.below(CONSTANTS)).collect();
         terms.extend(FIRST_PARAMETER..FIRST_PARAMETER + parameters);
         let count = random.between(1, variables);
         let first = FIRST_VARIABLE + random.below(VARIABLES - count + 1);

@@ -1,7 +1,7 @@
 //! Random texts: whole models with a run, damaged lines, models that soon meet a limit, and plain bytes.
 
 use crate::limits;
-use crate::models::{model, state, write_model, write_state, Size};
+use crate::models::{model, sparse_state, write_model, write_state, Size};
 use crate::random::Random;
 
 /// The text of a seed: a whole one, one about weights, a small one damaged, one about a limit, or once in a while plain bytes or next to nothing. Some are spaced out by
@@ -11,10 +11,11 @@ pub fn text(seed: u64) -> Vec<u8> {
     if seed % 16 == 15 {
         return if random.once_in(8) { next_to_nothing(random) } else { bytes(random) };
     }
-    let kind = random.below(8);
-    let size = *[Size::LARGE, Size::WIDE, Size::EQUALITIES].get(kind as usize).unwrap_or(&Size::SMALL);
-    let damaged = (4..7).contains(&kind);
-    let mut lines = if kind == 7 { limits::lines(random) } else { whole(random, size) }.into_iter().map(String::into_bytes).collect();
+    let kind = random.below(10);
+    let sizes = [Size::LARGE, Size::WIDE, Size::EQUALITIES, Size::PLACES, Size::VARIABLES];
+    let size = *sizes.get(kind as usize).unwrap_or(&Size::SMALL);
+    let damaged = (6..9).contains(&kind);
+    let mut lines = if kind == 9 { limits::lines(random) } else { whole(random, size) }.into_iter().map(String::into_bytes).collect();
     if damaged {
         for _ in 0..random.between(1, 6) {
             damage(random, &mut lines);
@@ -73,11 +74,7 @@ fn whole(random: &mut Random, size: Size) -> Vec<String> {
             lines.push(random.pick(&["(backup)", "(cut)", "(cut)", "(show)"]).to_string());
         }
         let objects = random.between(1, size.objects);
-        let mut state = state(random, &signature, objects);
-        while state.facts.len() > 40 {
-            state.facts.pop_first();
-        }
-        lines.extend(write_state(&state));
+        lines.extend(write_state(&sparse_state(random, &signature, objects)));
         lines.push("(value)".to_string());
     }
     lines
@@ -87,8 +84,8 @@ const NUMBERS: [&str; 14] = [
     "0",
     "1",
     "2",
-    "4",
-    "5",
+    "6",
+    "7",
     "01",
     "64",
     "65",
