@@ -14,10 +14,11 @@
  * to (result, work, rows, pairs, row, edge, value) overlaps nothing else that the call is lent. The inline functions take null where the count is 0, and answer
  * BUFFER for null with a higher count. Nothing else is asked of the words, a session's too: any are taken, and those that are not what they should be are refused.
  *
- * Listings. A row is three words: a leaf is YINDOLVE_LEAF, its value, 0; a branch is its label, true row, false row. A label is predicate * 2^24 + t1 * 2^18 +
- * t2 * 2^12 + t3 * 2^6 + t4, unused places 0. Terms: constants 0 to 15, parameters 16 to 19, variables 32 to 63. Predicate 0 is equality, its smaller term
- * first. Rows are numbered as a walk from the root, true branch first, finishes them, so that the root is the last row. With each call goes a list of
- * YINDOLVE_ARITIES arities, the first of them 2, each at most 4.
+ * Listings. A row is three words: a leaf is YINDOLVE_LEAF, its value, 0; a branch is its label, true row, false row. A label is predicate * 2^48 + t1 * 2^40 +
+ * t2 * 2^32 + t3 * 2^24 + t4 * 2^16 + t5 * 2^8 + t6, unused places 0; YINDOLVE_LABEL packs one. Terms: constants 0 to 15, parameters 16 to 19, variables 64 to
+ * 127. Predicate 0 is equality, its smaller term first. Rows are numbered as a walk from the root, true branch first, finishes them, so that the root is the last
+ * row. With each call goes a list of YINDOLVE_ARITIES arities, the first of them 2, each at most YINDOLVE_PLACES.
+ * Listings of version 0.2 and before, with labels of four places and another mark of leaves, are refused (LISTING).
  *
  * Answers. Each function answers 0, or the number of the refusal. After a refusal the result buffer and what the other pointers are to, the working space
  * apart, are as they were. yindolve_run may also answer YINDOLVE_FULL, which is no refusal: the answers so far are written. Words of the result buffer behind a
@@ -40,13 +41,24 @@ extern "C" {
 
 /* The version of this header and of its library. */
 #define YINDOLVE_VERSION_MAJOR 0
-#define YINDOLVE_VERSION_MINOR 2
+#define YINDOLVE_VERSION_MINOR 3
 #define YINDOLVE_VERSION_PATCH 0
-#define YINDOLVE_VERSION "0.2.0"
+#define YINDOLVE_VERSION "0.3.0"
 
-/* The first word of a leaf's row, and the highest value of a leaf. */
-#define YINDOLVE_LEAF UINT64_C(4294967295)
+/* The first word of a leaf's row, 2^64 - 1, and the highest value of a leaf. */
+#define YINDOLVE_LEAF UINT64_C(18446744073709551615)
 #define YINDOLVE_VALUE UINT64_C(1000000000000000000)
+
+/* Labels: how many places a label has, which is the highest arity; how many bits a term takes; the numbers of the first parameter and of the first variable. */
+#define YINDOLVE_PLACES 6
+#define YINDOLVE_TERM_BITS 8
+#define YINDOLVE_FIRST_PARAMETER 16
+#define YINDOLVE_FIRST_VARIABLE 64
+
+/* The label of a predicate and the terms of its places, 0 for each place that is not used; of constants it is a constant expression. */
+#define YINDOLVE_LABEL(predicate, t1, t2, t3, t4, t5, t6) \
+    (((uint64_t)(predicate) << (6 * YINDOLVE_TERM_BITS)) + ((uint64_t)(t1) << (5 * YINDOLVE_TERM_BITS)) + ((uint64_t)(t2) << (4 * YINDOLVE_TERM_BITS)) + \
+        ((uint64_t)(t3) << (3 * YINDOLVE_TERM_BITS)) + ((uint64_t)(t4) << (2 * YINDOLVE_TERM_BITS)) + ((uint64_t)(t5) << YINDOLVE_TERM_BITS) + (uint64_t)(t6))
 
 /* Sizes of lent memory, in words. */
 #define YINDOLVE_ARITIES 32        /* an arity list */
@@ -55,7 +67,7 @@ extern "C" {
 #define YINDOLVE_RESULT_WORDS 3072 /* a result buffer, at least */
 #define YINDOLVE_WORK_WORDS 6144   /* a working space, at least */
 #define YINDOLVE_CONSTANTS 16      /* the objects of a state's constants */
-#define YINDOLVE_FACT_WORDS 5      /* a fact: its predicate and four objects, unused places ignored */
+#define YINDOLVE_FACT_WORDS 7      /* a fact: its predicate and an object for each of YINDOLVE_PLACES, unused ones ignored */
 #define YINDOLVE_SPAN_WORDS 64     /* where truth diagrams stand: two words for each predicate */
 
 /* Sizes of a session's memory, in words, and of its answers, in bytes. */
@@ -63,7 +75,7 @@ extern "C" {
 #define YINDOLVE_NAME_WORDS 136          /* names, exactly */
 #define YINDOLVE_LISTING_WORDS 6144      /* the model's listings, exactly */
 #define YINDOLVE_TABLE_WORDS 4240        /* where they stand, exactly */
-#define YINDOLVE_STATE_WORDS 5152        /* the state, exactly */
+#define YINDOLVE_STATE_WORDS 7200        /* the state, exactly */
 #define YINDOLVE_VALUE_WORDS 3072        /* the value's listing, exactly */
 #define YINDOLVE_SESSION_WORK_WORDS 6144 /* a session's working space, at least */
 #define YINDOLVE_ANSWER_BYTES 92160      /* the answer of a line: 90 bytes for each of 1,024 rows */
@@ -77,7 +89,7 @@ enum {
     YINDOLVE_PLACE = 5,       /* a line in the wrong part of the text, a missing part, a second single form, a constant that is not placed */
     YINDOLVE_UNBOUND = 6,     /* a parameter where none is allowed, or past the action's; a truth diagram's variable that is no argument */
     YINDOLVE_TRUTH = 7,       /* a truth diagram's leaf above 1 */
-    YINDOLVE_VARIABLES = 8,   /* more than 32 variables, or a variable past 63 */
+    YINDOLVE_VARIABLES = 8,   /* more than 64 variables, or a variable past 127 */
     YINDOLVE_SPACE = 9,       /* more than 2,048 rows formed, or a result of more than 1,024; more facts or declarations than there is room for */
     YINDOLVE_PAIRS = 10,      /* more than 4,096 pairs */
     YINDOLVE_TOO_HIGH = 11,   /* a leaf above YINDOLVE_VALUE; its trade word is "value" */
@@ -130,7 +142,7 @@ static inline const char *yindolve_refusal_meaning(uint64_t refusal) {
     case YINDOLVE_PLACE: return "the line stands in the wrong part of the text, a part is missing, or a constant is not placed";
     case YINDOLVE_UNBOUND: return "a variable or a parameter that is not allowed here";
     case YINDOLVE_TRUTH: return "a diagram that says what becomes true has a number above 1";
-    case YINDOLVE_VARIABLES: return "more than 32 variables";
+    case YINDOLVE_VARIABLES: return "more than 64 variables";
     case YINDOLVE_SPACE: return "more rows, facts or declarations than there is room for";
     case YINDOLVE_PAIRS: return "more than 4,096 pairs of rows in one combination";
     case YINDOLVE_TOO_HIGH: return "a number above 10^18 was worked out";
@@ -154,7 +166,7 @@ static const uint64_t yindolve_no_words[1] = {0};
 uint64_t yindolve_check(const uint64_t *arities, size_t arities_count, const uint64_t *words, size_t words_count);
 
 /* Sum, product and max of two listings, the result to `result`, its rows to *rows and the pairs that the walk reached to *pairs.
- * Apart: the first operand is closed up (its variables renamed to 32, 33, .. in their order), the second's variables follow after, and the result is closed up.
+ * Apart: the first operand is closed up (its variables renamed to 64, 65, .. in their order), the second's variables follow after, and the result is closed up.
  * Shared: names stay.
  * Pairs: the roots', and below each pair its two successors, but none below two leaves and, in a product, none below a leaf 0 on either side.
  * Refused, in this order: LISTING for the first operand, then for the second; BUFFER; VARIABLES (apart only: those of both together); PAIRS; TOO_HIGH; SPACE.
@@ -176,16 +188,16 @@ uint64_t yindolve_max_shared(const uint64_t *arities, size_t arities_count, cons
  * after an action. The listings of the truth diagrams are lent in `truths`, and `spans` has two words for each predicate: spans[2 * p] is the word of `truths`
  * where the listing of predicate p begins, and spans[2 * p + 1] how many words it has, 0 for a predicate that stays as it is. A listing ends with `truths` at
  * the latest. A word of `spans` that is not lent counts as 0; the two of predicate 0 and words past YINDOLVE_SPAN_WORDS are not read. A truth diagram has
- * leaves 0 and 1, and its variables are the arguments of its predicate, 32 onward in their order; it may have parameters.
+ * leaves 0 and 1, and its variables are the arguments of its predicate, 64 onward in their order; it may have parameters.
  * Refused, in this order: LISTING for the value listing, then for the truth diagrams by predicate number; BUFFER; diagram by diagram TRUTH, then UNBOUND (a
  * variable that is no argument); then step by step PAIRS, TOO_HIGH, SPACE.
  */
 uint64_t yindolve_regress(const uint64_t *arities, size_t arities_count, const uint64_t *words, size_t words_count, const uint64_t *truths, size_t truths_count,
     const uint64_t *spans, size_t spans_count, uint64_t *result, size_t result_count, uint64_t *work, size_t work_count, uint64_t *rows);
 
-/* Turns the parameters of an action into variables (no memory is freed). The action has `parameters` of them: parameter 16 + i turns into variable 32 + i, and
+/* Turns the parameters of an action into variables (no memory is freed). The action has `parameters` of them: parameter 16 + i turns into variable 64 + i, and
  * the other variables move up by that count.
- * Refused, in this order: LISTING; BUFFER; RANGE (more than 4 parameters); UNBOUND (a parameter past the count); VARIABLES (a variable would pass 63).
+ * Refused, in this order: LISTING; BUFFER; RANGE (more than 4 parameters); UNBOUND (a parameter past the count); VARIABLES (a variable would pass 127).
  */
 uint64_t yindolve_free_parameters(const uint64_t *arities, size_t arities_count, const uint64_t *words, size_t words_count, uint64_t parameters,
     uint64_t *result, size_t result_count, const uint64_t *work, size_t work_count, uint64_t *rows);
@@ -274,6 +286,14 @@ typedef struct {
     uint64_t refusal, line;
     uint64_t bytes;
 } yindolve_answer;
+
+/* What a label tests: its predicate, and the term at a place from 0 to YINDOLVE_PLACES - 1. */
+static inline uint64_t yindolve_label_predicate(uint64_t label) {
+    return label >> (YINDOLVE_PLACES * YINDOLVE_TERM_BITS);
+}
+static inline uint64_t yindolve_label_term(uint64_t label, unsigned place) {
+    return (label >> ((YINDOLVE_PLACES - 1 - place) * YINDOLVE_TERM_BITS)) & ((1 << YINDOLVE_TERM_BITS) - 1);
+}
 
 /* Reads a word at *at: steps over it and answers 1 if it stands there. For the functions below. */
 static inline int yindolve_take_word(const uint8_t *bytes, size_t count, size_t *at, const char *word) {

@@ -46,7 +46,7 @@ static void read_answers(void) {
     EXPECT(a.kind == YINDOLVE_ANSWER_CUT && a.edge == 1);
     a = read_text("(refused 16 18)\n");
     EXPECT(a.kind == YINDOLVE_ANSWER_REFUSED && a.refusal == YINDOLVE_NOTHING && a.line == 18);
-    a = read_text("(row 0 leaf 30)\n(row 1 leaf 0)\n(row 2 16777216 0 1)\n");
+    a = read_text("(row 0 leaf 30)\n(row 1 leaf 0)\n(row 2 281474976710656 0 1)\n");
     EXPECT(a.kind == YINDOLVE_ANSWER_ROWS && a.rows == 3);
     EXPECT(read_text("").kind == YINDOLVE_ANSWER_NOTHING);
     EXPECT(yindolve_read_answer(NULL, 0).kind == YINDOLVE_ANSWER_NOTHING);
@@ -58,6 +58,24 @@ static void read_answers(void) {
         a = read_text(wrong[i]);
         EXPECT(a.kind == YINDOLVE_ANSWER_UNKNOWN && a.bytes == strlen(wrong[i]) && a.value == 0 && a.rows == 0);
     }
+}
+
+static void labels(void) {
+    static const uint64_t six = YINDOLVE_LABEL(2, 0, 15, 16, 19, 64, 127);
+    const uint64_t arities[YINDOLVE_ARITIES] = {2, 1, YINDOLVE_PLACES}, terms[YINDOLVE_PLACES] = {0, 15, 16, 19, 64, 127};
+    uint64_t test[] = {YINDOLVE_LEAF, 1, 0, YINDOLVE_LEAF, 0, 0, six, 0, 1};
+    unsigned place;
+    EXPECT(YINDOLVE_LABEL(1, 0, 0, 0, 0, 0, 0) == UINT64_C(281474976710656));
+    EXPECT(YINDOLVE_LABEL(0, 0, YINDOLVE_FIRST_VARIABLE, 0, 0, 0, 0) == UINT64_C(274877906944));
+    EXPECT(yindolve_label_predicate(six) == 2);
+    for (place = 0; place < YINDOLVE_PLACES; ++place) EXPECT(yindolve_label_term(six, place) == terms[place]);
+    EXPECT(yindolve_check(arities, YINDOLVE_ARITIES, test, 9) == 0);
+    test[6] = YINDOLVE_LABEL(1, 64, 0, 0, 0, 0, 1); /* a place past the arity */
+    EXPECT(yindolve_check(arities, YINDOLVE_ARITIES, test, 9) == YINDOLVE_LISTING);
+    test[6] = (UINT64_C(1) << 24) + (UINT64_C(32) << 18); /* a label of version 0.2 */
+    EXPECT(yindolve_check(arities, YINDOLVE_ARITIES, test, 9) == YINDOLVE_LISTING);
+    test[0] = test[3] = UINT64_C(4294967295); /* and its leaves */
+    EXPECT(yindolve_check(arities, YINDOLVE_ARITIES, test, 9) == YINDOLVE_LISTING && yindolve_check(arities, YINDOLVE_ARITIES, test, 3) == YINDOLVE_LISTING);
 }
 
 static void null_pointers(void) {
@@ -163,6 +181,7 @@ static void sessions(void) {
 int main(void) {
     refusals();
     read_answers();
+    labels();
     null_pointers();
     ends();
     sessions();

@@ -10,8 +10,22 @@ use crate::refusal::{accepted, Refusal};
 pub use crate::ffi::FULL;
 pub use crate::memory::{LISTING_WORDS, NAME_WORDS, NUMBER_WORDS, SESSION_WORK_WORDS, STATE_WORDS, TABLE_WORDS, VALUE_WORDS};
 
+/// The first word of a leaf's row.
+pub const LEAF: u64 = u64::MAX;
 /// The highest value of a leaf.
 pub const VALUE: u64 = 1_000_000_000_000_000_000;
+/// The places of a label, and so the highest arity.
+pub const PLACES: usize = 6;
+/// The bits that a term takes in a label; the predicate stands above them all.
+pub const TERM_BITS: usize = 8;
+/// The number of the first parameter.
+pub const FIRST_PARAMETER: u64 = 16;
+/// How many parameters there are.
+pub const PARAMETERS: usize = 4;
+/// The number of the first variable.
+pub const FIRST_VARIABLE: u64 = 64;
+/// How many variables there are.
+pub const VARIABLES: usize = 64;
 /// The objects of a state's constants, at most.
 pub const CONSTANTS: usize = 16;
 /// Words of an arity list.
@@ -22,8 +36,8 @@ pub const ROW_WORDS: usize = 3;
 pub const RESULT_WORDS: usize = 3_072;
 /// Words that a working space has at least.
 pub const WORK_WORDS: usize = 6_144;
-/// Words of a fact: its predicate and four objects.
-pub const FACT_WORDS: usize = 5;
+/// Words of a fact: its predicate and an object for each place.
+pub const FACT_WORDS: usize = 1 + PLACES;
 /// Words that say where truth diagrams stand: two for each predicate.
 pub const SPAN_WORDS: usize = 64;
 

@@ -1,8 +1,9 @@
-use crate::calls::{self, ARITIES, ROW_WORDS};
+use crate::calls::{self, ARITIES, CONSTANTS, FIRST_PARAMETER, FIRST_VARIABLE, LEAF, PARAMETERS, PLACES, ROW_WORDS, TERM_BITS, VARIABLES};
 use crate::refusal::Refusal;
 
-/// The first word of a leaf's row.
-const LEAF: u64 = 4_294_967_295;
+const LAST_CONSTANT: u64 = CONSTANTS as u64 - 1;
+const LAST_PARAMETER: u64 = FIRST_PARAMETER + PARAMETERS as u64 - 1;
+const LAST_VARIABLE: u64 = FIRST_VARIABLE + VARIABLES as u64 - 1;
 
 /// How many terms each predicate has.
 ///
@@ -20,7 +21,7 @@ impl Arities {
     /// The arities of predicates 1, 2, ..; predicates behind the last have arity 0.
     ///
     /// # Refusals
-    /// [`Listing`](Refusal::Listing): more than 31 predicates, or an arity above 4.
+    /// [`Listing`](Refusal::Listing): more than 31 predicates, or an arity above 6.
     pub fn new(predicates: &[u64]) -> Result<Arities, Refusal> {
         let mut words = [0; ARITIES];
         words[0] = 2;
@@ -48,30 +49,30 @@ pub enum Term {
     Constant(u8),
     /// A parameter of an action, 0 to 3.
     Parameter(u8),
-    /// A variable, 0 to 31.
+    /// A variable, 0 to 63.
     Variable(u8),
 }
 
 impl Term {
-    /// The term's number: constants from 0, parameters from 16, variables from 32 on.
+    /// The term's number: constants from 0, parameters from 16, variables from 64 on.
     ///
     /// # Panics
     /// If there is no such constant, parameter or variable.
     pub const fn number(self) -> u64 {
         match self {
-            Term::Constant(c) if c < 16 => c as u64,
-            Term::Parameter(p) if p < 4 => 16 + p as u64,
-            Term::Variable(v) if v < 32 => 32 + v as u64,
-            _ => panic!("there are 16 constants, 4 parameters and 32 variables"),
+            Term::Constant(c) if (c as usize) < CONSTANTS => c as u64,
+            Term::Parameter(p) if (p as usize) < PARAMETERS => FIRST_PARAMETER + p as u64,
+            Term::Variable(v) if (v as usize) < VARIABLES => FIRST_VARIABLE + v as u64,
+            _ => panic!("there are 16 constants, 4 parameters and 64 variables"),
         }
     }
 
     /// The term of a number, if it is one.
     pub const fn from_number(number: u64) -> Option<Term> {
         match number {
-            0..=15 => Some(Term::Constant(number as u8)),
-            16..=19 => Some(Term::Parameter((number - 16) as u8)),
-            32..=63 => Some(Term::Variable((number - 32) as u8)),
+            0..=LAST_CONSTANT => Some(Term::Constant(number as u8)),
+            FIRST_PARAMETER..=LAST_PARAMETER => Some(Term::Parameter((number - FIRST_PARAMETER) as u8)),
+            FIRST_VARIABLE..=LAST_VARIABLE => Some(Term::Variable((number - FIRST_VARIABLE) as u8)),
             _ => None,
         }
     }
@@ -82,8 +83,8 @@ impl Term {
 /// ```
 /// use yindolve::{Label, Term};
 /// let stock_of_hub = Label::new(1, &[Term::Constant(0)]);
-/// assert_eq!(stock_of_hub.word(), 16_777_216);
-/// assert_eq!(Label::equality(Term::Variable(0), Term::Constant(0)).unwrap().word(), 131_072);
+/// assert_eq!(stock_of_hub.word(), 281_474_976_710_656);
+/// assert_eq!(Label::equality(Term::Variable(0), Term::Constant(0)).unwrap().word(), 274_877_906_944);
 /// ```
 #[derive(Clone, Copy, Debug, PartialEq, Eq, PartialOrd, Ord, Hash)]
 pub struct Label(u64);
@@ -92,10 +93,10 @@ impl Label {
     /// The label of a predicate, 1 to 31, and its terms. Whether the predicate has so many terms is checked with a listing.
     ///
     /// # Panics
-    /// If there is no such predicate (equality has a function of its own), a term is none, or there are more than 4.
+    /// If there is no such predicate (equality has a function of its own), a term is none, or there are more than 6.
     pub const fn new(predicate: u64, terms: &[Term]) -> Label {
-        assert!(1 <= predicate && predicate < 32, "predicates are numbered from 1 to 31");
-        assert!(terms.len() <= 4, "a predicate has at most 4 terms");
+        assert!(1 <= predicate && predicate < ARITIES as u64, "predicates are numbered from 1 to 31");
+        assert!(terms.len() <= PLACES, "a predicate has at most 6 terms");
         Label::pack(predicate, terms)
     }
 
@@ -115,13 +116,18 @@ impl Label {
     }
 
     const fn pack(predicate: u64, terms: &[Term]) -> Label {
-        let mut word = predicate << 24;
+        let mut word = predicate << (TERM_BITS * PLACES);
         let mut place = 0;
         while place < terms.len() {
-            word += terms[place].number() << (18 - 6 * place);
+            word += terms[place].number() << Label::bit_of(place);
             place += 1;
         }
         Label(word)
+    }
+
+    /// The lowest bit of a place; the first place is the highest.
+    const fn bit_of(place: usize) -> usize {
+        TERM_BITS * (PLACES - 1 - place)
     }
 
     /// The label that a word is taken for.
@@ -136,13 +142,13 @@ impl Label {
 
     /// The predicate, 0 for equality.
     pub const fn predicate(self) -> u64 {
-        self.0 >> 24
+        self.0 >> (TERM_BITS * PLACES)
     }
 
     /// The terms, given the predicate's arity; places that hold no term are left out.
     pub fn terms(self, arities: &Arities) -> impl Iterator<Item = Term> {
         let arity = arities.words().get(self.predicate() as usize).copied().unwrap_or(0);
-        (0..arity).filter_map(move |place| Term::from_number(self.0 >> (18 - 6 * place) & 63))
+        (0..arity as usize).filter_map(move |place| Term::from_number(self.0 >> Label::bit_of(place) & ((1 << TERM_BITS) - 1)))
     }
 }
 

@@ -16,7 +16,7 @@ pub const LISTING_WORDS: usize = 6_144;
 /// Words that say where these stand.
 pub const TABLE_WORDS: usize = 4_240;
 /// Words of the state in hand.
-pub const STATE_WORDS: usize = 5_152;
+pub const STATE_WORDS: usize = 7_200;
 /// Words of the value's listing.
 pub const VALUE_WORDS: usize = RESULT_WORDS;
 /// Words of a session's working space.

@@ -28,7 +28,7 @@ pub enum Refusal {
     Unbound = 6,
     /// A truth diagram's leaf above 1.
     Truth = 7,
-    /// More than 32 variables, or a variable past the last one.
+    /// More than 64 variables, or a variable past the last one.
     Variables = 8,
     /// More rows, facts or declarations than there is room for.
     Space = 9,
@@ -119,7 +119,7 @@ impl Refusal {
             Refusal::Place => "the line stands in the wrong part of the text, a part is missing, or a constant is not placed",
             Refusal::Unbound => "a variable or a parameter that is not allowed here",
             Refusal::Truth => "a diagram that says what becomes true has a number above 1",
-            Refusal::Variables => "more than 32 variables",
+            Refusal::Variables => "more than 64 variables",
             Refusal::Space => "more rows, facts or declarations than there is room for",
             Refusal::Pairs => "more than 4,096 pairs of rows in one combination",
             Refusal::Value => "a number above 10^18 was worked out",

@@ -1,8 +1,9 @@
 //! A session as bytes. They are lines: a heading with the format's number, then the parts with the count of their lines, and at the end
-//! the count of answered lines, 1 where one of them is not blank and else 0, and a sum over everything before it. Format 1 had no line `met`.
+//! the count of answered lines, 1 where one of them is not blank and else 0, and a sum over everything before it. Format 1 had no line `met`, format 2 rows with
+//! labels of four places.
 //!
 //! ```text
-//! yindolve session 2
+//! yindolve session 3
 //! model 10
 //! (constant hub)
 //! ..
@@ -22,7 +23,7 @@ use crate::text::Answer;
 use std::fmt;
 
 const HEADING: &str = "yindolve session ";
-const FORMAT: &str = "2";
+const FORMAT: &str = "3";
 /// The highest power of the scale, and the most steps.
 const MOST: u64 = 1_000_000_000_000_000_000;
 
@@ -163,7 +164,7 @@ pub fn scale(of_step: u64, steps: u64) -> Option<u64> {
 #[cfg(test)]
 mod tests {
     use super::*;
-    use crate::Session;
+    use crate::{Label, Session, Term};
 
     const SAMPLE: &str = include_str!("../../../examples/sample.txt");
 
@@ -225,15 +226,19 @@ mod tests {
         };
         let restored = |bytes: &[u8]| Session::restore(bytes).unwrap_err().to_string();
         assert_eq!(restored(b"(reward 7)\n"), "not a saved session: it does not begin with 'yindolve session'");
-        assert_eq!(restored(b"yindolve session 1\n"), "not a saved session: its format is 1 and not 2");
+        assert_eq!(restored(b"yindolve session 2\n"), "not a saved session: its format is 2 and not 3");
         assert_eq!(restored(&bytes[..90]), "not a saved session: its sum is wrong, so that bytes were lost or changed");
         assert_eq!(
             wrong("stock ?s", "stok ?s"),
             "not a saved session: the line (becomes (stok ?s) (if (= !d ?s) 1 (if (stok ?s) 1 0))) is not accepted there"
         );
         assert_eq!(wrong("(row 3 leaf 0)", "(row 3 leaf 120)"), "not a saved session: the rows are no listing");
-        assert_eq!(wrong("131072", "65536"), "not a saved session: the value diagram has a parameter, or its variables are not closed up");
-        assert_eq!(wrong("131072", "135168"), "not a saved session: the value diagram has a parameter, or its variables are not closed up");
+        let equality = |term| Label::equality(Term::Constant(0), term).unwrap().word().to_string();
+        let first = equality(Term::Variable(0));
+        for other in [Term::Parameter(0), Term::Variable(1)] {
+            let told = wrong(&first, &equality(other));
+            assert_eq!(told, "not a saved session: the value diagram has a parameter, or its variables are not closed up");
+        }
         assert_eq!(wrong("value 1 ", "value 20 "), "not a saved session: there are too many steps");
         assert_eq!(wrong("(start)", "(total 5)"), "not a saved session: the line (total 5) is not accepted there");
         assert_eq!(wrong("model 10", "model 11"), "not a saved session: \"(objects 2)\" where the line 'state ..' is due");

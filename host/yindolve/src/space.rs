@@ -1,4 +1,4 @@
-use crate::calls::{self, RESULT_WORDS, ROW_WORDS, SPAN_WORDS, WORK_WORDS};
+use crate::calls::{self, ARITIES, RESULT_WORDS, ROW_WORDS, SPAN_WORDS, WORK_WORDS};
 use crate::listing::{Arities, Listing};
 use crate::refusal::Refusal;
 use crate::state::State;
@@ -45,7 +45,7 @@ impl Truths {
     /// # Panics
     /// If there is no such predicate. Equality has no truth diagram: it stays as it is.
     pub fn set(&mut self, predicate: usize, truth: &Listing) -> &mut Truths {
-        assert!((1..32).contains(&predicate), "predicates are numbered from 1 to 31");
+        assert!((1..ARITIES).contains(&predicate), "predicates are numbered from 1 to 31");
         self.spans[2 * predicate] = self.words.len() as u64;
         self.spans[2 * predicate + 1] = truth.words().len() as u64;
         self.words.extend(truth.words());
@@ -127,15 +127,15 @@ impl Space {
     combinations! {
         /// The sum of two listings, each with variables of its own: the first's are renamed to 0, 1, .. in their order, the
         /// second's follow, and those of the result are renamed likewise.
-        sum_apart: "In this order: `Variables` (more than 32, those of both together), `Pairs`, `Value`, `Space`.";
+        sum_apart: "In this order: `Variables` (more than 64, those of both together), `Pairs`, `Value`, `Space`.";
         /// The sum of two listings that share their variables.
         sum_shared: "In this order: `Pairs`, `Value`, `Space`.";
         /// The product of two listings, each with variables of its own.
-        product_apart: "In this order: `Variables` (more than 32, those of both together), `Pairs`, `Value`, `Space`.";
+        product_apart: "In this order: `Variables` (more than 64, those of both together), `Pairs`, `Value`, `Space`.";
         /// The product of two listings that share their variables.
         product_shared: "In this order: `Pairs`, `Value`, `Space`.";
         /// The maximum of two listings, each with variables of its own.
-        max_apart: "In this order: `Variables` (more than 32, those of both together), `Pairs`, `Space`.";
+        max_apart: "In this order: `Variables` (more than 64, those of both together), `Pairs`, `Space`.";
         /// The maximum of two listings that share their variables.
         max_shared: "In this order: `Pairs`, `Space`.";
     }

@@ -18,16 +18,16 @@ pub struct State {
     /// The object of each constant; words behind the sixteenth are not read. In [`Space::value`](crate::Space::value) constants
     /// behind the last are object 0; [`Session::value`](crate::Session::value) asks for every declared one.
     pub constants: Vec<u64>,
-    /// The true facts: predicate and four objects each, unused places ignored. A fact that is given twice counts once.
+    /// The true facts: predicate and six objects each, unused places ignored; [`fact`] makes one. A fact that is given twice counts once.
     pub facts: Vec<[u64; FACT_WORDS]>,
 }
 
 /// The fact that a predicate holds of these objects.
 ///
 /// # Panics
-/// If there are more than 4 objects.
+/// If there are more than 6 objects.
 pub fn fact(predicate: u64, objects: &[u64]) -> [u64; FACT_WORDS] {
-    assert!(objects.len() < FACT_WORDS, "a predicate has at most 4 objects");
+    assert!(objects.len() < FACT_WORDS, "a predicate has at most 6 objects");
     let mut fact = [0; FACT_WORDS];
     fact[0] = predicate;
     fact[1..=objects.len()].copy_from_slice(objects);

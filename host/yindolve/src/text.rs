@@ -144,6 +144,7 @@ fn read_row(form: &[&str]) -> Option<Row> {
 #[cfg(test)]
 mod tests {
     use super::*;
+    use crate::Term;
 
     #[test]
     fn answers() {
@@ -153,8 +154,8 @@ mod tests {
         assert_eq!(read("(backup 1 6)\n"), Some(Answer::Backup(BackupDone { steps: 1, rows: 6 })));
         assert_eq!(read("(cut 5 false 5)\n"), Some(Answer::Cut(CutDone { row: 5, edge: false, rows: 5 })));
         assert_eq!(read("(refused 16 18)\n"), Some(Answer::Refused { refusal: Refusal::Nothing, line: 18 }));
-        let rows = vec![Row::Leaf(30), Row::Leaf(0), Row::Branch { label: Label::from_word(16_777_216), yes: 0, no: 1 }];
-        assert_eq!(read("(row 0 leaf 30)\n(row 1 leaf 0)\n(row 2 16777216 0 1)\n"), Some(Answer::Rows(rows)));
+        let rows = vec![Row::Leaf(30), Row::Leaf(0), Row::Branch { label: Label::new(1, &[Term::Constant(0)]), yes: 0, no: 1 }];
+        assert_eq!(read("(row 0 leaf 30)\n(row 1 leaf 0)\n(row 2 281474976710656 0 1)\n"), Some(Answer::Rows(rows)));
         assert_eq!(read("(refused 99 1)\n"), None);
         assert_eq!(read("(row 0 leaf 30)\nrow\n"), None);
     }

@@ -1,5 +1,6 @@
 //! What the types add to the library's calls: memory, threads, and words that cannot be wrong.
 
+use yindolve::calls::{PLACES, VARIABLES};
 use yindolve::{calls, fact, Arities, Label, Listing, Refusal, Row, Space, State, Term, Truths};
 
 fn arities() -> Arities {
@@ -16,9 +17,10 @@ fn conjunction(labels: impl DoubleEndedIterator<Item = Label>) -> Listing {
     Listing::from_rows(&arities(), rows).unwrap()
 }
 
-/// The labels of predicates 1 and 3 with two variables, in their order: 2,048.
+/// The labels of predicates 1 and 3 with two variables, in their order, 1,024 of each.
 fn pair(number: usize) -> Label {
-    Label::new(if number < 1_024 { 1 } else { 3 }, &[Term::Variable((number / 32 % 32) as u8), Term::Variable((number % 32) as u8)])
+    let variables = [number % 1_024 / VARIABLES, number % VARIABLES].map(|variable| Term::Variable(variable as u8));
+    Label::new(if number < 1_024 { 1 } else { 3 }, &variables)
 }
 
 #[test]
@@ -36,8 +38,8 @@ fn refusals_by_number() {
 #[test]
 fn wrong_arities() {
     assert_eq!(Arities::new(&[0; 32]), Err(Refusal::Listing));
-    assert_eq!(Arities::new(&[5]), Err(Refusal::Listing));
-    assert!(Arities::new(&[4; 31]).is_ok());
+    assert_eq!(Arities::new(&[7]), Err(Refusal::Listing));
+    assert!(Arities::new(&[6; 31]).is_ok());
 }
 
 #[test]
@@ -52,8 +54,42 @@ fn a_listing_for_other_arities_is_refused() {
 fn labels_and_terms() {
     let label = Label::new(1, &[Term::Constant(15), Term::Parameter(3)]);
     assert_eq!(label.terms(&arities()).collect::<Vec<_>>(), [Term::Constant(15), Term::Parameter(3)]);
-    assert_eq!(Label::equality(Term::Variable(31), Term::Variable(31)), None);
-    assert_eq!((0..64).filter_map(Term::from_number).filter(|term| Term::from_number(term.number()) == Some(*term)).count(), 52);
+    assert_eq!(Label::equality(Term::Variable(63), Term::Variable(63)), None);
+    assert_eq!((0..256).filter_map(Term::from_number).filter(|term| Term::from_number(term.number()) == Some(*term)).count(), 84);
+    let six = [Term::Variable(63), Term::Constant(1), Term::Parameter(0), Term::Variable(0), Term::Constant(15), Term::Variable(62)];
+    let arities = Arities::new(&[PLACES as u64]).unwrap();
+    assert_eq!(Label::new(1, &six).terms(&arities).collect::<Vec<_>>(), six);
+    assert_eq!(Label::new(1, &six).word(), (1 << 48) + (127 << 40) + (1 << 32) + (16 << 24) + (64 << 16) + (15 << 8) + 126);
+}
+
+/// Words with labels of four places, of six bits each, variables from 32 on, and the old mark of leaves.
+#[test]
+fn listings_of_the_old_kind() {
+    for words in [vec![4_294_967_295, 1, 0], vec![4_294_967_295, 1, 0, 4_294_967_295, 0, 0, (2 << 24) + (32 << 18), 0, 1]] {
+        assert_eq!(Listing::new(&arities(), words), Err(Refusal::Listing));
+    }
+    assert_eq!(Listing::new(&arities(), [calls::LEAF, 1, 0, calls::LEAF, 0, 0, (2 << 24) + (32 << 18), 0, 1]), Err(Refusal::Listing));
+}
+
+/// A relation of six things, in its first and in its last place.
+#[test]
+fn six_places() {
+    let arities = Arities::new(&[PLACES as u64]).unwrap();
+    let mut space = Space::new(arities);
+    let of = |variables: [u8; PLACES]| {
+        let label = Label::new(1, &variables.map(Term::Variable));
+        Listing::from_rows(&arities, [Row::Leaf(1), Row::Leaf(0), Row::Branch { label, yes: 0, no: 1 }]).unwrap()
+    };
+    let related = of([0, 1, 2, 3, 4, 63]);
+    let state =
+        |facts: &[[u64; PLACES]]| State { objects: 2, constants: vec![], facts: facts.iter().map(|objects| fact(1, objects)).collect() };
+    assert_eq!(space.value(&related, &state(&[])), Ok(0));
+    assert_eq!(space.value(&related, &state(&[[1, 0, 1, 0, 1, 1]])), Ok(1));
+    assert_eq!(space.value(&related, &state(&[[1, 0, 1, 0, 1, 2]])), Err(Refusal::Range));
+    assert_eq!(space.value(&of([0, 0, 0, 0, 0, 1]), &state(&[[0, 0, 0, 0, 1, 1]])), Ok(0));
+    assert_eq!(space.free(&related, 1), Err(Refusal::Variables));
+    let turned = space.regress(&related, Truths::new().set(1, &of([5, 4, 3, 2, 1, 0]))).unwrap();
+    assert_eq!(turned, of([63, 4, 3, 2, 1, 0]));
 }
 
 #[test]

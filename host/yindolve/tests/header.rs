@@ -2,7 +2,7 @@
 //! table of refusals.
 
 use std::collections::BTreeMap;
-use yindolve::{calls, Refusal, Row};
+use yindolve::{calls, Refusal};
 
 const HEADER: &str = include_str!("../../../include/yindolve.h");
 const REFERENCE: &str = include_str!("../../../docs/REFERENCE.md");
@@ -29,7 +29,11 @@ fn constants() -> BTreeMap<&'static str, u64> {
 fn sizes() {
     let header = constants();
     let sizes = [
-        ("YINDOLVE_LEAF", Row::Leaf(0).words()[0]),
+        ("YINDOLVE_LEAF", calls::LEAF),
+        ("YINDOLVE_PLACES", calls::PLACES as u64),
+        ("YINDOLVE_TERM_BITS", calls::TERM_BITS as u64),
+        ("YINDOLVE_FIRST_PARAMETER", calls::FIRST_PARAMETER),
+        ("YINDOLVE_FIRST_VARIABLE", calls::FIRST_VARIABLE),
         ("YINDOLVE_ARITIES", calls::ARITIES as u64),
         ("YINDOLVE_ROW_WORDS", calls::ROW_WORDS as u64),
         ("YINDOLVE_ROWS", (calls::RESULT_WORDS / calls::ROW_WORDS) as u64),

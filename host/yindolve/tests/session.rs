@@ -1,6 +1,6 @@
 //! Sessions by calls: models, states by names, listings, values, and sessions that are saved.
 
-use yindolve::{Answer, Refusal, Row, Session, Space, State};
+use yindolve::{fact, Answer, Refusal, Row, Session, Space, State};
 
 const SAMPLE: &str = include_str!("../../../examples/sample.txt");
 const LIFT_PARTS: &str = include_str!("../../../examples/liftparts.txt");
@@ -98,14 +98,15 @@ fn states_by_names() {
     refused(Refusal::Range)(sample.state(2).is("hub", 2));
     refused(Refusal::Name)(sample.state(2).is("hub", 0).and_then(|state| state.is("hub", 1)));
     refused(Refusal::Place)(sample.state(2).finish().map(|_| sample.state(2)));
-    let value = |constants: &[u64], facts: &[[u64; 5]]| {
-        sample.value(&State { objects: 2, constants: constants.to_vec(), facts: facts.to_vec() }).map(|value| value.value)
+    let value = |constants: &[u64], facts: &[u64]| {
+        let facts = facts.iter().map(|predicate| fact(*predicate, &[0])).collect();
+        sample.value(&State { objects: 2, constants: constants.to_vec(), facts }).map(|value| value.value)
     };
     assert_eq!(value(&[], &[]), Err(Refusal::Place));
     assert_eq!(value(&[2], &[]), Err(Refusal::Range));
-    assert_eq!(value(&[0], &[[2, 0, 0, 0, 0]]), Err(Refusal::Name));
-    assert_eq!(value(&[0], &[[0, 0, 0, 0, 0]]), Err(Refusal::Name));
-    assert_eq!(value(&[0], &[[1, 0, 0, 0, 0]]), Ok(10));
+    assert_eq!(value(&[0], &[2]), Err(Refusal::Name));
+    assert_eq!(value(&[0], &[0]), Err(Refusal::Name));
+    assert_eq!(value(&[0], &[1]), Ok(10));
 }
 
 #[test]

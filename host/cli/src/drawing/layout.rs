@@ -291,8 +291,8 @@ mod tests {
         let mut space = Space::new();
         let zero = space.form(Row::Leaf(0)).unwrap();
         let ten = space.form(Row::Leaf(10)).unwrap();
-        let lower = space.form(Row::Branch { label: Label(2 << 24), yes: ten, no: zero }).unwrap();
-        let root = space.form(Row::Branch { label: Label(1 << 24), yes: lower, no: zero }).unwrap();
+        let lower = space.form(Row::Branch { label: Label::pack(2, &[]), yes: ten, no: zero }).unwrap();
+        let root = space.form(Row::Branch { label: Label::pack(1, &[]), yes: lower, no: zero }).unwrap();
         let diagram = space.diagram(root);
         let layout = layout(&diagram, &[30.0; 4], 20.0);
         assert_eq!(layout.layers.len(), 3);

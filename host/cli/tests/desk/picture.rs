@@ -70,8 +70,8 @@ fn bad_input_gets_a_sentence() {
         ("row", "(row)\n", ":1: this is no answer of the program: (row)"),
         ("words", "(row 0 leaf x)\n", ":1: this is no answer of the program"),
         ("text", "hello\n", ":1: this is no answer of the program: hello"),
-        ("half", "(row 0 leaf 10)\n(row 1 16777216 0 5)\n", "are no whole diagram of the model"),
-        ("order", "(row 1 leaf 10)\n(row 0 leaf 0)\n(row 2 16777216 5 1)\n", "are no whole diagram of the model"),
+        ("half", "(row 0 leaf 10)\n(row 1 281474976710656 0 5)\n", "are no whole diagram of the model"),
+        ("order", "(row 1 leaf 10)\n(row 0 leaf 0)\n(row 2 281474976710656 5 1)\n", "are no whole diagram of the model"),
     ] {
         let ended = desk(&["picture", &sample, &file(&here, name, bytes)]);
         assert!(ended.err.contains(sentence), "{name}: {}", ended.err);
@@ -85,8 +85,8 @@ fn bad_input_gets_a_sentence() {
     assert!(broken.err.contains(":1:14: name (2): no predicate \"stock\" is declared"), "{}", broken.err);
     assert_eq!((broken.status, broken.out.as_str()), (1, ""));
     let far = desk(&["picture", &sample, "--step", "9"]);
-    assert!(far.err.contains("drawn is the diagram after step 5, since the next one is refused: variables (8)"), "{}", far.err);
-    assert!(far.out.contains("5 steps ahead"));
+    assert!(far.err.contains("drawn is the diagram after step 6, since the next one is refused: space (9)"), "{}", far.err);
+    assert!(far.out.contains("6 steps ahead"));
     assert_eq!(far.status, 1);
 }
 

@@ -112,8 +112,14 @@ fn steps_that_are_refused() {
     assert!(named.err.contains("stopped after 9 of 12 steps: value (11): step 10: "), "{}", named.err);
     assert!(named.err.contains("at most 1,000,000,000,000,000,000; take a smaller reward, total or discount divisor"), "{}", named.err);
     let sample = desk(&["plan", &example("sample.txt"), "--steps", "9", "-o", &out]);
-    assert!(sample.err.contains("stopped after 5 of 9 steps: variables (8): step 6: "), "{}", sample.err);
+    assert!(sample.err.contains("stopped after 6 of 9 steps: space (9): step 7: "), "{}", sample.err);
     assert_eq!((named.status, sample.status), (1, 1));
+    let thirteen = (0..13).rev().fold("1".to_string(), |inner, v| format!("(if (p ?v{v}) {inner} 0)"));
+    let variants: String = (0..4).map(|i| format!("(variant v{i} 25)\n")).collect();
+    let apart = file(&here, "apart.txt", format!("(predicate p 1)\n(reward {thirteen})\n(action go)\n{variants}(start)\n"));
+    let apart = desk(&["plan", &apart, "--steps", "1", "-o", &out]);
+    assert!(apart.err.contains("stopped after 0 of 1 steps: variables (8): step 1: "), "{}", apart.err);
+    assert!(apart.err.contains("65 variables together, 52 and 13; at most 64"), "{}", apart.err);
     let scale =
         file(&here, "scale.txt", "(total 1000000)\n(discount 1 1000000)\n(reward 1)\n(action wait)\n(variant only 1000000)\n(start)\n");
     let scale = desk(&["plan", &scale, "--steps", "2", "-o", &out]);
