@@ -46,7 +46,7 @@ static uint64_t list(Diagram *d, BDD at, BDD *rows) {
     uint64_t row[3] = {YINDOLVE_LEAF, at == bddtrue, 0};
     if (at != bddtrue && at != bddfalse) {
         uint64_t v = (uint64_t)bdd_var(at);
-        row[0] = (1 << 24) + ((v / 8) << 18) + ((v % 8) << 12); /* predicate 1 of constants v / 8 and v % 8 */
+        row[0] = YINDOLVE_LABEL(1, v / 8, v % 8, 0, 0, 0, 0); /* predicate 1 of constants v / 8 and v % 8 */
         row[1] = list(d, bdd_high(at), rows);
         row[2] = list(d, bdd_low(at), rows);
     }

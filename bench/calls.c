@@ -6,7 +6,8 @@
 
 int main(void) {
     const uint64_t arities[YINDOLVE_ARITIES] = {2, 1}, constants[YINDOLVE_CONSTANTS] = {0}, fact[YINDOLVE_FACT_WORDS] = {1};
-    const uint64_t stock_hub = 1 << 24, stock_a = stock_hub + (32 << 18), stock_b = stock_hub + (33 << 18);
+    const uint64_t stock_hub = YINDOLVE_LABEL(1, 0, 0, 0, 0, 0, 0), stock_a = YINDOLVE_LABEL(1, YINDOLVE_FIRST_VARIABLE, 0, 0, 0, 0, 0),
+                   stock_b = YINDOLVE_LABEL(1, YINDOLVE_FIRST_VARIABLE + 1, 0, 0, 0, 0, 0);
     const uint64_t reward[] = {YINDOLVE_LEAF, 10, 0, YINDOLVE_LEAF, 0, 0, stock_hub, 0, 1};
     const uint64_t turned[] = {YINDOLVE_LEAF, 0, 0, YINDOLVE_LEAF, 1, 0, stock_a, 0, 1}, spans[YINDOLVE_SPAN_WORDS] = {0, 0, 0, 9};
     const uint64_t either[] = {YINDOLVE_LEAF, 10, 0, YINDOLVE_LEAF, 0, 0, stock_b, 0, 1, stock_a, 0, 2};
@@ -16,7 +17,7 @@ int main(void) {
     assert(yindolve_sum_shared(arities, 32, reward, 9, reward, 9, result, 3072, work, 6144, &rows, &pairs) == 0);
     assert(yindolve_sum_apart(arities, 32, reward, 9, reward, 9, result, 3071, work, 6144, &rows, &pairs) == YINDOLVE_BUFFER);
     assert(yindolve_free_parameters(arities, 32, reward, 9, 5, result, 3072, work, 6144, &rows) == YINDOLVE_RANGE);
-    assert(yindolve_value(arities, 32, result, rows * 3, 2, constants, 16, fact, 5, &value) == 0);
+    assert(yindolve_value(arities, 32, result, rows * 3, 2, constants, 16, fact, YINDOLVE_FACT_WORDS, &value) == 0);
     assert(yindolve_regress(arities, 32, reward, 9, turned, 9, spans, 64, result, 3072, work, 6144, &regressed) == 0);
     assert(regressed == 3 && result[1] == 0 && result[4] == 10 && result[6] == stock_hub);
     assert(yindolve_cut(arities, 32, either, 12, result, 3072, work, 6144, &row, &edge, &left) == 0);

@@ -10,12 +10,14 @@ extern "C" {
     ) -> u64;
 }
 
+const LEAF: u64 = u64::MAX;
+
 fn listing(text: &str) -> Vec<u64> {
     let mut words = Vec::new();
     for line in text.lines().filter(|l| l.starts_with("(row ")) {
         let fields: Vec<&str> = line.trim_end_matches(')').split(' ').skip(2).collect();
         if fields[0] == "leaf" {
-            words.extend([4294967295, fields[1].parse().unwrap(), 0]);
+            words.extend([LEAF, fields[1].parse().unwrap(), 0]);
         } else {
             words.extend(fields.iter().map(|f| f.parse::<u64>().unwrap()));
         }

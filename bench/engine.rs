@@ -1,6 +1,15 @@
 //! The engine's calls in tight Rust: the same tables and the same order of work, indices unchecked. What the proved library is compared with.
 
-pub const LEAF: u64 = 4294967295;
+pub const LEAF: u64 = u64::MAX;
+pub const PREDICATES: usize = 32;
+pub const PLACES: usize = 6;
+pub const TERM_BITS: usize = 8;
+pub const FACT_WORDS: usize = 1 + PLACES;
+const CONSTANTS: usize = 16;
+const FIXED_END: u64 = 20;
+pub const FIRST_VARIABLE: u64 = 64;
+const VARIABLES: u64 = 64;
+const TERM_END: usize = (FIRST_VARIABLE + VARIABLES) as usize;
 const MOST: u64 = 1_000_000_000_000_000_000;
 const ROWS: usize = 1024;
 const SPACE_ROWS: usize = 2048;
@@ -30,28 +39,40 @@ fn put<T>(s: &mut [T], i: usize, v: T) {
     unsafe { *s.get_unchecked_mut(i) = v }
 }
 
+// ----- labels
+
+pub const fn label(predicate: u64, terms: &[u64]) -> u64 {
+    let (mut l, mut k) = (predicate, 0);
+    while k < PLACES {
+        l = (l << TERM_BITS) + if k < terms.len() { terms[k] } else { 0 };
+        k += 1;
+    }
+    l
+}
+
+#[inline(always)]
+pub fn predicate(l: u64) -> u64 {
+    l >> (TERM_BITS * PLACES)
+}
+
+#[inline(always)]
+pub fn place(l: u64, k: usize) -> u64 {
+    l >> (TERM_BITS * (PLACES - 1 - k)) & ((1 << TERM_BITS) - 1)
+}
+
 // ----- the listing check
 
-fn place_fits(arity: u64, k: u64, t: u64) -> bool {
-    if k < arity {
-        t < 20 || t >= 32
-    } else {
-        t == 0
-    }
+fn is_term(t: u64) -> bool {
+    t < FIXED_END || t >= FIRST_VARIABLE && t < TERM_END as u64
 }
 
 fn label_fits(arities: &[u64], l: u64) -> bool {
-    if l >= 536870912 {
+    let p = predicate(l);
+    if p >= PREDICATES as u64 {
         return false;
     }
-    let p = l >> 24;
-    let a = at(arities, p as usize);
-    let (t1, t2) = (l >> 18 & 63, l >> 12 & 63);
-    place_fits(a, 0, t1)
-        && place_fits(a, 1, t2)
-        && place_fits(a, 2, l >> 6 & 63)
-        && place_fits(a, 3, l & 63)
-        && (p != 0 || t1 < t2)
+    let a = at(arities, p as usize) as usize;
+    l & ((1 << (TERM_BITS * (PLACES - a))) - 1) == 0 && (0..a).all(|k| is_term(place(l, k))) && (p != 0 || place(l, 0) < place(l, 1))
 }
 
 fn row_fits(arities: &[u64], w: &[u64], i: usize) -> bool {
@@ -68,7 +89,8 @@ fn row_fits(arities: &[u64], w: &[u64], i: usize) -> bool {
 
 #[inline(always)]
 fn hash(a: u64, b: u64, c: u64) -> usize {
-    let x = (a as u32 as u64) * 40503
+    let x = (a >> 32) * 40503
+        + (a as u32 as u64) * 36013
         + (b as u32 as u64) * 60493
         + (c as u32 as u64) * 30011
         + (b >> 32) * 52711;
@@ -119,7 +141,7 @@ fn finish_rows(w: &[u64], i: usize, n: usize) -> usize {
 
 #[inline(never)]
 pub fn check(arities: &[u64], w: &[u64]) -> bool {
-    if arities.len() != 32 || arities[0] != 2 || arities.iter().any(|&a| a > 4) {
+    if arities.len() != PREDICATES || arities[0] != 2 || arities.iter().any(|&a| a > PLACES as u64) {
         return false;
     }
     let m = w.len() / 3;
@@ -377,33 +399,22 @@ fn combine_shared(op: Operation, x: &[u64], y: &[u64], out: &mut [u64], work: &m
 
 // ----- names apart
 
-fn mark(arities: &[u64], w: &[u64], used: &mut [u8; 64]) {
+fn mark(arities: &[u64], w: &[u64], used: &mut [u8; TERM_END]) {
     for i in 0..w.len() / 3 {
         let l = at(w, i * 3);
-        if l == LEAF {
-            continue;
-        }
-        let n = at(arities, (l >> 24) as usize);
-        if n > 0 {
-            used[(l >> 18 & 63) as usize] = 1;
-        }
-        if n > 1 {
-            used[(l >> 12 & 63) as usize] = 1;
-        }
-        if n > 2 {
-            used[(l >> 6 & 63) as usize] = 1;
-        }
-        if n > 3 {
-            used[(l & 63) as usize] = 1;
+        if l != LEAF {
+            for k in 0..at(arities, predicate(l) as usize) as usize {
+                put(used, place(l, k) as usize, 1);
+            }
         }
     }
 }
 
-fn close_map(used: &[u8; 64], first: u64) -> [u64; 64] {
-    let mut map = [0u64; 64];
+fn close_map(used: &[u8; TERM_END], first: u64) -> [u64; TERM_END] {
+    let mut map = [0u64; TERM_END];
     let mut next = first;
-    for t in 0..64 {
-        if t < 32 {
+    for t in 0..TERM_END {
+        if (t as u64) < FIRST_VARIABLE {
             map[t] = t as u64;
         } else if used[t] != 0 {
             map[t] = next;
@@ -414,26 +425,16 @@ fn close_map(used: &[u8; 64], first: u64) -> [u64; 64] {
 }
 
 #[inline(always)]
-fn renamed(arities: &[u64], map: &[u64; 64], l: u64) -> u64 {
-    let p = l >> 24;
-    let n = at(arities, p as usize);
-    let mut r = p << 24;
-    if n > 0 {
-        r += at(map, (l >> 18 & 63) as usize) << 18;
-    }
-    if n > 1 {
-        r += at(map, (l >> 12 & 63) as usize) << 12;
-    }
-    if n > 2 {
-        r += at(map, (l >> 6 & 63) as usize) << 6;
-    }
-    if n > 3 {
-        r += at(map, (l & 63) as usize);
+fn renamed(arities: &[u64], map: &[u64; TERM_END], l: u64) -> u64 {
+    let p = predicate(l);
+    let mut r = label(p, &[]);
+    for k in 0..at(arities, p as usize) as usize {
+        r += at(map, place(l, k) as usize) << (TERM_BITS * (PLACES - 1 - k));
     }
     r
 }
 
-fn enter(arities: &[u64], w: &[u64], map: &[u64; 64], space: &mut Space, numbers: &mut [u16]) -> usize {
+fn enter(arities: &[u64], w: &[u64], map: &[u64; TERM_END], space: &mut Space, numbers: &mut [u16]) -> usize {
     let mut root = 0;
     for k in 0..w.len() / 3 {
         let (l, b, c) = (at(w, k * 3), at(w, k * 3 + 1), at(w, k * 3 + 2));
@@ -483,9 +484,9 @@ fn write_closed(arities: &[u64], rows: &[u64], root: usize, pairs: usize, out: &
         put(out, k * 3 + 1, b);
         put(out, k * 3 + 2, c);
     }
-    let mut used = [0u8; 64];
+    let mut used = [0u8; TERM_END];
     mark(arities, &out[..m * 3], &mut used);
-    let map = close_map(&used, 32);
+    let map = close_map(&used, FIRST_VARIABLE);
     for k in 0..m {
         let l = at(out, k * 3);
         if l != LEAF {
@@ -510,23 +511,23 @@ fn join_many(op: Operation, i: usize, j: usize, space: &mut Space) -> Joined {
 }
 
 fn combine_apart(op: Operation, arities: &[u64], x: &[u64], y: &[u64], out: &mut [u64], work: &mut [u64]) -> Answer {
-    let (mut used_x, mut used_y) = ([0u8; 64], [0u8; 64]);
+    let (mut used_x, mut used_y) = ([0u8; TERM_END], [0u8; TERM_END]);
     mark(arities, x, &mut used_x);
     mark(arities, y, &mut used_y);
-    let count = |u: &[u8; 64]| u[32..].iter().map(|&b| b as u64).sum::<u64>();
+    let count = |u: &[u8; TERM_END]| u[FIRST_VARIABLE as usize..].iter().map(|&b| b as u64).sum::<u64>();
     let n = count(&used_x);
-    if n + count(&used_y) > 32 {
+    if n + count(&used_y) > VARIABLES {
         return Err(8);
     }
     let mut heads = [0u16; BUCKETS];
     let mut links = [0u16; SPACE_ROWS];
     let mut numbers = [0u16; ROWS];
     let mut space = Space { rows: work, heads: &mut heads, links: &mut links, count: 0 };
-    let i = enter(arities, x, &close_map(&used_x, 32), &mut space, &mut numbers);
+    let i = enter(arities, x, &close_map(&used_x, FIRST_VARIABLE), &mut space, &mut numbers);
     if i == FULL {
         return Err(9);
     }
-    let j = enter(arities, y, &close_map(&used_y, 32 + n), &mut space, &mut numbers);
+    let j = enter(arities, y, &close_map(&used_y, FIRST_VARIABLE + n), &mut space, &mut numbers);
     if j == FULL {
         return Err(9);
     }
@@ -571,42 +572,43 @@ struct Search<'a> {
     arities: &'a [u64],
     facts: &'a [u64],
     index: &'a [u16],
-    env: [u64; 64],
+    env: [u64; TERM_END],
     n: u64,
 }
 
+const FACTORS: [u64; PLACES] = [40503, 60493, 52711, 36013, 27191, 45887];
+
+/// By the objects of the used places.
 #[inline(always)]
-fn fact_hash(p: u64, o: [u64; 4]) -> usize {
+fn fact_hash(p: u64, objects: &[u64]) -> usize {
     let low = |v: u64| v as u32 as u64;
-    let x = low(p) * 30011 + low(o[0]) * 40503 + low(o[1]) * 60493 + low(o[2]) * 52711 + low(o[3]) * 36013;
+    let mut x = low(p) * 30011;
+    for k in 0..objects.len() {
+        x += low(at(objects, k)) * at(&FACTORS, k);
+    }
     ((x + (x >> 10) + (x >> 20)) % BUCKETS as u64) as usize
 }
 
 #[inline(always)]
-fn says(facts: &[u64], i: usize, k: u64, p: u64, o: [u64; 4]) -> bool {
-    let e = i * 5;
-    at(facts, e) == p
-        && (k == 0
-            || at(facts, e + 1) == o[0]
-                && (k == 1
-                    || at(facts, e + 2) == o[1]
-                        && (k == 2 || at(facts, e + 3) == o[2] && (k == 3 || at(facts, e + 4) == o[3]))))
+fn says(facts: &[u64], i: usize, p: u64, objects: &[u64]) -> bool {
+    let e = i * FACT_WORDS;
+    at(facts, e) == p && (0..objects.len()).all(|k| at(facts, e + 1 + k) == at(objects, k))
 }
 
 impl Search<'_> {
-    fn truth(&self, p: u64, o: [u64; 4]) -> bool {
+    #[inline(always)]
+    fn truth(&self, p: u64, objects: &[u64]) -> bool {
         if p == 0 {
-            return o[0] == o[1];
+            return at(objects, 0) == at(objects, 1);
         }
-        let k = at(self.arities, p as usize);
-        let mut n = at(self.index, fact_hash(p, o)) as usize;
+        let mut n = at(self.index, fact_hash(p, objects)) as usize;
         while n != 0 {
-            if says(self.facts, n - 1, k, p, o) {
+            if says(self.facts, n - 1, p, objects) {
                 return true;
             }
             n = at(self.index, BUCKETS + n - 1) as usize;
         }
-        (INDEXED..self.facts.len() / 5).any(|i| says(self.facts, i, k, p, o))
+        (INDEXED..self.facts.len() / FACT_WORDS).any(|i| says(self.facts, i, p, objects))
     }
 
     fn go(&mut self, start: usize, best: u64) -> u64 {
@@ -616,14 +618,18 @@ impl Search<'_> {
             if l == LEAF {
                 return at(self.words, r * 3 + 1) + 1;
             }
-            let terms = [l >> 18 & 63, l >> 12 & 63, l >> 6 & 63, l & 63].map(|t| t as usize);
-            let o = terms.map(|t| at(&self.env, t));
-            for k in 0..4 {
-                if o[k] == FREE {
-                    return self.bind(r, terms[k], best);
+            let p = predicate(l);
+            let arity = at(self.arities, p as usize) as usize;
+            let mut objects = [0u64; PLACES];
+            for k in 0..arity {
+                let t = place(l, k) as usize;
+                let o = at(&self.env, t);
+                if o == FREE {
+                    return self.bind(r, t, best);
                 }
+                put(&mut objects, k, o);
             }
-            r = if self.truth(l >> 24, o) { at(self.words, r * 3 + 1) } else { at(self.words, r * 3 + 2) } as usize;
+            r = if self.truth(p, &objects[..arity]) { at(self.words, r * 3 + 1) } else { at(self.words, r * 3 + 2) } as usize;
         }
         best
     }
@@ -642,16 +648,11 @@ impl Search<'_> {
     }
 }
 
-fn fact_objects(arities: &[u64], facts: &[u64], i: usize, fill: u64) -> (u64, [u64; 4]) {
-    let p = at(facts, i * 5);
-    let k = if p < 32 { at(arities, p as usize) } else { 0 };
-    let mut o = [fill; 4];
-    for j in 0..4 {
-        if (j as u64) < k {
-            o[j] = at(facts, i * 5 + 1 + j);
-        }
-    }
-    (p, o)
+/// The predicate of a fact, and the objects of its used places.
+fn fact<'a>(arities: &[u64], facts: &'a [u64], i: usize) -> (u64, &'a [u64]) {
+    let p = at(facts, i * FACT_WORDS);
+    let arity = if p < PREDICATES as u64 { at(arities, p as usize) as usize } else { 0 };
+    (p, &facts[i * FACT_WORDS + 1..][..arity])
 }
 
 #[inline(never)]
@@ -660,30 +661,22 @@ pub fn value(arities: &[u64], w: &[u64], n: u64, constants: &[u64], facts: &[u64
         return Err(14);
     }
     let object = |c: usize| constants.get(c).copied().unwrap_or(0);
-    let rows = facts.len() / 5;
-    if n == 0 || (0..16).any(|c| object(c) >= n) {
+    let rows = facts.len() / FACT_WORDS;
+    if n == 0 || (0..CONSTANTS).any(|c| object(c) >= n) {
         return Err(4);
     }
     for i in 0..rows {
-        let (_, o) = fact_objects(arities, facts, i, 0);
-        if o.iter().any(|&v| v >= n) {
+        if fact(arities, facts, i).1.iter().any(|&v| v >= n) {
             return Err(4);
         }
     }
     let m = w.len() / 3;
-    let mut marks = [0u64; 64];
-    for i in 0..m {
-        let l = at(w, i * 3);
-        if l != LEAF {
-            for t in [l >> 18 & 63, l >> 12 & 63, l >> 6 & 63, l & 63] {
-                marks[t as usize] = 1;
-            }
-        }
-    }
-    if marks[16..20].iter().any(|&b| b != 0) {
+    let mut used = [0u8; TERM_END];
+    mark(arities, w, &mut used);
+    if used[CONSTANTS..FIXED_END as usize].iter().any(|&b| b != 0) {
         return Err(6);
     }
-    let v = marks[32..].iter().sum::<u64>();
+    let v = used[FIRST_VARIABLE as usize..].iter().filter(|&&b| b != 0).count();
     let mut p = 1u64;
     for _ in 0..v {
         p = p.saturating_mul(n);
@@ -696,14 +689,14 @@ pub fn value(arities: &[u64], w: &[u64], n: u64, constants: &[u64], facts: &[u64
         let (l, b, c) = (at(w, i * 3), at(w, i * 3 + 1), at(w, i * 3 + 2));
         high[i] = if l == LEAF { b } else { at(&high, b as usize).max(at(&high, c as usize)) };
     }
-    let mut env = [FREE; 64];
-    for t in 0..32 {
-        env[t] = if t < 16 { object(t) } else { object(0) };
+    let mut env = [FREE; TERM_END];
+    for c in 0..CONSTANTS {
+        env[c] = object(c);
     }
     let mut index = [0u16; BUCKETS + INDEXED];
     for i in 0..rows.min(INDEXED) {
-        let (p, o) = fact_objects(arities, facts, i, env[0]);
-        let h = fact_hash(p, o);
+        let (p, objects) = fact(arities, facts, i);
+        let h = fact_hash(p, objects);
         let next = at(&index, h);
         put(&mut index, BUCKETS + i, next);
         put(&mut index, h, (i + 1) as u16);

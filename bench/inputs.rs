@@ -1,10 +1,10 @@
 //! Random listings and states, the same in every run.
 
-use crate::engine::LEAF;
+use crate::engine::{self, FACT_WORDS, FIRST_VARIABLE, LEAF, PREDICATES};
 use std::collections::{HashMap, HashSet};
 
 /// Every predicate but equality has two places.
-pub const ARITIES: [u64; 32] = [2; 32];
+pub const ARITIES: [u64; PREDICATES] = [2; PREDICATES];
 
 pub struct Random(pub u64);
 
@@ -29,11 +29,11 @@ fn label(r: &mut Random, variables: u64) -> u64 {
         if t < 4 {
             t
         } else {
-            32 + t - 4
+            FIRST_VARIABLE + t - 4
         }
     };
     let (a, b) = (term(), term());
-    p << 24 | a << 18 | b << 12
+    engine::label(p, &[a, b])
 }
 
 /// `n` labels, ascending.
@@ -129,12 +129,15 @@ pub fn with_zeros(r: &mut Random, chance: u64) -> Vec<u64> {
     in_order(&rows.concat())
 }
 
+/// So many variables that their pairs are enough labels for a chain.
+const SIDE: u64 = 32;
+
 /// A chain of tests from the label numbered `first` on, over the leaves `base` and `base` + 1 in turn.
 pub fn chain(first: u64, tests: u64, base: u64) -> Vec<u64> {
     let mut words = vec![LEAF, base, 0, LEAF, base + 1, 0];
     for n in (0..tests).rev() {
         let below = if n + 1 == tests { tests % 2 } else { words.len() as u64 / 3 - 1 };
-        words.extend([1 << 24 | (32 + (first + n) / 32) << 18 | (32 + (first + n) % 32) << 12, n % 2, below]);
+        words.extend([engine::label(1, &[FIRST_VARIABLE + (first + n) / SIDE, FIRST_VARIABLE + (first + n) % SIDE]), n % 2, below]);
     }
     words
 }
@@ -144,7 +147,7 @@ pub fn parity() -> Vec<u64> {
     let mut out = vec![LEAF, 0, 0, LEAF, 1, 0];
     let (mut even, mut odd) = (0u64, 1u64);
     for v in (0..6u64).rev() {
-        let l = 1 << 24 | (32 + v) << 18;
+        let l = engine::label(1, &[FIRST_VARIABLE + v, 0]);
         if v == 0 {
             out.extend([l, odd, even]);
             break;
@@ -174,7 +177,12 @@ fn in_order(w: &[u64]) -> Vec<u64> {
     out
 }
 
-/// Facts about ten objects, as rows of five words.
+/// Facts about ten objects.
 pub fn facts(r: &mut Random, n: usize) -> Vec<u64> {
-    (0..n).flat_map(|_| [r.between(1, 12), r.below(10), r.below(10), 0, 0]).collect()
+    let mut fact = || {
+        let mut words = [0; FACT_WORDS];
+        words[..3].copy_from_slice(&[r.between(1, 12), r.below(10), r.below(10)]);
+        words
+    };
+    (0..n).flat_map(|_| fact()).collect()
 }

@@ -1,10 +1,13 @@
 //! Two static libraries side by side, on the same inputs, in one run; sides.sh has put one_ before the symbols of the first and two_ before those of the second.
 //! `sides count TEXT..` makes each call once, between marks for callgrind. `sides time COUNTS TEXT..` takes times and prints the table, with what callgrind counted:
-//! lines of a line's number, a side, instructions and pairs. Answers and result buffers are compared first: the two may differ in pairs alone.
+//! lines of a line's number, a side, instructions and pairs. Answers and result buffers are compared first: the two may differ in pairs alone, and a library from before
+//! the wider labels is lent the same listings as it takes them.
 
 mod engine;
 mod inputs;
+mod old;
 
+use engine::LEAF;
 use inputs::{Random, ARITIES};
 use std::ffi::{c_char, CString};
 use std::hint::black_box;
@@ -18,6 +21,8 @@ const OPERATIONS: [&str; 3] = ["sum", "product", "max"];
 
 /// The calls of one library; a combination's number is twice its operation's, one more for names apart.
 struct Side {
+    /// Whether it takes listings of the old kind.
+    old: bool,
     check: unsafe extern "C" fn(*const u64, usize, *const u64, usize) -> u64,
     run: unsafe extern "C" fn(*const u8, usize, *mut u8, usize, *mut u64, *mut u64) -> u64,
     combinations: [Combination; 6],
@@ -33,7 +38,8 @@ macro_rules! side {
                 result: *mut u64, result_count: usize, work: *mut u64, work_count: usize, rows: *mut u64, pairs: *mut u64,
             ) -> u64;)*
         }
-        Side { check: $check, run: $run, combinations: [$($name),*] }
+        let old = unsafe { $check(ARITIES.as_ptr(), ARITIES.len(), [LEAF, 0, 0].as_ptr(), 3) != 0 };
+        Side { old, check: $check, run: $run, combinations: [$($name),*] }
     }};
 }
 
@@ -42,10 +48,20 @@ extern "C" {
     fn count_end(name: *const c_char);
 }
 
+#[derive(Clone)]
 enum Job {
     Check(Vec<u64>),
     Combine(usize, Vec<u64>, Vec<u64>),
     Text(Vec<u8>),
+}
+
+/// The job as this library takes it.
+fn job_for(side: &Side, job: &Job) -> Job {
+    match job {
+        Job::Check(w) if side.old => Job::Check(old::old_listing(w)),
+        Job::Combine(k, x, y) if side.old => Job::Combine(*k, old::old_listing(x), old::old_listing(y)),
+        other => other.clone(),
+    }
 }
 
 /// What is lent to a call: a result buffer, a working space, room for answers.
@@ -75,20 +91,34 @@ fn call(side: &Side, job: &Job, room: &mut Room) -> (u64, u64) {
     (refusal, size)
 }
 
-/// A line of the table.
+/// A line of the table: the jobs of each side.
 struct Line {
     what: String,
-    jobs: Vec<Job>,
+    jobs: [Vec<Job>; 2],
+}
+
+/// The refusal, and the result's rows or the answers as labels are packed now.
+fn answer(side: &Side, job: &Job, room: &mut Room) -> (u64, Vec<u64>, String) {
+    let (refusal, size) = call(side, job, room);
+    let (words, bytes) = match job {
+        Job::Check(_) => (vec![], vec![]),
+        Job::Combine(..) => (room.result[..size as usize * 3].to_vec(), vec![]),
+        Job::Text(_) => (vec![], room.answers[..size as usize].to_vec()),
+    };
+    let text = String::from_utf8(bytes).unwrap();
+    match side.old {
+        true => (refusal, old::listing(&words), old::answers(&text)),
+        false => (refusal, words, text),
+    }
 }
 
 /// A line on whose calls both libraries agree.
 fn line(sides: &[Side; 2], what: String, jobs: Vec<Job>) -> Line {
-    let mut rooms = [room(), room()];
-    for job in &jobs {
-        let [a, b] = [0, 1].map(|k| call(&sides[k], job, &mut rooms[k]));
-        let n = a.1 as usize;
-        let same = a == b && rooms[0].result == rooms[1].result && rooms[0].answers[..n] == rooms[1].answers[..n];
-        assert!(same, "the answers differ: {what} {a:?} {b:?}");
+    let mut room = room();
+    let jobs = [0, 1].map(|k| jobs.iter().map(|job| job_for(&sides[k], job)).collect::<Vec<Job>>());
+    for (one, two) in jobs[0].iter().zip(&jobs[1]) {
+        let (a, b) = (answer(&sides[0], one, &mut room), answer(&sides[1], two, &mut room));
+        assert!(a == b, "the answers differ: {what} {a:?} {b:?}");
     }
     Line { what, jobs }
 }
@@ -110,7 +140,7 @@ fn lines(sides: &[Side; 2], texts: &[String]) -> Vec<Line> {
             while jobs.len() < n {
                 let (x, y) = inputs::operands(&mut r, size);
                 let job = Job::Combine(2 * op + k, x, y);
-                if call(&sides[0], &job, &mut lent).0 == 0 {
+                if call(&sides[0], &job_for(&sides[0], &job), &mut lent).0 == 0 {
                     jobs.push(job);
                 }
             }
@@ -149,7 +179,7 @@ fn count(sides: &[Side; 2], lines: &[Line]) {
         for k in [0, 1] {
             let name = CString::new(format!("{i} {k}")).unwrap();
             unsafe { count_begin() };
-            go(&sides[k], &l.jobs, &mut room);
+            go(&sides[k], &l.jobs[k], &mut room);
             unsafe { count_end(name.as_ptr()) };
         }
     }
@@ -166,10 +196,10 @@ fn times(sides: &[Side; 2], lines: &[Line]) -> Vec<[f64; 2]> {
         for (l, best) in lines.iter().zip(&mut least) {
             let repeats = (SAMPLE / best[0].min(best[1])).max(1.0) as usize;
             for k in [round % 2, 1 - round % 2] {
-                go(&sides[k], &l.jobs, &mut room);
+                go(&sides[k], &l.jobs[k], &mut room);
                 let start = Instant::now();
                 for _ in 0..repeats {
-                    go(&sides[k], &l.jobs, &mut room);
+                    go(&sides[k], &l.jobs[k], &mut room);
                 }
                 best[k] = best[k].min(start.elapsed().as_nanos() as f64 / repeats as f64);
             }
