@@ -5,6 +5,7 @@ use apply::Operation;
 use cutting::Cut;
 use cutting::Edge;
 use label::Label;
+use label::Term;
 use libc::STDIN_FILENO;
 use libc::STDOUT_FILENO;
 use refusal::Refusal;
@@ -18,7 +19,7 @@ ghost use lib.ListN.{length};
 const MARK: u64 = 77;
 
 // The registers: room for 63 words for each letter to w, for more for x, y and z. How many they have stands before them, at 32 and the letter's number.
-const DESK: usize = 34400;
+const DESK: usize = 42600;
 
 const SMALL: usize = 64;
 
@@ -31,10 +32,12 @@ const MOST: u64 = 441972;
 
 const APART: u64 = 1574484;
 
-// Numbers that stay in a word when they are added, and when they are multiplied by 32 or 64.
+// Numbers that stay in a word when they are added, when they are multiplied by 32, and when they are moved up by a place of a label.
 const ADDED: u64 = 9000000000000000000;
 
 const SCALED: u64 = 100000000000000000;
+
+const MOVED: u64 = 10000000000000000;
 
 // What `high` is behind a stroke.
 const SKIP: u64 = 1;
@@ -42,7 +45,12 @@ const SKIP: u64 = 1;
 // A chain's tests of two constants.
 const GROUND: u64 = 2048;
 
-// Reading a line. A word is `high` plus `low`: the digits or letters behind its last point, and what stands before them, times 64.
+// What a term weighs in the first place of a label and in the second.
+const FIRST_PLACE: u64 = Label::PREDICATE_WEIGHT / Term::BASE;
+
+const SECOND_PLACE: u64 = FIRST_PLACE / Term::BASE;
+
+// Reading a line. A word is `high` plus `low`: the digits or letters behind its last point, and what stands before them, moved up by a place.
 
 fn with_byte(low: u64, b: u8) -> u64 {
     if b < 48 {
@@ -59,7 +67,7 @@ fn raised(high: u64, low: u64, b: u8) -> u64 {
         return 0;
     }
     if b == 46 {
-        return (high % SCALED + low % SCALED) * 64;
+        return (high % MOVED + low % MOVED) * Term::BASE;
     }
     if b == 47 {
         return SKIP;
@@ -179,9 +187,11 @@ fn asked_chain(desk: &[u64]) -> Chain {
 // The label of test n; it grows with n.
 fn label(n: u64) -> u64 {
     if n < GROUND {
-        return ((n / 256 * 64 + n / 16 % 16 + 64) * 64 + n % 16) * 4096;
+        return (n / 256 + 1) * Label::PREDICATE_WEIGHT
+            + n / 16 % 16 * FIRST_PLACE
+            + n % 16 * SECOND_PLACE;
     }
-    (n % 32 + 9 * 64 + 32) * 262144
+    9 * Label::PREDICATE_WEIGHT + (n % Term::VARIABLES + Term::FIRST_VARIABLE) * FIRST_PLACE
 }
 
 fn pick(k: u64, x: u64, y: u64, z: u64) -> u64 {
@@ -381,10 +391,10 @@ fn least(n: usize, most: usize) -> usize
 // The result buffer after a call.
 
 fn show_terms(label: u64) {
-    let mut unit = 262144;
+    let mut unit = FIRST_PLACE;
     while unit > 0 {
-        say(b".", label / unit % 64);
-        unit /= 64;
+        say(b".", label / unit % Term::BASE);
+        unit /= Term::BASE;
     }
 }
 
@@ -393,7 +403,7 @@ fn show_label(label: u64) {
         io::write_all(STDOUT_FILENO, b": leaf");
         return;
     }
-    say(b": ", label / 16777216);
+    say(b": ", label / Label::PREDICATE_WEIGHT);
     show_terms(label);
 }
 
