@@ -1,7 +1,7 @@
 -- Laws of the tests of literals.
 use mathlib.Core.Path.{_≡_, refl, sym, ap, _∙_}
 use mathlib.Core.Bool.{Bool, true, false, not, _&&_, _||_}
-use mathlib.Core.List.{List}
+use mathlib.Core.List.{List, List·Memᴰ}
 use Prim.Native.Nat.{ℕ, suc, _+_, _/_, _%_, _≤_, _<_}
 use native.Mathlib.Omega.{arith}
 use native.Mathlib.Numerals.{add-one}
@@ -16,9 +16,12 @@ use Rattle.label.specs.Callers.{Movable}
 use Rattle.label.specs.declared.Label.{Label}
 use Rattle.label.specs.declared.Test.{Test}
 use Rattle.label.specs.declared.Test.the-variants.{Always, Is}
+use Rattle.label.specs.ArityLaws.{mem-at}
 use Rattle.paths.specs.Paths.{Literal}
+use Rattle.paths.specs.Routes.{AllInRange}
+use Rattle.paths.specs.PathLaws.{label-range, mem-unmap}
 use Rattle.contradiction.specs.Contradiction.{someLiteral, asked, asksFor, affirms, isSaid, clashes, clashUnder, contradicts, representative}
-use Rattle.contradiction.specs.JoinLaws.{representative-below}
+use Rattle.contradiction.specs.JoinLaws.{TermsBelow, terms-labels, representative-below}
 use Rattle.contradiction.specs.AgreeLaws.{clash-agree}
 use Rattle.contradict.specs.Representing.{literalAt, literalsIn, Represented, Labelled, Readable}
 use Rattle.contradict.proofs.TableLaws.{label-at, sign-odd, literals-drop, literals-none}
@@ -110,20 +113,31 @@ module _ (ar table : List ℕ) (x : ℕ) where
 
 -- ===== All of them =====
 
+pub labelled-range : {ar xs : List ℕ} → Labelled ar xs → AllInRange xs
+labelled-range {ar} {xs} l = record { each = λ i h. label-range ar (getD xs i 0 / 2) (l .labels i h) }
+
 pub clash-is : (ar table xs : List ℕ) → clashUnder ar (mapOf table) (literalsIn xs) ≡ someLiteral (clashes ar (mapOf table) (literalsIn xs)) (literalsIn xs)
 unfolding clashUnder
 clash-is ar table xs = refl
 
 module _ {ar xs table : List ℕ} (l : Labelled ar xs) (room : termEnd ≤ length table) (r : Represented xs 0 table) where
+  small : TermsBelow termEnd ar (literalsIn xs)
+  small = terms-labels ar (literalsIn xs) (λ k m. label-of k m)
+    where
+      label-of : (k : Literal) → List·Memᴰ k (literalsIn xs) → isLabel ar (k .label) ≡ true
+      label-of k m =
+          let r = mem-unmap literalAt xs k (unfold literalsIn in m) in
+          ap (λ (z : Literal). isLabel ar (z .label)) (r .2) ∙ ap (isLabel ar) (label-at (r .0)) ∙ mem-at (λ x. isLabel ar (x / 2) ≡ true) xs (l .labels) (r .0) (r .1)
+
   pub represented-readable : Readable ar xs table
   represented-readable = record {
     labelled = l;
     terms = record {
       whole = room;
-      below = λ t h. omega (arith, r .each ar (l .arities) t h, representative-below ar (literalsIn xs) t h);
+      below = λ t h. omega (arith, r .each ar (l .arities) t h, representative-below termEnd ar (literalsIn xs) small t h);
     };
   }
 
   pub contradicts-is : {b : Bool} → b ≡ clashUnder ar (mapOf table) (literalsIn xs) → b ≡ contradicts ar (literalsIn xs)
   unfolding contradicts
-  contradicts-is e = e ∙ clash-agree (mapOf table) (representative ar (literalsIn xs)) (r .each ar (l .arities)) ar (l .arities) (literalsIn xs)
+  contradicts-is e = e ∙ clash-agree termEnd (mapOf table) (representative ar (literalsIn xs)) (r .each ar (l .arities)) ar (l .arities) (literalsIn xs) small

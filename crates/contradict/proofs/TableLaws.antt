@@ -1,7 +1,7 @@
 -- Laws of the table of representatives.
 use mathlib.Core.Path.{_≡_, refl, sym, ap, subst, _∙_}
 use mathlib.Core.Bool.{Bool, true, false, cond, _&&_}
-use mathlib.Core.List.{List, [], _∷_}
+use mathlib.Core.List.{List, [], _∷_, List·Memᴰ}
 use Prim.Native.Nat.{ℕ, suc, _+_, _-_, _/_, _%_, _≤_, _<_}
 use native.Mathlib.Omega.{arith}
 use lib.ListN.{length, getD, set, drop, length-set}
@@ -12,9 +12,11 @@ use Rattle.basics.specs.Tests.{Cmp, cmp, below, equal, above}
 use Rattle.label.specs.Limits.{termEnd, equality}
 use Rattle.label.specs.Labels.{areArities, predicateOf, unpacked, termsOf}
 use Rattle.label.specs.Renamings.{mapOf}
+use Rattle.label.specs.ArityLaws.{arity-two}
 use Rattle.label.specs.declared.Atom.{Atom}
 use Rattle.paths.specs.Paths.{Literal}
-use Rattle.cutting.specs.MovedLaws.{arity-two}
+use Rattle.paths.specs.Routes.{InRange}
+use Rattle.paths.specs.PathLaws.{range-terms}
 use Rattle.contradiction.specs.Contradiction.{Equates, joining, representative}
 use Rattle.contradiction.specs.JoinLaws.{literal-names, literal-stays, representative-more}
 use Rattle.contradiction.specs.AgreeLaws.{join-agree}
@@ -94,11 +96,11 @@ atom-predicate : (l : ℕ) → unpacked l .predicate ≡ predicateOf l
 unfolding unpacked predicateOf
 atom-predicate l = refl
 
-pub first-below : {a : Atom} (l : ℕ) → a ≡ unpacked l → a .first < termEnd
-first-below l e = subst (λ (b : Atom). b .first < termEnd) (sym e) (unfold unpacked in (omega arith))
+pub first-below : {a : Atom} (l : ℕ) → InRange l → a ≡ unpacked l → a .first < termEnd
+first-below l r e = subst (λ (b : Atom). b .first < termEnd) (sym e) (unfold unpacked in (r .places 0 (omega arith)))
 
-pub second-below : {a : Atom} (l : ℕ) → a ≡ unpacked l → a .second < termEnd
-second-below l e = subst (λ (b : Atom). b .second < termEnd) (sym e) (unfold unpacked in (omega arith))
+pub second-below : {a : Atom} (l : ℕ) → InRange l → a ≡ unpacked l → a .second < termEnd
+second-below l r e = subst (λ (b : Atom). b .second < termEnd) (sym e) (unfold unpacked in (r .places 1 (omega arith)))
 
 two-terms : (ar : List ℕ) → areArities ar ≡ true → (b : Atom) → b .predicate ≡ equality → termsOf ar b ≡ b .first ∷ b .second ∷ []
 unfolding termsOf
@@ -146,15 +148,21 @@ represented-start xs o = record {
   each = λ ar g t h. o .each t h ∙ sym (ap (λ (ls : List Literal). representative ar ls t) (literals-none xs (length xs) refl) ∙ representative-none ar t);
 }
 
-pub represented-next : {xs table table′ : List ℕ} {j x : ℕ} → Represented xs j table → 0 < j → j ≤ length xs → x ≡ getD xs (j - 1) 0 → Taken x table table′
+pub last-below : {n j : ℕ} → 0 < j → j ≤ n → j - 1 < n
+last-below h k = omega arith
+
+pub represented-next : {xs table table′ : List ℕ} {j x : ℕ} → Represented xs j table → 0 < j → j ≤ length xs → x ≡ getD xs (j - 1) 0 → InRange (x / 2) → Taken x table table′
     → Represented xs (j - 1) table′
-represented-next {xs} {table} {table′} {j} {x} r p q e k = record { each = at }
+represented-next {xs} {table} {table′} {j} {x} r p q e range k = record { each = at }
   where
+    small : (ar : List ℕ) (u : ℕ) → List·Memᴰ u (termsOf ar (unpacked (literalAt x .label))) → u < termEnd
+    small ar u m = range-terms ar (x / 2) range u (subst (λ (l : ℕ). List·Memᴰ u (termsOf ar (unpacked l))) (label-at x) m)
+
     at : (ar : List ℕ) → areArities ar ≡ true → (t : ℕ) → t < termEnd → getD table′ t 0 ≡ representative ar (literalsIn (drop (j - 1) xs)) t
     at ar g t h =
         let i : suc (j - 1) ≡ j = omega arith in
         k .each ar g t h
-        ∙ join-agree (mapOf table) (representative ar (literalsIn (drop j xs))) (λ u b. r .each ar g u b) ar (literalAt x) t h
+        ∙ join-agree termEnd (mapOf table) (representative ar (literalsIn (drop j xs))) (λ u b. r .each ar g u b) ar (literalAt x) (small ar) t h
         ∙ sym (ap (λ (ls : List Literal). representative ar ls t) (literals-drop xs (j - 1) (omega arith)
         ∙ ap (λ (n : ℕ). literalAt (getD xs (j - 1) 0) ∷ literalsIn (drop n xs)) i ∙ ap (λ (y : ℕ). literalAt y ∷ literalsIn (drop j xs)) (sym e))
         ∙ representative-more ar (literalAt x) (literalsIn (drop j xs)) t)

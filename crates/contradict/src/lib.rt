@@ -15,7 +15,7 @@ ghost use Rattle.diagram.specs.Words.{isListing};
 ghost use Rattle.diagram.specs.Listing.{diagramOf};
 ghost use Rattle.diagram.specs.Validity.{tree};
 ghost use Rattle.paths.specs.Paths.{literals};
-ghost use Rattle.paths.specs.Routes.{pathAt};
+ghost use Rattle.paths.specs.Routes.{InRange, AllInRange, pathAt};
 ghost use Rattle.contradiction.specs.Contradiction.{someLiteral, affirms, clashes, clashUnder, contradicts, passes, leadsTo};
 ghost use Rattle.contradict.specs.Representing.{literalAt, literalsIn, Own, Merged, Taken, Represented, Labelled, Readable};
 ghost use Rattle.contradict.specs.Leading.{Routed, Route, leadAnswer};
@@ -74,6 +74,7 @@ fn join(table: &mut [u64], t: usize, u: usize)
 // Takes in the literal x: a true equality joins the terms that it names.
 fn join_literal(table: &mut [u64], x: u64)
     requires { ⌜ termEnd ≤ length (now table) ⌝ }
+    requires { ⌜ InRange (x / 2) ⌝ }
     ensures { λ _. ⌜ Taken x (now (table .entry)) (now (table .exit)) ⌝ }
 {
     if x % 2 == 0 {
@@ -89,6 +90,7 @@ fn join_literal(table: &mut [u64], x: u64)
 // Finds the representatives under the true equalities among the literals.
 fn join_all(literals: &[u64], table: &mut [u64])
     requires { ⌜ termEnd ≤ length (now table) ⌝ }
+    requires { ⌜ AllInRange (now literals) ⌝ }
     ensures { λ _. ⌜ Represented (now (literals .entry)) 0 (now (table .exit)) ⌝ }
 {
     separate(table);

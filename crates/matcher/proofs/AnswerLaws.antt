@@ -14,8 +14,8 @@ use Rattle.paths.specs.Paths.{mostPaths, Literal, Path, literals, termsIn}
 use Rattle.cutting.specs.Match.{start, matches}
 use Rattle.cutting.specs.Cut.{covers}
 use Rattle.cutting.specs.Searchable.{PathLabels}
-use Rattle.matcher.specs.Search.{AllInRange, literalsIn}
-use Rattle.paths.specs.Routes.{pathAt}
+use Rattle.paths.specs.Routes.{AllInRange, pathAt}
+use Rattle.matcher.specs.Search.{literalsIn}
 use Rattle.matcher.specs.Covering.{Coverable}
 use Rattle.matcher.specs.Stored.{Marks, Enterable, Stored, Ready, BothStored, Answers}
 use Rattle.matcher.specs.Parts.{PartsPost}

@@ -26,7 +26,8 @@ use Rattle.matcher.specs.Search.{literalsIn, segment, known, Replacing, 
 use Rattle.matcher.specs.Failure.{storeWords, rowOf, Remembers, isFound, isWeary, Solving, SolvePost, Decidable, Decided}
 use Rattle.matcher.specs.declared.Answer.{Answer}
 use Rattle.matcher.specs.declared.Answer.the-variants.{Found, Failed, Weary}
-use Rattle.matcher.proofs.TermLaws.{label-range, in-place}
+use Rattle.paths.specs.PathLaws.{label-range}
+use Rattle.matcher.proofs.TermLaws.{in-place}
 use Rattle.matcher.proofs.MaskLaws.{zero-none}
 use Rattle.matcher.proofs.SolveLaws.{replacing-kept}
 use Rattle.matcher.proofs.BindLaws.{known-some, known-none, known-past}

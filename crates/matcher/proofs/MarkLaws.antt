@@ -14,10 +14,12 @@ use Rattle.label.specs.Labels.{areArities, isLabel, predicateOf, placeAt}
 use Rattle.label.specs.ArityLaws.{arity-most}
 use Rattle.label.proofs.CodeLaws.{under-all}
 use Rattle.listing.specs.Used.{marked}
-use Rattle.matcher.specs.Search.{InRange, along, late, Unplaced}
+use Rattle.paths.specs.Routes.{InRange}
+use Rattle.matcher.specs.Search.{along, late, Unplaced}
 use Rattle.matcher.specs.Stored.{termsOfCode, Markable, Unmarked, Marking}
+use Rattle.paths.specs.PathLaws.{label-range}
 use Rattle.matcher.proofs.AlongLaws.{along-suc, marked-snoc}
-use Rattle.matcher.proofs.TermLaws.{label-range, terms-along, in-place}
+use Rattle.matcher.proofs.TermLaws.{terms-along, in-place}
 
 -- ===== Marks after terms were marked =====
 abbrev AllTerms : List ℕ → Type 0

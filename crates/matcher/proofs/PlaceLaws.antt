@@ -9,7 +9,8 @@ use lib.Seq.{getD-set-same, getD-set-other}
 use Rattle.basics.specs.Tests.{Cmp, cmp, below, equal, above}
 use Rattle.label.specs.Limits.{firstVariable, termEnd, mostPlaces}
 use Rattle.label.specs.Labels.{placeAt}
-use Rattle.matcher.specs.Search.{AllInRange, termAt, late, Unplaced, Placing}
+use Rattle.paths.specs.Routes.{AllInRange}
+use Rattle.matcher.specs.Search.{termAt, late, Unplaced, Placing}
 
 -- place m of the literals
 module _ {ord : List ℕ} {m : ℕ} (r : AllInRange ord) (h : m < length ord * mostPlaces) {t : ℕ} (e : t ≡ placeAt (getD ord (m / mostPlaces) 0 / 2) (m % mostPlaces)) where

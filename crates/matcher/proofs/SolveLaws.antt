@@ -19,11 +19,10 @@ use Rattle.diagram.specs.RowLaws.{same-tests}
 use Rattle.paths.specs.Paths.{Literal, termsIn}
 use Rattle.cutting.specs.Match.{Partial, assign, agree, bindTerm, thenBind, bindTerms, targets, someOf, goOn, matches}
 use Rattle.cutting.specs.MatchLaws.{some-in, some-out, target-image, target-complete, in-terms}
+use Rattle.paths.specs.Routes.{InRange, AllInRange}
 use Rattle.matcher.specs.Search.{
   literalAt,
   literalsIn,
-  InRange,
-  AllInRange,
   placesIn,
   turn,
   wayPlace,

@@ -20,12 +20,11 @@ use Rattle.paths.specs.Paths.{Literal, Path, paths, literals, termsIn}
 use Rattle.cutting.specs.MatchLaws.{in-terms}
 use Rattle.cutting.specs.Searchable.{PathLabels}
 use Rattle.cutting.specs.CoverLaws.{path-labels}
-use Rattle.paths.specs.PathLaws.{paths-branch}
-use Rattle.paths.specs.Routes.{bit, codeOf, codes, stepOn, pathAt, At, Entered}
-use Rattle.matcher.specs.Search.{InRange, literalAt, literalsIn}
+use Rattle.paths.specs.PathLaws.{label-range, paths-branch}
+use Rattle.paths.specs.Routes.{bit, codeOf, codes, stepOn, pathAt, At, Entered, InRange}
+use Rattle.matcher.specs.Search.{literalAt, literalsIn}
 use Rattle.matcher.specs.Stored.{termsOfCode, Unmarked, Marking, Enterable, Stored}
 use Rattle.paths.specs.PathLaws.{path-in, path-high, path-low, codes-step}
-use Rattle.matcher.proofs.TermLaws.{label-range}
 use Rattle.matcher.proofs.CoversLaws.{of-terms}
 
 -- ===== Literals and their numbers =====

@@ -12,16 +12,11 @@ use borrow.Author.Tests.{le-ltb, eqb-true}
 use Rattle.basics.specs.Tests.{Cmp, cmp, below, equal, above}
 use Rattle.label.specs.Limits.{termEnd, mostPlaces}
 use Rattle.label.specs.Labels.{areArities, isLabel, predicateOf, placeAt, unpacked, placesOf, placeFits, termsOf}
-use Rattle.label.specs.LabelLaws.{label-fits, place-of, place-fits, place-end}
+use Rattle.label.specs.LabelLaws.{place-of, place-fits}
 use Rattle.label.specs.ArityLaws.{terms-length, arity-most}
 use Rattle.cutting.specs.Match.{Partial, bindTerms}
-use Rattle.matcher.specs.Search.{InRange, along, placesIn}
+use Rattle.matcher.specs.Search.{along, placesIn}
 use Rattle.matcher.proofs.AlongLaws.{along-length, along-at, along-of, along-list, bind-unused}
-
--- a label under an arity list is in range
-pub label-range : (ar : List ℕ) (l : ℕ) → isLabel ar l ≡ true → InRange l
-unfolding predicateOf unpacked
-label-range ar l e = record { predicate = label-fits ar l e .predicate-fits; places = λ k h. place-end ar l k e h }
 
 fits-unused : (n k t : ℕ) → n ≤ k → placeFits n k t ≡ true → t ≡ 0
 unfolding placeFits

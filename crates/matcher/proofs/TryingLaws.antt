@@ -15,10 +15,10 @@ use Rattle.label.specs.Labels.{isLabel, placeAt, termsOf, unpacked}
 use Rattle.paths.specs.Paths.{Literal}
 use Rattle.cutting.specs.Match.{Partial, start, bindTerms, goOn, matches}
 use Rattle.cutting.specs.MatchLaws.{Solves}
+use Rattle.paths.specs.Routes.{InRange}
 use Rattle.matcher.specs.Search.{
   literalAt,
   literalsIn,
-  InRange,
   placesIn,
   segment,
   known,

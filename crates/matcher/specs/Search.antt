@@ -10,6 +10,7 @@ use Rattle.label.specs.Limits.{firstVariable, termEnd, termBase, predicateCount
 use Rattle.label.specs.Labels.{predicateOf, placeAt, equates}
 use Rattle.label.specs.declared.Test.the-variants.{Always, Is}
 use Rattle.paths.specs.Paths.{mostPaths, Literal, termsIn}
+use Rattle.paths.specs.Routes.{InRange}
 use Rattle.cutting.specs.Match.{Partial, bindTerms, matches}
 use Rattle.cutting.specs.Searchable.{AllLabels, Searchable}
 use Rattle.matcher.specs.declared.Way.{Way}
@@ -21,15 +22,6 @@ literalAt x = record { label = x / 2; sign = eqb (x % 2) 1 }
 
 unfoldable pub literalsIn : List ℕ → List Literal
 literalsIn xs = map literalAt xs
-
--- the predicate and the places of the label l are numbers of predicates and of terms
-pub record InRange (l : ℕ) : Type 0 where
-  pub predicate : predicateOf l < predicateCount
-  pub places : (k : ℕ) → k < mostPlaces → placeAt l k < termEnd
-
--- so are those of each literal's label
-pub record AllInRange (xs : List ℕ) : Type 0 where
-  pub each : (i : ℕ) → i < length xs → InRange (getD xs i 0 / 2)
 
 -- f 0, f 1, .., f (n - 1)
 unfoldable pub along : (ℕ → ℕ) → ℕ → List ℕ

@@ -10,9 +10,10 @@ use lib.Seq.{ext-getD, getD-append-add}
 use borrow.Author.Tests.{lt-ltb, le-ltb}
 use Rattle.basics.specs.Tests.{Flag, isTrue, isFalse, flag, Cmp, cmp, below, equal, above}
 use Rattle.basics.specs.Members.{mem}
-use Rattle.label.specs.Limits.{predicateCount, predicateWeight}
-use Rattle.label.specs.Labels.{isLabel, predicateOf, unpacked}
-use Rattle.label.specs.LabelLaws.{label-fits}
+use Rattle.label.specs.Limits.{termEnd, predicateCount, predicateWeight}
+use Rattle.label.specs.Labels.{isLabel, predicateOf, unpacked, termsOf}
+use Rattle.label.specs.LabelLaws.{place-of, predicate-of, label-fits, place-end}
+use Rattle.label.specs.ArityLaws.{terms-are}
 use Rattle.diagram.specs.Diagram.{Diagram, leaf, branch, same}
 use Rattle.diagram.specs.DiagramLaws.{onto-old, onto-leaf, onto-branch}
 use Rattle.diagram.specs.Rows.{onto, rows}
@@ -25,7 +26,7 @@ use Rattle.diagram.specs.RowDiagrams.{branch-row}
 use Rattle.diagram.specs.DiagramOfListing.{valid-rows, shown-rows, rows-are}
 use Rattle.diagram.specs.ListingValid.{listing-is-valid}
 use Rattle.paths.specs.Paths.{Step, Path, stepBefore, paths, literals, literalOf}
-use Rattle.paths.specs.Routes.{bit, codeOf, codes, stepOn, pathAt, labelEnd, Rows}
+use Rattle.paths.specs.Routes.{bit, codeOf, codes, InRange, stepOn, pathAt, labelEnd, Rows}
 
 -- members of a list under a map
 pub mem-map : {A B : Type 0} (f : A → B) (l : List A) (a : A) → List·Memᴰ a l → List·Memᴰ (f a) (map f l)
@@ -181,6 +182,19 @@ paths-are d =
     let l : length (upTo n) ≡ n = length-upTo n in
     ext-getD x (paths d) (map (pathAt d) (upTo n)) (sym (length-map (upTo n) (pathAt d) ∙ l))
     (λ k h. path-number d k x h ∙ sym (getD-map (pathAt d) (upTo n) k 0 x (omega arith) ∙ ap (pathAt d) (getD-upTo n k h)))
+
+-- ===== Labels in range =====
+
+-- a label under an arity list is in range
+pub label-range : (ar : List ℕ) (l : ℕ) → isLabel ar l ≡ true → InRange l
+label-range ar l e = record {
+  predicate = subst (λ (p : ℕ). p < predicateCount) (predicate-of l) (label-fits ar l e .predicate-fits);
+  places = λ k h. place-end ar l k e h;
+}
+
+-- the terms of a label in range are below the end of the terms, under every list of arities
+pub range-terms : (ar : List ℕ) (l : ℕ) → InRange l → (t : ℕ) → List·Memᴰ t (termsOf ar (unpacked l)) → t < termEnd
+range-terms ar l r = terms-are (λ t. t < termEnd) ar (unpacked l) (λ k h i. subst (λ (t : ℕ). t < termEnd) (sym (place-of l k i)) (r .places k i))
 
 -- ===== The rows of a listing =====
 -- a label has one of 32 predicates

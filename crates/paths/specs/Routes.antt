@@ -2,10 +2,11 @@
 use mathlib.Core.Path.{_≡_}
 use mathlib.Core.Bool.{Bool, true, false, cond}
 use mathlib.Core.List.{List, [], map}
-use Prim.Native.Nat.{ℕ, suc, _+_, _-_, _*_, _≤_, _<_, min}
+use Prim.Native.Nat.{ℕ, suc, _+_, _-_, _*_, _/_, _≤_, _<_, min}
 use lib.ListN.{length, getD, take, drop}
 use lib.Dec.{ltb, eqb}
-use Rattle.label.specs.Limits.{termEnd, predicateCount, predicateWeight, leafMark}
+use Rattle.label.specs.Limits.{termEnd, predicateCount, mostPlaces, predicateWeight, leafMark}
+use Rattle.label.specs.Labels.{predicateOf, placeAt}
 use Rattle.diagram.specs.Diagram.{Diagram, leaf, branch}
 use Rattle.diagram.specs.Words.{labelAt}
 use Rattle.diagram.specs.Validity.{tree}
@@ -23,6 +24,15 @@ codeOf l = l .label * 2 + bit (l .sign)
 unfoldable pub codes : Path → List ℕ
 unfolding codeOf literals
 codes p = map codeOf (literals p)
+
+-- the predicate and the places of the label l are numbers of predicates and of terms
+pub record InRange (l : ℕ) : Type 0 where
+  pub predicate : predicateOf l < predicateCount
+  pub places : (k : ℕ) → k < mostPlaces → placeAt l k < termEnd
+
+-- so are those of each literal's label
+pub record AllInRange (xs : List ℕ) : Type 0 where
+  pub each : (i : ℕ) → i < length xs → InRange (getD xs i 0 / 2)
 
 -- the branch row's step to one side
 abbrev pub stepOn : Bool → ℕ → Diagram → Diagram → Step

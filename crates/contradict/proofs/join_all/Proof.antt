@@ -4,7 +4,7 @@ use Prim.Native.Nat.{_≤_}
 use lib.ListN.{length}
 use borrow.Author.Needs.{needs}
 use Rattle.contradict.specs.Representing.{Represented}
-use Rattle.contradict.proofs.TableLaws.{represented-start, represented-next, represented-all}
+use Rattle.contradict.proofs.TableLaws.{last-below, represented-start, represented-next, represented-all}
 use Rattle.contradict.proofs.join_all.Statement.{statement}
 use Rattle.contradict.proofs.join_all.Tie as tie
 
@@ -15,7 +15,7 @@ abbrev μ-loop : tie.MeasureT-loop
 μ-loop literals table₀ j₀ table j = j
 
 separate-requires : tie.Need-separate-requires Inv-loop μ-loop
-separate-requires c κs = c .before .before .before .pre
+separate-requires c κs = c .before .before .before .pre .0
 
 loop-holds : tie.Need-loop-holds Inv-loop μ-loop
 loop-holds c = (search needs, omega arith, represented-start _ (c .before .before .separate .ensures))
@@ -34,7 +34,7 @@ join-literal-requires c κs =
     let at-loop = c .before .before .before in
     let at-separate = at-loop .before .before .before in
     let entry = at-separate .before .before .before .before in
-    omega (arith, at-loop .loop .inv .0, at-separate .separate .kept .0, entry .pre)
+    (omega (arith, at-loop .loop .inv .0, at-separate .separate .kept .0, entry .pre .0), entry .pre .1 .each _ (last-below (c .before .before .loop-test .taken) (at-loop .loop .inv .1)))
 
 sub-j : tie.Need-sub-j Inv-loop μ-loop
 sub-j c = omega (arith, c .before .before .before .before .before .loop-test .taken)
@@ -46,10 +46,11 @@ loop-again : tie.Need-loop-again Inv-loop μ-loop
 loop-again c =
     let at-join-literal = c .before .before in
     let at-loop-test = at-join-literal .before .before .before in
-    let at-loop = at-loop-test .before in (
+    let at-loop = at-loop-test .before in
+    let entry = at-loop .before .before .before .before .before .before .before in (
       at-join-literal .join-literal .kept .0 ∙ at-loop .loop .inv .0,
       omega (arith, at-loop .loop .inv .1),
-      represented-next (at-loop .loop .inv .2) (at-loop-test .loop-test .taken) (at-loop .loop .inv .1) refl (at-join-literal .join-literal .ensures),
+      represented-next (at-loop .loop .inv .2) (at-loop-test .loop-test .taken) (at-loop .loop .inv .1) refl (entry .pre .1 .each _ (last-below (at-loop-test .loop-test .taken) (at-loop .loop .inv .1))) (at-join-literal .join-literal .ensures),
     )
 
 same-length : tie.Need-same-length Inv-loop μ-loop

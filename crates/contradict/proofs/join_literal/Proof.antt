@@ -14,7 +14,7 @@ join-requires : tie.Need-join-requires
 join-requires c κs =
     let at-unpack = c .before .before .before in
     let entry = at-unpack .before .before .before in
-    (entry .pre, (first-below (entry .args .x / 2) (at-unpack .unpack .ensures), second-below (entry .args .x / 2) (at-unpack .unpack .ensures)))
+    (entry .pre .0, (first-below (entry .args .x / 2) (entry .pre .1) (at-unpack .unpack .ensures), second-below (entry .args .x / 2) (entry .pre .1) (at-unpack .unpack .ensures)))
 
 returns-3 : tie.Need-returns-3
 returns-3 c =
