@@ -1,16 +1,16 @@
--- A state as it is lent: its size, the constants' objects, and its facts as rows of five words (document 01, section 'States and value').
+-- A state as it is lent: its size, the constants' objects, and its facts as rows of words (document 01, section 'States and value').
 use mathlib.Core.List.{List, [], _∷_}
 use mathlib.Core.Bool.{Bool, true, false, _&&_, _||_}
 use Prim.Native.Nat.{ℕ, zero, suc, _+_, _*_, _/_}
-use lib.ListN.{length, getD, take}
+use lib.ListN.{length, getD, take, drop}
 use lib.Dec.{eqb, ltb, leb}
-use Rattle.label.specs.Limits.{constantCount}
+use Rattle.label.specs.Limits.{constantCount, mostPlaces}
 use Rattle.diagram.specs.Words.{equalLists, everyBelow}
 use Rattle.state.specs.State.{State, low}
 
--- words of a row of facts: its predicate and four objects
+-- words of a row of facts: its predicate, and an object for each place
 abbrev pub factWords : ℕ
-factWords = 5
+factWords = suc mostPlaces
 
 -- words behind the last whole row name no fact
 abbrev pub factCount : List ℕ → ℕ
@@ -19,9 +19,9 @@ factCount facts = length facts / factWords
 unfoldable pub predicateAt : List ℕ → ℕ → ℕ
 predicateAt facts i = getD facts (i * factWords) 0
 
+-- the words behind the predicate
 unfoldable pub objectsAt : List ℕ → ℕ → List ℕ
-objectsAt facts i =
-    getD facts (i * factWords + 1) 0 ∷ getD facts (i * factWords + 2) 0 ∷ getD facts (i * factWords + 3) 0 ∷ getD facts (i * factWords + 4) 0 ∷ []
+objectsAt facts i = take mostPlaces (drop (suc (i * factWords)) facts)
 
 -- row i says that p holds of the objects os: places past the arity are unused
 unfoldable pub saysFact : List ℕ → List ℕ → ℕ → List ℕ → ℕ → Bool

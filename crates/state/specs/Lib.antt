@@ -20,7 +20,7 @@
 --   Bound == each object of a tuple is one of the state
 --
 -- Definitions: the call
---   factWords, factCount, predicateAt, objectsAt == a fact is five words: its predicate and four objects
+--   factWords, factCount, predicateAt, objectsAt == a fact is a row of words: its predicate, and an object for each place
 --   saysFact, someBelow, saidBy == row i says that p holds of objects; some row does
 --   stateOf == the state that lent words are
 --   allBelow, namesBelow, constantsBelow, isState == there is an object, and no object that the lent words name is n or beyond

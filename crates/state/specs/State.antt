@@ -9,7 +9,7 @@ use Rattle.label.specs.Limits.{firstParameter, firstVariable}
 use Rattle.label.specs.Labels.{predicateOf, unpacked, termsOf}
 use Rattle.diagram.specs.Diagram.{Tree, leaf, Diagram, eval, relabel}
 
--- an atomic formula: a predicate and its terms. A term is its number: constants are below 16, variables from 32 on, parameters between.
+-- an atomic formula: a predicate and its terms. A term is its number: constants first, then parameters, then variables.
 pub data Atomic : Type 0 where
   atom : ℕ → List ℕ → Atomic
 

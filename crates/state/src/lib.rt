@@ -1,4 +1,5 @@
 // States and the value of a diagram in one. What they are stands in specs/.
+use label::Label;
 use refusal::Refusal;
 
 // What valuing answers: the highest leaf, or why there is none.
@@ -9,5 +10,5 @@ pub enum Valued {
 
 // Valuations of one value call at most.
 pub const VALUATIONS: u64 = 1000000;
-// Words of a row of facts: its predicate and four objects.
-pub const FACT_WORDS: usize = 5;
+// Words of a row of facts: its predicate, and an object for each place.
+pub const FACT_WORDS: usize = (Label::PLACES as usize) + 1;

@@ -1,23 +1,23 @@
 -- Laws of the checks before valuing: objects within range, terms counted, valuations within the limit.
-use mathlib.Core.Path.{_≡_, refl, sym, ap, ap₂, subst, _∙_}
-use mathlib.Core.Bool.{Bool, true, false, not, _&&_, cond}
+use mathlib.Core.Path.{_≡_, refl, sym, ap, _∙_}
+use mathlib.Core.Bool.{Bool, true, false, not, cond}
 use mathlib.Core.List.{List, []}
-use Prim.Native.Nat.{ℕ, zero, suc, _+_, _-_, _*_, _/_, _^_, _≤_, _<_}
+use Prim.Native.Nat.{ℕ, suc, _+_, _-_, _*_, _/_, _^_, _≤_, _<_, min}
 use native.Mathlib.Nat.{pow-zero, pow-suc, pow-le-pow-right, mul-le-mul}
 use native.Mathlib.Numerals.{add-one}
 use native.Mathlib.Omega.{arith}
 use borrow.Author.Tests.{leb-true, leb-false, eq-eqb, ne-eqb, lt-ltb, le-ltb, le-leb, lt-leb, not-true, not-false}
-use lib.ListN.{length, getD, take}
-use lib.Seq.{take-nil}
+use lib.ListN.{length, getD, take, length-take}
+use lib.Seq.{getD-take}
 use lib.Dec.{eqb, ltb, leb}
-use Rattle.basics.specs.Tests.{Cmp, below, equal, above, cmp, and-left, one}
-use Rattle.label.specs.Limits.{constantCount, firstParameter, parameterCount}
+use Rattle.basics.specs.Tests.{and-left, one}
+use Rattle.label.specs.Limits.{constantCount, firstParameter, parameterCount, mostPlaces}
 use Rattle.diagram.specs.Words.{everyBelow, isListing}
-use Rattle.diagram.specs.WordLaws.{every-below}
+use Rattle.diagram.specs.WordLaws.{every-below, below-every}
+use Rattle.diagram.specs.RowLaws.{same-tests}
 use Rattle.diagram.specs.Listing.{diagramOf}
 use Rattle.diagram.specs.Validity.{Valid}
 use Rattle.diagram.specs.ListingValid.{listing-is-valid}
-use Rattle.valuing.specs.declared.Objects.{Objects}
 use Rattle.state.specs.Lent.{factCount, factWords, predicateAt, objectsAt, allBelow, namesBelow, constantsBelow, stateOf, isState}
 use Rattle.refusal.specs.declared.Refusal.the-variants.{Range, Unbound, Listing, Valuations}
 use Rattle.listing.specs.Used.{Used, setFrom, markedVariables}
@@ -26,81 +26,58 @@ use Rattle.state.specs.declared.Valued.the-variants.{Value, Refused}
 use Rattle.state.specs.State.{meaning}
 use Rattle.state.specs.Highest.{highest}
 use Rattle.state.specs.ValueCall.{mostValuations, parameters, valuations, valueAnswer}
-use Rattle.valuing.specs.Index.{listed, rowObjects, used}
+use Rattle.state.specs.LentLaws.{objects-length, object-at, all-made, all-at}
+use Rattle.valuing.specs.Index.{placeCount, objectAt}
+use Rattle.valuing.proofs.PassedLaws.{Passed, passed-start, passed-on, passed-no, passed-all}
 
--- objects below n, test by test
-module _ (o : Objects) (n : ℕ) where
-  pub below-1 : n ≤ o .first → false ≡ allBelow n (listed o)
-  below-1 h = rw (le-ltb (o .first) n h)
+-- the objects of a row one by one
+pub record Fitting (ar : List ℕ) (n : ℕ) (facts : List ℕ) (i j : ℕ) : Type 0 where
+  pub most : j ≤ placeCount ar (predicateAt facts i)
+  pub passed : Passed (λ m. ltb (objectAt facts i m) n) j
 
-  pub below-2 : o .first < n → n ≤ o .second → false ≡ allBelow n (listed o)
-  below-2 a h = rw (lt-ltb (o .first) n a, le-ltb (o .second) n h)
+pub fitting-start : (ar : List ℕ) (n : ℕ) (facts : List ℕ) (i : ℕ) → Fitting ar n facts i 0
+fitting-start ar n facts i = record { most = omega arith; passed = passed-start }
 
-  pub below-3 : o .first < n → o .second < n → n ≤ o .third → false ≡ allBelow n (listed o)
-  below-3 a b h = rw (lt-ltb (o .first) n a, lt-ltb (o .second) n b, le-ltb (o .third) n h)
-
-  pub below-4 : o .first < n → o .second < n → o .third < n → ltb (o .fourth) n ≡ allBelow n (listed o)
-  below-4 a b c = rw (lt-ltb (o .first) n a, lt-ltb (o .second) n b, lt-ltb (o .third) n c) (last (ltb (o .fourth) n))
-    where
-      last : (b : Bool) → b ≡ (b && true)
-      last true = refl
-      last false = refl
-
--- unused places hold object 0, which is below n
-used-below : (n k : ℕ) (o : Objects) → 0 < n → allBelow n (listed (used k 0 o)) ≡ allBelow n (take k (listed o))
-unfolding used
-used-below n zero o h = rw (lt-ltb 0 n h)
-used-below n (suc zero) o h = rw (lt-ltb 0 n h)
-used-below n (suc (suc zero)) o h = rw (lt-ltb 0 n h)
-used-below n (suc (suc (suc zero))) o h = rw (lt-ltb 0 n h)
-used-below n (suc (suc (suc (suc k)))) o h =
-    rw (
-      lt-ltb 0 (suc (suc (suc (suc k)))) (omega arith),
-      lt-ltb 1 (suc (suc (suc (suc k)))) (omega arith),
-      lt-ltb 2 (suc (suc (suc (suc k)))) (omega arith),
-      lt-ltb 3 (suc (suc (suc (suc k)))) (omega arith),
-      take-nil {A = ℕ} k,
-    )
-
-pub row-below : (ar facts : List ℕ) (n i : ℕ) {k : ℕ} {o u : Objects} {b : Bool} → 0 < n → k ≡ getD ar (getD facts (i * factWords) 0) 0 → o ≡ rowObjects facts i
-    → u ≡ used k 0 o → b ≡ allBelow n (listed u) → b ≡ namesBelow ar n facts i
-unfolding namesBelow predicateAt rowObjects objectsAt
-row-below ar facts n i {k} {o} {u} {b} h ek eo eu eb =
-    eb ∙ ap (λ x. allBelow n (listed x)) eu ∙ used-below n k o h ∙ ap₂ (λ k o. allBelow n (take k (listed o))) ek eo
-
--- a test of every number, one by one
-pub record Passed (p : ℕ → Bool) (i : ℕ) : Type 0 where
-  pub each : (k : ℕ) → k < i → p k ≡ true
-
-pub passed-start : {p : ℕ → Bool} → Passed p 0
-passed-start = record { each = λ k l. absurd (omega arith) }
-
-pub passed-on : {p : ℕ → Bool} {i : ℕ} {b : Bool} → Passed p i → b ≡ p i → b ≡ true → Passed p (i + 1)
-passed-on {p} {i} s e t = record { each = λ k l. step k l (cmp k i) }
+-- the objects of p's places in row i are below n, all of them or place by place
+names-every : (ar : List ℕ) (n : ℕ) (facts : List ℕ) (i : ℕ) → i < factCount facts
+    → namesBelow ar n facts i ≡ everyBelow (placeCount ar (predicateAt facts i)) (λ m. ltb (objectAt facts i m) n)
+unfolding namesBelow placeCount
+names-every ar n facts i h = same-tests _ _ there back
   where
-    step : (k : ℕ) → k < i + 1 → Cmp k i → p k ≡ true
-    step k l (below q) = s .each k q
-    step k l (equal q) = subst (λ (y : ℕ). p y ≡ true) (sym q) (sym e ∙ t)
-    step k l (above q) = absurd (omega arith)
+    k : ℕ
+    k = getD ar (predicateAt facts i) 0
 
-every-not : (n : ℕ) (p : ℕ → Bool) (k : ℕ) → k < n → p k ≡ false → everyBelow n p ≡ false
-every-not zero p k l e = absurd (omega arith)
-every-not (suc n) p k l e = go (cmp k n) (every-not n p k)
-  where
-    no-right : (a b : Bool) → b ≡ false → (a && b) ≡ false
-    no-right true b q = q
-    no-right false b q = refl
+    size : length (take k (objectsAt facts i)) ≡ min k mostPlaces
+    size = length-take k (objectsAt facts i) ∙ ap (min k) (objects-length facts i h)
 
-    go : Cmp k n → (k < n → p k ≡ false → everyBelow n p ≡ false) → (everyBelow n p && p n) ≡ false
-    go (below q) ih = rw (ih q e)
-    go (equal q) ih = no-right (everyBelow n p) (p n) (subst (λ (y : ℕ). p y ≡ false) q e)
-    go (above q) ih = absurd (omega arith)
+    word : (m : ℕ) → m < min k mostPlaces → getD (take k (objectsAt facts i)) m 0 ≡ objectAt facts i m
+    word m l = getD-take k (objectsAt facts i) m 0 (omega arith) ∙ object-at facts i m (omega arith)
 
-pub passed-no : (n : ℕ) (p : ℕ → Bool) (i : ℕ) {b : Bool} → i < n → b ≡ p i → b ≡ false → false ≡ everyBelow n p
-passed-no n p i l e t = sym (every-not n p i l (sym e ∙ t))
+    there : allBelow n (take k (objectsAt facts i)) ≡ true → everyBelow (min k mostPlaces) (λ m. ltb (objectAt facts i m) n) ≡ true
+    there e = every-below (min k mostPlaces) _ (λ m l. ap (λ (x : ℕ). ltb x n) (sym (word m l)) ∙ all-at n (take k (objectsAt facts i)) m (omega (arith, size)) e)
 
-pub passed-all : (n : ℕ) (p : ℕ → Bool) (i : ℕ) → Passed p i → n ≤ i → true ≡ everyBelow n p
-passed-all n p i s l = sym (every-below n p (λ k h. s .each k (omega arith)))
+    back : everyBelow (min k mostPlaces) (λ m. ltb (objectAt facts i m) n) ≡ true → allBelow n (take k (objectsAt facts i)) ≡ true
+    back e = all-made n (take k (objectsAt facts i)) (λ m l.
+        let q : m < min k mostPlaces = omega (arith, size) in
+        ap (λ (x : ℕ). ltb x n) (word m q) ∙ below-every (min k mostPlaces) (λ m. ltb (objectAt facts i m) n) m e q)
+
+module _ {ar facts : List ℕ} {n i j k : ℕ} (room : i * factWords + factWords ≤ length facts)
+    (e : (k ≡ placeCount ar (getD facts (i * factWords) 0)) × (k ≤ mostPlaces)) (s : Fitting ar n facts i j) where
+  pub fitting-on : j < k → objectAt facts i j < n → Fitting ar n facts i (j + 1)
+  unfolding predicateAt
+  fitting-on l h = record { most = omega (arith, e .0); passed = passed-on (s .passed) refl (lt-ltb (objectAt facts i j) n h) }
+
+  pub fitting-no : j < k → n ≤ objectAt facts i j → false ≡ namesBelow ar n facts i
+  unfolding predicateAt
+  fitting-no l h =
+      passed-no (placeCount ar (predicateAt facts i)) (λ m. ltb (objectAt facts i m) n) j (omega (arith, e .0)) refl (le-ltb (objectAt facts i j) n h)
+      ∙ sym (names-every ar n facts i (omega arith))
+
+  pub fitting-all : k ≤ j → true ≡ namesBelow ar n facts i
+  unfolding predicateAt
+  fitting-all h =
+      passed-all (placeCount ar (predicateAt facts i)) (λ m. ltb (objectAt facts i m) n) j (s .passed) (omega (arith, e .0))
+      ∙ sym (names-every ar n facts i (omega arith))
 
 -- the constants one by one
 pub record Placing (n : ℕ) (constants : List ℕ) (c : ℕ) : Type 0 where

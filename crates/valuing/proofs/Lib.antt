@@ -1,3 +1,4 @@
+pub mod PassedLaws
 pub mod FactLaws
 pub mod SearchLaws
 pub mod StartLaws

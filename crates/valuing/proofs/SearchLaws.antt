@@ -1,29 +1,34 @@
 -- Laws of the search for the highest leaf, in the words of the code.
 use mathlib.Core.Path.{_≡_, refl, sym, ap, ap₂, subst, _∙_}
-use mathlib.Core.Bool.{Bool, true, false, cond}
+use mathlib.Core.Bool.{Bool, true, false, _&&_, cond}
 use mathlib.Core.List.{List, [], _∷_, map}
 use Prim.Native.Nat.{ℕ, zero, suc, _+_, _-_, _*_, _≤_, _<_}
 use native.Mathlib.Numerals.{add-one}
 use native.Mathlib.Omega.{arith}
-use borrow.Author.Tests.{eqb-true, eqb-false, eq-eqb, ne-eqb}
-use lib.ListN.{length, getD, set, take, length-set, List·getD-eq-default}
-use lib.Seq.{getD-set-same, getD-set-other, set-getD, set-set}
-use lib.Dec.{eqb, ltb}
+use borrow.Author.Tests.{eqb-true, eqb-false, eq-eqb, ne-eqb, leb-true}
+use lib.ListN.{length, getD, set, take, length-set, length-map, List·getD-eq-default}
+use lib.Seq.{getD-set-same, getD-set-other, set-getD, set-set, length-take-le, getD-take, ext-getD}
+use lib.Dec.{eqb, leb}
 use Rattle.basics.specs.Tests.{Cmp, below, equal, above, cmp, Flag, isTrue, isFalse, flag, and-left, and-right}
-use Rattle.label.specs.Limits.{termEnd, leafMark, predicateCount, equality, equalityArity}
-use Rattle.label.specs.Labels.{areArities, isLabel, placeFits, predicateOf, unpacked, termsOf}
-use Rattle.label.specs.LabelLaws.{atom-fits, atom-places}
-use Rattle.label.specs.declared.Atom.{Atom}
+use Rattle.label.specs.Limits.{termEnd, leafMark, predicateCount, mostPlaces, equality, equalityArity}
+use Rattle.label.specs.Labels.{allAtMost, areArities, predicateOf, placeAt, unpacked, placesOf, termsOf}
+use Rattle.label.specs.LabelLaws.{label-fits, place-of, place-end}
 use Rattle.diagram.specs.Sizes.{highestValue}
 use Rattle.diagram.specs.Diagram.{leaf, eval}
-use Rattle.diagram.specs.Words.{labelAt, highAt, lowAt, rowCount}
+use Rattle.diagram.specs.Words.{labelAt, highAt, lowAt, rowCount, everyBelow, equalLists}
+use Rattle.diagram.specs.WordLaws.{every-below, below-every, lists-equal, equal-lists, getD-map}
+use Rattle.diagram.specs.RowLaws.{same-tests}
 use Rattle.diagram.specs.Validity.{Valid}
 use Rattle.diagram.specs.RowDiagrams.{leaf-row, branch-row, shown}
 use Rattle.diagram.specs.DiagramOfListing.{valid-rows}
-use Rattle.valuing.specs.declared.Objects.{Objects}
-use Rattle.state.specs.Lent.{factCount, someBelow, saidBy, saysFact}
-use Rattle.valuing.specs.Index.{listed, says, used, Asked}
-use Rattle.valuing.specs.Search.{free, lentTruth, lentHolds, leafFrom, Extends, Env, freeCount, unboundIn, objectsIn, tells, Placed, Telling, Hit, old, new, Best, Ready}
+use Rattle.valuing.specs.declared.Lookup.{Lookup}
+use Rattle.valuing.specs.declared.Lookup.the-variants.{Free, Bucket}
+use Rattle.state.specs.State.{equated}
+use Rattle.state.specs.Lent.{factCount, predicateAt, objectsAt, someBelow, saidBy, saysFact}
+use Rattle.state.specs.LentLaws.{objects-length, object-at, some-same}
+use Rattle.valuing.specs.Index.{buckets, placeCount, objectAt, givenAt, hashEnd, hashGap, hashStart, hashStep, hashOf, bucketFor, bucketOf, says, Placed, Asked}
+use Rattle.valuing.specs.Search.{free, lentTruth, lentHolds, leafFrom, Extends, given, Env, freeCount, Labelled, LooksUp, Telling, Hit, old, new, Best, Ready}
+use Rattle.valuing.proofs.FactLaws.{Hashing, hashing-start, hashing-on, placed-place, placed-term}
 
 -- reading an answer's row
 pub follow-true : (ws : List ℕ) (r : ℕ) (b : Bool) → b ≡ true → getD ws (r * 3 + 1) 0 ≡ cond b (highAt ws r) (lowAt ws r)
@@ -34,161 +39,212 @@ pub follow-false : (ws : List ℕ) (r : ℕ) (b : Bool) → b ≡ false → getD
 unfolding lowAt
 follow-false ws r b e = rw e
 
--- the first place without an object, test by test
-module _ (env : List ℕ) (a : Atom) where
-  pub unbound-1 : getD env (a .first) 0 ≡ free → a .first ≡ unboundIn env a
-  unfolding unboundIn
-  unbound-1 e = rw (eq-eqb _ free e)
+-- ===== The places of a label =====
 
-  module _ (n₁ : getD env (a .first) 0 ≡ free → ⊥) where
-    pub unbound-2 : getD env (a .second) 0 ≡ free → a .second ≡ unboundIn env a
-    unfolding unboundIn
-    unbound-2 e = rw (ne-eqb (getD env (a .first) 0) free n₁, eq-eqb (getD env (a .second) 0) free e)
+arity-most : (ar : List ℕ) (p : ℕ) → areArities ar ≡ true → getD ar p 0 ≤ mostPlaces
+unfolding areArities
+arity-most ar p e = go ar p (and-right (eqb (getD ar equality 0) equalityArity) _ (and-right (eqb (length ar) predicateCount) _ e))
+  where
+    go : (xs : List ℕ) (i : ℕ) → allAtMost mostPlaces xs ≡ true → getD xs i 0 ≤ mostPlaces
+    go [] i e = omega arith
+    go (x ∷ xs) zero e = leb-true x mostPlaces (and-left (leb x mostPlaces) _ e)
+    go (x ∷ xs) (suc i) e = go xs i (and-right (leb x mostPlaces) _ e)
 
-    module _ (n₂ : getD env (a .second) 0 ≡ free → ⊥) where
-      pub unbound-3 : getD env (a .third) 0 ≡ free → a .third ≡ unboundIn env a
-      unfolding unboundIn
-      unbound-3 e = rw (ne-eqb (getD env (a .first) 0) free n₁, ne-eqb (getD env (a .second) 0) free n₂, eq-eqb (getD env (a .third) 0) free e)
-
-      module _ (n₃ : getD env (a .third) 0 ≡ free → ⊥) where
-        pub unbound-4 : getD env (a .fourth) 0 ≡ free → a .fourth ≡ unboundIn env a
-        unfolding unboundIn
-        unbound-4 e = rw (ne-eqb (getD env (a .first) 0) free n₁, ne-eqb (getD env (a .second) 0) free n₂, ne-eqb (getD env (a .third) 0) free n₃, eq-eqb (getD env (a .fourth) 0) free e)
-
-        pub unbound-5 : (getD env (a .fourth) 0 ≡ free → ⊥) → termEnd ≡ unboundIn env a
-        unfolding unboundIn
-        unbound-5 n₄ = rw (ne-eqb (getD env (a .first) 0) free n₁, ne-eqb (getD env (a .second) 0) free n₂, ne-eqb (getD env (a .third) 0) free n₃, ne-eqb (getD env (a .fourth) 0) free n₄)
-
--- all places have objects
-pub record AllBound (env : List ℕ) (a : Atom) : Type 0 where
-  pub first-bound : getD env (a .first) 0 ≡ free → ⊥
-  pub second-bound : getD env (a .second) 0 ≡ free → ⊥
-  pub third-bound : getD env (a .third) 0 ≡ free → ⊥
-  pub fourth-bound : getD env (a .fourth) 0 ≡ free → ⊥
-
-module _ (env : List ℕ) (a : Atom) (p : Placed env a) where
-  none-unbound : unboundIn env a ≡ termEnd → AllBound env a
-  none-unbound e = record {
-    first-bound = b₁;
-    second-bound = b₂;
-    third-bound = b₃;
-    fourth-bound = λ z. let q = unbound-4 env a b₁ b₂ b₃ z in omega (arith, p .fourth-below);
-  }
-    where
-      b₁ : getD env (a .first) 0 ≡ free → ⊥
-      b₁ z = let q = unbound-1 env a z in omega (arith, p .first-below)
-
-      b₂ : getD env (a .second) 0 ≡ free → ⊥
-      b₂ z = let q = unbound-2 env a b₁ z in omega (arith, p .second-below)
-
-      b₃ : getD env (a .third) 0 ≡ free → ⊥
-      b₃ z = let q = unbound-3 env a b₁ b₂ z in omega (arith, p .third-below)
-
-  -- the place that is found has none
-  one-unbound : (unboundIn env a ≡ termEnd → ⊥) → (unboundIn env a < termEnd) × (getD env (unboundIn env a) 0 ≡ free)
-  one-unbound n = go (flag (eqb (getD env (a .first) 0) free)) (flag (eqb (getD env (a .second) 0) free)) (flag (eqb (getD env (a .third) 0) free)) (flag (eqb (getD env (a .fourth) 0) free))
-    where
-      at : (t : ℕ) → t < termEnd → getD env t 0 ≡ free → t ≡ unboundIn env a → (unboundIn env a < termEnd) × (getD env (unboundIn env a) 0 ≡ free)
-      at t l e q = subst (λ (x : ℕ). (x < termEnd) × (getD env x 0 ≡ free)) q (l, e)
-
-      go : Flag (eqb (getD env (a .first) 0) free) → Flag (eqb (getD env (a .second) 0) free) → Flag (eqb (getD env (a .third) 0) free)
-          → Flag (eqb (getD env (a .fourth) 0) free) → (unboundIn env a < termEnd) × (getD env (unboundIn env a) 0 ≡ free)
-      go (isTrue x) y z w = let e = eqb-true _ _ x in at (a .first) (p .first-below) e (unbound-1 env a e)
-      go (isFalse x) (isTrue y) z w = let e = eqb-true _ _ y in at (a .second) (p .second-below) e (unbound-2 env a (eqb-false _ _ x) e)
-      go (isFalse x) (isFalse y) (isTrue z) w =
-          let e = eqb-true _ _ z in at (a .third) (p .third-below) e (unbound-3 env a (eqb-false _ _ x) (eqb-false _ _ y) e)
-      go (isFalse x) (isFalse y) (isFalse z) (isTrue w) =
-          let e = eqb-true _ _ w in at (a .fourth) (p .fourth-below) e (unbound-4 env a (eqb-false _ _ x) (eqb-false _ _ y) (eqb-false _ _ z) e)
-      go (isFalse x) (isFalse y) (isFalse z) (isFalse w) =
-          absurd (n (sym (unbound-5 env a (eqb-false _ _ x) (eqb-false _ _ y) (eqb-false _ _ z) (eqb-false _ _ w))))
-
--- truth
-tell-equal : (ar facts : List ℕ) (p k x y z w : ℕ) → p ≡ equality → k ≡ equalityArity → eqb x y ≡ lentTruth ar facts p (take k (x ∷ y ∷ z ∷ w ∷ []))
-tell-equal ar facts p k x y z w e q = rw (e, q)
-
-tell-fact : (ar facts : List ℕ) (p : ℕ) (os : List ℕ) → (p ≡ equality → ⊥) → lentTruth ar facts p os ≡ saidBy ar facts p os
-tell-fact ar facts zero os n = absurd (n refl)
-tell-fact ar facts (suc p) os n = refl
-
-module _ {ar facts index env : List ℕ} {a : Atom} (t : Telling ar facts index env a) where
-  pub telling-placed : Placed env a
-  telling-placed =
-      let p = atom-places ar a (t .atom-fits) in
-      record { places = t .places; first-below = p .first-below; second-below = p .second-below; third-below = p .third-below; fourth-below = p .fourth-below }
-
-  -- an arity list has 32 words, the first of them 2
-  pub telling-length : length ar ≡ predicateCount
-  unfolding areArities
-  telling-length = eqb-true _ _ (and-left (eqb (length ar) predicateCount) _ (t .arities))
-
+module _ {ar env : List ℕ} {l : ℕ} (a : Labelled ar env l) where
+  -- an arity list has a word for each predicate, and equality's two places
   first-arity : getD ar equality 0 ≡ equalityArity
   unfolding areArities
-  first-arity = eqb-true _ _ (and-left (eqb (getD ar equality 0) equalityArity) _ (and-right (eqb (length ar) predicateCount) _ (t .arities)))
+  first-arity = eqb-true _ _ (and-left (eqb (getD ar equality 0) equalityArity) _ (and-right (eqb (length ar) predicateCount) _ (a .arities)))
 
-  pub telling-predicate : a .predicate < predicateCount
-  telling-predicate = atom-fits ar a (t .atom-fits) .predicate-fits
+  pub labelled-predicate : predicateOf l < predicateCount
+  unfolding predicateOf unpacked
+  labelled-predicate = label-fits ar l (a .label-fits) .predicate-fits
 
-  pub telling-read : a .predicate < length ar
-  telling-read = omega (arith, telling-length, telling-predicate)
+  arities-length : length ar ≡ predicateCount
+  unfolding areArities
+  arities-length = eqb-true _ _ (and-left (eqb (length ar) predicateCount) _ (a .arities))
 
-  pub truth-equal : {o : Objects} → o ≡ objectsIn env a → a .predicate ≡ equality → eqb (o .first) (o .second) ≡ tells ar facts env a
-  unfolding tells
-  truth-equal {o} e z =
-      ap₂ eqb (λ i. e i .first) (λ i. e i .second)
-      ∙ tell-equal ar facts (a .predicate) (getD ar (a .predicate) 0) (getD env (a .first) 0) (getD env (a .second) 0) (getD env (a .third) 0) (getD env (a .fourth) 0) z
-      (ap (λ p. getD ar p 0) z ∙ first-arity)
+  pub labelled-read : {p : ℕ} → p ≡ predicateOf l → p < length ar
+  labelled-read e = omega (arith, arities-length, labelled-predicate)
 
-  unused-place : (k x : ℕ) → placeFits (getD ar (a .predicate) 0) k x ≡ true → cond (ltb k (getD ar (a .predicate) 0)) (getD env x 0) (getD env 0 0) ≡ getD env x 0
-  unfolding placeFits
-  unused-place k x h = go (flag (ltb k (getD ar (a .predicate) 0)))
-    where
-      go : Flag (ltb k (getD ar (a .predicate) 0)) → cond (ltb k (getD ar (a .predicate) 0)) (getD env x 0) (getD env 0 0) ≡ getD env x 0
-      go (isTrue q) = rw q
-      go (isFalse q) = let z : eqb x 0 ≡ true = rw q at h in rw (q, eqb-true x 0 z)
+  places-most : getD ar (predicateOf l) 0 ≤ mostPlaces
+  places-most = arity-most ar (predicateOf l) (a .arities)
 
-  objects-used : used (getD ar (a .predicate) 0) (getD env 0 0) (objectsIn env a) ≡ objectsIn env a
-  unfolding used objectsIn
-  objects-used =
-      let f = atom-fits ar a (t .atom-fits) .places-fit in
-      let e₁ = unused-place 0 (a .first) (f .first-fits) in
-      let e₂ = unused-place 1 (a .second) (f .second-fits) in
-      let e₃ = unused-place 2 (a .third) (f .third-fits) in
-      let e₄ = unused-place 3 (a .fourth) (f .fourth-fits) in
-      λ i. record { first = e₁ i; second = e₂ i; third = e₃ i; fourth = e₄ i }
+  label-placed : Placed env l (getD ar (predicateOf l) 0)
+  label-placed = record { words = a .words; most = places-most; below = λ j h. place-end ar l j (a .label-fits) (omega (arith, places-most)) }
 
-  pub truth-asked : {o : Objects} → o ≡ objectsIn env a → Asked facts index (getD ar (a .predicate) 0) (a .predicate) o
-  truth-asked {o} e = record {
+  pub labelled-placed : {p : ℕ} → p ≡ predicateOf l → Placed env l (getD ar p 0)
+  labelled-placed e = rw e label-placed
+
+  -- its terms, one by one
+  terms-length : length (termsOf ar (unpacked l)) ≡ getD ar (predicateOf l) 0
+  unfolding termsOf predicateOf unpacked
+  terms-length = length-take-le (getD ar (predicateOf l) 0) (placesOf (unpacked l)) places-most
+
+  term-at : (j : ℕ) → j < getD ar (predicateOf l) 0 → getD (termsOf ar (unpacked l)) j 0 ≡ placeAt l j
+  unfolding termsOf predicateOf unpacked
+  term-at j h = getD-take (getD ar (predicateOf l) 0) (placesOf (unpacked l)) j 0 h ∙ place-of l j (omega (arith, places-most))
+
+  objects-length′ : (θ : ℕ → ℕ) → length (map θ (termsOf ar (unpacked l))) ≡ getD ar (predicateOf l) 0
+  objects-length′ θ = length-map (termsOf ar (unpacked l)) θ ∙ terms-length
+
+  object-of : (θ : ℕ → ℕ) (j : ℕ) → j < getD ar (predicateOf l) 0 → getD (map θ (termsOf ar (unpacked l))) j 0 ≡ θ (placeAt l j)
+  object-of θ j h = getD-map θ (termsOf ar (unpacked l)) j 0 0 (omega (arith, terms-length)) ∙ ap θ (term-at j h)
+
+-- ===== The places looked up one by one =====
+
+pub record Looking (ar env : List ℕ) (l k j h : ℕ) : Type 0 where
+  pub arity : k ≡ getD ar (predicateOf l) 0
+  pub placed : Placed env l k
+  pub most : j ≤ k
+  pub number : Hashing (predicateOf l) (givenAt env l) j h
+  pub bound : (i : ℕ) → i < j → givenAt env l i ≡ free → ⊥
+
+pub looking-start : {ar env : List ℕ} {l p h : ℕ} → Labelled ar env l → p ≡ predicateOf l → (h ≡ hashStart p) × (h < hashEnd * hashGap) → Looking ar env l (getD ar p 0) 0 h
+looking-start {ar} {env} {l} {p} {h} a e q = record {
+  arity = ap (λ (x : ℕ). getD ar x 0) e;
+  placed = labelled-placed a e;
+  most = omega arith;
+  number = hashing-start (q .0 ∙ ap hashStart e, q .1);
+  bound = λ i l. absurd (omega arith);
+}
+
+module _ {ar env : List ℕ} {l k j h : ℕ} (s : Looking ar env l k j h) where
+  pub looking-small : h < hashEnd * hashGap
+  looking-small = s .number .small
+
+  pub looking-done : {b : ℕ} → k ≤ j → (b ≡ bucketFor h) × (b < buckets) → LooksUp ar env l (Bucket b)
+  unfolding bucketOf
+  looking-done {b} m q =
+      let z : j ≡ getD ar (predicateOf l) 0 = omega (arith, s .most, s .arity) in
+      record {
+        unbound = λ u y. absurd (let o : _≡_ {A = ℕ} 0 1 = cc in omega arith);
+        bound = λ c y. let o : b ≡ c = cc in (λ i d. s .bound i (omega arith), sym o ∙ q .0 ∙ ap bucketFor (s .number .number ∙ ap (hashOf (predicateOf l) (givenAt env l)) z));
+      }
+
+  module _ (m : j < k) where
+    pub looking-place : j < mostPlaces
+    looking-place = placed-place (s .placed) m
+
+    module _ {t : ℕ} (q : t ≡ placeAt l j) where
+      pub looking-term : t < length env
+      looking-term = placed-term (s .placed) m q
+
+      pub looking-free : getD env t 0 ≡ free → LooksUp ar env l (Free t)
+      looking-free z = record {
+        unbound = λ u y. let o : t ≡ u = cc in (j, omega (arith, s .arity), sym o ∙ q, ap (λ (x : ℕ). getD env x 0) (sym o) ∙ z);
+        bound = λ b y. absurd (let o : _≡_ {A = ℕ} 0 1 = cc in omega arith);
+      }
+
+      pub looking-on : {x : ℕ} → (getD env t 0 ≡ free → ⊥) → (x ≡ hashStep h (getD env t 0)) × (x < hashEnd * hashGap) → Looking ar env l k (j + 1) x
+      looking-on n y = record {
+        arity = s .arity;
+        placed = s .placed;
+        most = omega arith;
+        number = hashing-on (s .number) (ap (λ (x : ℕ). getD env x 0) q) y;
+        bound = λ i u. here i u (cmp i j);
+      }
+        where
+          here : (i : ℕ) → i < j + 1 → Cmp i j → givenAt env l i ≡ free → ⊥
+          here i u (below c) z = s .bound i c z
+          here i u (equal c) z = n (ap (λ (x : ℕ). getD env x 0) (q ∙ ap (placeAt l) (sym c)) ∙ z)
+          here i u (above c) z = absurd (omega arith)
+
+-- ===== Truth =====
+
+equated-two : (os : List ℕ) → length os ≡ equalityArity → equated os ≡ eqb (getD os 0 0) (getD os 1 0)
+equated-two [] e = absurd (omega arith)
+equated-two (a ∷ []) e = absurd (omega arith)
+equated-two (a ∷ b ∷ os) e = refl
+
+lent-equal : (ar facts : List ℕ) (p : ℕ) (os : List ℕ) → p ≡ equality → lentTruth ar facts p os ≡ equated os
+lent-equal ar facts p os e = rw e
+
+lent-fact : (ar facts : List ℕ) (p : ℕ) (os : List ℕ) → (p ≡ equality → ⊥) → lentTruth ar facts p os ≡ saidBy ar facts p os
+lent-fact ar facts zero os n = absurd (n refl)
+lent-fact ar facts (suc p) os n = refl
+
+-- what a row says, by places and by objects
+says-fact : {ar env : List ℕ} {l : ℕ} (facts : List ℕ) → Labelled ar env l → (i : ℕ) → i < factCount facts
+    → says facts env l (getD ar (predicateOf l) 0) i ≡ saysFact ar facts (predicateOf l) (map (given env) (termsOf ar (unpacked l))) i
+unfolding says saysFact
+says-fact {ar} {env} {l} facts a i h = ap (λ (b : Bool). eqb (predicateAt facts i) (predicateOf l) && b) (same-tests _ _ there back)
+  where
+    k : ℕ
+    k = getD ar (predicateOf l) 0
+
+    few : k ≤ mostPlaces
+    few = places-most a
+
+    os : List ℕ
+    os = map (given env) (termsOf ar (unpacked l))
+
+    size : length (take k (objectsAt facts i)) ≡ k
+    size = length-take-le k (objectsAt facts i) (omega (arith, objects-length facts i h, few))
+
+    word : (j : ℕ) → j < k → getD (take k (objectsAt facts i)) j 0 ≡ objectAt facts i j
+    word j m = getD-take k (objectsAt facts i) j 0 m ∙ object-at facts i j (omega (arith, few))
+
+    there : everyBelow k (λ j. eqb (objectAt facts i j) (givenAt env l j)) ≡ true → equalLists (take k (objectsAt facts i)) os ≡ true
+    there e =
+        let path : take k (objectsAt facts i) ≡ os = ext-getD 0 (take k (objectsAt facts i)) os (size ∙ sym (objects-length′ a (given env))) (λ j m.
+        let q : j < k = omega (arith, size) in
+        word j q ∙ eqb-true _ _ (below-every k (λ j. eqb (objectAt facts i j) (givenAt env l j)) j e q) ∙ sym (object-of a (given env) j q)) in
+        subst (λ (xs : List ℕ). equalLists (take k (objectsAt facts i)) xs ≡ true) path (equal-lists (take k (objectsAt facts i)))
+
+    back : equalLists (take k (objectsAt facts i)) os ≡ true → everyBelow k (λ j. eqb (objectAt facts i j) (givenAt env l j)) ≡ true
+    back e = every-below k _ (λ j q.
+        eq-eqb _ _ (sym (word j q) ∙ ap (λ (xs : List ℕ). getD xs j 0) (lists-equal (take k (objectsAt facts i)) os e) ∙ object-of a (given env) j q))
+
+module _ {ar facts index env : List ℕ} {l b p : ℕ} (t : Telling ar facts index env l b) (e : p ≡ predicateOf l) where
+  pub truth-read : p < length ar
+  truth-read = labelled-read (t .labelled) e
+
+  pub truth-predicate : p < predicateCount
+  truth-predicate = omega (arith, labelled-predicate (t .labelled))
+
+  module _ (z : p ≡ equality) where
+    equal-arity : getD ar (predicateOf l) 0 ≡ equalityArity
+    equal-arity = ap (λ (x : ℕ). getD ar x 0) (sym e ∙ z) ∙ first-arity (t .labelled)
+
+    pub truth-term : {u j : ℕ} → j < equalityArity → u ≡ placeAt l j → u < length env
+    truth-term h q = placed-term (label-placed (t .labelled)) (omega (arith, equal-arity)) q
+
+    pub truth-equal : {u v : ℕ} → u ≡ placeAt l 0 → v ≡ placeAt l 1 → eqb (getD env u 0) (getD env v 0) ≡ lentHolds ar facts (given env) l
+    unfolding lentHolds
+    truth-equal q r =
+        let os : List ℕ = map (given env) (termsOf ar (unpacked l)) in
+        ap₂ (λ (x y : ℕ). eqb (getD env x 0) (getD env y 0)) q r
+        ∙ sym (lent-equal ar facts (predicateOf l) os (sym e ∙ z) ∙ equated-two os (objects-length′ (t .labelled) (given env) ∙ equal-arity)
+        ∙ ap₂ eqb (object-of (t .labelled) (given env) 0 (omega (arith, equal-arity))) (object-of (t .labelled) (given env) 1 (omega (arith, equal-arity))))
+
+  pub truth-asked : Asked facts index env l (getD ar p 0) b
+  unfolding placeCount
+  truth-asked = record {
     arities = ar;
-    fill = getD env 0 0;
     index-fits = t .indexed;
-    arity = refl;
-    filled = ap (used (getD ar (a .predicate) 0) (getD env 0 0)) e ∙ objects-used ∙ sym e;
+    arity = rw e (omega (arith, places-most (t .labelled)));
+    bucket = rw e (t .bucket);
+    placed = labelled-placed (t .labelled) e;
   }
 
-  pub truth-found : {o : Objects} {r : Bool} → o ≡ objectsIn env a → (a .predicate ≡ equality → ⊥)
-      → r ≡ someBelow (factCount facts) (says facts (getD ar (a .predicate) 0) (a .predicate) o) → r ≡ tells ar facts env a
-  unfolding tells saidBy saysFact says
-  truth-found {o} {r} e n q =
-      q ∙ ap (λ o. someBelow (factCount facts) (says facts (getD ar (a .predicate) 0) (a .predicate) o)) e
-      ∙ sym (tell-fact ar facts (a .predicate) (take (getD ar (a .predicate) 0) (listed (objectsIn env a))) n)
+  pub truth-found : {r : Bool} → (p ≡ equality → ⊥) → r ≡ someBelow (factCount facts) (says facts env l (getD ar p 0)) → r ≡ lentHolds ar facts (given env) l
+  unfolding lentHolds saidBy
+  truth-found n q =
+      q ∙ ap (λ (x : ℕ). someBelow (factCount facts) (says facts env l (getD ar x 0))) e
+      ∙ some-same (factCount facts) _ _ (says-fact facts (t .labelled))
+      ∙ sym (lent-fact ar facts (predicateOf l) (map (given env) (termsOf ar (unpacked l))) (λ z. n (e ∙ z)))
 
--- what θ makes of an atom all of whose places have objects
-map-take : (f : ℕ → ℕ) (k : ℕ) (xs : List ℕ) → map f (take k xs) ≡ take k (map f xs)
-map-take f zero xs = refl
-map-take f (suc k) [] = refl
-map-take f (suc k) (x ∷ xs) = ap (f x ∷_) (map-take f k xs)
-
-four : {a b c d x y z w : ℕ} → a ≡ x → b ≡ y → c ≡ z → d ≡ w → _≡_ {A = List ℕ} (a ∷ b ∷ c ∷ d ∷ []) (x ∷ y ∷ z ∷ w ∷ [])
-four p q r s = λ i. p i ∷ q i ∷ r i ∷ s i ∷ []
-
-module _ (ar facts env : List ℕ) (n : ℕ) (θ : ℕ → ℕ) (x : Extends n env θ) where
-  holds-tells : (l : ℕ) → Placed env (unpacked l) → AllBound env (unpacked l) → lentHolds ar facts θ l ≡ tells ar facts env (unpacked l)
-  unfolding lentHolds tells termsOf predicateOf unpacked
-  holds-tells l p b =
-      let a = unpacked l in
-      ap (lentTruth ar facts (a .predicate)) (map-take θ (getD ar (a .predicate) 0) (a .first ∷ a .second ∷ a .third ∷ a .fourth ∷ [])
-      ∙ ap (take (getD ar (a .predicate) 0)) (four (x .agrees (a .first) (p .first-below) (b .first-bound)) (x .agrees (a .second) (p .second-below) (b .second-bound))
-      (x .agrees (a .third) (p .third-below) (b .third-bound)) (x .agrees (a .fourth) (p .fourth-below) (b .fourth-bound))))
+-- what θ makes of a label all of whose places have objects
+holds-given : {ar env : List ℕ} {l : ℕ} (facts : List ℕ) (n : ℕ) (θ : ℕ → ℕ) → Labelled ar env l → Extends n env θ
+    → ((j : ℕ) → j < getD ar (predicateOf l) 0 → givenAt env l j ≡ free → ⊥) → lentHolds ar facts θ l ≡ lentHolds ar facts (given env) l
+unfolding lentHolds
+holds-given {ar} {env} {l} facts n θ a x b =
+    let ts = termsOf ar (unpacked l) in
+    let size = objects-length′ a in
+    ap (lentTruth ar facts (predicateOf l)) (ext-getD 0 (map θ ts) (map (given env) ts) (size θ ∙ sym (size (given env))) (λ j m.
+    let h : j < getD ar (predicateOf l) 0 = omega (arith, size θ) in
+    object-of a θ j h ∙ x .agrees (placeAt l j) (label-placed a .below j h) (b j h) ∙ sym (object-of a (given env) j h)))
 
 -- the leaf from a row, by what its label says
 module _ (ar facts ws : List ℕ) (v : Valid ar ws) (θ : ℕ → ℕ) (r : ℕ) (h : r < rowCount ws) where
@@ -247,21 +303,12 @@ module _ {ws high ar facts index env : List ℕ} {n r₀ r : ℕ} (w : Along ws 
   unfolding leafFrom
   top-bound θ = w .ready .tops .bound r (w .within) (lentHolds ar facts θ)
 
-  row-telling : (labelAt ws r ≡ leafMark → ⊥) → Telling ar facts index env (unpacked (labelAt ws r))
-  unfolding isLabel
-  row-telling nl = record {
+  row-labelled : (labelAt ws r ≡ leafMark → ⊥) → Labelled ar env (labelAt ws r)
+  row-labelled nl = record {
     arities = w .ready .valid .arities;
-    atom-fits = branch-row ar ws (rowCount ws) (valid-rows ar ws (w .ready .valid)) r (w .within) nl .label;
-    places = w .ready .env-fits .places;
-    indexed = w .ready .indexed;
+    label-fits = branch-row ar ws (rowCount ws) (valid-rows ar ws (w .ready .valid)) r (w .within) nl .label;
+    words = w .ready .env-fits .places;
   }
-
-  -- the atom that the code has
-  pub along-telling : {a : Atom} → a ≡ unpacked (labelAt ws r) → (labelAt ws r ≡ leafMark → ⊥) → Telling ar facts index env a
-  along-telling e nl = rw e (row-telling nl)
-
-  pub along-placed : {a : Atom} → a ≡ unpacked (labelAt ws r) → (labelAt ws r ≡ leafMark → ⊥) → Placed env a
-  along-placed e nl = telling-placed (along-telling e nl)
 
   pub along-cut : {best : ℕ} → getD high r 0 < best → Best ar facts ws env n r₀ best best env
   along-cut h = record {
@@ -294,53 +341,50 @@ module _ {ws high ar facts index env : List ℕ} {n r₀ r : ℕ} (w : Along ws 
       go (old e) = old e
       go (new θ x e) = new θ x (e ∙ ap suc (sym (w .same θ x)))
 
-  pub along-on : {a : Atom} {t x : ℕ} {b : Bool} → a ≡ unpacked (labelAt ws r) → (labelAt ws r ≡ leafMark → ⊥) → t ≡ unboundIn env a → t ≡ termEnd
-      → b ≡ tells ar facts env a → x ≡ cond b (highAt ws r) (lowAt ws r) → Along ws high ar facts index env n r₀ x
-  along-on {a} {t} {x} {b} ea nl et en eb ex =
-      let v = w .ready .valid in
-      let row = branch-row ar ws (rowCount ws) (valid-rows ar ws v) r (w .within) nl in
-      let p = telling-placed (row-telling nl) in
-      let all = none-unbound env (unpacked (labelAt ws r)) p (ap (unboundIn env) (sym ea) ∙ sym et ∙ en) in
-      let g : (ℕ → ℕ) → ℕ → ℕ = λ θ. leafFrom ar facts ws θ in
-      record {
-        ready = w .ready;
-        within = rw ex (pick-below b (highAt ws r) (lowAt ws r) (rowCount ws) (omega (arith, row .high-before, w .within)) (omega (arith, row .low-before, w .within)));
-        same = λ θ y.
-            w .same θ y ∙ from-branch ar facts ws v θ r (w .within) nl
-            ∙ ap (λ c. cond c (g θ (highAt ws r)) (g θ (lowAt ws r))) (holds-tells ar facts env n θ y (labelAt ws r) p all ∙ ap (tells ar facts env) (sym ea) ∙ sym eb)
-            ∙ cond-pick b (g θ) (highAt ws r) (lowAt ws r) ∙ ap (g θ) (sym ex);
-      }
+  -- its label, with every place's object
+  module _ (nl : labelAt ws r ≡ leafMark → ⊥) {s : Lookup} (q : LooksUp ar env (labelAt ws r) s) where
+    along-telling : {b : ℕ} → s ≡ Bucket b → Telling ar facts index env (labelAt ws r) b
+    along-telling {b} e = record { labelled = row-labelled nl; indexed = w .ready .indexed; bucket = q .bound b e .1 }
 
-  -- a variable without an object is found
-  pub along-unbound : {a : Atom} {t : ℕ} → a ≡ unpacked (labelAt ws r) → (labelAt ws r ≡ leafMark → ⊥) → t ≡ unboundIn env a → (t ≡ termEnd → ⊥) → t < termEnd
-  along-unbound ea nl et n =
-      let z = one-unbound env (unpacked (labelAt ws r)) (telling-placed (row-telling nl)) (λ q. n (et ∙ ap (unboundIn env) ea ∙ q)) in
-      rw (et, ea) (z .0)
+    along-on : {b x : ℕ} {v : Bool} → s ≡ Bucket b → v ≡ lentHolds ar facts (given env) (labelAt ws r) → x ≡ cond v (highAt ws r) (lowAt ws r)
+        → Along ws high ar facts index env n r₀ x
+    along-on {b} {x} {v} e ev ex =
+        let valid = w .ready .valid in
+        let row = branch-row ar ws (rowCount ws) (valid-rows ar ws valid) r (w .within) nl in
+        let g : (ℕ → ℕ) → ℕ → ℕ = λ θ. leafFrom ar facts ws θ in
+        record {
+          ready = w .ready;
+          within = rw ex (pick-below v (highAt ws r) (lowAt ws r) (rowCount ws) (omega (arith, row .high-before, w .within)) (omega (arith, row .low-before, w .within)));
+          same = λ θ y.
+              w .same θ y ∙ from-branch ar facts ws valid θ r (w .within) nl
+              ∙ ap (λ c. cond c (g θ (highAt ws r)) (g θ (lowAt ws r))) (holds-given facts n θ (row-labelled nl) y (q .bound b e .0) ∙ sym ev)
+              ∙ cond-pick v (g θ) (highAt ws r) (lowAt ws r) ∙ ap (g θ) (sym ex);
+        }
 
-  pub along-free : {a : Atom} {t : ℕ} → a ≡ unpacked (labelAt ws r) → (labelAt ws r ≡ leafMark → ⊥) → t ≡ unboundIn env a → (t ≡ termEnd → ⊥) → getD env t 0 ≡ free
-  along-free ea nl et n =
-      let z = one-unbound env (unpacked (labelAt ws r)) (telling-placed (row-telling nl)) (λ q. n (et ∙ ap (unboundIn env) ea ∙ q)) in
-      rw (et, ea) (z .1)
+    -- or one without
+    module _ {t : ℕ} (e : s ≡ Free t) where
+      along-free : getD env t 0 ≡ free
+      along-free = q .unbound t e .3
+
+      along-term : t < termEnd
+      along-term =
+          let u = q .unbound t e in
+          omega (arith, u .2, label-placed (row-labelled nl) .below (u .0) (u .1))
 
 -- objects given in turn
 module _ {ws high ar facts index env : List ℕ} {n t : ℕ} (q : Ready ws high ar facts index env n) (l : t < termEnd) (e : getD env t 0 ≡ free) where
-  first-other : (0 ≡ t → ⊥)
-  first-other z = q .env-fits .first-bound (ap (λ x. getD env x 0) z ∙ e)
-
   set-ready : (v : ℕ) → v < n → Ready ws high ar facts index (set env t v) n
   set-ready v h =
       let f = q .env-fits in
-      let z : getD (set env t v) 0 0 ≡ getD env 0 0 = getD-set-other env t 0 v 0 first-other in
       record {
         valid = q .valid;
         places = q .places;
         tops = q .tops;
-        indexed = rw z (q .indexed);
+        indexed = q .indexed;
         env-fits = record {
           places = length-set env t v ∙ f .places;
           some = f .some;
           most = f .most;
-          first-bound = λ y. f .first-bound (sym z ∙ y);
           range = λ u m y. inside u m y (flag (eqb u t));
         };
       }
@@ -511,34 +555,36 @@ module _ {ws high ar facts index env₀ env : List ℕ} {n r₀ r : ℕ} (g : Go
   pub going-count : {m : ℕ} → freeCount env₀ * 2 ≡ m → freeCount env * 2 ≡ m
   going-count e = ap (λ z. freeCount z * 2) (g .still) ∙ e
 
-  module _ {a : Atom} (ea : a ≡ unpacked (getD ws (r * 3) 0)) (nl : getD ws (r * 3) 0 ≡ leafMark → ⊥) where
-    pub going-telling : Telling ar facts index env a
+  module _ (nl : getD ws (r * 3) 0 ≡ leafMark → ⊥) where
+    pub going-labelled : Labelled ar env (getD ws (r * 3) 0)
     unfolding labelAt
-    going-telling = along-telling (g .along) ea nl
+    going-labelled = row-labelled (g .along) nl
 
-    pub going-placed : Placed env a
-    unfolding labelAt
-    going-placed = along-placed (g .along) ea nl
-
-    module _ {t : ℕ} (et : t ≡ unboundIn env a) where
-      pub going-term : (t ≡ termEnd → ⊥) → t < termEnd
-      unfolding labelAt
-      going-term h = along-unbound (g .along) ea nl et h
-
-      pub going-free : (t ≡ termEnd → ⊥) → getD env t 0 ≡ free
-      unfolding labelAt
-      going-free h = along-free (g .along) ea nl et h
-
-      pub going-falls : {m : ℕ} → freeCount env₀ * 2 ≡ m → (t ≡ termEnd → ⊥) → freeCount env * 2 - 1 < m
-      going-falls e h = bind-falls (g .along .ready) (going-term h) (going-free h) (going-count e)
-
-      module _ {x : ℕ} {b : Bool} (en : t ≡ termEnd) (eb : b ≡ tells ar facts env a) (ex : x ≡ cond b (highAt ws r) (lowAt ws r)) where
-        pub going-on : Going ws high ar facts index env₀ env n r₀ x
+    module _ {s : Lookup} (q : LooksUp ar env (getD ws (r * 3) 0) s) where
+      module _ {t : ℕ} (e : s ≡ Free t) where
+        pub going-term : t < termEnd
         unfolding labelAt
-        going-on = record { still = g .still; along = along-on (g .along) ea nl et en eb ex }
+        going-term = along-term (g .along) nl q e
 
-        pub going-less : x < r
+        pub going-free : getD env t 0 ≡ free
         unfolding labelAt
-        going-less =
-            let row = branch-row ar ws (rowCount ws) (valid-rows ar ws (g .along .ready .valid)) r (g .along .within) nl in
-            rw ex (pick-below b (highAt ws r) (lowAt ws r) r (row .high-before) (row .low-before))
+        going-free = along-free (g .along) nl q e
+
+        pub going-falls : {m : ℕ} → freeCount env₀ * 2 ≡ m → freeCount env * 2 - 1 < m
+        going-falls z = bind-falls (g .along .ready) going-term going-free (going-count z)
+
+      module _ {b : ℕ} (e : s ≡ Bucket b) where
+        pub going-telling : Telling ar facts index env (getD ws (r * 3) 0) b
+        unfolding labelAt
+        going-telling = along-telling (g .along) nl q e
+
+        module _ {x : ℕ} {v : Bool} (ev : v ≡ lentHolds ar facts (given env) (getD ws (r * 3) 0)) (ex : x ≡ cond v (highAt ws r) (lowAt ws r)) where
+          pub going-on : Going ws high ar facts index env₀ env n r₀ x
+          unfolding labelAt
+          going-on = record { still = g .still; along = along-on (g .along) nl q e ev ex }
+
+          pub going-less : x < r
+          unfolding labelAt
+          going-less =
+              let row = branch-row ar ws (rowCount ws) (valid-rows ar ws (g .along .ready .valid)) r (g .along .within) nl in
+              rw ex (pick-below v (highAt ws r) (lowAt ws r) r (row .high-before) (row .low-before))

@@ -9,7 +9,7 @@ use lib.ListN.{length, getD, set, replicate, length-set, length-replicate, getD-
 use lib.Seq.{getD-set-same, getD-set-other}
 use lib.Dec.{eqb, ltb, leb}
 use Rattle.basics.specs.Tests.{Cmp, below, equal, above, cmp, Flag, isTrue, isFalse, flag, and-left, and-right}
-use Rattle.label.specs.Limits.{leafMark, firstParameter, firstVariable, constantCount}
+use Rattle.label.specs.Limits.{termEnd, leafMark, firstParameter, firstVariable, constantCount}
 use Rattle.label.specs.Labels.{predicateOf, unpacked, termsOf}
 use Rattle.diagram.specs.Sizes.{mostRows}
 use Rattle.diagram.specs.Diagram.{Diagram, leaf, branch, eval, relabel}
@@ -129,11 +129,11 @@ pub fixed-parameter : (constants : List ℕ) (t : ℕ) {x : ℕ} → firstParame
 unfolding fixedIn
 fixed-parameter constants t h e = e ∙ sym (low-ge firstParameter t (getD constants t 0) (getD constants 0 0) h)
 
-pub started-none : (constants : List ℕ) → Started constants (replicate 64 free) 0
+pub started-none : (constants : List ℕ) → Started constants (replicate termEnd free) 0
 started-none constants = record {
-  places = length-replicate 64 free;
+  places = length-replicate termEnd free;
   bound = λ t l. absurd (omega arith);
-  unbound = λ t l m. getD-replicate 64 t free 0 m;
+  unbound = λ t l m. getD-replicate termEnd t free 0 m;
 }
 
 pub started-on : {constants env : List ℕ} {t o : ℕ} → Started constants env t → t < firstVariable → o ≡ fixedIn constants t → Started constants (set env t o) (t + 1)
@@ -226,7 +226,7 @@ listing-some ar ws e = listing-is-valid ar ws e .some
 
 -- the search may begin
 pub start-ready : {ar ws high : List ℕ} {n : ℕ} {constants facts env index : List ℕ} → isListing ar ws ≡ true → isState ar n constants facts ≡ true → n ≤ free
-    → Started constants env firstVariable → Tops ws high (rowCount ws) → length high ≡ length {A = ℕ} (replicate mostRows 0) → Indexed ar facts (getD env 0 0) index (indexedCount facts)
+    → Started constants env firstVariable → Tops ws high (rowCount ws) → length high ≡ length {A = ℕ} (replicate mostRows 0) → Indexed ar facts index (indexedCount facts)
     → Ready ws high ar facts index env n
 start-ready {ar} {ws} {high} {n} {constants} {facts} {env} {index} a b m s t h i =
     let v = listing-is-valid ar ws a in
@@ -240,7 +240,6 @@ start-ready {ar} {ws} {high} {n} {constants} {facts} {env} {index} a b m s t h i
         places = s .places;
         some = f .some;
         most = m;
-        first-bound = λ z. omega (arith, s .bound 0 (omega arith), fixed-below ar n constants facts f 0);
         range = λ t l z. by-low (getD env t 0 < n) firstVariable t
             (λ k. rw (s .bound t k) (fixed-below ar n constants facts f t))
             (λ k. absurd (z (s .unbound t k l)));

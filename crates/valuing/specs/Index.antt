@@ -1,13 +1,14 @@
 -- A hash index over lent facts: what the value call's search for a fact keeps.
 use mathlib.Core.Path.{_≡_}
-use mathlib.Core.Bool.{Bool, true, false, _&&_, cond}
-use mathlib.Core.List.{List, [], _∷_}
-use Prim.Native.Nat.{ℕ, _+_, _*_, _/_, _%_, _≤_, _<_, min}
-use lib.ListN.{length, getD, take}
-use lib.Dec.{eqb, ltb}
-use Rattle.diagram.specs.Words.{equalLists}
-use Rattle.valuing.specs.declared.Objects.{Objects}
-use Rattle.state.specs.Lent.{factWords, factCount, predicateAt, objectsAt}
+use mathlib.Core.Bool.{Bool, true, false, _&&_}
+use mathlib.Core.List.{List}
+use Prim.Native.Nat.{ℕ, zero, suc, _+_, _*_, _/_, _%_, _≤_, _<_, min}
+use lib.ListN.{length, getD}
+use lib.Dec.{eqb}
+use Rattle.label.specs.Limits.{mostPlaces, termEnd}
+use Rattle.label.specs.Labels.{predicateOf, placeAt}
+use Rattle.diagram.specs.Words.{everyBelow}
+use Rattle.state.specs.Lent.{factWords, factCount, predicateAt}
 use Rattle.table.specs.Chains.{prev}
 
 -- the index has this many buckets, and holds this many rows of facts at most; the rows behind them are searched one by one
@@ -20,58 +21,74 @@ mostIndexed = 4096
 unfoldable pub indexedCount : List ℕ → ℕ
 indexedCount facts = min (factCount facts) mostIndexed
 
-abbrev pub listed : Objects → List ℕ
-listed o = o .first ∷ o .second ∷ o .third ∷ o .fourth ∷ []
+-- the places of predicate p: its arity, and no more than a row has
+unfoldable pub placeCount : List ℕ → ℕ → ℕ
+placeCount ar p = min (getD ar p 0) mostPlaces
 
--- the objects of row i
-unfoldable pub rowObjects : List ℕ → ℕ → Objects
-rowObjects facts i = record {
-  first = getD facts (i * factWords + 1) 0;
-  second = getD facts (i * factWords + 2) 0;
-  third = getD facts (i * factWords + 3) 0;
-  fourth = getD facts (i * factWords + 4) 0;
-}
+-- the object in place j of row i
+abbrev pub objectAt : List ℕ → ℕ → ℕ → ℕ
+objectAt facts i j = getD facts (i * factWords + 1 + j) 0
 
--- row i says that p holds of the first k of the objects o
-unfoldable pub says : List ℕ → ℕ → ℕ → Objects → ℕ → Bool
-unfolding predicateAt objectsAt
-says facts k p o i = eqb (predicateAt facts i) p && equalLists (take k (objectsAt facts i)) (take k (listed o))
+-- the object of place j of the label l, where env has an object for each term
+abbrev pub givenAt : List ℕ → ℕ → ℕ → ℕ
+givenAt env l j = getD env (placeAt l j) 0
 
--- o, with `fill` in the places past the arity k
-unfoldable pub used : ℕ → ℕ → Objects → Objects
-used k fill o = record {
-  first = cond (ltb 0 k) (o .first) fill;
-  second = cond (ltb 1 k) (o .second) fill;
-  third = cond (ltb 2 k) (o .third) fill;
-  fourth = cond (ltb 3 k) (o .fourth) fill;
-}
+-- a number for the fact that p holds of f 0, f 1, .. f (k - 1): begun with p, predicates some way apart, then one object after the other. Of an object what
+-- is below `hashEnd` counts: where there are more objects than that, there is one valuation
+abbrev pub hashEnd : ℕ
+hashEnd = 4294967296
 
-abbrev mix : ℕ → Objects → ℕ
-mix p o = p % 4294967296 * 30011 + o .first % 4294967296 * 40503 + o .second % 4294967296 * 60493 + o .third % 4294967296 * 52711 + o .fourth % 4294967296 * 36013
+abbrev pub hashGap : ℕ
+hashGap = 64
 
--- the bucket of a fact
-unfoldable pub bucketOf : ℕ → Objects → ℕ
-bucketOf p o = (mix p o + mix p o / 1024 + mix p o / 1048576) % buckets
+unfoldable pub hashStart : ℕ → ℕ
+hashStart p = p % hashEnd * hashGap
+
+unfoldable pub hashStep : ℕ → ℕ → ℕ
+hashStep h o = (h * 37 + o % hashEnd) % hashEnd
+
+unfoldable pub hashOf : ℕ → (ℕ → ℕ) → ℕ → ℕ
+hashOf p f zero = hashStart p
+hashOf p f (suc k) = hashStep (hashOf p f k) (f k)
+
+unfoldable pub bucketFor : ℕ → ℕ
+bucketFor h = (h + h / buckets) % buckets
 
 -- the bucket of row i
-unfoldable pub bucketAt : List ℕ → List ℕ → ℕ → ℕ → ℕ
-bucketAt ar facts fill i = bucketOf (predicateAt facts i) (used (getD ar (predicateAt facts i) 0) fill (rowObjects facts i))
+unfoldable pub bucketAt : List ℕ → List ℕ → ℕ → ℕ
+unfolding predicateAt placeCount
+bucketAt ar facts i = bucketFor (hashOf (predicateAt facts i) (objectAt facts i) (placeCount ar (predicateAt facts i)))
+
+-- the bucket of the fact that the label l with k places asks for
+unfoldable pub bucketOf : List ℕ → ℕ → ℕ → ℕ
+bucketOf env l k = bucketFor (hashOf (predicateOf l) (givenAt env l) k)
+
+-- row i says what the label l with k places asks for
+unfoldable pub says : List ℕ → List ℕ → ℕ → ℕ → ℕ → Bool
+unfolding predicateAt
+says facts env l k i = eqb (predicateAt facts i) (predicateOf l) && everyBelow k (λ j. eqb (objectAt facts i j) (givenAt env l j))
 
 -- the index of the first n rows: a bucket's head is its last row, a row's link the row before it in its bucket, both one up, and 0 for none
-pub record Indexed (ar facts : List ℕ) (fill : ℕ) (index : List ℕ) (n : ℕ) : Type 0 where
+pub record Indexed (ar facts index : List ℕ) (n : ℕ) : Type 0 where
   pub places : buckets + mostIndexed ≤ length index
   pub rows : n * factWords ≤ length facts
   pub few : n ≤ mostIndexed
-  pub head : (b : ℕ) → b < buckets → getD index b 0 ≡ prev (bucketAt ar facts fill) b n
-  pub link : (i : ℕ) → i < n → getD index (buckets + i) 0 ≡ prev (bucketAt ar facts fill) (bucketAt ar facts fill i) i
+  pub head : (b : ℕ) → b < buckets → getD index b 0 ≡ prev (bucketAt ar facts) b n
+  pub link : (i : ℕ) → i < n → getD index (buckets + i) 0 ≡ prev (bucketAt ar facts) (bucketAt ar facts i) i
 
--- a fact that is asked for by an index: p has arity k, and places past it hold what the index has there
-pub record Asked (facts index : List ℕ) (k p : ℕ) (o : Objects) : Type 0 where
+-- env has a word for each term, and the first k places of the label l are terms
+pub record Placed (env : List ℕ) (l k : ℕ) : Type 0 where
+  pub words : length env ≡ termEnd
+  pub most : k ≤ mostPlaces
+  pub below : (j : ℕ) → j < k → placeAt l j < termEnd
+
+-- a fact that is asked for by an index: the label l with all places of its predicate, and its bucket b
+pub record Asked (facts index env : List ℕ) (l k b : ℕ) : Type 0 where
   pub arities : List ℕ
-  pub fill : ℕ
-  pub index-fits : Indexed arities facts fill index (indexedCount facts)
-  pub arity : k ≡ getD arities p 0
-  pub filled : used k fill o ≡ o
+  pub index-fits : Indexed arities facts index (indexedCount facts)
+  pub arity : k ≡ placeCount arities (predicateOf l)
+  pub bucket : b ≡ bucketOf env l k
+  pub placed : Placed env l k
 
 -- whether some row from lo on and before hi has q
 pub record Sought (q : ℕ → Bool) (lo hi : ℕ) (r : Bool) : Type 0 where

@@ -3,18 +3,18 @@ use mathlib.Core.Path.{_≡_}
 use mathlib.Core.Bool.{Bool, true, cond}
 use mathlib.Core.List.{List, [], _∷_, map}
 use Prim.Native.Nat.{ℕ, zero, suc, _+_, _≤_, _<_, max}
-use lib.ListN.{length, getD, take}
+use lib.ListN.{length, getD}
 use lib.Dec.{eqb}
 use Rattle.label.specs.Limits.{termEnd, leafMark, firstParameter}
-use Rattle.label.specs.Labels.{areArities, isAtom, predicateOf, unpacked, termsOf}
-use Rattle.label.specs.declared.Atom.{Atom}
+use Rattle.label.specs.Labels.{areArities, isLabel, predicateOf, placeAt, unpacked, termsOf}
 use Rattle.diagram.specs.Diagram.{eval}
 use Rattle.diagram.specs.Words.{labelAt, highAt, lowAt, rowCount}
 use Rattle.diagram.specs.Validity.{Valid, tree}
-use Rattle.valuing.specs.declared.Objects.{Objects}
+use Rattle.valuing.specs.declared.Lookup.{Lookup}
+use Rattle.valuing.specs.declared.Lookup.the-variants.{Free, Bucket}
 use Rattle.state.specs.State.{equated, low}
 use Rattle.state.specs.Lent.{saidBy}
-use Rattle.valuing.specs.Index.{listed, Indexed, indexedCount}
+use Rattle.valuing.specs.Index.{indexedCount, givenAt, bucketOf, Indexed}
 
 -- what stands in `env`, a word for each term, where a term has no object yet: no object is that high
 abbrev pub free : ℕ
@@ -53,12 +53,15 @@ pub record Extends (n : ℕ) (env : List ℕ) (θ : ℕ → ℕ) : Type 0 where
   pub agrees : (t : ℕ) → t < termEnd → (getD env t 0 ≡ free → ⊥) → θ t ≡ getD env t 0
   pub range : (t : ℕ) → θ t < n
 
--- env has a word for each term, an object below n or `free`, and an object for constant 0
+-- the object of the term t in env
+abbrev pub given : List ℕ → ℕ → ℕ
+given env t = getD env t 0
+
+-- env has a word for each term, an object below n or `free`
 pub record Env (n : ℕ) (env : List ℕ) : Type 0 where
   pub places : length env ≡ termEnd
   pub some : 0 < n
   pub most : n ≤ free
-  pub first-bound : getD env 0 0 ≡ free → ⊥
   pub range : (t : ℕ) → t < termEnd → (getD env t 0 ≡ free → ⊥) → getD env t 0 < n
 
 -- what a term that is no variable has: a constant its object, a parameter that of constant 0
@@ -76,42 +79,22 @@ abbrev pub freeCount : List ℕ → ℕ
 freeCount [] = 0
 freeCount (o ∷ env) = cond (eqb o free) 1 0 + freeCount env
 
--- the first place of the label whose term has no object in env; the base of terms if all have
-unfoldable pub unboundIn : List ℕ → Atom → ℕ
-unboundIn env a =
-    cond (eqb (getD env (a .first) 0) free) (a .first)
-    (cond (eqb (getD env (a .second) 0) free) (a .second)
-    (cond (eqb (getD env (a .third) 0) free) (a .third)
-    (cond (eqb (getD env (a .fourth) 0) free) (a .fourth) termEnd)))
-
--- the objects of a label's places
-unfoldable pub objectsIn : List ℕ → Atom → Objects
-objectsIn env a = record {
-  first = getD env (a .first) 0;
-  second = getD env (a .second) 0;
-  third = getD env (a .third) 0;
-  fourth = getD env (a .fourth) 0;
-}
-
--- whether an atom holds of its places' objects
-unfoldable pub tells : List ℕ → List ℕ → List ℕ → Atom → Bool
-unfolding objectsIn
-tells ar facts env a = lentTruth ar facts (a .predicate) (take (getD ar (a .predicate) 0) (listed (objectsIn env a)))
-
--- env has a word for each of the atom's places
-pub record Placed (env : List ℕ) (a : Atom) : Type 0 where
-  pub places : length env ≡ termEnd
-  pub first-below : a .first < termEnd
-  pub second-below : a .second < termEnd
-  pub third-below : a .third < termEnd
-  pub fourth-below : a .fourth < termEnd
-
--- what the truth of an atom needs
-pub record Telling (ar facts index env : List ℕ) (a : Atom) : Type 0 where
+-- env has a word for each term, and l is a label under the arity list ar
+pub record Labelled (ar env : List ℕ) (l : ℕ) : Type 0 where
   pub arities : areArities ar ≡ true
-  pub atom-fits : isAtom ar a ≡ true
-  pub places : length env ≡ termEnd
-  pub indexed : Indexed ar facts (getD env 0 0) index (indexedCount facts)
+  pub label-fits : isLabel ar l ≡ true
+  pub words : length env ≡ termEnd
+
+-- the places of the label l looked up: one whose term has no object yet, or the bucket of what l asks for, where all have one
+pub record LooksUp (ar env : List ℕ) (l : ℕ) (r : Lookup) : Type 0 where
+  pub unbound : (t : ℕ) → r ≡ Free t → (j : ℕ) × (j < getD ar (predicateOf l) 0) × (t ≡ placeAt l j) × (getD env t 0 ≡ free)
+  pub bound : (b : ℕ) → r ≡ Bucket b → ((j : ℕ) → j < getD ar (predicateOf l) 0 → givenAt env l j ≡ free → ⊥) × (b ≡ bucketOf env l (getD ar (predicateOf l) 0))
+
+-- what the truth of a label needs: an index, and the bucket b of what it asks for
+pub record Telling (ar facts index env : List ℕ) (l b : ℕ) : Type 0 where
+  pub labelled : Labelled ar env l
+  pub indexed : Indexed ar facts index (indexedCount facts)
+  pub bucket : b ≡ bucketOf env l (getD ar (predicateOf l) 0)
 
 -- b is the best so far, or one more than a leaf that is reached from row r
 pub data Hit (ar facts ws env : List ℕ) (n r best b : ℕ) : Type 0 where
@@ -130,5 +113,5 @@ pub record Ready (ws high ar facts index env : List ℕ) (n : ℕ) : Type 0 wher
   pub valid : Valid ar ws
   pub places : rowCount ws ≤ length high
   pub tops : Tops ws high (rowCount ws)
-  pub indexed : Indexed ar facts (getD env 0 0) index (indexedCount facts)
+  pub indexed : Indexed ar facts index (indexedCount facts)
   pub env-fits : Env n env

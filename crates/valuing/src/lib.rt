@@ -5,17 +5,16 @@ ghost use mathlib.Core.List.{[]};
 ghost use Prim.Native.Nat.{_+_, _-_, _*_, _^_, _<_, _≤_};
 ghost use lib.ListN.{length, getD};
 ghost use lib.Dec.{eqb, ltb, leb};
-ghost use Rattle.label.specs.Limits.{termEnd, firstParameter, parameterCount, firstVariable};
+ghost use Rattle.label.specs.Limits.{mostPlaces, termEnd, firstParameter, parameterCount, firstVariable};
 ghost use Rattle.diagram.specs.Words.{highAt, lowAt, rowCount, isListing, everyBelow};
 ghost use Rattle.diagram.specs.Listing.{diagramOf};
 ghost use Rattle.listing.specs.Used.{setFrom};
 ghost use Rattle.state.specs.State.{meaning};
 ghost use Rattle.state.specs.Highest.{highest};
-ghost use Rattle.state.specs.Lent.{factWords, factCount, someBelow, allBelow, namesBelow, constantsBelow, stateOf, isState};
+ghost use Rattle.state.specs.Lent.{factWords, factCount, someBelow, namesBelow, constantsBelow, stateOf, isState};
 ghost use Rattle.state.specs.ValueCall.{mostValuations, valueAnswer};
-ghost use Rattle.valuing.specs.Index.{buckets, mostIndexed, indexedCount, listed, rowObjects, says, used, bucketOf, bucketAt, Indexed, Asked, Sought};
-ghost use Rattle.valuing.specs.Search.{free, Topping, Tops, topAt, fixedIn, Started, unboundIn, objectsIn, tells, Placed, Telling, Best, Ready};
-use label::Atom;
+ghost use Rattle.valuing.specs.Index.{buckets, mostIndexed, indexedCount, placeCount, hashEnd, hashGap, hashStart, hashStep, bucketFor, bucketAt, says, Indexed, Placed, Asked, Sought};
+ghost use Rattle.valuing.specs.Search.{free, Topping, Tops, topAt, fixedIn, Started, lentHolds, given, Labelled, LooksUp, Telling, Best, Ready};
 use label::Label;
 use label::Term;
 use refusal::Refusal;
@@ -23,12 +22,10 @@ use state::FACT_WORDS;
 use state::VALUATIONS;
 use state::Valued;
 
-// The objects of a fact, or of a label's places.
-pub struct Objects {
-    pub first: u64,
-    pub second: u64,
-    pub third: u64,
-    pub fourth: u64,
+// What a label's places say: a term that has no object yet, or the bucket of the fact that it asks for.
+pub enum Lookup {
+    Free(usize),
+    Bucket(usize),
 }
 
 // What stands for a term that has no object yet.
@@ -37,78 +34,68 @@ const FREE: u64 = 18446744073709551615;
 const BUCKETS: usize = 2048;
 // Rows of facts in the index at most.
 const INDEXED: usize = 4096;
+// Of a fact's number, and of an object, what is below this counts.
+const HASH_END: u64 = 4294967296;
+// The numbers of predicates stand so far apart.
+const HASH_GAP: u64 = 64;
 
-// The arity of predicate p.
-fn arity(arities: &[u64], p: u64) -> u64
-    ensures { λ r. ⌜ r ≡ getD (now (arities .entry)) p 0 ⌝ }
+// The places of predicate p.
+fn place_count(arities: &[u64], p: u64) -> usize
+    ensures { λ r. ⌜ (r ≡ placeCount (now (arities .entry)) p) × (r ≤ mostPlaces) ⌝ }
 {
     let i = p as usize;
-    if i < arities.len() {
-        return arities[i];
+    if i >= arities.len() {
+        return 0;
     }
-    0
+    if arities[i] < Label::PLACES {
+        return arities[i] as usize;
+    }
+    Label::PLACES as usize
 }
 
-// The objects of row i of the facts.
-fn row_objects(facts: &[u64], i: usize) -> Objects
-    requires { ⌜ i * factWords + factWords ≤ length (now facts) ⌝ }
-    ensures { λ r. ⌜ r ≡ rowObjects (now (facts .entry)) i ⌝ }
+// The number of a fact of p, before its objects.
+fn hash_start(p: u64) -> u64
+    ensures { λ r. ⌜ (r ≡ hashStart p) × (r < hashEnd * hashGap) ⌝ }
 {
-    Objects {
-        first: facts[i * FACT_WORDS + 1],
-        second: facts[i * FACT_WORDS + 2],
-        third: facts[i * FACT_WORDS + 3],
-        fourth: facts[i * FACT_WORDS + 4],
-    }
+    p % HASH_END * HASH_GAP
 }
 
-// What stands in place k of an arity: the object, or where the place is unused, fill.
-fn place(arity: u64, k: u64, o: u64, fill: u64) -> u64
-    ensures { λ r. ⌜ r ≡ cond (ltb k arity) o fill ⌝ }
+// One object more.
+fn hash_step(h: u64, o: u64) -> u64
+    requires { ⌜ h < hashEnd * hashGap ⌝ }
+    ensures { λ r. ⌜ (r ≡ hashStep h o) × (r < hashEnd * hashGap) ⌝ }
 {
-    if k < arity {
-        return o;
-    }
-    fill
+    (h * 37 + o % HASH_END) % HASH_END
 }
 
-// The objects, with fill in the places past the arity.
-fn in_use(arity: u64, fill: u64, o: Objects) -> Objects
-    ensures { λ r. ⌜ r ≡ used arity fill o ⌝ }
+// The bucket of a fact with the number h.
+fn bucket(h: u64) -> usize
+    requires { ⌜ h < hashEnd * hashGap ⌝ }
+    ensures { λ r. ⌜ (r ≡ bucketFor h) × (r < buckets) ⌝ }
 {
-    Objects {
-        first: place(arity, 0, o.first, fill),
-        second: place(arity, 1, o.second, fill),
-        third: place(arity, 2, o.third, fill),
-        fourth: place(arity, 3, o.fourth, fill),
-    }
-}
-
-// The bucket of a fact.
-fn hash(p: u64, o: Objects) -> usize
-    ensures { λ r. ⌜ (r ≡ bucketOf p o) × (r < buckets) ⌝ }
-{
-    let x = p % 4294967296 * 30011
-        + o.first % 4294967296 * 40503
-        + o.second % 4294967296 * 60493
-        + o.third % 4294967296 * 52711
-        + o.fourth % 4294967296 * 36013;
-    ((x + x / 1024 + x / 1048576) as usize) % BUCKETS
+    ((h as usize) + (h as usize) / BUCKETS) % BUCKETS
 }
 
 // The bucket of row i.
-fn row_hash(arities: &[u64], facts: &[u64], fill: u64, i: usize) -> usize
+fn row_bucket(arities: &[u64], facts: &[u64], i: usize) -> usize
     requires { ⌜ i * factWords + factWords ≤ length (now facts) ⌝ }
-    ensures { λ r. ⌜ (r ≡ bucketAt (now (arities .entry)) (now (facts .entry)) fill i) × (r < buckets) ⌝ }
+    ensures { λ r. ⌜ (r ≡ bucketAt (now (arities .entry)) (now (facts .entry)) i) × (r < buckets) ⌝ }
 {
     let p = facts[i * FACT_WORDS];
-    hash(p, in_use(arity(arities, p), fill, row_objects(facts, i)))
+    let k = place_count(arities, p);
+    let mut h = hash_start(p);
+    let mut j = 0;
+    while j < k {
+        h = hash_step(h, facts[i * FACT_WORDS + 1 + j]);
+        j += 1;
+    }
+    bucket(h)
 }
 
 // Makes the index of the facts.
-fn index_facts(arities: &[u64], facts: &[u64], fill: u64, index: &mut [u16])
-    requires { ⌜ Indexed (now arities) (now facts) fill (now index) 0 ⌝ }
-    ensures { λ _. ⌜ Indexed (now (arities .entry)) (now (facts .entry)) fill (now (index .exit)) (indexedCount (now (facts .entry))) ⌝ }
+fn index_facts(arities: &[u64], facts: &[u64], index: &mut [u16])
+    requires { ⌜ Indexed (now arities) (now facts) (now index) 0 ⌝ }
+    ensures { λ _. ⌜ Indexed (now (arities .entry)) (now (facts .entry)) (now (index .exit)) (indexedCount (now (facts .entry))) ⌝ }
 {
     let rows = facts.len() / FACT_WORDS;
     let mut i = 0;
@@ -116,55 +103,42 @@ fn index_facts(arities: &[u64], facts: &[u64], fill: u64, index: &mut [u16])
         if i == INDEXED {
             return;
         }
-        let h = row_hash(arities, facts, fill, i);
+        let h = row_bucket(arities, facts, i);
         index[BUCKETS + i] = index[h];
         index[h] = (i + 1) as u16;
         i += 1;
     }
 }
 
-// Whether row i says that p holds of the first k objects.
-fn row_says(facts: &[u64], i: usize, k: u64, p: u64, o: Objects) -> bool
+// Whether row i says what the label with k places asks for.
+fn row_says(facts: &[u64], i: usize, env: &[u64], l: Label, k: u64) -> bool
     requires { ⌜ i * factWords + factWords ≤ length (now facts) ⌝ }
-    ensures { λ r. ⌜ r ≡ says (now (facts .entry)) k p o i ⌝ }
+    requires { ⌜ Placed (now env) (l .packed) k ⌝ }
+    ensures { λ r. ⌜ r ≡ says (now (facts .entry)) (now (env .entry)) (l .packed) k i ⌝ }
 {
-    if facts[i * FACT_WORDS] != p {
+    if facts[i * FACT_WORDS] != l.predicate() {
         return false;
     }
-    if k == 0 {
-        return true;
+    let mut j = 0;
+    while j < k {
+        let t = l.place(j) as usize;
+        if facts[i * FACT_WORDS + 1 + (j as usize)] != env[t] {
+            return false;
+        }
+        j += 1;
     }
-    if facts[i * FACT_WORDS + 1] != o.first {
-        return false;
-    }
-    if k == 1 {
-        return true;
-    }
-    if facts[i * FACT_WORDS + 2] != o.second {
-        return false;
-    }
-    if k == 2 {
-        return true;
-    }
-    if facts[i * FACT_WORDS + 3] != o.third {
-        return false;
-    }
-    if k == 3 {
-        return true;
-    }
-    facts[i * FACT_WORDS + 4] == o.fourth
+    true
 }
 
 // Whether an indexed row says it.
-fn indexed(facts: &[u64], index: &[u16], k: u64, p: u64, o: Objects) -> bool
-    requires { ⌜ Asked (now facts) (now index) k p o ⌝ }
-    ensures { λ r. ⌜ Sought (says (now (facts .entry)) k p o) 0 (indexedCount (now (facts .entry))) r ⌝ }
+fn indexed(facts: &[u64], index: &[u16], env: &[u64], l: Label, k: u64, bucket: usize) -> bool
+    requires { ⌜ Asked (now facts) (now index) (now env) (l .packed) k bucket ⌝ }
+    ensures { λ r. ⌜ Sought (says (now (facts .entry)) (now (env .entry)) (l .packed) k) 0 (indexedCount (now (facts .entry))) r ⌝ }
 {
-    let h = hash(p, o);
-    let mut at = basics::wide(index[h]);
+    let mut at = basics::wide(index[bucket]);
     while at != 0 {
         let i = at - 1;
-        if row_says(facts, i, k, p, o) {
+        if row_says(facts, i, env, l, k) {
             return true;
         }
         at = basics::wide(index[BUCKETS + i]);
@@ -173,13 +147,14 @@ fn indexed(facts: &[u64], index: &[u16], k: u64, p: u64, o: Objects) -> bool
 }
 
 // Whether a row behind the indexed ones says it.
-fn scanned(facts: &[u64], k: u64, p: u64, o: Objects) -> bool
-    ensures { λ r. ⌜ Sought (says (now (facts .entry)) k p o) mostIndexed (factCount (now (facts .entry))) r ⌝ }
+fn scanned(facts: &[u64], env: &[u64], l: Label, k: u64) -> bool
+    requires { ⌜ Placed (now env) (l .packed) k ⌝ }
+    ensures { λ r. ⌜ Sought (says (now (facts .entry)) (now (env .entry)) (l .packed) k) mostIndexed (factCount (now (facts .entry))) r ⌝ }
 {
     let rows = facts.len() / FACT_WORDS;
     let mut i = INDEXED;
     while i < rows {
-        if row_says(facts, i, k, p, o) {
+        if row_says(facts, i, env, l, k) {
             return true;
         }
         i += 1;
@@ -187,70 +162,59 @@ fn scanned(facts: &[u64], k: u64, p: u64, o: Objects) -> bool
     false
 }
 
-// Whether a row of the facts says that p, of arity k, holds of the objects.
-fn found(facts: &[u64], index: &[u16], k: u64, p: u64, o: Objects) -> bool
-    requires { ⌜ Asked (now facts) (now index) k p o ⌝ }
-    ensures { λ r. ⌜ r ≡ someBelow (factCount (now (facts .entry))) (says (now (facts .entry)) k p o) ⌝ }
+// Whether a row of the facts says what the label with k places asks for.
+fn found(facts: &[u64], index: &[u16], env: &[u64], l: Label, k: u64, bucket: usize) -> bool
+    requires { ⌜ Asked (now facts) (now index) (now env) (l .packed) k bucket ⌝ }
+    ensures { λ r. ⌜ r ≡ someBelow (factCount (now (facts .entry))) (says (now (facts .entry)) (now (env .entry)) (l .packed) k) ⌝ }
 {
-    if indexed(facts, index, k, p, o) {
+    if indexed(facts, index, env, l, k, bucket) {
         return true;
     }
-    scanned(facts, k, p, o)
+    scanned(facts, env, l, k)
 }
 
-// The first place of the atom whose term has no object yet; the base of terms if all have one.
-fn unbound(env: &[u64], a: Atom) -> usize
-    requires { ⌜ Placed (now env) a ⌝ }
-    ensures { λ r. ⌜ r ≡ unboundIn (now (env .entry)) a ⌝ }
+// Looks up the objects of the label's places, one after the other.
+fn look_up(arities: &[u64], env: &[u64], l: Label) -> Lookup
+    requires { ⌜ Labelled (now arities) (now env) (l .packed) ⌝ }
+    ensures { λ r. ⌜ LooksUp (now (arities .entry)) (now (env .entry)) (l .packed) r ⌝ }
 {
-    let first = a.first as usize;
-    if env[first] == FREE {
-        return first;
+    let p = l.predicate();
+    let q = p as usize;
+    let k = arities[q];
+    let mut h = hash_start(p);
+    let mut j = 0;
+    while j < k {
+        let t = l.place(j) as usize;
+        let o = env[t];
+        if o == FREE {
+            return Lookup::Free(t);
+        }
+        h = hash_step(h, o);
+        j += 1;
     }
-    let second = a.second as usize;
-    if env[second] == FREE {
-        return second;
-    }
-    let third = a.third as usize;
-    if env[third] == FREE {
-        return third;
-    }
-    let fourth = a.fourth as usize;
-    if env[fourth] == FREE {
-        return fourth;
-    }
-    Term::END as usize
+    Lookup::Bucket(bucket(h))
 }
 
-// The objects of the atom's places.
-fn objects_of(env: &[u64], a: Atom) -> Objects
-    requires { ⌜ Placed (now env) a ⌝ }
-    ensures { λ r. ⌜ r ≡ objectsIn (now (env .entry)) a ⌝ }
+// Whether the label holds of its objects.
+fn truth(
+    arities: &[u64],
+    facts: &[u64],
+    index: &[u16],
+    env: &[u64],
+    l: Label,
+    bucket: usize,
+) -> bool
+    requires { ⌜ Telling (now arities) (now facts) (now index) (now env) (l .packed) bucket ⌝ }
+    ensures { λ r. ⌜ r ≡ lentHolds (now (arities .entry)) (now (facts .entry)) (given (now (env .entry))) (l .packed) ⌝ }
 {
-    let first = a.first as usize;
-    let second = a.second as usize;
-    let third = a.third as usize;
-    let fourth = a.fourth as usize;
-    Objects {
-        first: env[first],
-        second: env[second],
-        third: env[third],
-        fourth: env[fourth],
-    }
-}
-
-// Whether the atom holds of its objects.
-fn truth(arities: &[u64], facts: &[u64], index: &[u16], env: &[u64], a: Atom) -> bool
-    requires { ⌜ Telling (now arities) (now facts) (now index) (now env) a ⌝ }
-    ensures { λ r. ⌜ r ≡ tells (now (arities .entry)) (now (facts .entry)) (now (env .entry)) a ⌝ }
-{
-    let o = objects_of(env, a);
-    let p = a.predicate;
+    let p = l.predicate();
     if p == Label::EQUALITY {
-        return o.first == o.second;
+        let t = l.place(0) as usize;
+        let u = l.place(1) as usize;
+        return env[t] == env[u];
     }
     let q = p as usize;
-    found(facts, index, arities[q], p, o)
+    found(facts, index, env, l, arities[q], bucket)
 }
 
 // The row under a test's answer.
@@ -282,16 +246,19 @@ fn go(
 {
     let mut r = r0;
     while high[r] >= best {
-        let l = words[r * 3];
-        if l == Label::LEAF {
+        let w = words[r * 3];
+        if w == Label::LEAF {
             return words[r * 3 + 1] + 1;
         }
-        let a = Label { packed: l }.unpack();
-        let t = unbound(env, a);
-        if t != (Term::END as usize) {
-            return bind(words, high, arities, facts, index, env, n, r, t, best);
+        let l = Label { packed: w };
+        match look_up(arities, env, l) {
+            Lookup::Free(t) => {
+                return bind(words, high, arities, facts, index, env, n, r, t, best);
+            }
+            Lookup::Bucket(b) => {
+                r = follow(words, r, truth(arities, facts, index, env, l, b));
+            }
         }
-        r = follow(words, r, truth(arities, facts, index, env, a));
     }
     best
 }
@@ -406,9 +373,8 @@ pub fn highest_leaf(arities: &[u64], words: &[u64], n: u64, constants: &[u64], f
     tops(words, &mut high);
     let mut env = [FREE; Term::END as usize];
     start(constants, &mut env);
-    let fill = env[0];
     let mut index = [0u16; BUCKETS + INDEXED];
-    index_facts(arities, facts, fill, &mut index);
+    index_facts(arities, facts, &mut index);
     let root = words.len() / 3 - 1;
     let best = go(words, &high, arities, facts, &index, &mut env, n, root, 0);
     best - 1
@@ -452,35 +418,24 @@ fn few(n: u64, v: u64) -> bool
     true
 }
 
-// Whether the objects are below n.
-fn below(o: Objects, n: u64) -> bool
-    ensures { λ r. ⌜ r ≡ allBelow n (listed o) ⌝ }
-{
-    if o.first >= n {
-        return false;
-    }
-    if o.second >= n {
-        return false;
-    }
-    if o.third >= n {
-        return false;
-    }
-    o.fourth < n
-}
-
 // Whether row i of the facts names objects below n only.
 fn row_fits(arities: &[u64], n: u64, facts: &[u64], i: usize) -> bool
     requires { ⌜ i * factWords + factWords ≤ length (now facts) ⌝ }
-    requires { ⌜ 0 < n ⌝ }
     ensures { λ r. ⌜ r ≡ namesBelow (now (arities .entry)) n (now (facts .entry)) i ⌝ }
 {
-    let p = facts[i * FACT_WORDS];
-    below(in_use(arity(arities, p), 0, row_objects(facts, i)), n)
+    let k = place_count(arities, facts[i * FACT_WORDS]);
+    let mut j = 0;
+    while j < k {
+        if facts[i * FACT_WORDS + 1 + j] >= n {
+            return false;
+        }
+        j += 1;
+    }
+    true
 }
 
 // Whether the facts name objects below n only.
 fn facts_fit(arities: &[u64], n: u64, facts: &[u64]) -> bool
-    requires { ⌜ 0 < n ⌝ }
     ensures { λ r. ⌜ r ≡ everyBelow (factCount (now (facts .entry))) (namesBelow (now (arities .entry)) n (now (facts .entry))) ⌝ }
 {
     let rows = facts.len() / FACT_WORDS;

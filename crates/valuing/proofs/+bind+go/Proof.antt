@@ -19,8 +19,8 @@ use Rattle.valuing.proofs.SearchLaws.{
   going-leaf,
   going-bind,
   going-kept,
+  going-labelled,
   going-telling,
-  going-placed,
   going-term,
   going-free,
   going-falls,
@@ -36,10 +36,9 @@ use Rattle.valuing.proofs.+bind+go.Lts-bind as bind-lts
 use Rattle.valuing.proofs.go.Reads as go
 use Rattle.valuing.proofs.go.Kinds as go-kinds
 use Rattle.valuing.proofs.+bind+go.Lts-go as go-lts
-use Rattle.label.proofs.Label.unpack.Reads as unpack-reads
 use Rattle.valuing.proofs.follow.Reads as follow-reads
+use Rattle.valuing.proofs.look_up.Reads as look-up-reads
 use Rattle.valuing.proofs.truth.Reads as truth-reads
-use Rattle.valuing.proofs.unbound.Reads as unbound-reads
 use Rattle.valuing.proofs.+bind+go.{statement}
 use Rattle.valuing.proofs.+bind+go.Tie.{close}
 
@@ -199,10 +198,8 @@ go-μ-loop words high arities facts index env₀ n r0 best r₀ env r = r
 
 go-loop-holds : (t : ℕ)
     → go-lts.Need-loop-holds (
-      unpack-reads.Asked,
-      unpack-reads.Learnt,
-      unbound-reads.Asked,
-      unbound-reads.Learnt,
+      look-up-reads.Asked,
+      look-up-reads.Learnt,
       bind-below t,
       bind.Post,
       truth-reads.Asked,
@@ -215,10 +212,8 @@ go-loop-holds t c = search going-start
 
 go-add-result-2 : (t : ℕ)
     → go-lts.Need-add-result-2 (
-      unpack-reads.Asked,
-      unpack-reads.Learnt,
-      unbound-reads.Asked,
-      unbound-reads.Learnt,
+      look-up-reads.Asked,
+      look-up-reads.Learnt,
       bind-below t,
       bind.Post,
       truth-reads.Asked,
@@ -231,10 +226,8 @@ go-add-result-2 t c = omega (arith, going-value (c .before .before .before .befo
 
 go-same-length : (t : ℕ)
     → go-lts.Need-same-length (
-      unpack-reads.Asked,
-      unpack-reads.Learnt,
-      unbound-reads.Asked,
-      unbound-reads.Learnt,
+      look-up-reads.Asked,
+      look-up-reads.Learnt,
       bind-below t,
       bind.Post,
       truth-reads.Asked,
@@ -247,10 +240,8 @@ go-same-length t c = ap length (c .before .before .before .before .before .loop 
 
 go-returns : (t : ℕ)
     → go-lts.Need-returns (
-      unpack-reads.Asked,
-      unpack-reads.Learnt,
-      unbound-reads.Asked,
-      unbound-reads.Learnt,
+      look-up-reads.Asked,
+      look-up-reads.Learnt,
       bind-below t,
       bind.Post,
       truth-reads.Asked,
@@ -261,12 +252,10 @@ go-returns : (t : ℕ)
     (go-at t) go.Post go-Inv-loop go-μ-loop
 go-returns t c = search going-leaf
 
-go-unbound-requires : (t : ℕ)
-    → go-lts.Need-unbound-requires (
-      unpack-reads.Asked,
-      unpack-reads.Learnt,
-      unbound-reads.Asked,
-      unbound-reads.Learnt,
+go-look-up-requires : (t : ℕ)
+    → go-lts.Need-look-up-requires (
+      look-up-reads.Asked,
+      look-up-reads.Learnt,
       bind-below t,
       bind.Post,
       truth-reads.Asked,
@@ -275,14 +264,12 @@ go-unbound-requires : (t : ℕ)
       follow-reads.Learnt,
     )
     (go-at t) go.Post go-Inv-loop go-μ-loop
-go-unbound-requires t c κs = search going-placed
+go-look-up-requires t c κs = search going-labelled
 
 go-bind-requires : (t : ℕ)
     → go-lts.Need-bind-requires (
-      unpack-reads.Asked,
-      unpack-reads.Learnt,
-      unbound-reads.Asked,
-      unbound-reads.Learnt,
+      look-up-reads.Asked,
+      look-up-reads.Learnt,
       bind-below t,
       bind.Post,
       truth-reads.Asked,
@@ -292,21 +279,18 @@ go-bind-requires : (t : ℕ)
     )
     (go-at t) go.Post go-Inv-loop go-μ-loop
 go-bind-requires t c κs =
-    let g = c .before .before .before .before .before .before .before .before .before .loop .inv in
-    let ea = c .before .before .before .before .unpack .ensures in
-    let nl = c .before .before .before .before .before .if2 .left in
-    let et = c .before .before .unbound .ensures in
-    let h = c .before .if3 .taken in
+    let e = c .before .before .t .given .1 in
+    let q = c .before .before .before .before .look-up .ensures in
+    let nl = c .before .before .before .before .before .before .if2 .left in
+    let g = c .before .before .before .before .before .before .before .before .before .before .loop .inv in
     let past-12 = c .before .before .before .before .before .before .before .before .before .before .before .before in
-    let entry = past-12 .before .before .before .before .pre in
-    (going-falls g ea nl et (entry .0) h, (g .along .ready, (g .along .within, (going-term g ea nl et h, going-free g ea nl et h))))
+    let entry = past-12 .before .before .before .before .before .pre in
+    (going-falls g nl q e (entry .0), (g .along .ready, (g .along .within, (going-term g nl q e, going-free g nl q e))))
 
 go-same-length-2 : (t : ℕ)
     → go-lts.Need-same-length-2 (
-      unpack-reads.Asked,
-      unpack-reads.Learnt,
-      unbound-reads.Asked,
-      unbound-reads.Learnt,
+      look-up-reads.Asked,
+      look-up-reads.Learnt,
       bind-below t,
       bind.Post,
       truth-reads.Asked,
@@ -315,14 +299,12 @@ go-same-length-2 : (t : ℕ)
       follow-reads.Learnt,
     )
     (go-at t) go.Post go-Inv-loop go-μ-loop
-go-same-length-2 t c = going-kept (c .before .before .before .before .before .before .before .before .before .before .before .before .loop .inv) (c .before .before .bind .ensures)
+go-same-length-2 t c = going-kept (c .before .before .before .before .before .before .before .before .before .before .before .before .before .loop .inv) (c .before .before .bind .ensures)
 
 go-returns-2 : (t : ℕ)
     → go-lts.Need-returns-2 (
-      unpack-reads.Asked,
-      unpack-reads.Learnt,
-      unbound-reads.Asked,
-      unbound-reads.Learnt,
+      look-up-reads.Asked,
+      look-up-reads.Learnt,
       bind-below t,
       bind.Post,
       truth-reads.Asked,
@@ -335,10 +317,8 @@ go-returns-2 t c = search going-bind
 
 go-truth-requires : (t : ℕ)
     → go-lts.Need-truth-requires (
-      unpack-reads.Asked,
-      unpack-reads.Learnt,
-      unbound-reads.Asked,
-      unbound-reads.Learnt,
+      look-up-reads.Asked,
+      look-up-reads.Learnt,
       bind-below t,
       bind.Post,
       truth-reads.Asked,
@@ -347,14 +327,16 @@ go-truth-requires : (t : ℕ)
       follow-reads.Learnt,
     )
     (go-at t) go.Post go-Inv-loop go-μ-loop
-go-truth-requires t c κs = search going-telling
+go-truth-requires t c κs =
+    let e = c .before .before .b .given .1 in
+    let q = c .before .before .before .before .look-up .ensures in
+    let nl = c .before .before .before .before .before .before .if2 .left in
+    going-telling (c .before .before .before .before .before .before .before .before .before .before .loop .inv) nl q e
 
 go-loop-less : (t : ℕ)
     → go-lts.Need-loop-less (
-      unpack-reads.Asked,
-      unpack-reads.Learnt,
-      unbound-reads.Asked,
-      unbound-reads.Learnt,
+      look-up-reads.Asked,
+      look-up-reads.Learnt,
       bind-below t,
       bind.Post,
       truth-reads.Asked,
@@ -364,19 +346,16 @@ go-loop-less : (t : ℕ)
     )
     (go-at t) go.Post go-Inv-loop go-μ-loop
 go-loop-less t c =
-    let if3 = c .before .before .before .if3 in
-    let unbound = c .before .before .before .before .unbound in
-    let unpack = c .before .before .before .before .before .before .unpack in
-    let if2 = c .before .before .before .before .before .before .before .if2 in
-    let loop = c .before .before .before .before .before .before .before .before .before .before .before .loop in
-    going-less (loop .inv) (unpack .ensures) (if2 .left) (unbound .ensures) (if3 .left) (c .before .truth .ensures) (c .follow .ensures)
+    let e = c .before .before .before .before .b .given .1 in
+    let q = c .before .before .before .before .before .before .look-up .ensures in
+    let nl = c .before .before .before .before .before .before .before .before .if2 .left in
+    let g = c .before .before .before .before .before .before .before .before .before .before .before .before .loop .inv in
+    going-less g nl q e (c .before .truth .ensures) (c .follow .ensures)
 
 go-loop-again : (t : ℕ)
     → go-lts.Need-loop-again (
-      unpack-reads.Asked,
-      unpack-reads.Learnt,
-      unbound-reads.Asked,
-      unbound-reads.Learnt,
+      look-up-reads.Asked,
+      look-up-reads.Learnt,
       bind-below t,
       bind.Post,
       truth-reads.Asked,
@@ -386,19 +365,16 @@ go-loop-again : (t : ℕ)
     )
     (go-at t) go.Post go-Inv-loop go-μ-loop
 go-loop-again t c =
-    let if3 = c .before .before .before .if3 in
-    let unbound = c .before .before .before .before .unbound in
-    let unpack = c .before .before .before .before .before .before .unpack in
-    let if2 = c .before .before .before .before .before .before .before .if2 in
-    let loop = c .before .before .before .before .before .before .before .before .before .before .before .loop in
-    going-on (loop .inv) (unpack .ensures) (if2 .left) (unbound .ensures) (if3 .left) (c .before .truth .ensures) (c .follow .ensures)
+    let e = c .before .before .before .before .b .given .1 in
+    let q = c .before .before .before .before .before .before .look-up .ensures in
+    let nl = c .before .before .before .before .before .before .before .before .if2 .left in
+    let g = c .before .before .before .before .before .before .before .before .before .before .before .before .loop .inv in
+    going-on g nl q e (c .before .truth .ensures) (c .follow .ensures)
 
 go-same-length-3 : (t : ℕ)
     → go-lts.Need-same-length-3 (
-      unpack-reads.Asked,
-      unpack-reads.Learnt,
-      unbound-reads.Asked,
-      unbound-reads.Learnt,
+      look-up-reads.Asked,
+      look-up-reads.Learnt,
       bind-below t,
       bind.Post,
       truth-reads.Asked,
@@ -411,10 +387,8 @@ go-same-length-3 t c = ap length (c .before .before .loop .inv .still)
 
 go-returns-3 : (t : ℕ)
     → go-lts.Need-returns-3 (
-      unpack-reads.Asked,
-      unpack-reads.Learnt,
-      unbound-reads.Asked,
-      unbound-reads.Learnt,
+      look-up-reads.Asked,
+      look-up-reads.Learnt,
       bind-below t,
       bind.Post,
       truth-reads.Asked,
@@ -433,8 +407,8 @@ pub +bind+go-spec : {M : Type 1} → statement M
     (bind-mul-env t) (bind-slice-write-env t) (bind-same-length t) (bind-returns t) (bind-mul-env-2 t) (bind-slice-write-env-2 t) (bind-go-requires t)
     (bind-add-v t) (bind-loop-less t) (bind-loop-again t) (bind-mul-env-3 t) (bind-slice-write-env-3 t) (bind-same-length-2 t) (bind-returns-2 t))
     λ t. go-lts.spec
-    (unpack-reads.Asked, unpack-reads.Learnt, unbound-reads.Asked, unbound-reads.Learnt, bind-below t, bind.Post, truth-reads.Asked, truth-reads.Learnt, follow-reads.Asked, follow-reads.Learnt)
+    (look-up-reads.Asked, look-up-reads.Learnt, bind-below t, bind.Post, truth-reads.Asked, truth-reads.Learnt, follow-reads.Asked, follow-reads.Learnt)
     (go-at t) go.Post go-Inv-loop go-μ-loop (go-loop-holds t) (λ c. search needs) (λ c. search needs) (λ c. search needs) (λ c. search needs)
     (λ c. search needs) (λ c. search needs) (λ c. search needs) (λ c. search needs) (λ c. search needs) (go-add-result-2 t) (go-same-length t)
-    (go-returns t) (λ c κs. search needs) (go-unbound-requires t) (go-bind-requires t) (go-same-length-2 t) (go-returns-2 t) (go-truth-requires t)
+    (go-returns t) (go-look-up-requires t) (λ c. search needs) (go-bind-requires t) (go-same-length-2 t) (go-returns-2 t) (λ c. search needs) (go-truth-requires t)
     (λ c κs. search needs) (go-loop-less t) (go-loop-again t) (go-same-length-3 t) (go-returns-3 t)

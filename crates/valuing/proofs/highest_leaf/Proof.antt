@@ -1,4 +1,7 @@
+use Prim.Native.Nat.{_+_}
 use native.Mathlib.Omega.{arith}
+use Rattle.diagram.specs.Sizes.{mostRows}
+use Rattle.valuing.specs.Index.{buckets, mostIndexed}
 use Rattle.valuing.proofs.FactLaws.{index-empty}
 use Rattle.valuing.proofs.StartLaws.{topping-start, listing-some, started-none, start-ready, found-some, found-highest}
 use borrow.Author.Needs.{needs}
@@ -6,13 +9,13 @@ use Rattle.valuing.proofs.highest_leaf.Statement.{statement}
 use Rattle.valuing.proofs.highest_leaf.Tie as tie
 
 tops-requires : tie.Need-tops-requires
-tops-requires c κs = topping-start _ _ 1024 (c .before .before .before .before .before .pre .0) (omega arith)
+tops-requires c κs = topping-start _ _ mostRows (c .before .before .before .before .before .pre .0) (omega arith)
 
 start-requires : tie.Need-start-requires
 start-requires c κs = started-none _
 
 index-facts-requires : tie.Need-index-facts-requires
-index-facts-requires c κs = index-empty _ _ _ 6144 (omega arith)
+index-facts-requires c κs = index-empty _ _ (buckets + mostIndexed) (omega arith)
 
 sub-root : tie.Need-sub-root
 sub-root c = listing-some _ _ (c .before .before .before .before .before .before .before .before .before .before .before .before .before .pre .0)
@@ -51,5 +54,5 @@ returns c =
 pub highest-leaf-spec : {M : Type 1} → statement M
 highest-leaf-spec =
     tie.close
-    (tie.spec (λ c. search needs) tops-requires (λ c. search needs) start-requires (λ c. search needs) (λ c. search needs) index-facts-requires sub-root
+    (tie.spec (λ c. search needs) tops-requires (λ c. search needs) start-requires (λ c. search needs) index-facts-requires sub-root
     (λ c. search needs) (λ c. search needs) (λ c. search needs) go-requires sub-result returns)

@@ -9,10 +9,10 @@ use Rattle.valuing.proofs.index_facts.Statement.{statement}
 use Rattle.valuing.proofs.index_facts.Tie as tie
 
 abbrev Inv-loop : tie.InvT-loop
-Inv-loop arities facts fill index₀ rows i₀ index i = (length index ≡ length index₀) × (i ≤ rows) × Indexed arities facts fill index i
+Inv-loop arities facts index₀ rows i₀ index i = (length index ≡ length index₀) × (i ≤ rows) × Indexed arities facts index i
 
 abbrev μ-loop : tie.MeasureT-loop
-μ-loop arities facts fill index₀ rows i₀ index i = rows - i
+μ-loop arities facts index₀ rows i₀ index i = rows - i
 
 returns : tie.Need-returns Inv-loop μ-loop
 returns c = search index-full

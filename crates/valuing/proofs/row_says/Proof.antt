@@ -1,39 +1,46 @@
-use Rattle.valuing.proofs.FactLaws.{says-1, says-2, says-3, says-4, says-5, says-6, says-7, says-8, says-9}
+use Prim.Native.Nat.{_-_, _≤_}
+use native.Mathlib.Omega.{arith}
+use Rattle.valuing.proofs.FactLaws.{Saying, saying-not, saying-start, saying-on, saying-no, saying-all, placed-place, placed-term, placed-row}
 use borrow.Author.Needs.{needs}
 use Rattle.valuing.proofs.row_says.Statement.{statement}
 use Rattle.valuing.proofs.row_says.Tie as tie
 
-returns : tie.Need-returns
-returns c = search says-1
+abbrev Inv-loop : tie.InvT-loop
+Inv-loop facts i env l k j₀ j = (j ≤ k) × Saying facts env (l .packed) i j
 
-returns-2 : tie.Need-returns-2
-returns-2 c = search says-2
+abbrev μ-loop : tie.MeasureT-loop
+μ-loop facts i env l k j₀ j = k - j
 
-returns-3 : tie.Need-returns-3
-returns-3 c = search says-3
+returns : tie.Need-returns Inv-loop μ-loop
+returns c = search saying-not
 
-returns-4 : tie.Need-returns-4
-returns-4 c = search says-4
+loop-holds : tie.Need-loop-holds Inv-loop μ-loop
+loop-holds c = (search needs, search saying-start)
 
-returns-5 : tie.Need-returns-5
-returns-5 c = search says-5
+place-requires : tie.Need-place-requires Inv-loop μ-loop
+place-requires c κs = search placed-place
 
-returns-6 : tie.Need-returns-6
-returns-6 c = search says-6
+shared-slice-read-if2 : tie.Need-shared-slice-read-if2 Inv-loop μ-loop
+shared-slice-read-if2 c = search placed-row
 
-returns-7 : tie.Need-returns-7
-returns-7 c = search says-7
+mul-if2-3 : tie.Need-mul-if2-3 Inv-loop μ-loop
+mul-if2-3 c = omega (arith, placed-term (c .before .before .before .before .before .before .before .before .before .pre .1) (c .before .before .loop-test .taken) (c .before .place .ensures))
 
-returns-8 : tie.Need-returns-8
-returns-8 c = search says-8
+shared-slice-read-if2-2 : tie.Need-shared-slice-read-if2-2 Inv-loop μ-loop
+shared-slice-read-if2-2 c = search placed-term
 
-returns-9 : tie.Need-returns-9
-returns-9 c = search says-9
+returns-2 : tie.Need-returns-2 Inv-loop μ-loop
+returns-2 c = search saying-no
+
+loop-again : tie.Need-loop-again Inv-loop μ-loop
+loop-again c = (search needs, saying-on (c .before .before .before .before .before .loop .inv .1) (c .before .before .before .place .ensures) (c .if2 .left))
+
+returns-3 : tie.Need-returns-3 Inv-loop μ-loop
+returns-3 c = search saying-all
 
 pub row-says-spec : {M : Type 1} → statement M
 row-says-spec =
     tie.close
-    (tie.spec (λ c. search needs) (λ c. search needs) (λ c. search needs) returns returns-2 (λ c. search needs) (λ c. search needs) (λ c. search needs)
-    (λ c. search needs) returns-3 returns-4 (λ c. search needs) (λ c. search needs) (λ c. search needs) (λ c. search needs) returns-5 returns-6
-    (λ c. search needs) (λ c. search needs) (λ c. search needs) (λ c. search needs) returns-7 returns-8 (λ c. search needs) (λ c. search needs)
-    (λ c. search needs) (λ c. search needs) returns-9)
+    (tie.spec Inv-loop μ-loop (λ c. search needs) (λ c. search needs) (λ c. search needs) (λ c κs. search needs) returns loop-holds place-requires
+    (λ c. search needs) (λ c. search needs) (λ c. search needs) (λ c. search needs) shared-slice-read-if2 mul-if2-3 shared-slice-read-if2-2 returns-2
+    (λ c. search needs) (λ c. search needs) loop-again returns-3)

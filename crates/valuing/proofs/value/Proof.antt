@@ -1,5 +1,6 @@
 use Prim.Native.Nat.{ℕ}
 use lib.ListN.{length-replicate}
+use Rattle.label.specs.Limits.{termEnd}
 use borrow.Author.Needs.{needs}
 use Rattle.valuing.proofs.CheckLaws.{value-1, value-2, value-3, value-4, value-5, state-some, fits-listing, fits-valid, fits-state}
 use Rattle.valuing.proofs.value.Statement.{statement}
@@ -12,7 +13,7 @@ returns-2 : tie.Need-returns-2
 returns-2 c = search value-2
 
 used-requires : tie.Need-used-requires
-used-requires c κs = (fits-valid _ _ (c .before .before .before .before .check .ensures) (c .before .before .before .if1 .left), length-replicate {A = ℕ} 64 0)
+used-requires c κs = (fits-valid _ _ (c .before .before .before .before .check .ensures) (c .before .before .before .if1 .left), length-replicate {A = ℕ} termEnd 0)
 
 returns-3 : tie.Need-returns-3
 returns-3 c = search value-3

@@ -1,0 +1,13 @@
+use mathlib.Core.Path.{refl}
+use Rattle.valuing.specs.Index.{hashStart}
+use borrow.Author.Needs.{needs}
+use Rattle.valuing.proofs.hash_start.Statement.{statement}
+use Rattle.valuing.proofs.hash_start.Tie as tie
+
+returns : tie.Need-returns
+unfolding hashStart
+returns c = (refl, search needs)
+
+pub hash-start-spec : {M : Type 1} → statement M
+hash-start-spec =
+    tie.close (tie.spec (λ c. search needs) returns)

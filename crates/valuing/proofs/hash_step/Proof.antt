@@ -1,0 +1,13 @@
+use mathlib.Core.Path.{refl}
+use Rattle.valuing.specs.Index.{hashStep}
+use borrow.Author.Needs.{needs}
+use Rattle.valuing.proofs.hash_step.Statement.{statement}
+use Rattle.valuing.proofs.hash_step.Tie as tie
+
+returns : tie.Need-returns
+unfolding hashStep
+returns c = (refl, search needs)
+
+pub hash-step-spec : {M : Type 1} → statement M
+hash-step-spec =
+    tie.close (tie.spec (λ c. search needs) (λ c. search needs) returns)
