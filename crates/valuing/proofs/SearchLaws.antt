@@ -5,14 +5,15 @@ use mathlib.Core.List.{List, [], _∷_, map}
 use Prim.Native.Nat.{ℕ, zero, suc, _+_, _-_, _*_, _≤_, _<_}
 use native.Mathlib.Numerals.{add-one}
 use native.Mathlib.Omega.{arith}
-use borrow.Author.Tests.{eqb-true, eqb-false, eq-eqb, ne-eqb, leb-true}
+use borrow.Author.Tests.{eqb-true, eqb-false, eq-eqb, ne-eqb}
 use lib.ListN.{length, getD, set, take, length-set, length-map, List·getD-eq-default}
 use lib.Seq.{getD-set-same, getD-set-other, set-getD, set-set, length-take-le, getD-take, ext-getD}
-use lib.Dec.{eqb, leb}
+use lib.Dec.{eqb}
 use Rattle.basics.specs.Tests.{Cmp, below, equal, above, cmp, Flag, isTrue, isFalse, flag, and-left, and-right}
 use Rattle.label.specs.Limits.{termEnd, leafMark, predicateCount, mostPlaces, equality, equalityArity}
-use Rattle.label.specs.Labels.{allAtMost, areArities, predicateOf, placeAt, unpacked, placesOf, termsOf}
+use Rattle.label.specs.Labels.{predicateOf, placeAt, unpacked, placesOf, termsOf}
 use Rattle.label.specs.LabelLaws.{label-fits, place-of, place-end}
+use Rattle.label.specs.ArityLaws.{arity-most, arity-two, arity-words, terms-length}
 use Rattle.diagram.specs.Sizes.{highestValue}
 use Rattle.diagram.specs.Diagram.{leaf, eval}
 use Rattle.diagram.specs.Words.{labelAt, highAt, lowAt, rowCount, everyBelow, equalLists}
@@ -41,31 +42,13 @@ follow-false ws r b e = rw e
 
 -- ===== The places of a label =====
 
-arity-most : (ar : List ℕ) (p : ℕ) → areArities ar ≡ true → getD ar p 0 ≤ mostPlaces
-unfolding areArities
-arity-most ar p e = go ar p (and-right (eqb (getD ar equality 0) equalityArity) _ (and-right (eqb (length ar) predicateCount) _ e))
-  where
-    go : (xs : List ℕ) (i : ℕ) → allAtMost mostPlaces xs ≡ true → getD xs i 0 ≤ mostPlaces
-    go [] i e = omega arith
-    go (x ∷ xs) zero e = leb-true x mostPlaces (and-left (leb x mostPlaces) _ e)
-    go (x ∷ xs) (suc i) e = go xs i (and-right (leb x mostPlaces) _ e)
-
 module _ {ar env : List ℕ} {l : ℕ} (a : Labelled ar env l) where
-  -- an arity list has a word for each predicate, and equality's two places
-  first-arity : getD ar equality 0 ≡ equalityArity
-  unfolding areArities
-  first-arity = eqb-true _ _ (and-left (eqb (getD ar equality 0) equalityArity) _ (and-right (eqb (length ar) predicateCount) _ (a .arities)))
-
   pub labelled-predicate : predicateOf l < predicateCount
   unfolding predicateOf unpacked
   labelled-predicate = label-fits ar l (a .label-fits) .predicate-fits
 
-  arities-length : length ar ≡ predicateCount
-  unfolding areArities
-  arities-length = eqb-true _ _ (and-left (eqb (length ar) predicateCount) _ (a .arities))
-
   pub labelled-read : {p : ℕ} → p ≡ predicateOf l → p < length ar
-  labelled-read e = omega (arith, arities-length, labelled-predicate)
+  labelled-read e = omega (arith, arity-words ar (a .arities), labelled-predicate)
 
   places-most : getD ar (predicateOf l) 0 ≤ mostPlaces
   places-most = arity-most ar (predicateOf l) (a .arities)
@@ -77,19 +60,15 @@ module _ {ar env : List ℕ} {l : ℕ} (a : Labelled ar env l) where
   labelled-placed e = rw e label-placed
 
   -- its terms, one by one
-  terms-length : length (termsOf ar (unpacked l)) ≡ getD ar (predicateOf l) 0
-  unfolding termsOf predicateOf unpacked
-  terms-length = length-take-le (getD ar (predicateOf l) 0) (placesOf (unpacked l)) places-most
-
   term-at : (j : ℕ) → j < getD ar (predicateOf l) 0 → getD (termsOf ar (unpacked l)) j 0 ≡ placeAt l j
   unfolding termsOf predicateOf unpacked
   term-at j h = getD-take (getD ar (predicateOf l) 0) (placesOf (unpacked l)) j 0 h ∙ place-of l j (omega (arith, places-most))
 
   objects-length′ : (θ : ℕ → ℕ) → length (map θ (termsOf ar (unpacked l))) ≡ getD ar (predicateOf l) 0
-  objects-length′ θ = length-map (termsOf ar (unpacked l)) θ ∙ terms-length
+  objects-length′ θ = length-map (termsOf ar (unpacked l)) θ ∙ terms-length ar l (a .arities)
 
   object-of : (θ : ℕ → ℕ) (j : ℕ) → j < getD ar (predicateOf l) 0 → getD (map θ (termsOf ar (unpacked l))) j 0 ≡ θ (placeAt l j)
-  object-of θ j h = getD-map θ (termsOf ar (unpacked l)) j 0 0 (omega (arith, terms-length)) ∙ ap θ (term-at j h)
+  object-of θ j h = getD-map θ (termsOf ar (unpacked l)) j 0 0 (omega (arith, terms-length ar l (a .arities))) ∙ ap θ (term-at j h)
 
 -- ===== The places looked up one by one =====
 
@@ -205,7 +184,7 @@ module _ {ar facts index env : List ℕ} {l b p : ℕ} (t : Telling ar facts ind
 
   module _ (z : p ≡ equality) where
     equal-arity : getD ar (predicateOf l) 0 ≡ equalityArity
-    equal-arity = ap (λ (x : ℕ). getD ar x 0) (sym e ∙ z) ∙ first-arity (t .labelled)
+    equal-arity = ap (λ (x : ℕ). getD ar x 0) (sym e ∙ z) ∙ arity-two ar (t .labelled .arities)
 
     pub truth-term : {u j : ℕ} → j < equalityArity → u ≡ placeAt l j → u < length env
     truth-term h q = placed-term (label-placed (t .labelled)) (omega (arith, equal-arity)) q
