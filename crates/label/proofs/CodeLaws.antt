@@ -3,19 +3,19 @@ use mathlib.Core.Path.{_≡_, refl, sym, ap, subst, subst₂, _∙_}
 use Rattle.basics.specs.Members.{clash}
 use mathlib.Core.Bool.{Bool, true, false, not, _&&_, _||_, cond}
 use mathlib.Core.List.{List, [], _∷_}
-use Prim.Native.Nat.{ℕ, zero, suc, _+_, _*_, _≤_, _<_}
+use Prim.Native.Nat.{ℕ, zero, suc, _+_, _-_, _*_, _/_, _%_, _^_, _≤_, _<_, min}
 use native.Mathlib.Omega.{arith}
 use lib.ListN.{length, getD}
 use lib.Dec.{eqb, ltb, leb}
 use borrow.Author.Tests.{lt-ltb, le-ltb, le-leb, lt-leb, eqb-true, eq-eqb, ne-eqb}
 use Rattle.basics.specs.Tests.{and-left, Flag, isTrue, isFalse, flag, Cmp, below, equal, above, cmp}
-use Rattle.label.specs.Limits.{constantCount, firstParameter, parameterCount, firstVariable, variableCount, termBase, termEnd, predicateCount, equalityArity, mostPlaces}
+use Rattle.label.specs.Limits.{constantCount, firstParameter, parameterCount, firstVariable, variableCount, termBits, termBase, termEnd, predicateCount, equalityArity, mostPlaces}
 use Rattle.label.specs.Terms.{isConstant, isParameter, isVariable, isTerm}
 use Rattle.label.specs.Labels.{areArities, allAtMost, placesOf, placeIn, atomFrom, packed, predicateOf, placeAt, unpacked, placeFits, inOrder, isAtom, isLabel}
 use Rattle.label.specs.Labels.{isLabelUnder, equalAtom, equates, testOf}
 use Rattle.label.specs.Renamings.{mapOf, placed, mapped, moved, renamed}
-use Rattle.label.specs.Callers.{Places, Packable, TermMap, Mappable, Movable, Replaced}
-use Rattle.label.specs.LabelLaws.{places-below, below-places, place-of, predicate-of, place-fits, fits-list, label-fits, label-ends, label-places}
+use Rattle.label.specs.Callers.{endsAt, Places, Packable, TermMap, Mappable, Movable, Replaced}
+use Rattle.label.specs.LabelLaws.{used-term, unused-zero, each-end, ends-zero, zero-ends, places-below, below-places, place-of, predicate-of, place-fits, fits-list, label-fits, label-ends, label-places}
 use Rattle.label.specs.RenamingLaws.{mapped-place}
 use Rattle.label.specs.declared.Atom.{Atom}
 use Rattle.label.specs.declared.Label.{Label}
@@ -42,15 +42,7 @@ unfolding isTerm isConstant isParameter isVariable
 term-high {t} n =
     rw (le-ltb t constantCount (omega arith), le-leb firstParameter t (omega arith), le-ltb t (firstParameter + parameterCount) (omega arith), le-leb firstVariable t n)
 
--- place_fits and placed
-pub place-used : (n k t : ℕ) {b : Bool} → k < n → b ≡ isTerm t → b ≡ placeFits n k t
-unfolding placeFits
-place-used n k t {b} h e = rw (lt-ltb k n h) e
-
-pub place-unused : (n k t : ℕ) → n ≤ k → eqb t 0 ≡ placeFits n k t
-unfolding placeFits
-place-unused n k t h = rw (le-ltb k n h)
-
+-- placed
 pub placed-used : (map : List ℕ) (n k t : ℕ) → k < n → getD map t 0 ≡ placed (mapOf map) n k t
 unfolding placed
 placed-used map n k t h = rw (lt-ltb k n h)
@@ -166,14 +158,33 @@ failed {b} {x} e f = sym e ∙ go b f
     go true q = sym q
     go false q = refl
 
--- the places before place k fit an arity n
-abbrev pub FitsTo : ℕ → ℕ → ℕ → Type 0
-FitsTo l n k = (j : ℕ) → j < k → placeFits n j (placeAt l j) ≡ true
+-- fewer
+pub fewer-few : {n : ℕ} → n < mostPlaces → n ≡ min n mostPlaces
+fewer-few h = omega arith
 
-pub fits-more : (l n k : ℕ) {t : ℕ} {b : Bool} → FitsTo l n k → t ≡ placeAt l k → b ≡ placeFits n k t → not b ≡ false → FitsTo l n (k + 1)
-fits-more l n k {t} h f g m j i = go (cmp j k)
+pub fewer-all : {n : ℕ} → mostPlaces ≤ n → mostPlaces ≡ min n mostPlaces
+fewer-all h = omega arith
+
+-- ends_at: what is shifted down and up again fits a word
+shifted-fits : (l n : ℕ) → n ≤ mostPlaces → l < 2 ^ 64
+    → l / 2 ^ ((mostPlaces - n) * termBits) * 2 ^ ((mostPlaces - n) * termBits) % 2 ^ 64 ≡ l / 2 ^ ((mostPlaces - n) * termBits) * 2 ^ ((mostPlaces - n) * termBits)
+shifted-fits l n h = each-end
+    (λ m. l < 2 ^ 64 → l / 2 ^ ((mostPlaces - m) * termBits) * 2 ^ ((mostPlaces - m) * termBits) % 2 ^ 64
+    ≡ l / 2 ^ ((mostPlaces - m) * termBits) * 2 ^ ((mostPlaces - m) * termBits))
+    (λ w. omega arith) (λ w. omega arith) (λ w. omega arith) (λ w. omega arith) (λ w. omega arith) (λ w. omega arith) (λ w. omega arith) n h
+
+pub ends-is : (l n : ℕ) → l < 2 ^ 64 → n ≤ mostPlaces
+    → eqb (l / 2 ^ ((mostPlaces - n) * termBits) * 2 ^ ((mostPlaces - n) * termBits) % 2 ^ 64) l ≡ endsAt l n
+ends-is l n w h = ap (λ (x : ℕ). eqb x l) (shifted-fits l n h w)
+
+-- the places before place k are terms
+abbrev pub TermsTo : ℕ → ℕ → Type 0
+TermsTo l k = (j : ℕ) → j < k → isTerm (placeAt l j) ≡ true
+
+pub terms-more : (l k : ℕ) {t : ℕ} {b : Bool} → TermsTo l k → t ≡ placeAt l k → b ≡ isTerm t → not b ≡ false → TermsTo l (k + 1)
+terms-more l k {t} h f g m j i = go (cmp j k)
   where
-    go : Cmp j k → placeFits n j (placeAt l j) ≡ true
+    go : Cmp j k → isTerm (placeAt l j) ≡ true
     go (below q) = h j q
     go (equal q) = rw (q, ← f) (passed g m)
     go (above q) = absurd (omega arith)
@@ -183,24 +194,48 @@ module _ (ar : List ℕ) (l : ℕ) {p : ℕ} (e : p ≡ predicateOf l) where
   unfolding isLabel isAtom unpacked
   fits-not-predicate h = rw (le-ltb (predicateOf l) predicateCount (subst (λ (q : ℕ). predicateCount ≤ q) e h))
 
-  module _ {n : ℕ} (d : n ≡ getD ar p 0) where
-    -- a place that does not fit
-    pub fits-not : (k : ℕ) {t : ℕ} {b : Bool} → k < mostPlaces → t ≡ placeAt l k → b ≡ placeFits n k t → not b ≡ true → false ≡ isLabel ar l
+  module _ {used : ℕ} (d : used ≡ min (getD ar p 0) mostPlaces) where
+    -- if it is a label, its places fit
+    placed-fits : isLabel ar l ≡ true → (k : ℕ) → k < mostPlaces → placeFits (getD ar p 0) k (placeAt l k) ≡ true
+    placed-fits q k h = rw e (place-fits ar l k q h)
+
+    -- a place that holds no term
+    pub fits-not : (k : ℕ) {t : ℕ} {b : Bool} → k < used → t ≡ placeAt l k → b ≡ isTerm t → not b ≡ true → false ≡ isLabel ar l
     fits-not k {t} h f g m = go (flag (isLabel ar l))
       where
         go : Flag (isLabel ar l) → false ≡ isLabel ar l
         go (isTrue q) =
-            let z : placeFits n k t ≡ true = rw (d, e, f) (place-fits ar l k q h) in
+            let z : isTerm t ≡ true = rw f (used-term (getD ar p 0) k _ (omega arith) (placed-fits q k (omega arith))) in
             clash z (failed g m)
         go (isFalse q) = sym q
 
-    module _ (h : p < predicateCount) {k : ℕ} (all : FitsTo l n k) (m : mostPlaces ≤ k) where
+    -- an unused place that holds something
+    pub fits-not-ended : {b : Bool} → b ≡ endsAt l used → not b ≡ true → false ≡ isLabel ar l
+    fits-not-ended g m = go (flag (isLabel ar l))
+      where
+        go : Flag (isLabel ar l) → false ≡ isLabel ar l
+        go (isTrue q) =
+            let z = zero-ends l used (omega arith) (λ k h i. unused-zero (getD ar p 0) k _ (omega arith) (placed-fits q k h)) in
+            clash z (failed g m)
+        go (isFalse q) = sym q
+
+    module _ (h : p < predicateCount) {k : ℕ} (all : TermsTo l k) (m : used ≤ k) {b : Bool} (g : b ≡ endsAt l used) (o : not b ≡ false) where
+      unused : (j : ℕ) → j < mostPlaces → getD ar p 0 ≤ j → placeFits (getD ar p 0) j (placeAt l j) ≡ true
+      unfolding placeFits
+      unused j i q = rw (le-ltb j (getD ar p 0) q) (eq-eqb (placeAt l j) 0 (ends-zero l used (omega arith) (passed g o) j i (omega arith)))
+
+      each-place-fits : (j : ℕ) → j < mostPlaces → Cmp j (getD ar p 0) → placeFits (getD ar p 0) j (placeAt l j) ≡ true
+      unfolding placeFits
+      each-place-fits j i (below q) = rw (lt-ltb j (getD ar p 0) q) (all j (omega arith))
+      each-place-fits j i (equal q) = unused j i (omega arith)
+      each-place-fits j i (above q) = unused j i (omega arith)
+
       each-fits : (j : ℕ) → j < mostPlaces → placeFits (getD ar (predicateOf l) 0) (0 + j) (placeIn (unpacked l) j) ≡ true
       each-fits j i =
-          let z : n ≡ getD ar (predicateOf l) 0 = d ∙ ap (λ (q : ℕ). getD ar q 0) e in
-          let o : j ≡ 0 + j = omega arith in
-          subst (λ (x : ℕ). placeFits (getD ar (predicateOf l) 0) x (placeIn (unpacked l) j) ≡ true) o
-          (subst₂ (λ (x y : ℕ). placeFits x j y ≡ true) z (sym (place-of l j i)) (all j (omega arith)))
+          let z : getD ar p 0 ≡ getD ar (predicateOf l) 0 = ap (λ (q : ℕ). getD ar q 0) e in
+          let c : j ≡ 0 + j = omega arith in
+          subst (λ (x : ℕ). placeFits (getD ar (predicateOf l) 0) x (placeIn (unpacked l) j) ≡ true) c
+          (subst₂ (λ (x y : ℕ). placeFits x j y ≡ true) z (sym (place-of l j i)) (each-place-fits j i (cmp j (getD ar p 0))))
 
       fits-last : inOrder (unpacked l) ≡ isLabel ar l
       unfolding isLabel isAtom unpacked
@@ -214,7 +249,7 @@ module _ (ar : List ℕ) (l : ℕ) {p : ℕ} (e : p ≡ predicateOf l) where
 
       pub fits-equality : p ≡ 0 → {t u : ℕ} → t ≡ placeAt l 0 → u ≡ placeAt l 1 → ltb t u ≡ isLabel ar l
       unfolding inOrder unpacked
-      fits-equality q {t} {u} f g = let z : ltb t u ≡ inOrder (unpacked l) = rw (eq-eqb (predicateOf l) 0 (sym e ∙ q), f, g) in z ∙ fits-last
+      fits-equality q {t} {u} f i = let z : ltb t u ≡ inOrder (unpacked l) = rw (eq-eqb (predicateOf l) 0 (sym e ∙ q), f, i) in z ∙ fits-last
 
 -- is_under
 pub under-not : (ar : List ℕ) (l : ℕ) {b : Bool} → b ≡ areArities ar → not b ≡ true → false ≡ isLabelUnder ar l

@@ -1,13 +1,18 @@
 -- What callers of the inner functions of this crate must know.
 use mathlib.Core.List.{List}
 use mathlib.Core.Path.{_≡_}
-use mathlib.Core.Bool.{true}
-use Prim.Native.Nat.{ℕ, _≤_, _<_}
+use mathlib.Core.Bool.{Bool, true}
+use Prim.Native.Nat.{ℕ, _-_, _*_, _/_, _^_, _≤_, _<_}
 use lib.ListN.{length, getD}
-use Rattle.label.specs.Limits.{predicateCount, termBase, termEnd}
+use lib.Dec.{eqb}
+use Rattle.label.specs.Limits.{predicateCount, mostPlaces, termBits, termBase, termEnd}
 use Rattle.label.specs.Labels.{isLabel, predicateOf, unpacked}
 use Rattle.label.specs.Renamings.{mapOf, mapped}
 use Rattle.label.specs.declared.Atom.{Atom}
+
+-- the places from place n on are all 0: as one test of the packed number
+abbrev pub endsAt : ℕ → ℕ → Bool
+endsAt l n = eqb (l / 2 ^ ((mostPlaces - n) * termBits) * 2 ^ ((mostPlaces - n) * termBits)) l
 
 -- every place is below n
 pub record Places (n : ℕ) (a : Atom) : Type 0 where

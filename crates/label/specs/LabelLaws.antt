@@ -1,19 +1,23 @@
 -- Laws of atoms and labels: places by index, packing and unpacking are inverse.
-use mathlib.Core.Path.{_≡_, refl, ap, subst, _∙_}
+use mathlib.Core.Path.{_≡_, refl, sym, ap, subst, _∙_}
 use mathlib.Core.Bool.{Bool, true, _&&_, _||_}
 use mathlib.Core.List.{List, [], _∷_}
-use Prim.Native.Nat.{ℕ, zero, suc, _+_, _*_, _/_, _%_, _≤_, _<_}
+use Prim.Native.Nat.{ℕ, zero, suc, _+_, _-_, _*_, _/_, _%_, _^_, _≤_, _<_}
 use native.Mathlib.Omega.{arith}
 use lib.ListN.{length, getD}
 use lib.Dec.{eqb, ltb, leb}
-use borrow.Author.Tests.{ltb-true, eqb-true, lt-ltb, le-ltb}
-use Rattle.basics.specs.Tests.{and-left, and-right, Flag, isTrue, isFalse, flag, Either, one, other, either, below, above}
+use borrow.Author.Tests.{ltb-true, eqb-true, lt-ltb, le-ltb, eq-eqb}
+use Rattle.basics.specs.Tests.{and-left, and-right, Flag, isTrue, isFalse, flag, Either, one, other, either, Cmp, cmp, below, equal, above}
 use Rattle.label.specs.Limits.{constantCount, firstParameter, parameterCount, firstVariable, variableCount, termBase, termEnd, mostPlaces, predicateCount}
-use Rattle.label.specs.Limits.{predicateWeight, weightAt, leafMark}
+use Rattle.label.specs.Limits.{predicateWeight, weightAt, termBits, leafMark}
 use Rattle.label.specs.Terms.{isConstant, isParameter, isVariable, isTerm}
 use Rattle.label.specs.Labels.{packed, predicateOf, placeAt, unpacked, placeFits, placesFit, inOrder, isAtom, placesOf, placeIn, atomFrom, weighed, isLabel}
-use Rattle.label.specs.Callers.{Places}
+use Rattle.label.specs.Callers.{endsAt, Places}
 use Rattle.label.specs.declared.Atom.{Atom}
+
+-- the limits agree: terms end with the variables, a place has its bits, the predicate stands before all places, and a word holds no more than the leaf's mark
+pub limits-agree : (termEnd ≡ firstVariable + variableCount) × (termBase ≡ 2 ^ termBits) × (predicateWeight ≡ 2 ^ (mostPlaces * termBits)) × (suc leafMark ≡ 2 ^ 64)
+limits-agree = (refl, refl, refl, refl)
 
 -- numbers of terms end below the base of the packing
 pub term-below : (t : ℕ) → isTerm t ≡ true → t < termEnd
@@ -161,6 +165,69 @@ digits l p q₀ q₁ q₂ q₃ q₄ t₀ t₁ t₂ t₃ t₄ t₅ e₅ e₄ e₃
 pub packed-unpacked : (l : ℕ) → packed (unpacked l) ≡ l
 unfolding packed unpacked predicateOf placeAt
 packed-unpacked l = digits l _ _ _ _ _ _ _ _ _ _ _ _ (last-digit l) (digit-4 l) (digit-3 l) (digit-2 l) (digit-1 l) (digit-0 l)
+
+-- a number whose places from place n on are all 0, both ways
+pub each-end : (P : ℕ → Type 0) → P 0 → P 1 → P 2 → P 3 → P 4 → P 5 → P 6 → (n : ℕ) → n ≤ mostPlaces → P n
+each-end P p₀ p₁ p₂ p₃ p₄ p₅ p₆ n h = go (cmp n mostPlaces)
+  where
+    go : Cmp n mostPlaces → P n
+    go (below q) = each-place P p₀ p₁ p₂ p₃ p₄ p₅ n q
+    go (equal q) = subst P (sym q) p₆
+    go (above q) = absurd (omega arith)
+
+module _ (l : ℕ) where
+  abbrev Zero : ℕ → Type 0
+  Zero n = (k : ℕ) → k < mostPlaces → n ≤ k → placeAt l k ≡ 0
+
+  abbrev Whole : ℕ → Type 0
+  Whole n = l / 2 ^ ((mostPlaces - n) * termBits) * 2 ^ ((mostPlaces - n) * termBits) ≡ l
+
+  whole-place : (n : ℕ) → n ≤ mostPlaces → Whole n → Zero n
+  unfolding placeAt
+  whole-place = each-end (λ n. Whole n → Zero n)
+      (λ e. each-place (λ k. 0 ≤ k → placeAt l k ≡ 0) (λ h. omega arith) (λ h. omega arith) (λ h. omega arith) (λ h. omega arith) (λ h. omega arith) (λ h. omega arith))
+      (λ e. each-place (λ k. 1 ≤ k → placeAt l k ≡ 0) (λ h. absurd (omega arith)) (λ h. omega arith) (λ h. omega arith) (λ h. omega arith) (λ h. omega arith) (λ h. omega arith))
+      (λ e. each-place (λ k. 2 ≤ k → placeAt l k ≡ 0) (λ h. absurd (omega arith)) (λ h. absurd (omega arith)) (λ h. omega arith) (λ h. omega arith) (λ h. omega arith) (λ h. omega arith))
+      (λ e. each-place (λ k. 3 ≤ k → placeAt l k ≡ 0) (λ h. absurd (omega arith)) (λ h. absurd (omega arith)) (λ h. absurd (omega arith)) (λ h. omega arith) (λ h. omega arith) (λ h. omega arith))
+      (λ e. each-place (λ k. 4 ≤ k → placeAt l k ≡ 0) (λ h. absurd (omega arith)) (λ h. absurd (omega arith)) (λ h. absurd (omega arith)) (λ h. absurd (omega arith)) (λ h. omega arith) (λ h. omega arith))
+      (λ e. each-place (λ k. 5 ≤ k → placeAt l k ≡ 0) (λ h. absurd (omega arith)) (λ h. absurd (omega arith)) (λ h. absurd (omega arith)) (λ h. absurd (omega arith)) (λ h. absurd (omega arith)) (λ h. omega arith))
+      (λ e k h i. absurd (omega arith))
+
+  place-whole : (n : ℕ) → n ≤ mostPlaces → Zero n → Whole n
+  unfolding placeAt
+  place-whole = each-end (λ n. Zero n → Whole n)
+      (λ z. up-0 (z 0 (omega arith) (omega arith)) (z 1 (omega arith) (omega arith)) (z 2 (omega arith) (omega arith)) (z 3 (omega arith) (omega arith)) (z 4 (omega arith) (omega arith)) (z 5 (omega arith) (omega arith)))
+      (λ z. up-1 (z 1 (omega arith) (omega arith)) (z 2 (omega arith) (omega arith)) (z 3 (omega arith) (omega arith)) (z 4 (omega arith) (omega arith)) (z 5 (omega arith) (omega arith)))
+      (λ z. up-2 (z 2 (omega arith) (omega arith)) (z 3 (omega arith) (omega arith)) (z 4 (omega arith) (omega arith)) (z 5 (omega arith) (omega arith)))
+      (λ z. up-3 (z 3 (omega arith) (omega arith)) (z 4 (omega arith) (omega arith)) (z 5 (omega arith) (omega arith)))
+      (λ z. up-4 (z 4 (omega arith) (omega arith)) (z 5 (omega arith) (omega arith)))
+      (λ z. up-5 (z 5 (omega arith) (omega arith)))
+      (λ z. omega arith)
+    where
+      up-5 : l / weightAt 5 % termBase ≡ 0 → Whole 5
+      up-5 e = let d = last-digit l in omega arith
+
+      up-4 : l / weightAt 4 % termBase ≡ 0 → l / weightAt 5 % termBase ≡ 0 → Whole 4
+      up-4 e₄ e₅ = let f = up-5 e₅ in let d = digit-4 l in omega arith
+
+      up-3 : l / weightAt 3 % termBase ≡ 0 → l / weightAt 4 % termBase ≡ 0 → l / weightAt 5 % termBase ≡ 0 → Whole 3
+      up-3 e₃ e₄ e₅ = let f = up-4 e₄ e₅ in let d = digit-3 l in omega arith
+
+      up-2 : l / weightAt 2 % termBase ≡ 0 → l / weightAt 3 % termBase ≡ 0 → l / weightAt 4 % termBase ≡ 0 → l / weightAt 5 % termBase ≡ 0 → Whole 2
+      up-2 e₂ e₃ e₄ e₅ = let f = up-3 e₃ e₄ e₅ in let d = digit-2 l in omega arith
+
+      up-1 : l / weightAt 1 % termBase ≡ 0 → l / weightAt 2 % termBase ≡ 0 → l / weightAt 3 % termBase ≡ 0 → l / weightAt 4 % termBase ≡ 0 → l / weightAt 5 % termBase ≡ 0 → Whole 1
+      up-1 e₁ e₂ e₃ e₄ e₅ = let f = up-2 e₂ e₃ e₄ e₅ in let d = digit-1 l in omega arith
+
+      up-0 : l / weightAt 0 % termBase ≡ 0 → l / weightAt 1 % termBase ≡ 0 → l / weightAt 2 % termBase ≡ 0 → l / weightAt 3 % termBase ≡ 0 → l / weightAt 4 % termBase ≡ 0
+          → l / weightAt 5 % termBase ≡ 0 → Whole 0
+      up-0 e₀ e₁ e₂ e₃ e₄ e₅ = let f = up-1 e₁ e₂ e₃ e₄ e₅ in let d = digit-0 l in omega arith
+
+  pub ends-zero : (n : ℕ) → n ≤ mostPlaces → endsAt l n ≡ true → Zero n
+  ends-zero n h e = whole-place n h (eqb-true _ _ e)
+
+  pub zero-ends : (n : ℕ) → n ≤ mostPlaces → Zero n → endsAt l n ≡ true
+  zero-ends n h z = eq-eqb _ _ (place-whole n h z)
 
 module _ (a : Atom) (p : Places termBase a) where
   predicate-back : predicateOf (packed a) ≡ a .predicate

@@ -21,7 +21,7 @@
 --   placesOf, placeIn, atomFrom == the places of an atom; place k of it; the atom of a predicate and its places
 --   placeFits, placesFit == place k of a predicate of arity n holds a term, or 0 where it is unused
 --   inOrder == an equality has its smaller term first, so that t = t is no label
---   isAtom, isLabel == an atom, a label under an arity list
+--   isAtom, isLabel, isLabelUnder == an atom, a label under an arity list; the list is one, and it a label under it
 --   termsOf == the terms of an atom: its used places
 --   Test == what an atom asks: a label, or t = t, which is plain truth (an enum of the code)
 --   testOf, labelOf, equates, equalAtom == what an atom asks: its label; of an equality plain truth, or the label with the smaller term first
@@ -37,11 +37,14 @@
 --   placed, mapped == a place, an atom with all its terms replaced together; unused places stay 0
 --   moved == what a label asks once its terms are replaced
 --   renamed == the label renamed, by a map that keeps the order of its terms
+--   mapOf, Increasing == a map of terms as a list of words; a map that turns terms into terms and keeps their order
+--   EachTerm, EachIn == what is so of every term of an atom, of a label
 --   rank == how many numbers of a list are below t
 --   numbering == the variables vs renamed to m, m + 1, .. in their order: closing up, moving apart
 --   freeing == parameter i turns into variable i, the other variables move up by the parameter count
 --
 -- Theorems
+--   limits-agree: the limits agree with each other
 --   packed-unpacked: packing the atom of a label gives the label back
 --   unpacked-packed: unpacking a packed atom gives the atom back
 --   label-packed: the labels are the packed atoms

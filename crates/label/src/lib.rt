@@ -1,13 +1,13 @@
 // Terms, atoms and labels: kinds, packing, order, and renaming.
 ghost use mathlib.Core.Path.{_≡_};
-ghost use Prim.Native.Nat.{_+_, _*_, _<_, _≤_};
+ghost use Prim.Native.Nat.{_+_, _*_, _<_, _≤_, min};
 ghost use lib.ListN.{length};
 ghost use Rattle.label.specs.Limits.{constantCount, parameterCount, variableCount, termBase, mostPlaces, predicateCount};
 ghost use Rattle.label.specs.Terms.{isTerm, kindOf, constantTerm, parameterTerm, variableTerm};
-ghost use Rattle.label.specs.Labels.{areArities, packed, predicateOf, placeAt, unpacked, placeFits, isLabel, isLabelUnder, equalAtom, equates, testOf};
+ghost use Rattle.label.specs.Labels.{areArities, packed, predicateOf, placeAt, unpacked, isLabel, isLabelUnder, equalAtom, equates, testOf};
 ghost use Rattle.label.specs.Order.{Compared};
 ghost use Rattle.label.specs.Renamings.{mapOf, placed, mapped, moved, renamed};
-ghost use Rattle.label.specs.Callers.{Packable, Mappable, Movable, Replaced};
+ghost use Rattle.label.specs.Callers.{endsAt, Packable, Mappable, Movable, Replaced};
 
 // What a term is, by its number.
 pub enum Kind {
@@ -199,6 +199,15 @@ impl Label {
         }
     }
 
+    // Whether the places from place n on are all 0.
+    fn ends_at(self, n: u64) -> bool
+        requires { ⌜ n ≤ mostPlaces ⌝ }
+        ensures { λ r. ⌜ r ≡ endsAt (self .packed) n ⌝ }
+    {
+        let bits = (Label::PLACES - n) * Term::BITS;
+        self.packed >> bits << bits == self.packed
+    }
+
     // Whether the number is a label under the arity list, which is known to be one.
     pub fn fits(self, arities: &[u64]) -> bool
         requires { ⌜ predicateCount ≤ length (now arities) ⌝ }
@@ -208,13 +217,16 @@ impl Label {
         if p >= Label::PREDICATES {
             return false;
         }
-        let n = arities[p];
+        let used = fewer(arities[p]);
         let mut k = 0;
-        while k < Label::PLACES {
-            if !place_fits(n, k, self.place(k)) {
+        while k < used {
+            if !is_term(self.place(k)) {
                 return false;
             }
             k += 1;
+        }
+        if !self.ends_at(used) {
+            return false;
         }
         if p != 0 {
             return true;
@@ -299,14 +311,14 @@ pub fn equate(t: u64, u: u64) -> Test
     Test::Is(equal(u, t).pack())
 }
 
-// Whether place k of a predicate of arity n may hold t.
-fn place_fits(n: u64, k: u64, t: u64) -> bool
-    ensures { λ r. ⌜ r ≡ placeFits n k t ⌝ }
+// The used places of an arity: no more than a label has.
+fn fewer(n: u64) -> u64
+    ensures { λ r. ⌜ r ≡ min n mostPlaces ⌝ }
 {
-    if k < n {
-        return is_term(t);
+    if n < Label::PLACES {
+        return n;
     }
-    t == 0
+    Label::PLACES
 }
 
 // Whether t is the number of a term.

@@ -2,15 +2,15 @@ use native.Mathlib.Omega.{arith}
 use Prim.Native.Nat.{_-_, _≤_}
 use borrow.Author.Needs.{needs}
 use Rattle.label.specs.Limits.{mostPlaces}
-use Rattle.label.proofs.CodeLaws.{FitsTo, fits-not-predicate, fits-not, fits-more, fits-other, fits-equality}
+use Rattle.label.proofs.CodeLaws.{TermsTo, terms-more, fits-not-predicate, fits-not, fits-not-ended, fits-other, fits-equality}
 use Rattle.label.proofs.Label.fits.Statement.{statement}
 use Rattle.label.proofs.Label.fits.Tie as tie
 
 abbrev Inv-loop : tie.InvT-loop
-Inv-loop self arities p n k₀ k = (k ≤ mostPlaces) × FitsTo (self .packed) n k
+Inv-loop self arities p used k₀ k = (k ≤ used) × TermsTo (self .packed) k
 
 abbrev μ-loop : tie.MeasureT-loop
-μ-loop self arities p n k₀ k = mostPlaces - k
+μ-loop self arities p used k₀ k = used - k
 
 returns : tie.Need-returns Inv-loop μ-loop
 returns c = search fits-not-predicate
@@ -22,13 +22,16 @@ returns-2 : tie.Need-returns-2 Inv-loop μ-loop
 returns-2 c = search fits-not
 
 loop-again : tie.Need-loop-again Inv-loop μ-loop
-loop-again c = (search needs, search fits-more)
+loop-again c = (search needs, search terms-more)
 
 returns-3 : tie.Need-returns-3 Inv-loop μ-loop
-returns-3 c = search fits-other
+returns-3 c = search fits-not-ended
 
 returns-4 : tie.Need-returns-4 Inv-loop μ-loop
-returns-4 c = search fits-equality
+returns-4 c = search fits-other
+
+returns-5 : tie.Need-returns-5 Inv-loop μ-loop
+returns-5 c = search fits-equality
 
 pub fits-spec : {M : Type 1} → statement M
 fits-spec =
@@ -40,6 +43,7 @@ fits-spec =
     returns
     (λ c. search needs)
     (λ c. search needs)
+    (λ c κs. search needs)
     loop-holds
     (λ c κs. search needs)
     (λ c κs. search needs)
@@ -47,7 +51,9 @@ fits-spec =
     (λ c. search needs)
     (λ c. search needs)
     loop-again
+    (λ c κs. search needs)
     returns-3
+    returns-4
     (λ c κs. search needs)
     (λ c κs. search needs)
-    returns-4)
+    returns-5)
