@@ -40,6 +40,7 @@
 --   is-listing-diagram: a listing is the listing of its diagram, which is good (is-listing-good)
 --   good-is-listing: the listing of a good diagram is a listing
 --   diagram-listing: the diagram of the listing of a good diagram is the diagram
+--   old-none: words with a row of the packing before document 02's L8 are no listing (OldListings)
 --   valid-is-listing: words that are valid row by row (Validity, for proofs) are a listing; listing-is-valid is the converse
 --
 -- RowLists, Shown and WrittenRows are for proofs: rows that grow at the end, and words that hold them.
@@ -64,3 +65,4 @@ pub mod DiagramOfListing
 pub mod ListingValid
 pub mod ListingOfDiagram
 pub mod Listings
+pub mod OldListings

@@ -34,6 +34,7 @@
 --   cut-is: a cut leaves a diagram of the same values
 --   value-is: so the number that valuing answers after a run is Mk of the lent state
 --   table: the ten marked cases, by computation
+--   run-rows: the rows that document 01's run shows after its backup, with the numbers of document 02, L8
 --   run-labels: the labels of document 01's run have the numbers of document 02, L8
 --   run-model-good: the model of document 01's run is one that reading can accept
 

@@ -5,12 +5,13 @@ use Prim.Native.Nat.{ℕ, _+_, _-_, _^_}
 use lib.ListN.{replicate}
 use Rattle.refusal.specs.declared.Refusal.the-variants.{Value, Scale, Nothing}
 use Rattle.refusal.specs.Outcome.{ok, refused, andThen}
-use Rattle.label.specs.Limits.{predicateCount, equalityArity, firstVariable}
+use Rattle.label.specs.Limits.{predicateCount, equalityArity, firstVariable, leafMark}
 use Rattle.label.specs.Terms.{isVariable}
 use Rattle.label.specs.Labels.{atomFrom, termsOf, unpacked, predicateOf, packed, testOf, equates}
 use Rattle.label.specs.Renamings.{moved, renamed, mapped, placed, numbering, freeing}
 use Rattle.diagram.specs.Sizes.{highestValue}
 use Rattle.diagram.specs.Diagram.{leaf}
+use Rattle.diagram.specs.Listing.{listing}
 use Rattle.diagram.specs.Variables.{variables, closed, after}
 use Rattle.apply.specs.Apply.{apply}
 use Rattle.apply.specs.Pairs.{ends, pairs, pairCount, overflows}
@@ -67,3 +68,15 @@ pub table : (shown runModel [] nothingTrue ≡ (0, 0, 1))
     × (andThen (truthAt (equalityArity ∷ 2 ∷ replicate (predicateCount - 2) 0) (forFirst (labelTest ab)) ba []) (λ r. ok (r .0)) ≡ ok (labelTest ba))
 unfolding run highest meaning scale cutAnswer diagramAnswer combination rowsFormed formed ends pairs pairCount overflows apply backup truthAt variables closed after moved testOf equates renamed numbering freeing mapped placed packed unpacked predicateOf termsOf isVariable
 table = (refl, refl, refl, refl, refl, refl, refl, refl, refl, refl)
+
+-- the rows that the run shows after its backup, its labels with the numbers of document 02, L8: stock(hub) is 2^48, hub = ?v0 is 64 · 2^32
+pub run-rows : listing (run runModel (aBackup ∷ []) .diagram)
+    ≡ leafMark ∷ 120 ∷ 0
+    ∷ leafMark ∷ 30 ∷ 0
+    ∷ 281474976710656 ∷ 0 ∷ 1
+    ∷ leafMark ∷ 0 ∷ 0
+    ∷ 281474976710656 ∷ 0 ∷ 3
+    ∷ 274877906944 ∷ 2 ∷ 4
+    ∷ []
+unfolding listing run scale diagramAnswer combination rowsFormed formed ends pairs pairCount overflows apply backup truthAt variables closed after moved testOf equates renamed numbering freeing mapped placed packed unpacked predicateOf termsOf isVariable
+run-rows = refl
