@@ -1,2 +1,3 @@
 -- A state in lent words.
 pub mod Words
+pub mod WordLaws

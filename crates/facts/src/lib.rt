@@ -1,14 +1,16 @@
 // Lines of the state: its objects, the constants' objects and the facts, in lent words.
 use declare::Counts;
+use label::Label;
+use label::Term;
 use refusal::Refusal;
 use words::Key;
 ghost use mathlib.Core.Path.{_≡_};
 ghost use Prim.Native.Nat.{_+_, _*_, _<_, _≤_};
 ghost use lib.ListN.{length, drop};
 ghost use Rattle.state.specs.Lent.{factWords};
-ghost use Rattle.session.specs.Facts.{mostFacts, objectsLine, isLine, isFact, factLine};
+ghost use Rattle.session.specs.Facts.{mostFacts, objectsLine, isLine, rowIs, isFact, factLine};
 ghost use Rattle.declare.specs.Tables.{namesOf, GoodNames, GoodVocabulary};
-ghost use Rattle.facts.specs.Words.{factsBase, stateWords, mostBytes, liveOf, GoodLive, Living, Cleared, rowOf, rowIs, Putting, TupleOf, Telling, slotOf, tupleMore};
+ghost use Rattle.facts.specs.Words.{factsBase, stateWords, mostBytes, liveOf, GoodLive, Living, Cleared, Putting, EmptyRow, kept, tupleMore, TupleOf, Telling};
 ghost use mathlib.Core.Bool.{_&&_};
 ghost use lib.Dec.{ltb};
 ghost use Rattle.events.specs.Front.{eventsOf};
@@ -32,14 +34,14 @@ pub const OBJECTS: u64 = 64;
 pub const FACTS: usize = 1024;
 
 // Where the words that mark placed constants begin, and the facts; how many words there are in all.
-pub const PLACED: usize = 16;
+pub const PLACED: usize = Term::CONSTANTS as usize;
 
-pub const FACTS_BASE: usize = 32;
+pub const FACTS_BASE: usize = PLACED + PLACED;
 
-pub const WORDS: usize = 5152;
+pub const WORDS: usize = FACTS_BASE + FACTS * FACT_WORDS;
 
 // Words of a fact.
-pub const FACT_WORDS: usize = 5;
+pub const FACT_WORDS: usize = state::FACT_WORDS;
 
 // Places no constant.
 pub fn clear(state: &mut [u64])
@@ -92,53 +94,37 @@ pub fn place(table: &[u64], n: Counts, state: &mut [u64], live: Live, key: Key, 
     Told::Done(live)
 }
 
-// A fact: a predicate and its objects, 0 in unused places.
-pub struct Fact {
-    pub predicate: u64,
-    pub first: u64,
-    pub second: u64,
-    pub third: u64,
-    pub fourth: u64,
-}
-
-// The objects of a (true p o ..): how many, whether each is one of the state, and the first four, 0 where there are fewer.
+// The objects of a (true p o ..): how many, and whether each is one of the state.
 pub struct Tuple {
     pub count: u64,
     pub within: bool,
-    pub first: u64,
-    pub second: u64,
-    pub third: u64,
-    pub fourth: u64,
 }
 
-// Whether row i of the facts is the fact.
-fn row_is(facts: &[u64], i: usize, f: Fact) -> bool
+// Whether row i of the facts is the row.
+fn row_is(facts: &[u64], i: usize, row: &[u64]) -> bool
     requires { ⌜ i * factWords + factWords ≤ length (now facts) ⌝ }
-    ensures { λ r. ⌜ r ≡ rowIs (now (facts .entry)) (rowOf f) i ⌝ }
+    requires { ⌜ length (now row) ≡ factWords ⌝ }
+    ensures { λ r. ⌜ r ≡ rowIs (now (facts .entry)) (now (row .entry)) i ⌝ }
 {
-    if facts[i * FACT_WORDS] != f.predicate {
-        return false;
+    let mut j = 0;
+    while j < FACT_WORDS {
+        if facts[i * FACT_WORDS + j] != row[j] {
+            return false;
+        }
+        j += 1;
     }
-    if facts[i * FACT_WORDS + 1] != f.first {
-        return false;
-    }
-    if facts[i * FACT_WORDS + 2] != f.second {
-        return false;
-    }
-    if facts[i * FACT_WORDS + 3] != f.third {
-        return false;
-    }
-    facts[i * FACT_WORDS + 4] == f.fourth
+    true
 }
 
-// Whether the fact is one of the facts.
-fn is_fact(facts: &[u64], f: Fact) -> bool
-    ensures { λ r. ⌜ r ≡ isFact (now (facts .entry)) (rowOf f) ⌝ }
+// Whether the row is one of the facts.
+fn is_fact(facts: &[u64], row: &[u64]) -> bool
+    requires { ⌜ length (now row) ≡ factWords ⌝ }
+    ensures { λ r. ⌜ r ≡ isFact (now (facts .entry)) (now (row .entry)) ⌝ }
 {
     let rows = facts.len() / FACT_WORDS;
     let mut i = 0;
     while i < rows {
-        if row_is(facts, i, f) {
+        if row_is(facts, i, row) {
             return true;
         }
         i += 1;
@@ -146,40 +132,42 @@ fn is_fact(facts: &[u64], f: Fact) -> bool
     false
 }
 
-// Writes the fact behind the others.
-fn put(state: &mut [u64], live: Live, f: Fact)
+// Writes the row behind the others.
+fn put(state: &mut [u64], live: Live, row: &[u64])
     requires { ⌜ GoodLive (now state) live ⌝ }
     requires { ⌜ live .facts < mostFacts ⌝ }
-    ensures { λ _. ⌜ Putting (now (state .entry)) live f (now (state .exit)) ⌝ }
+    requires { ⌜ length (now row) ≡ factWords ⌝ }
+    ensures { λ _. ⌜ Putting (now (state .entry)) live (now (row .entry)) (now (state .exit)) ⌝ }
 {
-    let i = FACTS_BASE + live.facts * FACT_WORDS;
-    state[i] = f.predicate;
-    state[i + 1] = f.first;
-    state[i + 2] = f.second;
-    state[i + 3] = f.third;
-    state[i + 4] = f.fourth;
+    let base = FACTS_BASE + live.facts * FACT_WORDS;
+    let mut j = 0;
+    while j < FACT_WORDS {
+        state[base + j] = row[j];
+        j += 1;
+    }
 }
 
-// Adds the fact unless it is there.
-fn note(state: &mut [u64], live: Live, f: Fact) -> Told
+// Adds the row unless it is there.
+fn note(state: &mut [u64], live: Live, row: &[u64]) -> Told
     requires { ⌜ GoodLive (now state) live ⌝ }
-    ensures { λ r. ⌜ Living (factLine (liveOf (now (state .entry)) live) (rowOf f)) (now (state .entry)) r (now (state .exit)) ⌝ }
+    requires { ⌜ length (now row) ≡ factWords ⌝ }
+    ensures { λ r. ⌜ Living (factLine (liveOf (now (state .entry)) live) (now (row .entry))) (now (state .entry)) r (now (state .exit)) ⌝ }
 {
     let end = FACTS_BASE + live.facts * FACT_WORDS;
-    if is_fact(&state[FACTS_BASE..end], f) {
+    if is_fact(&state[FACTS_BASE..end], row) {
         return Told::Done(live);
     }
     if live.facts >= FACTS {
         return Told::Refused(Refusal::Space);
     }
-    put(state, live, f);
+    put(state, live, row);
     Told::Done(Live {
         objects: live.objects,
         facts: live.facts + 1,
     })
 }
 
-// (true p o ..)
+// (true p o ..), where the row has the objects behind its first word.
 pub fn tell(
     arities: &[u64],
     table: &[u64],
@@ -188,10 +176,12 @@ pub fn tell(
     live: Live,
     key: Key,
     o: Tuple,
+    row: &mut [u64],
 ) -> Told
     requires { ⌜ GoodVocabulary (now table) (now arities) n ⌝ }
     requires { ⌜ GoodLive (now state) live ⌝ }
-    ensures { λ r. ⌜ Telling (now (arities .entry)) (now (table .entry)) n (now (state .entry)) live key o r (now (state .exit)) ⌝ }
+    requires { ⌜ length (now row) ≡ factWords ⌝ }
+    ensures { λ r. ⌜ Telling (now (arities .entry)) (now (table .entry)) n (now (state .entry)) live key o (now (row .entry)) r (now (state .exit)) ⌝ }
 {
     let i = names::find(table, names::DECLARED, n.predicates, key);
     if i >= n.predicates {
@@ -202,29 +192,21 @@ pub fn tell(
         return Told::Refused(Refusal::Arity);
     }
     if o.within {
-        return note(
-            state,
-            live,
-            Fact {
-                predicate: p as u64,
-                first: o.first,
-                second: o.second,
-                third: o.third,
-                fourth: o.fourth,
-            },
-        );
+        row[0] = p as u64;
+        return note(state, live, row);
     }
     Told::Refused(Refusal::Range)
 }
 
-// What stands at place k: v if it is the next, else what stood there.
-fn slot(count: u64, k: u64, old: u64, v: u64) -> u64
-    ensures { λ r. ⌜ r ≡ slotOf count k old v ⌝ }
+// Keeps object v of a line, behind `count` others, in the row's place for it, if there is one.
+fn keep(row: &mut [u64], count: u64, v: u64)
+    requires { ⌜ length (now row) ≡ factWords ⌝ }
+    ensures { λ _. ⌜ now (row .exit) ≡ kept (now (row .entry)) count v ⌝ }
 {
-    if count == k {
-        return v;
+    if count >= Label::PLACES {
+        return;
     }
-    old
+    row[1 + (count as usize)] = v;
 }
 
 // Whether all objects are below n, the next one too.
@@ -245,26 +227,19 @@ fn add(t: Tuple, v: u64, n: u64) -> Tuple
     Tuple {
         count: t.count + 1,
         within: still(t.within, v, n),
-        first: slot(t.count, 0, t.first, v),
-        second: slot(t.count, 1, t.second, v),
-        third: slot(t.count, 2, t.third, v),
-        fourth: slot(t.count, 3, t.fourth, v),
     }
 }
 
-// The numbers from the place `at` on, as objects of a state of n.
-pub fn read_tuple(line: &[u8], at: usize, n: u64) -> Tuple
+// The numbers from the place `at` on, as objects of a state of n; those that have a place in a row are put there.
+pub fn read_tuple(line: &[u8], at: usize, n: u64, row: &mut [u64]) -> Tuple
     requires { ⌜ at ≤ length (now line) ⌝ }
     requires { ⌜ length (now line) ≤ mostBytes ⌝ }
-    ensures { λ r. ⌜ TupleOf n (numbersIn (eventsOf (drop at (now (line .entry))))) r ⌝ }
+    requires { ⌜ EmptyRow (now row) ⌝ }
+    ensures { λ r. ⌜ TupleOf n (numbersIn (eventsOf (drop at (now (line .entry))))) r (now (row .exit)) ⌝ }
 {
     let mut t = Tuple {
         count: 0,
         within: true,
-        first: 0,
-        second: 0,
-        third: 0,
-        fourth: 0,
     };
     let mut place = at;
     while place < line.len() {
@@ -273,7 +248,9 @@ pub fn read_tuple(line: &[u8], at: usize, n: u64) -> Tuple
         if events::is_end(event) {
             return t;
         }
-        t = add(t, events::number_in(event), n);
+        let v = events::number_in(event);
+        keep(row, t.count, v);
+        t = add(t, v, n);
         place = next.place;
     }
     t

@@ -5,10 +5,11 @@ use Prim.Native.Nat.{ℕ, suc, _+_, _*_}
 use lib.ListN.{length, set, getD, replicate, take}
 use lib.Dec.{ltb, leb, eqb}
 use Rattle.refusal.specs.declared.Refusal.the-variants.{Name, Arity, Range, Space}
-use Rattle.label.specs.Limits.{constantCount}
+use Rattle.label.specs.Limits.{constantCount, mostPlaces}
 use Rattle.words.specs.declared.Key.{Key}
 use Rattle.names.specs.Keys.{placeOf, isAmong}
 use Rattle.refusal.specs.Outcome.{Outcome, ok}
+use Rattle.diagram.specs.Words.{everyBelow}
 use Rattle.state.specs.Lent.{factWords, factCount, someBelow, allBelow}
 use Rattle.session.specs.Session.{Names, Live, refuseIf}
 
@@ -39,9 +40,9 @@ isLine n l k o =
     (refuseIf (leb (l .objects) o) Range
     (ok (placed l (placeOf k (n .constants)) o)))
 
--- a row of five words: the predicate and four objects, 0 in unused places
+-- a row of facts: the predicate and its objects, 0 in unused places
 abbrev pub factRow : ℕ → List ℕ → List ℕ
-factRow p os = p ∷ getD os 0 0 ∷ getD os 1 0 ∷ getD os 2 0 ∷ getD os 3 0 ∷ []
+factRow p os = p ∷ take mostPlaces (os ++ replicate mostPlaces 0)
 
 unfoldable pub withFact : Live → List ℕ → Live
 withFact l row = record { objects = l .objects; placed = l .placed; constants = l .constants; facts = l .facts ++ row }
@@ -50,11 +51,13 @@ withFact l row = record { objects = l .objects; placed = l .placed; constants = 
 abbrev pub sameWord : List ℕ → List ℕ → ℕ → ℕ → Bool
 sameWord facts row i j = eqb (getD facts (i * factWords + j) 0) (getD row j 0)
 
+-- row i of the facts is the row
+abbrev pub rowIs : List ℕ → List ℕ → ℕ → Bool
+rowIs facts row i = everyBelow factWords (sameWord facts row i)
+
 -- the row is one of the facts
 unfoldable pub isFact : List ℕ → List ℕ → Bool
-isFact facts row =
-    someBelow (factCount facts) (λ i.
-    sameWord facts row i 0 && (sameWord facts row i 1 && (sameWord facts row i 2 && (sameWord facts row i 3 && sameWord facts row i 4))))
+isFact facts row = someBelow (factCount facts) (rowIs facts row)
 
 -- a fact that is there may be repeated without effect; last 9
 unfoldable pub factLine : Live → List ℕ → Outcome Live

@@ -30,7 +30,7 @@
 -- Definitions: lines of the run
 --   mostObjects, cleared, objectsLine == (objects n)
 --   placed, isLine == (is c o): a constant's object. In Replies placed is what follows once a line's place is judged
---   mostFacts, factRow, withFact, sameWord, isFact, factLine, predicateOf, trueLine == (true p o ..)
+--   mostFacts, factRow, withFact, sameWord, rowIs, isFact, factLine, predicateOf, trueLine == (true p o ..)
 --   stateIn, valueRead == (value): the state in hand, and its highest leaf, or 15
 --   withHeld, backupLine == (backup)
 --   cutTo, cutLine, cutSays == (cut)

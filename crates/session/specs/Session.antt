@@ -28,7 +28,7 @@ pub record Singles : Type 0 where
   pub reward : Bool
 
 -- a state as it is lent to the value operation: how many objects, 0 before an accepted (objects n); for each constant 1 where it is placed, and its
--- object; the facts as rows of five words
+-- object; the facts as rows of words
 pub record Live : Type 0 where
   pub objects : ℕ
   pub placed : List ℕ

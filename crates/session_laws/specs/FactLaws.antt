@@ -1,18 +1,20 @@
 -- (true p o ..) keeps a session good: the facts are whole rows, and one row more names objects only (document 01, section 'States and value').
-use mathlib.Core.Path.{_≡_, refl, ap, ap₂, _∙_}
+use mathlib.Core.Path.{_≡_, refl, sym, ap, ap₂, _∙_}
 use mathlib.Core.Bool.{true, not}
 use mathlib.Core.List.{List, [], _∷_, _++_}
 use Prim.Native.Nat.{ℕ, zero, suc, _+_, _*_, _≤_, _<_}
 use native.Mathlib.Omega.{arith}
-use lib.ListN.{length, getD, take, length-append, List·getD-append}
-use lib.Seq.{getD-append-add}
+use lib.ListN.{length, getD, take, drop, replicate, length-append, length-replicate, List·getD-append}
+use lib.Seq.{ext-getD, length-take-le, take-take, drop-drop, drop-at}
 use lib.Dec.{ltb, leb, eqb}
 use borrow.Author.Tests.{lt-ltb, not-false}
 use Rattle.basics.specs.Tests.{and-left, and-right, Cmp, below, equal, above, cmp, Flag, isTrue, isFalse, flag}
 use Rattle.refusal.specs.declared.Refusal.the-variants.{Name, Arity, Range, Space}
+use Rattle.label.specs.Limits.{mostPlaces}
 use Rattle.words.specs.declared.Key.{Key}
 use Rattle.names.specs.Keys.{isAmong}
 use Rattle.state.specs.Lent.{factWords, factCount, predicateAt, objectsAt, allBelow, namesBelow, isState}
+use Rattle.state.specs.LentLaws.{objects-length, object-at}
 use Rattle.refusal.specs.Outcome.{ok, Accepted}
 use Rattle.refusal.specs.OutcomeLaws.{accepted-ok, accepted-cond}
 use Rattle.session.specs.declared.Part.the-variants.{Run}
@@ -31,51 +33,53 @@ take-below n zero os e = refl
 take-below n (suc a) [] e = refl
 take-below n (suc a) (o ∷ os) e = rw (and-left (ltb o n) _ e, take-below n a os (and-right (ltb o n) _ e))
 
-at-below : (n : ℕ) (os : List ℕ) (i : ℕ) → 1 ≤ n → allBelow n os ≡ true → ltb (getD os i 0) n ≡ true
-at-below n [] i h e = lt-ltb 0 n h
-at-below n (o ∷ os) zero h e = and-left (ltb o n) _ e
-at-below n (o ∷ os) (suc i) h e = at-below n os i h (and-right (ltb o n) _ e)
+-- objects with 0 behind them
+padded-below : (n m : ℕ) (os : List ℕ) → 1 ≤ n → allBelow n os ≡ true → allBelow n (os ++ replicate m 0) ≡ true
+padded-below n zero [] h e = refl
+padded-below n (suc m) [] h e = rw (lt-ltb 0 n h, padded-below n m [] h e)
+padded-below n m (o ∷ os) h e = rw (and-left (ltb o n) _ e, padded-below n m os h (and-right (ltb o n) _ e))
+
+row-length : (p : ℕ) (os : List ℕ) → length (factRow p os) ≡ factWords
+row-length p os =
+    ap suc (length-take-le mostPlaces (os ++ replicate mostPlaces 0)
+    (omega (arith, length-append os (replicate mostPlaces 0), length-replicate {A = ℕ} mostPlaces 0)))
 
 -- ===== One row more =====
 
 module _ (facts : List ℕ) (whole : WholeRows facts) (p : ℕ) (os : List ℕ) where
   row-count : factCount (facts ++ factRow p os) ≡ suc (factCount facts)
-  row-count = omega (arith, length-append facts (factRow p os), whole)
+  row-count = omega (arith, length-append facts (factRow p os), row-length p os, whole)
 
   row-whole : WholeRows (facts ++ factRow p os)
-  row-whole = omega (arith, length-append facts (factRow p os), whole)
-
-  old-word : (i j : ℕ) → i < factCount facts → j < factWords → getD (facts ++ factRow p os) (i * factWords + j) 0 ≡ getD facts (i * factWords + j) 0
-  old-word i j h k = List·getD-append facts (factRow p os) 0 (i * factWords + j) (omega (arith, whole))
-
-  new-word : (j : ℕ) → getD (facts ++ factRow p os) (factCount facts * factWords + j) 0 ≡ getD (factRow p os) j 0
-  new-word j = rw whole (getD-append-add facts (factRow p os) j 0)
+  row-whole = omega (arith, length-append facts (factRow p os), row-length p os, whole)
 
   old-predicate : (i : ℕ) → i < factCount facts → predicateAt (facts ++ factRow p os) i ≡ predicateAt facts i
   unfolding predicateAt
   old-predicate i h = List·getD-append facts (factRow p os) 0 (i * factWords) (omega (arith, whole))
 
   old-objects : (i : ℕ) → i < factCount facts → objectsAt (facts ++ factRow p os) i ≡ objectsAt facts i
-  unfolding objectsAt
   old-objects i h =
-      rw (old-word i 1 h (omega arith), old-word i 2 h (omega arith), old-word i 3 h (omega arith), old-word i 4 h (omega arith))
+      let k : i < factCount (facts ++ factRow p os) = omega (arith, row-count) in
+      ext-getD 0 (objectsAt (facts ++ factRow p os) i) (objectsAt facts i) (objects-length (facts ++ factRow p os) i k ∙ sym (objects-length facts i h)) (λ j l.
+      let m : j < mostPlaces = omega (arith, objects-length (facts ++ factRow p os) i k) in
+      object-at (facts ++ factRow p os) i j m ∙ List·getD-append facts (factRow p os) 0 (i * factWords + 1 + j) (omega (arith, whole)) ∙ sym (object-at facts i j m))
 
-  new-objects : objectsAt (facts ++ factRow p os) (factCount facts) ≡ getD os 0 0 ∷ getD os 1 0 ∷ getD os 2 0 ∷ getD os 3 0 ∷ []
+  new-objects : objectsAt (facts ++ factRow p os) (factCount facts) ≡ take mostPlaces (os ++ replicate mostPlaces 0)
   unfolding objectsAt
-  new-objects = rw (new-word 1, new-word 2, new-word 3, new-word 4)
+  new-objects =
+      let e : suc (factCount facts * factWords) ≡ length facts + 1 = omega (arith, whole) in
+      ap (take mostPlaces) (ap (λ (k : ℕ). drop k (facts ++ factRow p os)) e ∙ sym (drop-drop 1 (length facts) (facts ++ factRow p os))
+      ∙ ap (drop 1) (drop-at facts (factRow p os) (length facts) refl)) ∙ take-take mostPlaces mostPlaces (os ++ replicate mostPlaces 0) (omega arith)
 
   old-names : (ar : List ℕ) (n i : ℕ) → i < factCount facts → namesBelow ar n (facts ++ factRow p os) i ≡ namesBelow ar n facts i
   unfolding namesBelow
   old-names ar n i h = ap₂ (λ q xs. allBelow n (take (getD ar q 0) xs)) (old-predicate i h) (old-objects i h)
 
-  row-below : (n : ℕ) → 1 ≤ n → allBelow n os ≡ true → allBelow n (getD os 0 0 ∷ getD os 1 0 ∷ getD os 2 0 ∷ getD os 3 0 ∷ []) ≡ true
-  row-below n h e = rw (at-below n os 0 h e, at-below n os 1 h e, at-below n os 2 h e, at-below n os 3 h e)
-
   new-names : (ar : List ℕ) (n : ℕ) → 1 ≤ n → allBelow n os ≡ true → namesBelow ar n (facts ++ factRow p os) (factCount facts) ≡ true
   unfolding namesBelow
   new-names ar n h e =
       take-below n (getD ar (predicateAt (facts ++ factRow p os) (factCount facts)) 0) (objectsAt (facts ++ factRow p os) (factCount facts))
-      (ap (allBelow n) new-objects ∙ row-below n h e)
+      (ap (allBelow n) new-objects ∙ take-below n mostPlaces (os ++ replicate mostPlaces 0) (padded-below n mostPlaces os h e))
 
   row-state : (ar : List ℕ) (n : ℕ) (constants : List ℕ) → allBelow n os ≡ true → isState ar n constants facts ≡ true
       → isState ar n constants (facts ++ factRow p os) ≡ true

@@ -113,9 +113,9 @@ module _ (s : List ℕ) (n : Numbers) (names : List ℕ) {st st′ : List ℕ} {
 
 -- ===== (true p o ..) =====
 
-module _ (s : List ℕ) (n : Numbers) (names ar : List ℕ) {st st′ : List ℕ} {i : ℕ} {x : Next} {k : Key} {o : Tuple} {d : Told}
-    (p : i ≡ firstWord True) (q : x ≡ nextAt s i) (u : k ≡ keyIn (x .event)) (w : TupleOf (n .live .objects) (numbersIn (eventsOf (drop (x .place) s))) o)
-    (g : Telling ar names (n .counts) st (n .live) k o d st′) where
+module _ (s : List ℕ) (n : Numbers) (names ar : List ℕ) {st st′ : List ℕ} {i : ℕ} {x : Next} {k : Key} {o : Tuple} {row : List ℕ} {d : Told}
+    (p : i ≡ firstWord True) (q : x ≡ nextAt s i) (u : k ≡ keyIn (x .event)) (w : TupleOf (n .live .objects) (numbersIn (eventsOf (drop (x .place) s))) o row)
+    (g : Telling ar names (n .counts) st (n .live) k o row d st′) where
   abbrev telling : Outcome SessionLive
   telling = trueLine ar (namesOf names (n .counts)) (liveOf st (n .live)) (keyIn (wordAt (wordsOf True s) 0)) (numbersIn (drop 1 (wordsOf True s)))
 

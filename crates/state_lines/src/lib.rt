@@ -87,8 +87,18 @@ pub fn tell(
     let event = next.event;
     let key = events::key_in(event);
     let before = n.live;
-    let objects = facts::read_tuple(line, next.place, before.objects);
-    match facts::tell(arities, names, n.counts, state, before, key, objects) {
+    let mut row = [0u64; facts::FACT_WORDS];
+    let objects = facts::read_tuple(line, next.place, before.objects, &mut row);
+    match facts::tell(
+        arities,
+        names,
+        n.counts,
+        state,
+        before,
+        key,
+        objects,
+        &mut row,
+    ) {
         Told::Done(live) => Said {
             numbers: with_state(n, live),
             answer: Answer::Nothing,

@@ -5,16 +5,16 @@ use Rattle.facts.proofs.is_fact.Statement.{statement}
 use Rattle.facts.proofs.is_fact.Tie as tie
 
 abbrev Inv-loop : tie.InvT-loop
-Inv-loop facts f rows i₀ i = Looked facts f i
+Inv-loop facts row rows i₀ i = Looked facts row i
 
 abbrev μ-loop : tie.MeasureT-loop
-μ-loop facts f rows i₀ i = rows - i
+μ-loop facts row rows i₀ i = rows - i
 
 loop-holds : tie.Need-loop-holds Inv-loop μ-loop
 loop-holds c = search look-start
 
 row-is-requires : tie.Need-row-is-requires Inv-loop μ-loop
-row-is-requires c κs = search look-room
+row-is-requires c κs = (search look-room, search needs)
 
 returns : tie.Need-returns Inv-loop μ-loop
 returns c = search look-hit

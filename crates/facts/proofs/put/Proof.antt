@@ -1,25 +1,34 @@
-use lib.ListN.{length-set}
-use Rattle.facts.proofs.FactLaws.{put-done}
+use Prim.Native.Nat.{_-_}
+use native.Mathlib.Omega.{arith}
+use Rattle.state.specs.Lent.{factWords}
+use Rattle.facts.proofs.FactLaws.{Writing, writing-start, put-room, put-on, put-done}
 use borrow.Author.Needs.{needs}
 use Rattle.facts.proofs.put.Statement.{statement}
 use Rattle.facts.proofs.put.Tie as tie
 
-slice-write-state-2 : tie.Need-slice-write-state-2
-slice-write-state-2 c = simp length-set (search needs)
+abbrev Inv-loop : tie.InvT-loop
+Inv-loop state₀ row base j₀ state j = Writing state₀ row base j state
 
-slice-write-state-3 : tie.Need-slice-write-state-3
-slice-write-state-3 c = simp length-set (search needs)
+abbrev μ-loop : tie.MeasureT-loop
+μ-loop state₀ row base j₀ state j = factWords - j
 
-slice-write-state-4 : tie.Need-slice-write-state-4
-slice-write-state-4 c = simp length-set (search needs)
+loop-holds : tie.Need-loop-holds Inv-loop μ-loop
+loop-holds c = search writing-start
 
-slice-write-state-5 : tie.Need-slice-write-state-5
-slice-write-state-5 c = simp length-set (search needs)
+slice-write-state : tie.Need-slice-write-state Inv-loop μ-loop
+slice-write-state c = search put-room
 
-returns : tie.Need-returns
+loop-again : tie.Need-loop-again Inv-loop μ-loop
+loop-again c = search put-on
+
+same-length : tie.Need-same-length Inv-loop μ-loop
+same-length c = c .before .loop .inv .size
+
+returns : tie.Need-returns Inv-loop μ-loop
 returns c = search put-done
 
 pub put-spec : {M : Type 1} → statement M
 put-spec =
     tie.close
-    (tie.spec (λ c. search needs) (λ c. search needs) (λ c. search needs) (λ c. search needs) (λ c. search needs) (λ c. search needs) slice-write-state-2 (λ c. search needs) (λ c. search needs) slice-write-state-3 (λ c. search needs) (λ c. search needs) slice-write-state-4 (λ c. search needs) (λ c. search needs) slice-write-state-5 (λ c. search needs) returns)
+    (tie.spec Inv-loop μ-loop (λ c. search needs) (λ c. search needs) loop-holds (λ c. search needs) (λ c. search needs) (λ c. search needs)
+    (λ c. search needs) slice-write-state (λ c. search needs) (λ c. search needs) loop-again same-length returns)
