@@ -234,11 +234,11 @@ pub state-none : (ar s : List ℕ) (l : Live) → l .facts ≤ mostFacts → l .
 state-none ar s l h z = says-yes (state-is ar s l) (record { objects = omega arith; facts = h; state = λ k. absurd (omega (arith, k, z)) })
 
 pub state-rest : (ar s : List ℕ) (l : Live) {r : Bool} → l .objects ≤ mostObjects → l .facts ≤ mostFacts → (l .objects ≡ 0 → ⊥)
-    → r ≡ isState ar (l .objects) (take 16 s) (take (32 + l .facts * 5 - 32) (drop 32 s)) → r ≡ stateFits ar s l
+    → r ≡ isState ar (l .objects) (take constantCount s) (take (factsBase + l .facts * factWords - factsBase) (drop factsBase s)) → r ≡ stateFits ar s l
 unfolding stateFits
 state-rest ar s l a b c q =
     goes (le-leb (l .objects) mostObjects a) (goes (le-leb (l .facts) mostFacts b)
-    (q ∙ ap (isState ar (l .objects) (take 16 s)) (part-words s 32 (l .facts * 5))
+    (q ∙ ap (isState ar (l .objects) (take constantCount s)) (part-words s factsBase (l .facts * factWords))
     ∙ sym (ap (λ (x : Bool). x || isState ar (l .objects) (part s 0 constantCount) (part s factsBase (l .facts * factWords))) (ne-eqb (l .objects) 0 c))))
 
 pub scale-some : (h : Head) → headFits h ≡ true → 1 ≤ h .total * h .denominator

@@ -1,5 +1,7 @@
 use Prim.Native.Nat.{_*_}
 use borrow.Author.Needs.{needs}
+use Rattle.state.specs.Lent.{factWords}
+use Rattle.facts.specs.Words.{factsBase}
 use Rattle.model.proofs.CheckLaws.{part-words}
 use Rattle.run_lines.proofs.ValueLaws.{rows-long, constants-long, value-read, value-refused}
 use Rattle.run_lines.proofs.value.Statement.{statement}
@@ -14,12 +16,12 @@ slice-aggregate-value-2 c = constants-long (c .before .before .before .before .b
 returns : tie.Need-returns
 returns c =
     let a = c .before .before .before .before .before .before .before .before .before .before .before .before .before .args in
-    value-read (part-words (a .state .now) 32 (a .n .live .facts * 5)) (c .before .before .before .value .ensures) (c .before .v .given .1)
+    value-read (part-words (a .state .now) factsBase (a .n .live .facts * factWords)) (c .before .before .before .value .ensures) (c .before .v .given .1)
 
 returns-2 : tie.Need-returns-2
 returns-2 c =
     let a = c .before .before .before .before .before .before .before .before .before .before .before .before .before .args in
-    value-refused (part-words (a .state .now) 32 (a .n .live .facts * 5)) (c .before .before .before .value .ensures) (c .before .v2 .given .1)
+    value-refused (part-words (a .state .now) factsBase (a .n .live .facts * factWords)) (c .before .before .before .value .ensures) (c .before .v2 .given .1)
 
 pub value-spec : {M : Type 1} → statement M
 value-spec =
