@@ -1,6 +1,6 @@
 -- The search over two stored paths answers whether one covers the other.
 use mathlib.Core.Path.{_≡_, sym, ap, subst, _∙_}
-use mathlib.Core.Bool.{Bool, true}
+use mathlib.Core.Bool.{Bool, true, false, not}
 use mathlib.Core.List.{List, List·Memᴰ}
 use Prim.Native.Nat.{ℕ, _+_, _-_, _≤_, _<_}
 use native.Mathlib.Omega.{arith}
@@ -13,20 +13,28 @@ use Rattle.diagram.specs.ListingValid.{listing-is-valid}
 use Rattle.paths.specs.Paths.{mostPaths, Literal, Path, literals, termsIn}
 use Rattle.cutting.specs.Match.{start, matches}
 use Rattle.cutting.specs.Cut.{covers}
-use Rattle.cutting.specs.Searchable.{PathLabels}
-use Rattle.paths.specs.Routes.{AllInRange, pathAt}
+use Rattle.cutting.specs.Searchable.{Searchable, PathLabels}
+use Rattle.cutting.specs.CoverLaws.{searchable}
+use Rattle.paths.specs.Routes.{AllInRange, pathAt, Entered}
 use Rattle.matcher.specs.Search.{literalsIn}
 use Rattle.matcher.specs.Covering.{Coverable}
 use Rattle.matcher.specs.Stored.{Marks, Enterable, Stored, Ready, BothStored, Answers}
-use Rattle.matcher.specs.Parts.{PartsPost}
-use Rattle.matcher.proofs.StoreLaws.{listed-labels}
+use Rattle.matcher.specs.Parts.{PartsPost, WaysPost}
+use Rattle.matcher.proofs.StoreLaws.{codes-are, listed-labels}
+use Rattle.matcher.proofs.SomeWayLaws.{ways-fail}
 use Rattle.matcher.proofs.CoversLaws.{terms-below, bothTerms, covers-setting, covers-order}
+
+-- the literals behind the marks
+front-literals : (into : List ℕ) (a : ℕ) → termEnd + a ≤ length into → literalsIn (drop termEnd (take (termEnd + a) into)) ≡ literalsIn (take a (drop termEnd into))
+front-literals into a h =
+    ap literalsIn
+    (ap (drop termEnd) (take-add termEnd a into) ∙ drop-at (take termEnd into) (take a (drop termEnd into)) termEnd (length-take-le termEnd into (omega arith)))
+
+pub front-long : (into : List ℕ) (a : ℕ) → termEnd + a ≤ length into → termEnd + a ≡ length (take (termEnd + a) into)
+front-long into a h = sym (length-take-le (termEnd + a) into h)
 
 -- ===== search =====
 module _ {into from : List ℕ} {a b : ℕ} (g : BothStored into a from b) where
-  pub into-long : termEnd + a ≡ length (take (termEnd + a) into)
-  into-long = sym (length-take-le (termEnd + a) into (g .into-room))
-
   pub search-ready : {tab theta : List ℕ} → length tab ≡ termEnd + termEnd → length theta ≡ termEnd → ((v : ℕ) → v < termEnd → getD theta v 0 ≡ v)
       → Ready (take (termEnd + b - termEnd) (drop termEnd from)) (take (termEnd + a) into) tab theta
   search-ready x y same = record {
@@ -40,8 +48,7 @@ module _ {into from : List ℕ} {a b : ℕ} (g : BothStored into a from b) where
 
   -- the literals behind the marks
   into-literals : literalsIn (drop termEnd (take (termEnd + a) into)) ≡ literalsIn (take a (drop termEnd into))
-  into-literals =
-      ap literalsIn (ap (drop termEnd) (take-add termEnd a into) ∙ drop-at (take termEnd into) (take a (drop termEnd into)) termEnd (length-take-le termEnd into (omega (arith, g .into-room))))
+  into-literals = front-literals into a (g .into-room)
 
   module _ (ar : List ℕ) (good : areArities ar ≡ true) (p : Path) (np : PathLabels ar p) (sp : Stored ar p into a) where
     into-marks : Marks ar (λ t. getD (take (termEnd + a) into) t 0) (literals p)
@@ -102,6 +109,49 @@ module _ {ar ws counts : List ℕ} {n p q : ℕ} (g : Coverable ar ws counts n p
     room = omega (arith, length-replicate {A = ℕ} m 0);
     clear = λ t k. getD-replicate m t 0 0 (omega arith);
   }
+
+  abbrev first-path : Path
+  first-path = pathAt (tree ws (n - 1)) p
+
+  abbrev second-path : Path
+  second-path = pathAt (tree ws (n - 1)) q
+
+  good : areArities ar ≡ true
+  good = listing-is-valid ar ws (g .listed) .arities
+
+  -- a literal without a way: nothing is covered
+  pub covers-none : {into₀ into from₀ from : List ℕ} {a b : ℕ} {r : Bool} → Entered ws (n - 1) p into₀ into a → termEnd + a ≤ length into
+      → Entered ws (n - 1) q from₀ from b → WaysPost (take (termEnd + b - termEnd) (drop termEnd from)) (take (termEnd + a) into) r → not r ≡ true
+      → false ≡ covers ar (pathAt (tree ws (n - 1)) p) (pathAt (tree ws (n - 1)) q)
+  covers-none {into₀} {into} {from₀} {from} {a} {b} x room y w z =
+      ways-fail w z ar T (subst (λ (ls : List Literal). Searchable ar ls T) (sym first) (searchable ar (literals first-path) (literals second-path) good (np .each)))
+      ∙ ap (λ (ls : List Literal). matches ar ls T ord start) first
+      ∙ covers-order ar good first-path second-path np nq ord (λ l m. subst (List·Memᴰ l) second m) (λ l m. subst (List·Memᴰ l) (sym second) m)
+    where
+      np : PathLabels ar first-path
+      np = listed-labels (g .listed) (g .whole) (g .first)
+
+      nq : PathLabels ar second-path
+      nq = listed-labels (g .listed) (g .whole) (g .second)
+
+      T : List ℕ
+      T = bothTerms ar good first-path second-path np nq
+
+      ord : List Literal
+      ord = literalsIn (take (termEnd + b - termEnd) (drop termEnd from))
+
+      first : literalsIn (drop termEnd (take (termEnd + a) into)) ≡ literals first-path
+      first = front-literals into a room ∙ ap literalsIn (x .are) ∙ codes-are first-path
+
+      second : literalsIn (take (termEnd + b - termEnd) (drop termEnd from)) ≡ literals second-path
+      second =
+          let e : termEnd + b - termEnd ≡ b = omega arith in
+          ap (λ (i : ℕ). literalsIn (take i (drop termEnd from))) e ∙ ap literalsIn (y .are) ∙ codes-are second-path
+
+  -- both paths are stored
+  pub covers-stored : {into from : List ℕ} {a b : ℕ} → Stored ar (pathAt (tree ws (n - 1)) p) into a → Stored ar (pathAt (tree ws (n - 1)) q) from b
+      → termEnd + a ≤ length into → termEnd + b ≤ length from → BothStored into a from b
+  covers-stored sp sq h k = record { into-room = h; sorted = sp .sorted; from-room = k; ranged = sq .ranged; few = sq .few }
 
   pub covers-answer : {into from : List ℕ} {a b : ℕ} {r : Bool} → Stored ar (pathAt (tree ws (n - 1)) p) into a → Stored ar (pathAt (tree ws (n - 1)) q) from b
       → Answers into a from b r → r ≡ covers ar (pathAt (tree ws (n - 1)) p) (pathAt (tree ws (n - 1)) q)

@@ -15,9 +15,10 @@ use Rattle.label.specs.Limits.{termEnd}
 use Rattle.label.specs.Labels.{predicateOf}
 use Rattle.paths.specs.Paths.{Literal}
 use Rattle.cutting.specs.Match.{start, waysAmong, plainWays, targets, matches}
+use Rattle.cutting.specs.Searchable.{Searchable}
 use Rattle.cutting.specs.MatchLaws.{among-out, some-out}
-use Rattle.matcher.specs.Search.{literalAt, literalsIn, isEquality, alike, Setting}
-use Rattle.matcher.specs.Parts.{NoWay, kindOf, kindCount, Kinds, WayPost, WaysPost, PartsPost}
+use Rattle.matcher.specs.Search.{literalAt, literalsIn, isEquality, alike}
+use Rattle.matcher.specs.Parts.{NoWay, kindOf, kindCount, Kinds, WayPost, WaysPost}
 use Rattle.matcher.proofs.WayLaws.{untaken}
 use Rattle.matcher.proofs.TargetLaws.{is-alike, zero-predicate}
 use Rattle.matcher.proofs.PartLaws.{literal-at, at-literal}
@@ -53,20 +54,20 @@ one-fails : (ar T into : List ℕ) (x : ℕ) → NoWay into x → matches ar (li
 unfolding matches
 one-fails ar T into x n e = let r = some-out (targets ar (literalsIn (drop termEnd into)) T (literalAt x)) _ e in no-target ar T into x n (r .0) (r .1)
 
-pub ways-fail : {ord into : List ℕ} (tab : List ℕ) {r : Bool} → WaysPost ord into r → not r ≡ true → PartsPost ord into tab false
-ways-fail {ord} {into} tab {r} w q = record { answer = λ ar T s. go ar T s (flag (matches ar (literalsIn (drop termEnd into)) T (literalsIn ord) start)) }
+pub ways-fail : {ord into : List ℕ} {r : Bool} → WaysPost ord into r → not r ≡ true → (ar T : List ℕ) → Searchable ar (literalsIn (drop termEnd into)) T
+    → false ≡ matches ar (literalsIn (drop termEnd into)) T (literalsIn ord) start
+ways-fail {ord} {into} {r} w q ar T s = go (flag (matches ar (literalsIn (drop termEnd into)) T (literalsIn ord) start))
   where
-    go : (ar T : List ℕ) → Setting ar T ord into tab → Flag (matches ar (literalsIn (drop termEnd into)) T (literalsIn ord) start)
-        → false ≡ matches ar (literalsIn (drop termEnd into)) T (literalsIn ord) start
-    go ar T s (isFalse z) = sym z
-    go ar T s (isTrue z) =
+    only : (i : ℕ) → i < length ord → (l : Literal) → List·Memᴰ l (literalAt (getD ord i 0) ∷ []) → List·Memᴰ l (literalsIn ord)
+    only i h l (List·Memᴰ·head e) = subst (λ (k : Literal). List·Memᴰ k (literalsIn ord)) (sym e) (literal-at ord i h)
+    only i h l (List·Memᴰ·tail m) = absurd (List·Memᴰ·not-nil m)
+
+    go : Flag (matches ar (literalsIn (drop termEnd into)) T (literalsIn ord) start) → false ≡ matches ar (literalsIn (drop termEnd into)) T (literalsIn ord) start
+    go (isFalse z) = sym z
+    go (isTrue z) =
         let n = w .no (untaken q) in
         absurd (one-fails ar T into (getD ord (n .0) 0) (n .2)
-        (matches-fewer ar (literalsIn (drop termEnd into)) T (s .search) (literalsIn ord) (literalAt (getD ord (n .0) 0) ∷ []) (only (n .0) (n .1)) z))
-      where
-        only : (i : ℕ) → i < length ord → (l : Literal) → List·Memᴰ l (literalAt (getD ord i 0) ∷ []) → List·Memᴰ l (literalsIn ord)
-        only i h l (List·Memᴰ·head e) = subst (λ (k : Literal). List·Memᴰ k (literalsIn ord)) (sym e) (literal-at ord i h)
-        only i h l (List·Memᴰ·tail m) = absurd (List·Memᴰ·not-nil m)
+        (matches-fewer ar (literalsIn (drop termEnd into)) T s (literalsIn ord) (literalAt (getD ord (n .0) 0) ∷ []) (only (n .0) (n .1)) z))
 
 -- ===== is_equal, has_way =====
 pub equal-yes : (x : ℕ) {b : Bool} → b ≡ isEquality x → not b ≡ true → false ≡ false → isEquality x ≡ true → x % 2 ≡ 1 → ⊥

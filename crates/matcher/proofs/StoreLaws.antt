@@ -45,7 +45,7 @@ literals-codes : (ls : List Literal) → map literalAt (map codeOf ls) ≡ ls
 literals-codes [] = refl
 literals-codes (l ∷ ls) = ap₂ _∷_ (literal-code l) (literals-codes ls)
 
-codes-are : (p : Path) → literalsIn (codes p) ≡ literals p
+pub codes-are : (p : Path) → literalsIn (codes p) ≡ literals p
 unfolding literalsIn codes
 codes-are p = literals-codes (literals p)
 
@@ -126,6 +126,9 @@ module _ {ar ws counts : List ℕ} {n k : ℕ} {out out₁ : List ℕ} {j : ℕ}
   at : (i : ℕ) → i < j → getD out₁ (termEnd + i) 0 ≡ getD (codes p) i 0
   at i h = sym (getD-take j (drop termEnd out₁) i 0 h ∙ getD-drop termEnd out₁ i 0) ∙ ap (λ (xs : List ℕ). getD xs i 0) (e .are)
 
+  pub enter-room : termEnd + j ≤ length out₁
+  enter-room = omega (arith, same, g .room, e .few)
+
   pub enter-unmarked : Unmarked ar out₁ j
   unfolding codes
   enter-unmarked = record {
@@ -165,6 +168,9 @@ module _ {ar ws counts : List ℕ} {n k : ℕ} {out out₁ : List ℕ} {j : ℕ}
     terms-code : (i : ℕ) (l : Literal) → i < j → getD (codes p) i 0 / 2 ≡ l .label → termsOfCode ar (getD out₁ (termEnd + i) 0) ≡ termsOf ar (unpacked (l .label))
     unfolding termsOfCode
     terms-code i l h q = ap (λ (x : ℕ). termsOf ar (unpacked x)) (ap (λ (x : ℕ). x / 2) (at i h) ∙ q)
+
+    pub stored-room : termEnd + j ≤ length out₂
+    stored-room = omega (arith, enter-room, m .length-kept)
 
     pub enter-stored : Stored ar (pathAt (tree ws (n - 1)) k) out₂ j
     unfolding codes

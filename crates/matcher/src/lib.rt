@@ -16,7 +16,7 @@ ghost use Rattle.paths.specs.Paths.{mostPaths};
 ghost use Rattle.cutting.specs.Cut.{covers};
 ghost use Rattle.matcher.specs.Covering.{Coverable};
 ghost use Rattle.matcher.specs.Parts.{isSeen, shares, Ranked, Best, Takable, Taken, Separable, PartTaken, PartsPost, kindCount, kindOf, Kinds, WayPost, WaysPost};
-ghost use Rattle.matcher.specs.Stored.{termsOfCode, Markable, Unmarked, Marking, Enterable, Stored, Ready, PartPost, BothStored, Answers};
+ghost use Rattle.matcher.specs.Stored.{termsOfCode, Markable, Unmarked, Marking, Ready, PartPost, BothStored, Answers};
 ghost use Rattle.paths.specs.Routes.{pathAt, labelEnd, InRange, AllInRange};
 ghost use Rattle.matcher.specs.Search.{along, isEquality, turn, wayPlace, isNothing, late, slotFits, slotAfter, Slots, BindPost};
 ghost use Rattle.matcher.specs.Search.{alike, plainWay, equalWay, wayAt, wayCount, TryPost, allKnown, Sorted, Finds, Images, Met, imageLabel, termAt};
@@ -679,23 +679,6 @@ fn mark_path(arities: &[u64], out: &mut [u64], n: usize)
     }
 }
 
-// Writes the literals of path k in order behind the marks of their terms, and answers how many they are.
-fn enter_path(
-    arities: &[u64],
-    words: &[u64],
-    counts: &[u64],
-    n: usize,
-    k: u64,
-    out: &mut [u64],
-) -> usize
-    requires { ⌜ Enterable (now arities) (now words) (now counts) n k (now out) ⌝ }
-    ensures { λ j. ⌜ Stored (now (arities .entry)) (pathAt (tree (now (words .entry)) (n - 1)) k) (now (out .exit)) j ⌝ }
-{
-    let j = paths::path_into(words, counts, n, k, out);
-    mark_path(arities, out, j);
-    j
-}
-
 // Copies the marks of the terms behind the table.
 fn copy_marks(marks: &[u64], tab: &mut [u64])
     requires { ⌜ termEnd ≤ length (now marks) ⌝ }
@@ -968,17 +951,6 @@ fn have_ways(ord: &[u64], into: &[u64]) -> bool
     true
 }
 
-// The same, after a quick look whether each literal has a way at all.
-fn match_parts(ord: &mut [u64], into: &[u64], tab: &mut [u64], theta: &mut [u64]) -> bool
-    requires { ⌜ Ready (now ord) (now into) (now tab) (now theta) ⌝ }
-    ensures { λ r. ⌜ PartsPost (now (ord .entry)) (now (into .entry)) (now (tab .entry)) r ⌝ }
-{
-    if !have_ways(ord, into) {
-        return false;
-    }
-    search_parts(ord, into, tab, theta)
-}
-
 // Whether a replacement takes the b literals behind the marks of `from` to the a literals behind those of `into`, or to t = t true.
 fn search(into: &[u64], a: usize, from: &mut [u64], b: usize) -> bool
     requires { ⌜ BothStored (now into) a (now from) b ⌝ }
@@ -988,7 +960,7 @@ fn search(into: &[u64], a: usize, from: &mut [u64], b: usize) -> bool
     let mut theta = [0u64; TERMS];
     copy_marks(from, &mut tab);
     keep_terms(&mut theta);
-    match_parts(
+    search_parts(
         &mut from[TERMS..TERMS + b],
         &into[..TERMS + a],
         &mut tab,
@@ -1003,7 +975,12 @@ pub fn covers(arities: &[u64], words: &[u64], counts: &[u64], n: usize, p: u64, 
 {
     let mut into = [0u64; PATH_WORDS];
     let mut from = [0u64; PATH_WORDS];
-    let a = enter_path(arities, words, counts, n, p, &mut into);
-    let b = enter_path(arities, words, counts, n, q, &mut from);
+    let a = paths::path_into(words, counts, n, p, &mut into);
+    let b = paths::path_into(words, counts, n, q, &mut from);
+    if !have_ways(&from[TERMS..TERMS + b], &into[..TERMS + a]) {
+        return false;
+    }
+    mark_path(arities, &mut into, a);
+    mark_path(arities, &mut from, b);
     search(&into, a, &mut from, b)
 }
