@@ -76,7 +76,8 @@ module _ {into from : List ℕ} {a b : ℕ} (g : BothStored into a from b) where
       where
         each : (ar : List ℕ) → areArities ar ≡ true → (p q : Path) → PathLabels ar p → PathLabels ar q → Stored ar p into a → Stored ar q from b → r ≡ covers ar p q
         each ar good p q np nq sp sq =
-            s .answer ar (bothTerms ar good p q np nq) (covers-setting ar good p q np nq first (λ l m. subst (List·Memᴰ l) second m) (into-marks ar good p np sp) (tab-marks tab copied ar good q nq sq))
+            s .answer ar (bothTerms ar good p q np nq)
+            (covers-setting ar good p q np nq first (λ l m. subst (List·Memᴰ l) second m) (into-marks ar good p np sp) (tab-marks tab copied ar good q nq sq))
             ∙ ap (λ (ls : List Literal). matches ar ls (bothTerms ar good p q np nq) (literalsIn (take (termEnd + b - termEnd) (drop termEnd from))) start) first
             ∙ covers-order ar good p q np nq (literalsIn (take (termEnd + b - termEnd) (drop termEnd from))) (λ l m. subst (List·Memᴰ l) second m) (λ l m. subst (List·Memᴰ l) (sym second) m)
           where

@@ -213,7 +213,8 @@ module _ {ord₀ into tab₀ theta₀ ord tab theta seen : List ℕ} {k : ℕ} (
           let x = front-at ord′ k l n in
           let y = part-at ord′ k (e - k) m o in
           let z = t .reordered .back (y .0) (y .1) (omega (arith, y .2, t .reordered .length-same)) in
-          let b = in-place ar (getD ord (x .0) 0 / 2) (ok .arities) u (subst (λ (i : Literal). List·Memᴰ u (termsOf ar (unpacked (i .label)))) (x .3 ∙ ap literalAt (t .reordered .front (x .0) (x .1))) v) in
+          let stays = ap literalAt (t .reordered .front (x .0) (x .1)) in
+          let b = in-place ar (getD ord (x .0) 0 / 2) (ok .arities) u (subst (λ (i : Literal). List·Memᴰ u (termsOf ar (unpacked (i .label)))) (x .3 ∙ stays) v) in
           let d = in-place ar (getD ord (z .0) 0 / 2) (ok .arities) u (subst (λ (i : Literal). List·Memᴰ u (termsOf ar (unpacked (i .label)))) (y .3 ∙ ap literalAt (z .3)) w) in
           variable-not u (seen-apart (p .seen-to) (p .strangers) (x .0) (z .0) (b .0) (d .0) (x .1) (b .1) (z .1) (z .2) (d .1) u (b .2) (d .2))
 

@@ -177,7 +177,11 @@ module _ {ar ws counts : List ℕ} {n k : ℕ} {out out₁ : List ℕ} {j : ℕ}
     enter-stored = record {
       few = e .few;
       are = ap (λ (xs : List ℕ). literalsIn (take j xs)) (m .behind) ∙ ap literalsIn (e .are) ∙ codes-are p;
-      sorted = record { room = omega (arith, count); order = order; ranged = λ i h. subst (λ (y : ℕ). InRange (y / 2)) (sym (same-code i (omega (arith, count)))) (code-range i (omega (arith, count))) };
+      sorted = record {
+        room = omega (arith, count);
+        order = order;
+        ranged = λ i h. subst (λ (y : ℕ). InRange (y / 2)) (sym (same-code i (omega (arith, count)))) (code-range i (omega (arith, count)));
+      };
       ranged = record { each = ranged };
       marks = record { has = has; of = of };
     }

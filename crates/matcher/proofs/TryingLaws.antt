@@ -51,7 +51,8 @@ use Rattle.matcher.proofs.TargetLaws.{way-view, meets}
 use Rattle.matcher.proofs.MaskLaws.{in-left, in-right, in-either, in-both, in-second}
 use Rattle.matcher.proofs.FailureLaws.{nogood-same, recalled-nogood, remembers-more}
 use Rattle.matcher.proofs.NogoodLaws.{orOf, map-at, bound-images, misfit, Takes, takes-list, constant-stays, taken, taken-is, unmet}
-use Rattle.matcher.proofs.SolveLaws.{some-inj, slots-at, segment-cons, segment-end, bind-values, label-x, way-hits, inside-after, view-terms, none-here, known-early, same-known, known-replacing, is-met}
+use Rattle.matcher.proofs.SolveLaws.{some-inj, slots-at, segment-cons, segment-end, bind-values, label-x, way-hits, inside-after, view-terms}
+use Rattle.matcher.proofs.SolveLaws.{none-here, known-early, same-known, known-replacing, is-met}
 
 -- ===== Answers =====
 failed-is : (p q : ℕ) → Failed p ≡ Failed q → p ≡ q

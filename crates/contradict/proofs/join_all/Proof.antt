@@ -50,7 +50,8 @@ loop-again c =
     let entry = at-loop .before .before .before .before .before .before .before in (
       at-join-literal .join-literal .kept .0 ∙ at-loop .loop .inv .0,
       omega (arith, at-loop .loop .inv .1),
-      represented-next (at-loop .loop .inv .2) (at-loop-test .loop-test .taken) (at-loop .loop .inv .1) refl (entry .pre .1 .each _ (last-below (at-loop-test .loop-test .taken) (at-loop .loop .inv .1))) (at-join-literal .join-literal .ensures),
+      represented-next (at-loop .loop .inv .2) (at-loop-test .loop-test .taken) (at-loop .loop .inv .1) refl
+          (entry .pre .1 .each _ (last-below (at-loop-test .loop-test .taken) (at-loop .loop .inv .1))) (at-join-literal .join-literal .ensures),
     )
 
 same-length : tie.Need-same-length Inv-loop μ-loop

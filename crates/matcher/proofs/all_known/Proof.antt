@@ -15,23 +15,18 @@ abbrev μ-loop : tie.MeasureT-loop
 loop-holds : tie.Need-loop-holds Inv-loop μ-loop
 loop-holds c = knowing-start _ _ _
 
-place-requires : tie.Need-place-requires Inv-loop μ-loop
-place-requires c κs = search needs
-
 mul-if1 : tie.Need-mul-if1 Inv-loop μ-loop
 mul-if1 c = omega (arith, c .place .ensures, c .before .before .before .before .pre .1 .places _ (c .before .loop-test .taken))
 
 shared-slice-read-if1 : tie.Need-shared-slice-read-if1 Inv-loop μ-loop
-shared-slice-read-if1 c = omega (arith, c .before .place .ensures, c .before .before .before .before .before .pre .1 .places _ (c .before .before .loop-test .taken), c .before .before .before .before .before .pre .0)
+shared-slice-read-if1 c =
+    let place = c .before .place in
+    let loop-test = c .before .before .loop-test in
+    let entry = c .before .before .before .before .before .pre in
+    omega (arith, place .ensures, entry .1 .places _ (loop-test .taken), entry .0)
 
 returns : tie.Need-returns Inv-loop μ-loop
 returns c = search knowing-not
-
-add-k : tie.Need-add-k Inv-loop μ-loop
-add-k c = search needs
-
-loop-less : tie.Need-loop-less Inv-loop μ-loop
-loop-less c = search needs
 
 loop-again : tie.Need-loop-again Inv-loop μ-loop
 loop-again c = search knowing-next
@@ -42,15 +37,4 @@ returns-2 c = search knowing-end
 pub all-known-spec : {M : Type 1} → statement M
 all-known-spec =
     tie.close
-    (tie.spec
-    Inv-loop
-    μ-loop
-    loop-holds
-    place-requires
-    mul-if1
-    shared-slice-read-if1
-    returns
-    add-k
-    loop-less
-    loop-again
-    returns-2)
+    (tie.spec Inv-loop μ-loop loop-holds (λ c κs. search needs) mul-if1 shared-slice-read-if1 returns (λ c. search needs) (λ c. search needs) loop-again returns-2)

@@ -16,27 +16,33 @@ abbrev μ-loop : tie.MeasureT-loop
 loop-holds : tie.Need-loop-holds Inv-loop μ-loop
 loop-holds c = binding-start _ _ _ _ _
 
-place-requires : tie.Need-place-requires Inv-loop μ-loop
-place-requires c κs = search needs
-
-way-place-requires : tie.Need-way-place-requires Inv-loop μ-loop
-way-place-requires c κs = search needs
-
 add-place : tie.Need-add-place Inv-loop μ-loop
 add-place c = omega (arith, c .before .before .before .loop-test .taken, c .before .before .before .before .before .before .before .pre .1 .1)
 
 place-requires-2 : tie.Need-place-requires-2 Inv-loop μ-loop
 place-requires-2 c κs =
-    let range = c .before .before .before .before .before .before .before .pre .0 .range .places _ (c .before .before .before .loop-test .taken) in (
-      omega (arith, c .before .before .place .ensures, range, c .before .before .before .before .before .before .before .pre .0 .room),
-      (omega (arith, c .before .before .place .ensures, range, c .before .before .before .before .loop .inv .length-kept, c .before .before .before .before .before .before .before .pre .1 .0), omega (arith, c .before .before .before .loop-test .taken, c .before .before .before .before .before .before .before .pre .1 .1)),
+    let place = c .before .before .place in
+    let loop-test = c .before .before .before .loop-test in
+    let loop = c .before .before .before .before .loop in
+    let entry = c .before .before .before .before .before .before .before .pre in
+    let range = entry .0 .range .places _ (loop-test .taken) in (
+      omega (arith, place .ensures, range, entry .0 .room),
+      (omega (arith, place .ensures, range, loop .inv .length-kept, entry .1 .0), omega (arith, loop-test .taken, entry .1 .1)),
     )
 
 same-length : tie.Need-same-length Inv-loop μ-loop
 same-length c = c .before .before .before .place2 .kept .1 .0 ∙ c .before .before .before .before .before .before .before .before .loop .inv .length-kept
 
 returns : tie.Need-returns Inv-loop μ-loop
-returns c = binding-fails (c .before .before .before .before .before .before .before .before .before .before .before .pre .0) (c .before .before .before .before .before .before .before .before .before .before .before .pre .1 .0) (c .before .before .before .before .before .before .before .before .loop .inv) (c .before .before .before .before .before .before .before .loop-test .taken) (c .before .before .before .before .before .before .place .ensures) (c .before .before .before .before .before .way-place .ensures) (c .before .before .before .place2 .ensures .0) (c .before .before .before .place2 .ensures .1) (c .if1 .taken)
+returns c =
+    let if1 = c .if1 in
+    let place2 = c .before .before .before .place2 in
+    let way-place = c .before .before .before .before .before .way-place in
+    let place = c .before .before .before .before .before .before .place in
+    let loop-test = c .before .before .before .before .before .before .before .loop-test in
+    let loop = c .before .before .before .before .before .before .before .before .loop in
+    let entry = c .before .before .before .before .before .before .before .before .before .before .before .pre in
+    binding-fails (entry .0) (entry .1 .0) (loop .inv) (loop-test .taken) (place .ensures) (way-place .ensures) (place2 .ensures .0) (place2 .ensures .1) (if1 .taken)
 
 add-k : tie.Need-add-k Inv-loop μ-loop
 add-k c = omega (arith, c .before .before .before .before .before .before .before .loop-test .taken)
@@ -45,7 +51,15 @@ loop-less : tie.Need-loop-less Inv-loop μ-loop
 loop-less c = omega (arith, c .before .before .before .before .before .before .before .loop-test .taken)
 
 loop-again : tie.Need-loop-again Inv-loop μ-loop
-loop-again c = binding-next (c .before .before .before .before .before .before .before .before .before .before .before .pre .0) (c .before .before .before .before .before .before .before .before .before .before .before .pre .1 .0) (c .before .before .before .before .before .before .before .before .loop .inv) (c .before .before .before .before .before .before .before .loop-test .taken) (c .before .before .before .before .before .before .place .ensures) (c .before .before .before .before .before .way-place .ensures) (c .before .before .before .place2 .ensures .0) (c .before .before .before .place2 .ensures .1) (c .if1 .left)
+loop-again c =
+    let if1 = c .if1 in
+    let place2 = c .before .before .before .place2 in
+    let way-place = c .before .before .before .before .before .way-place in
+    let place = c .before .before .before .before .before .before .place in
+    let loop-test = c .before .before .before .before .before .before .before .loop-test in
+    let loop = c .before .before .before .before .before .before .before .before .loop in
+    let entry = c .before .before .before .before .before .before .before .before .before .before .before .pre in
+    binding-next (entry .0) (entry .1 .0) (loop .inv) (loop-test .taken) (place .ensures) (way-place .ensures) (place2 .ensures .0) (place2 .ensures .1) (if1 .left)
 
 same-length-2 : tie.Need-same-length-2 Inv-loop μ-loop
 same-length-2 c = c .before .loop .inv .length-kept
@@ -56,18 +70,4 @@ returns-2 c = binding-end (c .before .loop .inv) (c .loop-test .left)
 pub bind-spec : {M : Type 1} → statement M
 bind-spec =
     tie.close
-    (tie.spec
-    Inv-loop
-    μ-loop
-    loop-holds
-    place-requires
-    way-place-requires
-    add-place
-    place-requires-2
-    same-length
-    returns
-    add-k
-    loop-less
-    loop-again
-    same-length-2
-    returns-2)
+    (tie.spec Inv-loop μ-loop loop-holds (λ c κs. search needs) (λ c κs. search needs) add-place place-requires-2 same-length returns add-k loop-less loop-again same-length-2 returns-2)

@@ -12,27 +12,31 @@ slice-aggregate-have-ways : tie.Need-slice-aggregate-have-ways
 slice-aggregate-have-ways c =
     let path-into = c .before .before .before .before .before .before .before .path-into in
     let entry = c .before .before .before .before .before .before .before .before .before .before .before .before .pre in
-    front-long _ _ (enter-room (covers-first entry (termEnd + mostPaths) (lit≤ tt)) (path-into .ensures) (path-into .kept .1 .1 .1 .1 .0))
+    let first = covers-first entry (termEnd + mostPaths) (lit≤ tt) in
+    front-long _ _ (enter-room first (path-into .ensures) (path-into .kept .1 .1 .1 .1 .0))
 
 returns : tie.Need-returns
 returns c =
     let path-into = c .before .before .before .before .before .before .before .before .before .path-into in
     let path-into2 = c .before .before .before .before .before .before .path-into2 in
     let entry = c .before .before .before .before .before .before .before .before .before .before .before .before .before .before .pre in
-    covers-none entry (path-into .ensures) (enter-room (covers-first entry (termEnd + mostPaths) (lit≤ tt)) (path-into .ensures) (path-into .kept .1 .1 .1 .1 .0)) (path-into2 .ensures) (c .before .have-ways .ensures) (c .if1 .taken)
+    let first = covers-first entry (termEnd + mostPaths) (lit≤ tt) in
+    covers-none entry (path-into .ensures) (enter-room first (path-into .ensures) (path-into .kept .1 .1 .1 .1 .0)) (path-into2 .ensures) (c .before .have-ways .ensures) (c .if1 .taken)
 
 mark-path-requires : tie.Need-mark-path-requires
 mark-path-requires c κs =
     let path-into = c .before .before .before .before .before .before .before .before .before .before .path-into in
     let entry = c .before .before .before .before .before .before .before .before .before .before .before .before .before .before .before .pre in
-    enter-unmarked (covers-first entry (termEnd + mostPaths) (lit≤ tt)) (path-into .ensures) (path-into .kept .1 .1 .1 .1 .0)
+    let first = covers-first entry (termEnd + mostPaths) (lit≤ tt) in
+    enter-unmarked first (path-into .ensures) (path-into .kept .1 .1 .1 .1 .0)
 
 mark-path-requires-2 : tie.Need-mark-path-requires-2
 mark-path-requires-2 c κs =
     let past = c .before .before .before .before .before .before .before .before .before .before .before .before .before .before .before .before in
     let path-into2 = c .before .before .before .before .before .before .before .before .before .before .path-into2 in
     let entry = past .before .before .pre in
-    enter-unmarked (covers-second entry (termEnd + mostPaths) (lit≤ tt)) (path-into2 .ensures) (path-into2 .kept .1 .1 .1 .1 .0)
+    let second = covers-second entry (termEnd + mostPaths) (lit≤ tt) in
+    enter-unmarked second (path-into2 .ensures) (path-into2 .kept .1 .1 .1 .1 .0)
 
 search-requires : tie.Need-search-requires
 search-requires c κs =
@@ -42,9 +46,11 @@ search-requires c κs =
     let path-into = past .before .path-into in
     let path-into2 = c .before .before .before .before .before .before .before .before .before .before .before .before .before .before .path-into2 in
     let entry = past .before .before .before .before .before .before .pre in
-    covers-stored entry (enter-stored (covers-first entry (termEnd + mostPaths) (lit≤ tt)) (path-into .ensures) (path-into .kept .1 .1 .1 .1 .0) (mark-path .ensures))
-    (enter-stored (covers-second entry (termEnd + mostPaths) (lit≤ tt)) (path-into2 .ensures) (path-into2 .kept .1 .1 .1 .1 .0) (mark-path2 .ensures))
-    (stored-room (covers-first entry (termEnd + mostPaths) (lit≤ tt)) (path-into .ensures) (path-into .kept .1 .1 .1 .1 .0) (mark-path .ensures)) (stored-room (covers-second entry (termEnd + mostPaths) (lit≤ tt)) (path-into2 .ensures) (path-into2 .kept .1 .1 .1 .1 .0) (mark-path2 .ensures))
+    let first = covers-first entry (termEnd + mostPaths) (lit≤ tt) in
+    let second = covers-second entry (termEnd + mostPaths) (lit≤ tt) in
+    covers-stored entry (enter-stored first (path-into .ensures) (path-into .kept .1 .1 .1 .1 .0) (mark-path .ensures))
+    (enter-stored second (path-into2 .ensures) (path-into2 .kept .1 .1 .1 .1 .0) (mark-path2 .ensures))
+    (stored-room first (path-into .ensures) (path-into .kept .1 .1 .1 .1 .0) (mark-path .ensures)) (stored-room second (path-into2 .ensures) (path-into2 .kept .1 .1 .1 .1 .0) (mark-path2 .ensures))
 
 returns-2 : tie.Need-returns-2
 returns-2 c =
@@ -54,8 +60,10 @@ returns-2 c =
     let path-into = past .before .before .before .path-into in
     let path-into2 = c .before .before .before .before .before .before .before .before .before .before .before .before .before .before .before .before .path-into2 in
     let entry = past .before .before .before .before .before .before .before .before .pre in
-    covers-answer entry (enter-stored (covers-first entry (termEnd + mostPaths) (lit≤ tt)) (path-into .ensures) (path-into .kept .1 .1 .1 .1 .0) (mark-path .ensures))
-    (enter-stored (covers-second entry (termEnd + mostPaths) (lit≤ tt)) (path-into2 .ensures) (path-into2 .kept .1 .1 .1 .1 .0) (mark-path2 .ensures)) (c .before .search .ensures)
+    let first = covers-first entry (termEnd + mostPaths) (lit≤ tt) in
+    let second = covers-second entry (termEnd + mostPaths) (lit≤ tt) in
+    covers-answer entry (enter-stored first (path-into .ensures) (path-into .kept .1 .1 .1 .1 .0) (mark-path .ensures))
+    (enter-stored second (path-into2 .ensures) (path-into2 .kept .1 .1 .1 .1 .0) (mark-path2 .ensures)) (c .before .search .ensures)
 
 pub covers-spec : {M : Type 1} → statement M
 covers-spec =

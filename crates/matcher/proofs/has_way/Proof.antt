@@ -4,23 +4,11 @@ use borrow.Author.Needs.{needs}
 use Rattle.matcher.proofs.has_way.Statement.{statement}
 use Rattle.matcher.proofs.has_way.Tie as tie
 
-is-equal-requires : tie.Need-is-equal-requires
-is-equal-requires c κs = search needs
-
 returns : tie.Need-returns
 returns c = way-yes _ _
 
-kind-requires : tie.Need-kind-requires
-kind-requires c κs = search needs
-
 returns-2 : tie.Need-returns-2
 returns-2 c = way-yes _ _
-
-mul-result : tie.Need-mul-result
-mul-result c = search needs
-
-shared-slice-read-result : tie.Need-shared-slice-read-result
-shared-slice-read-result c = search needs
 
 returns-3 : tie.Need-returns-3
 returns-3 c =
@@ -32,12 +20,4 @@ returns-3 c =
 
 pub has-way-spec : {M : Type 1} → statement M
 has-way-spec =
-    tie.close
-    (tie.spec
-    is-equal-requires
-    returns
-    kind-requires
-    returns-2
-    mul-result
-    shared-slice-read-result
-    returns-3)
+    tie.close (tie.spec (λ c κs. search needs) returns (λ c κs. search needs) returns-2 (λ c. search needs) (λ c. search needs) returns-3)

@@ -12,14 +12,8 @@ Inv-loop theta l n₀ k₀ n k = Packing theta l n k
 abbrev μ-loop : tie.MeasureT-loop
 μ-loop theta l n₀ k₀ n k = mostPlaces - k
 
-predicate-requires : tie.Need-predicate-requires Inv-loop μ-loop
-predicate-requires c κs = search needs
-
 loop-holds : tie.Need-loop-holds Inv-loop μ-loop
 loop-holds c = search packing-start
-
-place-requires : tie.Need-place-requires Inv-loop μ-loop
-place-requires c κs = search needs
 
 mul-n : tie.Need-mul-n Inv-loop μ-loop
 mul-n c = omega (arith, packing-small (c .before .before .before .before .before .pre) (c .before .before .loop .inv) (c .before .loop-test .taken) (c .place .ensures))
@@ -33,12 +27,6 @@ shared-slice-read-n c = packing-index (c .before .before .before .before .before
 add-n : tie.Need-add-n Inv-loop μ-loop
 add-n c = omega (arith, packing-small (c .before .before .before .before .before .before .pre) (c .before .before .before .loop .inv) (c .before .before .loop-test .taken) (c .before .place .ensures))
 
-add-k : tie.Need-add-k Inv-loop μ-loop
-add-k c = search needs
-
-loop-less : tie.Need-loop-less Inv-loop μ-loop
-loop-less c = search needs
-
 loop-again : tie.Need-loop-again Inv-loop μ-loop
 loop-again c = search packing-next
 
@@ -48,17 +36,4 @@ returns c = packing-end (c .before .before .before .before .pre) (c .before .loo
 pub image-spec : {M : Type 1} → statement M
 image-spec =
     tie.close
-    (tie.spec
-    Inv-loop
-    μ-loop
-    predicate-requires
-    loop-holds
-    place-requires
-    mul-n
-    mul-n-2
-    shared-slice-read-n
-    add-n
-    add-k
-    loop-less
-    loop-again
-    returns)
+    (tie.spec Inv-loop μ-loop (λ c κs. search needs) loop-holds (λ c κs. search needs) mul-n mul-n-2 shared-slice-read-n add-n (λ c. search needs) (λ c. search needs) loop-again returns)

@@ -3,9 +3,6 @@ use borrow.Author.Needs.{needs}
 use Rattle.matcher.proofs.is_equal.Statement.{statement}
 use Rattle.matcher.proofs.is_equal.Tie as tie
 
-is-equality-requires : tie.Need-is-equality-requires
-is-equality-requires c κs = search needs
-
 returns : tie.Need-returns
 returns c = equal-yes _ (c .before .is-equality .ensures) (c .if1 .taken)
 
@@ -13,4 +10,5 @@ returns-2 : tie.Need-returns-2
 returns-2 c = equal-not _
 
 pub is-equal-spec : {M : Type 1} → statement M
-is-equal-spec = tie.close (tie.spec is-equality-requires returns returns-2)
+is-equal-spec =
+    tie.close (tie.spec (λ c κs. search needs) returns returns-2)

@@ -3,11 +3,9 @@ use borrow.Author.Needs.{needs}
 use Rattle.matcher.proofs.is_equality.Statement.{statement}
 use Rattle.matcher.proofs.is_equality.Tie as tie
 
-predicate-requires : tie.Need-predicate-requires
-predicate-requires c κs = search needs
-
 returns : tie.Need-returns
 returns c = equality-is _ (c .predicate .ensures)
 
 pub is-equality-spec : {M : Type 1} → statement M
-is-equality-spec = tie.close (tie.spec predicate-requires returns)
+is-equality-spec =
+    tie.close (tie.spec (λ c κs. search needs) returns)

@@ -6,14 +6,9 @@ use Rattle.matcher.proofs.is_seen.Tie as tie
 returns : tie.Need-returns
 returns c = search seen-low
 
-mul-result : tie.Need-mul-result
-mul-result c = search needs
-
-shared-slice-read-result : tie.Need-shared-slice-read-result
-shared-slice-read-result c = search needs
-
 returns-2 : tie.Need-returns-2
 returns-2 c = search seen-is
 
 pub is-seen-spec : {M : Type 1} → statement M
-is-seen-spec = tie.close (tie.spec returns mul-result shared-slice-read-result returns-2)
+is-seen-spec =
+    tie.close (tie.spec returns (λ c. search needs) (λ c. search needs) returns-2)

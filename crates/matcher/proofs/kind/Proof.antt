@@ -4,9 +4,6 @@ use borrow.Author.Needs.{needs}
 use Rattle.matcher.proofs.kind.Statement.{statement}
 use Rattle.matcher.proofs.kind.Tie as tie
 
-predicate-requires : tie.Need-predicate-requires
-predicate-requires c κs = search needs
-
 mul-result : tie.Need-mul-result
 mul-result c = omega (arith, predicate-small _ (c .predicate .ensures))
 
@@ -17,4 +14,5 @@ returns : tie.Need-returns
 returns c = kind-is _ (c .predicate .ensures)
 
 pub kind-spec : {M : Type 1} → statement M
-kind-spec = tie.close (tie.spec predicate-requires mul-result add-result returns)
+kind-spec =
+    tie.close (tie.spec (λ c κs. search needs) mul-result add-result returns)

@@ -17,37 +17,16 @@ abbrev μ-loop : tie.MeasureT-loop
 loop-holds : tie.Need-loop-holds Inv-loop μ-loop
 loop-holds c = (refl, kinds-start (c .before .before .pre))
 
-mul-kind : tie.Need-mul-kind Inv-loop μ-loop
-mul-kind c = search needs
-
-shared-slice-read-kind : tie.Need-shared-slice-read-kind Inv-loop μ-loop
-shared-slice-read-kind c = search needs
-
-kind-requires : tie.Need-kind-requires Inv-loop μ-loop
-kind-requires c κs = search needs
-
 mul-kinds : tie.Need-mul-kinds Inv-loop μ-loop
 mul-kinds c = omega (arith, c .if1 .taken)
 
 slice-write-kinds : tie.Need-slice-write-kinds Inv-loop μ-loop
 slice-write-kinds c = omega (arith, c .if1 .taken, c .before .before .before .before .loop .inv .1 .room)
 
-add-j : tie.Need-add-j Inv-loop μ-loop
-add-j c = search needs
-
-loop-less : tie.Need-loop-less Inv-loop μ-loop
-loop-less c = search needs
-
 loop-again : tie.Need-loop-again Inv-loop μ-loop
 loop-again c =
     let loop = c .before .before .before .before .loop in
     (length-set (loop .kinds) (c .before .kind .result) 1 ∙ loop .inv .0, kinds-marked (loop .inv .1) refl (c .before .kind .ensures) (c .if1 .taken))
-
-add-j-2 : tie.Need-add-j-2 Inv-loop μ-loop
-add-j-2 c = search needs
-
-loop-less-2 : tie.Need-loop-less-2 Inv-loop μ-loop
-loop-less-2 c = search needs
 
 loop-again-2 : tie.Need-loop-again-2 Inv-loop μ-loop
 loop-again-2 c =
@@ -63,20 +42,4 @@ returns c = kinds-end (c .before .loop .inv .1) (c .loop-test .left)
 pub mark-kinds-spec : {M : Type 1} → statement M
 mark-kinds-spec =
     tie.close
-    (tie.spec
-    Inv-loop
-    μ-loop
-    loop-holds
-    mul-kind
-    shared-slice-read-kind
-    kind-requires
-    mul-kinds
-    slice-write-kinds
-    add-j
-    loop-less
-    loop-again
-    add-j-2
-    loop-less-2
-    loop-again-2
-    same-length
-    returns)
+    (tie.spec Inv-loop μ-loop loop-holds (λ c. search needs) (λ c. search needs) (λ c κs. search needs) mul-kinds slice-write-kinds (λ c. search needs) (λ c. search needs) loop-again (λ c. search needs) (λ c. search needs) loop-again-2 same-length returns)

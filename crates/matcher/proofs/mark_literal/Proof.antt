@@ -4,9 +4,6 @@ use borrow.Author.Needs.{needs}
 use Rattle.matcher.proofs.mark_literal.Statement.{statement}
 use Rattle.matcher.proofs.mark_literal.Tie as tie
 
-predicate-requires : tie.Need-predicate-requires
-predicate-requires c κs = search needs
-
 mul-mark-places : tie.Need-mul-mark-places
 mul-mark-places c = omega (arith, predicate-within (c .before .before .before .before .pre) (c .before .predicate .ensures))
 
@@ -14,21 +11,18 @@ shared-slice-read-mark-places : tie.Need-shared-slice-read-mark-places
 shared-slice-read-mark-places c = predicate-within (c .before .before .before .before .before .pre) (c .before .before .predicate .ensures)
 
 mark-places-requires : tie.Need-mark-places-requires
-mark-places-requires c κs = (c .before .before .before .before .before .pre .room, (literal-range (c .before .before .before .before .before .pre), literal-few (c .before .before .before .before .before .pre) (c .before .before .predicate .ensures)))
-
-same-length : tie.Need-same-length
-same-length c = search needs
+mark-places-requires c κs =
+    let predicate = c .before .before .predicate in
+    let entry = c .before .before .before .before .before .pre in
+    (entry .room, (literal-range (entry), literal-few (entry) (predicate .ensures)))
 
 returns : tie.Need-returns
-returns c = literal-marked (c .before .before .before .before .before .before .before .before .pre) (c .before .before .before .before .before .predicate .ensures) (c .before .before .mark-places .ensures)
+returns c =
+    let mark-places = c .before .before .mark-places in
+    let predicate = c .before .before .before .before .before .predicate in
+    let entry = c .before .before .before .before .before .before .before .before .pre in
+    literal-marked (entry) (predicate .ensures) (mark-places .ensures)
 
 pub mark-literal-spec : {M : Type 1} → statement M
 mark-literal-spec =
-    tie.close
-    (tie.spec
-    predicate-requires
-    mul-mark-places
-    shared-slice-read-mark-places
-    mark-places-requires
-    same-length
-    returns)
+    tie.close (tie.spec (λ c κs. search needs) mul-mark-places shared-slice-read-mark-places mark-places-requires (λ c. search needs) returns)

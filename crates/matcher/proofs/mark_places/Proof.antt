@@ -21,18 +21,7 @@ mul-marks : tie.Need-mul-marks Inv-loop μ-loop
 mul-marks c = omega (arith, places-term (c .before .before .before .before .pre .1 .0) (c .before .before .before .before .pre .1 .1) (c .before .loop-test .taken) (c .place .ensures))
 
 slice-write-marks : tie.Need-slice-write-marks Inv-loop μ-loop
-slice-write-marks c = omega (
-  arith,
-  places-term (c .before .before .before .before .pre .1 .0) (c .before .before .before .before .pre .1 .1) (c .before .loop-test .taken) (c .place .ensures),
-  places-length (c .before .before .loop .inv),
-  c .before .before .before .before .pre .0,
-)
-
-add-k : tie.Need-add-k Inv-loop μ-loop
-add-k c = search needs
-
-loop-less : tie.Need-loop-less Inv-loop μ-loop
-loop-less c = search needs
+slice-write-marks c = omega (arith, places-term (c .before .before .before .before .pre .1 .0) (c .before .before .before .before .pre .1 .1) (c .before .loop-test .taken) (c .place .ensures), places-length (c .before .before .loop .inv), c .before .before .before .before .pre .0)
 
 loop-again : tie.Need-loop-again Inv-loop μ-loop
 loop-again c = places-next (c .before .before .loop .inv) (c .before .loop-test .taken) (c .place .ensures)
@@ -46,15 +35,4 @@ returns c = places-end (c .before .loop .inv) (c .loop-test .left)
 pub mark-places-spec : {M : Type 1} → statement M
 mark-places-spec =
     tie.close
-    (tie.spec
-    Inv-loop
-    μ-loop
-    loop-holds
-    place-requires
-    mul-marks
-    slice-write-marks
-    add-k
-    loop-less
-    loop-again
-    same-length
-    returns)
+    (tie.spec Inv-loop μ-loop loop-holds place-requires mul-marks slice-write-marks (λ c. search needs) (λ c. search needs) loop-again same-length returns)

@@ -14,20 +14,11 @@ abbrev μ-loop : tie.MeasureT-loop
 loop-holds : tie.Need-loop-holds Inv-loop μ-loop
 loop-holds c = (omega arith, omega arith)
 
-place-requires : tie.Need-place-requires Inv-loop μ-loop
-place-requires c κs = search needs
-
 is-new-requires : tie.Need-is-new-requires Inv-loop μ-loop
 is-new-requires c κs = omega (arith, c .place .ensures, c .before .before .before .before .pre .1 .places _ (c .before .loop-test .taken), c .before .before .before .before .pre .0)
 
 add-n : tie.Need-add-n Inv-loop μ-loop
 add-n c = omega (arith, c .is-new .ensures, c .before .before .before .loop .inv .0, c .before .before .before .loop .inv .1)
-
-add-k : tie.Need-add-k Inv-loop μ-loop
-add-k c = search needs
-
-loop-less : tie.Need-loop-less Inv-loop μ-loop
-loop-less c = search needs
 
 loop-again : tie.Need-loop-again Inv-loop μ-loop
 loop-again c = (omega (arith, c .before .before .loop-test .taken), omega (arith, c .is-new .ensures, c .before .before .before .loop .inv .1))
@@ -38,14 +29,4 @@ returns c = omega (arith, c .before .loop .inv .0, c .before .loop .inv .1)
 pub new-places-spec : {M : Type 1} → statement M
 new-places-spec =
     tie.close
-    (tie.spec
-    Inv-loop
-    μ-loop
-    loop-holds
-    place-requires
-    is-new-requires
-    add-n
-    add-k
-    loop-less
-    loop-again
-    returns)
+    (tie.spec Inv-loop μ-loop loop-holds (λ c κs. search needs) is-new-requires add-n (λ c. search needs) (λ c. search needs) loop-again returns)

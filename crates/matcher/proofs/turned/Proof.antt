@@ -12,4 +12,5 @@ returns-3 : tie.Need-returns-3
 returns-3 c = search turn-other
 
 pub turned-spec : {M : Type 1} → statement M
-turned-spec = tie.close (tie.spec returns returns-2 returns-3)
+turned-spec =
+    tie.close (tie.spec returns returns-2 returns-3)

@@ -9,4 +9,5 @@ returns-2 : tie.Need-returns-2
 returns-2 c = search twice-unused
 
 pub twice-spec : {M : Type 1} → statement M
-twice-spec = tie.close (tie.spec returns returns-2)
+twice-spec =
+    tie.close (tie.spec returns returns-2)

@@ -16,17 +16,8 @@ abbrev μ-loop : tie.MeasureT-loop
 loop-holds : tie.Need-loop-holds Inv-loop μ-loop
 loop-holds c = (omega arith, variables-start _)
 
-place-requires : tie.Need-place-requires Inv-loop μ-loop
-place-requires c κs = search needs
-
 one-requires : tie.Need-one-requires Inv-loop μ-loop
 one-requires c κs = omega (arith, c .place .ensures, c .before .before .before .pre .places _ (c .before .loop-test .taken))
-
-add-k : tie.Need-add-k Inv-loop μ-loop
-add-k c = search needs
-
-loop-less : tie.Need-loop-less Inv-loop μ-loop
-loop-less c = search needs
 
 loop-again : tie.Need-loop-again Inv-loop μ-loop
 loop-again c = (omega (arith, c .before .before .loop-test .taken), variables-next (c .before .before .before .loop .inv .1) (c .before .place .ensures) (c .one .ensures))
@@ -36,14 +27,4 @@ returns c = variables-end (c .before .loop .inv .1) (c .before .loop .inv .0) (c
 
 pub variables-of-spec : {M : Type 1} → statement M
 variables-of-spec =
-    tie.close
-    (tie.spec
-    Inv-loop
-    μ-loop
-    loop-holds
-    place-requires
-    one-requires
-    add-k
-    loop-less
-    loop-again
-    returns)
+    tie.close (tie.spec Inv-loop μ-loop loop-holds (λ c κs. search needs) one-requires (λ c. search needs) (λ c. search needs) loop-again returns)

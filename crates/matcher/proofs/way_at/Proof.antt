@@ -3,11 +3,12 @@ use borrow.Author.Needs.{needs}
 use Rattle.matcher.proofs.way_at.Statement.{statement}
 use Rattle.matcher.proofs.way_at.Tie as tie
 
-is-equality-requires : tie.Need-is-equality-requires
-is-equality-requires c κs = search needs
-
 equal-way-requires : tie.Need-equal-way-requires
-equal-way-requires c κs = (c .before .before .before .before .pre .0, (c .before .before .before .before .pre .1 .0, count-below _ _ (c .before .is-equality .ensures) (c .if1 .taken) (c .before .before .before .before .pre .1 .1)))
+equal-way-requires c κs =
+    let if1 = c .if1 in
+    let is-equality = c .before .is-equality in
+    let entry = c .before .before .before .before .pre in
+    (entry .0, (entry .1 .0, count-below _ _ (is-equality .ensures) (if1 .taken) (entry .1 .1)))
 
 returns : tie.Need-returns
 returns c = way-equal _ _ _ _ (c .before .before .is-equality .ensures) (c .before .if1 .taken) (c .equal-way .ensures)
@@ -20,5 +21,4 @@ returns-2 c = way-plain _ _ _ _ (c .before .before .is-equality .ensures) (c .be
 
 pub way-at-spec : {M : Type 1} → statement M
 way-at-spec =
-    tie.close
-    (tie.spec is-equality-requires equal-way-requires returns plain-way-requires returns-2)
+    tie.close (tie.spec (λ c κs. search needs) equal-way-requires returns plain-way-requires returns-2)

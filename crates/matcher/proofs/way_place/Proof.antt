@@ -5,29 +5,8 @@ use borrow.Author.Needs.{needs}
 use Rattle.matcher.proofs.way_place.Statement.{statement}
 use Rattle.matcher.proofs.way_place.Tie as tie
 
-enum-known-way : tie.Need-enum-known-way
-enum-known-way c = search needs
-
-place-requires : tie.Need-place-requires
-place-requires c κs = search needs
-
-enum-known-way-2 : tie.Need-enum-known-way-2
-enum-known-way-2 c = search needs
-
-turned-requires : tie.Need-turned-requires
-turned-requires c κs = search needs
-
 place-requires-2 : tie.Need-place-requires-2
 place-requires-2 c κs = omega (arith, turn-below _ (c .before .before .before .before .pre), c .turned .ensures)
-
-enum-known-way-3 : tie.Need-enum-known-way-3
-enum-known-way-3 c = search needs
-
-twice-requires : tie.Need-twice-requires
-twice-requires c κs = search needs
-
-enum-told : tie.Need-enum-told
-enum-told c = search needs
 
 returns : tie.Need-returns
 returns c = place-straight _ (c .before .before .way .given .1) (c .place .ensures)
@@ -44,16 +23,4 @@ returns-4 c = place-nothing _ (c .enum-told .given .1)
 pub way-place-spec : {M : Type 1} → statement M
 way-place-spec =
     tie.close
-    (tie.spec
-    enum-known-way
-    place-requires
-    enum-known-way-2
-    turned-requires
-    place-requires-2
-    enum-known-way-3
-    twice-requires
-    enum-told
-    returns
-    returns-2
-    returns-3
-    returns-4)
+    (tie.spec (λ c. search needs) (λ c κs. search needs) (λ c. search needs) (λ c κs. search needs) place-requires-2 (λ c. search needs) (λ c κs. search needs) (λ c. search needs) returns returns-2 returns-3 returns-4)
