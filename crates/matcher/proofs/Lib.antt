@@ -3,12 +3,15 @@ pub mod TermLaws
 pub mod WayLaws
 pub mod BindLaws
 pub mod FindLaws
+pub mod LiteralLaws
 pub mod TargetLaws
+pub mod MeetLaws
 pub mod MaskLaws
 pub mod FailureLaws
 pub mod NogoodLaws
 pub mod SolveLaws
 pub mod TryingLaws
+pub mod KnownLaws
 pub mod PlaceLaws
 pub mod CoversLaws
 pub mod MarkLaws

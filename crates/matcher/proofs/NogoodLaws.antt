@@ -17,7 +17,8 @@ use Rattle.cutting.specs.MatchLaws.{Solves, binds-some, binds-only, target-soun
 use Rattle.matcher.specs.Search.{literalAt, literalsIn, placesIn, wayPlace, wayPlaces, Setting}
 use Rattle.matcher.specs.declared.Way.{Way}
 use Rattle.matcher.proofs.AlongLaws.{along-same, along-equal, along-map}
-use Rattle.matcher.proofs.TargetLaws.{replacedBy, WayOf, way-out}
+use Rattle.matcher.proofs.TargetLaws.{WayOf, way-out}
+use Rattle.matcher.proofs.MeetLaws.{replacedBy}
 
 -- what τ knows, else u
 abbrev pub orOf : Option ℕ → ℕ → ℕ

@@ -20,7 +20,7 @@ use Rattle.matcher.specs.Stored.{Ready, PartPost}
 use Rattle.matcher.specs.Parts.{Strangers, SeenTo, Reordered, Separable, PartTaken, PartsPost}
 use Rattle.matcher.proofs.TermLaws.{in-place}
 use Rattle.matcher.proofs.WayLaws.{untaken, unleft}
-use Rattle.matcher.proofs.TargetLaws.{mem-at, at-mem}
+use Rattle.matcher.proofs.LiteralLaws.{mem-at, at-mem}
 use Rattle.matcher.proofs.CoversLaws.{of-terms, variable-not}
 use Rattle.matcher.proofs.OrderLaws.{reordered-range, seen-start, seen-apart}
 use Rattle.matcher.proofs.JoinLaws.{matches-fewer, Disjoint, matches-join}

@@ -50,7 +50,8 @@ use Rattle.matcher.proofs.WayLaws.{turn-below}
 use Rattle.matcher.proofs.BindLaws.{known-some, known-same}
 use Rattle.matcher.proofs.FindLaws.{known-at}
 use Rattle.matcher.proofs.NogoodLaws.{bind-known}
-use Rattle.matcher.proofs.TargetLaws.{WayView, no-view, one-view, turned-view, twice-view, way-view, WayTo, way-in, replacedBy, Meets, meets}
+use Rattle.matcher.proofs.TargetLaws.{WayView, no-view, one-view, turned-view, twice-view, way-view, WayTo, way-in}
+use Rattle.matcher.proofs.MeetLaws.{replacedBy, Meets, meets}
 
 -- ===== Places and literals =====
 module _ {ord tab : List ℕ} {n : ℕ} (t : Tabled ord tab n) where

@@ -20,7 +20,7 @@ use Rattle.cutting.specs.MatchLaws.{among-out, some-out}
 use Rattle.matcher.specs.Search.{literalAt, literalsIn, isEquality, alike}
 use Rattle.matcher.specs.Parts.{NoWay, kindOf, kindCount, Kinds, WayPost, WaysPost}
 use Rattle.matcher.proofs.WayLaws.{untaken}
-use Rattle.matcher.proofs.TargetLaws.{is-alike, zero-predicate}
+use Rattle.matcher.proofs.LiteralLaws.{is-alike, zero-predicate}
 use Rattle.matcher.proofs.PartLaws.{literal-at, at-literal}
 use Rattle.matcher.proofs.JoinLaws.{matches-fewer}
 

@@ -18,10 +18,8 @@ use Rattle.matcher.proofs.TryingLaws.{
   trying-next,
   trying-up,
   trying-failed,
-  unmet-post,
-  met-next,
-  met-post,
 }
+use Rattle.matcher.proofs.KnownLaws.{unmet-post, met-next, met-post}
 use borrow.Fn.Kinds.{In}
 use borrow.Fn.PlainCycle.{Measures, is, falls, and}
 use Rattle.matcher.proofs.solve.Reads as solve
