@@ -17,7 +17,7 @@ use Rattle.label.specs.declared.Test.{Test}
 use Rattle.label.specs.declared.Test.the-variants.{Always, Is}
 use Rattle.paths.specs.Routes.{labelEnd}
 use Rattle.cutting.specs.MovedLaws.{equates-same, equates-less, equates-more}
-use Rattle.matcher.specs.Search.{isEquality, allOf, allKnown, Sorted, Finds, imageOf, Images, packing, imageLabel, Met, truth, other, intoCount}
+use Rattle.matcher.specs.Search.{isEquality, allOf, allKnown, Sorted, Finds, imageOf, Images, packing, imageLabel, Met, truth, other}
 use Rattle.matcher.specs.Search.{equal as matched}
 use Rattle.matcher.proofs.AlongLaws.{all-more, all-not, all-at}
 use Rattle.matcher.proofs.WayLaws.{untaken, unleft}

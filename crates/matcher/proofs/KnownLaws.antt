@@ -21,7 +21,7 @@ use Rattle.matcher.proofs.MeetLaws.{meets}
 use Rattle.matcher.proofs.NogoodLaws.{constant-stays, unmet}
 use Rattle.matcher.proofs.SolveLaws.{slots-at, label-x}
 use Rattle.matcher.proofs.SolveLaws.{none-here, known-early, same-known, known-replacing, is-met}
-use Rattle.matcher.proofs.TryingLaws.{failed-post, in-segment}
+use Rattle.matcher.proofs.LevelLaws.{failed-post, in-segment}
 
 module _ {ord into tab theta store : List ℕ} {k x bound : ℕ} (g : Solving ord into tab theta store k bound) (h : k ≡ length ord → ⊥) (e : x ≡ getD ord k 0)
     {b : Bool} (q : b ≡ allKnown tab (k * mostPlaces) (x / 2)) (f : b ≡ true) where

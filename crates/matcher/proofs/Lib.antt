@@ -10,6 +10,7 @@ pub mod MaskLaws
 pub mod FailureLaws
 pub mod NogoodLaws
 pub mod SolveLaws
+pub mod LevelLaws
 pub mod TryingLaws
 pub mod KnownLaws
 pub mod PlaceLaws

@@ -5,12 +5,11 @@ use mathlib.Core.List.{List, [], _∷_, List·Memᴰ}
 use mathlib.Core.Option.{some}
 use Prim.Native.Nat.{ℕ, zero, suc, _≤_, _<_}
 use native.Mathlib.Omega.{arith}
-use lib.ListN.{length, getD, take}
+use lib.ListN.{length, getD}
 use lib.Seq.{ext-getD, getD-take}
-use lib.Dec.{eqb, ltb}
 use borrow.Author.Tests.{le-ltb, eqb-true}
 use Rattle.basics.specs.Tests.{Cmp, cmp, below, equal, above}
-use Rattle.label.specs.Limits.{termEnd, mostPlaces}
+use Rattle.label.specs.Limits.{mostPlaces}
 use Rattle.label.specs.Labels.{areArities, isLabel, predicateOf, placeAt, unpacked, placesOf, placeFits, termsOf}
 use Rattle.label.specs.LabelLaws.{place-of, place-fits}
 use Rattle.label.specs.ArityLaws.{terms-length, arity-most}

@@ -6,10 +6,6 @@ use lib.ListN.{length}
 use Prim.Native.Nat.{ℕ, _<_, _-_}
 use Rattle.matcher.proofs.SolveLaws.{known-images}
 use Rattle.matcher.proofs.TryingLaws.{
-  solve-end,
-  solve-recalled,
-  Level,
-  level-slots,
   Trying,
   trying-start,
   trying-room,
@@ -19,6 +15,7 @@ use Rattle.matcher.proofs.TryingLaws.{
   trying-up,
   trying-failed,
 }
+use Rattle.matcher.proofs.LevelLaws.{solve-end, solve-recalled, level-slots}
 use Rattle.matcher.proofs.KnownLaws.{unmet-post, met-next, met-post}
 use borrow.Fn.Kinds.{In}
 use borrow.Fn.PlainCycle.{Measures, is, falls, and}
