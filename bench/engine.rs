@@ -89,12 +89,12 @@ fn row_fits(arities: &[u64], w: &[u64], i: usize) -> bool {
 
 #[inline(always)]
 fn hash(a: u64, b: u64, c: u64) -> usize {
-    let x = (a >> 32) * 40503
-        + (a as u32 as u64) * 36013
-        + (b as u32 as u64) * 60493
-        + (c as u32 as u64) * 30011
-        + (b >> 32) * 52711;
-    ((x + (x >> 10) + (x >> 20)) % BUCKETS as u64) as usize
+    let x = (a >> 32) * 44453
+        + (a as u32 as u64) * 33739
+        + (b as u32 as u64) * 57641
+        + (b >> 32) * 60493
+        + (c as u32 as u64) * 25717;
+    ((x + (x >> 7) + (x >> 17)) % BUCKETS as u64) as usize
 }
 
 /// One up from the place of the row, or 0.

@@ -201,7 +201,7 @@ pub fn cut(
 
 /// The value of a listing in a state, to `value`: the highest leaf over all valuations of its variables.
 ///
-/// `constants[c]` is the object of constant c, 0 for a constant that has no word; `facts` are rows of five words.
+/// `constants[c]` is the object of constant c, 0 for a constant that has no word; `facts` are rows of [`FACT_WORDS`] words.
 ///
 /// # Refusals
 /// In this order: [`Listing`](Refusal::Listing); [`Range`](Refusal::Range) (no object, or one named that is not there);
