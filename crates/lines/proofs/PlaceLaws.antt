@@ -10,7 +10,7 @@ use lib.Seq.{getD-take, getD-drop}
 use lib.Dec.{leb, eqb}
 use Rattle.label.specs.Limits.{constantCount}
 use Rattle.diagram.specs.Words.{everyBelow}
-use Rattle.valuing.proofs.CheckLaws.{Passed, passed-start, passed-on, passed-no, passed-all}
+use Rattle.valuing.proofs.PassedLaws.{Passed, passed-start, passed-on, passed-no, passed-all}
 use Rattle.mdp.specs.Model.{Action}
 use Rattle.names.specs.Layout.{actionsAt, variantsAt}
 use Rattle.names.specs.KeyLaws.{length-keys}
