@@ -8,7 +8,7 @@ use lib.ListN.{length, getD, take, drop}
 use lib.Seq.{length-take-le}
 use Rattle.refusal.specs.declared.Refusal.{Refusal}
 use Rattle.refusal.specs.declared.Refusal.the-variants.{Name, Truth}
-use Rattle.label.specs.Limits.{variableCount, predicateCount}
+use Rattle.label.specs.Limits.{variableCount, predicateCount, mostPlaces}
 use Rattle.diagram.specs.Sizes.{resultWords}
 use Rattle.diagram.specs.Diagram.{Diagram}
 use Rattle.diagram.specs.Rows.{rows}
@@ -130,7 +130,7 @@ headOf ks es = record { variables = ks; rest = es }
 
 module _ {s : List ℕ} {n : Numbers} {names ar work : List ℕ} (x : Lent Becomes s n names ar work) where
   module _ (p : ℕ) where
-    pub becomes-arity : getD ar p 0 ≤ 4
+    pub becomes-arity : getD ar p 0 ≤ mostPlaces
     becomes-arity = arity-most ar p (x .vocabulary .arities)
 
     pub becomes-known : p < predicateCount → p < length ar
