@@ -1,0 +1,5 @@
+pub mod DigitLaws
+pub mod TruthLaws
+pub mod SetLaws
+pub mod BestLaws
+pub mod FillLaws

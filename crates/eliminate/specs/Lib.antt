@@ -1,0 +1,5 @@
+pub mod Masks
+pub mod Calls
+pub mod Stores
+pub mod MaskLaws
+pub mod PlaceLaws

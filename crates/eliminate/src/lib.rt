@@ -1,0 +1,304 @@
+// Variable elimination over lent words: a table for each row of a listing, as numbers in one array.
+use label::Label;
+use label::Term;
+use state::FACT_WORDS;
+ghost use mathlib.Core.Path.{_≡_};
+ghost use mathlib.Core.Bool.{cond};
+ghost use Prim.Native.Nat.{_+_, _*_, _^_, _<_, _≤_, min, max};
+ghost use lib.ListN.{length};
+ghost use Rattle.label.specs.Limits.{termEnd};
+ghost use Rattle.label.specs.Labels.{predicateOf};
+ghost use Rattle.state.specs.Lent.{factWords, saysFact, saidBy};
+ghost use Rattle.elimination.specs.Elimination.{mostEntries, labelVariables};
+ghost use Rattle.eliminate.specs.Masks.{namesOf, envOf, placeOf, decoded};
+ghost use Rattle.eliminate.specs.Stores.{Filled};
+ghost use Rattle.eliminate.specs.Calls.{Decodable, Placeable, Asked, objectsOf, tells, One, Labelled, Countable, Counted, entryIn, lookIn, Entering, Looking, Best, Filling};
+
+// Entries of all tables of one evaluation at most.
+pub const ENTRIES: u64 = 8192;
+
+// Gives the variables of the set the objects of the choice with the place c.
+fn decode(env: &mut [u64], n: u64, set: u64, c: u64)
+    requires { ⌜ Decodable (now env) n ⌝ }
+    ensures { λ _. ⌜ now (env .exit) ≡ decoded n (namesOf set) c (now (env .entry)) ⌝ }
+{
+    let mut rest = set;
+    let mut code = c;
+    let mut v = Term::FIRST_VARIABLE as usize;
+    while v < (Term::END as usize) {
+        if rest == 0 {
+            return;
+        }
+        if rest % 2 == 1 {
+            env[v] = code % n;
+            code = code / n;
+            rest = rest / 2;
+            v += 1;
+        } else {
+            rest = rest / 2;
+            v += 1;
+        }
+    }
+}
+
+// The place of the choice that the variables of the set have.
+fn place(env: &[u64], n: u64, set: u64) -> usize
+    requires { ⌜ Placeable (now env) n set ⌝ }
+    ensures { λ r. ⌜ r ≡ placeOf n (namesOf set) (envOf (now (env .entry))) ⌝ }
+{
+    let mut rest = set;
+    let mut weight = 1;
+    let mut at = 0;
+    let mut v = Term::FIRST_VARIABLE as usize;
+    while v < (Term::END as usize) {
+        if rest == 0 {
+            return at as usize;
+        }
+        if rest % 2 == 1 {
+            at = at + weight * env[v];
+            weight = weight * n;
+            rest = rest / 2;
+            v += 1;
+        } else {
+            rest = rest / 2;
+            v += 1;
+        }
+    }
+    at as usize
+}
+
+// Whether row i of the facts says what the label says of the objects in env.
+fn says(arities: &[u64], facts: &[u64], env: &[u64], l: u64, i: usize) -> bool
+    requires { ⌜ Asked (now arities) (now env) l ⌝ }
+    requires { ⌜ i * factWords + factWords ≤ length (now facts) ⌝ }
+    ensures { λ r. ⌜ r ≡ saysFact (now (arities .entry)) (now (facts .entry)) (predicateOf l) (objectsOf (now (arities .entry)) (now (env .entry)) l) i ⌝ }
+{
+    let label = Label { packed: l };
+    let p = label.predicate();
+    if facts[i * FACT_WORDS] != p {
+        return false;
+    }
+    let arity = arities[p as usize];
+    let mut k = 0;
+    while k < arity {
+        let t = label.place(k) as usize;
+        if facts[i * FACT_WORDS + 1 + (k as usize)] != env[t] {
+            return false;
+        }
+        k += 1;
+    }
+    true
+}
+
+// Whether some row of the facts says it.
+fn said(arities: &[u64], facts: &[u64], env: &[u64], l: u64) -> bool
+    requires { ⌜ Asked (now arities) (now env) l ⌝ }
+    ensures { λ r. ⌜ r ≡ saidBy (now (arities .entry)) (now (facts .entry)) (predicateOf l) (objectsOf (now (arities .entry)) (now (env .entry)) l) ⌝ }
+{
+    let rows = facts.len() / FACT_WORDS;
+    let mut i = 0;
+    while i < rows {
+        if says(arities, facts, env, l, i) {
+            return true;
+        }
+        i += 1;
+    }
+    false
+}
+
+// Whether the label holds of the objects in env.
+fn truth(arities: &[u64], facts: &[u64], env: &[u64], l: u64) -> bool
+    requires { ⌜ Asked (now arities) (now env) l ⌝ }
+    ensures { λ r. ⌜ r ≡ tells (now (arities .entry)) (now (facts .entry)) (now (env .entry)) l ⌝ }
+{
+    let label = Label { packed: l };
+    if label.predicate() == Label::EQUALITY {
+        let t = label.place(0) as usize;
+        let u = label.place(1) as usize;
+        return env[t] == env[u];
+    }
+    said(arities, facts, env, l)
+}
+
+// The set of the term t, empty if it is no variable.
+fn one(t: u64) -> u64
+    requires { ⌜ t < termEnd ⌝ }
+    ensures { λ r. ⌜ One t r ⌝ }
+{
+    if t < Term::FIRST_VARIABLE {
+        return 0;
+    }
+    1 << (t - Term::FIRST_VARIABLE)
+}
+
+// The set of the label's variables.
+fn variables(arities: &[u64], l: u64) -> u64
+    requires { ⌜ Labelled (now arities) l ⌝ }
+    ensures { λ r. ⌜ namesOf r ≡ labelVariables (now (arities .entry)) l ⌝ }
+{
+    let label = Label { packed: l };
+    let arity = arities[label.predicate() as usize];
+    let mut set = 0;
+    let mut k = 0;
+    while k < arity {
+        set = set | one(label.place(k));
+        k += 1;
+    }
+    set
+}
+
+// How many choices there are for the variables of the set, or one more than the limit.
+fn size(n: u64, set: u64) -> u64
+    requires { ⌜ 0 < n ⌝ }
+    ensures { λ r. ⌜ r ≡ min (n ^ length (namesOf set)) (mostEntries + 1) ⌝ }
+{
+    let mut rest = set;
+    let mut size = 1;
+    let mut v = Term::FIRST_VARIABLE;
+    while v < Term::END {
+        if rest == 0 {
+            return size;
+        }
+        if rest % 2 == 1 {
+            if n > ENTRIES {
+                return ENTRIES + 1;
+            }
+            size = size * n;
+            if size > ENTRIES {
+                return ENTRIES + 1;
+            }
+            rest = rest / 2;
+            v += 1;
+        } else {
+            rest = rest / 2;
+            v += 1;
+        }
+    }
+    size
+}
+
+// 1 if true.
+fn counted(b: bool) -> u64
+    ensures { λ r. ⌜ r ≡ cond b 1 0 ⌝ }
+{
+    if b {
+        return 1;
+    }
+    0
+}
+
+// For how many of the m choices for the variables of the set the label holds.
+fn cases(arities: &[u64], facts: &[u64], env: &mut [u64], n: u64, l: u64, set: u64, m: u64) -> u64
+    requires { ⌜ Countable (now arities) (now env) n l ⌝ }
+    requires { ⌜ m ≤ mostEntries ⌝ }
+    ensures { λ r. ⌜ Counted (now (arities .entry)) (now (facts .entry)) (now (env .entry)) n l set m r (now (env .exit)) ⌝ }
+{
+    let mut count = 0;
+    let mut c = 0;
+    while c < m {
+        decode(env, n, set, c);
+        count += counted(truth(arities, facts, env, l));
+        c += 1;
+    }
+    count
+}
+
+// The entry of row i's table for the objects in env. A row's head is its table's names as a set, and where its entries begin.
+fn entry(heads: &[u64], space: &[u64], env: &[u64], n: u64, i: usize) -> u64
+    requires { ⌜ Entering (now heads) (now space) (now env) n i ⌝ }
+    ensures { λ r. ⌜ r ≡ entryIn (now (heads .entry)) (now (space .entry)) (now (env .entry)) n i ⌝ }
+{
+    let set = heads[i * 2];
+    let start = heads[i * 2 + 1] as usize;
+    space[start + place(env, n, set)]
+}
+
+// What the union of a row's two joins has for the objects in env: the entry of the child that the label leads to.
+fn look(
+    arities: &[u64],
+    facts: &[u64],
+    heads: &[u64],
+    space: &[u64],
+    env: &[u64],
+    n: u64,
+    l: u64,
+    high: usize,
+    low: usize,
+) -> u64
+    requires { ⌜ Looking (now arities) (now heads) (now space) (now env) n l high low ⌝ }
+    ensures { λ r. ⌜ r ≡ lookIn (now (arities .entry)) (now (facts .entry)) (now (heads .entry)) (now (space .entry)) n l high low (now (env .entry)) ⌝ }
+{
+    if truth(arities, facts, env, l) {
+        return entry(heads, space, env, n, high);
+    }
+    entry(heads, space, env, n, low)
+}
+
+// The higher of two numbers.
+fn higher(x: u64, y: u64) -> u64
+    ensures { λ r. ⌜ r ≡ max x y ⌝ }
+{
+    if x < y {
+        return y;
+    }
+    x
+}
+
+// The highest entry of the union over the m choices for the variables of the set.
+fn best(
+    arities: &[u64],
+    facts: &[u64],
+    heads: &[u64],
+    space: &[u64],
+    env: &mut [u64],
+    n: u64,
+    l: u64,
+    high: usize,
+    low: usize,
+    set: u64,
+    m: u64,
+) -> u64
+    requires { ⌜ Looking (now arities) (now heads) (now space) (now env) n l high low ⌝ }
+    ensures { λ r. ⌜ Best (now (arities .entry)) (now (facts .entry)) (now (heads .entry)) (now (space .entry)) n l high low set m (now (env .entry)) r (now (env .exit)) ⌝ }
+{
+    let mut best = 0;
+    let mut c = 0;
+    while c < m {
+        decode(env, n, set, c);
+        best = higher(
+            best,
+            look(arities, facts, heads, space, env, n, l, high, low),
+        );
+        c += 1;
+    }
+    best
+}
+
+// Writes the table of a row: for each of the choices for the kept variables the highest entry of the union over the m choices for the others.
+fn fill(
+    arities: &[u64],
+    facts: &[u64],
+    heads: &[u64],
+    space: &mut [u64],
+    env: &mut [u64],
+    n: u64,
+    l: u64,
+    high: usize,
+    low: usize,
+    kept: u64,
+    start: usize,
+    count: usize,
+    drops: u64,
+    m: u64,
+)
+    requires { ⌜ Filling (now arities) (now heads) (now space) (now env) n l high low kept start count drops m ⌝ }
+    ensures { λ _. ⌜ Filled (now (arities .entry)) (now (facts .entry)) (now (heads .entry)) (now (space .entry)) (now (env .entry)) n l high low kept start drops (now (space .exit)) (now (env .exit)) ⌝ }
+{
+    let mut e = 0;
+    while e < count {
+        decode(env, n, kept, e as u64);
+        let b = best(arities, facts, heads, space, env, n, l, high, low, drops, m);
+        space[start + e] = b;
+        e += 1;
+    }
+}
