@@ -3,3 +3,4 @@ pub mod TruthLaws
 pub mod SetLaws
 pub mod BestLaws
 pub mod FillLaws
+pub mod HandLaws

@@ -8,9 +8,11 @@ ghost use Prim.Native.Nat.{_+_, _*_, _^_, _<_, _≤_, min, max};
 ghost use lib.ListN.{length};
 ghost use Rattle.label.specs.Limits.{termEnd};
 ghost use Rattle.label.specs.Labels.{predicateOf};
+ghost use Rattle.diagram.specs.Words.{rowCount};
 ghost use Rattle.state.specs.Lent.{factWords, saysFact, saidBy};
 ghost use Rattle.elimination.specs.Elimination.{mostEntries, labelVariables};
 ghost use Rattle.eliminate.specs.Masks.{namesOf, envOf, placeOf, decoded};
+ghost use Rattle.eliminate.specs.Above.{Above, Handing};
 ghost use Rattle.eliminate.specs.Stores.{Filled};
 ghost use Rattle.eliminate.specs.Calls.{Decodable, Placeable, Asked, objectsOf, tells, One, Labelled, Countable, Counted, entryIn, lookIn, Entering, Looking, Best, Filling};
 
@@ -300,5 +302,33 @@ fn fill(
         let b = best(arities, facts, heads, space, env, n, l, high, low, drops, m);
         space[start + e] = b;
         e += 1;
+    }
+}
+
+// Hands on to the children of row i what it tests and what is tested above it, after all rows behind it.
+fn hand_on(arities: &[u64], words: &[u64], above: &mut [u64], i: usize)
+    requires { ⌜ Handing (now arities) (now words) (now above) i ⌝ }
+    ensures { λ _. ⌜ Above (now (arities .entry)) (now (words .entry)) (now (above .exit)) i ⌝ }
+{
+    let l = words[i * 3];
+    if l == Label::LEAF {
+        return;
+    }
+    let high = words[i * 3 + 1] as usize;
+    let low = words[i * 3 + 2] as usize;
+    let set = above[i] | variables(arities, l);
+    above[high] = above[high] | set;
+    above[low] = above[low] | set;
+}
+
+// For each row the set of the variables that rows leading to it test; the words are 0 before.
+fn find_above(arities: &[u64], words: &[u64], above: &mut [u64])
+    requires { ⌜ Above (now arities) (now words) (now above) (rowCount (now words)) ⌝ }
+    ensures { λ _. ⌜ Above (now (arities .entry)) (now (words .entry)) (now (above .exit)) 0 ⌝ }
+{
+    let mut i = words.len() / 3;
+    while i > 0 {
+        i -= 1;
+        hand_on(arities, words, above, i);
     }
 }
