@@ -41,7 +41,7 @@ fits-moved {s} {n} {set} {env} {env′} e f w = record {
 }
 
 -- ===== The union in words =====
-tells-holds : (s : State) (ar facts env : List ℕ) (l : ℕ) → s .fact ≡ saidBy ar facts → tells ar facts env l ≡ holds s (envOf env) (atomOf ar l)
+pub tells-holds : (s : State) (ar facts env : List ℕ) (l : ℕ) → s .fact ≡ saidBy ar facts → tells ar facts env l ≡ holds s (envOf env) (atomOf ar l)
 unfolding tells objectsOf holds atomOf
 tells-holds s ar facts env l e = go (predicateOf l) (map (envOf env) (termsOf ar (unpacked l)))
   where

@@ -4,3 +4,4 @@ pub mod SetLaws
 pub mod BestLaws
 pub mod FillLaws
 pub mod HandLaws
+pub mod RowLaws

@@ -24,7 +24,7 @@ use Rattle.elimination.specs.NameLaws.{Whence, new, old, in-varsOf, vars
 use Rattle.elimination.specs.TableLaws.{Full, Named, aggregate-full}
 
 -- ===== Sums =====
-sum-const : (n c : ℕ) → sumTo n (λ o. c) ≡ n * c
+pub sum-const : (n c : ℕ) → sumTo n (λ o. c) ≡ n * c
 unfolding sumTo
 sum-const zero c = omega arith
 sum-const (suc n) c = let z : suc n * c ≡ n * c + c = omega arith in rw (sum-const n c, z)

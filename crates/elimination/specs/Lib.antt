@@ -42,4 +42,5 @@ pub mod AboveLaws
 pub mod RowLaws
 pub mod RootLaws
 pub mod CountLaws
+pub mod CaseLaws
 pub mod AnswerLaws
