@@ -5,3 +5,4 @@ pub mod BestLaws
 pub mod FillLaws
 pub mod HandLaws
 pub mod RowLaws
+pub mod CountLaws

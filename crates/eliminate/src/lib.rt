@@ -13,6 +13,7 @@ ghost use Rattle.state.specs.Lent.{factWords, saysFact, saidBy};
 ghost use Rattle.elimination.specs.Elimination.{mostEntries, labelVariables};
 ghost use Rattle.eliminate.specs.Masks.{namesOf, envOf, placeOf, decoded};
 ghost use Rattle.eliminate.specs.Above.{Above, Handing};
+ghost use Rattle.eliminate.specs.Counts.{Shrinks, Shrunk, Rowing, Rowed};
 ghost use Rattle.eliminate.specs.Stores.{Filled};
 ghost use Rattle.eliminate.specs.Calls.{Decodable, Placeable, Asked, objectsOf, tells, One, Labelled, Countable, Counted, entryIn, lookIn, Entering, Looking, Best, Filling};
 
@@ -331,4 +332,57 @@ fn find_above(arities: &[u64], words: &[u64], above: &mut [u64])
         i -= 1;
         hand_on(arities, words, above, i);
     }
+}
+
+// The entries of the aggregations that divide `whole` entries by n for each variable of the set.
+fn shrink(n: u64, whole: u64, set: u64) -> u64
+    requires { ⌜ Shrinks n whole ⌝ }
+    ensures { λ r. ⌜ Shrunk n whole set r ⌝ }
+{
+    let mut rest = set;
+    let mut size = whole;
+    let mut sum = 0;
+    let mut v = Term::FIRST_VARIABLE;
+    while v < Term::END {
+        if rest == 0 {
+            return sum;
+        }
+        if rest % 2 == 1 {
+            size = size / n;
+            sum += size;
+            rest = rest / 2;
+            v += 1;
+        } else {
+            rest = rest / 2;
+            v += 1;
+        }
+    }
+    sum
+}
+
+// The entries that a branch row counts: its two joins, its union and its aggregations; more than the limit if the union has more.
+// Its label's variables, its children's names and what it aggregates are sets.
+fn row_entries(
+    arities: &[u64],
+    facts: &[u64],
+    env: &mut [u64],
+    n: u64,
+    l: u64,
+    own: u64,
+    high: u64,
+    low: u64,
+    drops: u64,
+) -> u64
+    requires { ⌜ Rowing (now arities) (now env) n l own high low drops ⌝ }
+    ensures { λ r. ⌜ Rowed (now (arities .entry)) (now (facts .entry)) (now (env .entry)) n l own high low drops r (now (env .exit)) ⌝ }
+{
+    let whole = size(n, own | high | low);
+    if whole > ENTRIES {
+        return whole;
+    }
+    let choices = size(n, own);
+    let count = cases(arities, facts, env, n, l, own, choices);
+    let yes = count * size(n, high ^ (high & own));
+    let no = (choices - count) * size(n, low ^ (low & own));
+    yes + no + whole + shrink(n, whole, drops)
 }

@@ -29,6 +29,7 @@
 --   row-table: a row's table gives for each choice of the variables that rows leading to it test the highest leaf over all choices of the others
 --   valued-same: the answer is as before wherever it was no 15; valued-tables, valued-refused: where it was 15
 --   full-entries, join-entries, aggregate-entries: how many entries a full table, a join and an aggregation have
+--   cases-split: the true and the false cases of a label are all choices for its variables; aggregate-sum: the entries of a row's aggregations
 --   entries-grow: the count grows row by row
 --   tested-own, tested-on, tested-from: what is tested above a row is what the rows with an edge to it test, and what is tested above those
 
