@@ -17,7 +17,7 @@ use Rattle.diagram.specs.Words.{equalLists}
 use Rattle.diagram.specs.WordLaws.{getD-map, lists-equal, equal-lists}
 use Rattle.state.specs.State.{equated}
 use Rattle.state.specs.Lent.{factWords, factCount, predicateAt, objectsAt, saysFact, someBelow, saidBy}
-use Rattle.state.specs.LentLaws.{some-made, some-none}
+use Rattle.state.specs.LentLaws.{some-made, some-none, objects-length as row-length, object-at}
 use Rattle.eliminate.specs.Masks.{envOf}
 use Rattle.eliminate.specs.Calls.{Labelled, Asked, objectsOf, lentTruth, tells}
 
@@ -77,19 +77,6 @@ module _ {ar env : List ℕ} {l : ℕ} (a : Asked ar env l) where
       getD-map (envOf env) (termsOf ar (unpacked l)) k 0 0 (omega arith) ∙ ap (envOf env) (term-at (a .labelled) k h)
 
 -- ===== What a row of facts says =====
-
--- the objects of row i, one by one
-object-at : (facts : List ℕ) (i k : ℕ) → k < mostPlaces → getD (objectsAt facts i) k 0 ≡ getD facts (i * factWords + 1 + k) 0
-unfolding objectsAt
-object-at facts i zero h = ap (λ j. getD facts j 0) (omega arith)
-object-at facts i (suc zero) h = ap (λ j. getD facts j 0) (omega arith)
-object-at facts i (suc (suc zero)) h = ap (λ j. getD facts j 0) (omega arith)
-object-at facts i (suc (suc (suc zero))) h = ap (λ j. getD facts j 0) (omega arith)
-object-at facts i (suc (suc (suc (suc k)))) h = absurd (omega arith)
-
-objects-whole : (facts : List ℕ) (i : ℕ) → length (objectsAt facts i) ≡ mostPlaces
-unfolding objectsAt
-objects-whole facts i = refl
 
 -- row i has the predicate, and the first k of its objects are the label's
 pub record Saying (ar facts env : List ℕ) (l i arity k : ℕ) : Type 0 where
@@ -169,7 +156,7 @@ module _ {ar facts env : List ℕ} {l i arity k : ℕ} (s : Saying ar facts env 
   say-all h =
       let f = s .few in
       let n = s .end in
-      let w = objects-whole facts i in
+      let w = row-length facts i (omega (arith, s .row)) in
       let u : length (take arity (objectsAt facts i)) ≡ arity = length-take-le arity (objectsAt facts i) (omega arith) in
       let v : length (objectsOf ar env l) ≡ arity = objects-length (s .asked) ∙ sym (s .arity-is) in
       let z : take arity (objectsAt facts i) ≡ objectsOf ar env l
