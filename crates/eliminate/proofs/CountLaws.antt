@@ -285,9 +285,6 @@ module _ {ar env : List ℕ} {n l own high low drops : ℕ} (w : Rowing ar env n
                 → c * yes + (choices - c) * no + whole + rest ≡ rowTotal s ar l x y (namesOf drops)
             sums s x y g p q fx fy nx ny = ap₂ _+_ (ap₂ _+_ (ap₂ _+_ true-part false-part) whole-part) drop-part
               where
-                a : Atomic
-                a = atomOf ar l
-
                 own-is : varsOf (args (atomOf ar l)) [] ≡ namesOf own
                 own-is = sym (w .own-is)
 
@@ -307,12 +304,16 @@ module _ {ar env : List ℕ} {n l own high low drops : ℕ} (w : Rowing ar env n
 
                 true-part : c * yes ≡ entries s [] (join s true (atomOf ar l) x)
                 true-part =
-                    ap₂ _*_ yes-cases (part-size (bitXor high (bitAnd high own)) all some fits in-high yes-is .0 ∙ ap₂ (λ m j. m ^ j) (sym (g .size-is)) (sym (lack-is high own) ∙ ap₂ lacking (sym own-is) p))
+                    ap₂ _*_ yes-cases
+                    (part-size (bitXor high (bitAnd high own)) all some fits in-high yes-is .0
+                    ∙ ap₂ (λ m j. m ^ j) (sym (g .size-is)) (sym (lack-is high own) ∙ ap₂ lacking (sym own-is) p))
                     ∙ sym (join-entries s [] true (atomOf ar l) x fx nx)
 
                 false-part : (choices - c) * no ≡ entries s [] (join s false (atomOf ar l) y)
                 false-part =
-                    ap₂ _*_ no-cases (part-size (bitXor low (bitAnd low own)) all some fits in-low no-is .0 ∙ ap₂ (λ m j. m ^ j) (sym (g .size-is)) (sym (lack-is low own) ∙ ap₂ lacking (sym own-is) q))
+                    ap₂ _*_ no-cases
+                    (part-size (bitXor low (bitAnd low own)) all some fits in-low no-is .0
+                    ∙ ap₂ (λ m j. m ^ j) (sym (g .size-is)) (sym (lack-is low own) ∙ ap₂ lacking (sym own-is) q))
                     ∙ sym (join-entries s [] false (atomOf ar l) y fy ny)
 
                 whole-part : whole ≡ entries s [] (unionOf s ar l x y)

@@ -20,7 +20,12 @@ look-requires : tie.Need-look-requires Inv-loop μ-loop
 look-requires c κs = best-looking (c .before .before .before .before .before .before .loop .inv) (c .before .before .before .decode .ensures)
 
 loop-again : tie.Need-loop-again Inv-loop μ-loop
-loop-again c = best-on (c .before .before .before .before .before .before .before .before .loop .inv) (c .before .before .before .before .before .before .before .loop-test .taken) (c .before .before .before .before .before .decode .ensures) (c .before .look .ensures) (c .higher .ensures)
+loop-again c =
+    let look = c .before .look in
+    let decode = c .before .before .before .before .before .decode in
+    let loop-test = c .before .before .before .before .before .before .before .loop-test in
+    let loop = c .before .before .before .before .before .before .before .before .loop in
+    best-on (loop .inv) (loop-test .taken) (decode .ensures) (look .ensures) (c .higher .ensures)
 
 same-length : tie.Need-same-length Inv-loop μ-loop
 same-length c = c .before .loop .inv .moved .kept

@@ -21,10 +21,19 @@ truth-requires : tie.Need-truth-requires Inv-loop μ-loop
 truth-requires c κs = search case-asked
 
 add-count : tie.Need-add-count Inv-loop μ-loop
-add-count c = omega (arith, case-small (c .before .before .before .before .before .before .before .before .loop .inv) (c .before .truth .result) (c .before .before .before .before .before .before .before .loop-test .taken) (c .counted .ensures))
+add-count c =
+    let truth = c .before .truth in
+    let loop-test = c .before .before .before .before .before .before .before .loop-test in
+    let loop = c .before .before .before .before .before .before .before .before .loop in
+    omega (arith, case-small (loop .inv) (truth .result) (loop-test .taken) (c .counted .ensures))
 
 loop-again : tie.Need-loop-again Inv-loop μ-loop
-loop-again c = case-on (c .before .before .before .before .before .before .before .before .loop .inv) _ (c .before .before .before .before .before .before .before .loop-test .taken) (c .before .before .before .before .before .decode .ensures) (c .before .truth .ensures) (c .counted .ensures)
+loop-again c =
+    let truth = c .before .truth in
+    let decode = c .before .before .before .before .before .decode in
+    let loop-test = c .before .before .before .before .before .before .before .loop-test in
+    let loop = c .before .before .before .before .before .before .before .before .loop in
+    case-on (loop .inv) _ (loop-test .taken) (decode .ensures) (truth .ensures) (c .counted .ensures)
 
 same-length : tie.Need-same-length Inv-loop μ-loop
 same-length c = c .before .loop .inv .moved .kept

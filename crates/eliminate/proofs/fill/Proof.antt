@@ -22,16 +22,30 @@ best-requires : tie.Need-best-requires Inv-loop μ-loop
 best-requires c κs = fill-looking (c .before .before .before .before .before .before .before .loop .inv) (c .before .before .before .before .decode .ensures)
 
 add-space : tie.Need-add-space Inv-loop μ-loop
-add-space c = omega (arith, fill-room (c .before .before .before .before .before .before .before .before .before .before .loop .inv) (c .before .before .before .before .before .before .before .before .before .loop-test .taken))
+add-space c =
+    let loop-test = c .before .before .before .before .before .before .before .before .before .loop-test in
+    let loop = c .before .before .before .before .before .before .before .before .before .before .loop in
+    omega (arith, fill-room (loop .inv) (loop-test .taken))
 
 mul-space : tie.Need-mul-space Inv-loop μ-loop
-mul-space c = omega (arith, fill-room (c .before .before .before .before .before .before .before .before .before .before .loop .inv) (c .before .before .before .before .before .before .before .before .before .loop-test .taken))
+mul-space c =
+    let loop-test = c .before .before .before .before .before .before .before .before .before .loop-test in
+    let loop = c .before .before .before .before .before .before .before .before .before .before .loop in
+    omega (arith, fill-room (loop .inv) (loop-test .taken))
 
 slice-write-space : tie.Need-slice-write-space Inv-loop μ-loop
-slice-write-space c = fill-room (c .before .before .before .before .before .before .before .before .before .before .loop .inv) (c .before .before .before .before .before .before .before .before .before .loop-test .taken)
+slice-write-space c =
+    let loop-test = c .before .before .before .before .before .before .before .before .before .loop-test in
+    let loop = c .before .before .before .before .before .before .before .before .before .before .loop in
+    fill-room (loop .inv) (loop-test .taken)
 
 loop-again : tie.Need-loop-again Inv-loop μ-loop
-loop-again c = fill-on (c .before .before .before .before .before .before .before .before .before .before .loop .inv) (c .before .before .before .before .before .before .before .before .before .loop-test .taken) (c .before .before .before .before .before .before .before .decode .ensures) (c .before .before .best .ensures)
+loop-again c =
+    let best = c .before .before .best in
+    let decode = c .before .before .before .before .before .before .before .decode in
+    let loop-test = c .before .before .before .before .before .before .before .before .before .loop-test in
+    let loop = c .before .before .before .before .before .before .before .before .before .before .loop in
+    fill-on (loop .inv) (loop-test .taken) (decode .ensures) (best .ensures)
 
 same-length : tie.Need-same-length Inv-loop μ-loop
 same-length c = c .before .loop .inv .space-kept

@@ -22,7 +22,10 @@ hand-on-requires : tie.Need-hand-on-requires Inv-loop μ-loop
 hand-on-requires c κs = hand-next (c .before .before .loop .inv .2) (c .before .before .loop .inv .1) (c .before .loop-test .taken)
 
 loop-again : tie.Need-loop-again Inv-loop μ-loop
-loop-again c = (c .before .before .hand-on .kept .1 .1 .0 ∙ c .before .before .before .before .before .loop .inv .0, omega (arith, c .before .before .before .before .before .loop .inv .1), c .before .before .hand-on .ensures)
+loop-again c =
+    let hand-on = c .before .before .hand-on in
+    let loop = c .before .before .before .before .before .loop in
+    (hand-on .kept .1 .1 .0 ∙ loop .inv .0, omega (arith, loop .inv .1), hand-on .ensures)
 
 same-length : tie.Need-same-length Inv-loop μ-loop
 same-length c = c .before .loop .inv .0

@@ -8,39 +8,107 @@ returns : tie.Need-returns
 returns c = row-large (c .before .before .before .before .before .pre) _ (c .before .size .ensures) (c .if1 .taken)
 
 cases-requires : tie.Need-cases-requires
-cases-requires c κs = (c .before .before .before .before .before .before .before .pre .countable, row-choices (c .before .before .before .before .before .before .before .pre) (c .before .before .before .size .ensures) (c .before .before .if1 .left) (c .before .size2 .ensures))
+cases-requires c κs =
+    let size2 = c .before .size2 in
+    let if1 = c .before .before .if1 in
+    let size = c .before .before .before .size in
+    let pre = c .before .before .before .before .before .before .before .pre in
+    (pre .countable, row-choices pre (size .ensures) (if1 .left) (size2 .ensures))
 
 mul-yes : tie.Need-mul-yes
-mul-yes c = omega (arith, row-yes (c .before .before .before .before .before .before .before .before .before .before .before .pre) (c .before .before .before .before .before .before .before .size .ensures) (c .before .before .before .before .before .before .if1 .left) (c .before .before .before .before .before .size2 .ensures) (c .before .before .before .cases .ensures) (c .size3 .ensures))
+mul-yes c =
+    let cases = c .before .before .before .cases in
+    let size2 = c .before .before .before .before .before .size2 in
+    let if1 = c .before .before .before .before .before .before .if1 in
+    let size = c .before .before .before .before .before .before .before .size in
+    let pre = c .before .before .before .before .before .before .before .before .before .before .before .pre in
+    omega (arith, row-yes pre (size .ensures) (if1 .left) (size2 .ensures) (cases .ensures) (c .size3 .ensures))
 
 sub-no : tie.Need-sub-no
-sub-no c = row-less (c .before .before .before .before .before .before .before .before .before .before .before .pre) (c .before .before .before .before .before .before .before .size .ensures) (c .before .before .before .before .before .before .if1 .left) (c .before .before .before .before .before .size2 .ensures) (c .before .before .before .cases .ensures)
+sub-no c =
+    let cases = c .before .before .before .cases in
+    let size2 = c .before .before .before .before .before .size2 in
+    let if1 = c .before .before .before .before .before .before .if1 in
+    let size = c .before .before .before .before .before .before .before .size in
+    let pre = c .before .before .before .before .before .before .before .before .before .before .before .pre in
+    row-less pre (size .ensures) (if1 .left) (size2 .ensures) (cases .ensures)
 
 mul-no : tie.Need-mul-no
-mul-no c = omega (arith, row-no (c .before .before .before .before .before .before .before .before .before .before .before .before .pre) (c .before .before .before .before .before .before .before .before .size .ensures) (c .before .before .before .before .before .before .before .if1 .left) (c .before .before .before .before .before .before .size2 .ensures) (c .before .before .before .before .cases .ensures) (c .size4 .ensures))
+mul-no c =
+    let cases = c .before .before .before .before .cases in
+    let size2 = c .before .before .before .before .before .before .size2 in
+    let if1 = c .before .before .before .before .before .before .before .if1 in
+    let size = c .before .before .before .before .before .before .before .before .size in
+    let pre = c .before .before .before .before .before .before .before .before .before .before .before .before .pre in
+    omega (arith, row-no pre (size .ensures) (if1 .left) (size2 .ensures) (cases .ensures) (c .size4 .ensures))
 
 add-result : tie.Need-add-result
-add-result c = omega (arith, row-yes (c .before .before .before .before .before .before .before .before .before .before .before .before .pre) (c .before .before .before .before .before .before .before .before .size .ensures) (c .before .before .before .before .before .before .before .if1 .left) (c .before .before .before .before .before .before .size2 .ensures) (c .before .before .before .before .cases .ensures) (c .before .size3 .ensures), row-no (c .before .before .before .before .before .before .before .before .before .before .before .before .pre) (c .before .before .before .before .before .before .before .before .size .ensures) (c .before .before .before .before .before .before .before .if1 .left) (c .before .before .before .before .before .before .size2 .ensures) (c .before .before .before .before .cases .ensures) (c .size4 .ensures))
+add-result c =
+    let size3 = c .before .size3 in
+    let cases = c .before .before .before .before .cases in
+    let size2 = c .before .before .before .before .before .before .size2 in
+    let if1 = c .before .before .before .before .before .before .before .if1 in
+    let size = c .before .before .before .before .before .before .before .before .size in
+    let pre = c .before .before .before .before .before .before .before .before .before .before .before .before .pre in
+    omega (
+      arith,
+      row-yes pre (size .ensures) (if1 .left) (size2 .ensures) (cases .ensures) (size3 .ensures),
+      row-no pre (size .ensures) (if1 .left)
+          (size2 .ensures) (cases .ensures) (c .size4 .ensures),
+    )
 
 add-result-2 : tie.Need-add-result-2
 add-result-2 c =
-    omega (arith, c .before .before .before .before .before .before .before .if1 .left, row-yes (c .before .before .before .before .before .before .before .before .before .before .before .before .pre) (c .before .before .before .before .before .before .before .before .size .ensures) (c .before .before .before .before .before .before .before .if1 .left) (c .before .before .before .before .before .before .size2 .ensures) (c .before .before .before .before .cases .ensures) (c .before .size3 .ensures), row-no (c .before .before .before .before .before .before .before .before .before .before .before .before .pre) (c .before .before .before .before .before .before .before .before .size .ensures) (c .before .before .before .before .before .before .before .if1 .left) (c .before .before .before .before .before .before .size2 .ensures) (c .before .before .before .before .cases .ensures) (c .size4 .ensures))
+    let size3 = c .before .size3 in
+    let cases = c .before .before .before .before .cases in
+    let size2 = c .before .before .before .before .before .before .size2 in
+    let if1 = c .before .before .before .before .before .before .before .if1 in
+    let size = c .before .before .before .before .before .before .before .before .size in
+    let pre = c .before .before .before .before .before .before .before .before .before .before .before .before .pre in
+    omega (
+      arith,
+      if1 .left,
+      row-yes pre (size .ensures) (if1 .left) (size2 .ensures) (cases .ensures) (size3 .ensures),
+      row-no pre (size .ensures)
+          (if1 .left) (size2 .ensures) (cases .ensures) (c .size4 .ensures),
+    )
 
 shrink-requires : tie.Need-shrink-requires
-shrink-requires c κs = row-shrinks (c .before .before .before .before .before .before .before .before .before .before .before .before .pre) (c .before .before .before .before .before .before .before .before .size .ensures) (c .before .before .before .before .before .before .before .if1 .left) (c .before .before .before .before .before .before .size2 .ensures)
+shrink-requires c κs =
+    let size2 = c .before .before .before .before .before .before .size2 in
+    let if1 = c .before .before .before .before .before .before .before .if1 in
+    let size = c .before .before .before .before .before .before .before .before .size in
+    let pre = c .before .before .before .before .before .before .before .before .before .before .before .before .pre in
+    row-shrinks pre (size .ensures) (if1 .left) (size2 .ensures)
 
 add-result-3 : tie.Need-add-result-3
 add-result-3 c =
+    let size4 = c .before .size4 in
+    let size3 = c .before .before .size3 in
+    let cases = c .before .before .before .before .before .cases in
+    let size2 = c .before .before .before .before .before .before .before .size2 in
+    let if1 = c .before .before .before .before .before .before .before .before .if1 in
+    let size = c .before .before .before .before .before .before .before .before .before .size in
+    let pre = c .before .before .before .before .before .before .before .before .before .before .before .before .before .pre in
     omega (
       arith,
       c .shrink .ensures .few,
-      c .before .before .before .before .before .before .before .before .if1 .left,
-      row-yes (c .before .before .before .before .before .before .before .before .before .before .before .before .before .pre) (c .before .before .before .before .before .before .before .before .before .size .ensures) (c .before .before .before .before .before .before .before .before .if1 .left) (c .before .before .before .before .before .before .before .size2 .ensures) (c .before .before .before .before .before .cases .ensures) (c .before .before .size3 .ensures),
-      row-no (c .before .before .before .before .before .before .before .before .before .before .before .before .before .pre) (c .before .before .before .before .before .before .before .before .before .size .ensures) (c .before .before .before .before .before .before .before .before .if1 .left) (c .before .before .before .before .before .before .before .size2 .ensures) (c .before .before .before .before .before .cases .ensures) (c .before .size4 .ensures),
+      if1 .left,
+      row-yes pre (size .ensures) (if1 .left) (size2 .ensures) (cases .ensures)
+          (size3 .ensures),
+      row-no pre (size .ensures) (if1 .left) (size2 .ensures) (cases .ensures) (size4 .ensures),
     )
 
 returns-2 : tie.Need-returns-2
-returns-2 c = row-exact (c .before .before .before .before .before .before .before .before .before .before .before .before .before .pre) (c .before .before .before .before .before .before .before .before .before .size .ensures) (c .before .before .before .before .before .before .before .before .if1 .left) (c .before .before .before .before .before .before .before .size2 .ensures) (c .before .before .before .before .before .cases .ensures) (c .before .before .size3 .ensures) (c .before .size4 .ensures) (c .shrink .ensures)
+returns-2 c =
+    let size4 = c .before .size4 in
+    let size3 = c .before .before .size3 in
+    let cases = c .before .before .before .before .before .cases in
+    let size2 = c .before .before .before .before .before .before .before .size2 in
+    let if1 = c .before .before .before .before .before .before .before .before .if1 in
+    let size = c .before .before .before .before .before .before .before .before .before .size in
+    let pre = c .before .before .before .before .before .before .before .before .before .before .before .before .before .pre in
+    row-exact pre (size .ensures) (if1 .left) (size2 .ensures) (cases .ensures) (size3 .ensures) (size4 .ensures) (c .shrink .ensures)
 
 pub row-entries-spec : {M : Type 1} → statement M
 row-entries-spec =

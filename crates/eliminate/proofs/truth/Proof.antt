@@ -8,16 +8,28 @@ mul-result : tie.Need-mul-result
 mul-result c = omega (arith, asked-term (c .before .before .before .before .before .before .before .pre .labelled) 0 (omega arith) (c .before .place .ensures))
 
 shared-slice-read-result : tie.Need-shared-slice-read-result
-shared-slice-read-result c = omega (arith, asked-term (c .before .before .before .before .before .before .before .before .pre .labelled) 0 (omega arith) (c .before .before .place .ensures), c .before .before .before .before .before .before .before .before .pre .places)
+shared-slice-read-result c =
+    let place = c .before .before .place in
+    let pre = c .before .before .before .before .before .before .before .before .pre in
+    omega (arith, asked-term (pre .labelled) 0 (omega arith) (place .ensures), pre .places)
 
 mul-result-2 : tie.Need-mul-result-2
 mul-result-2 c = omega (arith, asked-term (c .before .before .before .before .before .before .before .before .pre .labelled) 1 (omega arith) (c .before .place2 .ensures))
 
 shared-slice-read-result-2 : tie.Need-shared-slice-read-result-2
-shared-slice-read-result-2 c = omega (arith, asked-term (c .before .before .before .before .before .before .before .before .before .pre .labelled) 1 (omega arith) (c .before .before .place2 .ensures), c .before .before .before .before .before .before .before .before .before .pre .places)
+shared-slice-read-result-2 c =
+    let place2 = c .before .before .place2 in
+    let pre = c .before .before .before .before .before .before .before .before .before .pre in
+    omega (arith, asked-term (pre .labelled) 1 (omega arith) (place2 .ensures), pre .places)
 
 returns : tie.Need-returns
-returns c = tell-equal _ _ _ _ (c .before .before .before .before .before .before .before .before .before .pre) (c .before .before .before .before .before .predicate .ensures) (c .before .before .before .before .if1 .taken) (c .before .before .before .place .ensures) (c .before .before .place2 .ensures)
+returns c =
+    let place2 = c .before .before .place2 in
+    let place = c .before .before .before .place in
+    let if1 = c .before .before .before .before .if1 in
+    let predicate = c .before .before .before .before .before .predicate in
+    let pre = c .before .before .before .before .before .before .before .before .before .pre in
+    tell-equal _ _ _ _ pre (predicate .ensures) (if1 .taken) (place .ensures) (place2 .ensures)
 
 returns-2 : tie.Need-returns-2
 returns-2 c = search tell-said
