@@ -179,7 +179,7 @@ apart-and true b = refl
 apart-and false b = refl
 
 -- the set of the names of `set` that are not in `own`
-mem-rest : (set own t : ℕ) → mem eqb t (namesOf (bitXor set (bitAnd set own))) ≡ (mem eqb t (namesOf set) && not (mem eqb t (namesOf own)))
+pub mem-rest : (set own t : ℕ) → mem eqb t (namesOf (bitXor set (bitAnd set own))) ≡ (mem eqb t (namesOf set) && not (mem eqb t (namesOf own)))
 mem-rest set own t =
     of-xor set (bitAnd set own) t ∙ ap (apart (mem eqb t (namesOf set))) (of-and set own t) ∙ apart-and (mem eqb t (namesOf set)) (mem eqb t (namesOf own))
 
@@ -240,6 +240,7 @@ module _ {ar env : List ℕ} {n l own high low drops : ℕ} (w : Rowing ar env n
         let u = union-entries s x y facts g p q fx fy in
         too-many h (omega arith);
     moved = moved-none n own env;
+    whole = λ q. absurd (omega arith);
   }
 
   module _ {whole choices : ℕ} (whole-is : whole ≡ min (n ^ length (namesOf all)) (mostEntries + 1)) (small : whole ≤ mostEntries)
@@ -279,6 +280,7 @@ module _ {ar env : List ℕ} {n l own high low drops : ℕ} (w : Rowing ar env n
         row-exact {rest} k = record {
           count = λ s x y g p q fx fy nx ny. exactly (sums s x y g p q fx fy nx ny);
           moved = counted .moved;
+          whole = λ q. let f = fits in omega arith;
         }
           where
             sums : (s : State) (x y : Table) → Said s ar facts env n → namesOf high ≡ x .names → namesOf low ≡ y .names → Full x → Full y → Named x → Named y

@@ -6,3 +6,4 @@ pub mod FillLaws
 pub mod HandLaws
 pub mod RowLaws
 pub mod CountLaws
+pub mod KeptLaws

@@ -45,3 +45,4 @@ pub record Rowed (ar facts env : List ℕ) (n l own high low drops r : ℕ) (env
   pub count : (s : State) (x y : Table) → Said s ar facts env n → namesOf high ≡ x .names → namesOf low ≡ y .names → Full x → Full y → Named x → Named y
       → Tells r (rowTotal s ar l x y (namesOf drops))
   pub moved : Moved n own env env′
+  pub whole : r ≤ mostEntries → n ^ length (namesOf (bitOr (bitOr own high) low)) ≤ r
