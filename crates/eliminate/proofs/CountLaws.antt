@@ -191,11 +191,11 @@ lack-is set own = lacking-length (namesOf own) (namesOf set)
     (λ t e. mem-lacks (namesOf own) (namesOf set) t ∙ sym (mem-rest set own t) ∙ e))
 
 -- ===== Sizes of parts =====
-part-length : (a b : ℕ) → ((t : ℕ) → mem eqb t (namesOf a) ≡ true → mem eqb t (namesOf b) ≡ true) → length (namesOf a) ≤ length (namesOf b)
+pub part-length : (a b : ℕ) → ((t : ℕ) → mem eqb t (namesOf a) ≡ true → mem eqb t (namesOf b) ≡ true) → length (namesOf a) ≤ length (namesOf b)
 part-length a b w = nodup-le eqb number-test (namesOf a) (namesOf b) (ascending-nodup firstVariable (namesOf a) (of-ascending a)) w
 
 -- a part's size is exact where the whole's is
-part-size : {n r : ℕ} (a b : ℕ) → 0 < n → n ^ length (namesOf b) ≤ mostEntries → ((t : ℕ) → mem eqb t (namesOf a) ≡ true → mem eqb t (namesOf b) ≡ true)
+pub part-size : {n r : ℕ} (a b : ℕ) → 0 < n → n ^ length (namesOf b) ≤ mostEntries → ((t : ℕ) → mem eqb t (namesOf a) ≡ true → mem eqb t (namesOf b) ≡ true)
     → r ≡ min (n ^ length (namesOf a)) (mostEntries + 1) → (r ≡ n ^ length (namesOf a)) × (r ≤ mostEntries)
 part-size {n} {r} a b s f w e =
     let p : n ^ length (namesOf a) ≤ n ^ length (namesOf b) = pow-le-pow-right s (part-length a b w) in

@@ -34,7 +34,7 @@ use Rattle.eliminate.proofs.SetLaws.{within-names, moved-none, moved-de
 low-out : (set t : ℕ) → t < firstVariable → mem eqb t (namesOf set) ≡ false
 low-out set t h = ascending-not firstVariable (namesOf set) t (of-ascending set) h
 
-fits-moved : {s : State} {n set : ℕ} {env env′ : List ℕ} → s .size ≡ n → Fits s [] (envOf env) → Moved n set env env′ → Fits s [] (envOf env′)
+pub fits-moved : {s : State} {n set : ℕ} {env env′ : List ℕ} → s .size ≡ n → Fits s [] (envOf env) → Moved n set env env′ → Fits s [] (envOf env′)
 fits-moved {s} {n} {set} {env} {env′} e f w = record {
   low = λ t h. w .others t (low-out set t h) ∙ f .low t h;
   range = λ t. subst (λ x. envOf env′ t < x) (sym e) (w .range (λ u. subst (λ x. envOf env u < x) e (f .range u)) t);
@@ -252,4 +252,5 @@ module _ {ar facts heads space₀ env₀ : List ℕ} {n l high low kept start co
         let c = w .filling .count-is in
         w .table s x y g hx hy cover θ f (omega arith);
     fits = w .fits;
+    range = w .range;
   }

@@ -7,3 +7,4 @@ pub mod HandLaws
 pub mod RowLaws
 pub mod CountLaws
 pub mod KeptLaws
+pub mod BranchLaws

@@ -13,6 +13,7 @@
 --   entryIn, lookIn, bestIn, Best == an entry, that of the child that a label leads to, the highest over the choices for a set
 --   Above, Handing == the variables that rows leading to a row test, as sets
 --   Said, Holds, unionOf, Filled == words that say a state, that hold a table; a row's table written
+--   Ready, Tabled, Branching, Branched == the rows worked out so far, in words and for a state; a branch row worked out
 --   Shrinks, Shrunk, rowTotal, Tells, Rowing, Rowed == a row's entries counted
 --
 -- Theorems
@@ -26,6 +27,7 @@ pub mod Calls
 pub mod Above
 pub mod Stores
 pub mod Counts
+pub mod Rows
 -- laws
 pub mod MaskLaws
 pub mod PlaceLaws

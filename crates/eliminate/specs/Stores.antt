@@ -38,3 +38,4 @@ pub record Filled (ar facts heads space env : List ℕ) (n l high low kept start
       → ((t : ℕ) → mem eqb t (unionOf s ar l x y .names) ≡ true → mem eqb t (namesOf drops) ≡ false → mem eqb t (namesOf kept) ≡ true)
       → (θ : ℕ → ℕ) → Fits s [] θ → getD space′ (start + placeOf n (namesOf kept) θ) 0 ≡ aggregateAll n (namesOf drops) (unionOf s ar l x y) .value θ
   pub fits : (s : State) → Said s ar facts env n → Fits s [] (envOf env′)
+  pub range : (t : ℕ) → envOf env′ t < n

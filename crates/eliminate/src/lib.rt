@@ -13,12 +13,19 @@ ghost use Rattle.state.specs.Lent.{factWords, saysFact, saidBy};
 ghost use Rattle.elimination.specs.Elimination.{mostEntries, labelVariables};
 ghost use Rattle.eliminate.specs.Masks.{namesOf, envOf, placeOf, decoded};
 ghost use Rattle.eliminate.specs.Above.{Above, Handing};
+ghost use Rattle.eliminate.specs.Rows.{Ready, Branching, Branched};
 ghost use Rattle.eliminate.specs.Counts.{Shrinks, Shrunk, Rowing, Rowed};
 ghost use Rattle.eliminate.specs.Stores.{Filled};
 ghost use Rattle.eliminate.specs.Calls.{Decodable, Placeable, Asked, objectsOf, tells, One, Labelled, Countable, Counted, entryIn, lookIn, Entering, Looking, Best, Filling};
 
 // Entries of all tables of one evaluation at most.
 pub const ENTRIES: u64 = 8192;
+
+// What working out a branch row gives: its table's names and how many entries it has, and the entries that the row counts; or too many.
+pub enum Worked {
+    Table(u64, u64, u64),
+    Full,
+}
 
 // Gives the variables of the set the objects of the choice with the place c.
 fn decode(env: &mut [u64], n: u64, set: u64, c: u64)
@@ -385,4 +392,62 @@ fn row_entries(
     let yes = count * size(n, high ^ (high & own));
     let no = (choices - count) * size(n, low ^ (low & own));
     yes + no + whole + shrink(n, whole, drops)
+}
+
+// Works out the branch row i: its table stands from `next` on, unless its entries and the `used` ones pass the limit.
+fn branch_table(
+    arities: &[u64],
+    facts: &[u64],
+    words: &[u64],
+    above: &[u64],
+    heads: &[u64],
+    space: &mut [u64],
+    env: &mut [u64],
+    n: u64,
+    i: usize,
+    next: usize,
+    used: u64,
+) -> Worked
+    requires { ⌜ Branching (now arities) (now words) (now above) (now heads) (now space) (now env) n i next used ⌝ }
+    ensures { λ r. ⌜ Branched (now (arities .entry)) (now (facts .entry)) (now (words .entry)) (now (above .entry)) (now (heads .entry)) (now (space .entry)) (now (env .entry)) n i next used r (now (space .exit)) (now (env .exit)) ⌝ }
+{
+    let l = words[i * 3];
+    let high = words[i * 3 + 1] as usize;
+    let low = words[i * 3 + 2] as usize;
+    let own = variables(arities, l);
+    let all = own | heads[high * 2] | heads[low * 2];
+    let kept = all & above[i];
+    let drops = all ^ kept;
+    let e = row_entries(
+        arities,
+        facts,
+        env,
+        n,
+        l,
+        own,
+        heads[high * 2],
+        heads[low * 2],
+        drops,
+    );
+    if e > ENTRIES - used {
+        return Worked::Full;
+    }
+    let count = size(n, kept);
+    fill(
+        arities,
+        facts,
+        heads,
+        space,
+        env,
+        n,
+        l,
+        high,
+        low,
+        kept,
+        next,
+        count as usize,
+        drops,
+        size(n, drops),
+    );
+    Worked::Table(kept, count, e)
 }
