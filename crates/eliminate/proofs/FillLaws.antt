@@ -122,7 +122,7 @@ module _ (s : State) (ar facts heads space : List ℕ) (n l high low : ℕ) (x y
 -- ===== Writing, entry by entry =====
 
 -- tables that stand before `start` are held still
-holds-before : {s : State} {heads space space′ : List ℕ} {n start i : ℕ} {z : Table} → s .size ≡ n → startAt heads i + n ^ length (namesOf (setAt heads i)) ≤ start
+pub holds-before : {s : State} {heads space space′ : List ℕ} {n start i : ℕ} {z : Table} → s .size ≡ n → startAt heads i + n ^ length (namesOf (setAt heads i)) ≤ start
     → ((j : ℕ) → j < start → getD space′ j 0 ≡ getD space j 0) → Holds s heads space i z → Holds s heads space′ i z
 holds-before {s} {heads} {space} {space′} {n} {start} {i} {z} e l b h = record {
   names-are = h .names-are;

@@ -8,3 +8,4 @@ pub mod RowLaws
 pub mod CountLaws
 pub mod KeptLaws
 pub mod BranchLaws
+pub mod WorkLaws

@@ -11,6 +11,8 @@ use Rattle.state.specs.State.{State, Fits}
 use Rattle.elimination.specs.Elimination.{rowTable, tables, entriesTo, mostEntries}
 use Rattle.eliminate.specs.declared.Worked.{Worked}
 use Rattle.eliminate.specs.declared.Worked.the-variants.{Table, Full}
+use Rattle.eliminate.specs.declared.Reached.{Reached}
+use Rattle.eliminate.specs.declared.Reached.the-variants.{At, Over}
 use Rattle.eliminate.specs.Masks.{namesOf, envOf}
 use Rattle.eliminate.specs.Calls.{setAt, startAt, Stored}
 use Rattle.eliminate.specs.Above.{Above}
@@ -50,3 +52,13 @@ pub record Branched (ar facts ws above heads space env : List ℕ) (n i next use
       → (heads′ : List ℕ) → setAt heads′ i ≡ kept → startAt heads′ i ≡ next → Holds s heads′ space′ i (rowTable s ar ws (tables s ar ws i) i)
   pub counts : (kept count e : ℕ) → r ≡ Table kept count e → (s : State) → Tabled s ar facts ws heads space env n i used → used + e ≡ entriesTo s [] ar ws (suc i)
   pub full : r ≡ Full → (s : State) → Tabled s ar facts ws heads space env n i used → mostEntries < entriesTo s [] ar ws (suc i)
+
+pub record Working (ar ws above heads space env : List ℕ) (n i next used : ℕ) : Type 0 where
+  pub ready : Ready ar ws above heads space env n i next used
+  pub row : i < rowCount ws
+
+-- what working out a row ensures: the same for one row more, or that the entries pass the limit
+pub record RowWorked (ar facts ws above heads space env : List ℕ) (n i used : ℕ) (r : Reached) (heads′ space′ env′ : List ℕ) : Type 0 where
+  pub ready : (next′ used′ : ℕ) → r ≡ At next′ used′ → Ready ar ws above heads′ space′ env′ n (i + 1) next′ used′
+  pub tabled : (next′ used′ : ℕ) → r ≡ At next′ used′ → (s : State) → Tabled s ar facts ws heads space env n i used → Tabled s ar facts ws heads′ space′ env′ n (i + 1) used′
+  pub over : r ≡ Over → (s : State) → Tabled s ar facts ws heads space env n i used → mostEntries < entriesTo s [] ar ws (i + 1)

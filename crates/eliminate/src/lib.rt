@@ -13,7 +13,7 @@ ghost use Rattle.state.specs.Lent.{factWords, saysFact, saidBy};
 ghost use Rattle.elimination.specs.Elimination.{mostEntries, labelVariables};
 ghost use Rattle.eliminate.specs.Masks.{namesOf, envOf, placeOf, decoded};
 ghost use Rattle.eliminate.specs.Above.{Above, Handing};
-ghost use Rattle.eliminate.specs.Rows.{Ready, Branching, Branched};
+ghost use Rattle.eliminate.specs.Rows.{Ready, Branching, Branched, Working, RowWorked};
 ghost use Rattle.eliminate.specs.Counts.{Shrinks, Shrunk, Rowing, Rowed};
 ghost use Rattle.eliminate.specs.Stores.{Filled};
 ghost use Rattle.eliminate.specs.Calls.{Decodable, Placeable, Asked, objectsOf, tells, One, Labelled, Countable, Counted, entryIn, lookIn, Entering, Looking, Best, Filling};
@@ -25,6 +25,12 @@ pub const ENTRIES: u64 = 8192;
 pub enum Worked {
     Table(u64, u64, u64),
     Full,
+}
+
+// How far the rows are worked out: where the next table begins and how many entries are counted; or that they are too many.
+pub enum Reached {
+    At(usize, u64),
+    Over,
 }
 
 // Gives the variables of the set the objects of the choice with the place c.
@@ -450,4 +456,50 @@ fn branch_table(
         size(n, drops),
     );
     Worked::Table(kept, count, e)
+}
+
+// Works out row i.
+fn work_row(
+    arities: &[u64],
+    facts: &[u64],
+    words: &[u64],
+    above: &[u64],
+    heads: &mut [u64],
+    space: &mut [u64],
+    env: &mut [u64],
+    n: u64,
+    i: usize,
+    next: usize,
+    used: u64,
+) -> Reached
+    requires { ⌜ Working (now arities) (now words) (now above) (now heads) (now space) (now env) n i next used ⌝ }
+    ensures { λ r. ⌜ RowWorked (now (arities .entry)) (now (facts .entry)) (now (words .entry)) (now (above .entry)) (now (heads .entry)) (now (space .entry)) (now (env .entry)) n i used r (now (heads .exit)) (now (space .exit)) (now (env .exit)) ⌝ }
+{
+    if words[i * 3] == Label::LEAF {
+        if used == ENTRIES {
+            return Reached::Over;
+        }
+        space[next] = words[i * 3 + 1];
+        heads[i * 2] = 0;
+        heads[i * 2 + 1] = next as u64;
+        return Reached::At(next + 1, used + 1);
+    }
+    let Worked::Table(kept, count, e) = branch_table(
+        arities,
+        facts,
+        words,
+        above,
+        heads,
+        space,
+        env,
+        n,
+        i,
+        next,
+        used,
+    ) else {
+        return Reached::Over;
+    };
+    heads[i * 2] = kept;
+    heads[i * 2 + 1] = next as u64;
+    Reached::At(next + count as usize, used + e)
 }
