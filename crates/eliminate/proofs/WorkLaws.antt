@@ -15,10 +15,10 @@ use Rattle.diagram.specs.Words.{labelAt, highAt, rowCount}
 use Rattle.state.specs.State.{State, Fits}
 use Rattle.elimination.specs.Tables as T
 use Rattle.elimination.specs.Tables.{leafTable, entries}
-use Rattle.elimination.specs.Elimination.{rowTable, tables, rowEntries, entriesTo, mostEntries}
+use Rattle.elimination.specs.Elimination.{rowTable, tables, rowEntries, entriesTo, allEntries, mostEntries}
 use Rattle.elimination.specs.TableLaws.{leaf-full, leaf-sees}
 use Rattle.elimination.specs.RowLaws.{row-leaf}
-use Rattle.elimination.specs.CountLaws.{entries-step, leaf-entries}
+use Rattle.elimination.specs.CountLaws.{entries-step, entries-passed, leaf-entries}
 use Rattle.eliminate.specs.declared.Worked.{Worked}
 use Rattle.eliminate.specs.declared.Worked.the-variants.{Table, Full}
 use Rattle.eliminate.specs.declared.Reached.{Reached}
@@ -27,7 +27,7 @@ use Rattle.eliminate.specs.Masks.{namesOf, envOf, placeOf}
 use Rattle.eliminate.specs.MaskLaws.{of-zero}
 use Rattle.eliminate.specs.Calls.{setAt, startAt, Stored}
 use Rattle.eliminate.specs.Stores.{Said, Holds}
-use Rattle.eliminate.specs.Rows.{Ready, Tabled, Branching, Branched, Working, RowWorked}
+use Rattle.eliminate.specs.Rows.{Ready, Tabled, Branching, Branched, Working, RowWorked, Finished}
 use Rattle.eliminate.proofs.FillLaws.{holds-before}
 
 -- ===== Heads =====
@@ -236,3 +236,62 @@ module _ {ar ws sets heads space env : List ℕ} {n i next used : ℕ} (w : Work
 
         no : At (next + c) (used + e) ≡ Over → ⊥
         no z = let y : _≡_ {A = ℕ} 0 1 = cc in omega arith
+
+-- ===== All rows =====
+pub record Going (ar facts ws sets heads₀ space₀ env₀ : List ℕ) (n : ℕ) (heads space env : List ℕ) (i next used : ℕ) : Type 0 where
+  pub end : i ≤ rowCount ws
+  pub ready : Ready ar ws sets heads space env n i next used
+  pub tabled : (s : State) → Tabled s ar facts ws heads₀ space₀ env₀ n 0 0 → Tabled s ar facts ws heads space env n i used
+  pub heads-kept : length heads ≡ length heads₀
+  pub space-kept : length space ≡ length space₀
+  pub env-kept : length env ≡ length env₀
+
+pub go-start : (ar facts ws sets heads space env : List ℕ) (n : ℕ) → Ready ar ws sets heads space env n 0 0 0 → Going ar facts ws sets heads space env n heads space env 0 0 0
+go-start ar facts ws sets heads space env n r = record {
+  end = omega arith;
+  ready = r;
+  tabled = λ s t. t;
+  heads-kept = refl;
+  space-kept = refl;
+  env-kept = refl;
+}
+
+module _ {ar facts ws sets heads₀ space₀ env₀ : List ℕ} {n : ℕ} {heads space env : List ℕ} {i next used : ℕ}
+    (g : Going ar facts ws sets heads₀ space₀ env₀ n heads space env i next used) where
+  pub go-working : i < rowCount ws → Working ar ws sets heads space env n i next used
+  go-working h = record { ready = g .ready; row = h }
+
+  pub go-over : {r : Reached} {heads′ space′ env′ : List ℕ} → i < rowCount ws → RowWorked ar facts ws sets heads space env n i used r heads′ space′ env′ → r ≡ Over
+      → Finished ar facts ws sets heads₀ space₀ env₀ n Over heads′ space′ env′
+  go-over {r} h w e = record {
+    ready = λ a b q. absurd (no q);
+    tabled = λ a b q s t. absurd (no q);
+    over = λ q s t. let o = w .over e s (g .tabled s t) in let p = entries-passed s [] ar ws (i + 1) (omega arith) in omega arith;
+  }
+    where
+      no : {a b : ℕ} → Over ≡ At a b → ⊥
+      no q = let z : _≡_ {A = ℕ} 0 1 = cc in omega arith
+
+  pub go-on : {r : Reached} {heads′ space′ env′ : List ℕ} {a b : ℕ} → i < rowCount ws → RowWorked ar facts ws sets heads space env n i used r heads′ space′ env′ → r ≡ At a b
+      → length heads′ ≡ length heads → length space′ ≡ length space → length env′ ≡ length env
+      → Going ar facts ws sets heads₀ space₀ env₀ n heads′ space′ env′ (i + 1) a b
+  go-on {r} {heads′} {space′} {env′} {a} {b} h w e x y z = record {
+    end = omega arith;
+    ready = w .ready a b e;
+    tabled = λ s t. w .tabled a b e s (g .tabled s t);
+    heads-kept = x ∙ g .heads-kept;
+    space-kept = y ∙ g .space-kept;
+    env-kept = z ∙ g .env-kept;
+  }
+
+  pub go-end : rowCount ws ≤ i → Finished ar facts ws sets heads₀ space₀ env₀ n (At next used) heads space env
+  go-end h = record {
+    ready = λ a b q. let p : next ≡ a = cc in let o : used ≡ b = cc in let e : i ≡ rowCount ws = omega (arith, g .end) in
+        subst (λ j. Ready ar ws sets heads space env n j a b) e (rw (← p, ← o) (g .ready));
+    tabled = λ a b q s t. let o : used ≡ b = cc in let e : i ≡ rowCount ws = omega (arith, g .end) in
+        subst (λ j. Tabled s ar facts ws heads space env n j b) e (rw (← o) (g .tabled s t));
+    over = λ q s t. absurd (no q);
+  }
+    where
+      no : At next used ≡ Over → ⊥
+      no q = let z : _≡_ {A = ℕ} 0 1 = cc in omega arith

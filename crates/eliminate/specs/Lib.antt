@@ -13,14 +13,14 @@
 --   entryIn, lookIn, bestIn, Best == an entry, that of the child that a label leads to, the highest over the choices for a set
 --   Above, Handing == the variables that rows leading to a row test, as sets
 --   Said, Holds, unionOf, Filled == words that say a state, that hold a table; a row's table written
---   Ready, Tabled, Branching, Branched == the rows worked out so far, in words and for a state; a branch row worked out
+--   Ready, Tabled, Branching, Branched, Working, RowWorked, Finished == the rows worked out so far, in words and for a state; a branch row, a row, all rows worked out
 --   Shrinks, Shrunk, rowTotal, Tells, Rowing, Rowed == a row's entries counted
 --
 -- Theorems
 --   place-decoded, place-one: each choice has one place, and each place one choice
 --   of-or, of-and, of-xor, of-one: sets are lists of variables
 --
--- The loop over the rows and the entry are to come.
+-- The entry, which makes the arrays and reads the root's entry, is to come.
 
 pub mod Masks
 pub mod Calls

@@ -8,7 +8,7 @@ use lib.Bits.{bitAnd, bitOr, bitXor}
 use Rattle.label.specs.Limits.{termEnd, leafMark}
 use Rattle.diagram.specs.Words.{labelAt, highAt, lowAt, rowCount}
 use Rattle.state.specs.State.{State, Fits}
-use Rattle.elimination.specs.Elimination.{rowTable, tables, entriesTo, mostEntries}
+use Rattle.elimination.specs.Elimination.{rowTable, tables, entriesTo, allEntries, mostEntries}
 use Rattle.eliminate.specs.declared.Worked.{Worked}
 use Rattle.eliminate.specs.declared.Worked.the-variants.{Table, Full}
 use Rattle.eliminate.specs.declared.Reached.{Reached}
@@ -62,3 +62,9 @@ pub record RowWorked (ar facts ws above heads space env : List ℕ) (n i used : 
   pub ready : (next′ used′ : ℕ) → r ≡ At next′ used′ → Ready ar ws above heads′ space′ env′ n (i + 1) next′ used′
   pub tabled : (next′ used′ : ℕ) → r ≡ At next′ used′ → (s : State) → Tabled s ar facts ws heads space env n i used → Tabled s ar facts ws heads′ space′ env′ n (i + 1) used′
   pub over : r ≡ Over → (s : State) → Tabled s ar facts ws heads space env n i used → mostEntries < entriesTo s [] ar ws (i + 1)
+
+-- what working out all rows ensures
+pub record Finished (ar facts ws above heads space env : List ℕ) (n : ℕ) (r : Reached) (heads′ space′ env′ : List ℕ) : Type 0 where
+  pub ready : (next used : ℕ) → r ≡ At next used → Ready ar ws above heads′ space′ env′ n (rowCount ws) next used
+  pub tabled : (next used : ℕ) → r ≡ At next used → (s : State) → Tabled s ar facts ws heads space env n 0 0 → Tabled s ar facts ws heads′ space′ env′ n (rowCount ws) used
+  pub over : r ≡ Over → (s : State) → Tabled s ar facts ws heads space env n 0 0 → mostEntries < allEntries s [] ar ws

@@ -13,7 +13,7 @@ ghost use Rattle.state.specs.Lent.{factWords, saysFact, saidBy};
 ghost use Rattle.elimination.specs.Elimination.{mostEntries, labelVariables};
 ghost use Rattle.eliminate.specs.Masks.{namesOf, envOf, placeOf, decoded};
 ghost use Rattle.eliminate.specs.Above.{Above, Handing};
-ghost use Rattle.eliminate.specs.Rows.{Ready, Branching, Branched, Working, RowWorked};
+ghost use Rattle.eliminate.specs.Rows.{Ready, Branching, Branched, Working, RowWorked, Finished};
 ghost use Rattle.eliminate.specs.Counts.{Shrinks, Shrunk, Rowing, Rowed};
 ghost use Rattle.eliminate.specs.Stores.{Filled};
 ghost use Rattle.eliminate.specs.Calls.{Decodable, Placeable, Asked, objectsOf, tells, One, Labelled, Countable, Counted, entryIn, lookIn, Entering, Looking, Best, Filling};
@@ -502,4 +502,45 @@ fn work_row(
     heads[i * 2] = kept;
     heads[i * 2 + 1] = next as u64;
     Reached::At(next + count as usize, used + e)
+}
+
+// Works out all rows, in listing order.
+fn work(
+    arities: &[u64],
+    facts: &[u64],
+    words: &[u64],
+    above: &[u64],
+    heads: &mut [u64],
+    space: &mut [u64],
+    env: &mut [u64],
+    n: u64,
+) -> Reached
+    requires { ⌜ Ready (now arities) (now words) (now above) (now heads) (now space) (now env) n 0 0 0 ⌝ }
+    ensures { λ r. ⌜ Finished (now (arities .entry)) (now (facts .entry)) (now (words .entry)) (now (above .entry)) (now (heads .entry)) (now (space .entry)) (now (env .entry)) n r (now (heads .exit)) (now (space .exit)) (now (env .exit)) ⌝ }
+{
+    let rows = words.len() / 3;
+    let mut i = 0;
+    let mut next = 0;
+    let mut used = 0;
+    while i < rows {
+        let Reached::At(a, b) = work_row(
+            arities,
+            facts,
+            words,
+            above,
+            heads,
+            space,
+            env,
+            n,
+            i,
+            next,
+            used,
+        ) else {
+            return Reached::Over;
+        };
+        next = a;
+        used = b;
+        i += 1;
+    }
+    Reached::At(next, used)
 }
