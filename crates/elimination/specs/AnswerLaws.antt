@@ -22,14 +22,14 @@ use Rattle.state.specs.ValueLaws.{low-lt, low-ge, by-low}
 use Rattle.state.specs.Highest.{start, highest}
 use Rattle.state.specs.HighestLaws.{bound-tuple}
 use Rattle.state.specs.Lent.{stateOf, isState, constantsBelow}
-use Rattle.state.specs.ValueCall.{mostValuations, parameters, valuations, valueAnswer}
+use Rattle.state.specs.ValueCall.{mostValuations, parameters, valuations, firstAnswer}
 use Rattle.elimination.specs.Tables.{entries}
 use Rattle.elimination.specs.Elimination.{rootTable, mostEntries, allEntries}
-use Rattle.elimination.specs.Answer.{valuedAnswer}
+use Rattle.elimination.specs.Answer.{isTooLarge, valueAnswer}
 use Rattle.elimination.specs.RootLaws.{root-names, root-entries, root-value}
 
 -- a lent state has an object, and its constants are objects
-lent-good : (ar : List ℕ) (n : ℕ) (constants facts : List ℕ) → isState ar n constants facts ≡ true → Good (stateOf ar n constants facts)
+pub lent-good : (ar : List ℕ) (n : ℕ) (constants facts : List ℕ) → isState ar n constants facts ≡ true → Good (stateOf ar n constants facts)
 unfolding isState stateOf constantsBelow
 lent-good ar n constants facts e = record {
   some = some;
@@ -74,8 +74,8 @@ module _ (ar ws : List ℕ) (n : ℕ) (constants facts : List ℕ) where
   same-by true true true true e v h = absurd (h refl)
 
   -- wherever the answer was no 15, it is as before
-  pub valued-same : valueAnswer ar ws n constants facts ≢ Refused Valuations → valuedAnswer ar ws n constants facts ≡ valueAnswer ar ws n constants facts
-  unfolding valuedAnswer valueAnswer old-by
+  pub valued-same : firstAnswer ar ws n constants facts ≢ Refused Valuations → valueAnswer ar ws n constants facts ≡ firstAnswer ar ws n constants facts
+  unfolding valueAnswer isTooLarge firstAnswer old-by stateOf
   valued-same h = same-by (isListing ar ws) (isState ar n constants facts) (eqb (length (parameters ar (diagramOf ws))) 0)
       (ltb mostValuations (valuations ar n (diagramOf ws))) (ltb mostEntries (allEntries (stateOf ar n constants facts) [] ar ws))
       (Value (highest (stateOf ar n constants facts) [] (meaning ar (diagramOf ws)))) h
@@ -90,21 +90,21 @@ module _ (ar ws : List ℕ) (n : ℕ) (constants facts : List ℕ) where
   was-by true true true true x h = (refl, refl, refl, refl)
 
   -- where it was 15, it is the root table's value if the entries are few enough, and 15 otherwise
-  module _ (was : valueAnswer ar ws n constants facts ≡ Refused Valuations) where
+  module _ (was : firstAnswer ar ws n constants facts ≡ Refused Valuations) where
     passed : (isListing ar ws ≡ true) × (isState ar n constants facts ≡ true) × (eqb (length (parameters ar (diagramOf ws))) 0 ≡ true)
         × (ltb mostValuations (valuations ar n (diagramOf ws)) ≡ true)
-    unfolding valueAnswer old-by
+    unfolding firstAnswer old-by
     passed = was-by (isListing ar ws) (isState ar n constants facts) (eqb (length (parameters ar (diagramOf ws))) 0)
         (ltb mostValuations (valuations ar n (diagramOf ws))) (highest (stateOf ar n constants facts) [] (meaning ar (diagramOf ws))) was
 
     pub valued-tables : allEntries (stateOf ar n constants facts) [] ar ws ≤ mostEntries
-        → valuedAnswer ar ws n constants facts ≡ Value (rootTable (stateOf ar n constants facts) ar ws .value (start (stateOf ar n constants facts) []))
-    unfolding valuedAnswer
+        → valueAnswer ar ws n constants facts ≡ Value (rootTable (stateOf ar n constants facts) ar ws .value (start (stateOf ar n constants facts) []))
+    unfolding valueAnswer isTooLarge stateOf
     valued-tables h =
         rw (passed .0, passed .1, passed .2, passed .3, le-ltb mostEntries (allEntries (stateOf ar n constants facts) [] ar ws) h)
         (ap Value (sym (lent-value ar ws n constants facts (passed .0) (passed .1))))
 
-    pub valued-refused : mostEntries < allEntries (stateOf ar n constants facts) [] ar ws → valuedAnswer ar ws n constants facts ≡ Refused Valuations
-    unfolding valuedAnswer
+    pub valued-refused : mostEntries < allEntries (stateOf ar n constants facts) [] ar ws → valueAnswer ar ws n constants facts ≡ Refused Valuations
+    unfolding valueAnswer isTooLarge stateOf
     valued-refused h =
         rw (passed .0, passed .1, passed .2, passed .3, lt-ltb mostEntries (allEntries (stateOf ar n constants facts) [] ar ws) h)

@@ -21,7 +21,8 @@
 --   mostEntries == 8,192
 --
 -- Definitions: the call
---   valuedAnswer == the value call's answer: 15 where valuations pass 1,000,000 and entries pass 8,192
+--   isTooLarge == valuations pass 1,000,000 and entries pass 8,192
+--   valueAnswer == the value call's answer: its checks in order (14, 4, 6, 15), then the highest leaf
 --
 -- Theorems
 --   root-value: in every state the value of the root's table is the highest leaf; it has no names (root-names) and one entry (root-entries)

@@ -23,23 +23,15 @@ use Rattle.state.specs.Highest.{highest}
 use Rattle.state.specs.Lent.{stateOf, isState}
 use Rattle.state.specs.declared.Valued.{Valued}
 use Rattle.state.specs.declared.Valued.the-variants.{Value, Refused}
-use Rattle.state.specs.ValueCall.{mostValuations, parameters, valuations, valueAnswer}
+use Rattle.state.specs.ValueCall.{parameters}
+use Rattle.elimination.specs.Answer.{isTooLarge, valueAnswer}
+use Rattle.elimination.specs.AnswerLaws.{lent-good}
 use Rattle.regression.specs.Parameters.{Within}
 use Rattle.mdp.specs.Model.{Model, GoodModel}
 use Rattle.mdp.specs.Bellman.{bellman}
 use Rattle.mdp.specs.Runs.{Call, run}
 use Rattle.mdp.specs.CallLaws.{each-within}
 use Rattle.mdp.specs.RunLaws.{run-right, demand-3}
-
-lent-good : (ar : List ℕ) (n : ℕ) (constants facts : List ℕ) → isState ar n constants facts ≡ true → Good (stateOf ar n constants facts)
-unfolding isState stateOf
-lent-good ar n constants facts e = record {
-  some = let h = leb-true 1 n (and-left (leb 1 n) _ e) in omega arith;
-  placed = λ c. by-low (low constantCount c (getD constants c 0) 0 < n) constantCount c
-      (λ h. rw (low-lt constantCount c (getD constants c 0) 0 h) (ltb-true (getD constants c 0) n (below-every constantCount (λ i. ltb (getD constants i 0) n) c
-      (and-left _ _ (and-right (leb 1 n) _ e)) h)))
-      (λ h. let k = leb-true 1 n (and-left (leb 1 n) _ e) in rw (low-ge constantCount c (getD constants c 0) 0 h) (omega arith));
-}
 
 none-occurring : (ar : List ℕ) (d : Diagram) (t n : ℕ) → ((u : ℕ) → t ≤ u → u < t + n → occurs ar u d ≡ false) → occurring ar d t n ≡ []
 unfolding occurring
@@ -59,20 +51,20 @@ passes : (a b c d : Bool) (w x y z v : Valued) → a ≡ true → b ≡ true →
 passes a b c d w x y z v h i j k = rw (h, i, j, k)
 
 answer : (ar ws : List ℕ) (d : Diagram) (n : ℕ) (constants facts : List ℕ) → isListing ar ws ≡ true → diagramOf ws ≡ d
-    → isState ar n constants facts ≡ true → parameters ar d ≡ [] → valuations ar n d ≤ mostValuations
+    → isState ar n constants facts ≡ true → parameters ar d ≡ [] → isTooLarge ar (stateOf ar n constants facts) ws ≡ false
     → valueAnswer ar ws n constants facts ≡ Value (highest (stateOf ar n constants facts) [] (meaning ar d))
 unfolding valueAnswer
 answer ar ws d n constants facts i q s p f =
-    passes (isListing ar ws) (isState ar n constants facts) (eqb (length (parameters ar (diagramOf ws))) 0) (ltb mostValuations (valuations ar n (diagramOf ws)))
+    passes (isListing ar ws) (isState ar n constants facts) (eqb (length (parameters ar (diagramOf ws))) 0) (isTooLarge ar (stateOf ar n constants facts) ws)
     (Refused Listing) (Refused Range) (Refused Unbound) (Refused Valuations)
     (Value (highest (stateOf ar n constants facts) [] (meaning ar (diagramOf ws)))) i s
     (ap (λ (x : Diagram). eqb (length (parameters ar x)) 0) q ∙ ap (λ (x : List ℕ). eqb (length x) 0) p)
-    (ap (λ (x : Diagram). ltb mostValuations (valuations ar n x)) q ∙ le-ltb mostValuations (valuations ar n d) f)
+    f
     ∙ ap (λ (x : Diagram). Value (highest (stateOf ar n constants facts) [] (meaning ar x))) q
 
--- of every lent state, where n^v is at most 1,000,000
+-- of every lent state in which not both ways of working are too large
 pub value-is : (m : Model) → GoodModel m → (l : List Call) (n : ℕ) (constants facts : List ℕ) → isState (m .arities) n constants facts ≡ true
-    → valuations (m .arities) n (run m l .diagram) ≤ mostValuations
+    → isTooLarge (m .arities) (stateOf (m .arities) n constants facts) (listing (run m l .diagram)) ≡ false
     → valueAnswer (m .arities) (listing (run m l .diagram)) n constants facts ≡ Value (bellman m (run m l .steps) (stateOf (m .arities) n constants facts))
 value-is m good l n constants facts e few =
     let ar = m .arities in

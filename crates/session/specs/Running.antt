@@ -3,15 +3,15 @@ use mathlib.Core.Bool.{Bool, true, false}
 use mathlib.Core.List.{List, []}
 use Prim.Native.Nat.{ℕ, suc, _^_}
 use lib.ListN.{length}
-use lib.Dec.{ltb}
 use Rattle.refusal.specs.declared.Refusal.{Refusal}
 use Rattle.refusal.specs.declared.Refusal.the-variants.{Valuations}
 use Rattle.diagram.specs.Diagram.{Diagram}
 use Rattle.diagram.specs.Rows.{rows}
+use Rattle.diagram.specs.Listing.{listing}
 use Rattle.state.specs.State.{State, meaning}
 use Rattle.state.specs.Highest.{highest}
 use Rattle.state.specs.Lent.{stateOf}
-use Rattle.state.specs.ValueCall.{valuations, mostValuations}
+use Rattle.elimination.specs.Answer.{isTooLarge}
 use Rattle.refusal.specs.Outcome.{Outcome, ok, andThen}
 use Rattle.cutting.specs.declared.Cut.{Cut}
 use Rattle.cutting.specs.declared.Cut.the-variants as C
@@ -54,11 +54,11 @@ unfoldable pub stateIn : List ℕ → Live → State
 unfolding stateOf
 stateIn ar l = stateOf ar (l .objects) (l .constants) (l .facts)
 
--- the highest leaf over all valuations; 15 if these are above 1,000,000
+-- the highest leaf over all valuations; 15 if these are above 1,000,000 and the entries of the tables above 8,192 (document 02, L6)
 unfoldable pub valueRead : List ℕ → Live → Diagram → Outcome ℕ
-unfolding valuations highest meaning stateIn
+unfolding isTooLarge highest meaning stateIn
 valueRead ar l d =
-    refuseIf (ltb mostValuations (valuations ar (l .objects) d)) Valuations
+    refuseIf (isTooLarge ar (stateIn ar l) (listing d)) Valuations
     (ok (highest (stateIn ar l) [] (meaning ar d)))
 
 -- ===== (backup) =====

@@ -1,10 +1,9 @@
 -- Demand 3 for texts: after whatever lines, a value that is answered is Mk of the state in hand (document 01, section 'Backup').
 use mathlib.Core.Path.{_≡_, refl, sym, subst}
-use mathlib.Core.Bool.{true}
+use mathlib.Core.Bool.{true, false}
 use mathlib.Core.List.{List, [], _∷_}
 use Prim.Native.Nat.{ℕ, suc, _^_, _≤_}
 use native.Mathlib.Omega.{arith}
-use Rattle.state.specs.ValueCall.{valuations, mostValuations}
 use Rattle.mdp.specs.Model.{Every, scale}
 use Rattle.mdp.specs.Bellman.{bellman}
 use Rattle.text.specs.declared.Kind.the-variants as K
@@ -28,7 +27,7 @@ use Rattle.session_laws.specs.WholeLaws.{reply-whole}
 use Rattle.session_laws.specs.TextRuns.{RunOf}
 use Rattle.session_laws.specs.CountLaws.{opening-counted, reply-counted}
 use Rattle.session_laws.specs.LineAnswers.{IsValue}
-use Rattle.session_laws.specs.ValueLaws.{value-bellman, value-accepted}
+use Rattle.session_laws.specs.ValueLaws.{tooLarge, value-bellman, value-accepted}
 use Rattle.session_laws.specs.TextRunLaws.{run-of}
 
 -- what holds of a session from line to line: it is good, its facts are whole rows, and `rows` counts the rows of its model
@@ -80,9 +79,9 @@ pub text-bellman : (ls : List (List ℕ)) (number : ℕ) (s : List ℕ) (v k w :
     → IsValue (afterLines beginning ls .session) v k w
 text-bellman ls number s v k w e = value-bellman (afterLines beginning ls .session) (text-sound ls .good) (λ p. text-run ls p .values) number s v k w e
 
--- and a (value) that stands where it may, with few valuations, is answered so
+-- and a (value) that stands where it may, where not both ways are too large, is answered so
 pub text-value : (ls : List (List ℕ)) (σ : Session) → σ ≡ afterLines beginning ls .session → σ .part ≡ Run → isPlaced σ ≡ true
-    → valuations (σ .model .arities) (σ .live .objects) (σ .held .diagram) ≤ mostValuations → (number : ℕ)
+    → tooLarge σ ≡ false → (number : ℕ)
     → reply σ number (lineBytes (line K.Value tt)) ≡ record {
       session = σ;
       answer = A.Value (bellman (σ .model) (σ .held .steps) (stateIn (σ .model .arities) (σ .live))) (σ .held .steps) (scale (σ .model) ^ σ .held .steps);

@@ -1,19 +1,18 @@
 -- Demand 3 for one line: what an accepted (value) answers is Mk of the state in hand, k and S^k (document 01, section 'Backup').
 use mathlib.Core.Path.{_≡_, refl, sym, ap, _∙_, subst}
-use mathlib.Core.Bool.{true}
+use mathlib.Core.Bool.{Bool, true, false}
 use mathlib.Core.List.{List, [], _∷_}
 use Prim.Native.Nat.{ℕ, _^_, _≤_, _<_}
 use native.Mathlib.Omega.{arith}
 use lib.ListN.{getD}
-use lib.Dec.{ltb}
-use borrow.Author.Tests.{le-ltb}
 use Rattle.refusal.specs.declared.Refusal.the-variants.{Valuations}
 use Rattle.label.specs.Limits.{constantCount}
+use Rattle.diagram.specs.Listing.{listing}
 use Rattle.state.specs.State.{Good, meaning, low}
 use Rattle.state.specs.ValueLaws.{low-lt, low-ge, by-low}
 use Rattle.state.specs.Highest.{highest}
 use Rattle.state.specs.Lent.{stateOf}
-use Rattle.state.specs.ValueCall.{valuations, mostValuations}
+use Rattle.elimination.specs.Answer.{isTooLarge}
 use Rattle.refusal.specs.Outcome.{ok}
 use Rattle.refusal.specs.OutcomeLaws.{accepted-ok, accepted-cond}
 use Rattle.mdp.specs.Model.{scale}
@@ -56,12 +55,16 @@ held-bellman σ g v some =
 
 -- ===== The line =====
 
+-- both ways of working are too large for its value diagram in the state in hand (15)
+abbrev pub tooLarge : Session → Bool
+tooLarge σ = isTooLarge (σ .model .arities) (stateIn (σ .model .arities) (σ .live)) (listing (σ .held .diagram))
+
 value-found : (σ : Session) (v : ℕ) → valueRead (σ .model .arities) (σ .live) (σ .held .diagram) ≡ ok v
     → v ≡ highest (stateIn (σ .model .arities) (σ .live)) [] (meaning (σ .model .arities) (σ .held .diagram))
 unfolding valueRead
 value-found σ v e =
     accepted-cond {P = λ x. x ≡ highest (stateIn (σ .model .arities) (σ .live)) [] (meaning (σ .model .arities) (σ .held .diagram))}
-    (ltb mostValuations (valuations (σ .model .arities) (σ .live .objects) (σ .held .diagram))) Valuations _ (λ d. accepted-ok refl) .given v e
+    (tooLarge σ) Valuations _ (λ d. accepted-ok refl) .given v e
 
 -- where the place of a (value) is right and it reads v, v is Mk
 read-bellman : (σ : Session) → GoodSession σ → (σ .part ≡ Run → HoldsValues σ) → allowed σ (ruleOf K.Value (σ .part)) ≡ ok tt → (v : ℕ)
@@ -98,21 +101,21 @@ value-bellman σ g holds number s v k w e = go (lineKind s) (reply σ number s) 
     go i y (refusing r p) e = let d = sym (ap (λ (z : Reply). z .answer) p) ∙ e in let z : _≡_ {A = ℕ} 0 1 = cc in absurd (omega arith)
     go i y (accepted a p) e = valued-is i y a p e
 
--- a (value) that stands where it may and has few valuations is answered so
+-- a (value) that stands where it may and is not too large is answered so
 value-says : (σ : Session) (number : ℕ) (es : List Event) → allowed σ (ruleOf K.Value (σ .part)) ≡ ok tt → (v : ℕ)
     → valueRead (σ .model .arities) (σ .live) (σ .held .diagram) ≡ ok v
     → replyTo σ number K.Value es ≡ record { session = σ; answer = A.Value v (σ .held .steps) (scale (σ .model) ^ σ .held .steps) }
 unfolding replyTo done
 value-says σ number es a v e = ap (λ o. placed σ number o (done σ number K.Value es)) a ∙ ap (valueSays σ number) e
 
-value-few : (σ : Session) → valuations (σ .model .arities) (σ .live .objects) (σ .held .diagram) ≤ mostValuations
+value-few : (σ : Session) → tooLarge σ ≡ false
     → valueRead (σ .model .arities) (σ .live) (σ .held .diagram)
     ≡ ok (highest (stateIn (σ .model .arities) (σ .live)) [] (meaning (σ .model .arities) (σ .held .diagram)))
 unfolding valueRead
-value-few σ few = rw (le-ltb mostValuations (valuations (σ .model .arities) (σ .live .objects) (σ .held .diagram)) few)
+value-few σ few = rw few
 
 pub value-accepted : (σ : Session) → GoodSession σ → HoldsValues σ → σ .part ≡ Run → isPlaced σ ≡ true
-    → valuations (σ .model .arities) (σ .live .objects) (σ .held .diagram) ≤ mostValuations → (number : ℕ) (s : List ℕ) → lineKind s ≡ K.Value
+    → tooLarge σ ≡ false → (number : ℕ) (s : List ℕ) → lineKind s ≡ K.Value
     → reply σ number s ≡ record {
       session = σ;
       answer = A.Value (bellman (σ .model) (σ .held .steps) (stateIn (σ .model .arities) (σ .live))) (σ .held .steps) (scale (σ .model) ^ σ .held .steps);

@@ -1,4 +1,4 @@
--- What the value call answers (document 01, sections 'States and value' and 'Refusals by trade word').
+-- What the value call answers by its first way of working (document 01, sections 'States and value' and 'Refusals by trade word').
 use mathlib.Core.Bool.{not, cond}
 use mathlib.Core.List.{List, []}
 use Prim.Native.Nat.{ℕ, _^_}
@@ -30,9 +30,9 @@ unfoldable pub valuations : List ℕ → ℕ → Diagram → ℕ
 unfolding variables
 valuations ar n d = n ^ length (variables ar d)
 
--- the checks in their order, then the highest leaf
-unfoldable pub valueAnswer : List ℕ → List ℕ → ℕ → List ℕ → List ℕ → Valued
-valueAnswer ar ws n constants facts =
+-- by the first way of working alone, as document 01 has it: the checks in their order, then the highest leaf
+unfoldable pub firstAnswer : List ℕ → List ℕ → ℕ → List ℕ → List ℕ → Valued
+firstAnswer ar ws n constants facts =
     cond (not (isListing ar ws)) (Refused Listing)
     (cond (not (isState ar n constants facts)) (Refused Range)
     (cond (not (eqb (length (parameters ar (diagramOf ws))) 0)) (Refused Unbound)
