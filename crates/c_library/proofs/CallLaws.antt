@@ -23,7 +23,7 @@ use Rattle.cutting.specs.declared.Cut.the-variants.{Done as CutDone, Refused as
 use Rattle.cutting.specs.Cut.{cutAnswer, cutBuffer}
 use Rattle.state.specs.declared.Valued.{Valued}
 use Rattle.state.specs.declared.Valued.the-variants.{Value, Refused as ValuedRefused}
-use Rattle.state.specs.ValueCall.{valueAnswer}
+use Rattle.elimination.specs.Answer.{valueAnswer}
 use Rattle.texts.specs.declared.Ran.{Ran}
 use Rattle.texts.specs.declared.Ran.the-variants.{Done as RanDone, Full}
 use Rattle.texts.specs.Running.{filled, Fills}

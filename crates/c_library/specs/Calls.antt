@@ -8,7 +8,7 @@ use Rattle.apply.specs.declared.Names.{Names}
 use Rattle.apply.specs.Combination.{combineAnswer, combineResult}
 use Rattle.regression.specs.RegressCall.{regressAnswer, regressResult, freeAnswer, freeResult}
 use Rattle.cutting.specs.Cut.{cutAnswer, cutBuffer}
-use Rattle.state.specs.ValueCall.{valueAnswer}
+use Rattle.elimination.specs.Answer.{valueAnswer}
 use Rattle.texts.specs.Running.{filled, inFront}
 use Rattle.c_library.specs.Answers.{combinedNumber, combinedRows, combinedPairs, regressedNumber, regressedRows, freedNumber, freedRows, cutNumber, cutRow, cutEdge, cutRows, valuedNumber, valuedValue, ranNumber, ranBytes, ranLines}
 

@@ -22,7 +22,7 @@ use Rattle.state.specs.ValueLaws.{low-lt, low-ge, by-low}
 use Rattle.state.specs.Highest.{start, highest}
 use Rattle.state.specs.HighestLaws.{bound-tuple}
 use Rattle.state.specs.Lent.{stateOf, isState, constantsBelow}
-use Rattle.state.specs.ValueCall.{mostValuations, parameters, valuations, firstAnswer}
+use Rattle.state.specs.ValueCall.{mostValuations, parameters, valuations, answerBy, firstAnswer}
 use Rattle.elimination.specs.Tables.{entries}
 use Rattle.elimination.specs.Elimination.{rootTable, mostEntries, allEntries}
 use Rattle.elimination.specs.Answer.{isTooLarge, valueAnswer}
@@ -75,7 +75,7 @@ module _ (ar ws : List ℕ) (n : ℕ) (constants facts : List ℕ) where
 
   -- wherever the answer was no 15, it is as before
   pub valued-same : firstAnswer ar ws n constants facts ≢ Refused Valuations → valueAnswer ar ws n constants facts ≡ firstAnswer ar ws n constants facts
-  unfolding valueAnswer isTooLarge firstAnswer old-by stateOf
+  unfolding valueAnswer isTooLarge firstAnswer answerBy old-by stateOf
   valued-same h = same-by (isListing ar ws) (isState ar n constants facts) (eqb (length (parameters ar (diagramOf ws))) 0)
       (ltb mostValuations (valuations ar n (diagramOf ws))) (ltb mostEntries (allEntries (stateOf ar n constants facts) [] ar ws))
       (Value (highest (stateOf ar n constants facts) [] (meaning ar (diagramOf ws)))) h
@@ -93,18 +93,34 @@ module _ (ar ws : List ℕ) (n : ℕ) (constants facts : List ℕ) where
   module _ (was : firstAnswer ar ws n constants facts ≡ Refused Valuations) where
     passed : (isListing ar ws ≡ true) × (isState ar n constants facts ≡ true) × (eqb (length (parameters ar (diagramOf ws))) 0 ≡ true)
         × (ltb mostValuations (valuations ar n (diagramOf ws)) ≡ true)
-    unfolding firstAnswer old-by
+    unfolding firstAnswer answerBy old-by
     passed = was-by (isListing ar ws) (isState ar n constants facts) (eqb (length (parameters ar (diagramOf ws))) 0)
         (ltb mostValuations (valuations ar n (diagramOf ws))) (highest (stateOf ar n constants facts) [] (meaning ar (diagramOf ws))) was
 
     pub valued-tables : allEntries (stateOf ar n constants facts) [] ar ws ≤ mostEntries
         → valueAnswer ar ws n constants facts ≡ Value (rootTable (stateOf ar n constants facts) ar ws .value (start (stateOf ar n constants facts) []))
-    unfolding valueAnswer isTooLarge stateOf
+    unfolding valueAnswer isTooLarge answerBy stateOf
     valued-tables h =
         rw (passed .0, passed .1, passed .2, passed .3, le-ltb mostEntries (allEntries (stateOf ar n constants facts) [] ar ws) h)
         (ap Value (sym (lent-value ar ws n constants facts (passed .0) (passed .1))))
 
     pub valued-refused : mostEntries < allEntries (stateOf ar n constants facts) [] ar ws → valueAnswer ar ws n constants facts ≡ Refused Valuations
-    unfolding valueAnswer isTooLarge stateOf
+    unfolding valueAnswer isTooLarge answerBy stateOf
     valued-refused h =
         rw (passed .0, passed .1, passed .2, passed .3, lt-ltb mostEntries (allEntries (stateOf ar n constants facts) [] ar ws) h)
+
+-- ===== When it is not too large =====
+
+-- few valuations are not, whatever the entries
+pub few-not-large : (ar : List ℕ) (s : State) (os ws : List ℕ) → valuations ar (s .size) (diagramOf ws) ≤ mostValuations → isTooLarge ar s os ws ≡ false
+unfolding isTooLarge
+few-not-large ar s os ws h = rw (le-ltb mostValuations (valuations ar (s .size) (diagramOf ws)) h)
+
+-- few entries are not, whatever the valuations
+pub entries-not-large : (ar : List ℕ) (s : State) (os ws : List ℕ) → allEntries s os ar ws ≤ mostEntries → isTooLarge ar s os ws ≡ false
+unfolding isTooLarge
+entries-not-large ar s os ws h = rw (le-ltb mostEntries (allEntries s os ar ws) h) (go (ltb mostValuations (valuations ar (s .size) (diagramOf ws))))
+  where
+    go : (b : Bool) → (b && false) ≡ false
+    go true = refl
+    go false = refl

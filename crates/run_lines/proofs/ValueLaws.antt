@@ -6,7 +6,7 @@ use Prim.Native.Nat.{ℕ, zero, suc, _+_, _*_, _^_, _≤_, _<_}
 use native.Mathlib.Omega.{arith}
 use lib.ListN.{length, take}
 use lib.Seq.{length-take-le}
-use lib.Dec.{eqb, ltb}
+use lib.Dec.{eqb}
 use Rattle.basics.specs.Tests.{Flag, isTrue, isFalse, flag}
 use Rattle.refusal.specs.declared.Refusal.{Refusal}
 use Rattle.refusal.specs.declared.Refusal.the-variants.{Listing, Range, Unbound, Valuations}
@@ -14,13 +14,15 @@ use Rattle.label.specs.Limits.{firstParameter, parameterCount, constantCount}
 use Rattle.diagram.specs.Diagram.{Diagram}
 use Rattle.diagram.specs.Words.{isListing}
 use Rattle.diagram.specs.Listing.{diagramOf}
+use Rattle.diagram.specs.Listings.{is-listing-diagram}
 use Rattle.diagram.specs.Variables.{occurs, occurring}
 use Rattle.state.specs.State.{meaning}
 use Rattle.state.specs.Highest.{highest}
 use Rattle.state.specs.Lent.{factWords, isState}
 use Rattle.state.specs.declared.Valued.{Valued}
 use Rattle.state.specs.declared.Valued.the-variants.{Value, Refused}
-use Rattle.state.specs.ValueCall.{mostValuations, parameters, valuations, valueAnswer}
+use Rattle.state.specs.ValueCall.{parameters, answerBy}
+use Rattle.elimination.specs.Answer.{isTooLarge, valueAnswer}
 use Rattle.refusal.specs.Outcome.{Outcome, ok, refused}
 use Rattle.regression.specs.Parameters.{Within}
 use Rattle.mdp.specs.Model.{scale}
@@ -69,11 +71,13 @@ valuedAs (refused x) = Refused x
 -- 14, 4 and 6 cannot come; 15 does where it is judged
 value-reads : (ar ws : List ℕ) (l : Live) → isListing ar ws ≡ true → isState ar (l .objects) (l .constants) (l .facts) ≡ true → Within 0 (meaning ar (diagramOf ws))
     → valueAnswer ar ws (l .objects) (l .constants) (l .facts) ≡ valuedAs (valueRead ar l (diagramOf ws))
-unfolding valueAnswer valueRead stateIn
+unfolding valueAnswer answerBy valueRead stateIn
 value-reads ar ws l i s p =
     go (isListing ar ws) (isState ar (l .objects) (l .constants) (l .facts)) (eqb (length (parameters ar (diagramOf ws))) 0)
-    (ltb mostValuations (valuations ar (l .objects) (diagramOf ws))) (highest (stateIn ar l) [] (meaning ar (diagramOf ws))) i s
+    (isTooLarge ar (stateIn ar l) [] ws) (highest (stateIn ar l) [] (meaning ar (diagramOf ws))) i s
     (ap (λ (ps : List ℕ). eqb (length ps) 0) (no-parameters ar (diagramOf ws) p))
+    ∙ ap (λ (xs : List ℕ). valuedAs (refuseIf (isTooLarge ar (stateIn ar l) [] xs) Valuations (ok (highest (stateIn ar l) [] (meaning ar (diagramOf ws))))))
+    (sym (is-listing-diagram ar ws i))
   where
     last : (d : Bool) (v : ℕ) → cond d (Refused Valuations) (Value v) ≡ valuedAs (refuseIf d Valuations (ok v))
     last true v = refl

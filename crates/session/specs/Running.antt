@@ -58,7 +58,7 @@ stateIn ar l = stateOf ar (l .objects) (l .constants) (l .facts)
 unfoldable pub valueRead : List ℕ → Live → Diagram → Outcome ℕ
 unfolding isTooLarge highest meaning stateIn
 valueRead ar l d =
-    refuseIf (isTooLarge ar (stateIn ar l) (listing d)) Valuations
+    refuseIf (isTooLarge ar (stateIn ar l) [] (listing d)) Valuations
     (ok (highest (stateIn ar l) [] (meaning ar d)))
 
 -- ===== (backup) =====

@@ -30,7 +30,7 @@
 --   text-run: behind any lines, once the run has begun, RunOf; read-run: so behind any text
 --   text-bellman: after any lines, an answered (value) is Mk of the state in hand, k and S^k
 --   text-adds-up: once (start) was accepted, the weights of each action add up to W in every state, for every tuple (document 02, L5)
---   text-value: and a (value) that stands where it may, where not both ways are too large, is answered so
+--   text-value: and a (value) that stands where it may, where not both ways are too large, is answered so; few-valuations: at most 1,000,000 valuations are not
 --
 -- Theorems: what holds from line to line
 --   opening-good: the session before the first line is good

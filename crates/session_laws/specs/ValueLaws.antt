@@ -8,11 +8,14 @@ use lib.ListN.{getD}
 use Rattle.refusal.specs.declared.Refusal.the-variants.{Valuations}
 use Rattle.label.specs.Limits.{constantCount}
 use Rattle.diagram.specs.Listing.{listing}
+use Rattle.diagram.specs.ListingOfDiagram.{diagram-listing}
 use Rattle.state.specs.State.{Good, meaning, low}
 use Rattle.state.specs.ValueLaws.{low-lt, low-ge, by-low}
 use Rattle.state.specs.Highest.{highest}
 use Rattle.state.specs.Lent.{stateOf}
+use Rattle.state.specs.ValueCall.{mostValuations, valuations}
 use Rattle.elimination.specs.Answer.{isTooLarge}
+use Rattle.elimination.specs.AnswerLaws.{few-not-large}
 use Rattle.refusal.specs.Outcome.{ok}
 use Rattle.refusal.specs.OutcomeLaws.{accepted-ok, accepted-cond}
 use Rattle.mdp.specs.Model.{scale}
@@ -57,7 +60,7 @@ held-bellman σ g v some =
 
 -- both ways of working are too large for its value diagram in the state in hand (15)
 abbrev pub tooLarge : Session → Bool
-tooLarge σ = isTooLarge (σ .model .arities) (stateIn (σ .model .arities) (σ .live)) (listing (σ .held .diagram))
+tooLarge σ = isTooLarge (σ .model .arities) (stateIn (σ .model .arities) (σ .live)) [] (listing (σ .held .diagram))
 
 value-found : (σ : Session) (v : ℕ) → valueRead (σ .model .arities) (σ .live) (σ .held .diagram) ≡ ok v
     → v ≡ highest (stateIn (σ .model .arities) (σ .live)) [] (meaning (σ .model .arities) (σ .held .diagram))
@@ -126,3 +129,11 @@ value-accepted σ g v p h few number (b ∷ t) i =
     let s = b ∷ t in
     ap (λ k. replyTo σ number k (wordsOf k s)) i
     ∙ value-says σ number (wordsOf K.Value s) (value-allowed σ p h) _ (value-few σ few ∙ ap ok (held-bellman σ g v (placed-objects σ h)))
+
+-- it is not too large where valuations are at most 1,000,000, as document 01 has it; nor where the tables have at most 8,192 entries (elimination AnswerLaws `entries-not-large`)
+pub few-valuations : (σ : Session) → GoodSession σ → σ .part ≡ Run → valuations (σ .model .arities) (σ .live .objects) (σ .held .diagram) ≤ mostValuations → tooLarge σ ≡ false
+unfolding stateIn stateOf
+few-valuations σ g p h =
+    let e = diagram-listing (σ .model .arities) (σ .held .diagram) (g .begun p .value .listed) in
+    few-not-large (σ .model .arities) (stateIn (σ .model .arities) (σ .live)) [] (listing (σ .held .diagram))
+    (subst (λ d. valuations (σ .model .arities) (σ .live .objects) d ≤ mostValuations) (sym e) h)

@@ -26,7 +26,8 @@
 --   allBelow, namesBelow, constantsBelow, isState == there is an object, and no object that the lent words name is n or beyond
 --   mostValuations, parameters, valuations == 1,000,000; the parameters of a diagram; n to the number of its variables
 --   Valued == the value, or the refusal
---   firstAnswer == the call by the first way alone: its checks in order (14, 4, 6, 15), then the highest leaf
+--   answerBy == the value call: its checks in order (14, 4, 6), then 15 where it is too large, else the highest leaf
+--   firstAnswer == the call by the first way of working alone, as document 01 has it
 --
 -- Theorems
 --   highest-is: the highest leaf computed is the highest leaf

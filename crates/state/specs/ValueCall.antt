@@ -1,5 +1,5 @@
 -- What the value call answers by its first way of working (document 01, sections 'States and value' and 'Refusals by trade word').
-use mathlib.Core.Bool.{not, cond}
+use mathlib.Core.Bool.{Bool, not, cond}
 use mathlib.Core.List.{List, []}
 use Prim.Native.Nat.{ℕ, _^_}
 use lib.ListN.{length}
@@ -30,11 +30,16 @@ unfoldable pub valuations : List ℕ → ℕ → Diagram → ℕ
 unfolding variables
 valuations ar n d = n ^ length (variables ar d)
 
--- by the first way of working alone, as document 01 has it: the checks in their order, then the highest leaf
-unfoldable pub firstAnswer : List ℕ → List ℕ → ℕ → List ℕ → List ℕ → Valued
-firstAnswer ar ws n constants facts =
+-- the checks in their order, then 15 where it is too large, else the highest leaf
+unfoldable pub answerBy : Bool → List ℕ → List ℕ → ℕ → List ℕ → List ℕ → Valued
+answerBy large ar ws n constants facts =
     cond (not (isListing ar ws)) (Refused Listing)
     (cond (not (isState ar n constants facts)) (Refused Range)
     (cond (not (eqb (length (parameters ar (diagramOf ws))) 0)) (Refused Unbound)
-    (cond (ltb mostValuations (valuations ar n (diagramOf ws))) (Refused Valuations)
+    (cond large (Refused Valuations)
     (Value (highest (stateOf ar n constants facts) [] (meaning ar (diagramOf ws)))))))
+
+-- by the first way of working alone, as document 01 has it
+unfoldable pub firstAnswer : List ℕ → List ℕ → ℕ → List ℕ → List ℕ → Valued
+unfolding answerBy
+firstAnswer ar ws n constants facts = answerBy (ltb mostValuations (valuations ar n (diagramOf ws))) ar ws n constants facts
