@@ -25,7 +25,9 @@ use Rattle.listing.specs.UsedLaws.{set-occurring, marked-variables}
 use Rattle.state.specs.declared.Valued.the-variants.{Value, Refused}
 use Rattle.state.specs.State.{meaning}
 use Rattle.state.specs.Highest.{highest}
-use Rattle.state.specs.ValueCall.{mostValuations, parameters, valuations, valueAnswer}
+use Rattle.state.specs.ValueCall.{mostValuations, parameters, valuations, answerBy}
+use Rattle.elimination.specs.Answer.{isTooLarge, valueAnswer}
+use Rattle.valuing.specs.Tables.{tablesAnswer}
 use Rattle.state.specs.LentLaws.{objects-length, object-at, all-made, all-at}
 use Rattle.valuing.specs.Index.{placeCount, objectAt}
 use Rattle.valuing.proofs.PassedLaws.{Passed, passed-start, passed-on, passed-no, passed-all}
@@ -203,12 +205,12 @@ module _ {marks : List ℕ} {k : ℕ} (s : Unmarked marks k) where
 -- the answers of the value call, check by check
 module _ (ar ws : List ℕ) (n : ℕ) (constants facts : List ℕ) where
   pub value-1 : {b : Bool} → b ≡ isListing ar ws → not b ≡ true → Refused Listing ≡ valueAnswer ar ws n constants facts
-  unfolding valueAnswer
+  unfolding valueAnswer answerBy
   value-1 {b} e f = rw (sym e ∙ not-true b f)
 
   module _ {b c : Bool} (e : b ≡ isListing ar ws) (f : not b ≡ false) (g : c ≡ isState ar n constants facts) where
     pub value-2 : not c ≡ true → Refused Range ≡ valueAnswer ar ws n constants facts
-    unfolding valueAnswer
+    unfolding valueAnswer answerBy
     value-2 h = rw (sym e ∙ not-false b f, sym g ∙ not-true c h)
 
     module _ (h : not c ≡ false) {marks : List ℕ} (u : Used ar (diagramOf ws) marks) {p : Bool} (k : p ≡ not (eqb (setFrom marks firstParameter parameterCount) 0)) where
@@ -217,7 +219,7 @@ module _ (ar ws : List ℕ) (n : ℕ) (constants facts : List ℕ) where
       has-parameters = ap (λ x. not (eqb x 0)) (sym (set-occurring ar (diagramOf ws) marks u firstParameter parameterCount (omega arith))) ∙ sym k
 
       pub value-3 : p ≡ true → Refused Unbound ≡ valueAnswer ar ws n constants facts
-      unfolding valueAnswer
+      unfolding valueAnswer answerBy
       value-3 z = rw (sym e ∙ not-false b f, sym g ∙ not-false c h, has-parameters ∙ z)
 
       module _ (z : p ≡ false) {v : ℕ} (j : v ≡ markedVariables marks) {q : Bool} (w : q ≡ leb (n ^ v) mostValuations) where
@@ -225,15 +227,16 @@ module _ (ar ws : List ℕ) (n : ℕ) (constants facts : List ℕ) where
         unfolding valuations
         count-valuations = ap (λ x. n ^ x) (j ∙ marked-variables ar (diagramOf ws) marks u)
 
-        pub value-4 : not q ≡ true → Refused Valuations ≡ valueAnswer ar ws n constants facts
-        unfolding valueAnswer
-        value-4 y =
+        -- many valuations: the second way decides
+        pub value-4 : not q ≡ true → {r : Valued} → r ≡ tablesAnswer ar ws n constants facts → r ≡ valueAnswer ar ws n constants facts
+        unfolding valueAnswer answerBy isTooLarge tablesAnswer stateOf
+        value-4 y o =
             let x = leb-false (n ^ v) mostValuations (sym w ∙ not-true q y) in
             let k = count-valuations in
-            rw (sym e ∙ not-false b f, sym g ∙ not-false c h, has-parameters ∙ z, lt-ltb mostValuations (valuations ar n (diagramOf ws)) (omega arith))
+            rw (sym e ∙ not-false b f, sym g ∙ not-false c h, has-parameters ∙ z, lt-ltb mostValuations (valuations ar n (diagramOf ws)) (omega arith)) o
 
         pub value-5 : not q ≡ false → {x : ℕ} → x ≡ highest (stateOf ar n constants facts) [] (meaning ar (diagramOf ws)) → Value x ≡ valueAnswer ar ws n constants facts
-        unfolding valueAnswer
+        unfolding valueAnswer answerBy isTooLarge stateOf
         value-5 y {x} o =
             let l = leb-true (n ^ v) mostValuations (sym w ∙ not-false q y) in
             let k = count-valuations in

@@ -12,9 +12,12 @@ ghost use Rattle.listing.specs.Used.{setFrom};
 ghost use Rattle.state.specs.State.{meaning};
 ghost use Rattle.state.specs.Highest.{highest};
 ghost use Rattle.state.specs.Lent.{factWords, factCount, someBelow, namesBelow, constantsBelow, stateOf, isState};
-ghost use Rattle.state.specs.ValueCall.{mostValuations, valueAnswer};
+ghost use Rattle.state.specs.ValueCall.{mostValuations};
+ghost use Rattle.elimination.specs.Answer.{valueAnswer};
 ghost use Rattle.valuing.specs.Index.{buckets, mostIndexed, indexedCount, placeCount, hashEnd, hashGap, hashStart, hashStep, bucketFor, bucketAt, says, Indexed, Placed, Asked, Sought};
+ghost use Rattle.valuing.specs.Tables.{tablesAnswer};
 ghost use Rattle.valuing.specs.Search.{free, Topping, Tops, topAt, fixedIn, Started, lentHolds, given, Labelled, LooksUp, Telling, Best, Ready};
+use eliminate::Eliminated;
 use label::Label;
 use label::Term;
 use refusal::Refusal;
@@ -476,6 +479,19 @@ pub fn state_fits(arities: &[u64], n: u64, constants: &[u64], facts: &[u64]) -> 
     facts_fit(arities, n, facts)
 }
 
+// The second way of working: by tables, unless these have too many entries.
+fn by_tables(arities: &[u64], words: &[u64], n: u64, constants: &[u64], facts: &[u64]) -> Valued
+    requires { ⌜ isListing (now arities) (now words) ≡ true ⌝ }
+    requires { ⌜ isState (now arities) n (now constants) (now facts) ≡ true ⌝ }
+    ensures { λ r. ⌜ r ≡ tablesAnswer (now (arities .entry)) (now (words .entry)) n (now (constants .entry)) (now (facts .entry)) ⌝ }
+{
+    let mut space = [0u64; eliminate::ENTRIES as usize];
+    let Eliminated::Value(v) = eliminate::eliminate(arities, words, n, constants, facts, &mut space) else {
+        return Valued::Refused(Refusal::Valuations);
+    };
+    Valued::Value(v)
+}
+
 // The value of a listing in a state that are lent with an arity list: the highest leaf over all valuations.
 pub fn value(arities: &[u64], words: &[u64], n: u64, constants: &[u64], facts: &[u64]) -> Valued
     ensures { λ r. ⌜ r ≡ valueAnswer (now (arities .entry)) (now (words .entry)) n (now (constants .entry)) (now (facts .entry)) ⌝ }
@@ -492,7 +508,7 @@ pub fn value(arities: &[u64], words: &[u64], n: u64, constants: &[u64], facts: &
         return Valued::Refused(Refusal::Unbound);
     }
     if !few(n, listing::count_variables(&marks) as u64) {
-        return Valued::Refused(Refusal::Valuations);
+        return by_tables(arities, words, n, constants, facts);
     }
     Valued::Value(highest_leaf(arities, words, n, constants, facts))
 }
