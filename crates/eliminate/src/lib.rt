@@ -336,7 +336,7 @@ fn hand_on(arities: &[u64], words: &[u64], above: &mut [u64], i: usize)
 }
 
 // For each row the set of the variables that rows leading to it test; the words are 0 before.
-fn find_above(arities: &[u64], words: &[u64], above: &mut [u64])
+pub fn find_above(arities: &[u64], words: &[u64], above: &mut [u64])
     requires { ⌜ Above (now arities) (now words) (now above) (rowCount (now words)) ⌝ }
     ensures { λ _. ⌜ Above (now (arities .entry)) (now (words .entry)) (now (above .exit)) 0 ⌝ }
 {
@@ -505,7 +505,7 @@ fn work_row(
 }
 
 // Works out all rows, in listing order.
-fn work(
+pub fn work(
     arities: &[u64],
     facts: &[u64],
     words: &[u64],

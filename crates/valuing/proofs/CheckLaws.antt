@@ -22,6 +22,7 @@ use Rattle.state.specs.Lent.{factCount, factWords, predicateAt, objectsAt, allB
 use Rattle.refusal.specs.declared.Refusal.the-variants.{Range, Unbound, Listing, Valuations}
 use Rattle.listing.specs.Used.{Used, setFrom, markedVariables}
 use Rattle.listing.specs.UsedLaws.{set-occurring, marked-variables}
+use Rattle.state.specs.declared.Valued.{Valued}
 use Rattle.state.specs.declared.Valued.the-variants.{Value, Refused}
 use Rattle.state.specs.State.{meaning}
 use Rattle.state.specs.Highest.{highest}

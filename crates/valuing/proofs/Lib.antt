@@ -3,3 +3,4 @@ pub mod FactLaws
 pub mod SearchLaws
 pub mod StartLaws
 pub mod CheckLaws
+mod TablesLaws

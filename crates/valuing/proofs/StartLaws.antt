@@ -27,7 +27,7 @@ use Rattle.state.specs.Highest.{Highest, highest, Bound}
 use Rattle.state.specs.HighestLaws.{highest-is}
 use Rattle.state.specs.Lent.{constantsBelow, stateOf, isState}
 use Rattle.valuing.specs.Index.{Indexed, indexedCount}
-use Rattle.valuing.specs.Search.{free, Topping, Tops, topAt, fixedIn, Started, lentTruth, lentHolds, leafFrom, Extends, Hit, old, new, Best, Ready}
+use Rattle.valuing.specs.Search.{free, Topping, Tops, topAt, fixedIn, Placing, Started, lentTruth, lentHolds, leafFrom, Extends, Hit, old, new, Best, Ready}
 use Rattle.valuing.proofs.SearchLaws.{filled, filled-extends}
 
 -- a row's number, test by test
@@ -129,18 +129,15 @@ pub fixed-parameter : (constants : List ℕ) (t : ℕ) {x : ℕ} → firstParame
 unfolding fixedIn
 fixed-parameter constants t h e = e ∙ sym (low-ge firstParameter t (getD constants t 0) (getD constants 0 0) h)
 
-pub started-none : (constants : List ℕ) → Started constants (replicate termEnd free) 0
-started-none constants = record {
-  places = length-replicate termEnd free;
-  bound = λ t l. absurd (omega arith);
-  unbound = λ t l m. getD-replicate termEnd t free 0 m;
-}
+pub placing-none : (constants env : List ℕ) → length env ≡ termEnd → Placing constants env env 0
+placing-none constants env h = record { places = h; bound = λ t l. absurd (omega arith); others = λ t l. refl }
 
-pub started-on : {constants env : List ℕ} {t o : ℕ} → Started constants env t → t < firstVariable → o ≡ fixedIn constants t → Started constants (set env t o) (t + 1)
-started-on {constants} {env} {t} {o} s l e = record {
+pub placing-on : {constants env₀ env : List ℕ} {t o : ℕ} → Placing constants env₀ env t → t < firstVariable → o ≡ fixedIn constants t
+    → Placing constants env₀ (set env t o) (t + 1)
+placing-on {constants} {env₀} {env} {t} {o} s l e = record {
   places = length-set env t o ∙ s .places;
   bound = λ u m. given u m (cmp u t);
-  unbound = λ u m k. getD-set-other env t u o 0 (omega arith) ∙ s .unbound u (omega arith) k;
+  others = λ u m. getD-set-other env t u o 0 (omega arith) ∙ s .others u (omega arith);
 }
   where
     given : (u : ℕ) → u < t + 1 → Cmp u t → getD (set env t o) u 0 ≡ fixedIn constants u
@@ -148,8 +145,12 @@ started-on {constants} {env} {t} {o} s l e = record {
     given u m (equal q) = subst (λ (y : ℕ). getD (set env t o) y 0 ≡ fixedIn constants y) (sym q) (getD-set-same env t o 0 (omega (arith, s .places)) ∙ e)
     given u m (above q) = absurd (omega arith)
 
-pub started-end : {constants env : List ℕ} {t : ℕ} → Started constants env t → t ≤ firstVariable → firstVariable ≤ t → Started constants env firstVariable
-started-end {constants} {env} s l m = subst (Started constants env) (omega arith) s
+pub placing-end : {constants env₀ env : List ℕ} {t : ℕ} → Placing constants env₀ env t → t ≤ firstVariable → firstVariable ≤ t → Placing constants env₀ env firstVariable
+placing-end {constants} {env₀} {env} s l m = subst (Placing constants env₀ env) (omega arith) s
+
+-- with no object for the variables
+pub started : {constants env : List ℕ} → Placing constants (replicate termEnd free) env firstVariable → Started constants env
+started p = record { places = p .places; bound = p .bound; unbound = λ t l m. p .others t l ∙ getD-replicate termEnd t free 0 m }
 
 -- what a lent state is
 pub record Lendable (n : ℕ) (constants : List ℕ) : Type 0 where
@@ -177,19 +178,19 @@ module _ (ar : List ℕ) (n : ℕ) (constants facts : List ℕ) (f : Lendable n 
   unfolding stateOf
   lent-bound = record { each = λ i. lent-good .placed 0 }
 
-  lent-fixed : (t : ℕ) → fixed (stateOf ar n constants facts) [] t ≡ fixedIn constants t
+  pub lent-fixed : (t : ℕ) → fixed (stateOf ar n constants facts) [] t ≡ fixedIn constants t
   unfolding stateOf fixed fixedIn
   lent-fixed t = by-low (fixed (stateOf ar n constants facts) [] t ≡ fixedIn constants t) firstParameter t
       (λ h. low-lt firstParameter t _ (getD constants 0 0) h ∙ low-lt constantCount t (getD constants t 0) 0 h ∙ sym (low-lt firstParameter t (getD constants t 0) (getD constants 0 0) h))
       (λ h. low-ge firstParameter t (low constantCount t (getD constants t 0) 0) (getD constants 0 0) h ∙ sym (low-ge firstParameter t (getD constants t 0) (getD constants 0 0) h))
 
-  fixed-below : (t : ℕ) → fixedIn constants t < n
+  pub fixed-below : (t : ℕ) → fixedIn constants t < n
   unfolding fixedIn
   fixed-below t = by-low (fixedIn constants t < n) firstParameter t
       (λ h. rw (low-lt firstParameter t (getD constants t 0) (getD constants 0 0) h) (f .placed t h))
       (λ h. rw (low-ge firstParameter t (getD constants t 0) (getD constants 0 0) h) (f .placed 0 (omega arith)))
 
-  module _ (env : List ℕ) (s : Started constants env firstVariable) (θ : ℕ → ℕ) where
+  module _ (env : List ℕ) (s : Started constants env) (θ : ℕ → ℕ) where
     fits-extends : Fits (stateOf ar n constants facts) [] θ → Extends n env θ
     unfolding stateOf
     fits-extends x = record {
@@ -226,7 +227,7 @@ listing-some ar ws e = listing-is-valid ar ws e .some
 
 -- the search may begin
 pub start-ready : {ar ws high : List ℕ} {n : ℕ} {constants facts env index : List ℕ} → isListing ar ws ≡ true → isState ar n constants facts ≡ true → n ≤ free
-    → Started constants env firstVariable → Tops ws high (rowCount ws) → length high ≡ length {A = ℕ} (replicate mostRows 0) → Indexed ar facts index (indexedCount facts)
+    → Started constants env → Tops ws high (rowCount ws) → length high ≡ length {A = ℕ} (replicate mostRows 0) → Indexed ar facts index (indexedCount facts)
     → Ready ws high ar facts index env n
 start-ready {ar} {ws} {high} {n} {constants} {facts} {env} {index} a b m s t h i =
     let v = listing-is-valid ar ws a in
@@ -248,7 +249,7 @@ start-ready {ar} {ws} {high} {n} {constants} {facts} {env} {index} a b m s t h i
 
 -- and its end is the value
 module _ {ar ws high : List ℕ} {n : ℕ} {constants facts env index : List ℕ} {b : ℕ} {env′ : List ℕ} (a : isListing ar ws ≡ true) (e : isState ar n constants facts ≡ true)
-    (s : Started constants env firstVariable) (q : Ready ws high ar facts index env n) (t : Best ar facts ws env n (rowCount ws - 1) 0 b env′) where
+    (s : Started constants env) (q : Ready ws high ar facts index env n) (t : Best ar facts ws env n (rowCount ws - 1) 0 b env′) where
   pub found-some : 0 < b
   found-some = let h = t .above (filled env) (filled-extends (q .env-fits)) in omega arith
 

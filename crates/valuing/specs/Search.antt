@@ -5,7 +5,7 @@ use mathlib.Core.List.{List, [], _∷_, map}
 use Prim.Native.Nat.{ℕ, zero, suc, _+_, _≤_, _<_, max}
 use lib.ListN.{length, getD}
 use lib.Dec.{eqb}
-use Rattle.label.specs.Limits.{termEnd, leafMark, firstParameter}
+use Rattle.label.specs.Limits.{termEnd, leafMark, firstParameter, firstVariable}
 use Rattle.label.specs.Labels.{areArities, isLabel, predicateOf, placeAt, unpacked, termsOf}
 use Rattle.diagram.specs.Diagram.{eval}
 use Rattle.diagram.specs.Words.{labelAt, highAt, lowAt, rowCount}
@@ -68,11 +68,17 @@ pub record Env (n : ℕ) (env : List ℕ) : Type 0 where
 unfoldable pub fixedIn : List ℕ → ℕ → ℕ
 fixedIn constants t = low firstParameter t (getD constants t 0) (getD constants 0 0)
 
--- the first m terms have their objects, the others none
-pub record Started (constants env : List ℕ) (m : ℕ) : Type 0 where
+-- the first m terms have their objects, the others what they had before
+pub record Placing (constants env₀ env : List ℕ) (m : ℕ) : Type 0 where
   pub places : length env ≡ termEnd
   pub bound : (t : ℕ) → t < m → getD env t 0 ≡ fixedIn constants t
-  pub unbound : (t : ℕ) → m ≤ t → t < termEnd → getD env t 0 ≡ free
+  pub others : (t : ℕ) → m ≤ t → getD env t 0 ≡ getD env₀ t 0
+
+-- the terms that are no variables have their objects, the variables none
+pub record Started (constants env : List ℕ) : Type 0 where
+  pub places : length env ≡ termEnd
+  pub bound : (t : ℕ) → t < firstVariable → getD env t 0 ≡ fixedIn constants t
+  pub unbound : (t : ℕ) → firstVariable ≤ t → t < termEnd → getD env t 0 ≡ free
 
 -- how many terms have no object yet
 abbrev pub freeCount : List ℕ → ℕ

@@ -16,8 +16,8 @@ ghost use Rattle.state.specs.ValueCall.{mostValuations};
 ghost use Rattle.elimination.specs.Answer.{valueAnswer};
 ghost use Rattle.valuing.specs.Index.{buckets, mostIndexed, indexedCount, placeCount, hashEnd, hashGap, hashStart, hashStep, bucketFor, bucketAt, says, Indexed, Placed, Asked, Sought};
 ghost use Rattle.valuing.specs.Tables.{tablesAnswer};
-ghost use Rattle.valuing.specs.Search.{free, Topping, Tops, topAt, fixedIn, Started, lentHolds, given, Labelled, LooksUp, Telling, Best, Ready};
-use eliminate::Eliminated;
+ghost use Rattle.valuing.specs.Search.{free, Topping, Tops, topAt, fixedIn, Placing, lentHolds, given, Labelled, LooksUp, Telling, Best, Ready};
+use eliminate::Reached;
 use label::Label;
 use label::Term;
 use refusal::Refusal;
@@ -355,8 +355,8 @@ fn fixed(constants: &[u64], t: usize) -> u64
 
 // Gives the terms that are no variables their objects.
 fn start(constants: &[u64], env: &mut [u64])
-    requires { ⌜ Started (now constants) (now env) 0 ⌝ }
-    ensures { λ _. ⌜ Started (now (constants .entry)) (now (env .exit)) firstVariable ⌝ }
+    requires { ⌜ length (now env) ≡ termEnd ⌝ }
+    ensures { λ _. ⌜ Placing (now (constants .entry)) (now (env .entry)) (now (env .exit)) firstVariable ⌝ }
 {
     let mut t = 0;
     while t < (Term::FIRST_VARIABLE as usize) {
@@ -485,11 +485,27 @@ fn by_tables(arities: &[u64], words: &[u64], n: u64, constants: &[u64], facts: &
     requires { ⌜ isState (now arities) n (now constants) (now facts) ≡ true ⌝ }
     ensures { λ r. ⌜ r ≡ tablesAnswer (now (arities .entry)) (now (words .entry)) n (now (constants .entry)) (now (facts .entry)) ⌝ }
 {
+    let mut above = [0u64; diagram::ROWS];
+    eliminate::find_above(arities, words, &mut above);
+    let mut env = [0u64; Term::END as usize];
+    start(constants, &mut env);
+    let mut heads = [0u64; diagram::ROWS * 2];
     let mut space = [0u64; eliminate::ENTRIES as usize];
-    let Eliminated::Value(v) = eliminate::eliminate(arities, words, n, constants, facts, &mut space) else {
+    let Reached::At(next, used) = eliminate::work(
+        arities,
+        facts,
+        words,
+        &above,
+        &mut heads,
+        &mut space,
+        &mut env,
+        n,
+    ) else {
         return Valued::Refused(Refusal::Valuations);
     };
-    Valued::Value(v)
+    let root = words.len() / 3 - 1;
+    let at = heads[root * 2 + 1] as usize;
+    Valued::Value(space[at])
 }
 
 // The value of a listing in a state that are lent with an arity list: the highest leaf over all valuations.

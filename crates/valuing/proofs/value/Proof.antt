@@ -21,6 +21,13 @@ returns-3 c = search value-3
 few-requires : tie.Need-few-requires
 few-requires c κs = let checked = c .before .before .before .before .before .before .before .before in state-some _ _ _ _ (checked .before .state-fits .ensures) (checked .if2 .left)
 
+by-tables-requires : tie.Need-by-tables-requires
+by-tables-requires c κs =
+    let checked = c .before .before .before .before .before .before .before .before .before .before in (
+      fits-listing _ _ (checked .before .before .before .check .ensures) (checked .before .before .if1 .left),
+      fits-state _ _ _ _ (checked .before .state-fits .ensures) (checked .if2 .left),
+    )
+
 returns-4 : tie.Need-returns-4
 returns-4 c = search value-4
 
@@ -38,4 +45,4 @@ pub value-spec : {M : Type 1} → statement M
 value-spec =
     tie.close
     (tie.spec (λ c κs. search needs) returns (λ c κs. search needs) returns-2 (λ c. search needs) used-requires (λ c. search needs) (λ c κs. search needs)
-    returns-3 (λ c. search needs) (λ c κs. search needs) few-requires returns-4 highest-leaf-requires returns-5)
+    returns-3 (λ c. search needs) (λ c κs. search needs) few-requires by-tables-requires returns-4 highest-leaf-requires returns-5)

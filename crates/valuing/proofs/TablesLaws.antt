@@ -1,0 +1,170 @@
+-- Laws of the second way of working: where it begins, and what its end says of the state (document 02, L6).
+use mathlib.Core.Path.{_≡_, refl, sym, ap, subst, _∙_}
+use mathlib.Core.Bool.{true}
+use mathlib.Core.List.{List, []}
+use Prim.Native.Nat.{ℕ, pred, _+_, _-_, _*_, _/_, _^_, _≤_, _<_}
+use native.Mathlib.Nat.{pow-zero}
+use native.Mathlib.Omega.{arith}
+use lib.ListN.{length, getD, replicate, length-replicate, getD-replicate}
+use lib.Dec.{eqb, ltb}
+use borrow.Author.Tests.{lt-ltb, le-ltb}
+use Rattle.basics.specs.Members.{mem, clash}
+use Rattle.label.specs.Limits.{termEnd, firstVariable}
+use Rattle.refusal.specs.declared.Refusal.the-variants.{Valuations}
+use Rattle.diagram.specs.Sizes.{mostRows}
+use Rattle.diagram.specs.Words.{rowCount, isListing}
+use Rattle.diagram.specs.Listing.{diagramOf}
+use Rattle.diagram.specs.Validity.{Valid}
+use Rattle.diagram.specs.ListingValid.{listing-is-valid}
+use Rattle.state.specs.declared.Valued.the-variants.{Value, Refused}
+use Rattle.state.specs.Max.{none}
+use Rattle.state.specs.State.{State, Good, Fits, meaning, fixed}
+use Rattle.state.specs.ValueLaws.{by-low}
+use Rattle.state.specs.Highest.{start, highest}
+use Rattle.state.specs.HighestLaws.{bound-tuple, start-fits}
+use Rattle.state.specs.Lent.{stateOf, isState}
+use Rattle.elimination.specs.Elimination.{rowTable, tables, rootTable, entriesTo, allEntries, mostEntries}
+use Rattle.elimination.specs.Tables.{leafTable}
+use Rattle.elimination.specs.RowLaws.{table-at}
+use Rattle.elimination.specs.AnswerLaws.{lent-good, lent-names, lent-value}
+use Rattle.eliminate.specs.Masks.{namesOf, envOf, placeOf}
+use Rattle.eliminate.specs.MaskLaws.{of-zero}
+use Rattle.eliminate.specs.Calls.{setAt, startAt, Stored}
+use Rattle.eliminate.specs.Above.{Above}
+use Rattle.eliminate.specs.Stores.{Said, Holds}
+use Rattle.eliminate.specs.Rows.{Ready, Tabled, Finished}
+use Rattle.eliminate.specs.declared.Reached.{Reached}
+use Rattle.eliminate.specs.declared.Reached.the-variants.{At, Over}
+use Rattle.valuing.specs.Search.{fixedIn, Placing}
+use Rattle.valuing.specs.Tables.{tablesAnswer}
+use Rattle.valuing.proofs.FactLaws.{read-past}
+use Rattle.valuing.proofs.StartLaws.{Lendable, state-lendable, lent-fixed, fixed-below}
+
+pub few-rows : (ar ws : List ℕ) → isListing ar ws ≡ true → rowCount ws ≤ mostRows
+few-rows ar ws e = listing-is-valid ar ws e .few
+
+-- no row has handed on anything yet
+pub above-none : (ar ws : List ℕ) (m : ℕ) → isListing ar ws ≡ true → mostRows ≤ m → Above ar ws (replicate m 0) (rowCount ws)
+above-none ar ws m e h = record {
+  valid = v;
+  places = omega (arith, v .few, length-replicate {A = ℕ} m 0);
+  sound = λ c u i k. clash k (rw (getD-replicate {A = ℕ} m c 0 0 (omega (arith, v .few)), of-zero));
+  complete = λ c u j p q. absurd (omega arith);
+}
+  where
+    v : Valid ar ws
+    v = listing-is-valid ar ws e
+
+abbrev zeros : List ℕ
+zeros = replicate termEnd 0
+
+no-objects : (t : ℕ) → getD zeros t 0 ≡ 0
+no-objects t = by-low (getD zeros t 0 ≡ 0) termEnd t
+    (λ h. getD-replicate {A = ℕ} termEnd t 0 0 h)
+    (λ h. sym (read-past zeros t (omega (arith, length-replicate {A = ℕ} termEnd 0))))
+
+module _ (ar ws : List ℕ) (n : ℕ) (constants facts : List ℕ) (listed : isListing ar ws ≡ true) (lent : isState ar n constants facts ≡ true) where
+  abbrev s : State
+  s = stateOf ar n constants facts
+
+  lendable : Lendable n constants
+  lendable = state-lendable ar n constants facts lent
+
+  good : Good (stateOf ar n constants facts)
+  good = lent-good ar n constants facts lent
+
+  module _ {env : List ℕ} (p : Placing constants zeros env firstVariable) where
+    in-range : (t : ℕ) → envOf env t < n
+    in-range t = by-low (getD env t 0 < n) firstVariable t
+        (λ k. rw (p .bound t k) (fixed-below ar n constants facts lendable t))
+        (λ k. rw (p .others t k, no-objects t) (lendable .some))
+
+    -- nothing is worked out yet
+    pub tables-ready : {above : List ℕ} → Above ar ws above 0 → Ready ar ws above (replicate (mostRows * 2) 0) (replicate mostEntries 0) env n 0 0 0
+    tables-ready a =
+        let v = listing-is-valid ar ws listed in
+        record {
+          sets = a;
+          heads-room = omega (arith, v .few, length-replicate {A = ℕ} (mostRows * 2) 0);
+          space-room = omega (arith, length-replicate {A = ℕ} mostEntries 0);
+          some = lendable .some;
+          places = omega (arith, p .places);
+          range = in-range;
+          next-used = omega arith;
+          used-few = omega arith;
+          stored = λ j h. absurd (omega arith);
+          ends = λ j h. absurd (omega arith);
+        }
+
+    tables-begun : (heads space : List ℕ) → Tabled s ar facts ws heads space env n 0 0
+    unfolding stateOf entriesTo
+    tables-begun heads space = record {
+      said = record {
+        good = good;
+        size-is = refl;
+        facts-are = refl;
+        fits = record { low = λ t h. p .bound t h ∙ sym (lent-fixed ar n constants facts lendable t); range = in-range };
+      };
+      holds = λ j h. absurd (omega arith);
+      count = refl;
+    }
+
+    module _ {above heads space : List ℕ} {r : Reached} {heads′ space′ env′ : List ℕ} (f : Finished ar facts ws above heads space env n r heads′ space′ env′) where
+      pub tables-over : r ≡ Over → Refused Valuations ≡ tablesAnswer ar ws n constants facts
+      unfolding tablesAnswer
+      tables-over e = rw (lt-ltb mostEntries (allEntries s [] ar ws) (f .over e s (tables-begun heads space)))
+
+      module _ {next used : ℕ} (e : r ≡ At next used) where
+        ready : Ready ar ws above heads′ space′ env′ n (rowCount ws) next used
+        ready = f .ready next used e
+
+        tabled : Tabled s ar facts ws heads′ space′ env′ n (rowCount ws) used
+        tabled = f .tabled next used e s (tables-begun heads space)
+
+        abbrev root : ℕ
+        root = rowCount ws - 1
+
+        last : root < rowCount ws
+        last = omega (arith, listing-is-valid ar ws listed .some)
+
+        root-is : rowTable s ar ws (tables s ar ws root) root ≡ rootTable s ar ws
+        unfolding rootTable
+        root-is =
+            let z : pred (rowCount ws) ≡ root = omega arith in
+            sym (ap (λ (i : ℕ). getD (tables s ar ws (rowCount ws)) i (leafTable 0)) z ∙ table-at s ar ws (rowCount ws) root last)
+
+        holds : Holds s heads′ space′ root (rootTable s ar ws)
+        holds = subst (Holds s heads′ space′ root) root-is (tabled .holds root last)
+
+        no-names : namesOf (setAt heads′ root) ≡ []
+        no-names = holds .names-are ∙ lent-names ar ws n constants facts listed lent
+
+        stored : Stored heads′ space′ n root
+        stored = ready .stored root last
+
+        pub root-head : root * 2 + 2 ≤ length heads′
+        root-head = stored .head
+
+        pub root-start : getD heads′ (root * 2 + 1) 0 < length space′
+        unfolding startAt
+        root-start =
+            let q = stored .room in
+            let w : startAt heads′ root + n ^ 0 ≤ length space′ = subst (λ (xs : List ℕ). startAt heads′ root + n ^ length xs ≤ length space′) no-names q in
+            omega (arith, pow-zero n)
+
+        few-entries : allEntries s [] ar ws ≤ mostEntries
+        unfolding allEntries
+        few-entries = subst (λ (x : ℕ). x ≤ mostEntries) (tabled .count) (ready .used-few)
+
+        pub tables-value : {a : ℕ} → a ≡ getD heads′ (root * 2 + 1) 0 → Value (getD space′ a 0) ≡ tablesAnswer ar ws n constants facts
+        unfolding tablesAnswer startAt placeOf
+        tables-value {a} q =
+            let few : allEntries s [] ar ws ≤ mostEntries = few-entries in
+            let entry = holds .entry (start s []) (start-fits s [] good (bound-tuple good none)) in
+            let place : startAt heads′ root + placeOf (s .size) (rootTable s ar ws .names) (start s []) ≡ a =
+            ap (λ (xs : List ℕ). startAt heads′ root + placeOf (s .size) xs (start s [])) (lent-names ar ws n constants facts listed lent) ∙ here ∙ sym q in
+            rw (le-ltb mostEntries (allEntries s [] ar ws) few)
+            (ap Value (ap (λ (x : ℕ). getD space′ x 0) (sym place) ∙ entry ∙ lent-value ar ws n constants facts listed lent))
+          where
+            here : startAt heads′ root + 0 ≡ getD heads′ (root * 2 + 1) 0
+            here = omega arith
