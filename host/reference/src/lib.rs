@@ -1,4 +1,4 @@
-//! An independent implementation of document 01, and of document 02 as far as it is done (L1, L4, L5, L7), for tests: plain and slow, one module for each of its sections.
+//! An independent implementation of document 01, and of document 02 as far as it is done (L1, L4 to L8), for tests: plain and slow, one module for each of its sections.
 
 pub mod bellman;
 pub mod calls;
@@ -15,6 +15,7 @@ pub mod regress;
 pub mod session;
 pub mod slips;
 pub mod state;
+pub mod tables;
 pub mod terms;
 pub mod text;
 pub mod tree;

@@ -1,10 +1,12 @@
-//! Document 01, "States and value".
+//! Document 01, "States and value", with document 02, L6.
 
 use crate::diagram::Diagram;
-use crate::refusal::{require, Refusal};
+use crate::refusal::Refusal;
+use crate::tables::{worked, ENTRIES};
 use crate::terms::{is_constant, Arities, Label, Term, EQUALITY};
 use std::collections::{BTreeMap, BTreeSet};
 
+/// Up to so many valuations are gone through one after another.
 pub const VALUATIONS: u64 = 1_000_000;
 
 #[derive(Clone, Debug, PartialEq, Eq, PartialOrd, Ord)]
@@ -61,13 +63,21 @@ pub fn leaf_in(diagram: &Diagram, arities: &Arities, state: &State, valuation: &
     })
 }
 
-/// The highest leaf over all valuations, or 15.
-pub fn value(diagram: &Diagram, arities: &Arities, state: &State) -> Result<u64, Refusal> {
+/// How many valuations there are, or the highest number there is where they are more.
+pub fn valuations(diagram: &Diagram, state: &State) -> u64 {
+    diagram.variables().iter().fold(1, |count: u64, _| count.saturating_mul(state.objects))
+}
+
+/// The highest leaf over all valuations, one after another.
+pub fn by_valuations(diagram: &Diagram, arities: &Arities, state: &State) -> u64 {
     let variables: Vec<Term> = diagram.variables().into_iter().collect();
-    let mut count: u64 = 1;
-    for _ in &variables {
-        count = count.saturating_mul(state.objects);
-        require(count <= VALUATIONS, Refusal::Valuations)?;
+    highest(state.objects, &variables, &mut Valuation::new(), &mut |valuation| leaf_in(diagram, arities, state, valuation))
+}
+
+/// The highest leaf over all valuations: by tables where these are more than 1,000,000 (document 02, L6), or 15.
+pub fn value(diagram: &Diagram, arities: &Arities, state: &State) -> Result<u64, Refusal> {
+    if valuations(diagram, state) <= VALUATIONS {
+        return Ok(by_valuations(diagram, arities, state));
     }
-    Ok(highest(state.objects, &variables, &mut Valuation::new(), &mut |valuation| leaf_in(diagram, arities, state, valuation)))
+    worked(diagram, arities, state, ENTRIES).map(|worked| worked.value)
 }

@@ -286,7 +286,7 @@ fn valuing() {
     assert_eq!(call(&test_of(2, &[0]), 2, &[1], &[2, 1, 0, 0, 0, 0, 0]), Ok(1));
     assert_eq!(call(&test_of(2, &[0]), 2, &[0], &[2, 1, 0, 0, 0, 0, 0]), Ok(0));
     assert_eq!(call(&test_of(1, &[X, Y]), 1_000, &[], &[1, 5, 999, 0, 0, 0, 0]), Ok(1));
-    assert_eq!(call(&test_of(1, &[X, Y]), 1_001, &[], &[]), Err(Refusal::Valuations));
+    assert_eq!(call(&test_of(1, &[X, Y]), 1_001, &[], &[]), Err(Refusal::Valuations), "1,002,001 entries");
     assert_eq!(call(&test_of(1, &[P, Y]), 1_001, &[], &[]), Err(Refusal::Unbound), "6 comes before 15");
     let all_six = test_of(3, &[X, Y, X + 2, X + 3, X + 4, X + 5]);
     assert_eq!(call(&all_six, 10, &[], &[3, 1, 2, 3, 4, 5, 9]), Ok(1));

@@ -8,7 +8,7 @@
 //!     tests text SEED
 //!
 //! `self` holds the reference against brute force, the weight rule over all states that matter, compares ground listings by their values, sees that blank
-//! lines change nothing but line numbers and that listings of the old kind meet 14, counts the refusals met, and sees that each of document 01's slips is caught.
+//! lines change nothing but line numbers, that listings of the old kind meet 14 and that both ways to a value agree, counts the refusals met, and sees that each of document 01's slips is caught.
 //! `program` feeds random texts to a program and to the reference. `bellman` holds the values that a program prints against brute force,
 //! without the reference's diagrams. `library` (feature `library`) makes random calls of the static
 //! library and of the reference, whole texts too, and sees that each call gave each of its answers.
@@ -34,6 +34,7 @@ mod program;
 mod random;
 #[cfg(feature = "library")]
 mod shapes;
+mod tables;
 mod tally;
 mod texts;
 mod weights;
@@ -120,6 +121,7 @@ fn self_tests(bound: &Bound) -> Result<(), String> {
         listings::check(seed, &mut tally).map_err(|message| format!("seed {seed}, listing: {message}"))?;
         order::check(seed).map_err(|message| format!("seed {seed}, order of labels: {message}"))?;
         ground::check(seed).map_err(|message| format!("seed {seed}, ground listings: {message}"))?;
+        tables::check(seed).map_err(|message| format!("seed {seed}, tables: {message}"))?;
         blanks::check(seed).map_err(|message| format!("seed {seed}, blank lines: {message}"))?;
         by_equality += weights::check(seed, &mut tally).map_err(|message| format!("seed {seed}, weights: {message}"))?;
         for answer in answers(&texts::text(seed), Slips::NONE) {

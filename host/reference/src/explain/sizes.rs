@@ -12,6 +12,7 @@ use crate::regress::row_step;
 use crate::session::{Run, Session, ACTIONS, FACTS, MODEL_ROWS, VARIANTS};
 use crate::slips::Slips;
 use crate::state::{value, VALUATIONS};
+use crate::tables::ENTRIES;
 use crate::terms::{Test, CONSTANTS, PARAMETERS, PREDICATES, VARIABLES};
 use crate::text::{Kind, Line, Span, Word, WrittenDiagram};
 use crate::tree::Tree;
@@ -244,11 +245,12 @@ fn valuations(run: &Run, span: Span) -> Checked {
         let power =
             u128::from(state.objects).checked_pow(variables as u32).map(|power| format!(" = {}", grouped(power))).unwrap_or_default();
         let what = format!(
-            "{}^{variables}{power} valuations, {} and {}; at most {}",
+            "{}^{variables}{power} valuations, {} and {}, are more than {}, and the tables in their place have more than {} entries",
             state.objects,
             counted(state.objects as usize, "object"),
             counted(variables, "variable"),
-            grouped(VALUATIONS.into())
+            grouped(VALUATIONS.into()),
+            grouped(ENTRIES.into())
         );
         Fault::new(
             refusal,
