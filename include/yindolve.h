@@ -96,7 +96,7 @@ enum {
     YINDOLVE_SCALE = 12,      /* a power of the scale above 10^18, or 10^18 backups */
     YINDOLVE_WEIGHTS = 13,    /* an action's weights, summed, are not the total in a case that equality does not rule out */
     YINDOLVE_LISTING = 14,    /* words that are no listing, or a wrong arity list */
-    YINDOLVE_VALUATIONS = 15, /* more than 1,000,000 valuations */
+    YINDOLVE_VALUATIONS = 15, /* more than 1,000,000 valuations, and more than 8,192 entries in the tables that take their place */
     YINDOLVE_NOTHING = 16,    /* no edge to cut */
     YINDOLVE_PATHS = 17,      /* more than 256 paths: of a diagram to cut, or at (start) of an action's summed weights */
     YINDOLVE_BUFFER = 18      /* a result buffer or a working space that is too small: nothing is done */
@@ -149,7 +149,7 @@ static inline const char *yindolve_refusal_meaning(uint64_t refusal) {
     case YINDOLVE_SCALE: return "the scale, the power of total times discount divisor, would pass 10^18";
     case YINDOLVE_WEIGHTS: return "an action's weights, summed, are not the total in a case that equality does not rule out";
     case YINDOLVE_LISTING: return "the words are no listing, or the arity list is wrong";
-    case YINDOLVE_VALUATIONS: return "more than 1,000,000 ways to choose objects for the variables";
+    case YINDOLVE_VALUATIONS: return "more than 1,000,000 ways to choose objects for the variables, and more than 8,192 entries in the tables that take their place";
     case YINDOLVE_NOTHING: return "no edge is left to cut";
     case YINDOLVE_PATHS: return "more than 256 paths, in the diagram to cut or in an action's summed weights";
     case YINDOLVE_BUFFER: return "a result buffer or a working space that is too small";
@@ -214,7 +214,8 @@ uint64_t yindolve_cut(const uint64_t *arities, size_t arities_count, const uint6
 
 /* The value of a listing in a state, to *value: the highest leaf over all valuations of its variables. The state has objects 0 to objects - 1; constants[c] is the
  * object of constant c (0 for a constant that has no word, words past YINDOLVE_CONSTANTS are not read); facts are rows of YINDOLVE_FACT_WORDS words, words behind
- * the last whole row are not read.
+ * the last whole row are not read. More than 1,000,000 valuations are not gone through: a table for each row of the listing takes their place, with the same value, and these
+ * tables may have 8,192 entries in all.
  * Refused, in this order: LISTING; RANGE (no object, or one named that is not there); UNBOUND (any parameter); VALUATIONS.
  */
 uint64_t yindolve_value(const uint64_t *arities, size_t arities_count, const uint64_t *words, size_t words_count, uint64_t objects, const uint64_t *constants,

@@ -201,7 +201,8 @@ pub fn cut(
 
 /// The value of a listing in a state, to `value`: the highest leaf over all valuations of its variables.
 ///
-/// `constants[c]` is the object of constant c, 0 for a constant that has no word; `facts` are rows of [`FACT_WORDS`] words.
+/// `constants[c]` is the object of constant c, 0 for a constant that has no word; `facts` are rows of [`FACT_WORDS`] words. More than
+/// 1,000,000 valuations are not gone through: a table for each row of the listing takes their place, 8,192 entries in all.
 ///
 /// # Refusals
 /// In this order: [`Listing`](Refusal::Listing); [`Range`](Refusal::Range) (no object, or one named that is not there);

@@ -42,7 +42,7 @@ pub enum Refusal {
     Weights = 13,
     /// Words that are no listing, or a wrong arity list.
     Listing = 14,
-    /// More than 1,000,000 valuations.
+    /// More than 1,000,000 valuations, and more than 8,192 entries in the tables that take their place.
     Valuations = 15,
     /// No edge to cut.
     Nothing = 16,
@@ -126,7 +126,7 @@ impl Refusal {
             Refusal::Scale => "the scale, the power of total times discount divisor, would pass 10^18",
             Refusal::Weights => "an action's weights, summed, are not the total in a case that equality does not rule out",
             Refusal::Listing => "the words are no listing, or the arity list is wrong",
-            Refusal::Valuations => "more than 1,000,000 ways to choose objects for the variables",
+            Refusal::Valuations => "more than 1,000,000 ways to choose objects for the variables, and more than 8,192 entries in the tables that take their place",
             Refusal::Nothing => "no edge is left to cut",
             Refusal::Paths => "more than 256 paths, in the diagram to cut or in an action's summed weights",
             Refusal::Buffer => "a result buffer or a working space that is too small",

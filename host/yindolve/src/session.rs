@@ -382,7 +382,8 @@ impl Session {
     ///
     /// # Refusals
     /// `Place` (before a `(start)`, or a declared constant has no object); `Name` (a fact of a predicate that is not declared);
-    /// `Range` (no object, or one named that is not there); `Valuations` (more than 1,000,000 ways to choose objects).
+    /// `Range` (no object, or one named that is not there); `Valuations` (more than 1,000,000 ways to choose objects, and
+    /// more than 8,192 entries in the tables that take their place).
     pub fn value(&self, state: &State) -> Result<Value, Refusal> {
         if !self.is_started() || state.constants.len() < self.vocabulary.constants().len() {
             return Err(Refusal::Place);

@@ -219,7 +219,7 @@ impl Space {
     ///
     /// # Refusals
     /// In this order: `Range` (no object, or one named that is not there), `Unbound` (a parameter), `Valuations` (more than
-    /// 1,000,000 ways).
+    /// 1,000,000 ways, and more than 8,192 entries in the tables that take their place).
     pub fn value(&self, listing: &Listing, state: &State) -> Result<u64, Refusal> {
         let mut value = 0;
         let facts = state.facts.as_flattened();

@@ -57,7 +57,7 @@ fn a_bad_state_among_good_ones() {
         format!("{bad}:3:7: arity (3): \"aboard\" is of arity 2, and here it has 1 term; (predicate aboard 2) says how many; write as many or change the declaration"),
         format!("{bad}:4:12: range (4): there is no object 3; this state has objects 0 to 2; take one of these, or begin the state with more: (objects n)"),
         format!("{foreign}:2:1: this is no line of a state; a state has (objects n), (is c o) and (true p o ..) lines"),
-        format!("{large}:1:1: valuations (15): 20^10 = 10,240,000,000,000 valuations, 20 objects and 10 variables; at most 1,000,000; "),
+        format!("{large}:1:1: valuations (15): 20^10 = 10,240,000,000,000 valuations, 20 objects and 10 variables, are more than 1,000,000, and the tables in their place have more than 8,192 entries; "),
         format!("{none}:1:1: place (5): no (objects n) was accepted before it; begin the state with (objects n)"),
         format!("{empty}: place (5): no (objects n) was accepted before it; begin the state with (objects n)"),
     ] {
