@@ -1,0 +1,3 @@
+pub mod EdgeLaws
+pub mod KeepingLaws
+pub mod WritingLaws

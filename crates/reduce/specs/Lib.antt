@@ -1,0 +1,4 @@
+-- The public call of a reduction.
+pub mod Routing
+pub mod Keeping
+pub mod KeepingLaws
