@@ -1,3 +1,5 @@
 pub mod EdgeLaws
 pub mod KeepingLaws
 pub mod WritingLaws
+pub mod SearchLaws
+pub mod VisitLaws

@@ -1,4 +1,5 @@
 -- The public call of a reduction.
 pub mod Routing
 pub mod Keeping
+pub mod Searching
 pub mod KeepingLaws

@@ -7,12 +7,289 @@ ghost use mathlib.Core.Bool.{cond};
 ghost use Prim.Native.Nat.{_+_, _-_, _*_, _/_, _<_, _≤_};
 ghost use lib.ListN.{length, getD};
 ghost use lib.Dec.{eqb};
+ghost use Rattle.label.specs.Limits.{leafMark};
+ghost use Rattle.diagram.specs.Words.{labelAt};
 ghost use Rattle.diagram.specs.Validity.{tree};
 ghost use Rattle.apply.specs.Formed.{add};
 ghost use Rattle.store.specs.Space.{diagramsOf, Formation};
 ghost use Rattle.reduction.specs.Reduction.{isOn};
-ghost use Rattle.reduce.specs.Routing.{winning, isOnPath, staysIn, Won, Edged};
+ghost use Rattle.reduce.specs.Routing.{Routed, winning, isOnPath, staysIn, Won, Edged};
+ghost use Rattle.reduce.specs.Searching.{stacked, signOf, betterOf, Leaves, Searching, Standing, Reached, Visited, Forked};
 ghost use Rattle.reduce.specs.Keeping.{keptOf, Parent, Keeping, Keepable, Kept, Writable, Shortened};
+
+// Combinations formed at most.
+const FORMED: u64 = 100000;
+// What is told of a fact that is not known.
+const UNKNOWN: u64 = 2;
+
+// What the first `count` of the known literals, the last of them first, tell of the fact: 0 that it is false, 1 that it is true, 2 nothing.
+fn sign_of(known: &[u64], count: usize, fact: u64) -> u64
+    requires { ⌜ count ≤ length (now known) ⌝ }
+    ensures { λ r. ⌜ r ≡ signOf (stacked (now (known .entry)) count) fact ⌝ }
+{
+    let mut c = count;
+    while c > 0 {
+        let x = known[c - 1];
+        if x / 2 == fact {
+            return x % 2;
+        }
+        c -= 1;
+    }
+    UNKNOWN
+}
+
+// Finds the leaves of the m paths.
+fn find_leaves(words: &[u64], counts: &[u64], n: usize, m: usize, leaves: &mut [u64])
+    requires { ⌜ Routed (now words) (now counts) n m ⌝ }
+    requires { ⌜ m ≤ length (now leaves) ⌝ }
+    ensures { λ _. ⌜ Leaves (now (words .entry)) (now (leaves .exit)) n m ⌝ }
+{
+    let mut p = 0;
+    while p < m {
+        leaves[p] = paths::leaf_of(words, counts, n, p as u64);
+        p += 1;
+    }
+}
+
+// Of the winning path so far and path k the one of least place: the higher leaf, among equal leaves the lower number. Where there is none so far, m stands for it.
+fn better(words: &[u64], leaves: &[u64], n: usize, m: usize, best: usize, k: usize) -> usize
+    requires { ⌜ Leaves (now words) (now leaves) n m ⌝ }
+    requires { ⌜ best ≤ m ⌝ }
+    requires { ⌜ k < m ⌝ }
+    ensures { λ r. ⌜ r ≡ betterOf (tree (now (words .entry)) (n - 1)) m best k ⌝ }
+{
+    if best == m {
+        return k;
+    }
+    if leaves[best] < leaves[k] {
+        return k;
+    }
+    if leaves[k] < leaves[best] {
+        return best;
+    }
+    if k < best {
+        return k;
+    }
+    best
+}
+
+// A path of this valuation is found: it is one formed. Behind the last valuation the winning path is marked, else the next valuation begins at the root.
+fn reach(
+    words: &[u64],
+    counts: &[u64],
+    facts: &[u64],
+    leaves: &[u64],
+    known: &mut [u64],
+    wins: &mut [u64],
+    n: usize,
+    m: usize,
+    base: usize,
+    left: usize,
+    count: usize,
+    best: usize,
+    formed: u64,
+    k: usize,
+) -> u64
+    requires { ⌜ Searching (now words) (now counts) (now facts) (now leaves) (now known) (now wins) n m base left best formed ⌝ }
+    requires { ⌜ k < m ⌝ }
+    requires { ⌜ count ≤ base + n ⌝ }
+    ensures { λ r. ⌜ Reached (now (words .entry)) (now (facts .entry)) (now (known .entry)) (now (wins .entry)) n m base left count best formed k (now (known .exit)) (now (wins .exit)) r ⌝ }
+{
+    if formed == FORMED {
+        return FORMED + 1;
+    }
+    let b = better(words, leaves, n, m, best, k);
+    if left == 0 {
+        wins[b] = 1;
+        return formed + 1;
+    }
+    visit(
+        words,
+        counts,
+        facts,
+        leaves,
+        known,
+        wins,
+        n,
+        m,
+        base + n,
+        left - 1,
+        count,
+        b,
+        formed + 1,
+        n - 1,
+        0,
+    )
+}
+
+// Goes down both edges of the branch row r, whose fact is not known: by the true edge it is true, by the false edge false.
+fn fork(
+    words: &[u64],
+    counts: &[u64],
+    facts: &[u64],
+    leaves: &[u64],
+    known: &mut [u64],
+    wins: &mut [u64],
+    n: usize,
+    m: usize,
+    base: usize,
+    left: usize,
+    count: usize,
+    best: usize,
+    formed: u64,
+    r: usize,
+    k: usize,
+) -> u64
+    requires { ⌜ Searching (now words) (now counts) (now facts) (now leaves) (now known) (now wins) n m base left best formed ⌝ }
+    requires { ⌜ Standing (now words) n m base count r k ⌝ }
+    requires { ⌜ (labelAt (now words) r ≡ leafMark → ⊥) ⌝ }
+    ensures { λ x. ⌜ Forked (now (words .entry)) (now (facts .entry)) (now (known .entry)) (now (wins .entry)) n m base left count best formed r k (now (known .exit)) (now (wins .exit)) x ⌝ }
+{
+    let t = words[r * 3 + 1] as usize;
+    let f = words[r * 3 + 2] as usize;
+    let behind = k + (counts[t] as usize);
+    let code = facts[base + r] * 2;
+    known[count] = code + 1;
+    let a = visit(
+        words,
+        counts,
+        facts,
+        leaves,
+        known,
+        wins,
+        n,
+        m,
+        base,
+        left,
+        count + 1,
+        best,
+        formed,
+        t,
+        k,
+    );
+    if a > FORMED {
+        return a;
+    }
+    known[count] = code;
+    visit(
+        words,
+        counts,
+        facts,
+        leaves,
+        known,
+        wins,
+        n,
+        m,
+        base,
+        left,
+        count + 1,
+        best,
+        a,
+        f,
+        behind,
+    )
+}
+
+// Goes down from row r, whose first path is path k, by every way that what is known allows.
+fn visit(
+    words: &[u64],
+    counts: &[u64],
+    facts: &[u64],
+    leaves: &[u64],
+    known: &mut [u64],
+    wins: &mut [u64],
+    n: usize,
+    m: usize,
+    base: usize,
+    left: usize,
+    count: usize,
+    best: usize,
+    formed: u64,
+    r: usize,
+    k: usize,
+) -> u64
+    requires { ⌜ Searching (now words) (now counts) (now facts) (now leaves) (now known) (now wins) n m base left best formed ⌝ }
+    requires { ⌜ Standing (now words) n m base count r k ⌝ }
+    ensures { λ x. ⌜ Visited (now (words .entry)) (now (facts .entry)) (now (known .entry)) (now (wins .entry)) n m base left count best formed r k (now (known .exit)) (now (wins .exit)) x ⌝ }
+{
+    if words[r * 3] == Label::LEAF {
+        return reach(
+            words,
+            counts,
+            facts,
+            leaves,
+            known,
+            wins,
+            n,
+            m,
+            base,
+            left,
+            count,
+            best,
+            formed,
+            k,
+        );
+    }
+    let s = sign_of(known, count, facts[base + r]);
+    let t = words[r * 3 + 1] as usize;
+    if s == 1 {
+        return visit(
+            words,
+            counts,
+            facts,
+            leaves,
+            known,
+            wins,
+            n,
+            m,
+            base,
+            left,
+            count,
+            best,
+            formed,
+            t,
+            k,
+        );
+    }
+    if s == 0 {
+        let f = words[r * 3 + 2] as usize;
+        let behind = k + (counts[t] as usize);
+        return visit(
+            words,
+            counts,
+            facts,
+            leaves,
+            known,
+            wins,
+            n,
+            m,
+            base,
+            left,
+            count,
+            best,
+            formed,
+            f,
+            behind,
+        );
+    }
+    fork(
+        words,
+        counts,
+        facts,
+        leaves,
+        known,
+        wins,
+        n,
+        m,
+        base,
+        left,
+        count,
+        best,
+        formed,
+        r,
+        k,
+    )
+}
 
 // Whether path p is marked, and goes through the edge of row r: the true edge for side 1, the false edge for side 2.
 fn is_on_path(
