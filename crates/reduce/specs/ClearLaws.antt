@@ -383,3 +383,10 @@ module _ (fact : ℕ → ℕ) where
           ∙ sym (ap₂ _++_
           (over-new hi known ct k (λ cs. (unfold allowed in (rw (hi-half, e)))) (λ cs. (unfold learnt in (rw (hi-half, e)))))
           (over-new lo known cf (k + length (paths t)) (λ cs. (unfold allowed in (rw (lo-half, e)))) (λ cs. (unfold learnt in (rw (lo-half, e)))))))
+
+pub append-within : (xs ys zs : List ℕ) → Within ys zs → Within (xs ++ ys) (xs ++ zs)
+append-within xs ys zs w x m = go (mem-both x xs ys m)
+  where
+    go : Either (mem eqb x xs) (mem eqb x ys) → mem eqb x (xs ++ zs) ≡ true
+    go (one e) = mem-left x xs zs e
+    go (other e) = mem-right x xs zs (w x e)

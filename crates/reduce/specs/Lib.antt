@@ -6,3 +6,4 @@ pub mod Facts
 pub mod KeepingLaws
 pub mod FactLaws
 pub mod ClearLaws
+pub mod FormedLaws

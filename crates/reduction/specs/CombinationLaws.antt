@@ -204,7 +204,7 @@ module _ (d : Diagram) where
   abbrev leafAt : ℕ → ℕ
   leafAt k = pathAt d k .end
 
-  at-least-trans : (a b c : ℕ) → AtLeast d a b → AtLeast d b c → AtLeast d a c
+  pub at-least-trans : (a b c : ℕ) → AtLeast d a b → AtLeast d b c → AtLeast d a c
   at-least-trans a b c (inl x) (inl y) = inl (omega arith)
   at-least-trans a b c (inl x) (inr y) = inl (omega arith)
   at-least-trans a b c (inr x) (inl y) = inl (omega arith)
@@ -215,7 +215,7 @@ module _ (d : Diagram) where
   at-least-leaf k j (inr h) = omega arith
 
   -- of two paths the one that comes first
-  earlier : (j k : ℕ) → (AtLeast d (cond (before d j k) j k) k) × (AtLeast d (cond (before d j k) j k) j)
+  pub earlier : (j k : ℕ) → (AtLeast d (cond (before d j k) j k) k) × (AtLeast d (cond (before d j k) j k) j)
   unfolding before
   earlier j k = go (ltb (leafAt k) (leafAt j)) (eqb (leafAt j) (leafAt k)) (ltb j k) refl refl refl
     where
