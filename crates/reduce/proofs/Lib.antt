@@ -3,3 +3,4 @@ pub mod KeepingLaws
 pub mod WritingLaws
 pub mod SearchLaws
 pub mod VisitLaws
+pub mod TableLaws

@@ -3,6 +3,7 @@ pub mod Routing
 pub mod Keeping
 pub mod Searching
 pub mod Facts
+pub mod Tables
 pub mod KeepingLaws
 pub mod FactLaws
 pub mod ClearLaws

@@ -1,5 +1,6 @@
 // The public call of a reduction by model checking: the winning paths are found, and every edge on none of them goes to leaf 0.
 use label::Label;
+use label::Term;
 use store::Formed;
 use write::Listed;
 ghost use mathlib.Core.Path.{_≡_};
@@ -7,7 +8,8 @@ ghost use mathlib.Core.Bool.{cond};
 ghost use Prim.Native.Nat.{_+_, _-_, _*_, _/_, _<_, _≤_};
 ghost use lib.ListN.{length, getD};
 ghost use lib.Dec.{eqb};
-ghost use Rattle.label.specs.Limits.{leafMark};
+ghost use Rattle.label.specs.Limits.{leafMark, termEnd};
+ghost use Rattle.label.specs.Callers.{TermMap};
 ghost use Rattle.diagram.specs.Words.{labelAt};
 ghost use Rattle.diagram.specs.Validity.{tree};
 ghost use Rattle.apply.specs.Formed.{add};
@@ -15,6 +17,7 @@ ghost use Rattle.store.specs.Space.{diagramsOf, Formation};
 ghost use Rattle.reduction.specs.Reduction.{isOn};
 ghost use Rattle.reduce.specs.Routing.{Routed, winning, isOnPath, staysIn, Won, Edged};
 ghost use Rattle.reduce.specs.Searching.{stacked, signOf, betterOf, Leaves, Searching, Standing, Reached, Visited, Forked};
+ghost use Rattle.reduce.specs.Tables.{Divided, Placed, Ranked, Mapping, Mapped, factWord, Labelled, Filled};
 ghost use Rattle.reduce.specs.Keeping.{keptOf, Parent, Keeping, Keepable, Kept, Writable, Shortened};
 
 // Combinations formed at most.
@@ -289,6 +292,89 @@ fn visit(
         r,
         k,
     )
+}
+
+// Finds the objects of the v variables under valuation i, which is one of `all`: the digits of i in base v.
+fn objects_into(v: usize, all: usize, i: usize, out: &mut [u64])
+    requires { ⌜ Divided v all i (now out) ⌝ }
+    ensures { λ _. ⌜ Placed v i (now (out .entry)) (now (out .exit)) ⌝ }
+{
+    let mut p = all;
+    let mut x = i;
+    let mut j = 0;
+    while j < v {
+        p = p / v;
+        out[j] = (x / p) as u64;
+        x = x % p;
+        j += 1;
+    }
+}
+
+// How many variables are marked up to the term t, where c are below it.
+fn rank_after(marks: &[u64], t: usize, c: usize) -> usize
+    requires { ⌜ termEnd ≤ length (now marks) ⌝ }
+    requires { ⌜ t < termEnd ⌝ }
+    requires { ⌜ Ranked (now marks) t c ⌝ }
+    ensures { λ r. ⌜ Ranked (now (marks .entry)) (t + 1) r ⌝ }
+{
+    if t < (Term::FIRST_VARIABLE as usize) {
+        return c;
+    }
+    if marks[t] == 0 {
+        return c;
+    }
+    c + 1
+}
+
+// Writes the object of each term: that of the variable of the same rank.
+fn object_map(marks: &[u64], objects: &[u64], map: &mut [u64])
+    requires { ⌜ Mapping (now marks) (now objects) (now map) ⌝ }
+    ensures { λ _. ⌜ Mapped (now (marks .entry)) (now (objects .entry)) (now (map .exit)) termEnd ⌝ }
+{
+    let mut t = 0;
+    let mut c = 0;
+    while t < (Term::END as usize) {
+        map[t] = objects[c];
+        c = rank_after(marks, t, c);
+        t += 1;
+    }
+}
+
+// The fact of row r's label under the map of a valuation; 0 for a leaf.
+fn fact_word(arities: &[u64], words: &[u64], map: &[u64], n: usize, r: usize) -> u64
+    requires { ⌜ Labelled (now arities) (now words) n ⌝ }
+    requires { ⌜ TermMap (now map) ⌝ }
+    requires { ⌜ r < n ⌝ }
+    ensures { λ x. ⌜ x ≡ factWord (now (arities .entry)) (now (words .entry)) (now (map .entry)) r ⌝ }
+{
+    let w = words[r * 3];
+    if w == Label::LEAF {
+        return 0;
+    }
+    let l = Label { packed: w };
+    let f = l.renamed(arities, map);
+    f.packed
+}
+
+// Fills in the facts of the n rows' labels from the place `base` on.
+fn fact_rows(
+    arities: &[u64],
+    words: &[u64],
+    map: &[u64],
+    n: usize,
+    base: usize,
+    facts: &mut [u64],
+)
+    requires { ⌜ Labelled (now arities) (now words) n ⌝ }
+    requires { ⌜ TermMap (now map) ⌝ }
+    requires { ⌜ base + n ≤ length (now facts) ⌝ }
+    ensures { λ _. ⌜ Filled (now (arities .entry)) (now (words .entry)) (now (map .entry)) base n (now (facts .entry)) (now (facts .exit)) ⌝ }
+{
+    let mut r = 0;
+    while r < n {
+        facts[base + r] = fact_word(arities, words, map, n, r);
+        r += 1;
+    }
 }
 
 // Whether path p is marked, and goes through the edge of row r: the true edge for side 1, the false edge for side 2.
