@@ -4,3 +4,5 @@ pub mod WritingLaws
 pub mod SearchLaws
 pub mod VisitLaws
 pub mod TableLaws
+pub mod BlockLaws
+pub mod WinningLaws

@@ -38,7 +38,7 @@ formed-none : (d : Diagram) (known : List ℕ) → formedOn d [] known ≡ 0
 unfolding formedOn
 formed-none d known = refl
 
-formed-next : (d : Diagram) (fact : ℕ → ℕ) (facts : List (ℕ → ℕ)) (known : List ℕ) → formedOn d (fact ∷ facts) known ≡ formedFrom d facts (ways fact d known 0)
+pub formed-next : (d : Diagram) (fact : ℕ → ℕ) (facts : List (ℕ → ℕ)) (known : List ℕ) → formedOn d (fact ∷ facts) known ≡ formedFrom d facts (ways fact d known 0)
 unfolding formedOn formedFrom
 formed-next d fact facts known = refl
 
@@ -59,7 +59,7 @@ module _ (d : Diagram) (m : ℕ) where
   unfolding winnersOn
   winners-none known best = refl
 
-  winners-next : (fact : ℕ → ℕ) (facts : List (ℕ → ℕ)) (known : List ℕ) (best : ℕ)
+  pub winners-next : (fact : ℕ → ℕ) (facts : List (ℕ → ℕ)) (known : List ℕ) (best : ℕ)
       → winnersOn d m (fact ∷ facts) known best ≡ winnersFrom d m facts best (ways fact d known 0)
   unfolding winnersOn winnersFrom
   winners-next fact facts known best = refl
@@ -94,7 +94,7 @@ module _ (fact : ℕ → ℕ) (known : List ℕ) (k : ℕ) where
     ways-fork s e = rw e
 
 -- ===== `reach` =====
-left-one : (left n : ℕ) → (left ≡ 0 → ⊥) → left * n ≡ n + (left - 1) * n
+pub left-one : (left n : ℕ) → (left ≡ 0 → ⊥) → left * n ≡ n + (left - 1) * n
 left-one zero n h = absurd (h refl)
 left-one (suc l) n h =
     let e : suc l * n ≡ n + l * n = omega arith in

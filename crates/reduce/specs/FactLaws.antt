@@ -2,17 +2,18 @@
 use mathlib.Core.Path.{_≡_, refl, sym, ap, ap₂, subst, _∙_}
 use mathlib.Core.Bool.{Bool, true, false, not, _&&_, _||_, cond, Bool·beq}
 use mathlib.Core.List.{List, [], _∷_, _++_, map, List·Memᴰ, List·Memᴰ·head, List·Memᴰ·tail}
-use Prim.Native.Nat.{ℕ, zero, suc, _+_, _*_, _/_, _≤_, _<_}
+use Prim.Native.Nat.{ℕ, zero, suc, _+_, _*_, _/_, _^_, _≤_, _<_}
 use native.Mathlib.Omega.{arith}
+use native.Mathlib.Nat.{mul-le-mul-right, mul-assoc, pow-zero, pow-succ'}
 use lib.ListN.{length, getD, take}
 use lib.Seq.{take-nil}
 use lib.Dec.{eqb}
 use borrow.Author.Tests.{eqb-true, eqb-false, eq-eqb, ne-eqb}
 use Rattle.basics.specs.Tests.{Flag, isTrue, isFalse, flag, and-left, and-right}
 use Rattle.basics.specs.Members.{clash}
-use Rattle.label.specs.Limits.{termBase, termEnd}
+use Rattle.label.specs.Limits.{termBase, termEnd, predicateCount, predicateWeight}
 use Rattle.label.specs.Labels.{packed, predicateOf, unpacked, placesOf, termsOf, isLabel}
-use Rattle.label.specs.LabelLaws.{place-of, place-end}
+use Rattle.label.specs.LabelLaws.{place-of, place-end, label-fits}
 use Rattle.label.specs.Renamings.{placed, mapped, renamed}
 use Rattle.label.specs.RenamingLaws.{placed-used, placed-unused}
 use Rattle.label.specs.declared.Atom.{Atom}
@@ -101,13 +102,7 @@ terms-raw : (ar : List ℕ) (x : ℕ) → termsOf ar (unpacked x) ≡ take (getD
 unfolding termsOf unpacked predicateOf
 terms-raw ar x = refl
 
-module _ (ar : List ℕ) (ρ σ : ℕ → ℕ) (rs : (t : ℕ) → ρ t < termBase) (ss : (t : ℕ) → σ t < termBase) (l m : ℕ) where
-  abbrev nl : ℕ
-  nl = getD ar (predicateOf l) 0
-
-  abbrev nm : ℕ
-  nm = getD ar (predicateOf m) 0
-
+module _ (ar : List ℕ) where
   renamed-horner : (τ : ℕ → ℕ) (x : ℕ) → renamed ar τ x ≡ horner (predicateOf x) (placedAll τ (getD ar (predicateOf x) 0) 0 (placesOf (unpacked x)))
   unfolding renamed
   renamed-horner τ x =
@@ -118,23 +113,62 @@ module _ (ar : List ℕ) (ρ σ : ℕ → ℕ) (rs : (t : ℕ) → ρ t < termBa
   terms-are τ x =
       ap (map τ) (terms-raw ar x) ∙ sym (placed-terms τ (getD ar (predicateOf x) 0) 0 (getD ar (predicateOf x) 0) (omega arith) (placesOf (unpacked x)))
 
-  same-fact : renamed ar ρ l ≡ renamed ar σ m → (predicateOf l ≡ predicateOf m) × (map ρ (termsOf ar (unpacked l)) ≡ map σ (termsOf ar (unpacked m)))
-  same-fact e =
-      let r = horner-one (predicateOf l) (predicateOf m) (placedAll ρ nl 0 (placesOf (unpacked l))) (placedAll σ nm 0 (placesOf (unpacked m)))
-      (placed-length ρ nl 0 (placesOf (unpacked l)) ∙ sym (placed-length σ nm 0 (placesOf (unpacked m))))
-      (placed-low ρ rs nl 0 (placesOf (unpacked l))) (placed-low σ ss nm 0 (placesOf (unpacked m)))
-      (sym (renamed-horner ρ l) ∙ e ∙ renamed-horner σ m) in
-      (r .0, terms-are ρ l ∙ ap₂ (λ (p : ℕ) (ts : List ℕ). take (getD ar p 0) ts) (r .0) (r .1) ∙ sym (terms-are σ m))
+  module _ (ρ σ : ℕ → ℕ) (l m : ℕ) where
+    abbrev nl : ℕ
+    nl = getD ar (predicateOf l) 0
 
-  fact-same : predicateOf l ≡ predicateOf m → map ρ (termsOf ar (unpacked l)) ≡ map σ (termsOf ar (unpacked m)) → renamed ar ρ l ≡ renamed ar σ m
-  fact-same p q =
-      let n : nl ≡ nm = ap (λ (x : ℕ). getD ar x 0) p in
-      let q′ : map ρ (take nl (placesOf (unpacked l))) ≡ map σ (take nl (placesOf (unpacked m)))
-      = sym (ap (map ρ) (terms-raw ar l)) ∙ q ∙ ap (map σ) (terms-raw ar m) ∙ ap (λ (x : ℕ). map σ (take x (placesOf (unpacked m)))) (sym n) in
-      renamed-horner ρ l
-      ∙ ap₂ horner p (placed-same ρ σ nl 0 nl (omega arith) (placesOf (unpacked l)) (placesOf (unpacked m)) refl q′
-      ∙ ap (λ (x : ℕ). placedAll σ x 0 (placesOf (unpacked m))) n)
-      ∙ sym (renamed-horner σ m)
+    abbrev nm : ℕ
+    nm = getD ar (predicateOf m) 0
+
+    same-fact : ((t : ℕ) → ρ t < termBase) → ((t : ℕ) → σ t < termBase) → renamed ar ρ l ≡ renamed ar σ m
+        → (predicateOf l ≡ predicateOf m) × (map ρ (termsOf ar (unpacked l)) ≡ map σ (termsOf ar (unpacked m)))
+    same-fact rs ss e =
+        let r = horner-one (predicateOf l) (predicateOf m) (placedAll ρ nl 0 (placesOf (unpacked l))) (placedAll σ nm 0 (placesOf (unpacked m)))
+        (placed-length ρ nl 0 (placesOf (unpacked l)) ∙ sym (placed-length σ nm 0 (placesOf (unpacked m))))
+        (placed-low ρ rs nl 0 (placesOf (unpacked l))) (placed-low σ ss nm 0 (placesOf (unpacked m)))
+        (sym (renamed-horner ρ l) ∙ e ∙ renamed-horner σ m) in
+        (r .0, terms-are ρ l ∙ ap₂ (λ (p : ℕ) (ts : List ℕ). take (getD ar p 0) ts) (r .0) (r .1) ∙ sym (terms-are σ m))
+
+    pub fact-same : predicateOf l ≡ predicateOf m → map ρ (termsOf ar (unpacked l)) ≡ map σ (termsOf ar (unpacked m)) → renamed ar ρ l ≡ renamed ar σ m
+    fact-same p q =
+        let n : nl ≡ nm = ap (λ (x : ℕ). getD ar x 0) p in
+        let q′ : map ρ (take nl (placesOf (unpacked l))) ≡ map σ (take nl (placesOf (unpacked m)))
+        = sym (ap (map ρ) (terms-raw ar l)) ∙ q ∙ ap (map σ) (terms-raw ar m) ∙ ap (λ (x : ℕ). map σ (take x (placesOf (unpacked m)))) (sym n) in
+        renamed-horner ρ l
+        ∙ ap₂ horner p (placed-same ρ σ nl 0 nl (omega arith) (placesOf (unpacked l)) (placesOf (unpacked m)) refl q′
+        ∙ ap (λ (x : ℕ). placedAll σ x 0 (placesOf (unpacked m))) n)
+        ∙ sym (renamed-horner σ m)
+
+  -- maps that agree on terms give one fact
+  agree : (ρ σ : ℕ → ℕ) → ((t : ℕ) → t < termEnd → ρ t ≡ σ t) → (n : ℕ) (ts : List ℕ) → ((k : ℕ) → k < length ts → getD ts k 0 < termEnd) → map ρ (take n ts) ≡ map σ (take n ts)
+  agree ρ σ e zero ts h = refl
+  agree ρ σ e (suc n) [] h = refl
+  agree ρ σ e (suc n) (t ∷ ts) h = ap₂ _∷_ (e t (h 0 (omega arith))) (agree ρ σ e n ts (λ k l. h (suc k) (omega arith)))
+
+  pub renamed-agree : (ρ σ : ℕ → ℕ) (l : ℕ) → isLabel ar l ≡ true → ((t : ℕ) → t < termEnd → ρ t ≡ σ t) → renamed ar ρ l ≡ renamed ar σ l
+  renamed-agree ρ σ l g e = fact-same ρ σ l l refl
+      (ap (map ρ) (terms-raw ar l) ∙ agree ρ σ e (getD ar (predicateOf l) 0) (placesOf (unpacked l)) (λ k h. subst (λ (t : ℕ). t < termEnd) (sym (place-of l k h)) (place-end ar l k g h))
+      ∙ sym (ap (map σ) (terms-raw ar l)))
+
+  -- a fact's number is below the end of facts
+  horner-below : (p : ℕ) (ts : List ℕ) → Low ts → horner p ts < suc p * termBase ^ length ts
+  unfolding horner
+  horner-below p [] l = omega (arith, pow-zero termBase)
+  horner-below p (t ∷ ts) l =
+      let ih = horner-below (p * termBase + t) ts (l .1) in
+      let a : suc (p * termBase + t) ≤ suc p * termBase = omega (arith, l .0) in
+      let b = mul-le-mul-right (termBase ^ length ts) a in
+      let c : suc p * termBase * termBase ^ length ts ≡ suc p * termBase ^ suc (length ts) = mul-assoc (suc p) termBase (termBase ^ length ts) ∙ ap (λ (x : ℕ). suc p * x) (sym (pow-succ' termBase (length ts))) in
+      omega (arith, ih, b, c)
+
+  pub fact-below : (ρ : ℕ → ℕ) (l : ℕ) → isLabel ar l ≡ true → ((t : ℕ) → ρ t < termBase) → renamed ar ρ l < predicateCount * predicateWeight
+  fact-below ρ l g s =
+      let h = horner-below (predicateOf l) (placedAll ρ (getD ar (predicateOf l) 0) 0 (placesOf (unpacked l))) (placed-low ρ s (getD ar (predicateOf l) 0) 0 (placesOf (unpacked l))) in
+      let p : predicateOf l < predicateCount = predicate-below l g in
+      omega (arith, h, p, renamed-horner ρ l)
+    where
+      predicate-below : (l : ℕ) → isLabel ar l ≡ true → predicateOf l < predicateCount
+      predicate-below l g = unfold predicateOf unpacked in (label-fits ar l g .predicate-fits)
 
 bits : (f : ℕ) (a b : Bool) → eqb (f * 2 + bit a) (f * 2 + bit b) ≡ Bool·beq a b
 bits f true true = eq-eqb (f * 2 + 1) (f * 2 + 1) refl
@@ -181,10 +215,10 @@ module _ (ar vs os us : List ℕ) (so : (t : ℕ) → objectOf vs os t < termBas
       go : Flag (eqb f g) → Flag (eqb p q) → Flag (equalLists a b) → Left ≡ Right
       go (isTrue e) u v =
           let z = eqb-true f g e in
-          let s = same-fact ar (objectOf vs os) (objectOf vs us) so su (x .label) (y .label) z in
+          let s = same-fact ar (objectOf vs os) (objectOf vs us) (x .label) (y .label) so su z in
           let l : Left ≡ not (Bool·beq (x .sign) (y .sign)) = rw (eq-eqb p q (s .0), s .1, equal-lists b) in
           let r : Right ≡ not (Bool·beq (x .sign) (y .sign)) = rw (half f (x .sign), half g (y .sign), e, z, bits g (x .sign) (y .sign)) in
           l ∙ sym r
       go (isFalse e) (isFalse u) v = rw u (sym (right-false e))
       go (isFalse e) (isTrue u) (isFalse v) = rw (u, v) (sym (right-false e))
-      go (isFalse e) (isTrue u) (isTrue v) = clash (eq-eqb f g (fact-same ar (objectOf vs os) (objectOf vs us) so su (x .label) (y .label) (eqb-true p q u) (lists-equal a b v))) e
+      go (isFalse e) (isTrue u) (isTrue v) = clash (eq-eqb f g (fact-same ar (objectOf vs os) (objectOf vs us) (x .label) (y .label) (eqb-true p q u) (lists-equal a b v))) e

@@ -109,7 +109,7 @@ module _ {A B : Type 0} where
   gather-one f (a ∷ l) = ap (λ (x : List B). f a ∷ x) (gather-one f l)
 
 -- numbers from k on
-abbrev count : ℕ → ℕ → List ℕ
+abbrev pub count : ℕ → ℕ → List ℕ
 count k zero = []
 count k (suc n) = k ∷ count (suc k) n
 
@@ -117,7 +117,7 @@ count-snoc : (k n : ℕ) → count k (suc n) ≡ count k n ++ ((k + n) ∷ [])
 count-snoc k zero = ap (λ (x : ℕ). x ∷ []) (let e : k ≡ k + 0 = omega arith in e)
 count-snoc k (suc n) = ap (λ (l : List ℕ). k ∷ l) (count-snoc (suc k) n ∙ ap (λ (x : ℕ). count (suc k) n ++ (x ∷ [])) (let e : suc k + n ≡ k + suc n = omega arith in e))
 
-up-count : (n : ℕ) → upTo n ≡ count 0 n
+pub up-count : (n : ℕ) → upTo n ≡ count 0 n
 up-count zero = refl
 up-count (suc n) = ap (λ (l : List ℕ). l ++ (n ∷ [])) (up-count n) ∙ ap (λ (x : ℕ). count 0 n ++ (x ∷ [])) (let e : n ≡ 0 + n = omega arith in e) ∙ sym (count-snoc 0 n)
 

@@ -4,6 +4,7 @@ pub mod Keeping
 pub mod Searching
 pub mod Facts
 pub mod Tables
+pub mod Winning
 pub mod KeepingLaws
 pub mod FactLaws
 pub mod ClearLaws

@@ -6,12 +6,14 @@ use mathlib.Core.List.{List, [], _∷_}
 use Prim.Native.Nat.{ℕ, zero, suc, _+_, _*_, _/_, _%_, _^_, _≤_, _<_}
 use lib.ListN.{length, getD}
 use lib.Dec.{eqb}
-use Rattle.label.specs.Limits.{leafMark, termEnd, predicateCount}
+use Rattle.label.specs.Limits.{leafMark, termEnd, predicateCount, variableCount}
 use Rattle.label.specs.Labels.{isLabel}
 use Rattle.label.specs.Renamings.{rank, renamed, mapOf}
 use Rattle.diagram.specs.Sizes.{mostRows}
 use Rattle.diagram.specs.Words.{labelAt}
 use Rattle.rename.specs.Maps.{usedVariables}
+use Rattle.reduce.specs.Searching.{factEnd}
+use Rattle.reduce.specs.Facts.{factOf}
 
 -- valuation i of c variables over n objects: its numbers are the digits of i in base n
 unfoldable pub digits : ℕ → ℕ → ℕ → List ℕ
@@ -69,3 +71,32 @@ pub record Filled (ar ws map : List ℕ) (base r : ℕ) (facts₀ facts : List �
   pub each : (k : ℕ) → k < r → getD facts (base + k) 0 ≡ factWord ar ws map k
   pub front : (j : ℕ) → j < base → getD facts j 0 ≡ getD facts₀ j 0
   pub behind : (j : ℕ) → base + r ≤ j → getD facts j 0 ≡ getD facts₀ j 0
+
+-- what filling in the facts under valuation i requires
+pub record Blocked (ar ws marks facts : List ℕ) (n v all i base : ℕ) : Type 0 where
+  pub labelled : Labelled ar ws n
+  pub marked : termEnd ≤ length marks
+  pub few : v ≤ variableCount
+  pub power : all ≡ v ^ v
+  pub one : i < all
+  pub room : base + n ≤ length facts
+
+-- the facts under a valuation stand from `base` on, those before stay, and facts stay facts
+pub record Grounded (ar ws marks os : List ℕ) (base n : ℕ) (facts₀ facts : List ℕ) : Type 0 where
+  pub each : (k : ℕ) → k < n → labelAt ws k ≢ leafMark → getD facts (base + k) 0 ≡ factOf ar (usedVariables marks) os (labelAt ws k)
+  pub front : (j : ℕ) → j < base → getD facts j 0 ≡ getD facts₀ j 0
+  pub codes : ((j : ℕ) → getD facts₀ j 0 < factEnd) → (j : ℕ) → getD facts j 0 < factEnd
+
+-- what filling in all facts requires
+pub record Tabling (ar ws marks facts : List ℕ) (n v all : ℕ) : Type 0 where
+  pub labelled : Labelled ar ws n
+  pub marked : termEnd ≤ length marks
+  pub few : v ≤ variableCount
+  pub power : all ≡ v ^ v
+  pub room : all * n ≤ length facts
+  pub clean : (j : ℕ) → getD facts j 0 < factEnd
+
+-- the facts under the first i valuations are there
+pub record Tabled (ar ws marks : List ℕ) (n v i : ℕ) (facts : List ℕ) : Type 0 where
+  pub each : (k r : ℕ) → k < i → r < n → labelAt ws r ≢ leafMark → getD facts (k * n + r) 0 ≡ factOf ar (usedVariables marks) (digits v v k) (labelAt ws r)
+  pub codes : (j : ℕ) → getD facts j 0 < factEnd

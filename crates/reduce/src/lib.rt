@@ -17,9 +17,11 @@ ghost use Rattle.store.specs.Space.{diagramsOf, Formation};
 ghost use Rattle.reduction.specs.Reduction.{isOn};
 ghost use Rattle.reduce.specs.Routing.{Routed, winning, isOnPath, staysIn, Won, Edged};
 ghost use Rattle.reduce.specs.Searching.{stacked, signOf, betterOf, Leaves, Searching, Standing, Reached, Visited, Forked};
-ghost use Rattle.reduce.specs.Tables.{Divided, Placed, Ranked, Mapping, Mapped, factWord, Labelled, Filled};
+ghost use Rattle.reduce.specs.Tables.{Divided, Placed, Ranked, Mapping, Mapped, factWord, Labelled, Filled, digits, Blocked, Grounded, Tabling, Tabled};
 ghost use Rattle.reduce.specs.Keeping.{keptOf, Parent, Keeping, Keepable, Kept, Writable, Shortened};
 
+// A word for each term.
+const TERMS: usize = Term::END as usize;
 // Combinations formed at most.
 const FORMED: u64 = 100000;
 // What is told of a fact that is not known.
@@ -374,6 +376,50 @@ fn fact_rows(
     while r < n {
         facts[base + r] = fact_word(arities, words, map, n, r);
         r += 1;
+    }
+}
+
+// Fills in the facts of the n rows' labels under valuation i, which is one of `all`, from the place `base` on.
+fn fact_block(
+    arities: &[u64],
+    words: &[u64],
+    marks: &[u64],
+    n: usize,
+    v: usize,
+    all: usize,
+    i: usize,
+    base: usize,
+    facts: &mut [u64],
+)
+    requires { ⌜ Blocked (now arities) (now words) (now marks) (now facts) n v all i base ⌝ }
+    ensures { λ _. ⌜ Grounded (now (arities .entry)) (now (words .entry)) (now (marks .entry)) (digits v v i) base n (now (facts .entry)) (now (facts .exit)) ⌝ }
+{
+    let mut objects = [0u64; TERMS];
+    let mut map = [0u64; TERMS];
+    objects_into(v, all, i, &mut objects);
+    object_map(marks, &objects, &mut map);
+    fact_rows(arities, words, &map, n, base, facts);
+}
+
+// Fills in the facts of the n rows' labels under each valuation.
+fn fill_facts(
+    arities: &[u64],
+    words: &[u64],
+    marks: &[u64],
+    n: usize,
+    v: usize,
+    all: usize,
+    facts: &mut [u64],
+)
+    requires { ⌜ Tabling (now arities) (now words) (now marks) (now facts) n v all ⌝ }
+    ensures { λ _. ⌜ Tabled (now (arities .entry)) (now (words .entry)) (now (marks .entry)) n v all (now (facts .exit)) ⌝ }
+{
+    let mut base = 0;
+    let mut i = 0;
+    while i < all {
+        fact_block(arities, words, marks, n, v, all, i, base, facts);
+        base += n;
+        i += 1;
     }
 }
 

@@ -17,11 +17,15 @@ loop-holds c = (refl, search needs, fill-start _ _ _ _ _)
 fact-word-requires : tie.Need-fact-word-requires Inv-loop μ-loop
 fact-word-requires c κs = (search needs, (search needs, search needs))
 loop-again : tie.Need-loop-again Inv-loop μ-loop
-loop-again c = (search needs, search needs, fill-more (c .before .before .loop .inv .2) (omega (arith, c .before .loop-test .taken, c .before .before .loop .inv .0, c .before .before .before .before .before .before .before .pre .1 .1)) (c .fact-word .ensures))
+loop-again c =
+    let loop = c .before .before .loop in
+    let entry = c .before .before .before .before .before .before .before .pre in
+    (search needs, search needs, fill-more (loop .inv .2) (omega (arith, c .before .loop-test .taken, loop .inv .0, entry .1 .1)) (c .fact-word .ensures))
 returns : tie.Need-returns Inv-loop μ-loop
 returns c = search fill-end
 
 pub fact-rows-spec : {M : Type 1} → statement M
 fact-rows-spec =
     tie.close
-    (tie.spec Inv-loop μ-loop loop-holds fact-word-requires (λ c. search needs) (λ c. search needs) (λ c. search needs) (λ c. search needs) (λ c. search needs) loop-again (λ c. search needs) returns)
+    (tie.spec Inv-loop μ-loop loop-holds fact-word-requires (λ c. search needs) (λ c. search needs) (λ c. search needs) (λ c. search needs)
+    (λ c. search needs) loop-again (λ c. search needs) returns)

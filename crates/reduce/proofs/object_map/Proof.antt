@@ -25,4 +25,5 @@ returns c = search map-end
 pub object-map-spec : {M : Type 1} → statement M
 object-map-spec =
     tie.close
-    (tie.spec Inv-loop μ-loop loop-holds (λ c. search needs) (λ c. search needs) (λ c. search needs) (λ c. search needs) rank-after-requires (λ c. search needs) (λ c. search needs) loop-again (λ c. search needs) returns)
+    (tie.spec Inv-loop μ-loop loop-holds (λ c. search needs) (λ c. search needs) (λ c. search needs) (λ c. search needs) rank-after-requires
+    (λ c. search needs) (λ c. search needs) loop-again (λ c. search needs) returns)

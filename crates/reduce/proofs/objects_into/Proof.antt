@@ -21,11 +21,14 @@ div-out c = omega (arith, power-some (c .before .loop .inv .1) (c .loop-test .ta
 rem-x : tie.Need-rem-x Inv-loop μ-loop
 rem-x c = omega (arith, power-some (c .before .loop .inv .1) (c .loop-test .taken))
 loop-again : tie.Need-loop-again Inv-loop μ-loop
-loop-again c = (search needs, divide-next (c .before .loop .inv .1) (c .loop-test .taken) (omega (arith, c .loop-test .taken, c .before .before .pre .places, c .before .loop .inv .0)))
+loop-again c =
+    let entry = c .before .before .pre in
+    (search needs, divide-next (c .before .loop .inv .1) (c .loop-test .taken) (omega (arith, c .loop-test .taken, entry .places, c .before .loop .inv .0)))
 returns : tie.Need-returns Inv-loop μ-loop
 returns c = search divide-end
 
 pub objects-into-spec : {M : Type 1} → statement M
 objects-into-spec =
     tie.close
-    (tie.spec Inv-loop μ-loop loop-holds div-p div-out (λ c. search needs) (λ c. search needs) rem-x (λ c. search needs) (λ c. search needs) loop-again (λ c. search needs) returns)
+    (tie.spec Inv-loop μ-loop loop-holds div-p div-out (λ c. search needs) (λ c. search needs) rem-x (λ c. search needs) (λ c. search needs) loop-again
+    (λ c. search needs) returns)

@@ -1,0 +1,150 @@
+-- Laws of `find_winners`.
+use mathlib.Core.Path.{_≡_, refl, sym, ap, ap₂, subst, _∙_}
+use mathlib.Core.Logic.{_≢_}
+use mathlib.Core.Bool.{Bool, true, false, _||_, _&&_}
+use mathlib.Core.List.{List, [], _∷_, _++_, map}
+use Prim.Native.Nat.{ℕ, zero, suc, pred, _+_, _-_, _*_, _/_, _%_, _^_, _≤_, _<_, min}
+use native.Mathlib.Omega.{arith}
+use native.Mathlib.Nat.{pow-suc, pow-zero, pow-succ', mod-lt, div-lt-iff-lt-mul, div-add-mod', mul-le-mul-left, mul-assoc, add-zero, zero-add}
+use lib.ListN.{length, getD, replicate, length-replicate, length-map, List·getD-append}
+use lib.Seq.{getD-append-add}
+use lib.Dec.{eqb}
+use borrow.Author.Tests.{eqb-true}
+use Rattle.basics.specs.Tests.{and-left, and-right}
+use Rattle.basics.specs.Members.{mem}
+use Rattle.label.specs.Limits.{leafMark, termEnd, predicateCount}
+use Rattle.label.specs.Labels.{areArities}
+use Rattle.diagram.specs.Diagram.{Diagram}
+use Rattle.diagram.specs.Rows.{rows}
+use Rattle.diagram.specs.Words.{labelAt, rowCount, upTo, isListing}
+use Rattle.diagram.specs.WordLaws.{length-upTo, getD-map}
+use Rattle.diagram.specs.Listing.{diagramOf}
+use Rattle.diagram.specs.Validity.{Valid, tree}
+use Rattle.diagram.specs.Variables.{variables}
+use Rattle.diagram.specs.RowDiagrams.{branch-row}
+use Rattle.diagram.specs.DiagramOfListing.{diagram-is, rows-are, valid-rows}
+use Rattle.diagram.specs.ListingValid.{listing-is-valid}
+use Rattle.rename.specs.Maps.{usedVariables, Marks}
+use Rattle.rename.specs.MapLaws.{used-variables}
+use Rattle.rename.specs.VariableLaws.{variables-few}
+use Rattle.listing.specs.Used.{Used}
+use Rattle.paths.specs.Paths.{paths}
+use Rattle.paths.specs.PathLaws.{rows-paths}
+use Rattle.reduction.specs.Combinations.{gather, tuples, valuations, formed, winners}
+use Rattle.reduction.specs.CombinationLaws.{tuples-length, valuations-count}
+use Rattle.reduction.specs.Reduction.{mostRuns, mostFormed}
+use Rattle.reduce.specs.Searching.{stacked, ways, formedOn, winnersOn, formedFrom, winnersFrom, Leaves, Facing, Searching, Standing, isMarked, Visited}
+use Rattle.reduce.specs.Facts.{factOf}
+use Rattle.reduce.specs.FormedLaws.{count, up-count, formed-is, winners-are}
+use Rattle.reduce.specs.Tables.{digits, Labelled, Tabling, Tabled}
+use Rattle.reduce.specs.Winning.{Winnable, Winning}
+use Rattle.reduce.proofs.BlockLaws.{zeros}
+use Rattle.reduce.proofs.VisitLaws.{left-one, formed-next, winners-next}
+
+-- ===== Valuations by number =====
+module _ {A : Type 0} (f : ℕ → List A) (l : ℕ) (h : (a : ℕ) → length (f a) ≡ l) (x : A) where
+  gather-at : (n k o r : ℕ) → o < n → r < l → getD (gather f (count k n)) (o * l + r) x ≡ getD (f (k + o)) r x
+  gather-at zero k o r p q = absurd (omega arith)
+  gather-at (suc n) k zero r p q =
+      ap (λ (i : ℕ). getD (f k ++ gather f (count (suc k) n)) i x) (let z : zero * l + r ≡ r = omega arith in z)
+      ∙ List·getD-append (f k) (gather f (count (suc k) n)) x r (omega (arith, h k)) ∙ ap (λ (i : ℕ). getD (f i) r x) (sym (add-zero k))
+  gather-at (suc n) k (suc o) r p q =
+      let e : suc o * l ≡ l + o * l = omega arith in
+      ap (λ (i : ℕ). getD (f k ++ gather f (count (suc k) n)) i x) (let z : suc o * l + r ≡ length (f k) + (o * l + r) = omega (arith, h k, e) in z)
+      ∙ getD-append-add (f k) (gather f (count (suc k) n)) (o * l + r) x ∙ gather-at n (suc k) o r (omega arith) q
+      ∙ ap (λ (i : ℕ). getD (f i) r x) (let z : suc k + o ≡ k + suc o = omega arith in z)
+
+factor : (x a b : ℕ) → x < a * b → 0 < b
+factor x a zero l = absurd (let z : a * zero ≡ 0 = omega arith in omega arith)
+factor x a (suc b) l = omega arith
+
+tuple-at : (n c i : ℕ) → i < n ^ c → getD (tuples n c) i [] ≡ digits n c i
+unfolding tuples digits
+tuple-at n zero zero h = refl
+tuple-at n zero (suc i) h = absurd (omega (arith, pow-zero n))
+tuple-at n (suc c) i h = go (tuple-at n c (i % n ^ c))
+  where
+    m : i < n * n ^ c
+    m = subst (λ (x : ℕ). i < x) (pow-succ' n c) h
+
+    p : 0 < n ^ c
+    p = factor i n (n ^ c) m
+
+    o : ℕ
+    o = i / n ^ c
+
+    r : ℕ
+    r = i % n ^ c
+
+    low : r < n ^ c
+    low = mod-lt i p
+
+    f : ℕ → List (List ℕ)
+    f a = map (λ os. a ∷ os) (tuples n c)
+
+    long : (a : ℕ) → length (f a) ≡ n ^ c
+    long a = length-map (tuples n c) (λ os. a ∷ os) ∙ tuples-length n c
+
+    go : (i % n ^ c < n ^ c → getD (tuples n c) (i % n ^ c) [] ≡ digits n c (i % n ^ c)) → getD (gather (λ a. map (λ os. a ∷ os) (tuples n c)) (upTo n)) i [] ≡ (i / n ^ c) ∷ digits n c (i % n ^ c)
+    go ih =
+        ap₂ (λ (l : List ℕ) (k : ℕ). getD (gather f l) k []) (up-count n) (sym (div-add-mod' i (n ^ c)))
+        ∙ gather-at f (n ^ c) long [] n 0 o r (div-lt-iff-lt-mul p .1 m) low
+        ∙ ap (λ (a : ℕ). getD (f a) r []) (zero-add o)
+        ∙ getD-map (λ os. o ∷ os) (tuples n c) r [] [] (subst (λ (k : ℕ). r < k) (sym (tuples-length n c)) low)
+        ∙ ap (λ (os : List ℕ). o ∷ os) (ih low)
+
+times-some : (a b : ℕ) → 0 < a → 0 < b → 0 < a * b
+times-some zero b h k = absurd (omega arith)
+times-some (suc a) b h k = let z : suc a * b ≡ b + a * b = omega arith in omega arith
+
+pow-some : (n c : ℕ) → 0 < n → 0 < n ^ c
+pow-some n zero h = omega (arith, pow-zero n)
+pow-some n (suc c) h = subst (λ (x : ℕ). 0 < x) (sym (pow-suc n c)) (times-some (n ^ c) n (pow-some n c h) h)
+
+pub self-power : (v : ℕ) → 0 < v ^ v
+self-power zero = omega (arith, pow-zero 0)
+self-power (suc v) = pow-some (suc v) (suc v) (omega arith)
+
+-- ===== `find_winners` =====
+module _ {ar ws counts marks wins : List ℕ} {n m v all : ℕ} (g : Winnable ar ws counts marks wins n m v all) where
+  valid : Valid ar ws
+  valid = listing-is-valid ar ws (g .listing)
+
+  abbrev d : Diagram
+  d = diagramOf ws
+
+  pub all-some : 0 < all
+  all-some = omega (arith, g .power, self-power v)
+
+  root-is : tree ws (n - 1) ≡ d
+  root-is = let e : n - 1 ≡ pred (rowCount ws) = omega (arith, g .whole, valid .some) in ap (tree ws) e ∙ sym (diagram-is ar ws valid)
+
+  row-count : length (rows d) ≡ n
+  row-count = ap length (rows-are ar ws valid) ∙ length-map (upTo (rowCount ws)) (tree ws) ∙ length-upTo (rowCount ws) ∙ sym (g .whole)
+
+  rows-few : n + 1 ≤ m * 2
+  rows-few = omega (arith, rows-paths d, row-count, ap (λ (x : Diagram). length (paths x)) root-is, g .routed .all)
+
+  table-few : all * n ≤ 1024
+  table-few =
+      let a = mul-le-mul-left all (let z : n ≤ m * 2 = omega (arith, rows-few) in z) in
+      let b : all * (m * 2) ≡ all * m * 2 = sym (mul-assoc all m 2) in
+      omega (arith, a, b, g .few)
+
+  pub win-tabling : (k : ℕ) → 1024 ≤ k → Tabling ar ws marks (replicate k 0) n v all
+  win-tabling k h = record {
+    labelled = record {
+      arities = omega (arith, arities-long (valid .arities));
+      rows = g .routed .rows .room;
+      few = g .routed .rows .few;
+      labels = λ r l e. branch-row ar ws (rowCount ws) (valid-rows ar ws valid) r (omega (arith, g .whole)) e .label;
+    };
+    marked = omega (arith, g .used .whole);
+    few = omega (arith, g .count, variables-few ar d);
+    power = g .power;
+    room = omega (arith, table-few, length-replicate {A = ℕ} k 0);
+    clean = λ j. subst (λ (x : ℕ). x < predicateCount * Rattle.label.specs.Limits.predicateWeight) (sym (zeros k j)) (omega arith);
+  }
+    where
+      arities-long : areArities ar ≡ true → length ar ≡ predicateCount
+      arities-long e = unfold areArities in (eqb-true (length ar) predicateCount (and-left (eqb (length ar) predicateCount) _ e))

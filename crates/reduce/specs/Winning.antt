@@ -1,0 +1,32 @@
+-- What finding the winning paths of a listing requires and ensures (document 02, L13).
+use mathlib.Core.Path.{_≡_}
+use mathlib.Core.Bool.{true, _||_}
+use mathlib.Core.List.{List}
+use Prim.Native.Nat.{ℕ, suc, _*_, _^_, _≤_, _<_, min}
+use lib.ListN.{length}
+use lib.Dec.{eqb}
+use Rattle.basics.specs.Members.{mem}
+use Rattle.diagram.specs.Words.{rowCount, isListing}
+use Rattle.diagram.specs.Listing.{diagramOf}
+use Rattle.diagram.specs.Variables.{variables}
+use Rattle.listing.specs.Used.{Used}
+use Rattle.reduction.specs.Combinations.{formed, winners}
+use Rattle.reduction.specs.Reduction.{mostRuns, mostFormed}
+use Rattle.reduce.specs.Routing.{Routed}
+use Rattle.reduce.specs.Searching.{isMarked}
+
+-- a listing with its paths and the marks of its terms, few enough valuations and paths (27), and a place for each path
+pub record Winnable (ar ws counts marks wins : List ℕ) (n m v all : ℕ) : Type 0 where
+  pub listing : isListing ar ws ≡ true
+  pub whole : n ≡ rowCount ws
+  pub routed : Routed ws counts n m
+  pub used : Used ar (diagramOf ws) marks
+  pub count : v ≡ length (variables ar (diagramOf ws))
+  pub power : all ≡ v ^ v
+  pub few : all * m ≤ mostRuns
+  pub places : m ≤ length wins
+
+-- how many combinations are formed, as far as one above the most; if it is not above, the winning paths are marked besides those that were
+pub record Winning (ar ws : List ℕ) (m : ℕ) (wins wins′ : List ℕ) (r : ℕ) : Type 0 where
+  pub answer : r ≡ min (suc mostFormed) (formed ar (diagramOf ws))
+  pub marks : r ≤ mostFormed → (p : ℕ) → p < m → isMarked wins′ p ≡ (isMarked wins p || mem eqb p (winners ar (diagramOf ws)))
