@@ -33,7 +33,7 @@ use Rattle.paths.specs.PathLaws.{rows-paths}
 use Rattle.reduction.specs.Combinations.{gather, tuples, valuations, formed, winners}
 use Rattle.reduction.specs.CombinationLaws.{tuples-length, valuations-count}
 use Rattle.reduction.specs.Reduction.{mostRuns, mostFormed}
-use Rattle.reduce.specs.Searching.{stacked, ways, formedOn, winnersOn, formedFrom, winnersFrom, Leaves, Facing, Searching, Standing, isMarked, Visited}
+use Rattle.reduce.specs.Searching.{factEnd, stacked, ways, formedOn, winnersOn, formedFrom, winnersFrom, Leaves, Facing, Searching, Standing, isMarked, Visited}
 use Rattle.reduce.specs.Facts.{factOf}
 use Rattle.reduce.specs.FormedLaws.{count, up-count, formed-is, winners-are}
 use Rattle.reduce.specs.Tables.{digits, Labelled, Tabling, Tabled}
@@ -105,6 +105,10 @@ pub self-power : (v : ℕ) → 0 < v ^ v
 self-power zero = omega (arith, pow-zero 0)
 self-power (suc v) = pow-some (suc v) (suc v) (omega arith)
 
+nothing-known : (known : List ℕ) → stacked known 0 ≡ []
+unfolding stacked
+nothing-known known = refl
+
 -- ===== `find_winners` =====
 module _ {ar ws counts marks wins : List ℕ} {n m v all : ℕ} (g : Winnable ar ws counts marks wins n m v all) where
   valid : Valid ar ws
@@ -143,8 +147,75 @@ module _ {ar ws counts marks wins : List ℕ} {n m v all : ℕ} (g : Winnable ar
     few = omega (arith, g .count, variables-few ar d);
     power = g .power;
     room = omega (arith, table-few, length-replicate {A = ℕ} k 0);
-    clean = λ j. subst (λ (x : ℕ). x < predicateCount * Rattle.label.specs.Limits.predicateWeight) (sym (zeros k j)) (omega arith);
+    clean = λ j. subst (λ (x : ℕ). x < factEnd) (sym (zeros k j)) (omega arith);
   }
     where
       arities-long : areArities ar ≡ true → length ar ≡ predicateCount
       arities-long e = unfold areArities in (eqb-true (length ar) predicateCount (and-left (eqb (length ar) predicateCount) _ e))
+
+  module _ {facts leaves : List ℕ} (t : Tabled ar ws marks n v all facts) (lv : Leaves ws leaves n m) where
+    pub win-searching : (k : ℕ) → 1024 ≤ k → length facts ≡ length {A = ℕ} (replicate k 0) → Searching ws counts facts leaves (replicate k 0) wins n m 0 (all - 1) m 0
+    win-searching k h q = record {
+      routed = g .routed;
+      ends = lv;
+      room = omega (arith, table-few, left-one all n (λ z. omega (arith, all-some)), q, length-replicate {A = ℕ} k 0);
+      space = omega (arith, table-few, left-one all n (λ z. omega (arith, all-some)), length-replicate {A = ℕ} k 0);
+      codes = λ i l. t .codes i;
+      places = g .places;
+      least = omega arith;
+      few = omega arith;
+    }
+
+    pub win-standing : Standing ws n m 0 0 (n - 1) 0
+    win-standing = record { row = omega (arith, g .routed .some); paths-there = omega (arith, g .routed .all); known-few = omega (arith, g .routed .some) }
+
+    used-are : usedVariables marks ≡ variables ar d
+    used-are = used-variables ar d marks (record { whole = omega (arith, g .used .whole); mark = g .used .each })
+
+    abbrev fact : List ℕ → ℕ → ℕ
+    fact os = factOf ar (variables ar d) os
+
+    facing : (rs : List (List ℕ)) (k : ℕ) → k + length rs ≤ all → ((j : ℕ) → j < length rs → getD rs j [] ≡ digits v v (k + j)) → Facing ws facts n (k * n) (map fact rs)
+    facing [] k h e = tt
+    facing (os ∷ rs) k h e = (
+      (λ r l b. t .each k r (omega arith) l b
+      ∙ ap₂ (λ (u o : List ℕ). factOf ar u o (labelAt ws r)) used-are (ap (digits v v) (sym (add-zero k)) ∙ sym (e 0 (omega arith)))),
+      subst (λ (b : ℕ). Facing ws facts n b (map fact rs)) (let z : suc k * n ≡ k * n + n = omega arith in z)
+      (facing rs (suc k) (omega arith) (λ j l. e (suc j) (omega arith) ∙ ap (digits v v) (let z : k + suc j ≡ suc k + j = omega arith in z))),
+    )
+
+    values-are : valuations ar d ≡ tuples v v
+    unfolding valuations
+    values-are = sym (ap (λ (x : ℕ). tuples x x) (g .count))
+
+    values-long : length (valuations ar d) ≡ all
+    values-long = ap length values-are ∙ tuples-length v v ∙ sym (g .power)
+
+    values-at : (j : ℕ) → j < length (valuations ar d) → getD (valuations ar d) j [] ≡ digits v v (0 + j)
+    values-at j h = ap (λ (l : List (List ℕ)). getD l j []) values-are ∙ tuple-at v v j (omega (arith, values-long, g .power)) ∙ ap (digits v v) (sym (zero-add j))
+
+    all-facing : Facing ws facts n 0 (map fact (valuations ar d))
+    all-facing = subst (λ (b : ℕ). Facing ws facts n b (map fact (valuations ar d))) (let z : 0 * n ≡ 0 = omega arith in z) (facing (valuations ar d) 0 (omega (arith, values-long)) values-at)
+
+    pub win-done : {known known′ wins′ : List ℕ} {x : ℕ} → Visited ws facts known wins n m 0 (all - 1) 0 m 0 (n - 1) 0 known′ wins′ x → Winning ar ws m wins wins′ x
+    win-done {known} {known′} {wins′} {x} w = go (valuations ar d) all-facing values-long (formed-is ar d) (winners-are ar d)
+      where
+        paths-are : length (paths d) ≡ m
+        paths-are = ap (λ (y : Diagram). length (paths y)) (sym root-is) ∙ g .routed .all
+
+        go : (vs : List (List ℕ)) → Facing ws facts n 0 (map fact vs) → length vs ≡ all → formed ar d ≡ formedOn d (map fact vs) []
+            → winners ar d ≡ winnersOn d (length (paths d)) (map fact vs) [] (length (paths d)) → Winning ar ws m wins wins′ x
+        go [] f l a b = absurd (omega (arith, all-some))
+        go (os ∷ vs) f l a b =
+            let s = w .found (fact os) (map fact vs) (length-map vs fact ∙ (let z : length vs ≡ all - 1 = omega arith in z)) f in
+            record {
+              answer = s .answer ∙ ap (λ (y : ℕ). min (suc mostFormed) y)
+                  (zero-add (formedFrom (tree ws (n - 1)) (map fact vs) (ways (fact os) (tree ws (n - 1)) (stacked known 0) 0))
+                  ∙ ap (λ (y : Diagram). formedFrom y (map fact vs) (ways (fact os) y (stacked known 0) 0)) root-is
+                  ∙ ap (λ (y : List ℕ). formedFrom d (map fact vs) (ways (fact os) d y 0)) (nothing-known known)
+                  ∙ sym (a ∙ formed-next d (fact os) (map fact vs) []));
+              marks = λ h p q. s .marks h p q ∙ ap (λ (ks : List ℕ). isMarked wins p || mem eqb p ks)
+                  (ap (λ (y : Diagram). winnersFrom y m (map fact vs) m (ways (fact os) y (stacked known 0) 0)) root-is
+                  ∙ ap (λ (y : List ℕ). winnersFrom d m (map fact vs) m (ways (fact os) d y 0)) (nothing-known known)
+                  ∙ sym (b ∙ ap (λ (y : ℕ). winnersOn d y (fact os ∷ map fact vs) [] y) paths-are ∙ winners-next d m (fact os) (map fact vs) [] m));
+            }

@@ -1,6 +1,7 @@
 // The public call of a reduction by model checking: the winning paths are found, and every edge on none of them goes to leaf 0.
 use label::Label;
 use label::Term;
+use paths::PATHS;
 use store::Formed;
 use write::Listed;
 ghost use mathlib.Core.Path.{_≡_};
@@ -18,8 +19,11 @@ ghost use Rattle.reduction.specs.Reduction.{isOn};
 ghost use Rattle.reduce.specs.Routing.{Routed, winning, isOnPath, staysIn, Won, Edged};
 ghost use Rattle.reduce.specs.Searching.{stacked, signOf, betterOf, Leaves, Searching, Standing, Reached, Visited, Forked};
 ghost use Rattle.reduce.specs.Tables.{Divided, Placed, Ranked, Mapping, Mapped, factWord, Labelled, Filled, digits, Blocked, Grounded, Tabling, Tabled};
+ghost use Rattle.reduce.specs.Winning.{Winnable, Winning};
 ghost use Rattle.reduce.specs.Keeping.{keptOf, Parent, Keeping, Keepable, Kept, Writable, Shortened};
 
+// Facts at most: valuations times rows, of which there are fewer than twice the paths.
+const FACTS: usize = 1024;
 // A word for each term.
 const TERMS: usize = Term::END as usize;
 // Combinations formed at most.
@@ -421,6 +425,45 @@ fn fill_facts(
         base += n;
         i += 1;
     }
+}
+
+// Marks the winning paths, and answers how many combinations are formed, as far as one above the most; used[t] marks the terms that occur, v of them variables.
+fn find_winners(
+    arities: &[u64],
+    words: &[u64],
+    counts: &[u64],
+    used: &[u64],
+    n: usize,
+    m: usize,
+    v: usize,
+    all: usize,
+    wins: &mut [u64],
+) -> u64
+    requires { ⌜ Winnable (now arities) (now words) (now counts) (now used) (now wins) n m v all ⌝ }
+    ensures { λ r. ⌜ Winning (now (arities .entry)) (now (words .entry)) m (now (wins .entry)) (now (wins .exit)) r ⌝ }
+{
+    let mut facts = [0u64; FACTS];
+    let mut known = [0u64; FACTS];
+    let mut leaves = [0u64; PATHS];
+    fill_facts(arities, words, used, n, v, all, &mut facts);
+    find_leaves(words, counts, n, m, &mut leaves);
+    visit(
+        words,
+        counts,
+        &facts,
+        &leaves,
+        &mut known,
+        wins,
+        n,
+        m,
+        0,
+        all - 1,
+        0,
+        m,
+        0,
+        n - 1,
+        0,
+    )
 }
 
 // Whether path p is marked, and goes through the edge of row r: the true edge for side 1, the false edge for side 2.
