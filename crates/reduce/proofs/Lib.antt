@@ -6,3 +6,4 @@ pub mod VisitLaws
 pub mod TableLaws
 pub mod BlockLaws
 pub mod WinningLaws
+pub mod CallLaws

@@ -7,7 +7,7 @@ use Prim.Native.Nat.{ℕ, zero, suc, _+_, _-_, _*_, _≤_, _<_}
 use native.Mathlib.Omega.{arith}
 use lib.ListN.{length, getD, length-map, length-append}
 use lib.Dec.{eqb}
-use borrow.Author.Tests.{eq-eqb, ne-eqb}
+use borrow.Author.Tests.{eq-eqb, ne-eqb, eqb-true}
 use Rattle.basics.specs.Tests.{Flag, isTrue, isFalse, flag}
 use Rattle.basics.specs.Members.{mem, clash}
 use Rattle.label.specs.Limits.{termBase, termEnd, firstVariable}
@@ -24,7 +24,7 @@ use Rattle.reduction.specs.Combinations.{gather, those, someOf, tuples, valuati
 use Rattle.reduction.specs.Claims.{AtLeast}
 use Rattle.reduction.specs.ListLaws.{reverse-in}
 use Rattle.reduction.specs.CombinationLaws.{in-tuples, tuples-in, in-choices, at-least-trans, earlier, winner-in, winner-first}
-use Rattle.paths.specs.PathLaws.{mem-map}
+use Rattle.paths.specs.PathLaws.{mem-unmap}
 use Rattle.reduce.specs.Searching.{Way, ways, sumOf, betterOf, formedOn, winnersOn}
 use Rattle.reduce.specs.Facts.{factOf, codeOf, codesOf, choiceCodes, clashing, isClear}
 use Rattle.reduce.specs.FactLaws.{opposed-clash}
@@ -460,3 +460,23 @@ module _ (ar : List ℕ) (d : Diagram) where
       let us = reverse (valuations ar d) in
       sym (map-members bestOf (winner d) (choices ar d us) (λ ks i. best-is ks (length us) valued (in-choices ar d us ks i .0)))
       ∙ ap (λ (u : List (List ℕ)). map bestOf (choices ar d u)) (sym r) ∙ sym z ∙ append-nil (winnersOn d m (map fact (valuations ar d)) [] m)
+
+  mem-member : (x : ℕ) (l : List ℕ) → mem eqb x l ≡ true → List·Memᴰ x l
+  mem-member x [] e = clash e refl
+  mem-member x (y ∷ l) e = go (flag (eqb x y)) (mem-member x l)
+    where
+      go : Flag (eqb x y) → (mem eqb x l ≡ true → List·Memᴰ x l) → List·Memᴰ x (y ∷ l)
+      go (isTrue q) ih = List·Memᴰ·head (eqb-true x y q)
+      go (isFalse q) ih = List·Memᴰ·tail (ih (rw q at e))
+
+  chosen-below : (ks : List ℕ) (c : ℕ) → 0 < c → Tuple m c ks → winner d ks < m
+  chosen-below [] c h none = absurd (omega arith)
+  chosen-below (k ∷ ks) c h t = tuple-below t (winner d (k ∷ ks)) (winner-in d k (k ∷ ks) (List·Memᴰ·head refl))
+
+  -- a winning path is one of the paths
+  pub winner-below : (k : ℕ) → mem eqb k (winners ar d) ≡ true → k < length (paths d)
+  unfolding winners combinations
+  winner-below k e =
+      let us = reverse (valuations ar d) in
+      let r = mem-unmap (winner d) (choices ar d us) k (mem-member k (map (winner d) (choices ar d us)) e) in
+      subst (λ (x : ℕ). x < m) (sym (r .2)) (chosen-below (r .0) (length us) valued (in-choices ar d us (r .0) (r .1) .0))

@@ -11,7 +11,9 @@ use Rattle.diagram.specs.Listing.{diagramOf}
 use Rattle.diagram.specs.Variables.{variables}
 use Rattle.listing.specs.Used.{Used}
 use Rattle.reduction.specs.Combinations.{formed, winners}
-use Rattle.reduction.specs.Reduction.{mostRuns, mostFormed}
+use Rattle.reduction.specs.declared.Reduced.{Reduced}
+use Rattle.reduction.specs.Reduction.{mostRuns, mostFormed, isPlain, reduceAnswer, answerOf, bufferOf}
+use Rattle.diagram.specs.Sizes.{resultWords, spaceWords}
 use Rattle.reduce.specs.Routing.{Routed}
 use Rattle.reduce.specs.Searching.{isMarked}
 
@@ -30,3 +32,21 @@ pub record Winnable (ar ws counts marks wins : List ℕ) (n m v all : ℕ) : Typ
 pub record Winning (ar ws : List ℕ) (m : ℕ) (wins wins′ : List ℕ) (r : ℕ) : Type 0 where
   pub answer : r ≡ min (suc mostFormed) (formed ar (diagramOf ws))
   pub marks : r ≤ mostFormed → (p : ℕ) → p < m → isMarked wins′ p ≡ (isMarked wins p || mem eqb p (winners ar (diagramOf ws)))
+
+-- a listing that none of 17, 26 and 27 refuses, and room for a result and for the rows formed
+pub record Plain (ar ws counts used : List ℕ) (n m v all : ℕ) (out work : List ℕ) : Type 0 where
+  pub listing : isListing ar ws ≡ true
+  pub whole : n ≡ rowCount ws
+  pub routed : Routed ws counts n m
+  pub marks : Used ar (diagramOf ws) used
+  pub count : v ≡ length (variables ar (diagramOf ws))
+  pub power : all ≡ v ^ v
+  pub few : all * m ≤ mostRuns
+  pub plain : isPlain ar (diagramOf ws) ≡ true
+  pub out-room : resultWords ≤ length out
+  pub work-room : spaceWords ≤ length work
+
+-- what the call promises: the answer, and the result buffer
+pub record Answered (ar ws out : List ℕ) (r : Reduced) (out′ : List ℕ) : Type 0 where
+  pub answer : r ≡ answerOf (reduceAnswer ar (diagramOf ws))
+  pub words : out′ ≡ bufferOf out (reduceAnswer ar (diagramOf ws))

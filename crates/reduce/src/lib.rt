@@ -2,30 +2,34 @@
 use label::Label;
 use label::Term;
 use paths::PATHS;
+use reduction::Reduced;
+use reduction::Refused;
 use store::Formed;
 use write::Listed;
 ghost use mathlib.Core.Path.{_≡_};
 ghost use mathlib.Core.Bool.{cond};
-ghost use Prim.Native.Nat.{_+_, _-_, _*_, _/_, _<_, _≤_};
+ghost use Prim.Native.Nat.{suc, _+_, _-_, _*_, _/_, _^_, _<_, _≤_, min};
 ghost use lib.ListN.{length, getD};
 ghost use lib.Dec.{eqb};
-ghost use Rattle.label.specs.Limits.{leafMark, termEnd};
+ghost use Rattle.label.specs.Limits.{leafMark, termEnd, variableCount};
 ghost use Rattle.label.specs.Callers.{TermMap};
 ghost use Rattle.diagram.specs.Words.{labelAt};
 ghost use Rattle.diagram.specs.Validity.{tree};
 ghost use Rattle.apply.specs.Formed.{add};
 ghost use Rattle.store.specs.Space.{diagramsOf, Formation};
-ghost use Rattle.reduction.specs.Reduction.{isOn};
+ghost use Rattle.reduction.specs.Reduction.{isOn, mostRuns};
 ghost use Rattle.reduce.specs.Routing.{Routed, winning, isOnPath, staysIn, Won, Edged};
 ghost use Rattle.reduce.specs.Searching.{stacked, signOf, betterOf, Leaves, Searching, Standing, Reached, Visited, Forked};
 ghost use Rattle.reduce.specs.Tables.{Divided, Placed, Ranked, Mapping, Mapped, factWord, Labelled, Filled, digits, Blocked, Grounded, Tabling, Tabled};
-ghost use Rattle.reduce.specs.Winning.{Winnable, Winning};
+ghost use Rattle.reduce.specs.Winning.{Winnable, Winning, Plain, Answered};
 ghost use Rattle.reduce.specs.Keeping.{keptOf, Parent, Keeping, Keepable, Kept, Writable, Shortened};
 
 // Facts at most: valuations times rows, of which there are fewer than twice the paths.
 const FACTS: usize = 1024;
 // A word for each term.
 const TERMS: usize = Term::END as usize;
+// Valuations times paths at most.
+const RUNS: usize = 512;
 // Combinations formed at most.
 const FORMED: u64 = 100000;
 // What is told of a fact that is not known.
@@ -650,4 +654,46 @@ fn write_kept(
     };
     apart::close_up(arities, out, k);
     k
+}
+
+// How many valuations v variables have over as many objects, v to the power of v, as far as one above the most runs.
+fn count_valuations(v: usize) -> usize
+    requires { ⌜ v ≤ variableCount ⌝ }
+    ensures { λ r. ⌜ r ≡ min (suc mostRuns) (v ^ v) ⌝ }
+{
+    let mut p = 1;
+    let mut j = 0;
+    while j < v {
+        p = p * v;
+        if p > RUNS {
+            return RUNS + 1;
+        }
+        j += 1;
+    }
+    p
+}
+
+// Finds the winning paths, and writes what is left once every edge on none of them goes to leaf 0, closed up.
+fn reduce_plain(
+    arities: &[u64],
+    words: &[u64],
+    counts: &[u64],
+    used: &[u64],
+    n: usize,
+    m: usize,
+    v: usize,
+    all: usize,
+    out: &mut [u64],
+    work: &mut [u64],
+) -> Reduced
+    requires { ⌜ Plain (now arities) (now words) (now counts) (now used) n m v all (now out) (now work) ⌝ }
+    ensures { λ r. ⌜ Answered (now (arities .entry)) (now (words .entry)) (now (out .entry)) r (now (out .exit)) ⌝ }
+{
+    let mut wins = [0u64; PATHS];
+    let formed = find_winners(arities, words, counts, used, n, m, v, all, &mut wins);
+    if formed > FORMED {
+        return Reduced::Not(Refused::Formed);
+    }
+    let left = write_kept(arities, words, counts, m, &wins, out, work);
+    Reduced::Done(left)
 }

@@ -27,7 +27,9 @@
 --   isPlain == no equality and no constant is present (26)
 --   mostRuns, runs == 512; valuations times paths (27)
 --   mostFormed == 100,000 (28)
+--   numberOf == the numbers of the refusals
 --   Answer, reduceAnswer == the diagram left, or the first of 17, 26, 27, 28
+--   answerOf, bufferOf == what the call answers and leaves in the result buffer
 --
 -- Definitions: what the theorems say
 --   Once, Sorted == each member of a list once; each in a relation to those behind it

@@ -8,10 +8,16 @@ use Rattle.label.specs.Limits.{equality}
 use Rattle.label.specs.Terms.{isConstant}
 use Rattle.label.specs.Labels.{predicateOf, unpacked, termsOf}
 use Rattle.diagram.specs.Diagram.{Diagram, leaf, branch}
+use Rattle.diagram.specs.Rows.{rows}
+use Rattle.diagram.specs.Listing.{listing}
 use Rattle.diagram.specs.Variables.{variables, closed}
 use Rattle.paths.specs.Paths.{paths, mostPaths, through}
 use Rattle.paths.specs.Routes.{pathAt}
-use Rattle.cutting.specs.Cut.{reduced}
+use Rattle.cutting.specs.Cut.{reduced, written}
+use Rattle.reduction.specs.declared.Refused.{Refused}
+use Rattle.reduction.specs.declared.Refused.the-variants.{Listing, Buffer, Unbound, Paths, Kinds, Runs, Formed}
+use Rattle.reduction.specs.declared.Reduced.{Reduced}
+use Rattle.reduction.specs.declared.Reduced.the-variants.{Done, Not}
 use Rattle.reduction.specs.Combinations.{someOf, winners, formed}
 
 -- ===== "turn every edge on no winning path to 0, then reduce and close up" =====
@@ -53,17 +59,39 @@ runs ar d = length (variables ar d) ^ length (variables ar d) * length (paths d)
 abbrev pub mostFormed : ℕ
 mostFormed = 100000
 
--- the diagram that is left, or the number of the refusal
+-- the numbers of the refusals
+abbrev pub numberOf : Refused → ℕ
+numberOf Listing = 14
+numberOf Buffer = 18
+numberOf Unbound = 6
+numberOf Paths = 17
+numberOf Kinds = 26
+numberOf Runs = 27
+numberOf Formed = 28
+
+-- the diagram that is left, or the refusal
 pub data Answer : Type 0 where
   done : Diagram → Answer
-  refused : ℕ → Answer
+  refused : Refused → Answer
 
 -- 26, 27 and 28 "in this order and after 17"
 unfoldable pub reduceAnswer : List ℕ → Diagram → Answer
 unfolding isPlain runs formed reducedDiagram paths
 reduceAnswer ar d =
-    cond (ltb mostPaths (length (paths d))) (refused 17)
-    (cond (not (isPlain ar d)) (refused 26)
-    (cond (ltb mostRuns (runs ar d)) (refused 27)
-    (cond (ltb mostFormed (formed ar d)) (refused 28)
+    cond (ltb mostPaths (length (paths d))) (refused Paths)
+    (cond (not (isPlain ar d)) (refused Kinds)
+    (cond (ltb mostRuns (runs ar d)) (refused Runs)
+    (cond (ltb mostFormed (formed ar d)) (refused Formed)
     (done (reducedDiagram ar d)))))
+
+-- ===== What the call answers =====
+
+-- "printing (reduce rows)"
+abbrev pub answerOf : Answer → Reduced
+answerOf (done r) = Done (length (rows r))
+answerOf (refused x) = Not x
+
+-- the result buffer after a reduction: the listing of what is left, the words behind it as they were; after a refusal as it was
+abbrev pub bufferOf : List ℕ → Answer → List ℕ
+bufferOf out (done r) = written (listing r) out
+bufferOf out (refused x) = out

@@ -27,6 +27,8 @@ use Rattle.regression.specs.Parameters.{Allowed, Within}
 use Rattle.regression.specs.ResultLaws.{terms-every, every-terms}
 use Rattle.paths.specs.Paths.{paths, mostPaths}
 use Rattle.cutting.specs.Cut.{reduced}
+use Rattle.reduction.specs.declared.Refused.{Refused}
+use Rattle.reduction.specs.declared.Refused.the-variants.{Paths, Kinds, Runs, Formed}
 use Rattle.reduction.specs.Combinations.{someOf, formed, winners}
 use Rattle.reduction.specs.Reduction.{isOn, keeping, reducedDiagram, isPlain, runs, mostRuns, mostFormed, done, refused, reduceAnswer}
 use Rattle.reduction.specs.Claims.{Answered, Values}
@@ -65,16 +67,16 @@ pub answered : (ar : List ℕ) (d r : Diagram) → reduceAnswer ar d ≡ done r 
 unfolding reduceAnswer
 answered ar d r e = go (ltb mostPaths (length (paths d))) refl (isPlain ar d) refl (ltb mostRuns (runs ar d)) refl (ltb mostFormed (formed ar d)) refl e
   where
-    not-refused : (n : ℕ) → refused n ≡ done r → ⊥
+    not-refused : (n : Refused) → refused n ≡ done r → ⊥
     not-refused n z = let f : _≡_ {A = ℕ} 0 1 = cc in omega arith
 
     go : (a : Bool) → ltb mostPaths (length (paths d)) ≡ a → (b : Bool) → isPlain ar d ≡ b → (c : Bool) → ltb mostRuns (runs ar d) ≡ c
         → (x : Bool) → ltb mostFormed (formed ar d) ≡ x
-        → cond a (refused 17) (cond (not b) (refused 26) (cond c (refused 27) (cond x (refused 28) (done (reducedDiagram ar d))))) ≡ done r → Answered ar d r
-    go true p b q c u x v z = absurd (not-refused 17 z)
-    go false p false q c u x v z = absurd (not-refused 26 z)
-    go false p true q true u x v z = absurd (not-refused 27 z)
-    go false p true q false u true v z = absurd (not-refused 28 z)
+        → cond a (refused Paths) (cond (not b) (refused Kinds) (cond c (refused Runs) (cond x (refused Formed) (done (reducedDiagram ar d))))) ≡ done r → Answered ar d r
+    go true p b q c u x v z = absurd (not-refused Paths z)
+    go false p false q c u x v z = absurd (not-refused Kinds z)
+    go false p true q true u x v z = absurd (not-refused Runs z)
+    go false p true q false u true v z = absurd (not-refused Formed z)
     go false p true q false u false v z = record {
       paths-few = ltb-false mostPaths (length (paths d)) p;
       plain = q;
