@@ -179,9 +179,9 @@ module _ {ar ws counts marks wins : List ℕ} {n m v all : ℕ} (g : Winnable ar
     facing [] k h e = tt
     facing (os ∷ rs) k h e = (
       (λ r l b. t .each k r (omega arith) l b
-      ∙ ap₂ (λ (u o : List ℕ). factOf ar u o (labelAt ws r)) used-are (ap (digits v v) (sym (add-zero k)) ∙ sym (e 0 (omega arith)))),
+          ∙ ap₂ (λ (u o : List ℕ). factOf ar u o (labelAt ws r)) used-are (ap (digits v v) (sym (add-zero k)) ∙ sym (e 0 (omega arith)))),
       subst (λ (b : ℕ). Facing ws facts n b (map fact rs)) (let z : suc k * n ≡ k * n + n = omega arith in z)
-      (facing rs (suc k) (omega arith) (λ j l. e (suc j) (omega arith) ∙ ap (digits v v) (let z : k + suc j ≡ suc k + j = omega arith in z))),
+          (facing rs (suc k) (omega arith) (λ j l. e (suc j) (omega arith) ∙ ap (digits v v) (let z : k + suc j ≡ suc k + j = omega arith in z))),
     )
 
     values-are : valuations ar d ≡ tuples v v

@@ -1,9 +1,9 @@
 -- What finding the winning paths of a listing requires and ensures (document 02, L13).
 use mathlib.Core.Path.{_≡_}
-use mathlib.Core.Bool.{true, _||_}
+use mathlib.Core.Bool.{Bool, true, false, not, _||_}
 use mathlib.Core.List.{List}
-use Prim.Native.Nat.{ℕ, suc, _*_, _^_, _≤_, _<_, min}
-use lib.ListN.{length}
+use Prim.Native.Nat.{ℕ, zero, suc, _*_, _^_, _≤_, _<_, min}
+use lib.ListN.{length, getD}
 use lib.Dec.{eqb}
 use Rattle.basics.specs.Members.{mem}
 use Rattle.diagram.specs.Words.{rowCount, isListing}
@@ -50,3 +50,20 @@ pub record Plain (ar ws counts used : List ℕ) (n m v all : ℕ) (out work : Li
 pub record Answered (ar ws out : List ℕ) (r : Reduced) (out′ : List ℕ) : Type 0 where
   pub answer : r ≡ answerOf (reduceAnswer ar (diagramOf ws))
   pub words : out′ ≡ bufferOf out (reduceAnswer ar (diagramOf ws))
+
+-- one of the first n terms is marked
+unfoldable pub someUsed : List ℕ → ℕ → Bool
+someUsed used zero = false
+someUsed used (suc t) = not (eqb (getD used t 0) 0) || someUsed used t
+
+-- a listing with the marks of its terms
+pub record Markable (ar ws used : List ℕ) (n : ℕ) : Type 0 where
+  pub listing : isListing ar ws ≡ true
+  pub whole : n ≡ rowCount ws
+  pub marks : Used ar (diagramOf ws) used
+
+-- a listing, and room for a result and for the rows formed
+pub record Reducible (ar ws out work : List ℕ) : Type 0 where
+  pub listing : isListing ar ws ≡ true
+  pub out-room : resultWords ≤ length out
+  pub work-room : spaceWords ≤ length work

@@ -11,17 +11,18 @@ ghost use mathlib.Core.Bool.{cond};
 ghost use Prim.Native.Nat.{suc, _+_, _-_, _*_, _/_, _^_, _<_, _≤_, min};
 ghost use lib.ListN.{length, getD};
 ghost use lib.Dec.{eqb};
-ghost use Rattle.label.specs.Limits.{leafMark, termEnd, variableCount};
+ghost use Rattle.label.specs.Limits.{leafMark, termEnd, variableCount, constantCount};
 ghost use Rattle.label.specs.Callers.{TermMap};
 ghost use Rattle.diagram.specs.Words.{labelAt};
 ghost use Rattle.diagram.specs.Validity.{tree};
 ghost use Rattle.apply.specs.Formed.{add};
 ghost use Rattle.store.specs.Space.{diagramsOf, Formation};
-ghost use Rattle.reduction.specs.Reduction.{isOn, mostRuns};
+ghost use Rattle.reduction.specs.Reduction.{isOn, mostRuns, isPlain};
+ghost use Rattle.diagram.specs.Listing.{diagramOf};
 ghost use Rattle.reduce.specs.Routing.{Routed, winning, isOnPath, staysIn, Won, Edged};
 ghost use Rattle.reduce.specs.Searching.{stacked, signOf, betterOf, Leaves, Searching, Standing, Reached, Visited, Forked};
 ghost use Rattle.reduce.specs.Tables.{Divided, Placed, Ranked, Mapping, Mapped, factWord, Labelled, Filled, digits, Blocked, Grounded, Tabling, Tabled};
-ghost use Rattle.reduce.specs.Winning.{Winnable, Winning, Plain, Answered};
+ghost use Rattle.reduce.specs.Winning.{Winnable, Winning, Plain, Answered, someUsed, Markable, Reducible};
 ghost use Rattle.reduce.specs.Keeping.{keptOf, Parent, Keeping, Keepable, Kept, Writable, Shortened};
 
 // Facts at most: valuations times rows, of which there are fewer than twice the paths.
@@ -367,14 +368,7 @@ fn fact_word(arities: &[u64], words: &[u64], map: &[u64], n: usize, r: usize) ->
 }
 
 // Fills in the facts of the n rows' labels from the place `base` on.
-fn fact_rows(
-    arities: &[u64],
-    words: &[u64],
-    map: &[u64],
-    n: usize,
-    base: usize,
-    facts: &mut [u64],
-)
+fn fact_rows(arities: &[u64], words: &[u64], map: &[u64], n: usize, base: usize, facts: &mut [u64])
     requires { ⌜ Labelled (now arities) (now words) n ⌝ }
     requires { ⌜ TermMap (now map) ⌝ }
     requires { ⌜ base + n ≤ length (now facts) ⌝ }
@@ -696,4 +690,58 @@ fn reduce_plain(
     }
     let left = write_kept(arities, words, counts, m, &wins, out, work);
     Reduced::Done(left)
+}
+
+// Whether one of the constants is marked.
+fn has_constant(used: &[u64]) -> bool
+    requires { ⌜ termEnd ≤ length (now used) ⌝ }
+    ensures { λ r. ⌜ r ≡ someUsed (now (used .entry)) constantCount ⌝ }
+{
+    let mut t = 0;
+    while t < (Term::CONSTANTS as usize) {
+        if used[t] != 0 {
+            return true;
+        }
+        t += 1;
+    }
+    false
+}
+
+// Whether neither an equality nor a constant is present; used[t] marks the terms that occur. Labels grow from the root down, and those of equalities are the lowest.
+fn is_plain(arities: &[u64], words: &[u64], used: &[u64], n: usize) -> bool
+    requires { ⌜ Markable (now arities) (now words) (now used) n ⌝ }
+    ensures { λ r. ⌜ r ≡ isPlain (now (arities .entry)) (diagramOf (now (words .entry))) ⌝ }
+{
+    if words[(n - 1) * 3] < Label::PREDICATE_WEIGHT {
+        return false;
+    }
+    if has_constant(used) {
+        return false;
+    }
+    true
+}
+
+// Reduces a listing that is one: 17 over 256 paths, 26, 27, 28, else the rows left.
+pub fn reduce_checked(arities: &[u64], words: &[u64], out: &mut [u64], work: &mut [u64]) -> Reduced
+    requires { ⌜ Reducible (now arities) (now words) (now out) (now work) ⌝ }
+    ensures { λ r. ⌜ Answered (now (arities .entry)) (now (words .entry)) (now (out .entry)) r (now (out .exit)) ⌝ }
+{
+    let n = words.len() / 3;
+    let mut counts = [0u64; diagram::ROWS];
+    let mut used = [0u64; TERMS];
+    paths::count_paths(words, &mut counts, n);
+    let m = counts[n - 1] as usize;
+    if m > PATHS {
+        return Reduced::Not(Refused::Paths);
+    }
+    listing::used(arities, words, &mut used);
+    if !is_plain(arities, words, &used, n) {
+        return Reduced::Not(Refused::Kinds);
+    }
+    let v = listing::count_variables(&used);
+    let all = count_valuations(v);
+    if all * m > RUNS {
+        return Reduced::Not(Refused::Runs);
+    }
+    reduce_plain(arities, words, &counts, &used, n, m, v, all, out, work)
 }

@@ -210,7 +210,11 @@ reach-visit-requires t c κs =
     let if1 = c .before .before .before .before .if1 in
     let entry = c .before .before .before .before .before .before .before .before .before .before .before .pre in (
       omega (arith, entry .0, if2 .left, entry .1 .0 .routed .rows .few),
-      (reach-searching (entry .1 .0) (entry .1 .1 .0) (entry .1 .1 .1) (if1 .left) (better .ensures) (if2 .left), reach-standing (entry .1 .0) (entry .1 .1 .0) (entry .1 .1 .1) (if1 .left) (better .ensures) (if2 .left)),
+      (
+        reach-searching (entry .1 .0) (entry .1 .1 .0) (entry .1 .1 .1) (if1 .left) (better .ensures) (if2 .left),
+        reach-standing (entry .1 .0) (entry .1 .1 .0)
+            (entry .1 .1 .1) (if1 .left) (better .ensures) (if2 .left),
+      ),
     )
 
 reach-returns-3 : (t : ℕ) → reach-lts.Need-returns-3 (better-reads.Asked, better-reads.Learnt, visit-below t, visit.Post) (reach-at t) reach.Post

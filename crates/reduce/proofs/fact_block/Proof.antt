@@ -11,6 +11,7 @@ fact-rows-requires c κs =
     let past-12 = c .before .before .before .before .before .before .before .before .before .before .before .before in
     let entry = past-12 .before .pre in
     (entry .labelled, (block-terms (entry) 64 (objects-into .ensures) (object-map .ensures) (object-map .kept .1 .1 .0) (lit≤ tt), entry .room))
+
 returns : tie.Need-returns
 returns c =
     let fact-rows = c .before .before .fact-rows in

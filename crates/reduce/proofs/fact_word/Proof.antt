@@ -5,8 +5,10 @@ use Rattle.reduce.proofs.fact_word.Tie as tie
 
 returns : tie.Need-returns
 returns c = search word-leaf
+
 renamed-requires : tie.Need-renamed-requires
 renamed-requires c κs = search word-movable
+
 returns-2 : tie.Need-returns-2
 returns-2 c = search word-branch
 

@@ -11,14 +11,19 @@ use Rattle.reduce.proofs.object_map.Tie as tie
 
 abbrev Inv-loop : tie.InvT-loop
 Inv-loop marks objects map₀ t₀ c₀ map t c = (length map ≡ length map₀) × Ranked marks t c × Mapped marks objects map t
+
 abbrev μ-loop : tie.MeasureT-loop
 μ-loop marks objects map₀ t₀ c₀ map t c = termEnd - t
+
 loop-holds : tie.Need-loop-holds Inv-loop μ-loop
 loop-holds c = (refl, rank-start _, map-start _ _ _)
+
 rank-after-requires : tie.Need-rank-after-requires Inv-loop μ-loop
 rank-after-requires c κs = (search needs, (search needs, search needs))
+
 loop-again : tie.Need-loop-again Inv-loop μ-loop
 loop-again c = (search needs, c .rank-after .ensures, search map-more)
+
 returns : tie.Need-returns Inv-loop μ-loop
 returns c = search map-end
 

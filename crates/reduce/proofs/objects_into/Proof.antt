@@ -10,20 +10,27 @@ use Rattle.reduce.proofs.objects_into.Tie as tie
 
 abbrev Inv-loop : tie.InvT-loop
 Inv-loop v all i out₀ p₀ x₀ j₀ out p x j = (length out ≡ length out₀) × Dividing v i out₀ out j (v - j) x p
+
 abbrev μ-loop : tie.MeasureT-loop
 μ-loop v all i out₀ p₀ x₀ j₀ out p x j = v - j
+
 loop-holds : tie.Need-loop-holds Inv-loop μ-loop
 loop-holds c = (refl, search divide-start)
+
 div-p : tie.Need-div-p Inv-loop μ-loop
 div-p c = omega (arith, c .loop-test .taken)
+
 div-out : tie.Need-div-out Inv-loop μ-loop
 div-out c = omega (arith, power-some (c .before .loop .inv .1) (c .loop-test .taken))
+
 rem-x : tie.Need-rem-x Inv-loop μ-loop
 rem-x c = omega (arith, power-some (c .before .loop .inv .1) (c .loop-test .taken))
+
 loop-again : tie.Need-loop-again Inv-loop μ-loop
 loop-again c =
     let entry = c .before .before .pre in
     (search needs, divide-next (c .before .loop .inv .1) (c .loop-test .taken) (omega (arith, c .loop-test .taken, entry .places, c .before .loop .inv .0)))
+
 returns : tie.Need-returns Inv-loop μ-loop
 returns c = search divide-end
 

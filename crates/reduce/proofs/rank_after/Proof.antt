@@ -5,8 +5,10 @@ use Rattle.reduce.proofs.rank_after.Tie as tie
 
 returns : tie.Need-returns
 returns c = search rank-low
+
 returns-2 : tie.Need-returns-2
 returns-2 c = search rank-unused
+
 returns-3 : tie.Need-returns-3
 returns-3 c = search rank-used
 

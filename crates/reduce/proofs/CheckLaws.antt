@@ -1,0 +1,129 @@
+-- The ways out of `reduce_checked`.
+use mathlib.Core.Path.{_≡_, refl, sym, ap, ap₂, subst, _∙_}
+use mathlib.Core.Bool.{Bool, true, false, not}
+use mathlib.Core.List.{List}
+use Prim.Native.Nat.{ℕ, suc, pred, _+_, _-_, _*_, _/_, _^_, _≤_, _<_, min}
+use native.Mathlib.Omega.{arith}
+use native.Mathlib.Nat.{mul-le-mul, mul-le-mul-left}
+use lib.ListN.{length, getD, replicate, length-replicate}
+use Rattle.basics.specs.Tests.{Cmp, cmp, below, equal, above}
+use Rattle.label.specs.Limits.{variableCount}
+use Rattle.listing.proofs.RowLaws.{not-taken, not-left}
+use Rattle.listing.specs.Used.{Used, markedVariables}
+use Rattle.listing.specs.UsedLaws.{marked-variables}
+use Rattle.diagram.specs.Sizes.{mostRows}
+use Rattle.diagram.specs.Diagram.{Diagram}
+use Rattle.diagram.specs.Words.{rowCount, isListing}
+use Rattle.diagram.specs.Listing.{diagramOf}
+use Rattle.diagram.specs.Validity.{Valid, tree}
+use Rattle.diagram.specs.Variables.{variables}
+use Rattle.diagram.specs.DiagramOfListing.{diagram-is}
+use Rattle.diagram.specs.ListingValid.{listing-is-valid}
+use Rattle.rename.specs.VariableLaws.{variables-few}
+use Rattle.paths.specs.Paths.{paths, mostPaths}
+use Rattle.paths.specs.PathLaws.{listing-rows, paths-some}
+use Rattle.paths.specs.Routes.{Rows, Counted}
+use Rattle.reduction.specs.declared.Reduced.the-variants.{Done, Not}
+use Rattle.reduction.specs.declared.Refused.{Refused}
+use Rattle.reduction.specs.declared.Refused.the-variants.{Paths, Kinds, Runs}
+use Rattle.reduction.specs.Reduction.{isPlain, mostRuns, runs, refused, reduceAnswer, answerOf, bufferOf}
+use Rattle.reduce.specs.Routing.{Routed}
+use Rattle.reduce.specs.Winning.{Plain, Answered, Markable, Reducible}
+use Rattle.reduce.proofs.CallLaws.{answer-paths, answer-kinds, answer-runs}
+
+answered : (ar ws out : List ℕ) (x : Refused) → reduceAnswer ar (diagramOf ws) ≡ refused x → Answered ar ws out (Not x) out
+answered ar ws out x e = record { answer = sym (ap answerOf e); words = sym (ap (bufferOf out) e) }
+
+module _ {ar ws out work : List ℕ} (g : Reducible ar ws out work) where
+  pub check-valid : Valid ar ws
+  check-valid = listing-is-valid ar ws (g .listing)
+
+  abbrev d : Diagram
+  d = diagramOf ws
+
+  pub check-rows : Rows ws (length ws / 3)
+  check-rows = listing-rows ar ws (g .listing)
+
+  pub check-some : 1 ≤ length ws / 3
+  check-some = check-valid .some
+
+  pub check-room : (x : ℕ) → mostRows ≤ x → length ws / 3 ≤ length {A = ℕ} (replicate x 0)
+  check-room x h = rw length-replicate (omega (arith, check-valid .few))
+
+  root-is : tree ws (length ws / 3 - 1) ≡ d
+  root-is = let e : length ws / 3 - 1 ≡ pred (rowCount ws) = omega arith in ap (tree ws) e ∙ sym (diagram-is ar ws check-valid)
+
+  module _ {counts : List ℕ} (c : Counted ws counts (length ws / 3)) where
+    abbrev M : ℕ
+    M = getD counts (length ws / 3 - 1) 0
+
+    count-is : M ≡ min 257 (length (paths d))
+    count-is = c .each (length ws / 3 - 1) (omega (arith, check-some)) ∙ ap (λ (x : Diagram). min 257 (length (paths x))) root-is
+
+    pub check-many : mostPaths < M → Answered ar ws out (Not Paths) out
+    check-many h = answered ar ws out Paths (answer-paths ar d (omega (arith, count-is)))
+
+    module _ (h : M ≤ mostPaths) where
+      few : length (paths d) ≡ M
+      few = omega (arith, count-is)
+
+      some : 1 ≤ M
+      some = omega (arith, few, paths-some d)
+
+      routed : Routed ws counts (length ws / 3) M
+      routed = record {
+        rows = check-rows;
+        some = check-some;
+        counted = c;
+        all = ap (λ (x : Diagram). length (paths x)) root-is ∙ few;
+        few = h;
+      }
+
+      module _ {b : Bool} (q : b ≡ isPlain ar d) where
+        pub check-kinds : not b ≡ true → Answered ar ws out (Not Kinds) out
+        check-kinds e = answered ar ws out Kinds (answer-kinds ar d (omega (arith, few)) (sym q ∙ not-taken b e))
+
+        module _ (e : not b ≡ false) {used : List ℕ} (u : Used ar d used) {v : ℕ} (k : v ≡ markedVariables used) where
+          plain : isPlain ar d ≡ true
+          plain = sym q ∙ not-left b e
+
+          count : v ≡ length (variables ar d)
+          count = k ∙ marked-variables ar d used u
+
+          pub check-variables : v ≤ variableCount
+          check-variables = omega (arith, count, variables-few ar d)
+
+          runs-are : runs ar d ≡ v ^ v * M
+          unfolding runs
+          runs-are = ap₂ (λ (x y : ℕ). x ^ x * y) (sym count) few
+
+          module _ {all : ℕ} (a : all ≡ min (suc mostRuns) (v ^ v)) where
+            pub check-small : all * M ≤ suc mostRuns * mostPaths
+            check-small = mul-le-mul (let z : all ≤ suc mostRuns = omega arith in z) h
+
+            pub check-runs : mostRuns < all * M → Answered ar ws out (Not Runs) out
+            check-runs l = answered ar ws out Runs (answer-runs ar d (omega (arith, few)) plain (subst (λ (x : ℕ). mostRuns < x) (sym runs-are) (go (cmp mostRuns (v ^ v)))))
+              where
+                same : v ^ v ≤ mostRuns → mostRuns < v ^ v * M
+                same s = subst (λ (x : ℕ). mostRuns < x * M) (let z : all ≡ v ^ v = omega arith in z) l
+
+                go : Cmp mostRuns (v ^ v) → mostRuns < v ^ v * M
+                go (below s) = let z = mul-le-mul-left (v ^ v) some in omega (arith, z)
+                go (equal s) = same (omega arith)
+                go (above s) = same (omega arith)
+
+            pub check-plain : all * M ≤ mostRuns → Plain ar ws counts used (length ws / 3) M v all out work
+            check-plain l =
+                let z = mul-le-mul-left all some in
+                record {
+                  listing = g .listing;
+                  whole = refl;
+                  routed = routed;
+                  marks = u;
+                  count = count;
+                  power = omega (arith, z);
+                  few = l;
+                  plain = plain;
+                  out-room = g .out-room;
+                  work-room = g .work-room;
+                }

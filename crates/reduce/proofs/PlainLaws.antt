@@ -1,0 +1,244 @@
+-- Laws of `has_constant` and `is_plain`.
+use mathlib.Core.Path.{_≡_, refl, sym, ap, ap₂, subst, _∙_}
+use mathlib.Core.Bool.{Bool, true, false, not, _||_, _&&_, cond}
+use mathlib.Core.List.{List, [], _∷_}
+use Prim.Native.Nat.{ℕ, zero, suc, pred, _+_, _-_, _*_, _/_, _≤_, _<_}
+use native.Mathlib.Omega.{arith}
+use native.Mathlib.Numerals.{add-one}
+use lib.ListN.{length, getD}
+use lib.Dec.{eqb, ltb}
+use borrow.Author.Tests.{eq-eqb, ne-eqb, eqb-true, eqb-false, lt-ltb, le-ltb, ltb-true}
+use Rattle.basics.specs.Tests.{Flag, isTrue, isFalse, flag, Cmp, cmp, below, equal, above, Either, one, other, either, or-one, or-other}
+use Rattle.basics.specs.Members.{mem, clash}
+use Rattle.label.specs.Limits.{constantCount, termEnd, leafMark, predicateWeight, equality}
+use Rattle.label.specs.Terms.{isConstant}
+use Rattle.label.specs.Labels.{predicateOf, unpacked, termsOf}
+use Rattle.diagram.specs.Diagram.{Diagram, leaf, branch, From}
+use Rattle.diagram.specs.Words.{labelAt, highAt, lowAt, rowCount, isListing}
+use Rattle.diagram.specs.Listing.{diagramOf, Good}
+use Rattle.diagram.specs.Validity.{Valid, tree}
+use Rattle.diagram.specs.Variables.{occurs}
+use Rattle.diagram.specs.DiagramOfListing.{diagram-is, good-diagram, shown-rows}
+use Rattle.diagram.specs.ListingValid.{listing-is-valid}
+use Rattle.listing.specs.Used.{Used}
+use Rattle.reduction.specs.Combinations.{someOf}
+use Rattle.reduction.specs.Reduction.{isPlain}
+use Rattle.reduce.specs.Winning.{someUsed, Markable}
+
+-- `has_constant`
+pub used-start : (used : List ℕ) → someUsed used 0 ≡ false
+unfolding someUsed
+used-start used = refl
+
+used-step : (used : List ℕ) (t : ℕ) → someUsed used (suc t) ≡ (not (eqb (getD used t 0) 0) || someUsed used t)
+unfolding someUsed
+used-step used t = refl
+
+used-later : (used : List ℕ) (t n : ℕ) → t < n → (getD used t 0 ≡ 0 → ⊥) → someUsed used n ≡ true
+used-later used t zero h e = absurd (omega arith)
+used-later used t (suc n) h e = used-step used n ∙ go (cmp t n) (used-later used t n)
+  where
+    go : Cmp t n → (t < n → (getD used t 0 ≡ 0 → ⊥) → someUsed used n ≡ true) → (not (eqb (getD used n 0) 0) || someUsed used n) ≡ true
+    go (below q) ih = or-other (not (eqb (getD used n 0) 0)) _ (ih q e)
+    go (equal q) ih = or-one _ (someUsed used n) (ap not (ne-eqb (getD used n 0) 0 (λ z. e (ap (λ (k : ℕ). getD used k 0) q ∙ z))))
+    go (above q) ih = absurd (omega arith)
+
+pub used-found : (used : List ℕ) (t : ℕ) → t < constantCount → (getD used t 0 ≡ 0 → ⊥) → true ≡ someUsed used constantCount
+used-found used t h e = sym (used-later used t constantCount h e)
+
+pub used-on : (used : List ℕ) (t : ℕ) → someUsed used t ≡ false → getD used t 0 ≡ 0 → someUsed used (t + 1) ≡ false
+used-on used t e z = ap (someUsed used) (add-one t) ∙ used-step used t ∙ ap₂ (λ (a b : Bool). not a || b) (eq-eqb (getD used t 0) 0 z) e
+
+pub used-none : (used : List ℕ) (t : ℕ) → someUsed used t ≡ false → t ≤ constantCount → constantCount ≤ t → false ≡ someUsed used constantCount
+used-none used t e h k = sym (ap (someUsed used) (let z : constantCount ≡ t = omega arith in z) ∙ e)
+
+used-from : (used : List ℕ) (n : ℕ) → someUsed used n ≡ true → (t : ℕ) × (t < n) × (getD used t 0 ≡ 0 → ⊥)
+used-from used zero e = clash e (used-start used)
+used-from used (suc n) e = go (flag (eqb (getD used n 0) 0)) (used-from used n)
+  where
+    go : Flag (eqb (getD used n 0) 0) → (someUsed used n ≡ true → (t : ℕ) × (t < n) × (getD used t 0 ≡ 0 → ⊥)) → (t : ℕ) × (t < suc n) × (getD used t 0 ≡ 0 → ⊥)
+    go (isTrue q) ih =
+        let r = ih (sym (used-step used n ∙ ap (λ (b : Bool). not b || someUsed used n) q) ∙ e) in
+        (r .0, omega (arith, r .1), r .2)
+    go (isFalse q) ih = (n, omega arith, eqb-false (getD used n 0) 0 q)
+
+-- ===== What is plain =====
+some-term : (t : ℕ) (ts : List ℕ) → mem eqb t ts ≡ true → isConstant t ≡ true → someOf isConstant ts ≡ true
+some-term t [] m e = clash m refl
+some-term t (x ∷ ts) m e = go (either (eqb t x) (mem eqb t ts) m) (some-term t ts)
+  where
+    go : Either (eqb t x) (mem eqb t ts) → (mem eqb t ts ≡ true → isConstant t ≡ true → someOf isConstant ts ≡ true) → (isConstant x || someOf isConstant ts) ≡ true
+    go (one q) ih = or-one _ _ (ap isConstant (sym (eqb-true t x q)) ∙ e)
+    go (other q) ih = or-other (isConstant x) _ (ih q e)
+
+term-some : (ts : List ℕ) → someOf isConstant ts ≡ true → (t : ℕ) × (mem eqb t ts ≡ true) × (isConstant t ≡ true)
+term-some [] e = clash e refl
+term-some (x ∷ ts) e = go (either (isConstant x) (someOf isConstant ts) e) (term-some ts)
+  where
+    go : Either (isConstant x) (someOf isConstant ts) → (someOf isConstant ts ≡ true → (t : ℕ) × (mem eqb t ts ≡ true) × (isConstant t ≡ true))
+        → (t : ℕ) × (mem eqb t (x ∷ ts) ≡ true) × (isConstant t ≡ true)
+    go (one q) ih = (x, or-one (eqb x x) _ (eq-eqb x x refl), q)
+    go (other q) ih = let r = ih q in (r .0, or-other (eqb (r .0) x) _ (r .1), r .2)
+
+abbrev node : Bool → Bool → Bool → Bool → Bool
+node a b x y = not a && (not b && (x && y))
+
+plain-branch : (ar : List ℕ) (l : ℕ) (t f : Diagram)
+    → isPlain ar (branch l t f) ≡ node (eqb (predicateOf l) equality) (someOf isConstant (termsOf ar (unpacked l))) (isPlain ar t) (isPlain ar f)
+unfolding isPlain
+plain-branch ar l t f = refl
+
+occurs-branch : (ar : List ℕ) (u l : ℕ) (t f : Diagram) → occurs ar u (branch l t f) ≡ (mem eqb u (termsOf ar (unpacked l)) || (occurs ar u t || occurs ar u f))
+unfolding occurs
+occurs-branch ar u l t f = refl
+
+high-label : (l : ℕ) → predicateWeight ≤ l → eqb (predicateOf l) equality ≡ false
+unfolding predicateOf
+high-label l h = ne-eqb (l / predicateWeight) equality (λ z. omega arith)
+
+low-label : (l : ℕ) → l < predicateWeight → eqb (predicateOf l) equality ≡ true
+unfolding predicateOf
+low-label l h = eq-eqb (l / predicateWeight) equality (omega arith)
+
+-- no equality, for labels from the weight of a predicate on, and no constant
+plain-true : (ar : List ℕ) (d : Diagram) (n : ℕ) → From n d → predicateWeight ≤ n → ((t : ℕ) → isConstant t ≡ true → occurs ar t d ≡ false) → isPlain ar d ≡ true
+plain-true ar (leaf v) n o h c = (unfold isPlain in refl)
+plain-true ar (branch l t f) n o h c = go (flag (someOf isConstant (termsOf ar (unpacked l)))) (plain-true ar t (suc l) (o .1) (omega (arith, o .0))) (plain-true ar f (suc l) (o .2) (omega (arith, o .0)))
+  where
+    none-high : (u : ℕ) → isConstant u ≡ true → occurs ar u t ≡ false
+    none-high u e = off (flag (occurs ar u t))
+      where
+        off : Flag (occurs ar u t) → occurs ar u t ≡ false
+        off (isTrue q) = clash (occurs-branch ar u l t f ∙ or-other (mem eqb u (termsOf ar (unpacked l))) _ (or-one _ _ q)) (c u e)
+        off (isFalse q) = q
+
+    none-low : (u : ℕ) → isConstant u ≡ true → occurs ar u f ≡ false
+    none-low u e = off (flag (occurs ar u f))
+      where
+        off : Flag (occurs ar u f) → occurs ar u f ≡ false
+        off (isTrue q) = clash (occurs-branch ar u l t f ∙ or-other (mem eqb u (termsOf ar (unpacked l))) _ (or-other (occurs ar u t) _ q)) (c u e)
+        off (isFalse q) = q
+
+    go : Flag (someOf isConstant (termsOf ar (unpacked l))) → (((u : ℕ) → isConstant u ≡ true → occurs ar u t ≡ false) → isPlain ar t ≡ true)
+        → (((u : ℕ) → isConstant u ≡ true → occurs ar u f ≡ false) → isPlain ar f ≡ true) → isPlain ar (branch l t f) ≡ true
+    go (isTrue q) x y = let r = term-some (termsOf ar (unpacked l)) q in clash (occurs-branch ar (r .0) l t f ∙ or-one _ (occurs ar (r .0) t || occurs ar (r .0) f) (r .1)) (c (r .0) (r .2))
+    go (isFalse q) x y =
+        plain-branch ar l t f ∙ ap₂ (λ (a b : Bool). node a b (isPlain ar t) (isPlain ar f)) (high-label l (omega (arith, o .0))) q
+        ∙ ap₂ (λ (a b : Bool). a && b) (x none-high) (y none-low)
+
+not-plain : (a b x y : Bool) → (a ≡ true → node a b x y ≡ false) × (b ≡ true → node a b x y ≡ false) × (x ≡ false → node a b x y ≡ false) × (y ≡ false → node a b x y ≡ false)
+not-plain true b x y = ((λ e. refl), (λ e. refl), (λ e. refl), (λ e. refl))
+not-plain false true x y = ((λ e. clash e refl), (λ e. refl), (λ e. refl), (λ e. refl))
+not-plain false false true y = ((λ e. clash e refl), (λ e. clash e refl), (λ e. clash refl e), (λ e. e))
+not-plain false false false y = ((λ e. clash e refl), (λ e. clash e refl), (λ e. refl), (λ e. refl))
+
+-- a constant
+plain-constant : (ar : List ℕ) (u : ℕ) → isConstant u ≡ true → (d : Diagram) → occurs ar u d ≡ true → isPlain ar d ≡ false
+plain-constant ar u c (leaf v) e = clash e (unfold occurs in refl)
+plain-constant ar u c (branch l t f) e =
+    plain-branch ar l t f ∙ go (either (mem eqb u (termsOf ar (unpacked l))) _ (sym (occurs-branch ar u l t f) ∙ e)) (plain-constant ar u c t) (plain-constant ar u c f)
+  where
+    all : (eqb (predicateOf l) equality ≡ true → node (eqb (predicateOf l) equality) (someOf isConstant (termsOf ar (unpacked l))) (isPlain ar t) (isPlain ar f) ≡ false)
+        × (someOf isConstant (termsOf ar (unpacked l)) ≡ true → node (eqb (predicateOf l) equality) (someOf isConstant (termsOf ar (unpacked l))) (isPlain ar t) (isPlain ar f) ≡ false)
+        × (isPlain ar t ≡ false → node (eqb (predicateOf l) equality) (someOf isConstant (termsOf ar (unpacked l))) (isPlain ar t) (isPlain ar f) ≡ false)
+        × (isPlain ar f ≡ false → node (eqb (predicateOf l) equality) (someOf isConstant (termsOf ar (unpacked l))) (isPlain ar t) (isPlain ar f) ≡ false)
+    all = not-plain (eqb (predicateOf l) equality) (someOf isConstant (termsOf ar (unpacked l))) (isPlain ar t) (isPlain ar f)
+
+    below-it : Either (occurs ar u t) (occurs ar u f) → (occurs ar u t ≡ true → isPlain ar t ≡ false) → (occurs ar u f ≡ true → isPlain ar f ≡ false)
+        → node (eqb (predicateOf l) equality) (someOf isConstant (termsOf ar (unpacked l))) (isPlain ar t) (isPlain ar f) ≡ false
+    below-it (one q) x y = all .2 (x q)
+    below-it (other q) x y = all .3 (y q)
+
+    go : Either (mem eqb u (termsOf ar (unpacked l))) (occurs ar u t || occurs ar u f) → (occurs ar u t ≡ true → isPlain ar t ≡ false) → (occurs ar u f ≡ true → isPlain ar f ≡ false)
+        → node (eqb (predicateOf l) equality) (someOf isConstant (termsOf ar (unpacked l))) (isPlain ar t) (isPlain ar f) ≡ false
+    go (one q) x y = all .1 (some-term u (termsOf ar (unpacked l)) q c)
+    go (other q) x y = below-it (either (occurs ar u t) _ q) x y
+
+-- `is_plain`
+module _ {ar ws used : List ℕ} {n : ℕ} (g : Markable ar ws used n) where
+  valid : Valid ar ws
+  valid = listing-is-valid ar ws (g .listing)
+
+  abbrev d : Diagram
+  d = diagramOf ws
+
+  pub root-some : 1 ≤ n
+  root-some = omega (arith, g .whole, valid .some)
+
+  pub root-word : (n - 1) * 3 + 3 ≤ length ws
+  root-word = omega (arith, g .whole, valid .some, valid .whole)
+
+  pub root-few : n ≤ 1024
+  root-few = omega (arith, g .whole, valid .few)
+
+  pub marks-long : termEnd ≤ length used
+  marks-long = omega (arith, g .marks .whole)
+
+  root-is : tree ws (n - 1) ≡ d
+  root-is = let e : n - 1 ≡ pred (rowCount ws) = omega (arith, g .whole, valid .some) in ap (tree ws) e ∙ sym (diagram-is ar ws valid)
+
+  abbrev L : ℕ
+  L = getD ws ((n - 1) * 3) 0
+
+  branch-is : (L ≡ leafMark → ⊥) → d ≡ branch L (tree ws (getD ws ((n - 1) * 3 + 1) 0)) (tree ws (getD ws ((n - 1) * 3 + 2) 0))
+  unfolding labelAt highAt lowAt
+  branch-is e = sym root-is ∙ shown-rows ar ws valid .branches (n - 1) (omega (arith, g .whole, valid .some)) e
+
+  leaf-is : L ≡ leafMark → d ≡ leaf (getD ws ((n - 1) * 3 + 1) 0)
+  unfolding labelAt highAt
+  leaf-is e = sym root-is ∙ shown-rows ar ws valid .leaves (n - 1) (omega (arith, g .whole, valid .some)) e
+
+  pub plain-equality : L < predicateWeight → false ≡ isPlain ar d
+  plain-equality h =
+      let t = tree ws (getD ws ((n - 1) * 3 + 1) 0) in
+      let f = tree ws (getD ws ((n - 1) * 3 + 2) 0) in
+      sym (ap (isPlain ar) (branch-is (λ z. omega arith)) ∙ plain-branch ar L t f
+      ∙ not-plain (eqb (predicateOf L) equality) (someOf isConstant (termsOf ar (unpacked L))) (isPlain ar t) (isPlain ar f) .0 (low-label L h))
+
+  occurs-used : (t : ℕ) → t < termEnd → (getD used t 0 ≡ 0 → ⊥) → occurs ar t d ≡ true
+  occurs-used t h e = go (flag (occurs ar t d))
+    where
+      go : Flag (occurs ar t d) → occurs ar t d ≡ true
+      go (isTrue q) = q
+      go (isFalse q) = absurd (e (g .marks .each t h ∙ ap (λ (b : Bool). cond b 1 0) q))
+
+  used-occurs : (t : ℕ) → t < termEnd → occurs ar t d ≡ true → getD used t 0 ≡ 0 → ⊥
+  used-occurs t h q z = let o : _≡_ {A = ℕ} 1 0 = sym (g .marks .each t h ∙ ap (λ (b : Bool). cond b 1 0) q) ∙ z in omega arith
+
+  constant-is : (t : ℕ) → t < constantCount → isConstant t ≡ true
+  unfolding isConstant
+  constant-is t h = lt-ltb t constantCount h
+
+  constant-below : (t : ℕ) → isConstant t ≡ true → t < constantCount
+  unfolding isConstant
+  constant-below t e = ltb-true t constantCount e
+
+  module _ {b : Bool} (q : b ≡ someUsed used constantCount) where
+    pub plain-kinds : b ≡ true → false ≡ isPlain ar d
+    plain-kinds e =
+        let r = used-from used constantCount (sym q ∙ e) in
+        sym (plain-constant ar (r .0) (constant-is (r .0) (r .1)) d (occurs-used (r .0) (omega (arith, r .1)) (r .2)))
+
+    pub plain-yes : predicateWeight ≤ L → b ≡ false → true ≡ isPlain ar d
+    plain-yes h e = sym (plain-true ar d predicateWeight (from (flag (eqb L leafMark))) (omega arith) none)
+      where
+        none : (t : ℕ) → isConstant t ≡ true → occurs ar t d ≡ false
+        none t c = off (flag (occurs ar t d))
+          where
+            off : Flag (occurs ar t d) → occurs ar t d ≡ false
+            off (isTrue o) =
+                let l = constant-below t c in
+                clash (used-later used t constantCount l (used-occurs t (omega arith) o)) (sym q ∙ e)
+            off (isFalse o) = o
+
+        raised : (x : Diagram) (l : ℕ) (t f : Diagram) → x ≡ branch l t f → From 0 x → predicateWeight ≤ l → From predicateWeight x
+        raised (leaf v) l t f z o k = tt
+        raised (branch m u w) l t f z o k = let y : m ≡ l = cc in (omega arith, o .1, o .2)
+
+        flat : (x : Diagram) (v : ℕ) → x ≡ leaf v → From predicateWeight x
+        flat (leaf v) w z = tt
+        flat (branch m u y) w z = absurd (let o : _≡_ {A = ℕ} 0 1 = cc in omega arith)
+
+        from : Flag (eqb L leafMark) → From predicateWeight d
+        from (isTrue z) = flat d (getD ws ((n - 1) * 3 + 1) 0) (leaf-is (eqb-true L leafMark z))
+        from (isFalse z) = raised d L (tree ws (getD ws ((n - 1) * 3 + 1) 0)) (tree ws (getD ws ((n - 1) * 3 + 2) 0)) (branch-is (eqb-false L leafMark z)) (good-diagram ar ws valid .ordered) h
