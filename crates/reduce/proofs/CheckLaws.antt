@@ -1,17 +1,19 @@
 -- The ways out of `reduce_checked`.
 use mathlib.Core.Path.{_≡_, refl, sym, ap, ap₂, subst, _∙_}
-use mathlib.Core.Bool.{Bool, true, false, not}
+use mathlib.Core.Bool.{Bool, true, false, not, _||_, cond}
 use mathlib.Core.List.{List}
 use Prim.Native.Nat.{ℕ, suc, pred, _+_, _-_, _*_, _/_, _^_, _≤_, _<_, min}
 use native.Mathlib.Omega.{arith}
 use native.Mathlib.Nat.{mul-le-mul, mul-le-mul-left}
 use lib.ListN.{length, getD, replicate, length-replicate}
-use Rattle.basics.specs.Tests.{Cmp, cmp, below, equal, above}
+use lib.Dec.{ltb}
+use borrow.Author.Tests.{lt-ltb, le-ltb}
+use Rattle.basics.specs.Tests.{Cmp, cmp, below, equal, above, or-one, or-other}
 use Rattle.label.specs.Limits.{variableCount}
 use Rattle.listing.proofs.RowLaws.{not-taken, not-left}
 use Rattle.listing.specs.Used.{Used, markedVariables}
 use Rattle.listing.specs.UsedLaws.{marked-variables}
-use Rattle.diagram.specs.Sizes.{mostRows}
+use Rattle.diagram.specs.Sizes.{mostRows, resultWords, spaceWords}
 use Rattle.diagram.specs.Diagram.{Diagram}
 use Rattle.diagram.specs.Words.{rowCount, isListing}
 use Rattle.diagram.specs.Listing.{diagramOf}
@@ -23,10 +25,11 @@ use Rattle.rename.specs.VariableLaws.{variables-few}
 use Rattle.paths.specs.Paths.{paths, mostPaths}
 use Rattle.paths.specs.PathLaws.{listing-rows, paths-some}
 use Rattle.paths.specs.Routes.{Rows, Counted}
+use Rattle.reduction.specs.declared.Reduced.{Reduced}
 use Rattle.reduction.specs.declared.Reduced.the-variants.{Done, Not}
 use Rattle.reduction.specs.declared.Refused.{Refused}
-use Rattle.reduction.specs.declared.Refused.the-variants.{Paths, Kinds, Runs}
-use Rattle.reduction.specs.Reduction.{isPlain, mostRuns, runs, refused, reduceAnswer, answerOf, bufferOf}
+use Rattle.reduction.specs.declared.Refused.the-variants.{Listing, Buffer, Unbound, Paths, Kinds, Runs}
+use Rattle.reduction.specs.Reduction.{isPlain, mostRuns, runs, Answer, refused, reduceAnswer, answerOf, bufferOf, hasParameter, reduceCall}
 use Rattle.reduce.specs.Routing.{Routed}
 use Rattle.reduce.specs.Winning.{Plain, Answered, Markable, Reducible}
 use Rattle.reduce.proofs.CallLaws.{answer-paths, answer-kinds, answer-runs}
@@ -127,3 +130,61 @@ module _ {ar ws out work : List ℕ} (g : Reducible ar ws out work) where
                   out-room = g .out-room;
                   work-room = g .work-room;
                 }
+
+-- ===== `reduce` =====
+abbrev pub Promised : List ℕ → List ℕ → List ℕ → List ℕ → Reduced → List ℕ → Type 0
+Promised ar ws out work r out′ = (r ≡ answerOf (reduceCall ar ws (length out) (length work))) × (out′ ≡ bufferOf out (reduceCall ar ws (length out) (length work)))
+
+module _ (ar ws out work : List ℕ) where
+  abbrev Call : Answer
+  Call = reduceCall ar ws (length out) (length work)
+
+  pick : Bool → Bool → Bool → Answer → Answer
+  pick a b c x = cond (not a) (refused Listing) (cond b (refused Buffer) (cond c (refused Unbound) x))
+
+  call-pick : Call ≡ pick (isListing ar ws) (ltb (length out) resultWords || ltb (length work) spaceWords) (hasParameter ar (diagramOf ws)) (reduceAnswer ar (diagramOf ws))
+  unfolding reduceCall pick
+  call-pick = refl
+
+  not-made : (x : Refused) → Call ≡ refused x → Promised ar ws out work (Not x) out
+  not-made x e = (sym (ap answerOf e), sym (ap (bufferOf out) e))
+
+  module _ {b : Bool} (e : b ≡ isListing ar ws) where
+    pub call-listing : not b ≡ true → Promised ar ws out work (Not Listing) out
+    unfolding pick
+    call-listing f = not-made Listing (call-pick ∙ ap (λ (a : Bool). pick a (ltb (length out) resultWords || ltb (length work) spaceWords) (hasParameter ar (diagramOf ws)) (reduceAnswer ar (diagramOf ws))) (sym e ∙ not-taken b f))
+
+    module _ (f : not b ≡ false) where
+      pub call-listed : isListing ar ws ≡ true
+      call-listed = sym e ∙ not-left b f
+
+      small : (ltb (length out) resultWords || ltb (length work) spaceWords) ≡ true → Call ≡ refused Buffer
+      unfolding pick
+      small q = call-pick ∙ ap₂ (λ (a c : Bool). pick a c (hasParameter ar (diagramOf ws)) (reduceAnswer ar (diagramOf ws))) call-listed q
+
+      pub call-out : length out < resultWords → Promised ar ws out work (Not Buffer) out
+      call-out h = not-made Buffer (small (or-one _ _ (lt-ltb (length out) resultWords h)))
+
+      pub call-work : length work < spaceWords → Promised ar ws out work (Not Buffer) out
+      call-work h = not-made Buffer (small (or-other (ltb (length out) resultWords) _ (lt-ltb (length work) spaceWords h)))
+
+      module _ (h : resultWords ≤ length out) (k : spaceWords ≤ length work) where
+        large : (ltb (length out) resultWords || ltb (length work) spaceWords) ≡ false
+        large = ap₂ (λ (a c : Bool). a || c) (le-ltb (length out) resultWords h) (le-ltb (length work) spaceWords k)
+
+        asked : (c : Bool) → hasParameter ar (diagramOf ws) ≡ c → Call ≡ pick true false c (reduceAnswer ar (diagramOf ws))
+        asked c q =
+            call-pick ∙ ap₂ (λ (a x : Bool). pick a x (hasParameter ar (diagramOf ws)) (reduceAnswer ar (diagramOf ws))) call-listed large
+            ∙ ap (λ (x : Bool). pick true false x (reduceAnswer ar (diagramOf ws))) q
+
+        pub call-reducible : Reducible ar ws out work
+        call-reducible = record { listing = call-listed; out-room = h; work-room = k }
+
+        module _ {p : Bool} (q : p ≡ hasParameter ar (diagramOf ws)) where
+          pub call-unbound : p ≡ true → Promised ar ws out work (Not Unbound) out
+          unfolding pick
+          call-unbound z = not-made Unbound (asked true (sym q ∙ z))
+
+          pub call-done : p ≡ false → {r : Reduced} {out′ : List ℕ} → Answered ar ws out r out′ → Promised ar ws out work r out′
+          unfolding pick
+          call-done z {r} {out′} a = let e : Call ≡ reduceAnswer ar (diagramOf ws) = asked false (sym q ∙ z) in (a .answer ∙ sym (ap answerOf e), a .words ∙ sym (ap (bufferOf out) e))

@@ -4,13 +4,14 @@ use mathlib.Core.Bool.{Bool, true, false, not, _||_, _&&_, cond}
 use mathlib.Core.List.{List, [], _∷_}
 use Prim.Native.Nat.{ℕ, zero, suc, pred, _+_, _-_, _*_, _/_, _≤_, _<_}
 use native.Mathlib.Omega.{arith}
+use native.Mathlib.Nat.{zero-add}
 use native.Mathlib.Numerals.{add-one}
 use lib.ListN.{length, getD}
 use lib.Dec.{eqb, ltb}
 use borrow.Author.Tests.{eq-eqb, ne-eqb, eqb-true, eqb-false, lt-ltb, le-ltb, ltb-true}
 use Rattle.basics.specs.Tests.{Flag, isTrue, isFalse, flag, Cmp, cmp, below, equal, above, Either, one, other, either, or-one, or-other}
 use Rattle.basics.specs.Members.{mem, clash}
-use Rattle.label.specs.Limits.{constantCount, termEnd, leafMark, predicateWeight, equality}
+use Rattle.label.specs.Limits.{constantCount, firstParameter, parameterCount, termEnd, leafMark, predicateWeight, equality}
 use Rattle.label.specs.Terms.{isConstant}
 use Rattle.label.specs.Labels.{predicateOf, unpacked, termsOf}
 use Rattle.diagram.specs.Diagram.{Diagram, leaf, branch, From}
@@ -21,46 +22,50 @@ use Rattle.diagram.specs.Variables.{occurs}
 use Rattle.diagram.specs.DiagramOfListing.{diagram-is, good-diagram, shown-rows}
 use Rattle.diagram.specs.ListingValid.{listing-is-valid}
 use Rattle.listing.specs.Used.{Used}
+use Rattle.diagram.specs.Words.{upTo}
 use Rattle.reduction.specs.Combinations.{someOf}
-use Rattle.reduction.specs.Reduction.{isPlain}
+use Rattle.reduction.specs.ListLaws.{someOf-in, in-someOf, upTo-in, in-upTo}
+use Rattle.reduction.specs.Reduction.{isPlain, hasParameter}
 use Rattle.reduce.specs.Winning.{someUsed, Markable}
 
--- `has_constant`
-pub used-start : (used : List ℕ) → someUsed used 0 ≡ false
+-- `has_marked`
+pub used-start : (used : List ℕ) (first : ℕ) → someUsed used first 0 ≡ false
 unfolding someUsed
-used-start used = refl
+used-start used first = refl
 
-used-step : (used : List ℕ) (t : ℕ) → someUsed used (suc t) ≡ (not (eqb (getD used t 0) 0) || someUsed used t)
-unfolding someUsed
-used-step used t = refl
+module _ (used : List ℕ) (first : ℕ) where
+  used-step : (t : ℕ) → someUsed used first (suc t) ≡ (not (eqb (getD used (first + t) 0) 0) || someUsed used first t)
+  unfolding someUsed
+  used-step t = refl
 
-used-later : (used : List ℕ) (t n : ℕ) → t < n → (getD used t 0 ≡ 0 → ⊥) → someUsed used n ≡ true
-used-later used t zero h e = absurd (omega arith)
-used-later used t (suc n) h e = used-step used n ∙ go (cmp t n) (used-later used t n)
-  where
-    go : Cmp t n → (t < n → (getD used t 0 ≡ 0 → ⊥) → someUsed used n ≡ true) → (not (eqb (getD used n 0) 0) || someUsed used n) ≡ true
-    go (below q) ih = or-other (not (eqb (getD used n 0) 0)) _ (ih q e)
-    go (equal q) ih = or-one _ (someUsed used n) (ap not (ne-eqb (getD used n 0) 0 (λ z. e (ap (λ (k : ℕ). getD used k 0) q ∙ z))))
-    go (above q) ih = absurd (omega arith)
+  used-later : (t n : ℕ) → t < n → (getD used (first + t) 0 ≡ 0 → ⊥) → someUsed used first n ≡ true
+  used-later t zero h e = absurd (omega arith)
+  used-later t (suc n) h e = used-step n ∙ go (cmp t n) (used-later t n)
+    where
+      go : Cmp t n → (t < n → (getD used (first + t) 0 ≡ 0 → ⊥) → someUsed used first n ≡ true) → (not (eqb (getD used (first + n) 0) 0) || someUsed used first n) ≡ true
+      go (below q) ih = or-other (not (eqb (getD used (first + n) 0) 0)) _ (ih q e)
+      go (equal q) ih = or-one _ (someUsed used first n) (ap not (ne-eqb (getD used (first + n) 0) 0 (λ z. e (ap (λ (k : ℕ). getD used (first + k) 0) q ∙ z))))
+      go (above q) ih = absurd (omega arith)
 
-pub used-found : (used : List ℕ) (t : ℕ) → t < constantCount → (getD used t 0 ≡ 0 → ⊥) → true ≡ someUsed used constantCount
-used-found used t h e = sym (used-later used t constantCount h e)
+  pub used-found : (t n : ℕ) → t < n → (getD used (first + t) 0 ≡ 0 → ⊥) → true ≡ someUsed used first n
+  used-found t n h e = sym (used-later t n h e)
 
-pub used-on : (used : List ℕ) (t : ℕ) → someUsed used t ≡ false → getD used t 0 ≡ 0 → someUsed used (t + 1) ≡ false
-used-on used t e z = ap (someUsed used) (add-one t) ∙ used-step used t ∙ ap₂ (λ (a b : Bool). not a || b) (eq-eqb (getD used t 0) 0 z) e
+  pub used-on : (t : ℕ) → someUsed used first t ≡ false → getD used (first + t) 0 ≡ 0 → someUsed used first (t + 1) ≡ false
+  used-on t e z = ap (someUsed used first) (add-one t) ∙ used-step t ∙ ap₂ (λ (a b : Bool). not a || b) (eq-eqb (getD used (first + t) 0) 0 z) e
 
-pub used-none : (used : List ℕ) (t : ℕ) → someUsed used t ≡ false → t ≤ constantCount → constantCount ≤ t → false ≡ someUsed used constantCount
-used-none used t e h k = sym (ap (someUsed used) (let z : constantCount ≡ t = omega arith in z) ∙ e)
+  pub used-none : (t n : ℕ) → someUsed used first t ≡ false → t ≤ n → n ≤ t → false ≡ someUsed used first n
+  used-none t n e h k = sym (ap (someUsed used first) (let z : n ≡ t = omega arith in z) ∙ e)
 
-used-from : (used : List ℕ) (n : ℕ) → someUsed used n ≡ true → (t : ℕ) × (t < n) × (getD used t 0 ≡ 0 → ⊥)
-used-from used zero e = clash e (used-start used)
-used-from used (suc n) e = go (flag (eqb (getD used n 0) 0)) (used-from used n)
-  where
-    go : Flag (eqb (getD used n 0) 0) → (someUsed used n ≡ true → (t : ℕ) × (t < n) × (getD used t 0 ≡ 0 → ⊥)) → (t : ℕ) × (t < suc n) × (getD used t 0 ≡ 0 → ⊥)
-    go (isTrue q) ih =
-        let r = ih (sym (used-step used n ∙ ap (λ (b : Bool). not b || someUsed used n) q) ∙ e) in
-        (r .0, omega (arith, r .1), r .2)
-    go (isFalse q) ih = (n, omega arith, eqb-false (getD used n 0) 0 q)
+  used-from : (n : ℕ) → someUsed used first n ≡ true → (t : ℕ) × (t < n) × (getD used (first + t) 0 ≡ 0 → ⊥)
+  used-from zero e = clash e (used-start used first)
+  used-from (suc n) e = go (flag (eqb (getD used (first + n) 0) 0)) (used-from n)
+    where
+      go : Flag (eqb (getD used (first + n) 0) 0) → (someUsed used first n ≡ true → (t : ℕ) × (t < n) × (getD used (first + t) 0 ≡ 0 → ⊥))
+          → (t : ℕ) × (t < suc n) × (getD used (first + t) 0 ≡ 0 → ⊥)
+      go (isTrue q) ih =
+          let r = ih (sym (used-step n ∙ ap (λ (b : Bool). not b || someUsed used first n) q) ∙ e) in
+          (r .0, omega (arith, r .1), r .2)
+      go (isFalse q) ih = (n, omega arith, eqb-false (getD used (first + n) 0) 0 q)
 
 -- ===== What is plain =====
 some-term : (t : ℕ) (ts : List ℕ) → mem eqb t ts ≡ true → isConstant t ≡ true → someOf isConstant ts ≡ true
@@ -213,11 +218,11 @@ module _ {ar ws used : List ℕ} {n : ℕ} (g : Markable ar ws used n) where
   unfolding isConstant
   constant-below t e = ltb-true t constantCount e
 
-  module _ {b : Bool} (q : b ≡ someUsed used constantCount) where
+  module _ {b : Bool} (q : b ≡ someUsed used 0 constantCount) where
     pub plain-kinds : b ≡ true → false ≡ isPlain ar d
     plain-kinds e =
-        let r = used-from used constantCount (sym q ∙ e) in
-        sym (plain-constant ar (r .0) (constant-is (r .0) (r .1)) d (occurs-used (r .0) (omega (arith, r .1)) (r .2)))
+        let r = used-from used 0 constantCount (sym q ∙ e) in
+        sym (plain-constant ar (r .0) (constant-is (r .0) (r .1)) d (occurs-used (r .0) (omega (arith, r .1)) (λ z. r .2 (ap (λ (k : ℕ). getD used k 0) (zero-add (r .0)) ∙ z))))
 
     pub plain-yes : predicateWeight ≤ L → b ≡ false → true ≡ isPlain ar d
     plain-yes h e = sym (plain-true ar d predicateWeight (from (flag (eqb L leafMark))) (omega arith) none)
@@ -228,7 +233,7 @@ module _ {ar ws used : List ℕ} {n : ℕ} (g : Markable ar ws used n) where
             off : Flag (occurs ar t d) → occurs ar t d ≡ false
             off (isTrue o) =
                 let l = constant-below t c in
-                clash (used-later used t constantCount l (used-occurs t (omega arith) o)) (sym q ∙ e)
+                clash (used-later used 0 t constantCount l (λ z. used-occurs t (omega arith) o (ap (λ (k : ℕ). getD used k 0) (sym (zero-add t)) ∙ z))) (sym q ∙ e)
             off (isFalse o) = o
 
         raised : (x : Diagram) (l : ℕ) (t f : Diagram) → x ≡ branch l t f → From 0 x → predicateWeight ≤ l → From predicateWeight x
@@ -242,3 +247,37 @@ module _ {ar ws used : List ℕ} {n : ℕ} (g : Markable ar ws used n) where
         from : Flag (eqb L leafMark) → From predicateWeight d
         from (isTrue z) = flat d (getD ws ((n - 1) * 3 + 1) 0) (leaf-is (eqb-true L leafMark z))
         from (isFalse z) = raised d L (tree ws (getD ws ((n - 1) * 3 + 1) 0)) (tree ws (getD ws ((n - 1) * 3 + 2) 0)) (branch-is (eqb-false L leafMark z)) (good-diagram ar ws valid .ordered) h
+
+-- `has_parameter`
+module _ (ar used : List ℕ) (x : Diagram) (u : Used ar x used) where
+  parameter-used : (i : ℕ) → i < parameterCount → occurs ar (firstParameter + i) x ≡ true → getD used (firstParameter + i) 0 ≡ 0 → ⊥
+  parameter-used i h q z = let o : _≡_ {A = ℕ} 1 0 = sym (u .each (firstParameter + i) (omega arith) ∙ ap (λ (b : Bool). cond b 1 0) q) ∙ z in omega arith
+
+  used-parameter : (i : ℕ) → i < parameterCount → (getD used (firstParameter + i) 0 ≡ 0 → ⊥) → occurs ar (firstParameter + i) x ≡ true
+  used-parameter i h e = go (flag (occurs ar (firstParameter + i) x))
+    where
+      go : Flag (occurs ar (firstParameter + i) x) → occurs ar (firstParameter + i) x ≡ true
+      go (isTrue q) = q
+      go (isFalse q) = absurd (e (u .each (firstParameter + i) (omega arith) ∙ ap (λ (b : Bool). cond b 1 0) q))
+
+  parameter-is : someUsed used firstParameter parameterCount ≡ hasParameter ar x
+  unfolding hasParameter
+  parameter-is = go (flag (someUsed used firstParameter parameterCount)) (flag (someOf (λ i. occurs ar (firstParameter + i) x) (upTo parameterCount)))
+    where
+      go : Flag (someUsed used firstParameter parameterCount) → Flag (someOf (λ i. occurs ar (firstParameter + i) x) (upTo parameterCount))
+          → someUsed used firstParameter parameterCount ≡ someOf (λ i. occurs ar (firstParameter + i) x) (upTo parameterCount)
+      go (isTrue a) (isTrue b) = a ∙ sym b
+      go (isTrue a) (isFalse b) =
+          let r = used-from used firstParameter parameterCount a in
+          clash (someOf-in (λ i. occurs ar (firstParameter + i) x) (upTo parameterCount) (r .0) (upTo-in parameterCount (r .0) (r .1)) (used-parameter (r .0) (r .1) (r .2))) b
+      go (isFalse a) (isTrue b) =
+          let r = in-someOf (λ i. occurs ar (firstParameter + i) x) (upTo parameterCount) b in
+          let h = in-upTo parameterCount (r .0) (r .1) in
+          clash (used-later used firstParameter (r .0) parameterCount h (parameter-used (r .0) h (r .2))) a
+      go (isFalse a) (isFalse b) = a ∙ sym b
+
+  pub parameter-yes : {b : Bool} → b ≡ someUsed used firstParameter parameterCount → b ≡ true → true ≡ hasParameter ar x
+  parameter-yes q e = sym e ∙ q ∙ parameter-is
+
+  pub parameter-no : {b : Bool} → b ≡ someUsed used firstParameter parameterCount → b ≡ false → false ≡ hasParameter ar x
+  parameter-no q e = sym e ∙ q ∙ parameter-is

@@ -2,7 +2,7 @@
 use mathlib.Core.Path.{_≡_}
 use mathlib.Core.Bool.{Bool, true, false, not, _||_}
 use mathlib.Core.List.{List}
-use Prim.Native.Nat.{ℕ, zero, suc, _*_, _^_, _≤_, _<_, min}
+use Prim.Native.Nat.{ℕ, zero, suc, _+_, _*_, _^_, _≤_, _<_, min}
 use lib.ListN.{length, getD}
 use lib.Dec.{eqb}
 use Rattle.basics.specs.Members.{mem}
@@ -51,10 +51,10 @@ pub record Answered (ar ws out : List ℕ) (r : Reduced) (out′ : List ℕ) : T
   pub answer : r ≡ answerOf (reduceAnswer ar (diagramOf ws))
   pub words : out′ ≡ bufferOf out (reduceAnswer ar (diagramOf ws))
 
--- one of the first n terms is marked
-unfoldable pub someUsed : List ℕ → ℕ → Bool
-someUsed used zero = false
-someUsed used (suc t) = not (eqb (getD used t 0) 0) || someUsed used t
+-- one of the n terms from `first` on is marked
+unfoldable pub someUsed : List ℕ → ℕ → ℕ → Bool
+someUsed used first zero = false
+someUsed used first (suc t) = not (eqb (getD used (first + t) 0) 0) || someUsed used first t
 
 -- a listing with the marks of its terms
 pub record Markable (ar ws used : List ℕ) (n : ℕ) : Type 0 where

@@ -7,17 +7,18 @@ use reduction::Refused;
 use store::Formed;
 use write::Listed;
 ghost use mathlib.Core.Path.{_≡_};
-ghost use mathlib.Core.Bool.{cond};
+ghost use mathlib.Core.Bool.{true, cond};
 ghost use Prim.Native.Nat.{suc, _+_, _-_, _*_, _/_, _^_, _<_, _≤_, min};
 ghost use lib.ListN.{length, getD};
 ghost use lib.Dec.{eqb};
-ghost use Rattle.label.specs.Limits.{leafMark, termEnd, variableCount, constantCount};
+ghost use Rattle.label.specs.Limits.{leafMark, termEnd, variableCount};
 ghost use Rattle.label.specs.Callers.{TermMap};
 ghost use Rattle.diagram.specs.Words.{labelAt};
 ghost use Rattle.diagram.specs.Validity.{tree};
 ghost use Rattle.apply.specs.Formed.{add};
 ghost use Rattle.store.specs.Space.{diagramsOf, Formation};
-ghost use Rattle.reduction.specs.Reduction.{isOn, mostRuns, isPlain};
+ghost use Rattle.reduction.specs.Reduction.{isOn, mostRuns, isPlain, hasParameter, reduceCall, answerOf, bufferOf};
+ghost use Rattle.diagram.specs.Words.{isListing};
 ghost use Rattle.diagram.specs.Listing.{diagramOf};
 ghost use Rattle.reduce.specs.Routing.{Routed, winning, isOnPath, staysIn, Won, Edged};
 ghost use Rattle.reduce.specs.Searching.{stacked, signOf, betterOf, Leaves, Searching, Standing, Reached, Visited, Forked};
@@ -692,14 +693,14 @@ fn reduce_plain(
     Reduced::Done(left)
 }
 
-// Whether one of the constants is marked.
-fn has_constant(used: &[u64]) -> bool
-    requires { ⌜ termEnd ≤ length (now used) ⌝ }
-    ensures { λ r. ⌜ r ≡ someUsed (now (used .entry)) constantCount ⌝ }
+// Whether one of the n terms from `first` on is marked.
+fn has_marked(used: &[u64], first: usize, n: usize) -> bool
+    requires { ⌜ first + n ≤ length (now used) ⌝ }
+    ensures { λ r. ⌜ r ≡ someUsed (now (used .entry)) first n ⌝ }
 {
     let mut t = 0;
-    while t < (Term::CONSTANTS as usize) {
-        if used[t] != 0 {
+    while t < n {
+        if used[first + t] != 0 {
             return true;
         }
         t += 1;
@@ -715,7 +716,7 @@ fn is_plain(arities: &[u64], words: &[u64], used: &[u64], n: usize) -> bool
     if words[(n - 1) * 3] < Label::PREDICATE_WEIGHT {
         return false;
     }
-    if has_constant(used) {
+    if has_marked(used, 0, Term::CONSTANTS as usize) {
         return false;
     }
     true
@@ -744,4 +745,41 @@ pub fn reduce_checked(arities: &[u64], words: &[u64], out: &mut [u64], work: &mu
         return Reduced::Not(Refused::Runs);
     }
     reduce_plain(arities, words, &counts, &used, n, m, v, all, out, work)
+}
+
+// Whether a parameter is present in the listing.
+fn has_parameter(arities: &[u64], words: &[u64]) -> bool
+    requires { ⌜ isListing (now arities) (now words) ≡ true ⌝ }
+    ensures { λ r. ⌜ r ≡ hasParameter (now (arities .entry)) (diagramOf (now (words .entry))) ⌝ }
+{
+    let mut used = [0u64; TERMS];
+    listing::used(arities, words, &mut used);
+    if has_marked(
+        &used,
+        Term::FIRST_PARAMETER as usize,
+        Term::PARAMETERS as usize,
+    ) {
+        return true;
+    }
+    false
+}
+
+// Reduces a lent listing: the result is written to `out`, `work` is the working space. Refused: 14, 18, 6 for a parameter, then 17, 26, 27, 28.
+pub fn reduce(arities: &[u64], words: &[u64], out: &mut [u64], work: &mut [u64]) -> Reduced
+    ensures { λ r. ⌜ r ≡ answerOf (reduceCall (now (arities .entry)) (now (words .entry)) (length (now (out .entry))) (length (now (work .entry)))) ⌝ }
+    ensures { λ _. ⌜ now (out .exit) ≡ bufferOf (now (out .entry)) (reduceCall (now (arities .entry)) (now (words .entry)) (length (now (out .entry))) (length (now (work .entry)))) ⌝ }
+{
+    if !listing::check(arities, words) {
+        return Reduced::Not(Refused::Listing);
+    }
+    if out.len() < diagram::RESULT_WORDS {
+        return Reduced::Not(Refused::Buffer);
+    }
+    if work.len() < diagram::SPACE_WORDS {
+        return Reduced::Not(Refused::Buffer);
+    }
+    if has_parameter(arities, words) {
+        return Reduced::Not(Refused::Unbound);
+    }
+    reduce_checked(arities, words, out, work)
 }

@@ -29,6 +29,7 @@
 --   mostFormed == 100,000 (28)
 --   numberOf == the numbers of the refusals
 --   Answer, reduceAnswer == the diagram left, or the first of 17, 26, 27, 28
+--   hasParameter, reduceCall == a parameter is present; what the call on lent words answers: 14, 18, 6, then those
 --   answerOf, bufferOf == what the call answers and leaves in the result buffer
 --
 -- Definitions: what the theorems say

@@ -1,16 +1,18 @@
 -- Reduction by model checking: what is left, and what refuses it (document 02, L13).
-use mathlib.Core.Bool.{Bool, true, false, not, _&&_, cond}
+use mathlib.Core.Bool.{Bool, true, false, not, _&&_, _||_, cond}
 use mathlib.Core.List.{List}
 use Prim.Native.Nat.{ℕ, _*_, _^_}
 use lib.ListN.{length}
 use lib.Dec.{eqb, ltb}
-use Rattle.label.specs.Limits.{equality}
-use Rattle.label.specs.Terms.{isConstant}
+use Rattle.label.specs.Limits.{equality, parameterCount}
+use Rattle.label.specs.Terms.{isConstant, parameterTerm}
 use Rattle.label.specs.Labels.{predicateOf, unpacked, termsOf}
 use Rattle.diagram.specs.Diagram.{Diagram, leaf, branch}
 use Rattle.diagram.specs.Rows.{rows}
-use Rattle.diagram.specs.Listing.{listing}
-use Rattle.diagram.specs.Variables.{variables, closed}
+use Rattle.diagram.specs.Sizes.{resultWords, spaceWords}
+use Rattle.diagram.specs.Words.{upTo, isListing}
+use Rattle.diagram.specs.Listing.{listing, diagramOf}
+use Rattle.diagram.specs.Variables.{variables, closed, occurs}
 use Rattle.paths.specs.Paths.{paths, mostPaths, through}
 use Rattle.paths.specs.Routes.{pathAt}
 use Rattle.cutting.specs.Cut.{reduced, written}
@@ -85,6 +87,18 @@ reduceAnswer ar d =
     (done (reducedDiagram ar d)))))
 
 -- ===== What the call answers =====
+
+-- a parameter stands in a label of d
+unfoldable pub hasParameter : List ℕ → Diagram → Bool
+hasParameter ar d = someOf (λ i. occurs ar (parameterTerm i) d) (upTo parameterCount)
+
+-- what a reduction of the words ws answers, with n words of result buffer and m of working space: "Library calls check 14 by operand, then 18"; then 6 for a parameter
+unfoldable pub reduceCall : List ℕ → List ℕ → ℕ → ℕ → Answer
+reduceCall ar ws n m =
+    cond (not (isListing ar ws)) (refused Listing)
+    (cond (ltb n resultWords || ltb m spaceWords) (refused Buffer)
+    (cond (hasParameter ar (diagramOf ws)) (refused Unbound)
+    (reduceAnswer ar (diagramOf ws))))
 
 -- "printing (reduce rows)"
 abbrev pub answerOf : Answer → Reduced
