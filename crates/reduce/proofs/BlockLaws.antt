@@ -61,12 +61,6 @@ word-zero ar ws map r e = rw e
 
 -- ===== `fact_block` =====
 module _ {ar ws marks facts : List ℕ} {n v all i base : ℕ} (g : Blocked ar ws marks facts n v all i base) where
-  pub block-divided : (k : ℕ) → termEnd ≤ k → Divided v all i (replicate k 0)
-  block-divided k h = record { places = rw length-replicate (omega (arith, g .few)); power = g .power; one = g .one }
-
-  pub block-mapping : {objects : List ℕ} (k : ℕ) → termEnd ≤ k → length objects ≡ length {A = ℕ} (replicate k 0) → Mapping marks objects (replicate k 0)
-  block-mapping {objects} k h e = record { marked = g .marked; placed = omega (arith, e, length-replicate {A = ℕ} k 0); whole = rw length-replicate h }
-
   abbrev U : List ℕ
   U = usedVariables marks
 

@@ -22,12 +22,6 @@ and-false false = refl
 
 -- `is_on_path`
 module _ {ws counts wins : List ℕ} {n m r side p : ℕ} (w : Won ws counts wins n m) (e : Edged n r side) (h : p < m) where
-  pub path-place : p < length wins
-  path-place = omega (arith, w .places)
-
-  pub path-small : p < 256
-  path-small = omega (arith, w .routed .few)
-
   pub path-at : At ws n (n - 1) p
   path-at = record {
     row = omega (arith, w .routed .some);

@@ -53,12 +53,6 @@ module _ {ws counts wins numbers : List ℕ} {m i side : ℕ} (g : Parent ws cou
       go (equal q) = rw q (kids .0)
       go (above q) = let z : side ≡ 2 = omega (arith, g .edged .high) in rw z (kids .1)
 
-  pub child-word : i * 3 + side < length ws
-  child-word = omega (arith, g .edged .row, g .edged .high, g .won .routed .rows .room)
-
-  pub child-index : i * 3 + side < 4096
-  child-index = omega (arith, g .edged .row, g .edged .high, g .won .routed .rows .few)
-
   pub child-small : getD ws (i * 3 + side) 0 < mostRows
   child-small = omega (arith, before, g .edged .row, g .won .routed .rows .few)
 
@@ -85,9 +79,6 @@ module _ {ws counts wins : List ℕ} {m : ℕ} {s heads links numbers : List ℕ
 
   shown : Shown ws (rowCount ws) (tree ws)
   shown = g .won .routed .rows .shown
-
-  pub row-words : i * 3 + 3 ≤ length ws
-  row-words = omega (arith, g .won .routed .rows .room)
 
   pub keep-leaf : {r : Formed} {s′ heads′ links′ : List ℕ} → getD ws (i * 3) 0 ≡ leafMark
       → Formation (leaf (getD ws (i * 3 + 1) 0)) (add (leaf (getD ws (i * 3 + 1) 0)) (diagramsOf s count)) r s′ heads′ links′

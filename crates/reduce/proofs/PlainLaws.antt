@@ -173,12 +173,6 @@ module _ {ar ws used : List ℕ} {n : ℕ} (g : Markable ar ws used n) where
   pub root-word : (n - 1) * 3 + 3 ≤ length ws
   root-word = omega (arith, g .whole, valid .some, valid .whole)
 
-  pub root-few : n ≤ 1024
-  root-few = omega (arith, g .whole, valid .few)
-
-  pub marks-long : termEnd ≤ length used
-  marks-long = omega (arith, g .marks .whole)
-
   root-is : tree ws (n - 1) ≡ d
   root-is = let e : n - 1 ≡ pred (rowCount ws) = omega (arith, g .whole, valid .some) in ap (tree ws) e ∙ sym (diagram-is ar ws valid)
 

@@ -98,9 +98,6 @@ module _ {ws leaves : List ℕ} {n m : ℕ} (l : Leaves ws leaves n m) {best k :
   better-first e = rw (eq-eqb best m e)
 
   module _ (e : best ≡ m → ⊥) where
-    pub better-place : best < length leaves
-    better-place = omega (arith, l .places)
-
     best-leaf : getD leaves best 0 ≡ pathAt D best .end
     best-leaf = l .each best (omega arith)
 

@@ -205,9 +205,6 @@ label-raw ws r e = e
 
 module _ {ws counts facts leaves known wins : List ℕ} {n m base left best formed : ℕ} (g : Searching ws counts facts leaves known wins n m base left best formed)
     {count r k : ℕ} (st : Standing ws n m base count r k) where
-  pub visit-words : r * 3 + 3 ≤ length ws
-  visit-words = omega (arith, st .row, g .routed .rows .room)
-
   pub visit-few : r < 1024
   visit-few = omega (arith, st .row, g .routed .rows .few)
 
