@@ -24,10 +24,10 @@ use Rattle.session_laws.specs.OpeningLaws.{opening-good}
 use Rattle.session_laws.specs.FactLaws.{WholeRows}
 use Rattle.session_laws.specs.ReplyLaws.{reply-good}
 use Rattle.session_laws.specs.WholeLaws.{reply-whole}
-use Rattle.session_laws.specs.TextRuns.{RunOf}
+use Rattle.session_laws.specs.TextRuns.{RunOf, tooLarge}
 use Rattle.session_laws.specs.CountLaws.{opening-counted, reply-counted}
 use Rattle.session_laws.specs.LineAnswers.{IsValue}
-use Rattle.session_laws.specs.ValueLaws.{tooLarge, value-bellman, value-accepted}
+use Rattle.session_laws.specs.ValueLaws.{value-bellman, value-accepted}
 use Rattle.session_laws.specs.TextRunLaws.{run-of}
 
 -- what holds of a session from line to line: it is good, its facts are whole rows, and `rows` counts the rows of its model

@@ -6,8 +6,10 @@ use mathlib.Core.Option.{Option, some, none}
 use Prim.Native.Nat.{ℕ, suc, _+_}
 use lib.ListN.{length}
 use Rattle.refusal.specs.Outcome.{ok}
+use Rattle.diagram.specs.Listing.{listing}
 use Rattle.state.specs.State.{State, Good, meaning}
 use Rattle.state.specs.Highest.{highest}
+use Rattle.elimination.specs.Answer.{isTooLarge}
 use Rattle.mdp.specs.Bellman.{bellman}
 use Rattle.mdp.specs.Runs.{Call, aBackup, aCut, begin, run}
 use Rattle.text.specs.declared.Kind.{Kind}
@@ -18,7 +20,7 @@ use Rattle.answers.specs.declared.Answer.the-variants as A
 use Rattle.session.specs.declared.Part.the-variants.{Run}
 use Rattle.session.specs.Session.{Session, opening}
 use Rattle.session.specs.Modelling.{weighed}
-use Rattle.session.specs.Running.{withHeld}
+use Rattle.session.specs.Running.{withHeld, stateIn}
 use Rattle.session.specs.Replies.{Reply, silent, reply}
 use Rattle.session.specs.Texts.{afterLines, beginning}
 use Rattle.session_laws.specs.TextReplies.{replies}
@@ -82,6 +84,10 @@ acceptedBackups (s ∷ ls) [] = 0
 acceptedBackups (s ∷ ls) (y ∷ ys) = acceptedBackup (lineKind s) (y .answer) + acceptedBackups ls ys
 
 -- ===== The run =====
+
+-- both ways of working are too large for the value diagram in the state in hand (15; document 02, L6)
+abbrev pub tooLarge : Session → Bool
+tooLarge σ = isTooLarge (σ .model .arities) (stateIn (σ .model .arities) (σ .live)) [] (listing (σ .held .diagram))
 
 -- in every state the highest leaf of the value diagram is Mk
 pub record HoldsValues (σ : Session) : Type 0 where

@@ -1,6 +1,6 @@
 -- Demand 3 for one line: what an accepted (value) answers is Mk of the state in hand, k and S^k (document 01, section 'Backup').
 use mathlib.Core.Path.{_≡_, refl, sym, ap, _∙_, subst}
-use mathlib.Core.Bool.{Bool, true, false}
+use mathlib.Core.Bool.{true, false}
 use mathlib.Core.List.{List, [], _∷_}
 use Prim.Native.Nat.{ℕ, _^_, _≤_, _<_}
 use native.Mathlib.Omega.{arith}
@@ -14,7 +14,6 @@ use Rattle.state.specs.ValueLaws.{low-lt, low-ge, by-low}
 use Rattle.state.specs.Highest.{highest}
 use Rattle.state.specs.Lent.{stateOf}
 use Rattle.state.specs.ValueCall.{mostValuations, valuations}
-use Rattle.elimination.specs.Answer.{isTooLarge}
 use Rattle.elimination.specs.AnswerLaws.{few-not-large}
 use Rattle.refusal.specs.Outcome.{ok}
 use Rattle.refusal.specs.OutcomeLaws.{accepted-ok, accepted-cond}
@@ -31,7 +30,7 @@ use Rattle.session.specs.Session.{Session}
 use Rattle.session.specs.Running.{stateIn, valueRead}
 use Rattle.session.specs.Replies.{Reply, isPlaced, allowed, valueSays, done, placed, replyTo, wordsOf, reply}
 use Rattle.session.specs.Good.{GoodSession}
-use Rattle.session_laws.specs.TextRuns.{HoldsValues}
+use Rattle.session_laws.specs.TextRuns.{HoldsValues, tooLarge}
 use Rattle.session_laws.specs.PlaceLaws.{in-run, value-placed, value-allowed, placed-objects}
 use Rattle.session_laws.specs.LineAnswers.{Answered, quiet, valued, backed, cutting, showing, OneAnswer, blank, refusing, accepted, IsValue}
 use Rattle.session_laws.specs.AnswerLaws.{one-answer}
@@ -57,10 +56,6 @@ held-bellman σ g v some =
     v .each (stateIn ar l) (state-good ar (l .objects) (l .constants) (l .facts) (described ar (l .objects) (l .constants) (l .facts) (g .state some)))
 
 -- ===== The line =====
-
--- both ways of working are too large for its value diagram in the state in hand (15)
-abbrev pub tooLarge : Session → Bool
-tooLarge σ = isTooLarge (σ .model .arities) (stateIn (σ .model .arities) (σ .live)) [] (listing (σ .held .diagram))
 
 value-found : (σ : Session) (v : ℕ) → valueRead (σ .model .arities) (σ .live) (σ .held .diagram) ≡ ok v
     → v ≡ highest (stateIn (σ .model .arities) (σ .live)) [] (meaning (σ .model .arities) (σ .held .diagram))
