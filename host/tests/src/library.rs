@@ -313,18 +313,32 @@ fn check_cut(random: &mut Random, answers: &mut Answers) -> Result<(), String> {
     )
 }
 
-/// A number of objects: few valuations, which the reference goes through, or too many.
+/// A number of objects: few valuations, which the reference goes through, or so many that tables take their place, some of them with too many entries.
 fn objects(random: &mut Random, variables: u32) -> u64 {
-    let objects = *random.pick(&[0, 1, 2, 2, 3, 3, 4, 5, 7, 10, 100, 1_000, 1_001, VALUATIONS + 1, u64::MAX]);
+    let objects = match random.below(3) {
+        0 => *random.pick(&[VALUATIONS + 1, u64::MAX, 100, 1_000, 1_001, 8_192]),
+        1 => *random.pick(&[11, 16, 20, 32, 60, 64, 200, 500, 1_365, 2_046, 2_047, 2_048, 4_000]),
+        _ => *random.pick(&[0, 1, 2, 2, 3, 3, 4, 5, 7, 10]),
+    };
     match objects.checked_pow(variables) {
         Some(5_000..=VALUATIONS) if !random.once_in(100) => 2,
         _ => objects,
     }
 }
 
+/// Atoms of which half the time each has at most two places, so that tables may do.
+fn narrow_atoms(random: &mut Random, parameters: u64, variables: u64) -> Atoms {
+    let mut atoms = Atoms::random(random, parameters, variables);
+    if random.once_in(2) {
+        let most = random.between(1, 2);
+        atoms.arities[1..].iter_mut().for_each(|arity| *arity = (*arity).min(most));
+    }
+    atoms
+}
+
 fn check_value(random: &mut Random, answers: &mut Answers) -> Result<(), String> {
-    let (parameters, variables) = (u64::from(random.once_in(10)), random.between(1, 8));
-    let atoms = &Atoms::random(random, parameters, variables);
+    let (parameters, variables) = (u64::from(random.once_in(10)), random.between(1, if random.once_in(2) { 8 } else { 64 }));
+    let atoms = &narrow_atoms(random, parameters, variables);
     let arities = lent_arities(random, atoms);
     let (shape, leaves) = (Shape::any(random, 8), leaves(random));
     let words = listing(random, atoms, shape, &leaves);

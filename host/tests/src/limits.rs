@@ -5,7 +5,7 @@ use reference::terms::{LARGEST_ARITY, PARAMETERS, PLACES, VARIABLES};
 
 /// The lines of a text about one limit.
 pub fn lines(random: &mut Random) -> Vec<String> {
-    match random.below(12) {
+    match random.below(14) {
         0 => declarations(random),
         1 => variables(random),
         2 => brackets(random),
@@ -17,6 +17,8 @@ pub fn lines(random: &mut Random) -> Vec<String> {
         8 => pairs(random),
         9 => paths_of_weights(random),
         10 => freed(random),
+        11 => entries(random),
+        12 => related(random),
         _ => variants_apart(random),
     }
 }
@@ -122,6 +124,58 @@ fn valuations(random: &mut Random) -> Vec<String> {
     let mut lines = model(vec!["(predicate p 1)".to_string()], conjunction(variables));
     lines.extend([format!("(objects {objects})"), format!("(true p {})", objects - 1), "(value)".to_string()]);
     lines
+}
+
+/// Tests of p, each of a variable of its own, one below the other, with leaves that differ now and then and a form at the end. Over n objects a test has 2n + 1
+/// entries, and a leaf one.
+fn chain(random: &mut Random, variables: std::ops::Range<u64>, end: &str) -> String {
+    let leaves = random.between(1, 60);
+    variables.rev().fold(end.to_string(), |inner, v| match (random.below(leaves), random.once_in(3)) {
+        (leaf, true) => format!("(if (p ?x{v}) {leaf} {inner})"),
+        (leaf, false) => format!("(if (p ?x{v}) {inner} {leaf})"),
+    })
+}
+
+/// A form below tests of propositions, which have two entries each.
+fn below_propositions(count: u64, form: String) -> String {
+    (0..count).rev().fold(form, |inner, g| format!("(if (g{g}) {inner} {})", g % 2))
+}
+
+/// A model with this reward, valued in a state of so many objects, and once more with one object more.
+fn valued(random: &mut Random, propositions: u64, reward: &str, objects: u64) -> Vec<String> {
+    let predicates = numbered(propositions, |g| format!("(predicate g{g} 0)"));
+    let mut lines = model(predicates.chain(["(predicate p 1)", "(predicate r 2)"].map(str::to_string)).collect(), reward.to_string());
+    for objects in [objects, (objects + 1).min(64)] {
+        lines.extend([format!("(objects {objects})"), "(value)".to_string()]);
+        lines.extend(numbered(random.below(propositions + 1), |g| format!("(true g{g})")));
+        for _ in 0..random.below(20) {
+            let (first, second) = (random.below(objects), random.below(objects));
+            lines.push(if random.once_in(2) { format!("(true p {first})") } else { format!("(true r {first} {second})") });
+        }
+        lines.push("(value)".to_string());
+    }
+    lines
+}
+
+/// About 8,192 entries of tables by tests of one variable each: 64 objects have 8,127 in 63 tests. They stand in two chains, since brackets end at 64.
+fn entries(random: &mut Random) -> Vec<String> {
+    let (tests, propositions) = (random.between(62, VARIABLES), random.between(1, 8));
+    let (first, second) = (chain(random, 1..tests / 2, "70"), chain(random, tests / 2..tests, "71"));
+    let reward = below_propositions(propositions, format!("(if (p ?x0) {first} {second})"));
+    let objects = random.between(63, 64);
+    valued(random, propositions, &reward, objects)
+}
+
+/// About 8,192 entries by tests of a relation, a chain of them or some apart, below tests of one variable each.
+fn related(random: &mut Random) -> Vec<String> {
+    let (relations, tests, propositions) = (random.between(1, 6), random.between(3, 8), random.below(4));
+    let apart = random.between(1, 2);
+    let relation = |inner: String, i: u64| format!("(if (r ?y{} ?y{}) {inner} {})", apart * i, apart * i + 1, i % 3);
+    let end = (0..relations).rev().fold("70".to_string(), relation);
+    let reward = below_propositions(propositions, chain(random, 0..tests, &end));
+    let most = (1..=64).rev().find(|n| relations * (2 * n * n + n) + tests * (2 * n + 1) <= 8_192).unwrap_or(1);
+    let objects = random.between(most - 1, most);
+    valued(random, propositions, &reward, objects)
 }
 
 /// A backup whose variables, set apart, are about 64.
