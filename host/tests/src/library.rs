@@ -337,7 +337,8 @@ fn narrow_atoms(random: &mut Random, parameters: u64, variables: u64) -> Atoms {
 }
 
 fn check_value(random: &mut Random, answers: &mut Answers) -> Result<(), String> {
-    let (parameters, variables) = (u64::from(random.once_in(10)), random.between(1, if random.once_in(2) { 8 } else { 64 }));
+    let most = if random.once_in(2) { VARIABLES } else { 8 };
+    let (parameters, variables) = (u64::from(random.once_in(10)), random.between(1, most));
     let atoms = &narrow_atoms(random, parameters, variables);
     let arities = lent_arities(random, atoms);
     let (shape, leaves) = (Shape::any(random, 8), leaves(random));
