@@ -15,6 +15,9 @@ target/bench/cuts 2 2 2 0 <bench/logistics.rows
 # two of the long cuts of host/corpus/cut-long: no edge may go
 target/bench/cuts 2 <bench/chain.rows
 target/bench/cuts 2 <bench/ladder.rows
+# values of sixty objects, by tables
+rustc --edition 2021 -C opt-level=3 -o target/bench/tables bench/tables.rs -L target/staticlib -l static=c_library
+target/bench/tables
 # and, or beside BuDDy, where its header is there
 if echo '#include <bdd.h>' | cc -E - >target/bench/bdd.i 2>&1; then
     cc -O2 -Wall -Wextra -Iinclude -o target/bench/buddy bench/buddy.c target/staticlib/libc_library.a -lbdd
