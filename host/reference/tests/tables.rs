@@ -135,6 +135,15 @@ fn missing_variables_are_filled_in() {
     assert_eq!(by_tables(&rows, &state(2, &[(2, &[1, 1])])), Ok(Worked { value: 4, entries }));
 }
 
+/// An empty side's names are names of the union too: without a fact p(?y) has no true case, but its true row's table names ?x.
+#[test]
+fn an_empty_side_is_filled_in() {
+    let rows = [leaf(3), leaf(2), r([X, Y], 0, 1), leaf(1), p(Y, 2, 3), leaf(0), p(X, 4, 5)];
+    // 4 leaves; r(?x, ?y): 0 + 9, 9, all stay. p(?y): 0 + 3, 9 of two names, 3 of ?x. p(?x): 0 + 3, 3, 1.
+    let entries = 4 + (9 + 9) + (3 + 9 + 3) + (3 + 3 + 1);
+    assert_eq!(by_tables(&rows, &state(3, &[])), Ok(Worked { value: 0, entries }));
+}
+
 /// A row that two rows lead to is worked once, and keeps what either of them tests.
 #[test]
 fn a_shared_row() {
