@@ -1,0 +1,49 @@
+-- The diagram as a form (document 02, L2): what (text) prints, when it gives 19, and how a reward's variables are numbered; and that a form read again as a reward
+-- is the very diagram.
+--
+-- Definitions: the form
+--   Tables == the names of constants and predicates in bytes, in the order of their declaration
+--   variableName == the name of variable i: v and i in decimal
+--   termTree, atomTree, formTree == a term, a label, a diagram as a tree of forms; (= A B) with the smaller term first, shared rows written out each time
+--   formBytes, rewardOf == the bytes that (text) prints; the line (reward FORM)
+--   mostLineBytes, mostOpenBrackets == 4,095 bytes, 64 brackets
+--   termLength, termsLength, atomLength, formLength, openBrackets == bytes and brackets of a form, counted on the diagram
+--   isTooLong == 19: the reward line would pass 4,095 bytes or 64 open brackets
+--
+-- Definitions: variables by ascending N
+--   variableNames == the names of the variables among terms, as often as they are written
+--   numberOf, isNumbered, every == the N of a name; it is v and N without leading zeros, nothing else; every name is so
+--   inserted, sorted == numbers ascending, each once
+--   variablesFirst, rewardVariables == the variables that have their number before the words of a reward are read: all, by ascending N, where each is written in that
+--     way, else none; reading's pass takes them as the variables met so far
+--
+-- Definitions: the round trip
+--   Different, AreNames, Declared == no two names alike; each a name; tables as declarations leave them
+--   Covers == every constant and every predicate of a diagram is declared
+--   rewardNames, wordsRead == the names on a reward line under these tables; the words of the form as a reward line's
+--   readingOf == a diagram as it is written
+--   RoundTrip == the form's line is well formed and within its limits, its words are accepted, and the reward built from them is the very diagram, with its listing
+--
+-- Theorems
+--   form-length, form-brackets, reward-length: the counts on the diagram are those of the bytes and of the tree; not-too-long: where 19 is not given, the line is
+--     within its limits
+--   form-variables: by ascending N the variables of a closed diagram's form have their own numbers
+--   form-good: a form is a well-formed diagram by the grammar; form-resolved: resolved, it is the diagram row for row
+--   round-trip: for a value diagram (session `GoodValue`) under tables that declare what it names, where 19 is not given: RoundTrip
+--
+-- Missing for the request's whole sentence
+--   That building the reward is not refused: no 10, 11 or 9 at its row steps, no 9 for its result. `same-diagram` says what is built where it is accepted.
+--   That the model's rows have room for it (9), and that a reward may stand there (5): the session's own checks.
+--   That a session's tables are `Declared` and cover its value diagram: sessions keep keys of names, and no law says yet that they differ.
+--   The form (text) itself, its place in the session, the code, and the numbering in reading's own definitions and in its pass.
+
+-- definitions
+pub mod Form
+pub mod Numbering
+pub mod RoundTrip
+-- laws
+pub mod FormLaws
+pub mod NumberingLaws
+pub mod NameLaws
+pub mod WrittenLaws
+pub mod RoundTripLaws

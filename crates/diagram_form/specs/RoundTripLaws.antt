@@ -1,0 +1,149 @@
+-- A form that is read again as a reward is the very diagram, with the very listing (document 02, L2).
+use mathlib.Core.Path.{_≡_, refl, sym, ap, _∙_, subst}
+use mathlib.Core.Bool.{Bool, true, false}
+use mathlib.Core.List.{List, [], _∷_}
+use Prim.Native.Nat.{ℕ, _+_, _-_, _≤_, _<_}
+use native.Mathlib.Omega.{arith}
+use lib.ListN.{length}
+use borrow.Author.Tests.{le-leb}
+use Rattle.basics.specs.Tests.{Cmp, below, equal, above, cmp}
+use Rattle.refusal.specs.Outcome.{ok}
+use Rattle.label.specs.Limits.{firstParameter, firstVariable, variableCount}
+use Rattle.label.specs.Labels.{isLabel, predicateOf, unpacked, termsOf}
+use Rattle.diagram.specs.Diagram.{Diagram, leaf, branch, eval, relabel, Ordered, Reduced}
+use Rattle.diagram.specs.Listing.{listing}
+use Rattle.diagram.specs.Canonicity.{canonicity}
+use Rattle.diagram.specs.Variables.{occurs, variables, closed}
+use Rattle.rename.specs.Ascending as S
+use Rattle.rename.specs.Relabelling.{Labels, Terms}
+use Rattle.rename.specs.TermLaws.{each-terms, terms-each}
+use Rattle.rename.specs.VariableLaws.{occurs-terms, terms-each-occurs, fine-labels, variables-few}
+use Rattle.state.specs.State.{meaning, atomOf}
+use Rattle.state.specs.Terms as A
+use Rattle.regression.specs.Parameters.{Allowed}
+use Rattle.regression.specs.Step.{testDiagram}
+use Rattle.regression.specs.StepLaws.{ordered-test, from-stepped, reduced-stepped}
+use Rattle.events.specs.Events.{diagramEvents}
+use Rattle.reading.specs.Reading.{Written, reading, andThen}
+use Rattle.reading.specs.Reading.Judged.{fine}
+use Rattle.reading.specs.Tree.{Reading, opsOf, depth, diagramReading, writing}
+use Rattle.reading.specs.Tree.Reading.{number, branch as conditional}
+use Rattle.reading.specs.TreeLaws.{reading-diagram}
+use Rattle.build.specs.Build as B
+use Rattle.build.specs.Machine.{mostTests, builtClosed}
+use Rattle.build.specs.MachineLaws.{built-reward}
+use Rattle.build.specs.ReadingLaws.{diagramFor, eval-for, reward-held}
+use Rattle.session.specs.Good.{GoodValue}
+use Rattle.diagram_form.specs.Form.{Tables, formTree, openBrackets, isTooLong}
+use Rattle.diagram_form.specs.RoundTrip.{Declared, Covers, rewardNames, wordsRead, readingOf, RoundTrip}
+use Rattle.diagram_form.specs.FormLaws.{Within, form-brackets, not-too-long}
+use Rattle.diagram_form.specs.NumberingLaws.{variable-below, form-variables}
+use Rattle.diagram_form.specs.NameLaws.{firstKeys, keys-length}
+use Rattle.diagram_form.specs.WrittenLaws.{Known, Plain, form-good, form-resolved}
+
+-- ===== Every label of a value diagram can be written =====
+
+each-all : (P : ℕ → Type 0) (ts : List ℕ) → A.Each P ts → S.All P ts
+each-all P [] w = tt
+each-all P (t ∷ ts) w = (w .0, each-all P ts (w .1))
+
+within-terms : (ar : List ℕ) (P : ℕ → Type 0) (d : Diagram) → A.Terms P (meaning ar d) → Terms ar P d
+unfolding meaning relabel atomOf
+within-terms ar P (leaf v) w = tt
+within-terms ar P (branch l x y) w = (terms-each P ar l (each-all P (termsOf ar (unpacked l)) (w .0)), within-terms ar P x (w .1), within-terms ar P y (w .2))
+
+plain-labels : (ar : List ℕ) (n : Tables) (v : ℕ) (d : Diagram) → Labels (λ l. isLabel ar l ≡ true) d → Terms ar (Known n v) d
+    → Labels (λ l. predicateOf l ≤ length (n .predicates)) d → Labels (Plain ar n v) d
+plain-labels ar n v (leaf x) a b c = tt
+plain-labels ar n v (branch l t f) a b c = (
+  record { is-label = a .0; terms = each-terms (Known n v) ar l (b .0); predicate = c .0 },
+  plain-labels ar n v t (a .1) (b .1) (c .1),
+  plain-labels ar n v f (a .2) (b .2) (c .2),
+)
+
+-- ===== What is built from a diagram as it is written =====
+
+reading-means : (c : ℕ → Bool) (d : Diagram) → B.meaning c (readingOf d) ≡ eval c d
+unfolding readingOf eval
+reading-means c (leaf v) = refl
+reading-means c (branch l t f) = rw (reading-means c t, reading-means c f)
+
+ordered-for : (r : Reading) → Ordered (diagramFor r)
+unfolding diagramFor
+ordered-for (number v) = tt
+ordered-for (conditional t h f) = from-stepped 0 (testDiagram t) (diagramFor h) (diagramFor f) (ordered-test t) (ordered-for h) (ordered-for f)
+
+reduced-for : (r : Reading) → Reduced (diagramFor r)
+unfolding diagramFor
+reduced-for (number v) = tt
+reduced-for (conditional t h f) = reduced-stepped (testDiagram t) (diagramFor h) (diagramFor f)
+
+-- reading gives the only ordered reduced diagram that means what is written
+built-same : (d : Diagram) → Ordered d → Reduced d → diagramFor (readingOf d) ≡ d
+built-same d o r =
+    canonicity (diagramFor (readingOf d)) d (ordered-for (readingOf d)) (reduced-for (readingOf d)) o r (λ c. eval-for c (readingOf d) ∙ reading-means c d)
+
+reading-depth : (d : Diagram) → depth (readingOf d) ≤ openBrackets d
+unfolding readingOf openBrackets
+reading-depth (leaf v) = omega arith
+reading-depth (branch l t f) = omega (arith, reading-depth t, reading-depth f)
+
+-- ===== The round trip =====
+
+module _ (ar : List ℕ) (n : Tables) (d : Diagram) (value : GoodValue ar d) (declared : Declared n) (covers : Covers ar n d) where
+  known : (t : ℕ) → occurs ar t d ≡ true → Known n (length (variables ar d)) t
+  known t o = record {
+    constants = λ h. constant h (cmp t firstParameter);
+    variables = λ h. variable (t - firstVariable) (omega arith);
+  }
+    where
+      constant : t < firstVariable → Cmp t firstParameter → t < length (n .constants)
+      constant h (below x) = occurs-terms ar _ d t (covers .constants) o x
+      constant h (equal x) = let z = occurs-terms ar (Allowed 0) d t (within-terms ar (Allowed 0) d (value .within .terms)) o (omega arith) in absurd (omega arith)
+      constant h (above x) = let z = occurs-terms ar (Allowed 0) d t (within-terms ar (Allowed 0) d (value .within .terms)) o (omega arith) in absurd (omega arith)
+
+      variable : (i : ℕ) → t ≡ firstVariable + i → t < firstVariable + length (variables ar d)
+      variable i e =
+          let b = variable-below ar d (value .listed) (value .is-closed) i (subst (λ (u : ℕ). occurs ar u d ≡ true) e o) in
+          omega arith
+
+  pub plain : Labels (Plain ar n (length (variables ar d))) d
+  plain =
+      plain-labels ar n (length (variables ar d)) d (fine-labels ar d (value .listed .fine))
+      (terms-each-occurs ar (Known n (length (variables ar d))) d known) (covers .predicates)
+
+  few : length (variables ar d) ≤ variableCount
+  few = variables-few ar d
+
+  read : Written
+  read = record { variables = firstKeys (length (variables ar d)); operations = opsOf (readingOf d) }
+
+  words-read : wordsRead ar n d ≡ fine read
+  unfolding diagramReading read
+  words-read =
+      ap (reading (rewardNames ar n) (diagramEvents (formTree ar n d))) (form-variables ar d (value .listed) (value .is-closed) n)
+      ∙ reading-diagram (rewardNames ar n) (formTree ar n d) (firstKeys (length (variables ar d)))
+      ∙ ap (λ r. andThen r writing) (form-resolved ar n (length (variables ar d)) (value .listed .arities) declared few d plain (value .listed .fine))
+      ∙ rw (le-leb (length (firstKeys (length (variables ar d)))) variableCount (omega (arith, few, keys-length (length (variables ar d)))))
+
+  pub round-trip : isTooLong ar n d ≡ false → RoundTrip ar n d
+  unfolding read
+  round-trip e = record {
+    well-formed =
+        (form-good ar n (length (variables ar d)) (value .listed .arities) declared few d plain, within .brackets, within .bytes);
+    words = read;
+    accepted = words-read;
+    operations = refl;
+    same-diagram = same;
+    same-listing = λ r h. ap listing (same r h);
+  }
+    where
+      within : Within ar n d
+      within = not-too-long ar n d e
+
+      same : (r : Diagram) → builtClosed ar (opsOf (readingOf d)) ≡ ok r → r ≡ d
+      same r h =
+          let shallow : depth (readingOf d) ≤ mostTests = omega (arith, reading-depth d, form-brackets ar n d, within .brackets) in
+          reward-held ar (readingOf d) .given r (sym (built-reward ar (readingOf d) shallow) ∙ h) .is
+          ∙ ap (closed ar) (built-same d (value .listed .ordered) (value .listed .reduced))
+          ∙ value .is-closed
