@@ -1,6 +1,6 @@
 -- The count of a form's bytes and brackets is that of its bytes and of its tree.
-use mathlib.Core.Path.{_≡_, refl}
-use mathlib.Core.Bool.{Bool, true, false, cond}
+use mathlib.Core.Path.{_≡_, refl, sym, ap₂}
+use mathlib.Core.Bool.{Bool, true, false, cond, _||_}
 use mathlib.Core.List.{List, [], _∷_, _++_, map}
 use Prim.Native.Nat.{ℕ, _+_, _-_, _≤_}
 use native.Mathlib.Omega.{arith}
@@ -96,6 +96,14 @@ form-brackets ar n (branch l t f) = rw (form-brackets ar n t, form-brackets ar n
 -- so for the reward line: its own bytes and its own bracket counted
 pub reward-length : (ar : List ℕ) (n : Tables) (d : Diagram) → length (L.lineBytes (rewardOf ar n d)) ≡ 9 + formLength ar n d
 reward-length ar n d = omega (arith, length-append (formBytes ar n d) (41 ∷ []), form-length ar n d)
+
+-- 19 is given exactly where the line's bytes or brackets pass their limits
+pub too-long : (ar : List ℕ) (n : Tables) (d : Diagram)
+    → isTooLong ar n d ≡ (ltb mostLineBytes (length (L.lineBytes (rewardOf ar n d))) || ltb mostOpenBrackets (L.openBrackets K.Reward (formTree ar n d)))
+unfolding isTooLong
+too-long ar n d =
+    let b : L.openBrackets K.Reward (formTree ar n d) ≡ 1 + openBrackets d = omega (arith, form-brackets ar n d) in
+    ap₂ (λ (x y : ℕ). ltb mostLineBytes x || ltb mostOpenBrackets y) (sym (reward-length ar n d)) (sym b)
 
 -- where 19 is not given, the line is within its limits
 pub record Within (ar : List ℕ) (n : Tables) (d : Diagram) : Type 0 where

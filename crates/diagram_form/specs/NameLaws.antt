@@ -64,7 +64,7 @@ pub variable-is-name : (i : ℕ) → i < variableCount → IsName (variableName 
 unfolding variableName isLetter run isNameByte isDigit
 variable-is-name i h = (refl, ap suc (run-names (digits i) (digits-number i .1)), omega (arith, few-digits i h))
 
-variable-one : (i j : ℕ) → variableName i ≡ variableName j → i ≡ j
+pub variable-one : (i j : ℕ) → variableName i ≡ variableName j → i ≡ j
 unfolding variableName
 variable-one i j e =
     let q : digits i ≡ digits j = cc in

@@ -16,7 +16,7 @@ use Rattle.label.specs.LabelLaws.{term-below}
 use Rattle.diagram.specs.Diagram.{Diagram, leaf, branch}
 use Rattle.diagram.specs.Listing.{Good}
 use Rattle.diagram.specs.Variables.{occurs, variables, closed}
-use Rattle.diagram.specs.WordLaws.{equal-lists}
+use Rattle.diagram.specs.WordLaws.{equal-lists, lists-equal}
 use Rattle.rename.specs.Ascending.{Ascending, consecutive}
 use Rattle.rename.specs.AscendingLaws.{ascending-one, consecutive-ascending, in-consecutive, consecutive-in}
 use Rattle.rename.specs.ClosingLaws.{closed-variables}
@@ -43,7 +43,7 @@ inserted-ascending n x (y ∷ ys) h a = go (cmp x y) (λ l. inserted-ascending (
     go (equal e) ih = rw (le-ltb x y (omega arith), eq-eqb x y e) a
     go (above g) ih = rw (le-ltb x y (omega arith), ne-eqb x y (λ (e : x ≡ y). omega arith)) (a .0, ih (omega arith))
 
-sorted-ascending : (xs : List ℕ) → Ascending 0 (sorted xs)
+pub sorted-ascending : (xs : List ℕ) → Ascending 0 (sorted xs)
 unfolding sorted
 sorted-ascending [] = tt
 sorted-ascending (x ∷ xs) = inserted-ascending 0 x (sorted xs) (omega arith) (sorted-ascending xs)
@@ -69,7 +69,7 @@ mem-inserted u x (y ∷ ys) = go (cmp x y) (mem-inserted u x ys)
     go (equal e) ih = rw (le-ltb x y (omega arith), eq-eqb x y e, e) (or-twice (eqb u y) (mem eqb u ys))
     go (above g) ih = rw (le-ltb x y (omega arith), ne-eqb x y (λ (e : x ≡ y). omega arith), ih) (or-swap (eqb u y) (eqb u x) (mem eqb u ys))
 
-mem-sorted : (u : ℕ) (xs : List ℕ) → mem eqb u (sorted xs) ≡ mem eqb u xs
+pub mem-sorted : (u : ℕ) (xs : List ℕ) → mem eqb u (sorted xs) ≡ mem eqb u xs
 unfolding sorted
 mem-sorted u [] = refl
 mem-sorted u (x ∷ xs) = mem-inserted u x (sorted xs) ∙ ap (λ (b : Bool). eqb u x || b) (mem-sorted u xs)
@@ -80,9 +80,14 @@ number-of : (i : ℕ) → numberOf (variableName i) ≡ i
 unfolding numberOf variableName
 number-of i = digits-read i
 
-is-numbered : (i : ℕ) → isNumbered (variableName i) ≡ true
+pub is-numbered : (i : ℕ) → isNumbered (variableName i) ≡ true
 unfolding isNumbered
 is-numbered i = rw (number-of i) (equal-lists (variableName i))
+
+-- a name is written in that way exactly if it is v and some N in decimal
+pub numbered-exact : (n : List ℕ) → isNumbered n ≡ true → n ≡ variableName (numberOf n)
+unfolding isNumbered
+numbered-exact n e = lists-equal n (variableName (numberOf n)) e
 
 every-numbered : (xs : List ℕ) → every isNumbered (map variableName xs) ≡ true
 every-numbered [] = refl

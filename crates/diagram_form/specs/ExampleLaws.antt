@@ -1,0 +1,49 @@
+-- Cases of document 02, L2, on the definitions: which names are written in that way, and what is printed.
+use mathlib.Core.Path.{_≡_, refl}
+use mathlib.Core.Bool.{true, false}
+use mathlib.Core.List.{List, [], _∷_}
+use Prim.Native.Nat.{ℕ}
+use Rattle.label.specs.Labels.{predicateOf, placeAt, unpacked, termsOf}
+use Rattle.diagram.specs.Diagram.{Diagram, leaf, branch}
+use Rattle.words.specs.Bytes.{decimal, decimalFrom}
+use Rattle.words.specs.Keys.{keyOf}
+use Rattle.forms.specs.Tree as T
+use Rattle.forms.specs.Tree.Mark.{variable}
+use Rattle.forms.specs.Tree.Term.{term}
+use Rattle.forms.specs.Tree.Atom.{holds}
+use Rattle.forms.specs.Tree.Diagram.{number as numeral, branch as conditional}
+use Rattle.answers.specs.Digits.{digits, digitsWithin}
+use Rattle.diagram_form.specs.Form.{Tables, variableName, termTree, atomTree, formTree, formBytes}
+use Rattle.diagram_form.specs.Numbering.{variableNames, numberOf, isNumbered, inserted, sorted, variablesFirst, rewardVariables}
+
+-- v0 and v10 are written in that way; v00, v01, v, v1a and w0 are not
+pub names-written : (isNumbered (118 ∷ 48 ∷ []) ≡ true) × (isNumbered (118 ∷ 49 ∷ 48 ∷ []) ≡ true)
+    × (isNumbered (118 ∷ 48 ∷ 48 ∷ []) ≡ false) × (isNumbered (118 ∷ 48 ∷ 49 ∷ []) ≡ false) × (isNumbered (118 ∷ []) ≡ false)
+    × (isNumbered (118 ∷ 49 ∷ 97 ∷ []) ≡ false) × (isNumbered (119 ∷ 48 ∷ []) ≡ false)
+unfolding isNumbered numberOf variableName decimal decimalFrom digits digitsWithin
+names-written = (refl, refl, refl, refl, refl, refl, refl)
+
+-- (if (q ?a) (if (p ?b ?a) 5 0) 0)
+abbrev pub example : List ℕ → List ℕ → T.Diagram
+example a b =
+    conditional (holds (113 ∷ []) (term variable a ∷ []))
+    (conditional (holds (112 ∷ []) (term variable b ∷ term variable a ∷ [])) (numeral (53 ∷ [])) (numeral (48 ∷ [])))
+    (numeral (48 ∷ []))
+
+-- written with ?v7 and ?v3, ?v3 comes first; with ?v07 for ?v7, first occurrence is back
+pub variables-written : (rewardVariables (example (118 ∷ 55 ∷ []) (118 ∷ 51 ∷ [])) ≡ keyOf (118 ∷ 51 ∷ []) ∷ keyOf (118 ∷ 55 ∷ []) ∷ [])
+    × (rewardVariables (example (118 ∷ 48 ∷ 55 ∷ []) (118 ∷ 51 ∷ [])) ≡ [])
+unfolding rewardVariables variableNames variablesFirst isNumbered numberOf variableName sorted inserted decimal decimalFrom digits digitsWithin
+variables-written = (refl, refl)
+
+-- the constant hub and the predicate stock of the run in document 01
+abbrev pub tables : Tables
+tables = record { constants = (104 ∷ 117 ∷ 98 ∷ []) ∷ []; predicates = (115 ∷ 116 ∷ 111 ∷ 99 ∷ 107 ∷ []) ∷ [] }
+
+-- (if (stock hub) 10 (if (stock ?v1) 5 0)) and (if (= hub ?v0) 1 0)
+pub forms-printed : (formBytes (2 ∷ 1 ∷ []) tables (branch 281474976710656 (leaf 10) (branch 352943232516096 (leaf 5) (leaf 0)))
+    ≡ 40 ∷ 105 ∷ 102 ∷ 32 ∷ 40 ∷ 115 ∷ 116 ∷ 111 ∷ 99 ∷ 107 ∷ 32 ∷ 104 ∷ 117 ∷ 98 ∷ 41 ∷ 32 ∷ 49 ∷ 48 ∷ 32 ∷ 40 ∷ 105 ∷ 102 ∷ 32 ∷ 40 ∷ 115 ∷ 116 ∷ 111 ∷ 99 ∷
+    107 ∷ 32 ∷ 63 ∷ 118 ∷ 49 ∷ 41 ∷ 32 ∷ 53 ∷ 32 ∷ 48 ∷ 41 ∷ 41 ∷ [])
+    × (formBytes (2 ∷ 1 ∷ []) tables (branch 274877906944 (leaf 1) (leaf 0)) ≡ 40 ∷ 105 ∷ 102 ∷ 32 ∷ 40 ∷ 61 ∷ 32 ∷ 104 ∷ 117 ∷ 98 ∷ 32 ∷ 63 ∷ 118 ∷ 48 ∷ 41 ∷ 32 ∷ 49 ∷ 32 ∷ 48 ∷ 41 ∷ [])
+unfolding formTree atomTree termTree variableName predicateOf placeAt unpacked termsOf digits digitsWithin
+forms-printed = (refl, refl)
