@@ -4,7 +4,8 @@ use mathlib.Core.Path.{_≡_}
 use mathlib.Core.List.{List, [], map}
 use Prim.Native.Nat.{ℕ, _≤_, _<_}
 use lib.ListN.{length, getD}
-use Rattle.refusal.specs.Outcome.{ok}
+use Rattle.refusal.specs.declared.Refusal.the-variants.{Value}
+use Rattle.refusal.specs.Outcome.{ok, refused}
 use Rattle.label.specs.Limits.{firstParameter}
 use Rattle.label.specs.Labels.{predicateOf}
 use Rattle.diagram.specs.Diagram.{Diagram, leaf, branch}
@@ -67,3 +68,5 @@ pub record RoundTrip (ar : List ℕ) (n : Tables) (d : Diagram) : Type 0 where
   -- where a reward is built from them and closed up, it is the very diagram, with the very listing
   pub same-diagram : (r : Diagram) → builtClosed ar (words .operations) ≡ ok r → r ≡ d
   pub same-listing : (r : Diagram) → builtClosed ar (words .operations) ≡ ok r → listing r ≡ listing d
+  -- it is never refused for a value: no 11
+  pub no-value : builtClosed ar (words .operations) ≡ refused Value → ⊥

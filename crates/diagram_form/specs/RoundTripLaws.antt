@@ -21,13 +21,10 @@ use Rattle.rename.specs.VariableLaws.{occurs-terms, terms-each-occurs, fine-lab
 use Rattle.state.specs.State.{meaning, atomOf}
 use Rattle.state.specs.Terms as A
 use Rattle.regression.specs.Parameters.{Allowed}
-use Rattle.regression.specs.Step.{testDiagram}
-use Rattle.regression.specs.StepLaws.{ordered-test, from-stepped, reduced-stepped}
 use Rattle.events.specs.Events.{diagramEvents}
 use Rattle.reading.specs.Reading.{Written, reading, andThen}
 use Rattle.reading.specs.Reading.Judged.{fine}
-use Rattle.reading.specs.Tree.{Reading, opsOf, depth, diagramReading, writing}
-use Rattle.reading.specs.Tree.Reading.{number, branch as conditional}
+use Rattle.reading.specs.Tree.{opsOf, depth, diagramReading, writing}
 use Rattle.reading.specs.TreeLaws.{reading-diagram}
 use Rattle.build.specs.Build as B
 use Rattle.build.specs.Machine.{mostTests, builtClosed}
@@ -37,6 +34,7 @@ use Rattle.session.specs.Good.{GoodValue}
 use Rattle.diagram_form.specs.Form.{Tables, formTree, openBrackets, isTooLong}
 use Rattle.diagram_form.specs.RoundTrip.{Declared, Covers, rewardNames, wordsRead, readingOf, RoundTrip}
 use Rattle.diagram_form.specs.FormLaws.{Within, form-brackets, not-too-long}
+use Rattle.diagram_form.specs.BuildLaws.{ordered-for, reduced-for, form-no-value}
 use Rattle.diagram_form.specs.NumberingLaws.{variable-below, form-variables}
 use Rattle.diagram_form.specs.NameLaws.{firstKeys, keys-length}
 use Rattle.diagram_form.specs.WrittenLaws.{Known, Plain, form-good, form-resolved}
@@ -67,16 +65,6 @@ reading-means : (c : ℕ → Bool) (d : Diagram) → B.meaning c (readingOf d) �
 unfolding readingOf eval
 reading-means c (leaf v) = refl
 reading-means c (branch l t f) = rw (reading-means c t, reading-means c f)
-
-ordered-for : (r : Reading) → Ordered (diagramFor r)
-unfolding diagramFor
-ordered-for (number v) = tt
-ordered-for (conditional t h f) = from-stepped 0 (testDiagram t) (diagramFor h) (diagramFor f) (ordered-test t) (ordered-for h) (ordered-for f)
-
-reduced-for : (r : Reading) → Reduced (diagramFor r)
-unfolding diagramFor
-reduced-for (number v) = tt
-reduced-for (conditional t h f) = reduced-stepped (testDiagram t) (diagramFor h) (diagramFor f)
 
 -- reading gives the only ordered reduced diagram that means what is written
 built-same : (d : Diagram) → Ordered d → Reduced d → diagramFor (readingOf d) ≡ d
@@ -136,14 +124,17 @@ module _ (ar : List ℕ) (n : Tables) (d : Diagram) (value : GoodValue ar d) (de
     operations = refl;
     same-diagram = same;
     same-listing = λ r h. ap listing (same r h);
+    no-value = form-no-value ar d (value .listed .fine) shallow;
   }
     where
       within : Within ar n d
       within = not-too-long ar n d e
 
+      shallow : depth (readingOf d) ≤ mostTests
+      shallow = omega (arith, reading-depth d, form-brackets ar n d, within .brackets)
+
       same : (r : Diagram) → builtClosed ar (opsOf (readingOf d)) ≡ ok r → r ≡ d
       same r h =
-          let shallow : depth (readingOf d) ≤ mostTests = omega (arith, reading-depth d, form-brackets ar n d, within .brackets) in
           reward-held ar (readingOf d) .given r (sym (built-reward ar (readingOf d) shallow) ∙ h) .is
           ∙ ap (closed ar) (built-same d (value .listed .ordered) (value .listed .reduced))
           ∙ value .is-closed
