@@ -1,16 +1,14 @@
 -- The name of a name's key is the name, so a session's tables have the names as declared.
 use mathlib.Core.Path.{_≡_, refl, sym, ap, ap₂, _∙_}
-use mathlib.Core.Bool.{cond}
 use mathlib.Core.List.{List, [], _∷_, _++_, map}
-use Prim.Native.Nat.{ℕ, zero, suc, _+_, _*_, _/_, _%_, _≤_, _<_}
+use Prim.Native.Nat.{ℕ, zero, suc, _+_, _*_, _/_, _%_}
 use native.Mathlib.Omega.{arith}
-use lib.ListN.{length, getD, take, drop, length-drop, take-append-drop}
+use lib.ListN.{take, drop, length-drop, take-append-drop}
 use lib.Seq.{take-all}
 use borrow.Author.Tests.{ne-eqb}
 use Rattle.words.specs.Words.{IsName}
 use Rattle.words.specs.Keys.{little, keyOf}
 use Rattle.words.specs.KeyLaws.{Bytewise, name-bytes}
-use Rattle.words.specs.declared.Key.{Key}
 use Rattle.session.specs.Session.{Names}
 use Rattle.diagram_form.specs.Form.{Tables}
 use Rattle.diagram_form.specs.RoundTrip.{AreNames, Declared}
