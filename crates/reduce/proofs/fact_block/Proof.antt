@@ -1,4 +1,5 @@
 use lib.Dec.{lit≤}
+use Rattle.label.specs.Limits.{termEnd}
 use Rattle.reduce.proofs.BlockLaws.{block-terms, block-done}
 use borrow.Author.Needs.{needs}
 use Rattle.reduce.proofs.fact_block.Statement.{statement}
@@ -10,7 +11,7 @@ fact-rows-requires c κs =
     let objects-into = c .before .before .before .before .before .before .before .objects-into in
     let past-12 = c .before .before .before .before .before .before .before .before .before .before .before .before in
     let entry = past-12 .before .pre in
-    (entry .labelled, (block-terms (entry) 64 (objects-into .ensures) (object-map .ensures) (object-map .kept .1 .1 .0) (lit≤ tt), entry .room))
+    (entry .labelled, (block-terms (entry) termEnd (objects-into .ensures) (object-map .ensures) (object-map .kept .1 .1 .0) (lit≤ tt), entry .room))
 
 returns : tie.Need-returns
 returns c =
@@ -19,7 +20,7 @@ returns c =
     let objects-into = c .before .before .before .before .before .before .before .before .before .before .objects-into in
     let past-12 = c .before .before .before .before .before .before .before .before .before .before .before .before in
     let entry = past-12 .before .before .before .before .pre in
-    block-done (entry) 64 (objects-into .ensures) (object-map .ensures) (fact-rows .ensures)
+    block-done (entry) termEnd (objects-into .ensures) (object-map .ensures) (fact-rows .ensures)
 
 pub fact-block-spec : {M : Type 1} → statement M
 fact-block-spec =
