@@ -26,6 +26,10 @@ use Rattle.refusal.specs.declared.Refusal.the-variants.{
   Nothing as NothingToCut,
   Paths,
   Buffer,
+  Length,
+  Kinds,
+  Runs,
+  Combinations,
 }
 use Rattle.refusal.specs.Numbers.{numberOf}
 use Rattle.label.specs.Limits.{leafMark}
@@ -65,6 +69,10 @@ number-word Valuations = omega arith
 number-word NothingToCut = omega arith
 number-word Paths = omega arith
 number-word Buffer = omega arith
+number-word Length = omega arith
+number-word Kinds = omega arith
+number-word Runs = omega arith
+number-word Combinations = omega arith
 
 -- a line of parts, each with its length at most
 four-short : (a b c d : List ℕ) → length (a ++ b ++ c ++ d) ≡ length a + length b + length c + length d

@@ -1,4 +1,4 @@
-// The refusals of document 01, by trade word.
+// The refusals of documents 01 and 02, by trade word.
 ghost use mathlib.Core.Path.{_≡_};
 ghost use Rattle.refusal.specs.Numbers.{numberOf};
 
@@ -21,6 +21,10 @@ pub enum Refusal {
     Nothing,
     Paths,
     Buffer,
+    Length,
+    Kinds,
+    Runs,
+    Combinations,
 }
 
 impl Refusal {
@@ -47,6 +51,10 @@ impl Refusal {
             Refusal::Nothing => 16,
             Refusal::Paths => 17,
             Refusal::Buffer => 18,
+            Refusal::Length => 19,
+            Refusal::Kinds => 26,
+            Refusal::Runs => 27,
+            Refusal::Combinations => 28,
         }
     }
 }
