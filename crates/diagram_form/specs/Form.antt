@@ -7,6 +7,8 @@ use lib.Dec.{eqb, ltb}
 use Rattle.label.specs.Limits.{firstVariable, equality}
 use Rattle.label.specs.Labels.{predicateOf, placeAt, unpacked, termsOf}
 use Rattle.diagram.specs.Diagram.{Diagram, leaf, branch}
+use Rattle.words.specs.Keys.{nameOf}
+use Rattle.words.specs.declared.Key.{Key}
 use Rattle.forms.specs.Tree as T
 use Rattle.forms.specs.Tree.Mark.{plain, variable}
 use Rattle.forms.specs.Tree.Term.{term}
@@ -21,6 +23,11 @@ use Rattle.answers.specs.Digits.{digits}
 pub record Tables : Type 0 where
   pub constants : List (List ℕ)
   pub predicates : List (List ℕ)
+
+-- the tables of the keys that a session keeps
+unfoldable pub tablesOf : List Key → List Key → Tables
+unfolding nameOf
+tablesOf cs ps = record { constants = map nameOf cs; predicates = map nameOf ps }
 
 -- ===== 'one nested form' =====
 

@@ -1,8 +1,7 @@
--- The diagram as a form (document 02, L2): what (text) prints, when it gives 19, and how a reward's variables are numbered; and that a form read again as a reward
--- is the very diagram.
+-- The diagram as a form (document 02, L2): what (text) prints, and when it gives 19.
 --
--- Definitions: the form
---   Tables == the names of constants and predicates in bytes, in the order of their declaration
+-- Definitions
+--   Tables, tablesOf == the names of constants and predicates in bytes, in the order of their declaration; from the keys that a session keeps
 --   variableName == the name of variable i: v and i in decimal
 --   termTree, atomTree, formTree == a term, a label, a diagram as a tree of forms; (= A B) with the smaller term first, shared rows written out each time
 --   formBytes, rewardOf == the bytes that (text) prints; the line (reward FORM)
@@ -10,52 +9,11 @@
 --   termLength, termsLength, atomLength, formLength, openBrackets == bytes and brackets of a form, counted on the diagram
 --   isTooLong == 19: the reward line would pass 4,095 bytes or 64 open brackets
 --
--- Definitions: variables by ascending N
---   variableNames == the names of the variables among terms, as often as they are written
---   numberOf, isNumbered, every == the N of a name; it is v and N without leading zeros, nothing else; every name is so
---   inserted, sorted == numbers ascending, each once
---   variablesFirst, rewardVariables == the variables that have their number before the words of a reward are read: all, by ascending N, where each is written in that
---     way, else none; reading's pass takes them as the variables met so far
---
--- Definitions: the round trip
---   Different, AreNames, Declared == no two names alike; each a name; tables as declarations leave them
---   Covers == every constant and every predicate of a diagram is declared
---   rewardNames, wordsRead == the names on a reward line under these tables; the words of the form as a reward line's
---   readingOf == a diagram as it is written
---   bytesWithin, nameOf, tablesOf, KeysOf == the name of a key; the tables of a session's keys; a session's keys are those of the names in a table
---   RoundTrip == the form's line is well formed and within its limits, its words are accepted, and the reward built from them is the very diagram, with its
---     listing; 11 is not met
---
 -- Theorems
 --   form-length, form-brackets, reward-length: the counts on the diagram are those of the bytes and of the tree; too-long: 19 is given exactly where the bytes or the
 --     brackets of the reward line pass their limits
---   numbered-exact: a name is written in that way only if it is v and its N in decimal; ascending-place: a variable's place is how many different N on the line are
---     below its own; form-variables: so the variables of a closed diagram's form have their own numbers
---   form-good: a form is a well-formed diagram by the grammar; form-resolved: resolved, it is the diagram row for row
---   reward-no-value: a reward that is read from words never meets 11 when it is built
---   round-trip: for a value diagram (session `GoodValue`) under tables that declare what it names, where 19 is not given: RoundTrip
---   tables-of: the names that a session's keys stand for are printed as declared; value-round-trip: the round trip of a session's value diagram after (start)
---   names-written, variables-written, forms-printed: cases of the request on the definitions
---
--- Missing for the request's whole sentence
---   That building the reward is not refused: no 10 or 9 at its row steps, no 9 for its result. `same-diagram` says what is built where it is accepted.
---   That the model's rows have room for it (9), and that a reward may stand there (5): the session's own checks.
---   That every session has names for its keys, each once (`KeysOf`, `Declared`), and that they cover its value diagram (`Covers`): no law of sessions says so yet.
---   The line (text) itself, its place in the session, the code, and the numbering in reading's own definitions and in its pass.
 
 -- definitions
 pub mod Form
-pub mod Numbering
-pub mod RoundTrip
-pub mod KeyNames
 -- laws
 pub mod FormLaws
-pub mod NumberingLaws
-pub mod NameLaws
-pub mod WrittenLaws
-pub mod BuildLaws
-pub mod RoundTripLaws
-pub mod KeyNameLaws
-pub mod SessionLaws
-pub mod PlaceLaws
-pub mod ExampleLaws

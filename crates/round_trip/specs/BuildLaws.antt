@@ -34,7 +34,7 @@ use Rattle.build.specs.Machine.{mostTests, builtClosed}
 use Rattle.build.specs.MachineLaws.{built-reward}
 use Rattle.build.specs.ReadingLaws.{diagramFor, EachAsked, EachValue, eval-for, labels-for}
 use Rattle.build.specs.RegularLaws.{fine-made}
-use Rattle.diagram_form.specs.RoundTrip.{readingOf}
+use Rattle.round_trip.specs.RoundTrip.{readingOf}
 
 -- ===== Ordered and reduced =====
 

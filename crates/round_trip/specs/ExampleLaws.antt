@@ -13,8 +13,8 @@ use Rattle.forms.specs.Tree.Term.{term}
 use Rattle.forms.specs.Tree.Atom.{holds}
 use Rattle.forms.specs.Tree.Diagram.{number as numeral, branch as conditional}
 use Rattle.answers.specs.Digits.{digits, digitsWithin}
 use Rattle.diagram_form.specs.Form.{Tables, variableName, termTree, atomTree, formTree, formBytes}
-use Rattle.diagram_form.specs.Numbering.{variableNames, numberOf, isNumbered, inserted, sorted, variablesFirst, rewardVariables}
+use Rattle.round_trip.specs.Numbering.{variableNames, numberOf, isNumbered, inserted, sorted, variablesFirst, rewardVariables}
 
 -- v0 and v10 are written in that way; v00, v01, v, v1a and w0 are not
 pub names-written : (isNumbered (118 ∷ 48 ∷ []) ≡ true) × (isNumbered (118 ∷ 49 ∷ 48 ∷ []) ≡ true)

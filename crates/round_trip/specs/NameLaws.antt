@@ -20,8 +20,8 @@ use Rattle.names.specs.Keys.{placeOf, isAmong}
 use Rattle.names.specs.KeyLaws.{same-refl, same-not}
 use Rattle.answers.specs.Digits.{digits}
 use Rattle.answers.specs.DigitLaws.{digits-one, digits-more, digits-read, digits-number}
 use Rattle.diagram_form.specs.Form.{variableName}
-use Rattle.diagram_form.specs.RoundTrip.{Different, AreNames}
+use Rattle.round_trip.specs.RoundTrip.{Different, AreNames}
 
 pub place-name : (ns : List (List ℕ)) → AreNames ns → Different ns → (i : ℕ) → i < length ns → placeOf (keyOf (getD ns i [])) (map keyOf ns) ≡ i
 unfolding placeOf

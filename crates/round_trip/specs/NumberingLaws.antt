@@ -28,8 +28,8 @@ use Rattle.forms.specs.Tree.Term.{term}
 use Rattle.forms.specs.Tree.Atom.{equal as equality-of, holds}
 use Rattle.answers.specs.DigitLaws.{digits-read}
 use Rattle.line_trees.specs.TreeReading.{atomTerms, diagramTerms}
 use Rattle.diagram_form.specs.Form.{Tables, variableName, termTree, atomTree, formTree}
-use Rattle.diagram_form.specs.Numbering.{variableNames, numberOf, isNumbered, every, inserted, sorted, variablesFirst, rewardVariables}
+use Rattle.round_trip.specs.Numbering.{variableNames, numberOf, isNumbered, every, inserted, sorted, variablesFirst, rewardVariables}
 
 -- ===== Sorted =====
 

@@ -17,11 +17,11 @@ use Rattle.words.specs.Words.{IsName}
 use Rattle.words.specs.Keys.{keyOf}
 use Rattle.names.specs.Keys.{placeOf}
 use Rattle.forms.specs.Tree as T
 use Rattle.diagram_form.specs.Form.{variableName}
-use Rattle.diagram_form.specs.Numbering.{numberOf, isNumbered, every, sorted, variablesFirst}
-use Rattle.diagram_form.specs.RoundTrip.{Different, AreNames}
-use Rattle.diagram_form.specs.NumberingLaws.{sorted-ascending, mem-sorted, numbered-exact}
-use Rattle.diagram_form.specs.NameLaws.{variable-one, place-name}
+use Rattle.round_trip.specs.Numbering.{numberOf, isNumbered, every, sorted, variablesFirst}
+use Rattle.round_trip.specs.RoundTrip.{Different, AreNames}
+use Rattle.round_trip.specs.NumberingLaws.{sorted-ascending, mem-sorted, numbered-exact}
+use Rattle.round_trip.specs.NameLaws.{variable-one, place-name}
 
 getD-names : (xs : List ℕ) (i : ℕ) → i < length xs → getD (map variableName xs) i [] ≡ variableName (getD xs i 0)
 getD-names [] i h = absurd (omega arith)

@@ -22,8 +22,8 @@ use Rattle.reading.specs.Reading.Judged.{fine}
 use Rattle.reading.specs.Tree.{Reading, opsOf}
 use Rattle.reading.specs.Tree.Reading.{number, branch as conditional}
 use Rattle.build.specs.Machine.{builtClosed}
 use Rattle.diagram_form.specs.Form.{Tables, formTree, rewardOf}
-use Rattle.diagram_form.specs.Numbering.{rewardVariables}
+use Rattle.round_trip.specs.Numbering.{rewardVariables}
 
 -- no two names are alike
 abbrev pub Different : List (List ℕ) → Type 0

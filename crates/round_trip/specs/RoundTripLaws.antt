@@ -31,13 +31,13 @@ use Rattle.build.specs.Machine.{mostTests, builtClosed}
 use Rattle.build.specs.MachineLaws.{built-reward}
 use Rattle.build.specs.ReadingLaws.{diagramFor, eval-for, reward-held}
 use Rattle.session.specs.Good.{GoodValue}
 use Rattle.diagram_form.specs.Form.{Tables, formTree, openBrackets, isTooLong}
-use Rattle.diagram_form.specs.RoundTrip.{Declared, Covers, rewardNames, wordsRead, readingOf, RoundTrip}
+use Rattle.round_trip.specs.RoundTrip.{Declared, Covers, rewardNames, wordsRead, readingOf, RoundTrip}
 use Rattle.diagram_form.specs.FormLaws.{Within, form-brackets, not-too-long}
-use Rattle.diagram_form.specs.BuildLaws.{ordered-for, reduced-for, form-no-value}
-use Rattle.diagram_form.specs.NumberingLaws.{variable-below, form-variables}
-use Rattle.diagram_form.specs.NameLaws.{firstKeys, keys-length}
-use Rattle.diagram_form.specs.WrittenLaws.{Known, Plain, form-good, form-resolved}
+use Rattle.round_trip.specs.BuildLaws.{ordered-for, reduced-for, form-no-value}
+use Rattle.round_trip.specs.NumberingLaws.{variable-below, form-variables}
+use Rattle.round_trip.specs.NameLaws.{firstKeys, keys-length}
+use Rattle.round_trip.specs.WrittenLaws.{Known, Plain, form-good, form-resolved}
 
 -- ===== Every label of a value diagram can be written =====
 

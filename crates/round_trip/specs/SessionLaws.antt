@@ -8,15 +8,15 @@ use Rattle.session.specs.declared.Part.the-variants.{Run}
 use Rattle.session.specs.Session.{Session}
 use Rattle.session.specs.Modelling.{namesFor}
 use Rattle.session.specs.Good.{GoodSession}
-use Rattle.diagram_form.specs.Form.{Tables, isTooLong}
-use Rattle.diagram_form.specs.RoundTrip.{Declared, Covers, rewardNames, RoundTrip}
-use Rattle.diagram_form.specs.KeyNames.{tablesOf, KeysOf}
-use Rattle.diagram_form.specs.KeyNameLaws.{tables-of}
-use Rattle.diagram_form.specs.RoundTripLaws.{round-trip}
+use Rattle.diagram_form.specs.Form.{Tables, tablesOf, isTooLong}
+use Rattle.round_trip.specs.RoundTrip.{Declared, Covers, rewardNames, RoundTrip}
+use Rattle.round_trip.specs.KeyNames.{KeysOf}
+use Rattle.round_trip.specs.KeyNameLaws.{tables-of}
+use Rattle.round_trip.specs.RoundTripLaws.{round-trip}
 
 module _ (σ : Session) (n : Tables) (declared : Declared n) (keys : KeysOf n (σ .names)) where
   -- the names on a reward line of the session are those of its tables
-  pub reward-names : (ar : List ℕ) → rewardNames ar (tablesOf (σ .names)) ≡ namesFor (σ .names) ar Any []
+  pub reward-names : (ar : List ℕ) → rewardNames ar (tablesOf (σ .names .constants) (σ .names .predicates)) ≡ namesFor (σ .names) ar Any []
   reward-names ar = ap (rewardNames ar) (tables-of n (σ .names) declared keys) ∙ same
     where
       same : rewardNames ar n ≡ namesFor (σ .names) ar Any []
@@ -30,8 +30,8 @@ module _ (σ : Session) (n : Tables) (declared : Declared n) (keys : KeysOf n (�
 
   -- after (start), where 19 is not given
   pub value-round-trip : GoodSession σ → σ .part ≡ Run → Covers (σ .model .arities) n (σ .held .diagram)
-      → isTooLong (σ .model .arities) (tablesOf (σ .names)) (σ .held .diagram) ≡ false
-      → RoundTrip (σ .model .arities) (tablesOf (σ .names)) (σ .held .diagram)
+      → isTooLong (σ .model .arities) (tablesOf (σ .names .constants) (σ .names .predicates)) (σ .held .diagram) ≡ false
+      → RoundTrip (σ .model .arities) (tablesOf (σ .names .constants) (σ .names .predicates)) (σ .held .diagram)
   value-round-trip good run covers e =
       let is = tables-of n (σ .names) declared keys in
       subst (λ (m : Tables). RoundTrip (σ .model .arities) m (σ .held .diagram)) (sym is)

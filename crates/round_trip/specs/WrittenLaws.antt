@@ -36,10 +36,10 @@ use Rattle.reading.specs.Reading.{Names, constantNumber, met, numberIn, variabl
 use Rattle.reading.specs.Reading.Judged.{fine}
 use Rattle.reading.specs.Tree.{having, resolveTerm, resolveTerms, resolveAtom, resolveDiagram}
 use Rattle.line_trees.specs.VariableLaws.{number-exact}
 use Rattle.diagram_form.specs.Form.{Tables, variableName, termTree, atomTree, formTree}
-use Rattle.diagram_form.specs.RoundTrip.{Declared, rewardNames, readingOf}
-use Rattle.diagram_form.specs.NumberingLaws.{equality-terms}
-use Rattle.diagram_form.specs.NameLaws.{place-name, among-name, variable-is-name, firstNames, first-length, first-at, first-named, first-differ, firstKeys, keys-length}
+use Rattle.round_trip.specs.RoundTrip.{Declared, rewardNames, readingOf}
+use Rattle.round_trip.specs.NumberingLaws.{equality-terms}
+use Rattle.round_trip.specs.NameLaws.{place-name, among-name, variable-is-name, firstNames, first-length, first-at, first-named, first-differ, firstKeys, keys-length}
 
 -- a term that a form can write: a declared constant, or one of the first v variables
 pub record Known (n : Tables) (v t : ℕ) : Type 0 where

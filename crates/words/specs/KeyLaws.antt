@@ -1,14 +1,16 @@
--- No two names have the same key.
-use Prim.Native.Nat.{ℕ, zero, suc, _<_}
-use mathlib.Core.Path.{_≡_, refl, sym, _∙_}
+-- No two names have the same key, and the name of a name's key is that name.
+use Prim.Native.Nat.{ℕ, zero, suc, _+_, _*_, _/_, _%_, _<_}
+use mathlib.Core.Path.{_≡_, refl, sym, ap, ap₂, _∙_}
 use mathlib.Core.Bool.{true}
 use mathlib.Core.List.{List, [], _∷_, _++_}
 use native.Mathlib.Omega.{arith}
-use lib.ListN.{length, getD, take, drop, take-append-drop}
+use lib.ListN.{length, getD, take, drop, length-drop, take-append-drop}
+use lib.Seq.{take-all}
+use borrow.Author.Tests.{ne-eqb}
 use Rattle.words.specs.Bytes.{isNameByte}
 use Rattle.words.specs.ByteLaws.{run-at, name-range}
 use Rattle.words.specs.Words.{IsName}
-use Rattle.words.specs.Keys.{little, keyOf}
+use Rattle.words.specs.Keys.{little, keyOf, bytesWithin, nameOf}
 
 -- each byte is above 0 and below 256
 abbrev pub Bytewise : List ℕ → Type 0
@@ -57,3 +59,22 @@ name-bytes n g = bytes-run n (λ k l. run-at isNameByte n k (omega (arith, g .1)
 -- names with the same key are the same name
 pub name-key : (x y : List ℕ) → IsName x → IsName y → keyOf x ≡ keyOf y → x ≡ y
 name-key x y g h e = key-one x y (name-bytes x g) (name-bytes y h) e
+
+bytes-little : (left : ℕ) (s : List ℕ) → Bytewise s → bytesWithin left (little (take left s)) ≡ take left s
+unfolding bytesWithin little
+bytes-little zero [] p = refl
+bytes-little zero (b ∷ s) p = refl
+bytes-little (suc left) [] p = refl
+bytes-little (suc left) (b ∷ s) p =
+    let m : ℕ = little (take left s) in
+    let low : (b + m * 256) % 256 ≡ b = omega (arith, p .1) in
+    let high : (b + m * 256) / 256 ≡ m = omega (arith, p .1) in
+    rw (ne-eqb (b + m * 256) 0 (λ (e : b + m * 256 ≡ 0). absurd (omega (arith, p .0))), low, high) (ap (λ l. b ∷ l) (bytes-little left s (p .2)))
+
+pub name-of : (n : List ℕ) → IsName n → nameOf (keyOf n) ≡ n
+unfolding nameOf keyOf
+name-of n g =
+    let b = name-bytes n g in
+    let short : take 7 (drop 8 n) ≡ drop 8 n = take-all 7 (drop 8 n) (omega (arith, length-drop 8 n, g .2)) in
+    ap₂ (λ (x y : List ℕ). x ++ y) (bytes-little 8 n b) (ap (λ (s : List ℕ). bytesWithin 7 (little s)) (sym short) ∙ bytes-little 7 (drop 8 n) (bytes-drop 8 n b) ∙ short)
+    ∙ take-append-drop 8 n

@@ -10,12 +10,13 @@
 --   Took == so many bytes, or none (an enum of the code)
 --   nameForm, numberForm == the name, the number that the bytes begin with
 --   Key, little, keyOf == a name as two numbers: its first eight bytes and the others, the first byte lowest
+--   bytesWithin, nameOf == the bytes of a number; the name of a key
 --
 -- Theorems
 --   name-sound: what the reader of names takes is a name; name-complete: and it takes every name whole
 --   number-sound: so for numbers; number-complete
 --   value-exact: valueOf is the number, up to 10^18
---   name-key: no two names have the same key
+--   name-key: no two names have the same key; name-of: the name of a name's key is that name
 
 pub mod Bytes
 pub mod ByteLaws
