@@ -15,7 +15,7 @@ use Rattle.forms.specs.Tree.Term.{term}
 use Rattle.forms.specs.Tree.Atom.{equal, holds}
 use Rattle.forms.specs.Tree.Diagram.{number as numeral, branch as conditional}
 use Rattle.text.specs.declared.Kind.the-variants as K
-use Rattle.text.specs.Line.{Line}
+use Rattle.text.specs.Line.{mostLineBytes, mostOpenBrackets, Line}
 use Rattle.text.specs.Line.Line.{line}
 use Rattle.answers.specs.Digits.{digits}
 
@@ -62,12 +62,6 @@ abbrev pub rewardOf : List ℕ → Tables → Diagram → Line
 rewardOf ar n d = line K.Reward (formTree ar n d)
 
 -- ===== 'New numbers: 19, the reward line made of the form would pass 4,095 bytes or 64 open brackets' =====
-
-abbrev pub mostLineBytes : ℕ
-mostLineBytes = 4095
-
-abbrev pub mostOpenBrackets : ℕ
-mostOpenBrackets = 64
 
 -- how many bytes: ?v and the digits of a variable
 unfoldable pub termLength : Tables → ℕ → ℕ

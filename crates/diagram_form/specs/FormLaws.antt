@@ -18,8 +18,9 @@ use Rattle.forms.specs.Tree.Term.{term}
 use Rattle.forms.specs.Tree.Atom.{equal, holds}
 use Rattle.text.specs.declared.Kind.the-variants as K
 use Rattle.text.specs.Line as L
+use Rattle.text.specs.Line.{mostLineBytes, mostOpenBrackets}
 use Rattle.answers.specs.Digits.{digits}
-use Rattle.diagram_form.specs.Form.{Tables, variableName, termTree, atomTree, formTree, formBytes, rewardOf, mostLineBytes, mostOpenBrackets, termLength, termsLength, atomLength, formLength, openBrackets, isTooLong}
+use Rattle.diagram_form.specs.Form.{Tables, variableName, termTree, atomTree, formTree, formBytes, rewardOf, termLength, termsLength, atomLength, formLength, openBrackets, isTooLong}
 
 term-length : (n : Tables) (t : ℕ) → length (T.termBytes (termTree n t)) ≡ termLength n t
 unfolding termTree termLength variableName

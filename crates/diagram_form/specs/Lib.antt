@@ -5,7 +5,6 @@
 --   variableName == the name of variable i: v and i in decimal
 --   termTree, atomTree, formTree == a term, a label, a diagram as a tree of forms; (= A B) with the smaller term first, shared rows written out each time
 --   formBytes, rewardOf == the bytes that (text) prints; the line (reward FORM)
---   mostLineBytes, mostOpenBrackets == 4,095 bytes, 64 brackets
 --   termLength, termsLength, atomLength, formLength, openBrackets == bytes and brackets of a form, counted on the diagram
 --   isTooLong == 19: the reward line would pass 4,095 bytes or 64 open brackets
 --

@@ -11,7 +11,7 @@ use lib.ListN.{length, getD, drop, length-append, List·getD-append}
 use lib.Seq.{getD-append-seam, drop-append-seam, take-at}
 use borrow.Author.Tests.{ne-eqb, le-leb, lt-leb}
 use Rattle.words.specs.Bytes.{isLetter, isDigit, isNameByte}
-use Rattle.words.specs.ByteLaws.{run-append, run-at, digit-range, name-range}
+use Rattle.words.specs.ByteLaws.{run-append, run-at, name-range}
 use Rattle.words.specs.Keys.{keyOf}
 use Rattle.words.specs.Words.{IsName, IsNumber}
 use Rattle.words.specs.WordLaws.{name-pos, name-first, number-first}
@@ -21,7 +21,7 @@ use Rattle.forms.specs.Tree.Term.{term}
 use Rattle.forms.specs.Tree.Atom.{equal, holds}
 use Rattle.forms.specs.Tree.Diagram.{number, branch}
 use Rattle.forms.specs.Complete.{space-stops, close-stops, no-name-no-digit, if-assoc}
-use Rattle.text.specs.Line.{variableBytes, parameterBytes, wordBytes}
+use Rattle.text.specs.Line.{variableBytes, parameterBytes}
 use Rattle.events.specs.declared.Event.{Event}
 use Rattle.events.specs.declared.Event.the-variants.{Equal, Holds, Step}
 use Rattle.events.specs.Events.{nameEvent, variableEvent, parameterEvent, numberEvent, termEvent, atomEvents, diagramEvents}
@@ -165,9 +165,6 @@ Eventful {A} w G ev = (x : A) (q : List ℕ) → G x → isNameByte (getD q 0 0)
 pub variable-events : Eventful variableBytes IsName variableEvent
 variable-events n q g h k = variable-event n q g h k
 
-pub parameter-events : Eventful parameterBytes IsName parameterEvent
-parameter-events n q g h k = parameter-event n q g h k
-
 pub term-events : Eventful termBytes GoodTerm termEvent
 term-events (term plain n) q g h k = name-event n q g h k
 term-events (term variable n) q g h k = variable-event n q g h k
@@ -202,9 +199,6 @@ spaces-run p low (b ∷ n) q h =
 pub spaces-name : (n q : List ℕ) → IsName n → spaces (n ++ q) ≡ spaces q
 spaces-name n q g = spaces-run isNameByte (λ b e. name-range b e .0) n q (λ k l. run-at isNameByte n k (omega (arith, g .1)))
 
-pub spaces-number : (n q : List ℕ) → IsNumber n → spaces (n ++ q) ≡ spaces q
-spaces-number n q g = spaces-run isDigit (λ b e. digit-range b e .0) n q (λ k l. run-at isDigit n k (omega (arith, g .1)))
-
 -- words without a space or a closing bracket
 abbrev pub Quiet : {A : Type 0} → (A → List ℕ) → (A → Type 0) → Type 0
 Quiet {A} w G = (x : A) (q : List ℕ) → G x → spaces (w x ++ q) ≡ spaces q
@@ -217,9 +211,6 @@ pub parameter-quiet : Quiet parameterBytes IsName
 unfolding spaces spaceBit
 parameter-quiet n q g = zero-add (spaces (n ++ q)) ∙ spaces-name n q g
 
-pub number-quiet : Quiet wordBytes IsNumber
-number-quiet n q g = spaces-number n q g
-
 pub term-quiet : Quiet termBytes GoodTerm
 term-quiet (term plain n) q g = spaces-name n q g
 term-quiet (term variable n) q g = variable-quiet n q g
@@ -231,11 +222,6 @@ unfolding spaces spaceBit
 many-spaces w G d [] r g = refl
 many-spaces w G d (x ∷ xs) r g =
     rw one-add (ap suc (ap spaces (append-assoc (w x) (manyBytes w xs) (41 ∷ r)) ∙ d x (manyBytes w xs ++ 41 ∷ r) (g .0) ∙ many-spaces w G d xs r (g .1)))
-
--- a name and words behind it: the count of the words
-pub plain-spaces : {A : Type 0} (w : A → List ℕ) (G : A → Type 0) → Quiet w G → (p : List ℕ) (xs : List A) (r : List ℕ) → IsName p → All G xs
-    → spaces (p ++ (manyBytes w xs ++ 41 ∷ r)) ≡ length xs
-plain-spaces w G d p xs r g h = spaces-name p (manyBytes w xs ++ 41 ∷ r) g ∙ many-spaces w G d xs r h
 
 -- atoms
 

@@ -10,9 +10,12 @@ use Rattle.forms.specs.Tree.Mark.{plain, variable, parameter}
 use Rattle.forms.specs.Tree.Term.{term}
 use Rattle.forms.specs.Tree.Atom.{equal, holds}
 use Rattle.forms.specs.Tree.Diagram.{number, branch}
+use Rattle.forms.specs.declared.Sort.{Sort}
+use Rattle.forms.specs.declared.Sort.the-variants as S
 use Rattle.text.specs.declared.Kind.{Kind}
-use Rattle.text.specs.declared.Kind.the-variants.{Constant, Predicate, Total, Discount, Reward, Action, Variant, Becomes, Start, Objects, Is, True, Value, Backup, Cut, Show, Bad}
-use Rattle.text.specs.Line.{keyword, Words}
+use Rattle.text.specs.declared.Shape.{Shape}
+use Rattle.text.specs.declared.Shape.the-variants.{Nothing, One, Two, Listed, Drawn, Named, Headed, Never}
+use Rattle.text.specs.Line.{keyword, shapeOf, Item, ShapeWords, Words}
 use Rattle.events.specs.declared.Event.{Event}
 use Rattle.events.specs.declared.Event.the-variants.{Name, Variable, Parameter, Number, Equal, Holds, Step}
 
@@ -46,22 +49,25 @@ abbrev pub diagramEvents : Diagram → List Event
 diagramEvents (number n) = numberEvent n ∷ []
 diagramEvents (branch a d e) = atomEvents a ++ (diagramEvents d ++ (diagramEvents e ++ Step ∷ []))
 
--- the words behind the key word
+-- a word of a sort
+abbrev pub itemEvent : (k : Sort) → Item k → Event
+itemEvent S.Name = nameEvent
+itemEvent S.Variable = variableEvent
+itemEvent S.Parameter = parameterEvent
+itemEvent S.Any = termEvent
+itemEvent S.Number = numberEvent
+
+-- the words behind the key word, by their shape
+abbrev pub shapeEvents : (h : Shape) → ShapeWords h → List Event
+shapeEvents Nothing w = []
+shapeEvents (One k) x = itemEvent k x ∷ []
+shapeEvents (Two k l) w = itemEvent k (w .0) ∷ itemEvent l (w .1) ∷ []
+shapeEvents (Listed k) w = nameEvent (w .0) ∷ map (itemEvent k) (w .1)
+shapeEvents Drawn d = diagramEvents d
+shapeEvents Named w = nameEvent (w .0) ∷ diagramEvents (w .1)
+shapeEvents Headed w = Holds (keyOf (w .0)) (length (w .1)) ∷ (map variableEvent (w .1) ++ diagramEvents (w .2))
+shapeEvents Never w = []
+
+-- the same by the kind of line
 abbrev pub wordsEvents : (k : Kind) → Words k → List Event
-wordsEvents Constant n = nameEvent n ∷ []
-wordsEvents Predicate w = nameEvent (w .0) ∷ numberEvent (w .1) ∷ []
-wordsEvents Total n = numberEvent n ∷ []
-wordsEvents Discount w = numberEvent (w .0) ∷ numberEvent (w .1) ∷ []
-wordsEvents Reward d = diagramEvents d
-wordsEvents Action w = nameEvent (w .0) ∷ map parameterEvent (w .1)
-wordsEvents Variant w = nameEvent (w .0) ∷ diagramEvents (w .1)
-wordsEvents Becomes w = Holds (keyOf (w .0)) (length (w .1)) ∷ (map variableEvent (w .1) ++ diagramEvents (w .2))
-wordsEvents Start w = []
-wordsEvents Objects n = numberEvent n ∷ []
-wordsEvents Is w = nameEvent (w .0) ∷ numberEvent (w .1) ∷ []
-wordsEvents True w = nameEvent (w .0) ∷ map numberEvent (w .1)
-wordsEvents Value w = []
-wordsEvents Backup w = []
-wordsEvents Cut w = []
-wordsEvents Show w = []
-wordsEvents Bad w = []
+wordsEvents k w = shapeEvents (shapeOf k) w

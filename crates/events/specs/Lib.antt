@@ -4,7 +4,8 @@
 --   Event == a name, ?name, !name, a number, an equality, an atom with its count of terms; the step at the end of an if form; the end
 --   firstWord == the place of the first word behind the key word
 --   nameEvent, variableEvent, parameterEvent, numberEvent, termEvent, atomEvents == the words of terms and atoms
---   diagramEvents, wordsEvents == of a diagram: atom, part for true, part for false, step; of what stands behind a key word
+--   diagramEvents == of a diagram: atom, part for true, part for false, step
+--   itemEvent, shapeEvents, wordsEvents == of a word by its sort; of what stands behind a key word, by its shape and by its kind
 --
 -- Definitions: the words of bytes
 --   Seen, seen, pickSeen == an event, and how many bytes it takes with the space behind it

@@ -2,8 +2,9 @@
 use mathlib.Core.Path.{_≡_, refl, sym, ap, _∙_}
 use mathlib.Core.List.{List, [], _∷_, _++_, append-assoc, map}
 use mathlib.Core.Bool.{Bool, true, false, false≢true}
-use Prim.Native.Nat.{ℕ}
+use Prim.Native.Nat.{ℕ, _+_, _<_}
 use native.Mathlib.Omega.{arith}
+use native.Mathlib.Nat.{suc-add}
 use lib.Dec.{eqb}
 use lib.ListN.{length, getD, drop, length-append}
 use borrow.Author.Tests.{eqb-true, lt-leb}
@@ -11,20 +12,23 @@ use Rattle.basics.specs.Tests.{and-left, and-right}
 use Rattle.words.specs.Bytes.{isLetter, isDigit, isNameByte}
 use Rattle.words.specs.ByteLaws.{run-at, name-range}
 use Rattle.words.specs.Keys.{keyOf}
-use Rattle.words.specs.Words.{IsName, IsNumber}
+use Rattle.words.specs.Words.{IsName}
 use Rattle.words.specs.WordLaws.{name-pos}
 use Rattle.forms.specs.Tree.{Diagram, manyBytes, diagramBytes, All, GoodDiagram}
 use Rattle.forms.specs.Complete.{space-stops, close-stops}
+use Rattle.forms.specs.declared.Sort.{Sort}
+use Rattle.forms.specs.declared.Sort.the-variants as S
 use Rattle.text.specs.declared.Kind.{Kind}
-use Rattle.text.specs.declared.Kind.the-variants.{Constant, Predicate, Total, Discount, Reward, Action, Variant, Becomes, Start, Objects, Is, True, Value, Backup, Cut, Show, Bad}
-use Rattle.text.specs.Line.{Words, variableBytes, parameterBytes, wordBytes, GoodWords, lineBytes}
+use Rattle.text.specs.declared.Shape.{Shape}
+use Rattle.text.specs.declared.Shape.the-variants.{Nothing, One, Two, Listed, Drawn, Named, Headed, Never}
+use Rattle.text.specs.Line.{keyword, shapeOf, variableBytes, Item, itemBytes, GoodItem, ShapeWords, shapeBytes, GoodShape, Words, wordsBytes, GoodWords, lineBytes}
 use Rattle.text.specs.Line.Line.{line}
 use Rattle.events.specs.declared.Event.{Event}
 use Rattle.events.specs.declared.Event.the-variants.{Holds}
-use Rattle.events.specs.Events.{firstWord, nameEvent, variableEvent, parameterEvent, numberEvent, diagramEvents, wordsEvents}
+use Rattle.events.specs.Events.{firstWord, nameEvent, variableEvent, numberEvent, diagramEvents, itemEvent, shapeEvents, wordsEvents}
 use Rattle.events.specs.Front.{space, behind, spaces, seen, isIf, atomFront, frontOf, eventsOf}
 use Rattle.events.specs.FrontLaws.{event-at, events-short}
-use Rattle.events.specs.EventLaws.{unspace, past, past-drop, name-event, number-event, unspace-space, unspace-close, past-space, past-close, variable-events, parameter-events, many-events, many-stops, many-some, variable-quiet, parameter-quiet, number-quiet, many-spaces, plain-spaces, holds-front, diagram-events}
+use Rattle.events.specs.EventLaws.{unspace, past, past-drop, name-event, variable-event, parameter-event, number-event, unspace-space, unspace-close, past-space, past-close, variable-events, term-events, many-events, many-stops, variable-quiet, many-spaces, holds-front, diagram-events}
 
 -- nothing more behind the last word
 none : eventsOf [] ≡ []
@@ -40,24 +44,56 @@ unspace-none = refl
 past-closed : eventsOf (past (41 ∷ [])) ≡ []
 past-closed = ap eventsOf (past-close [] ∙ unspace-none) ∙ none
 
-name-last : (n : List ℕ) → IsName n → eventsOf (n ++ 41 ∷ []) ≡ nameEvent n ∷ []
-name-last n g = name-event n (41 ∷ []) g close-stops (omega arith) ∙ ap (λ es. nameEvent n ∷ es) past-closed
+-- what stands behind a word of a line, its last one too: no byte of a name, and passing a closing bracket passes no word
+record Ending (q : List ℕ) : Type 0 where
+  stops : isNameByte (getD q 0 0) ≡ false
+  some : 0 < length q
+  alike : eventsOf (unspace q) ≡ eventsOf (past q)
 
-number-last : (n : List ℕ) → IsNumber n → eventsOf (n ++ 41 ∷ []) ≡ numberEvent n ∷ []
-number-last n g = number-event n (41 ∷ []) g close-stops (omega arith) ∙ ap (λ es. numberEvent n ∷ es) closed
+close-ending : Ending (41 ∷ [])
+close-ending = record { stops = close-stops; some = omega arith; alike = closed ∙ sym past-closed }
 
--- a name, and more behind a space
-name-then : (n q : List ℕ) → IsName n → eventsOf ((n ++ 32 ∷ q) ++ 41 ∷ []) ≡ nameEvent n ∷ eventsOf (q ++ 41 ∷ [])
-name-then n q g =
-    ap eventsOf (append-assoc n (32 ∷ q) (41 ∷ []))
-    ∙ name-event n (32 ∷ (q ++ 41 ∷ [])) g space-stops (omega arith)
-    ∙ ap (λ l. nameEvent n ∷ eventsOf l) (past-space (q ++ 41 ∷ []))
+space-ending : (q : List ℕ) → Ending (32 ∷ q)
+space-ending q = record { stops = space-stops; some = omega arith; alike = ap eventsOf (unspace-space q ∙ sym (past-space q)) }
 
-number-then : (n q : List ℕ) → IsNumber n → eventsOf ((n ++ 32 ∷ q) ++ 41 ∷ []) ≡ numberEvent n ∷ eventsOf (q ++ 41 ∷ [])
-number-then n q g =
-    ap eventsOf (append-assoc n (32 ∷ q) (41 ∷ []))
-    ∙ number-event n (32 ∷ (q ++ 41 ∷ [])) g space-stops (omega arith)
-    ∙ ap (λ l. numberEvent n ∷ eventsOf l) (unspace-space (q ++ 41 ∷ []))
+many-ending : {A : Type 0} (w : A → List ℕ) (xs : List A) → Ending (manyBytes w xs ++ 41 ∷ [])
+many-ending w [] = close-ending
+many-ending w (x ∷ xs) = space-ending ((w x ++ manyBytes w xs) ++ 41 ∷ [])
+
+item-events : (k : Sort) (x : Item k) (q : List ℕ) → GoodItem k x → Ending q → eventsOf (itemBytes k x ++ q) ≡ itemEvent k x ∷ eventsOf (past q)
+item-events S.Name n q g e = name-event n q g (e .stops) (e .some)
+item-events S.Variable n q g e = variable-event n q g (e .stops) (e .some)
+item-events S.Parameter n q g e = parameter-event n q g (e .stops) (e .some)
+item-events S.Any t q g e = term-events t q g (e .stops) (e .some)
+item-events S.Number n q g e = number-event n q g (e .stops) (e .some) ∙ ap (λ es. numberEvent n ∷ es) (e .alike)
+
+-- the last word of a line
+item-last : (k : Sort) (x : Item k) → GoodItem k x → eventsOf (itemBytes k x ++ 41 ∷ []) ≡ itemEvent k x ∷ []
+item-last k x g = item-events k x (41 ∷ []) g close-ending ∙ ap (λ es. itemEvent k x ∷ es) past-closed
+
+-- a word, and more behind a space
+item-then : (k : Sort) (x : Item k) (q : List ℕ) → GoodItem k x → eventsOf ((itemBytes k x ++ 32 ∷ q) ++ 41 ∷ []) ≡ itemEvent k x ∷ eventsOf (q ++ 41 ∷ [])
+item-then k x q g =
+    ap eventsOf (append-assoc (itemBytes k x) (32 ∷ q) (41 ∷ []))
+    ∙ item-events k x (32 ∷ (q ++ 41 ∷ [])) g (space-ending (q ++ 41 ∷ []))
+    ∙ ap (λ l. itemEvent k x ∷ eventsOf l) (past-space (q ++ 41 ∷ []))
+
+-- the words behind a name, up to the line's end
+items-last : (k : Sort) (xs : List (Item k)) → All (GoodItem k) xs → eventsOf (past (manyBytes (itemBytes k) xs ++ 41 ∷ [])) ≡ map (itemEvent k) xs
+items-last k [] g = past-closed
+items-last k (x ∷ xs) g =
+    let W = manyBytes (itemBytes k) xs in
+    ap eventsOf (past-space ((itemBytes k x ++ W) ++ 41 ∷ []) ∙ append-assoc (itemBytes k x) W (41 ∷ []))
+    ∙ item-events k x (W ++ 41 ∷ []) (g .0) (many-ending (itemBytes k) xs)
+    ∙ ap (λ es. itemEvent k x ∷ es) (items-last k xs (g .1))
+
+listed-events : (k : Sort) (n : List ℕ) (xs : List (Item k)) → IsName n → All (GoodItem k) xs
+    → eventsOf ((n ++ manyBytes (itemBytes k) xs) ++ 41 ∷ []) ≡ nameEvent n ∷ map (itemEvent k) xs
+listed-events k n xs g h =
+    let W = manyBytes (itemBytes k) xs in
+    ap eventsOf (append-assoc n W (41 ∷ []))
+    ∙ item-events S.Name n (W ++ 41 ∷ []) g (many-ending (itemBytes k) xs)
+    ∙ ap (λ es. nameEvent n ∷ es) (items-last k xs h)
 
 append-nil : (l : List Event) → l ++ [] ≡ l
 append-nil [] = refl
@@ -67,39 +103,7 @@ diagram-last : (d : Diagram) → GoodDiagram d → eventsOf (diagramBytes d ++ 4
 diagram-last d g =
     diagram-events d (41 ∷ []) g close-stops (omega arith) ∙ ap (λ es. diagramEvents d ++ es) closed ∙ append-nil (diagramEvents d)
 
--- (action n !p ..)
-action-events : (n : List ℕ) (ps : List (List ℕ)) → IsName n → All IsName ps
-    → eventsOf ((n ++ manyBytes parameterBytes ps) ++ 41 ∷ []) ≡ nameEvent n ∷ map parameterEvent ps
-action-events n ps g h =
-    ap eventsOf (append-assoc n (manyBytes parameterBytes ps) (41 ∷ []))
-    ∙ name-event n (manyBytes parameterBytes ps ++ 41 ∷ []) g (many-stops parameterBytes ps []) (many-some parameterBytes ps [])
-    ∙ ap (λ es. nameEvent n ∷ es)
-    (many-events parameterBytes IsName parameterEvent parameter-events ps [] h
-    ∙ ap (λ es. map parameterEvent ps ++ es) (ap eventsOf unspace-none ∙ none)
-    ∙ append-nil (map parameterEvent ps))
-
--- (true p o ..)
-objects-events : (os : List (List ℕ)) → All IsNumber os → eventsOf (unspace (manyBytes wordBytes os ++ 41 ∷ [])) ≡ map numberEvent os
-objects-events [] g = closed
-objects-events (o ∷ os) g =
-    ap eventsOf (unspace-space ((o ++ manyBytes wordBytes os) ++ 41 ∷ []) ∙ append-assoc o (manyBytes wordBytes os) (41 ∷ []))
-    ∙ number-event o (manyBytes wordBytes os ++ 41 ∷ []) (g .0) (many-stops wordBytes os []) (many-some wordBytes os [])
-    ∙ ap (λ es. numberEvent o ∷ es) (objects-events os (g .1))
-
-past-objects : (os : List (List ℕ)) → eventsOf (past (manyBytes wordBytes os ++ 41 ∷ [])) ≡ eventsOf (unspace (manyBytes wordBytes os ++ 41 ∷ []))
-past-objects [] = past-closed ∙ sym closed
-past-objects (o ∷ os) =
-    let q : List ℕ = (o ++ manyBytes wordBytes os) ++ 41 ∷ [] in
-    ap eventsOf (past-space q ∙ sym (unspace-space q))
-
-true-events : (n : List ℕ) (os : List (List ℕ)) → IsName n → All IsNumber os
-    → eventsOf ((n ++ manyBytes wordBytes os) ++ 41 ∷ []) ≡ nameEvent n ∷ map numberEvent os
-true-events n os g h =
-    ap eventsOf (append-assoc n (manyBytes wordBytes os) (41 ∷ []))
-    ∙ name-event n (manyBytes wordBytes os ++ 41 ∷ []) g (many-stops wordBytes os []) (many-some wordBytes os [])
-    ∙ ap (λ es. nameEvent n ∷ es) (past-objects os ∙ objects-events os h)
-
--- (becomes (p ?a ..) DIAGRAM): the head is no if form
+-- (p ?a ..) and a diagram: the head is no if form
 
 name-102 : isNameByte 102 ≡ true
 unfolding isNameByte isLetter isDigit
@@ -153,43 +157,31 @@ head-events p vs r g h =
     (many-events variableBytes IsName variableEvent variable-events vs (32 ∷ r) h
     ∙ ap (λ l. map variableEvent vs ++ eventsOf l) (unspace-space r))
 
-becomes-assoc : (x v d : List ℕ) → (x ++ (v ++ 41 ∷ 32 ∷ d)) ++ 41 ∷ [] ≡ x ++ (v ++ 41 ∷ 32 ∷ (d ++ 41 ∷ []))
-becomes-assoc x v d = simp append-assoc
+headed-assoc : (x v d : List ℕ) → (x ++ (v ++ 41 ∷ 32 ∷ d)) ++ 41 ∷ [] ≡ x ++ (v ++ 41 ∷ 32 ∷ (d ++ 41 ∷ []))
+headed-assoc x v d = simp append-assoc
 
-becomes-events : (p : List ℕ) (vs : List (List ℕ)) (d : Diagram) → IsName p → All IsName vs → GoodDiagram d
+headed-events : (p : List ℕ) (vs : List (List ℕ)) (d : Diagram) → IsName p → All IsName vs → GoodDiagram d
     → eventsOf (40 ∷ ((p ++ (manyBytes variableBytes vs ++ 41 ∷ 32 ∷ diagramBytes d)) ++ 41 ∷ []))
     ≡ Holds (keyOf p) (length vs) ∷ (map variableEvent vs ++ diagramEvents d)
-becomes-events p vs d g h i =
-    ap (λ l. eventsOf (40 ∷ l)) (becomes-assoc p (manyBytes variableBytes vs) (diagramBytes d))
+headed-events p vs d g h i =
+    ap (λ l. eventsOf (40 ∷ l)) (headed-assoc p (manyBytes variableBytes vs) (diagramBytes d))
     ∙ head-events p vs (diagramBytes d ++ 41 ∷ []) g h
     ∙ ap (λ es. Holds (keyOf p) (length vs) ∷ (map variableEvent vs ++ es)) (diagram-last d i)
 
+pub shape-events : (h : Shape) (w : ShapeWords h) → GoodShape h w → eventsOf (drop 1 (shapeBytes h w ++ 41 ∷ [])) ≡ shapeEvents h w
+shape-events Nothing w g = none
+shape-events (One k) x g = item-last k x g
+shape-events (Two k l) w g = item-then k (w .0) (itemBytes l (w .1)) (g .0) ∙ ap (λ es. itemEvent k (w .0) ∷ es) (item-last l (w .1) (g .1))
+shape-events (Listed k) w g = listed-events k (w .0) (w .1) (g .0) (g .1)
+shape-events Drawn d g = diagram-last d g
+shape-events Named w g = item-then S.Name (w .0) (diagramBytes (w .1)) (g .0) ∙ ap (λ es. nameEvent (w .0) ∷ es) (diagram-last (w .1) (g .1))
+shape-events Headed w g = headed-events (w .0) (w .1) (w .2) (g .0) (g .1) (g .2)
+shape-events Never w g = absurd w
+
+-- behind the bracket, the key word and a space
+behind-keyword : (b : ℕ) (a l : List ℕ) → drop (length a + 2) (b ∷ (a ++ l)) ≡ drop 1 l
+behind-keyword b [] l = refl
+behind-keyword b (x ∷ a) l = rw suc-add (behind-keyword x a l)
+
 pub line-events : (k : Kind) (w : Words k) → GoodWords k w → eventsOf (drop (firstWord k) (lineBytes (line k w))) ≡ wordsEvents k w
-line-events Constant n g = name-last n g
-line-events Predicate w g = name-then (w .0) (w .1) (g .0) ∙ ap (λ es. nameEvent (w .0) ∷ es) (number-last (w .1) (g .1))
-line-events Total n g = number-last n g
-line-events Discount w g = number-then (w .0) (w .1) (g .0) ∙ ap (λ es. numberEvent (w .0) ∷ es) (number-last (w .1) (g .1))
-line-events Reward d g = diagram-last d g
-line-events Action w g = action-events (w .0) (w .1) (g .0) (g .1)
-line-events Variant w g = name-then (w .0) (diagramBytes (w .1)) (g .0) ∙ ap (λ es. nameEvent (w .0) ∷ es) (diagram-last (w .1) (g .1))
-line-events Becomes w g = becomes-events (w .0) (w .1) (w .2) (g .0) (g .1) (g .2)
-line-events Start w g = none
-line-events Objects n g = number-last n g
-line-events Is w g = name-then (w .0) (w .1) (g .0) ∙ ap (λ es. nameEvent (w .0) ∷ es) (number-last (w .1) (g .1))
-line-events True w g = true-events (w .0) (w .1) (g .0) (g .1)
-line-events Value w g = none
-line-events Backup w g = none
-line-events Cut w g = none
-line-events Show w g = none
-line-events Bad w g = absurd w
-
--- how many words stand behind the name of an (action n !p ..) and of a (true p o ..)
-pub action-count : (w : Words Action) → GoodWords Action w → spaces (drop (firstWord Action) (lineBytes (line Action w))) ≡ length (w .1)
-action-count w g =
-    ap spaces (append-assoc (w .0) (manyBytes parameterBytes (w .1)) (41 ∷ []))
-    ∙ plain-spaces parameterBytes IsName parameter-quiet (w .0) (w .1) [] (g .0) (g .1)
-
-pub true-count : (w : Words True) → GoodWords True w → spaces (drop (firstWord True) (lineBytes (line True w))) ≡ length (w .1)
-true-count w g =
-    ap spaces (append-assoc (w .0) (manyBytes wordBytes (w .1)) (41 ∷ []))
-    ∙ plain-spaces wordBytes IsNumber number-quiet (w .0) (w .1) [] (g .0) (g .1)
+line-events k w g = ap eventsOf (behind-keyword 40 (keyword k) (wordsBytes k w ++ 41 ∷ [])) ∙ shape-events (shapeOf k) w g

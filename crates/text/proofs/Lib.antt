@@ -1,1 +1,2 @@
+pub mod KeywordCode
 pub mod LineCode

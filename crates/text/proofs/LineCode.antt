@@ -1,5 +1,5 @@
 -- What the readers of a line answer, from what their parts answered.
-use mathlib.Core.Path.{_≡_, ap, _∙_}
+use mathlib.Core.Path.{_≡_, sym, ap, _∙_}
 use mathlib.Core.List.{List}
 use Prim.Native.Nat.{ℕ, _-_, _≤_, _<_}
 use lib.ListN.{length, getD, take, drop}
@@ -12,31 +12,41 @@ use Rattle.words.specs.declared.Took.{Took}
 use Rattle.words.specs.declared.Took.the-variants.{Bytes, Refused}
 use Rattle.text.specs.declared.Kind.{Kind}
 use Rattle.text.specs.declared.Kind.the-variants.{Bad}
-use Rattle.text.specs.LineForm.{kindOf, wordsForm, formKind, lineKind}
+use Rattle.text.specs.declared.Keyword.{Keyword}
+use Rattle.text.specs.Line.{mostLineBytes}
+use Rattle.text.specs.LineForm.{kindOf, rowOf, shapeForm, wordsForm, formKind, lineKind}
 
 module _ (s : List ℕ) {t : Took} (p : t ≡ nameForm s) where
   pub form-none : t ≡ Refused → Bad ≡ formKind s
   unfolding formKind
   form-none e = rw (← p, e)
 
-  module _ {n : ℕ} {key : Key} {kind : Kind} {r : Took} (q : t ≡ Bytes n) (u : key ≡ keyOf (take n s)) (v : kind ≡ kindOf key) (w : r ≡ wordsForm kind (take (length s - n) (drop n s))) where
+  module _ {n : ℕ} {key : Key} {row : Keyword} {r : Took} (q : t ≡ Bytes n) (u : key ≡ keyOf (take n s)) (v : row ≡ rowOf (kindOf key)) (w : r ≡ shapeForm (row .shape) (take (length s - n) (drop n s))) where
+    kind : row .kind ≡ kindOf (keyOf (take n s))
+    unfolding rowOf
+    kind = ap (λ (x : Keyword). x .kind) v ∙ ap kindOf u
+
+    words : wordsForm (kindOf (keyOf (take n s))) (drop n s) ≡ r
+    unfolding rowOf wordsForm
+    words = rw (← u, ← part-tail n s) (ap (λ (x : Keyword). shapeForm (x .shape) (take (length s - n) (drop n s))) (sym v) ∙ sym w)
+
     pub form-refused : r ≡ Refused → Bad ≡ formKind s
     unfolding formKind
-    form-refused e = rw (← p, q, ← u, ← v, ← part-tail n s, ← w, e)
+    form-refused e = rw (← p, q, words, e)
 
-    pub form-whole : {m : ℕ} → r ≡ Bytes m → m ≡ length s - n → kind ≡ formKind s
+    pub form-whole : {m : ℕ} → r ≡ Bytes m → m ≡ length s - n → row .kind ≡ formKind s
     unfolding formKind
-    form-whole e l = rw (← p, q, ← u, ← v, ← part-tail n s, ← w, e, eq-eqb _ _ l)
+    form-whole e l = kind ∙ rw (← p, q, words, e, eq-eqb _ _ l)
 
     pub form-rest : {m : ℕ} → r ≡ Bytes m → (m ≡ length s - n → ⊥) → Bad ≡ formKind s
     unfolding formKind
-    form-rest e l = rw (← p, q, ← u, ← v, ← part-tail n s, ← w, e, ne-eqb _ _ l)
+    form-rest e l = rw (← p, q, words, e, ne-eqb _ _ l)
 
-pub line-long : (s : List ℕ) → 4095 < length s → Bad ≡ lineKind s
+pub line-long : (s : List ℕ) → mostLineBytes < length s → Bad ≡ lineKind s
 unfolding lineKind
 line-long s h = rw (lt-leb _ _ h)
 
-module _ (s : List ℕ) {b : ℕ} (h : length s ≤ 4095) (p : b ≡ getD s 0 0) where
+module _ (s : List ℕ) {b : ℕ} (h : length s ≤ mostLineBytes) (p : b ≡ getD s 0 0) where
   pub line-none : (b ≡ 40 → ⊥) → Bad ≡ lineKind s
   unfolding lineKind
   line-none e = rw (le-leb _ _ h, ← p, ne-eqb b 40 e)

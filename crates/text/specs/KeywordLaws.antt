@@ -1,8 +1,7 @@
 -- Each kind of line has its own key word, and the key of a key word gives the kind.
-use mathlib.Core.Path.{_≡_, refl, sym, _∙_}
+use mathlib.Core.Path.{_≡_, refl}
 use mathlib.Core.List.{List, [], _∷_}
-use mathlib.Core.Bool.{true, false, _&&_}
-use Prim.Native.Nat.{ℕ}
+use mathlib.Core.Bool.{true, false, cond, _&&_, true≢false}
 use native.Mathlib.Omega.{arith}
 use lib.Dec.{eqb}
 use borrow.Author.Tests.{eqb-true}
@@ -11,85 +10,58 @@ use Rattle.words.specs.Bytes.{isNameByte, isLetter, isDigit, run}
 use Rattle.words.specs.Words.{IsName}
 use Rattle.words.specs.Keys.{little, keyOf}
 use Rattle.words.specs.declared.Key.{Key}
-use Rattle.forms.specs.Tree.{All}
 use Rattle.text.specs.declared.Kind.{Kind}
-use Rattle.text.specs.declared.Kind.the-variants.{Constant, Predicate, Total, Discount, Reward, Action, Variant, Becomes, Start, Objects, Is, True, Value, Backup, Cut, Show, Bad}
-use Rattle.text.specs.Line.{isBad, keyword, Words}
-use Rattle.text.specs.LineForm.{pickKind, isKey, Entry, kindIn, entries, kindOf}
-use Rattle.text.specs.LineForm.Entry.{entry}
+use Rattle.text.specs.declared.Kind.the-variants as K
+use Rattle.text.specs.Line.{kinds, isBad, keyword, Words}
+use Rattle.text.specs.LineForm.{isKey, kindIn, kindOf}
 
--- each key word is a name
+-- each key word is a name, and its key gives its kind
+keyword-right : (k : Kind) → Words k → IsName (keyword k) × (kindOf (keyOf (keyword k)) ≡ k)
+unfolding isLetter isNameByte isDigit run kindOf keyOf little isKey
+keyword-right K.Constant w = ((refl, refl, omega arith), refl)
+keyword-right K.Predicate w = ((refl, refl, omega arith), refl)
+keyword-right K.Total w = ((refl, refl, omega arith), refl)
+keyword-right K.Discount w = ((refl, refl, omega arith), refl)
+keyword-right K.Reward w = ((refl, refl, omega arith), refl)
+keyword-right K.Action w = ((refl, refl, omega arith), refl)
+keyword-right K.Variant w = ((refl, refl, omega arith), refl)
+keyword-right K.Becomes w = ((refl, refl, omega arith), refl)
+keyword-right K.Start w = ((refl, refl, omega arith), refl)
+keyword-right K.Objects w = ((refl, refl, omega arith), refl)
+keyword-right K.Is w = ((refl, refl, omega arith), refl)
+keyword-right K.True w = ((refl, refl, omega arith), refl)
+keyword-right K.Value w = ((refl, refl, omega arith), refl)
+keyword-right K.Backup w = ((refl, refl, omega arith), refl)
+keyword-right K.Cut w = ((refl, refl, omega arith), refl)
+keyword-right K.Show w = ((refl, refl, omega arith), refl)
+keyword-right K.Bad w = absurd w
+
 pub keyword-name : (k : Kind) → Words k → IsName (keyword k)
-unfolding isLetter isNameByte isDigit run
-keyword-name Constant w = (refl, refl, omega arith)
-keyword-name Predicate w = (refl, refl, omega arith)
-keyword-name Total w = (refl, refl, omega arith)
-keyword-name Discount w = (refl, refl, omega arith)
-keyword-name Reward w = (refl, refl, omega arith)
-keyword-name Action w = (refl, refl, omega arith)
-keyword-name Variant w = (refl, refl, omega arith)
-keyword-name Becomes w = (refl, refl, omega arith)
-keyword-name Start w = (refl, refl, omega arith)
-keyword-name Objects w = (refl, refl, omega arith)
-keyword-name Is w = (refl, refl, omega arith)
-keyword-name True w = (refl, refl, omega arith)
-keyword-name Value w = (refl, refl, omega arith)
-keyword-name Backup w = (refl, refl, omega arith)
-keyword-name Cut w = (refl, refl, omega arith)
-keyword-name Show w = (refl, refl, omega arith)
-keyword-name Bad w = absurd w
+keyword-name k w = keyword-right k w .0
 
--- its key is the one of the table
 pub keyword-kind : (k : Kind) → Words k → kindOf (keyOf (keyword k)) ≡ k
-unfolding kindOf keyOf little isKey
-keyword-kind Constant w = refl
-keyword-kind Predicate w = refl
-keyword-kind Total w = refl
-keyword-kind Discount w = refl
-keyword-kind Reward w = refl
-keyword-kind Action w = refl
-keyword-kind Variant w = refl
-keyword-kind Becomes w = refl
-keyword-kind Start w = refl
-keyword-kind Objects w = refl
-keyword-kind Is w = refl
-keyword-kind True w = refl
-keyword-kind Value w = refl
-keyword-kind Backup w = refl
-keyword-kind Cut w = refl
-keyword-kind Show w = refl
-keyword-kind Bad w = absurd w
+keyword-kind k w = keyword-right k w .1
 
-key-eq : (x y : Key) → x .a ≡ y .a → x .b ≡ y .b → x ≡ y
-key-eq x y p q = λ i. record { a = p i; b = q i }
+key-eq : (x y : Key) → isKey x y ≡ true → x ≡ y
+unfolding isKey
+key-eq x y h =
+    let p : x .a ≡ y .a = eqb-true (x .a) (y .a) (and-left (eqb (x .a) (y .a)) (eqb (x .b) (y .b)) h) in
+    let q : x .b ≡ y .b = eqb-true (x .b) (y .b) (and-right (eqb (x .a) (y .a)) (eqb (x .b) (y .b)) h) in
+    λ i. record { a = p i; b = q i }
 
--- an entry that is its kind's key word
-abbrev Rightly : Entry → Type 0
-Rightly (entry a b x) = keyOf (keyword x) ≡ record { a = a; b = b }
-
-kind-in : (es : List Entry) → All Rightly es → (k : Key) → isBad (kindIn es k) ≡ false → k ≡ keyOf (keyword (kindIn es k))
-unfolding isBad isKey
-kind-in [] g k e = absurd (omega (arith, bit e))
+kind-in : (ks : List Kind) (k : Key) → isBad (kindIn ks k) ≡ false → k ≡ keyOf (keyword (kindIn ks k))
+unfolding isBad
+kind-in [] k e = absurd (true≢false e)
+kind-in (x ∷ ks) k e = go (flag (isKey k (keyOf (keyword x)))) (kind-in ks k) e
   where
-    bit : true ≡ false → _≡_ {A = ℕ} 0 1
-    bit e = cc
-kind-in (entry a b x ∷ es) g k e = go (flag (eqb (k .a) a && eqb (k .b) b)) (kind-in es (g .1) k) e
-  where
-    go : Flag (eqb (k .a) a && eqb (k .b) b)
-        → (isBad (kindIn es k) ≡ false → k ≡ keyOf (keyword (kindIn es k)))
-        → isBad (pickKind (eqb (k .a) a && eqb (k .b) b) x (kindIn es k)) ≡ false
-        → k ≡ keyOf (keyword (pickKind (eqb (k .a) a && eqb (k .b) b) x (kindIn es k)))
-    go (isTrue h) ih e =
-        rw h
-        (key-eq k (record { a = a; b = b }) (eqb-true (k .a) a (and-left (eqb (k .a) a) (eqb (k .b) b) h)) (eqb-true (k .b) b (and-right (eqb (k .a) a) (eqb (k .b) b) h))
-        ∙ sym (g .0))
+    go : Flag (isKey k (keyOf (keyword x)))
+        → (isBad (kindIn ks k) ≡ false → k ≡ keyOf (keyword (kindIn ks k)))
+        → isBad (cond (isKey k (keyOf (keyword x))) x (kindIn ks k)) ≡ false
+        → k ≡ keyOf (keyword (cond (isKey k (keyOf (keyword x))) x (kindIn ks k)))
+    go (isTrue h) ih e = rw h (key-eq k (keyOf (keyword x)) h)
     go (isFalse h) ih e = rw h (ih (rw h at e))
-
-rightly : All Rightly entries
-unfolding keyOf little
-rightly = (refl, (refl, (refl, (refl, (refl, (refl, (refl, (refl, (refl, (refl, (refl, (refl, (refl, (refl, (refl, (refl, tt))))))))))))))))
 
 -- a key with a kind is the key of its key word
 pub kind-key : (k : Key) → isBad (kindOf k) ≡ false → k ≡ keyOf (keyword (kindOf k))
 unfolding kindOf
-kind-key k e = kind-in entries rightly k e
+kind-key k e = kind-in kinds k e

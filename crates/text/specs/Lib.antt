@@ -1,18 +1,23 @@
 -- The lines of a text: trees, how they are written and read (document 01, section 'Text').
 --
 -- Definitions: trees
---   Kind, isBad == the kind of a line: a key word, or that the bytes are not the grammar
---   keyword, Words == a kind's key word in bytes; what stands behind it: names, numbers and diagrams
---   variableBytes, parameterBytes, wordBytes, wordsBytes == how they are written
---   GoodWords, openBrackets == names are names, numbers numbers; how many brackets are open together
+--   Kind, Shape == the kind of a line: a key word, or that the bytes are not the grammar; the shape of what stands behind it
+--   mostLineBytes, mostOpenBrackets == 4,095 bytes, 64 brackets
+--   formOf, kinds, keyword, shapeOf == each kind's key word in bytes and its shape
+--   isNever, isBad == no line
+--   Item, itemBytes, GoodItem, variableBytes, parameterBytes, wordBytes == a word of a sort, how it is written, being well formed
+--   ShapeWords, shapeBytes, GoodShape, shapeBrackets == what stands in a shape: names, numbers and diagrams; how it is written; names
+--     are names, numbers numbers; how many brackets are open together
+--   Words, wordsBytes, GoodWords, openBrackets == the same by the kind of line
 --   Line, kindOfLine, lineBytes == a kind and its words; how it is written
 --   GoodLine == well formed, at most 4,095 bytes and 64 open brackets
 --   IsLine == k is the answer for the bytes: the kind of the line that is written so, or Bad where there is none
 --
 -- Definitions: the reader
---   isKey, Entry, entries, kindIn, kindOf, pickKind == the kind that a key word begins, by its key
---   endForm, oneForm, twoForm, listForm, rewardForm, variantForm, becomesForm == the shapes of what stands behind a key word
---   wordsForm == the shape of each kind
+--   isKey, kindIn, kindOf == the kind that a key word begins, by its key
+--   Keyword, rowOf == a kind with its key and its shape
+--   endForm, oneForm, twoForm, listedForm, drawnForm, namedForm, headedForm, shapeForm == what stands behind a key word, by its shape
+--   wordsForm == by its kind
 --   named, whole, formKind, lineKind == a line's kind: its bracket, key word and words, and nothing behind them
 --
 -- Theorems
@@ -23,5 +28,6 @@
 pub mod Line
 pub mod LineForm
 pub mod KeywordLaws
+pub mod ShapeLaws
 pub mod LineLaws
 pub mod LineUnique

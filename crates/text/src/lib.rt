@@ -7,7 +7,7 @@ ghost use Prim.Native.Nat.{ℕ, _+_, _≤_, _<_};
 ghost use lib.ListN.{length};
 ghost use Rattle.forms.specs.Form.{_▹_, byte, form, plainForm, diagramForm};
 ghost use Rattle.text.specs.Line.{IsLine};
-ghost use Rattle.text.specs.LineForm.{isKey, kindOf, endForm, oneForm, twoForm, listForm, rewardForm, variantForm, becomesForm, wordsForm, formKind, lineKind};
+ghost use Rattle.text.specs.LineForm.{isKey, kindOf, rowOf, endForm, oneForm, twoForm, listedForm, drawnForm, namedForm, headedForm, shapeForm, formKind, lineKind};
 
 // The kinds of lines, and a line that is none.
 pub enum Kind {
@@ -30,69 +30,184 @@ pub enum Kind {
     Bad,
 }
 
-// Whether the key has these two words.
-fn is_key(k: Key, a: u64, b: u64) -> bool
-    ensures { λ r. ⌜ r ≡ isKey a b k ⌝ }
-{
-    if k.a != a {
-        return false;
-    }
-    k.b == b
+// The shapes of what stands behind a key word: nothing, one word, two words, a name and words, a diagram, a name and a
+// diagram, (p ?a ..) and a diagram; and the shape of no line.
+pub enum Shape {
+    Nothing,
+    One(Sort),
+    Two(Sort, Sort),
+    Listed(Sort),
+    Drawn,
+    Named,
+    Headed,
+    Never,
 }
 
-// The kind of the line that begins with the key word.
-pub fn kind_of(k: Key) -> Kind
-    ensures { λ r. ⌜ r ≡ kindOf k ⌝ }
+// A key word by its key, the kind of the line that it begins, and the shape of what stands behind it.
+pub struct Keyword {
+    pub key: Key,
+    pub kind: Kind,
+    pub shape: Shape,
+}
+
+// The most bytes that a line has.
+const LINE_BYTES: usize = 4095;
+
+const KINDS: usize = 16;
+
+// The key words of all kinds of lines.
+const KEYWORDS: [Keyword; KINDS] = [
+    Keyword {
+        key: Key {
+            a: 8389750308618530659,
+            b: 0,
+        },
+        kind: Kind::Constant,
+        shape: Shape::One(Sort::Name),
+    },
+    Keyword {
+        key: Key {
+            a: 8386093285447660144,
+            b: 101,
+        },
+        kind: Kind::Predicate,
+        shape: Shape::Two(Sort::Name, Sort::Number),
+    },
+    Keyword {
+        key: Key {
+            a: 465491488628,
+            b: 0,
+        },
+        kind: Kind::Total,
+        shape: Shape::One(Sort::Number),
+    },
+    Keyword {
+        key: Key {
+            a: 8389772277108140388,
+            b: 0,
+        },
+        kind: Kind::Discount,
+        shape: Shape::Two(Sort::Number, Sort::Number),
+    },
+    Keyword {
+        key: Key {
+            a: 110442424264050,
+            b: 0,
+        },
+        kind: Kind::Reward,
+        shape: Shape::Drawn,
+    },
+    Keyword {
+        key: Key {
+            a: 121424789660513,
+            b: 0,
+        },
+        kind: Kind::Action,
+        shape: Shape::Listed(Sort::Parameter),
+    },
+    Keyword {
+        key: Key {
+            a: 32772461958422902,
+            b: 0,
+        },
+        kind: Kind::Variant,
+        shape: Shape::Named,
+    },
+    Keyword {
+        key: Key {
+            a: 32481143016351074,
+            b: 0,
+        },
+        kind: Kind::Becomes,
+        shape: Shape::Headed,
+    },
+    Keyword {
+        key: Key {
+            a: 500135195763,
+            b: 0,
+        },
+        kind: Kind::Start,
+        shape: Shape::Nothing,
+    },
+    Keyword {
+        key: Key {
+            a: 32497592573780591,
+            b: 0,
+        },
+        kind: Kind::Objects,
+        shape: Shape::One(Sort::Number),
+    },
+    Keyword {
+        key: Key { a: 29545, b: 0 },
+        kind: Kind::Is,
+        shape: Shape::Two(Sort::Name, Sort::Number),
+    },
+    Keyword {
+        key: Key {
+            a: 1702195828,
+            b: 0,
+        },
+        kind: Kind::True,
+        shape: Shape::Listed(Sort::Number),
+    },
+    Keyword {
+        key: Key {
+            a: 435761734006,
+            b: 0,
+        },
+        kind: Kind::Value,
+        shape: Shape::Nothing,
+    },
+    Keyword {
+        key: Key {
+            a: 123649615159650,
+            b: 0,
+        },
+        kind: Kind::Backup,
+        shape: Shape::Nothing,
+    },
+    Keyword {
+        key: Key { a: 7632227, b: 0 },
+        kind: Kind::Cut,
+        shape: Shape::Nothing,
+    },
+    Keyword {
+        key: Key {
+            a: 2003789939,
+            b: 0,
+        },
+        kind: Kind::Show,
+        shape: Shape::Nothing,
+    },
+];
+
+// Whether the two keys are one.
+fn is_key(k: Key, l: Key) -> bool
+    ensures { λ r. ⌜ r ≡ isKey k l ⌝ }
 {
-    if is_key(k, 8389750308618530659, 0) {
-        return Kind::Constant;
+    if k.a != l.a {
+        return false;
     }
-    if is_key(k, 8386093285447660144, 101) {
-        return Kind::Predicate;
+    k.b == l.b
+}
+
+// The row of the key word that has the key; where there is none, that of no line.
+fn find_keyword(key: Key) -> Keyword
+    ensures { λ r. ⌜ r ≡ rowOf (kindOf key) ⌝ }
+{
+    let mut i = 0;
+    while i < KINDS {
+        let row = KEYWORDS[i];
+        if is_key(key, row.key) {
+            return row;
+        }
+        i += 1;
     }
-    if is_key(k, 465491488628, 0) {
-        return Kind::Total;
+    Keyword {
+        key: Key { a: 0, b: 0 },
+        kind: Kind::Bad,
+        shape: Shape::Never,
     }
-    if is_key(k, 8389772277108140388, 0) {
-        return Kind::Discount;
-    }
-    if is_key(k, 110442424264050, 0) {
-        return Kind::Reward;
-    }
-    if is_key(k, 121424789660513, 0) {
-        return Kind::Action;
-    }
-    if is_key(k, 32772461958422902, 0) {
-        return Kind::Variant;
-    }
-    if is_key(k, 32481143016351074, 0) {
-        return Kind::Becomes;
-    }
-    if is_key(k, 500135195763, 0) {
-        return Kind::Start;
-    }
-    if is_key(k, 32497592573780591, 0) {
-        return Kind::Objects;
-    }
-    if is_key(k, 29545, 0) {
-        return Kind::Is;
-    }
-    if is_key(k, 1702195828, 0) {
-        return Kind::True;
-    }
-    if is_key(k, 435761734006, 0) {
-        return Kind::Value;
-    }
-    if is_key(k, 123649615159650, 0) {
-        return Kind::Backup;
-    }
-    if is_key(k, 7632227, 0) {
-        return Kind::Cut;
-    }
-    if is_key(k, 2003789939, 0) {
-        return Kind::Show;
-    }
-    Kind::Bad
 }
 
 // A space and a diagram, one bracket open before it, at the place that t answered.
@@ -152,23 +267,23 @@ fn read_two(s: &[u8], first: Sort, second: Sort) -> Took
 }
 
 // NAME WORD .. )
-fn read_list(s: &[u8], sort: Sort) -> Took
-    ensures { λ r. ⌜ r ≡ listForm sort (now (s .entry)) ⌝ }
+fn read_listed(s: &[u8], sort: Sort) -> Took
+    ensures { λ r. ⌜ r ≡ listedForm sort (now (s .entry)) ⌝ }
 {
     plain_after(s, Took::Bytes(0), b' ', sort)
 }
 
 // DIAGRAM )
-fn read_reward(s: &[u8]) -> Took
-    ensures { λ r. ⌜ r ≡ rewardForm (now (s .entry)) ⌝ }
+fn read_drawn(s: &[u8]) -> Took
+    ensures { λ r. ⌜ r ≡ drawnForm (now (s .entry)) ⌝ }
 {
     let a = diagram_after(s, Took::Bytes(0));
     forms::byte_after(s, a, b')')
 }
 
 // NAME DIAGRAM )
-fn read_variant(s: &[u8]) -> Took
-    ensures { λ r. ⌜ r ≡ variantForm (now (s .entry)) ⌝ }
+fn read_named(s: &[u8]) -> Took
+    ensures { λ r. ⌜ r ≡ namedForm (now (s .entry)) ⌝ }
 {
     let a = forms::byte_after(s, Took::Bytes(0), b' ');
     let b = forms::item_after(s, a, Sort::Name);
@@ -177,8 +292,8 @@ fn read_variant(s: &[u8]) -> Took
 }
 
 // (NAME ?a ..) DIAGRAM )
-fn read_becomes(s: &[u8]) -> Took
-    ensures { λ r. ⌜ r ≡ becomesForm (now (s .entry)) ⌝ }
+fn read_headed(s: &[u8]) -> Took
+    ensures { λ r. ⌜ r ≡ headedForm (now (s .entry)) ⌝ }
 {
     let a = forms::byte_after(s, Took::Bytes(0), b' ');
     let b = plain_after(s, a, b'(', Sort::Variable);
@@ -187,27 +302,18 @@ fn read_becomes(s: &[u8]) -> Took
 }
 
 // What stands behind the key word, up to the line's closing bracket.
-fn read_words(kind: Kind, s: &[u8]) -> Took
-    ensures { λ r. ⌜ r ≡ wordsForm kind (now (s .entry)) ⌝ }
+fn read_shape(shape: Shape, s: &[u8]) -> Took
+    ensures { λ r. ⌜ r ≡ shapeForm shape (now (s .entry)) ⌝ }
 {
-    match kind {
-        Kind::Constant => read_one(s, Sort::Name),
-        Kind::Predicate => read_two(s, Sort::Name, Sort::Number),
-        Kind::Total => read_one(s, Sort::Number),
-        Kind::Discount => read_two(s, Sort::Number, Sort::Number),
-        Kind::Reward => read_reward(s),
-        Kind::Action => read_list(s, Sort::Parameter),
-        Kind::Variant => read_variant(s),
-        Kind::Becomes => read_becomes(s),
-        Kind::Start => read_end(s),
-        Kind::Objects => read_one(s, Sort::Number),
-        Kind::Is => read_two(s, Sort::Name, Sort::Number),
-        Kind::True => read_list(s, Sort::Number),
-        Kind::Value => read_end(s),
-        Kind::Backup => read_end(s),
-        Kind::Cut => read_end(s),
-        Kind::Show => read_end(s),
-        Kind::Bad => Took::Refused,
+    match shape {
+        Shape::Nothing => read_end(s),
+        Shape::One(sort) => read_one(s, sort),
+        Shape::Two(first, second) => read_two(s, first, second),
+        Shape::Listed(sort) => read_listed(s, sort),
+        Shape::Drawn => read_drawn(s),
+        Shape::Named => read_named(s),
+        Shape::Headed => read_headed(s),
+        Shape::Never => Took::Refused,
     }
 }
 
@@ -218,11 +324,13 @@ fn read_form(s: &[u8]) -> Kind
     let Took::Bytes(n) = words::read_name(s) else {
         return Kind::Bad;
     };
-    let kind = kind_of(words::key_of(&s[..n]));
+    let row = find_keyword(words::key_of(&s[..n]));
     let left = s.len() - n;
-    let Took::Bytes(m) = read_words(kind, &s[n..]) else {
+    let shape = row.shape;
+    let Took::Bytes(m) = read_shape(shape, &s[n..]) else {
         return Kind::Bad;
     };
+    let kind = row.kind;
     if m == left { kind } else { Kind::Bad }
 }
 
@@ -231,7 +339,7 @@ pub fn read_line(s: &[u8]) -> Kind
     ensures form { λ r. ⌜ r ≡ lineKind (now (s .entry)) ⌝ }
     ensures exact { λ r. ⌜ IsLine (now (s .entry)) r ⌝ }
 {
-    if 4095 < s.len() {
+    if LINE_BYTES < s.len() {
         return Kind::Bad;
     }
     if words::byte_at(s, 0) != b'(' {

@@ -33,11 +33,11 @@ key-of-requires c κs =
 sub-left : tie.Need-sub-left
 sub-left c = room (c .before .before .before) .0
 
-sub-read-words : tie.Need-sub-read-words
-sub-read-words c = room (c .before .before .before) .0
+sub-read-shape : tie.Need-sub-read-shape
+sub-read-shape c = room (c .before .before .before) .0
 
-part-read-words-start : tie.Need-part-read-words-start
-part-read-words-start c = omega (arith, room (c .before .before .before))
+part-read-shape-start : tie.Need-part-read-shape-start
+part-read-shape-start c = omega (arith, room (c .before .before .before))
 
 returns-2 : tie.Need-returns-2
 returns-2 c = search form-refused
@@ -51,4 +51,4 @@ returns-4 c = search form-rest
 pub read-form-spec : {M : Type 1} → statement M
 read-form-spec =
     tie.close
-    (tie.spec (λ c κs. search needs) (λ c. search needs) (λ c. search needs) returns slice-aggregate-key-of key-of-requires (λ c κs. search needs) sub-left sub-read-words part-read-words-start (λ c. search needs) (λ c κs. search needs) (λ c. search needs) (λ c. search needs) returns-2 returns-3 returns-4)
+    (tie.spec (λ c κs. search needs) (λ c. search needs) (λ c. search needs) returns slice-aggregate-key-of key-of-requires (λ c κs. search needs) sub-left sub-read-shape part-read-shape-start (λ c. search needs) (λ c κs. search needs) (λ c. search needs) (λ c. search needs) returns-2 returns-3 returns-4)

@@ -1,0 +1,13 @@
+-- `text::read_drawn` meets its contract. Assumes nothing.
+use borrow.Author.Needs.{needs}
+use Rattle.text.specs.LineForm.{drawnForm}
+use Rattle.text.proofs.read_drawn.Statement.{statement}
+use Rattle.text.proofs.read_drawn.Tie as tie
+
+returns : tie.Need-returns
+unfolding drawnForm
+returns c = cc
+
+pub read-drawn-spec : {M : Type 1} → statement M
+read-drawn-spec =
+    tie.close (tie.spec (λ c κs. search needs) (λ c κs. search needs) returns)
