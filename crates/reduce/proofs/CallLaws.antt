@@ -1,32 +1,33 @@
 -- Laws of the public call.
 use mathlib.Core.Path.{_≡_, refl, sym, ap, ap₂, subst, _∙_}
-use mathlib.Core.Bool.{Bool, true, false, not, _||_, _&&_, cond}
+use mathlib.Core.Bool.{Bool, true, false, not, _||_, cond}
 use mathlib.Core.List.{List, [], _∷_}
 use Prim.Native.Nat.{ℕ, zero, suc, pred, _+_, _-_, _*_, _^_, _≤_, _<_, min}
 use native.Mathlib.Omega.{arith}
-use native.Mathlib.Nat.{pow-suc, pow-zero, pow-le-pow-right, mul-le-mul}
+use native.Mathlib.Nat.{pow-suc, pow-le-pow-right, mul-le-mul}
 use native.Mathlib.Numerals.{add-one}
 use lib.ListN.{length, getD, replicate, length-replicate}
 use lib.Dec.{eqb, ltb}
-use borrow.Author.Tests.{lt-ltb, le-ltb, eqb-true, eqb-false, eq-eqb}
+use borrow.Author.Tests.{lt-ltb, le-ltb, eqb-true, eq-eqb}
+use Rattle.refusal.specs.declared.Refusal.the-variants.{Paths, Kinds, Runs, Combinations}
+use Rattle.refusal.specs.Outcome.{Outcome, ok, refused}
 use Rattle.basics.specs.Tests.{Flag, isTrue, isFalse, flag, Cmp, cmp, below, equal, above, Either, one, other, either, or-one, or-other}
 use Rattle.basics.specs.Members.{mem, clash}
 use Rattle.label.specs.Limits.{variableCount}
 use Rattle.diagram.specs.Diagram.{Diagram}
 use Rattle.diagram.specs.Rows.{rows}
-use Rattle.diagram.specs.Words.{rowCount, isListing}
+use Rattle.diagram.specs.Words.{rowCount}
 use Rattle.diagram.specs.Listing.{listing, diagramOf}
 use Rattle.diagram.specs.Validity.{Valid, tree}
-use Rattle.diagram.specs.Variables.{variables, closed}
+use Rattle.diagram.specs.Variables.{closed}
 use Rattle.diagram.specs.DiagramOfListing.{diagram-is}
 use Rattle.diagram.specs.ListingValid.{listing-is-valid}
 use Rattle.paths.specs.Paths.{paths, mostPaths, through}
 use Rattle.paths.specs.Routes.{pathAt}
 use Rattle.cutting.specs.Cut.{reduced, written}
-use Rattle.reduction.specs.declared.Reduced.the-variants.{Done, Not}
-use Rattle.reduction.specs.declared.Refused.the-variants.{Paths, Kinds, Runs, Formed}
+use Rattle.reduction.specs.declared.Reduced.the-variants.{Done, Refused}
 use Rattle.reduction.specs.Combinations.{someOf, formed, winners}
-use Rattle.reduction.specs.Reduction.{isOn, keeping, reducedDiagram, isPlain, mostRuns, runs, mostFormed, Answer, done, refused, reduceAnswer, answerOf, bufferOf}
+use Rattle.reduction.specs.Reduction.{isOn, keeping, reducedDiagram, isPlain, mostRuns, runs, mostFormed, reduceAnswer, answerOf, bufferOf}
 use Rattle.reduce.specs.Routing.{Routed, winning, staysIn}
 use Rattle.reduce.specs.FormedLaws.{winner-below}
 use Rattle.reduce.specs.Keeping.{keptOf, Writable, Shortened}
@@ -102,8 +103,8 @@ in-winning wins (suc m) k e = go (flag (eqb (getD wins m 0) 0)) (in-winning wins
     go (isFalse q) ih = last q (either (eqb k m) _ (rw q at e)) ih
 
 -- ===== Answers =====
-abbrev pick : Bool → Bool → Bool → Bool → Diagram → Answer
-pick a b c e x = cond a (refused Paths) (cond (not b) (refused Kinds) (cond c (refused Runs) (cond e (refused Formed) (done x))))
+abbrev pick : Bool → Bool → Bool → Bool → Diagram → Outcome Diagram
+pick a b c e x = cond a (refused Paths) (cond (not b) (refused Kinds) (cond c (refused Runs) (cond e (refused Combinations) (ok x))))
 
 module _ (ar : List ℕ) (d : Diagram) where
   answer-pick : reduceAnswer ar d ≡ pick (ltb mostPaths (length (paths d))) (isPlain ar d) (ltb mostRuns (runs ar d)) (ltb mostFormed (formed ar d)) (reducedDiagram ar d)
@@ -128,7 +129,7 @@ module _ (ar : List ℕ) (d : Diagram) where
           answer-pick ∙ ap₂ (λ (a b : Bool). pick a b (ltb mostRuns (runs ar d)) (ltb mostFormed (formed ar d)) (reducedDiagram ar d)) few p
           ∙ ap (λ (c : Bool). pick false true c (ltb mostFormed (formed ar d)) (reducedDiagram ar d)) (lt-ltb mostRuns (runs ar d) l)
 
-      answer-plain : runs ar d ≤ mostRuns → reduceAnswer ar d ≡ cond (ltb mostFormed (formed ar d)) (refused Formed) (done (reducedDiagram ar d))
+      answer-plain : runs ar d ≤ mostRuns → reduceAnswer ar d ≡ cond (ltb mostFormed (formed ar d)) (refused Combinations) (ok (reducedDiagram ar d))
       answer-plain l =
           answer-pick ∙ ap₂ (λ (a b : Bool). pick a b (ltb mostRuns (runs ar d)) (ltb mostFormed (formed ar d)) (reducedDiagram ar d)) few p
           ∙ ap (λ (c : Bool). pick false true c (ltb mostFormed (formed ar d)) (reducedDiagram ar d)) (le-ltb mostRuns (runs ar d) l)
@@ -163,13 +164,13 @@ module _ {ar ws counts used : List ℕ} {n m v all : ℕ} {out work : List ℕ} 
   unfolding runs
   runs-are = ap₂ (λ (x y : ℕ). x ^ x * y) (sym (g .count)) paths-are ∙ ap (λ (x : ℕ). x * m) (sym (g .power))
 
-  answer-is : reduceAnswer ar d ≡ cond (ltb mostFormed (formed ar d)) (refused Formed) (done (reducedDiagram ar d))
+  answer-is : reduceAnswer ar d ≡ cond (ltb mostFormed (formed ar d)) (refused Combinations) (ok (reducedDiagram ar d))
   answer-is = answer-plain ar d (omega (arith, paths-are, g .routed .few)) (g .plain) (omega (arith, runs-are, g .few))
 
   module _ {wins wins′ : List ℕ} {x : ℕ} (w : Winning ar ws m wins wins′ x) where
-    pub plain-many : mostFormed < x → Answered ar ws out (Not Formed) out
+    pub plain-many : mostFormed < x → Answered ar ws out (Refused Combinations) out
     plain-many h =
-        let e : reduceAnswer ar d ≡ refused Formed = answer-is ∙ ap (λ (c : Bool). cond c (refused Formed) (done (reducedDiagram ar d))) (lt-ltb mostFormed (formed ar d) (omega (arith, w .answer))) in
+        let e : reduceAnswer ar d ≡ refused Combinations = answer-is ∙ ap (λ (c : Bool). cond c (refused Combinations) (ok (reducedDiagram ar d))) (lt-ltb mostFormed (formed ar d) (omega (arith, w .answer))) in
         record { answer = sym (ap answerOf e); words = sym (ap (bufferOf out) e) }
 
     pub plain-writable : (k : ℕ) → mostPaths ≤ k → length wins′ ≡ length {A = ℕ} (replicate k 0) → Writable ar ws counts wins′ m out work
@@ -198,7 +199,7 @@ module _ {ar ws counts used : List ℕ} {n m v all : ℕ} {out work : List ℕ} 
 
       pub plain-done : {k : ℕ} {out′ : List ℕ} → Shortened ar ws wins′ m out k out′ → Answered ar ws out (Done k) out′
       plain-done {k} {out′} t =
-          let e : reduceAnswer ar d ≡ done (reducedDiagram ar d) = answer-is ∙ ap (λ (c : Bool). cond c (refused Formed) (done (reducedDiagram ar d))) (le-ltb mostFormed (formed ar d) (omega (arith, w .answer))) in
+          let e : reduceAnswer ar d ≡ ok (reducedDiagram ar d) = answer-is ∙ ap (λ (c : Bool). cond c (refused Combinations) (ok (reducedDiagram ar d))) (le-ltb mostFormed (formed ar d) (omega (arith, w .answer))) in
           record {
             answer = ap Done (t .answer ∙ ap (λ (y : Diagram). length (rows y)) left-is) ∙ sym (ap answerOf e);
             words = t .words ∙ ap (λ (y : Diagram). written (listing y) out) left-is ∙ sym (ap (bufferOf out) e);

@@ -2,12 +2,15 @@
 use mathlib.Core.Path.{_≡_, refl, sym, ap, ap₂, subst, _∙_}
 use mathlib.Core.Bool.{Bool, true, false, not, _||_, cond}
 use mathlib.Core.List.{List}
-use Prim.Native.Nat.{ℕ, suc, pred, _+_, _-_, _*_, _/_, _^_, _≤_, _<_, min}
+use Prim.Native.Nat.{ℕ, suc, pred, _-_, _*_, _/_, _^_, _≤_, _<_, min}
 use native.Mathlib.Omega.{arith}
 use native.Mathlib.Nat.{mul-le-mul, mul-le-mul-left}
 use lib.ListN.{length, getD, replicate, length-replicate}
 use lib.Dec.{ltb}
 use borrow.Author.Tests.{lt-ltb, le-ltb}
+use Rattle.refusal.specs.declared.Refusal.{Refusal}
+use Rattle.refusal.specs.declared.Refusal.the-variants.{Unbound, Listing, Paths, Buffer, Kinds, Runs}
+use Rattle.refusal.specs.Outcome.{Outcome, refused}
 use Rattle.basics.specs.Tests.{Cmp, cmp, below, equal, above, or-one, or-other}
 use Rattle.label.specs.Limits.{variableCount}
 use Rattle.listing.proofs.RowLaws.{not-taken, not-left}
@@ -26,15 +29,13 @@ use Rattle.paths.specs.Paths.{paths, mostPaths}
 use Rattle.paths.specs.PathLaws.{listing-rows, paths-some}
 use Rattle.paths.specs.Routes.{Rows, Counted}
 use Rattle.reduction.specs.declared.Reduced.{Reduced}
-use Rattle.reduction.specs.declared.Reduced.the-variants.{Done, Not}
-use Rattle.reduction.specs.declared.Refused.{Refused}
-use Rattle.reduction.specs.declared.Refused.the-variants.{Listing, Buffer, Unbound, Paths, Kinds, Runs}
-use Rattle.reduction.specs.Reduction.{isPlain, mostRuns, runs, Answer, refused, reduceAnswer, answerOf, bufferOf, hasParameter, reduceCall}
+use Rattle.reduction.specs.declared.Reduced.the-variants.{Refused}
+use Rattle.reduction.specs.Reduction.{isPlain, mostRuns, runs, reduceAnswer, answerOf, bufferOf, hasParameter, reduceCall}
 use Rattle.reduce.specs.Routing.{Routed}
-use Rattle.reduce.specs.Winning.{Plain, Answered, Markable, Reducible}
+use Rattle.reduce.specs.Winning.{Plain, Answered, Reducible}
 use Rattle.reduce.proofs.CallLaws.{answer-paths, answer-kinds, answer-runs}
 
-answered : (ar ws out : List ℕ) (x : Refused) → reduceAnswer ar (diagramOf ws) ≡ refused x → Answered ar ws out (Not x) out
+answered : (ar ws out : List ℕ) (x : Refusal) → reduceAnswer ar (diagramOf ws) ≡ refused x → Answered ar ws out (Refused x) out
 answered ar ws out x e = record { answer = sym (ap answerOf e); words = sym (ap (bufferOf out) e) }
 
 module _ {ar ws out work : List ℕ} (g : Reducible ar ws out work) where
@@ -63,7 +64,7 @@ module _ {ar ws out work : List ℕ} (g : Reducible ar ws out work) where
     count-is : M ≡ min 257 (length (paths d))
     count-is = c .each (length ws / 3 - 1) (omega (arith, check-some)) ∙ ap (λ (x : Diagram). min 257 (length (paths x))) root-is
 
-    pub check-many : mostPaths < M → Answered ar ws out (Not Paths) out
+    pub check-many : mostPaths < M → Answered ar ws out (Refused Paths) out
     check-many h = answered ar ws out Paths (answer-paths ar d (omega (arith, count-is)))
 
     module _ (h : M ≤ mostPaths) where
@@ -83,7 +84,7 @@ module _ {ar ws out work : List ℕ} (g : Reducible ar ws out work) where
       }
 
       module _ {b : Bool} (q : b ≡ isPlain ar d) where
-        pub check-kinds : not b ≡ true → Answered ar ws out (Not Kinds) out
+        pub check-kinds : not b ≡ true → Answered ar ws out (Refused Kinds) out
         check-kinds e = answered ar ws out Kinds (answer-kinds ar d (omega (arith, few)) (sym q ∙ not-taken b e))
 
         module _ (e : not b ≡ false) {used : List ℕ} (u : Used ar d used) {v : ℕ} (k : v ≡ markedVariables used) where
@@ -104,7 +105,7 @@ module _ {ar ws out work : List ℕ} (g : Reducible ar ws out work) where
             pub check-small : all * M ≤ suc mostRuns * mostPaths
             check-small = mul-le-mul (let z : all ≤ suc mostRuns = omega arith in z) h
 
-            pub check-runs : mostRuns < all * M → Answered ar ws out (Not Runs) out
+            pub check-runs : mostRuns < all * M → Answered ar ws out (Refused Runs) out
             check-runs l = answered ar ws out Runs (answer-runs ar d (omega (arith, few)) plain (subst (λ (x : ℕ). mostRuns < x) (sym runs-are) (go (cmp mostRuns (v ^ v)))))
               where
                 same : v ^ v ≤ mostRuns → mostRuns < v ^ v * M
@@ -136,21 +137,21 @@ abbrev pub Promised : List ℕ → List ℕ → List ℕ → List ℕ → Reduce
 Promised ar ws out work r out′ = (r ≡ answerOf (reduceCall ar ws (length out) (length work))) × (out′ ≡ bufferOf out (reduceCall ar ws (length out) (length work)))
 
 module _ (ar ws out work : List ℕ) where
-  abbrev Call : Answer
+  abbrev Call : Outcome Diagram
   Call = reduceCall ar ws (length out) (length work)
 
-  pick : Bool → Bool → Bool → Answer → Answer
+  pick : Bool → Bool → Bool → Outcome Diagram → Outcome Diagram
   pick a b c x = cond (not a) (refused Listing) (cond b (refused Buffer) (cond c (refused Unbound) x))
 
   call-pick : Call ≡ pick (isListing ar ws) (ltb (length out) resultWords || ltb (length work) spaceWords) (hasParameter ar (diagramOf ws)) (reduceAnswer ar (diagramOf ws))
   unfolding reduceCall pick
   call-pick = refl
 
-  not-made : (x : Refused) → Call ≡ refused x → Promised ar ws out work (Not x) out
+  not-made : (x : Refusal) → Call ≡ refused x → Promised ar ws out work (Refused x) out
   not-made x e = (sym (ap answerOf e), sym (ap (bufferOf out) e))
 
   module _ {b : Bool} (e : b ≡ isListing ar ws) where
-    pub call-listing : not b ≡ true → Promised ar ws out work (Not Listing) out
+    pub call-listing : not b ≡ true → Promised ar ws out work (Refused Listing) out
     unfolding pick
     call-listing f = not-made Listing (call-pick ∙ ap (λ (a : Bool). pick a (ltb (length out) resultWords || ltb (length work) spaceWords) (hasParameter ar (diagramOf ws)) (reduceAnswer ar (diagramOf ws))) (sym e ∙ not-taken b f))
 
@@ -162,10 +163,10 @@ module _ (ar ws out work : List ℕ) where
       unfolding pick
       small q = call-pick ∙ ap₂ (λ (a c : Bool). pick a c (hasParameter ar (diagramOf ws)) (reduceAnswer ar (diagramOf ws))) call-listed q
 
-      pub call-out : length out < resultWords → Promised ar ws out work (Not Buffer) out
+      pub call-out : length out < resultWords → Promised ar ws out work (Refused Buffer) out
       call-out h = not-made Buffer (small (or-one _ _ (lt-ltb (length out) resultWords h)))
 
-      pub call-work : length work < spaceWords → Promised ar ws out work (Not Buffer) out
+      pub call-work : length work < spaceWords → Promised ar ws out work (Refused Buffer) out
       call-work h = not-made Buffer (small (or-other (ltb (length out) resultWords) _ (lt-ltb (length work) spaceWords h)))
 
       module _ (h : resultWords ≤ length out) (k : spaceWords ≤ length work) where
@@ -181,7 +182,7 @@ module _ (ar ws out work : List ℕ) where
         call-reducible = record { listing = call-listed; out-room = h; work-room = k }
 
         module _ {p : Bool} (q : p ≡ hasParameter ar (diagramOf ws)) where
-          pub call-unbound : p ≡ true → Promised ar ws out work (Not Unbound) out
+          pub call-unbound : p ≡ true → Promised ar ws out work (Refused Unbound) out
           unfolding pick
           call-unbound z = not-made Unbound (asked true (sym q ∙ z))
 

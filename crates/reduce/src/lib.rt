@@ -3,7 +3,7 @@ use label::Label;
 use label::Term;
 use paths::PATHS;
 use reduction::Reduced;
-use reduction::Refused;
+use refusal::Refusal;
 use store::Formed;
 use write::Listed;
 ghost use mathlib.Core.Path.{_≡_};
@@ -687,7 +687,7 @@ fn reduce_plain(
     let mut wins = [0u64; PATHS];
     let formed = find_winners(arities, words, counts, used, n, m, v, all, &mut wins);
     if formed > FORMED {
-        return Reduced::Not(Refused::Formed);
+        return Reduced::Refused(Refusal::Combinations);
     }
     let left = write_kept(arities, words, counts, m, &wins, out, work);
     Reduced::Done(left)
@@ -733,16 +733,16 @@ pub fn reduce_checked(arities: &[u64], words: &[u64], out: &mut [u64], work: &mu
     paths::count_paths(words, &mut counts, n);
     let m = counts[n - 1] as usize;
     if m > PATHS {
-        return Reduced::Not(Refused::Paths);
+        return Reduced::Refused(Refusal::Paths);
     }
     listing::used(arities, words, &mut used);
     if !is_plain(arities, words, &used, n) {
-        return Reduced::Not(Refused::Kinds);
+        return Reduced::Refused(Refusal::Kinds);
     }
     let v = listing::count_variables(&used);
     let all = count_valuations(v);
     if all * m > RUNS {
-        return Reduced::Not(Refused::Runs);
+        return Reduced::Refused(Refusal::Runs);
     }
     reduce_plain(arities, words, &counts, &used, n, m, v, all, out, work)
 }
@@ -770,16 +770,16 @@ pub fn reduce(arities: &[u64], words: &[u64], out: &mut [u64], work: &mut [u64])
     ensures { λ _. ⌜ now (out .exit) ≡ bufferOf (now (out .entry)) (reduceCall (now (arities .entry)) (now (words .entry)) (length (now (out .entry))) (length (now (work .entry)))) ⌝ }
 {
     if !listing::check(arities, words) {
-        return Reduced::Not(Refused::Listing);
+        return Reduced::Refused(Refusal::Listing);
     }
     if out.len() < diagram::RESULT_WORDS {
-        return Reduced::Not(Refused::Buffer);
+        return Reduced::Refused(Refusal::Buffer);
     }
     if work.len() < diagram::SPACE_WORDS {
-        return Reduced::Not(Refused::Buffer);
+        return Reduced::Refused(Refusal::Buffer);
     }
     if has_parameter(arities, words) {
-        return Reduced::Not(Refused::Unbound);
+        return Reduced::Refused(Refusal::Unbound);
     }
     reduce_checked(arities, words, out, work)
 }

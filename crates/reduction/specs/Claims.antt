@@ -67,7 +67,7 @@ pub record Answered (ar : List ℕ) (d r : Diagram) : Type 0 where
   pub formed-few : formed ar d ≤ mostFormed
   pub is : reducedDiagram ar d ≡ r
 
--- what a backup or a cut asks of a value diagram of the values y, and leaves
+-- a value diagram of the values y, as backups, cuts and reductions ask for it and leave it: a listing, closed up, without parameters, with the highest leaf y in every state
 pub record Values (ar : List ℕ) (y : State → ℕ) (d : Diagram) : Type 0 where
   pub listed : Listed ar d
   pub is-closed : closed ar d ≡ d

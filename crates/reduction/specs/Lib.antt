@@ -27,8 +27,7 @@
 --   isPlain == no equality and no constant is present (26)
 --   mostRuns, runs == 512; valuations times paths (27)
 --   mostFormed == 100,000 (28)
---   numberOf == the numbers of the refusals
---   Answer, reduceAnswer == the diagram left, or the first of 17, 26, 27, 28
+--   reduceAnswer == the diagram left, or the first of 17, 26, 27, 28
 --   hasParameter, reduceCall == a parameter is present; what the call on lent words answers: 14, 18, 6, then those
 --   answerOf, bufferOf == what the call answers and leaves in the result buffer
 --
@@ -42,7 +41,8 @@
 --
 -- Theorems
 --   reduce-keeps: a reduction leaves the value in every state
---   reduce-is: it leaves a value diagram one of the same values, as backups and cuts want it: with a listing, closed up, without parameters
+--   reduce-is: it leaves a value diagram one of the same values, as backups, cuts and reductions want it: with a listing, closed up, without parameters
+--   within-closed, closed-highest: closing up adds no parameter and keeps the highest leaf
 --   reduced-few: at most 511 rows are left, so that 9 is never met
 --   answered: an answer is given if none of 17, 26, 27 and 28 is met
 --   choices-in, in-choices, choices-once: the choices are the consistent ones, each once

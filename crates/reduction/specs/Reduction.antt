@@ -4,6 +4,8 @@ use mathlib.Core.List.{List}
 use Prim.Native.Nat.{ℕ, _*_, _^_}
 use lib.ListN.{length}
 use lib.Dec.{eqb, ltb}
+use Rattle.refusal.specs.declared.Refusal.the-variants.{Unbound, Listing, Paths, Buffer, Kinds, Runs, Combinations}
+use Rattle.refusal.specs.Outcome.{Outcome, ok, refused}
 use Rattle.label.specs.Limits.{equality, parameterCount}
 use Rattle.label.specs.Terms.{isConstant, parameterTerm}
 use Rattle.label.specs.Labels.{predicateOf, unpacked, termsOf}
@@ -16,10 +18,8 @@ use Rattle.diagram.specs.Variables.{variables, closed, occurs}
 use Rattle.paths.specs.Paths.{paths, mostPaths, through}
 use Rattle.paths.specs.Routes.{pathAt}
 use Rattle.cutting.specs.Cut.{reduced, written}
-use Rattle.reduction.specs.declared.Refused.{Refused}
-use Rattle.reduction.specs.declared.Refused.the-variants.{Listing, Buffer, Unbound, Paths, Kinds, Runs, Formed}
 use Rattle.reduction.specs.declared.Reduced.{Reduced}
-use Rattle.reduction.specs.declared.Reduced.the-variants.{Done, Not}
+use Rattle.reduction.specs.declared.Reduced.the-variants.{Done, Refused}
 use Rattle.reduction.specs.Combinations.{someOf, winners, formed}
 
 -- ===== "turn every edge on no winning path to 0, then reduce and close up" =====
@@ -61,30 +61,15 @@ runs ar d = length (variables ar d) ^ length (variables ar d) * length (paths d)
 abbrev pub mostFormed : ℕ
 mostFormed = 100000
 
--- the numbers of the refusals
-abbrev pub numberOf : Refused → ℕ
-numberOf Listing = 14
-numberOf Buffer = 18
-numberOf Unbound = 6
-numberOf Paths = 17
-numberOf Kinds = 26
-numberOf Runs = 27
-numberOf Formed = 28
-
--- the diagram that is left, or the refusal
-pub data Answer : Type 0 where
-  done : Diagram → Answer
-  refused : Refused → Answer
-
--- 26, 27 and 28 "in this order and after 17"
-unfoldable pub reduceAnswer : List ℕ → Diagram → Answer
+-- the diagram that is left, or why there is none: 26, 27 and 28 "in this order and after 17"
+unfoldable pub reduceAnswer : List ℕ → Diagram → Outcome Diagram
 unfolding isPlain runs formed reducedDiagram paths
 reduceAnswer ar d =
     cond (ltb mostPaths (length (paths d))) (refused Paths)
     (cond (not (isPlain ar d)) (refused Kinds)
     (cond (ltb mostRuns (runs ar d)) (refused Runs)
-    (cond (ltb mostFormed (formed ar d)) (refused Formed)
-    (done (reducedDiagram ar d)))))
+    (cond (ltb mostFormed (formed ar d)) (refused Combinations)
+    (ok (reducedDiagram ar d)))))
 
 -- ===== What the call answers =====
 
@@ -93,7 +78,7 @@ unfoldable pub hasParameter : List ℕ → Diagram → Bool
 hasParameter ar d = someOf (λ i. occurs ar (parameterTerm i) d) (upTo parameterCount)
 
 -- what a reduction of the words ws answers, with n words of result buffer and m of working space: "Library calls check 14 by operand, then 18"; then 6 for a parameter
-unfoldable pub reduceCall : List ℕ → List ℕ → ℕ → ℕ → Answer
+unfoldable pub reduceCall : List ℕ → List ℕ → ℕ → ℕ → Outcome Diagram
 reduceCall ar ws n m =
     cond (not (isListing ar ws)) (refused Listing)
     (cond (ltb n resultWords || ltb m spaceWords) (refused Buffer)
@@ -101,11 +86,11 @@ reduceCall ar ws n m =
     (reduceAnswer ar (diagramOf ws))))
 
 -- "printing (reduce rows)"
-abbrev pub answerOf : Answer → Reduced
-answerOf (done r) = Done (length (rows r))
-answerOf (refused x) = Not x
+abbrev pub answerOf : Outcome Diagram → Reduced
+answerOf (ok r) = Done (length (rows r))
+answerOf (refused x) = Refused x
 
 -- the result buffer after a reduction: the listing of what is left, the words behind it as they were; after a refusal as it was
-abbrev pub bufferOf : List ℕ → Answer → List ℕ
-bufferOf out (done r) = written (listing r) out
+abbrev pub bufferOf : List ℕ → Outcome Diagram → List ℕ
+bufferOf out (ok r) = written (listing r) out
 bufferOf out (refused x) = out

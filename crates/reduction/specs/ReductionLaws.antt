@@ -7,6 +7,9 @@ use native.Mathlib.Omega.{arith}
 use lib.ListN.{length}
 use lib.Dec.{eqb, ltb}
 use borrow.Author.Tests.{ltb-false, not-true}
+use Rattle.refusal.specs.declared.Refusal.{Refusal}
+use Rattle.refusal.specs.declared.Refusal.the-variants.{Paths, Kinds, Runs, Combinations}
+use Rattle.refusal.specs.Outcome.{ok, refused, Accepted}
 use Rattle.basics.specs.Tests.{and-left, and-right}
 use Rattle.basics.specs.Members.{clash}
 use Rattle.label.specs.Limits.{equality, constantCount, firstVariable}
@@ -27,10 +30,8 @@ use Rattle.regression.specs.Parameters.{Allowed, Within}
 use Rattle.regression.specs.ResultLaws.{terms-every, every-terms}
 use Rattle.paths.specs.Paths.{paths, mostPaths}
 use Rattle.cutting.specs.Cut.{reduced}
-use Rattle.reduction.specs.declared.Refused.{Refused}
-use Rattle.reduction.specs.declared.Refused.the-variants.{Paths, Kinds, Runs, Formed}
 use Rattle.reduction.specs.Combinations.{someOf, formed, winners}
-use Rattle.reduction.specs.Reduction.{isOn, keeping, reducedDiagram, isPlain, runs, mostRuns, mostFormed, done, refused, reduceAnswer}
+use Rattle.reduction.specs.Reduction.{isOn, keeping, reducedDiagram, isPlain, runs, mostRuns, mostFormed, reduceAnswer}
 use Rattle.reduction.specs.Claims.{Answered, Values}
 use Rattle.reduction.specs.KeepingLaws.{keeping-every, keeping-good, keeping-few, reduced-every}
 use Rattle.reduction.specs.ModelLaws.{Varied, keeping-highest}
@@ -63,20 +64,20 @@ plain-every ar (branch l t f) e w =
 pub plain-varied : (ar : List ℕ) (d : Diagram) → isPlain ar d ≡ true → Within 0 (meaning ar d) → EveryLabel (Varied ar) d
 plain-varied ar d e w = plain-every ar d e (terms-every (Allowed 0) ar d (w .terms))
 
-pub answered : (ar : List ℕ) (d r : Diagram) → reduceAnswer ar d ≡ done r → Answered ar d r
+pub answered : (ar : List ℕ) (d r : Diagram) → reduceAnswer ar d ≡ ok r → Answered ar d r
 unfolding reduceAnswer
 answered ar d r e = go (ltb mostPaths (length (paths d))) refl (isPlain ar d) refl (ltb mostRuns (runs ar d)) refl (ltb mostFormed (formed ar d)) refl e
   where
-    not-refused : (n : Refused) → refused n ≡ done r → ⊥
+    not-refused : (n : Refusal) → refused n ≡ ok r → ⊥
     not-refused n z = let f : _≡_ {A = ℕ} 0 1 = cc in omega arith
 
     go : (a : Bool) → ltb mostPaths (length (paths d)) ≡ a → (b : Bool) → isPlain ar d ≡ b → (c : Bool) → ltb mostRuns (runs ar d) ≡ c
         → (x : Bool) → ltb mostFormed (formed ar d) ≡ x
-        → cond a (refused Paths) (cond (not b) (refused Kinds) (cond c (refused Runs) (cond x (refused Formed) (done (reducedDiagram ar d))))) ≡ done r → Answered ar d r
+        → cond a (refused Paths) (cond (not b) (refused Kinds) (cond c (refused Runs) (cond x (refused Combinations) (ok (reducedDiagram ar d))))) ≡ ok r → Answered ar d r
     go true p b q c u x v z = absurd (not-refused Paths z)
     go false p false q c u x v z = absurd (not-refused Kinds z)
     go false p true q true u x v z = absurd (not-refused Runs z)
-    go false p true q false u true v z = absurd (not-refused Formed z)
+    go false p true q false u true v z = absurd (not-refused Combinations z)
     go false p true q false u false v z = record {
       paths-few = ltb-false mostPaths (length (paths d)) p;
       plain = q;
@@ -124,7 +125,7 @@ module _ (ar : List ℕ) (d : Diagram) (listed : Listed ar d) (few : length (pat
 -- ===== The theorems =====
 
 -- "The value is the same in every state"
-pub reduce-keeps : (ar : List ℕ) (d r : Diagram) → Listed ar d → Within 0 (meaning ar d) → reduceAnswer ar d ≡ done r
+pub reduce-keeps : (ar : List ℕ) (d r : Diagram) → Listed ar d → Within 0 (meaning ar d) → reduceAnswer ar d ≡ ok r
     → (s : State) → Good s → highest s [] (meaning ar r) ≡ highest s [] (meaning ar d)
 reduce-keeps ar d r listed w e s good =
     let a = answered ar d r e in
@@ -132,13 +133,16 @@ reduce-keeps ar d r listed w e s good =
     let h = reduced-highest ar d listed (a .paths-few) (a .plain) w s [] (highest s [] (meaning ar d)) (highest-is s [] good b (meaning ar d)) in
     highest-one (meaning ar r) (highest-is s [] good b (meaning ar r)) (subst (λ (x : Diagram). Highest s [] (meaning ar x) (highest s [] (meaning ar d))) (a .is) h)
 
--- so does a reduction: "lists of backups and cuts may now hold reductions anywhere"
-pub reduce-is : (ar : List ℕ) (y : State → ℕ) (d r : Diagram) → Values ar y d → reduceAnswer ar d ≡ done r → Values ar y r
-reduce-is ar y d r v e =
-    let a = answered ar d r e in
-    subst (Values ar y) (a .is) (record {
-      listed = reduced-listed ar d (v .listed) (a .paths-few);
-      is-closed = reduced-closed ar d (v .listed) (a .paths-few);
-      within = reduced-within ar d (v .listed) (a .paths-few) (v .within);
-      high = λ s g. reduced-highest ar d (v .listed) (a .paths-few) (a .plain) (v .within) s [] (y s) (v .high s g);
-    })
+-- so that "lists of backups and cuts may now hold reductions anywhere"
+pub reduce-is : (ar : List ℕ) (y : State → ℕ) (d : Diagram) → Values ar y d → Accepted (Values ar y) (reduceAnswer ar d)
+reduce-is ar y d v = record { given = values }
+  where
+    values : (r : Diagram) → reduceAnswer ar d ≡ ok r → Values ar y r
+    values r e =
+        let a = answered ar d r e in
+        subst (Values ar y) (a .is) (record {
+          listed = reduced-listed ar d (v .listed) (a .paths-few);
+          is-closed = reduced-closed ar d (v .listed) (a .paths-few);
+          within = reduced-within ar d (v .listed) (a .paths-few) (v .within);
+          high = λ s g. reduced-highest ar d (v .listed) (a .paths-few) (a .plain) (v .within) s [] (y s) (v .high s g);
+        })
