@@ -124,7 +124,7 @@ bellman-discounted m good k s = makes-times (bellman-makes m good k s)
 pub bellman-over-scale : (m : Model) → GoodModel m → (k : ℕ) (s : State) → Equal (ratio (bellman m k s) (scale m ^ k)) (discounted m k s)
 bellman-over-scale m good k s = makes-ratio (power-some (scale m) k (scale-some m good)) (bellman-makes m good k s)
 
--- demand 3 in its own words: after every list of backups and cuts, in every state, the highest leaf of the value diagram is S^k times the k-step Bellman value
+-- demand 3 in its own words: after every list of backups, cuts and reductions, in every state, the highest leaf of the value diagram is S^k times the k-step Bellman value
 pub demand-3-discounted : (m : Model) → GoodModel m → (l : List Call) (s : State) → Good s
     → Equal (whole (highest s [] (meaning (m .arities) (run m l .diagram)))) (times (whole (scale m ^ run m l .steps)) (discounted m (run m l .steps) s))
 demand-3-discounted m good l s g = rw (demand-3 m good l s g) (bellman-discounted m good (run m l .steps) s)

@@ -31,10 +31,12 @@ use Rattle.regression.specs.Parameters.{Allowed, Within, GoodTruths, WithinTrut
 use Rattle.regression.specs.Next.{meanings}
 use Rattle.regression.specs.NextLaws.{Tells, regressed-tells, regressed-highest, next-good}
 use Rattle.regression.specs.RegressCall.{freedOutcome}
+use Rattle.reduction.specs.Claims.{Values}
+use Rattle.reduction.specs.ClosedLaws.{within-closed, closed-highest}
 use Rattle.mdp.specs.Model.{Variant, Action, Model, scale, Every, GoodVariant, GoodAction, GoodModel}
 use Rattle.mdp.specs.Bellman.{weightIn, stateAfter, rewardIn, bellman}
 use Rattle.mdp.specs.Backup.{combined, variantsSum, actionsBest, highestScale, mostSteps, scaleEnds, backup, rowOfCalls}
-use Rattle.mdp.specs.CallLaws.{within-more, leaf-listed, leaf-within, leaf-value, within-closed, closed-highest, shared-made, apart-added, freed-to}
+use Rattle.mdp.specs.CallLaws.{within-more, leaf-listed, leaf-within, leaf-value, shared-made, apart-added, freed-to}
 
 -- ===== Variants =====
 
@@ -84,13 +86,6 @@ has-same {ar = ar} {d = d} h e = record {
   within = h .within;
   high = λ s g os t. subst (λ (x : ℕ). Highest s os (meaning ar d) x) (e s os) (h .high s g os t);
 }
-
--- a value diagram: a listing, closed up, without parameters, with the highest leaf y in every state
-pub record Values (ar : List ℕ) (y : State → ℕ) (d : Diagram) : Type 0 where
-  pub listed : Listed ar d
-  pub is-closed : closed ar d ≡ d
-  pub within : Within 0 (meaning ar d)
-  pub high : (s : State) → Good s → Highest s [] (meaning ar d) (y s)
 
 only-nil : {n : ℕ} {os : List ℕ} → Tuple n 0 os → [] ≡ os
 only-nil none = refl

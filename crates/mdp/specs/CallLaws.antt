@@ -4,7 +4,6 @@ use mathlib.Core.Bool.{true, false}
 use mathlib.Core.List.{List, []}
 use Prim.Native.Nat.{ℕ, _+_, _-_, _≤_, _<_}
 use native.Mathlib.Omega.{arith}
-use native.Mathlib.Nat.{le-of-eq}
 use lib.ListN.{length}
 use borrow.Author.Tests.{ltb-false}
 use Rattle.refusal.specs.declared.Refusal.the-variants.{Variables}
@@ -16,17 +15,17 @@ use Rattle.label.specs.Limits.{firstParameter, parameterCount, firstVariable, v
 use Rattle.label.specs.LabelLaws.{term-below}
 use Rattle.label.specs.Labels.{areArities}
 use Rattle.label.specs.Renamings.{numbering}
-use Rattle.label.specs.RenamingLaws.{Numbered, numbering-low, numbering-high, numbering-increasing}
+use Rattle.label.specs.RenamingLaws.{Numbered, numbering-increasing}
 use Rattle.diagram.specs.Sizes.{mostRows, highestValue}
 use Rattle.diagram.specs.Diagram.{Diagram, leaf, eval, relabel}
 use Rattle.diagram.specs.Rows.{rows, onto}
 use Rattle.diagram.specs.Listing.{Fine, Good as Listed}
 use Rattle.diagram.specs.Variables.{occurs, variables, closedFrom, closed, after}
-use Rattle.rename.specs.Valuations.{holds as chooses, leafOf, ClosedFree, ApartFree}
+use Rattle.rename.specs.Valuations.{ApartFree}
 use Rattle.rename.specs.Freeing.{freed, Freeable}
-use Rattle.rename.specs.VariableLaws.{variables-few, terms-numbered, occurs-term, renaming-rows}
-use Rattle.rename.specs.ClosingLaws.{occurs-closedFrom, closed-good, closed-twice, after-good}
-use Rattle.rename.specs.ApartLaws.{closed-free, apart-free}
+use Rattle.rename.specs.VariableLaws.{terms-numbered, occurs-term, renaming-rows}
+use Rattle.rename.specs.ClosingLaws.{closed-good, closed-twice, after-good}
+use Rattle.rename.specs.ApartLaws.{apart-free}
 use Rattle.rename.specs.FreeingLaws.{freed-good}
 use Rattle.apply.specs.declared.Operation.{Operation}
 use Rattle.apply.specs.declared.Operation.the-variants.{Sum}
@@ -39,7 +38,6 @@ use Rattle.apply.specs.GoodLaws.{every-apply, fine-apply, good-apply, fine-ever
 use Rattle.apply.specs.Combination.{operate, combination, diagramAnswer}
 use Rattle.apply.specs.CombinationLaws.{done-accepted, good-shared}
 use Rattle.state.specs.Max.{Tuple, maxTuples}
-use Rattle.state.specs.MaxLaws.{max-by}
 use Rattle.state.specs.State.{atomOf, meaning, State, Good, truth, holds, value}
 use Rattle.state.specs.Terms.{Each, args}
 use Rattle.state.specs.ValueLaws.{Terms-mono}
@@ -50,14 +48,10 @@ use Rattle.regression.specs.NextLaws.{terms-occur, occur-terms}
 use Rattle.regression.specs.RegressCall.{anyOccurs, freedOutcome}
 use Rattle.regression.specs.RegressCallLaws.{any-quiet}
 use Rattle.regression.specs.FreeCallLaws.{IsFreed, meaning-freed, freed-highest, freed-within}
+use Rattle.reduction.specs.ClosedLaws.{value-leaf, within-closedFrom, closed-room, within-closed, closed-highest}
 use Rattle.mdp.specs.Backup.{given, combined}
 
 -- ===== Meanings and parameters =====
-
--- the leaf that a valuation of a state leads to, as closing up and combination have it
-pub value-leaf : (ar : List ℕ) (s : State) (d : Diagram) (θ : ℕ → ℕ) → value s (meaning ar d) θ ≡ leafOf ar (truth s) θ d
-unfolding holds atomOf chooses
-value-leaf ar s d θ = value-meaning s ar d θ
 
 pub within-each : (c : ℕ) (ar : List ℕ) (d : Diagram) → ((t : ℕ) → occurs ar t d ≡ true → Allowed c t) → Within c (meaning ar d)
 within-each c ar d h = record { terms = Terms-mono (λ t. occurs ar t d ≡ true) (Allowed c) h (meaning ar d) (occur-terms ar d) }
@@ -89,42 +83,7 @@ leaf-value ar s x θ = refl
 
 -- ===== Closing up =====
 
-within-closedFrom : (c : ℕ) (ar : List ℕ) (m : ℕ) (d : Diagram) → firstVariable ≤ m → m + length (variables ar d) ≤ termEnd → Listed ar d
-    → Within c (meaning ar d) → Within c (meaning ar (closedFrom ar m d))
-within-closedFrom c ar m d low room good w = within-each c ar (closedFrom ar m d) (λ t e. let o = occurs-closedFrom ar m d low room good t e in
-    go t (o .origin) (o .gives) (each-within c ar d w (o .origin) (o .occurring)) (cmp (o .origin) firstVariable))
-  where
-    go : (t u : ℕ) → numbering (variables ar d) m u ≡ t → Allowed c u → Cmp u firstVariable → Allowed c t
-    go t u g a (below h) k = let z = numbering-low (variables ar d) m u h in let y = a (omega arith) in absurd (omega arith)
-    go t u g a (equal h) k = let z = numbering-high (variables ar d) m u (omega arith) in omega arith
-    go t u g a (above h) k = let z = numbering-high (variables ar d) m u (omega arith) in omega arith
-
-closed-room : (ar : List ℕ) (d : Diagram) → firstVariable + length (variables ar d) ≤ termEnd
-closed-room ar d = omega (arith, variables-few ar d)
-
-pub within-closed : (c : ℕ) (ar : List ℕ) (d : Diagram) → Listed ar d → Within c (meaning ar d) → Within c (meaning ar (closed ar d))
-unfolding closed
-within-closed c ar d good w = within-closedFrom c ar firstVariable d (omega arith) (closed-room ar d) good w
-
--- closing up keeps the highest leaf
-pub closed-highest : (ar : List ℕ) (d : Diagram) → Listed ar d → (s : State) (os : List ℕ) (x : ℕ) → Highest s os (meaning ar d) x → Highest s os (meaning ar (closed ar d)) x
-unfolding closed
-closed-highest ar d good s os x m = max-by m
-    (λ θ f. let c = free .closed-by θ in (
-      c .assign,
-      record { low = λ t h. c .low t h ∙ f .low t h; range = c .range (s .size) (f .range) },
-      le-of-eq (value-leaf ar s d θ ∙ sym (c .value (truth s)) ∙ sym (value-leaf ar s (closedFrom ar firstVariable d) (c .assign))),
-    ))
-    (λ θ f. let c = free .opened-by θ in (
-      c .assign,
-      record { low = λ t h. c .low t h ∙ f .low t h; range = c .range (s .size) (f .range) },
-      le-of-eq (value-leaf ar s (closedFrom ar firstVariable d) θ ∙ c .value (truth s) ∙ sym (value-leaf ar s d (c .assign))),
-    ))
-  where
-    free : ClosedFree ar firstVariable d
-    free = closed-free ar firstVariable d (omega arith) (closed-room ar d) good
-
--- it changes no count of rows
+-- closing up changes no count of rows
 pub closed-count : (ar : List ℕ) (d : Diagram) → areArities ar ≡ true → Fine ar d → length (rows (closed ar d)) ≡ length (rows d)
 unfolding closed closedFrom
 closed-count ar d good fine =

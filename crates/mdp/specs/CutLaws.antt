@@ -13,7 +13,7 @@ use Rattle.diagram.specs.Diagram.{Diagram, leaf, branch, same}
 use Rattle.diagram.specs.Rows.{rows}
 use Rattle.diagram.specs.RowLists.{rowTree}
 use Rattle.rename.specs.ClosingLaws.{closed-good, closed-twice}
-use Rattle.apply.specs.GoodLaws.{EveryLabel, every-node}
+use Rattle.apply.specs.GoodLaws.{EveryLabel}
 use Rattle.state.specs.State.{atomOf, meaning, State}
 use Rattle.state.specs.Terms.{Each, args}
 use Rattle.regression.specs.Parameters.{Allowed, Within}
@@ -24,9 +24,10 @@ use Rattle.cutting.specs.Cut.{MayGo, Choice, reduced, cutAt, cutDiagram, edgeOf
 use Rattle.cutting.specs.CoverLaws.{Chosen, highest, nothing, chosen}
 use Rattle.cutting.specs.TruthLaws.{cut-keeps}
 use Rattle.cutting.specs.ReduceLaws.{cut-good}
+use Rattle.reduction.specs.Claims.{Values}
+use Rattle.reduction.specs.KeepingLaws.{reduced-every}
+use Rattle.reduction.specs.ClosedLaws.{within-closed, closed-highest}
 use Rattle.mdp.specs.Runs.{leaves, cutOutcome}
-use Rattle.mdp.specs.CallLaws.{within-closed, closed-highest}
-use Rattle.mdp.specs.BackupLaws.{Values}
 
 -- the labels that are left are labels of the diagram
 every-pick : (P : ℕ → Type 0) (b : Bool) (x y : Diagram) → EveryLabel P x → EveryLabel P y → EveryLabel P (cond b x y)
@@ -42,14 +43,9 @@ every-cut P r b (branch l t f) h = (
   every-pick P (same r (branch l t f) && not b) (leaf 0) (cutAt r b f) tt (every-cut P r b f (h .2)),
 )
 
-every-reduced : (P : ℕ → Type 0) (d : Diagram) → EveryLabel P d → EveryLabel P (reduced d)
-unfolding reduced
-every-reduced P (leaf v) h = tt
-every-reduced P (branch l t f) h = every-node P l (reduced t) (reduced f) (h .0) (every-reduced P t (h .1)) (every-reduced P f (h .2))
-
 within-cut : (c : ℕ) (ar : List ℕ) (r : Diagram) (b : Bool) (d : Diagram) → Within c (meaning ar d) → Within c (meaning ar (reduced (cutAt r b d)))
 within-cut c ar r b d w = record {
-  terms = every-terms (Allowed c) ar (reduced (cutAt r b d)) (every-reduced (λ l. Each (Allowed c) (args (atomOf ar l))) (cutAt r b d)
+  terms = every-terms (Allowed c) ar (reduced (cutAt r b d)) (reduced-every (λ l. Each (Allowed c) (args (atomOf ar l))) (cutAt r b d)
       (every-cut (λ l. Each (Allowed c) (args (atomOf ar l))) r b d (terms-every (Allowed c) ar d (w .terms))));
 }
 

@@ -9,7 +9,7 @@ use Rattle.label.specs.Limits.{firstParameter, firstVariable, leafMark, predica
 use Rattle.label.specs.Terms.{isTerm, isConstant, isParameter, isVariable}
 use Rattle.label.specs.Labels.{areArities, isLabel, isAtom, placeFits, inOrder, packed, unpacked, predicateOf, termsOf}
 use Rattle.label.specs.Renamings.{renamed, mapped, placed, numbering}
-use Rattle.diagram.specs.Diagram.{Diagram, leaf, branch, relabel}
+use Rattle.diagram.specs.Diagram.{Diagram, leaf, relabel}
 use Rattle.diagram.specs.Words.{isListing, labelAt, highAt, lowAt, isLeafRow, isBranchRow, equalRows, areDistinct, finish, areNumbered}
 use Rattle.diagram.specs.Listing.{Good, diagramOf, treeAt}
 use Rattle.diagram.specs.Listings.{is-listing-good}

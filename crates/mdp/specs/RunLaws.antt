@@ -1,4 +1,4 @@
--- Demand 3, whole: after every list of backups and cuts, refused ones among them, the highest leaf of the value diagram is Mk, in every state.
+-- Demand 3, whole: after every list of backups, cuts and reductions, refused ones among them, the highest leaf of the value diagram is Mk, in every state.
 use mathlib.Core.Path.{_≡_, refl}
 use mathlib.Core.List.{List, [], _∷_}
 use Prim.Native.Nat.{ℕ, suc}
@@ -8,11 +8,14 @@ use Rattle.state.specs.MaxLaws.{max-one}
 use Rattle.state.specs.State.{meaning, State, Good}
 use Rattle.state.specs.Highest.{highest}
 use Rattle.state.specs.HighestLaws.{highest-is}
+use Rattle.reduction.specs.Claims.{Values}
+use Rattle.reduction.specs.Reduction.{reduceAnswer}
+use Rattle.reduction.specs.ReductionLaws.{reduce-is}
 use Rattle.mdp.specs.Model.{Model, GoodModel}
 use Rattle.mdp.specs.Bellman.{rewardIn, bellman}
 use Rattle.mdp.specs.Backup.{backup}
-use Rattle.mdp.specs.Runs.{Call, aBackup, aCut, Held, cutOutcome, taken, call, runFrom, begin, run}
-use Rattle.mdp.specs.BackupLaws.{Values, bound-none, backup-is}
+use Rattle.mdp.specs.Runs.{Call, aBackup, aCut, aReduce, Held, cutOutcome, taken, call, runFrom, begin, run}
+use Rattle.mdp.specs.BackupLaws.{bound-none, backup-is}
 use Rattle.mdp.specs.CutLaws.{cut-is}
 
 -- the value diagram has a listing, is closed up, has no parameter, and its highest leaf in every state is Mk
@@ -28,6 +31,7 @@ module _ (m : Model) (good : GoodModel m) where
   unfolding call
   call-right aBackup h r = taken-right m h (backup m (h .steps) (h .diagram)) (suc (h .steps)) r (backup-is m good (h .steps) (h .diagram) r)
   call-right aCut h r = taken-right m h (cutOutcome (m .arities) (h .diagram)) (h .steps) r (cut-is (m .arities) (bellman m (h .steps)) (h .diagram) r)
+  call-right aReduce h r = taken-right m h (reduceAnswer (m .arities) (h .diagram)) (h .steps) r (reduce-is (m .arities) (bellman m (h .steps)) (h .diagram) r)
 
   pub runFrom-right : (l : List Call) (h : Held) → Right m h → Right m (runFrom m l h)
   unfolding runFrom
@@ -47,7 +51,7 @@ module _ (m : Model) (good : GoodModel m) where
   unfolding run
   run-right l = runFrom-right l (begin m) begin-right
 
--- for every model that reading can accept, every list of backups and cuts, every state of one object or more
+-- for every model that reading can accept, every list of backups, cuts and reductions, every state of one object or more
 pub demand-3 : (m : Model) → GoodModel m → (l : List Call) (s : State) → Good s
     → highest s [] (meaning (m .arities) (run m l .diagram)) ≡ bellman m (run m l .steps) s
 demand-3 m good l s g =

@@ -1,4 +1,4 @@
--- Runs of backups and cuts on one model (document 01, sections 'Backup' and 'Cut').
+-- Runs of backups, cuts and reductions on one model (document 01, sections 'Backup' and 'Cut'; document 02, L13).
 use mathlib.Core.List.{List, [], _∷_}
 use Prim.Native.Nat.{ℕ, suc}
 use Rattle.refusal.specs.Outcome.{Outcome, ok, refused}
@@ -6,12 +6,14 @@ use Rattle.diagram.specs.Diagram.{Diagram}
 use Rattle.cutting.specs.declared.Cut.{Cut}
 use Rattle.cutting.specs.declared.Cut.the-variants.{Done, Refused}
 use Rattle.cutting.specs.Cut.{diagramAnswer, cutDiagram, isTrueEdge}
+use Rattle.reduction.specs.Reduction.{reduceAnswer}
 use Rattle.mdp.specs.Model.{Model}
 use Rattle.mdp.specs.Backup.{backup}
 
 pub data Call : Type 0 where
   aBackup : Call
   aCut : Call
+  aReduce : Call
 
 -- the value diagram, and k
 pub record Held : Type 0 where
@@ -32,11 +34,12 @@ abbrev pub taken : Held → Outcome Diagram → ℕ → Held
 taken h (ok d) k = record { diagram = d; steps = k }
 taken h (refused r) k = h
 
--- an accepted backup adds 1 to k, an accepted cut leaves it
+-- an accepted backup adds 1 to k, an accepted cut or reduction leaves it
 unfoldable pub call : Model → Call → Held → Held
-unfolding backup cutOutcome
+unfolding backup cutOutcome reduceAnswer
 call m aBackup h = taken h (backup m (h .steps) (h .diagram)) (suc (h .steps))
 call m aCut h = taken h (cutOutcome (m .arities) (h .diagram)) (h .steps)
+call m aReduce h = taken h (reduceAnswer (m .arities) (h .diagram)) (h .steps)
 
 unfoldable pub runFrom : Model → List Call → Held → Held
 unfolding call

@@ -31,9 +31,10 @@ use Rattle.regression.specs.FreeCallLaws.{own-freed}
 use Rattle.cutting.specs.declared.Edge.{Edge}
 use Rattle.cutting.specs.declared.Cut.the-variants.{Done as CutDone, Refused as CutRefused}
 use Rattle.cutting.specs.Cut.{cutDiagram, isTrueEdge, diagramAnswer as cutAnswer}
+use Rattle.reduction.specs.Reduction.{reduceAnswer}
 use Rattle.mdp.specs.Model.{Variant, Action, Model, scale}
 use Rattle.mdp.specs.Backup.{combined, variantsSum, actionsBest, rowOfCalls, highestScale, mostSteps, scaleEnds, backup}
-use Rattle.mdp.specs.Runs.{Call, aBackup, aCut, Held, cutOutcome, taken, call, runFrom, begin, run}
+use Rattle.mdp.specs.Runs.{Call, aBackup, aCut, aReduce, Held, cutOutcome, taken, call, runFrom, begin, run}
 use Rattle.mdp.specs.CallLaws.{each-within}
 
 -- ===== Combination and freeing =====
@@ -120,6 +121,10 @@ module _ (m : Model) where
   unfolding call
   call-cut h = refl
 
+  pub call-reduce : (h : Held) → call m aReduce h ≡ taken h (reduceAnswer (m .arities) (h .diagram)) (h .steps)
+  unfolding call
+  call-reduce h = refl
+
   pub run-none : (h : Held) → runFrom m [] h ≡ h
   unfolding runFrom
   run-none h = refl
@@ -141,6 +146,7 @@ range-taken m h (refused e) k r a = r
 range-call : (m : Model) (c : Call) (h : Held) → InRange m (h .steps) → InRange m (call m c h .steps)
 unfolding call
 range-call m aCut h r = range-taken m h (cutOutcome (m .arities) (h .diagram)) (h .steps) r (λ d e. r)
+range-call m aReduce h r = range-taken m h (reduceAnswer (m .arities) (h .diagram)) (h .steps) r (λ d e. r)
 range-call m aBackup h r = range-taken m h (backup m (h .steps) (h .diagram)) (suc (h .steps)) r (λ d e. go d e (flag (scaleEnds m (h .steps))))
   where
     go : (d : Diagram) → backup m (h .steps) (h .diagram) ≡ ok d → Flag (scaleEnds m (h .steps)) → InRange m (suc (h .steps))

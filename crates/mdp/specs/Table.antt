@@ -1,4 +1,4 @@
--- The ten marked cases of document 01's checklist, computed from the definitions.
+-- The ten marked cases of document 01's checklist, and one of document 02, L13, computed from the definitions.
 use mathlib.Core.Path.{_≡_, refl}
 use mathlib.Core.List.{List, [], _∷_}
 use Prim.Native.Nat.{ℕ, _+_, _-_, _^_}
@@ -6,11 +6,11 @@ use lib.ListN.{replicate}
 use Rattle.refusal.specs.declared.Refusal.the-variants.{Value, Scale, Nothing}
 use Rattle.refusal.specs.Outcome.{ok, refused, andThen}
 use Rattle.label.specs.Limits.{predicateCount, equalityArity, firstVariable, leafMark}
-use Rattle.label.specs.Terms.{isVariable}
+use Rattle.label.specs.Terms.{isConstant, isVariable}
 use Rattle.label.specs.Labels.{atomFrom, termsOf, unpacked, predicateOf, packed, testOf, equates}
 use Rattle.label.specs.Renamings.{moved, renamed, mapped, placed, numbering, freeing}
 use Rattle.diagram.specs.Sizes.{highestValue}
-use Rattle.diagram.specs.Diagram.{leaf}
+use Rattle.diagram.specs.Diagram.{Diagram, leaf, branch}
 use Rattle.diagram.specs.Listing.{listing}
 use Rattle.diagram.specs.Variables.{variables, closed, after}
 use Rattle.apply.specs.Apply.{apply}
@@ -30,7 +30,7 @@ use Rattle.cutting.specs.Cut.{diagramAnswer as cutAnswer}
 use Rattle.mdp.specs.Model.{Model, scale}
 use Rattle.mdp.specs.Example.{forFirst, noTruths, runModel, nothingTrue, stockAtHub}
 use Rattle.mdp.specs.Backup.{backup}
-use Rattle.mdp.specs.Runs.{Call, aBackup, aCut, run}
+use Rattle.mdp.specs.Runs.{Call, aBackup, aCut, aReduce, run}
 
 -- what (value) prints: value, k, S^k
 abbrev shown : Model → List Call → State → ℕ × ℕ × ℕ
@@ -68,6 +68,31 @@ pub table : (shown runModel [] nothingTrue ≡ (0, 0, 1))
     × (andThen (truthAt (equalityArity ∷ 2 ∷ replicate (predicateCount - 2) 0) (forFirst (labelTest ab)) ba []) (λ r. ok (r .0)) ≡ ok (labelTest ba))
 unfolding run highest meaning scale cutAnswer diagramAnswer combination rowsFormed formed ends pairs pairCount overflows apply backup truthAt variables closed after moved testOf equates renamed numbering freeing mapped placed packed unpacked predicateOf termsOf isVariable
 table = (refl, refl, refl, refl, refl, refl, refl, refl, refl, refl)
+
+-- a reward 1 if p(?a ?a), p(?a ?b) or p(?b ?a), the last as "more", and no action
+abbrev aa : ℕ
+aa = packed (atomFrom 1 (firstVariable ∷ firstVariable ∷ []))
+
+abbrev linked : Diagram → Diagram
+linked more = branch aa (leaf 1) (branch ab (leaf 1) more)
+
+abbrev pairModel : Model
+pairModel = record {
+  arities = equalityArity ∷ 2 ∷ replicate (predicateCount - 2) 0;
+  total = 1;
+  numerator = 0;
+  denominator = 1;
+  reward = linked (branch ba (leaf 1) (leaf 0));
+  actions = [];
+}
+
+-- What several paths do together: where p(?b ?a) holds, p(?b ?b) holds or not, and each way another path has the leaf 1. No single one covers both ways, so that a cut
+-- finds nothing (16); a reduction takes the test of p(?b ?a) away.
+pub table-reduction : (cutAnswer (pairModel .arities) (pairModel .reward) ≡ CutRefused Nothing)
+    × (run pairModel (aCut ∷ []) .diagram ≡ linked (branch ba (leaf 1) (leaf 0)))
+    × (run pairModel (aCut ∷ aReduce ∷ []) .diagram ≡ linked (leaf 0))
+unfolding run cutAnswer variables closed moved testOf equates renamed numbering mapped placed packed unpacked predicateOf termsOf isConstant isVariable
+table-reduction = (refl, refl, refl)
 
 -- the rows that the run shows after its backup, its labels with the numbers of document 02, L8: stock(hub) is 2^48, hub = ?v0 is 64 · 2^32
 pub run-rows : listing (run runModel (aBackup ∷ []) .diagram)

@@ -4,21 +4,18 @@ use mathlib.Core.Bool.{Bool, true, false, not, cond}
 use mathlib.Core.List.{List, []}
 use Prim.Native.Nat.{ℕ, zero, suc, _+_, _≤_, _<_}
 use native.Mathlib.Omega.{arith}
-use lib.ListN.{length, getD}
-use lib.Dec.{eqb, ltb, leb}
-use borrow.Author.Tests.{ltb-true, leb-true, le-ltb}
+use lib.ListN.{length}
+use lib.Dec.{eqb}
 use Rattle.refusal.specs.declared.Refusal.the-variants.{Listing, Range, Unbound, Valuations}
-use Rattle.basics.specs.Tests.{and-left, and-right, Flag, isTrue, isFalse, flag}
-use Rattle.label.specs.Limits.{constantCount, firstParameter, parameterCount}
+use Rattle.basics.specs.Tests.{Flag, isTrue, isFalse, flag}
+use Rattle.label.specs.Limits.{firstParameter, parameterCount}
 use Rattle.diagram.specs.Diagram.{Diagram}
 use Rattle.diagram.specs.Words.{isListing}
-use Rattle.diagram.specs.WordLaws.{below-every}
 use Rattle.diagram.specs.Listing.{listing, diagramOf}
 use Rattle.diagram.specs.ListingOfDiagram.{diagram-listing}
 use Rattle.diagram.specs.Listings.{good-is-listing}
 use Rattle.diagram.specs.Variables.{occurs, occurring}
-use Rattle.state.specs.State.{meaning, Good, low}
-use Rattle.state.specs.ValueLaws.{low-lt, low-ge, by-low}
+use Rattle.state.specs.State.{meaning, Good}
 use Rattle.state.specs.Highest.{highest}
 use Rattle.state.specs.Lent.{stateOf, isState}
 use Rattle.state.specs.declared.Valued.{Valued}
