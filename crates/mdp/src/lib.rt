@@ -1,1 +1,1 @@
-// Models, backups, and runs of backups and cuts. What they are stands in specs/.
+// Models, backups, and runs of backups, cuts and reductions. What they are stands in specs/.

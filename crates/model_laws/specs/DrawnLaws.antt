@@ -25,7 +25,8 @@ use Rattle.regression.specs.Step.{testDiagram}
 use Rattle.regression.specs.StepLaws.{eval-most, most-eval, eval-test, ordered-test, eval-stepped, from-stepped, reduced-stepped, every-stepped}
 use Rattle.regression.specs.Result.{AtMost, asked, stepped}
 use Rattle.regression.specs.Parameters.{Allowed, Within}
-use Rattle.mdp.specs.CallLaws.{within-closed, closed-count}
+use Rattle.reduction.specs.ClosedLaws.{within-closed}
+use Rattle.mdp.specs.CallLaws.{closed-count}
 use Rattle.reading.specs.Tree.{Reading, depth, opsOf, Named, GoodTest, GoodReading}
 use Rattle.reading.specs.Tree.Reading.{branch as conditional, number}
 use Rattle.build.specs.Machine.{mostTests, built, builtClosed}
