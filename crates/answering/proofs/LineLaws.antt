@@ -16,14 +16,19 @@ use Rattle.diagram.specs.Sizes.{mostRows}
 use Rattle.diagram.specs.Words.{labelAt, highAt, lowAt}
 use Rattle.cutting.specs.declared.Edge.{Edge}
 use Rattle.answers.specs.declared.Answer.{Answer}
-use Rattle.answers.specs.declared.Answer.the-variants.{Value, Backup, Cut, Refused, Show, Nothing}
+use Rattle.answers.specs.declared.Answer.the-variants.{Value, Backup, Cut, Reduce, Refused, Show, Nothing}
 use Rattle.answers.specs.declared.Put.{Put}
 use Rattle.answers.specs.declared.Put.the-variants.{At, Full}
-use Rattle.answers.specs.Answers.{field, edgeField, leafField, lineEnd, valueHead, backupHead, cutHead, refusedHead, rowHead, answerLine, rowLine, rowLineAt, rowLines, answerBytes}
+use Rattle.answers.specs.Answers.{field, edgeField, leafField, lineEnd, valueHead, backupHead, cutHead, reduceHead, refusedHead, rowHead, answerLine, rowLine, rowLineAt, rowLines, answerBytes}
 use Rattle.answers.specs.Writing.{IsWord, lineBytes, mostBytes, putAnswer, putResult, Placed, Showable}
 use Rattle.answers.specs.AnswerLaws.{answer-short}
 use Rattle.answering.specs.Wrote.{Wrote, WroteWithin}
-use Rattle.answering.proofs.WriteLaws.{wrote-nothing, wrote-then, three-fields, four-fields, of-word, wider}
+use Rattle.answering.proofs.WriteLaws.{wrote-nothing, wrote-then, one-field, three-fields, four-fields, of-word, wider}
+
+-- the line of three parts
+pub reduce-parts : {s s₁ s₂ s′ a : List ℕ} {i j r : ℕ} → lineBytes ≤ length s → Wrote s 0 reduceHead i s₁ → WroteWithin s₁ i a 21 j s₂ → Wrote s₂ j lineEnd r s′
+    → WroteWithin s 0 (reduceHead ++ a ++ lineEnd) lineBytes r s′
+reduce-parts room h x e = one-field room (omega arith) h x e
 
 -- the lines of five and six parts
 module _ {s s₁ s₂ s₃ s₄ s′ a b c : List ℕ} {i j k l r : ℕ} (room : lineBytes ≤ length s) where
@@ -73,6 +78,10 @@ module _ {s s′ : List ℕ} {r : ℕ} {answer : Answer} where
       → WroteWithin s 0 (answerLine answer) lineBytes r s′
   unfolding answerLine
   line-cut e w = rw e w
+
+  pub line-reduce : {n : ℕ} → answer ≡ Reduce n → WroteWithin s 0 (reduceHead ++ field n ++ lineEnd) lineBytes r s′ → WroteWithin s 0 (answerLine answer) lineBytes r s′
+  unfolding answerLine
+  line-reduce e w = rw e w
 
   pub line-refused : {w : Refusal} {m n : ℕ} → answer ≡ Refused w n → m ≡ numberOf w → WroteWithin s 0 (refusedHead ++ field m ++ field n ++ lineEnd) lineBytes r s′
       → WroteWithin s 0 (answerLine answer) lineBytes r s′
@@ -261,6 +270,10 @@ module _ {s s′ : List ℕ} (ws : List ℕ) {place : ℕ} {answer : Answer} {r 
   pub put-cut : {i n : ℕ} {g : Edge} → answer ≡ Cut i g n → LineShort s place answer r s′ → PutShort s place ws answer r s′
   unfolding answerBytes
   put-cut e p = as-line ws answer (ap (answerBytes ws) e ∙ sym (ap answerLine e)) p
+
+  pub put-reduce : {n : ℕ} → answer ≡ Reduce n → LineShort s place answer r s′ → PutShort s place ws answer r s′
+  unfolding answerBytes
+  put-reduce e p = as-line ws answer (ap (answerBytes ws) e ∙ sym (ap answerLine e)) p
 
   pub put-refused : {w : Refusal} {n : ℕ} → answer ≡ Refused w n → LineShort s place answer r s′ → PutShort s place ws answer r s′
   unfolding answerBytes

@@ -133,6 +133,9 @@ pub wider : {s w s′ : List ℕ} {place r m : ℕ} (n : ℕ) → m ≤ n → Wr
 wider n h p = record { wrote = p .wrote; within = omega (arith, p .within) }
 
 module _ {s head s₁ : List ℕ} {i : ℕ} (room : lineBytes ≤ length s) (short : length head ≤ 8) (h : Wrote s 0 head i s₁) where
+  pub one-field : {s₂ s′ a : List ℕ} {j r : ℕ} → WroteWithin s₁ i a 21 j s₂ → Wrote s₂ j lineEnd r s′ → WroteWithin s 0 (head ++ a ++ lineEnd) lineBytes r s′
+  one-field x e = wider lineBytes (omega arith) (wrote-more (omega arith) (wrote-more (omega arith) (of-word 8 short h) x) (of-word 2 (omega arith) e))
+
   module _ {s₂ s₃ a b : List ℕ} {j k : ℕ} (x : WroteWithin s₁ i a 21 j s₂) (y : WroteWithin s₂ j b 21 k s₃) where
     two-words : WroteWithin s 0 (head ++ a ++ b) 50 k s₃
     two-words = wrote-more (omega arith) (wrote-more (omega arith) (of-word 8 short h) x) y

@@ -10,7 +10,7 @@ ghost use lib.ListN.{length};
 ghost use Rattle.diagram.specs.Sizes.{mostRows};
 ghost use Rattle.answers.specs.declared.Answer.the-variants.{Show};
 ghost use Rattle.answers.specs.Digits.{digits};
-ghost use Rattle.answers.specs.Answers.{field, edgeField, leafField, valueHead, cutHead, rowHead, lineEnd, rowLineAt, rowLines, answerLine, answerBytes};
+ghost use Rattle.answers.specs.Answers.{field, edgeField, leafField, valueHead, cutHead, reduceHead, rowHead, lineEnd, rowLineAt, rowLines, answerLine, answerBytes};
 ghost use Rattle.answers.specs.Writing.{lineBytes, mostBytes, putAnswer, Placed, Showable};
 ghost use Rattle.answering.specs.Wrote.{Wrote, WroteWithin};
 
@@ -100,6 +100,16 @@ fn cut_line(line: &mut [u8], row: usize, edge: Edge, rows: usize) -> usize
     put_bytes(line, d, b")\n")
 }
 
+// The line of a reduction.
+fn reduce_line(line: &mut [u8], rows: usize) -> usize
+    requires { ⌜ lineBytes ≤ length (now line) ⌝ }
+    ensures { λ r. ⌜ WroteWithin (now (line .entry)) 0 (reduceHead ++ field rows ++ lineEnd) lineBytes r (now (line .exit)) ⌝ }
+{
+    let a = put_bytes(line, 0, b"(reduce");
+    let b = put_field(line, a, rows as u64);
+    put_bytes(line, b, b")\n")
+}
+
 // The line of row k, a leaf.
 fn leaf_line(line: &mut [u8], k: usize, v: u64) -> usize
     requires { ⌜ lineBytes ≤ length (now line) ⌝ }
@@ -149,6 +159,7 @@ fn answer_line(line: &mut [u8], answer: Answer) -> usize
         Answer::Value(v, k, scale) => value_line(line, v, k, scale),
         Answer::Backup(k, rows) => pair_line(line, b"(backup", k, rows as u64),
         Answer::Cut(row, edge, rows) => cut_line(line, row, edge, rows),
+        Answer::Reduce(rows) => reduce_line(line, rows),
         Answer::Refused(why, number) => pair_line(line, b"(refused", why.number(), number),
         Answer::Show(_) => 0,
         Answer::Nothing => 0,
@@ -242,6 +253,7 @@ pub fn put_answer(out: &mut [u8], at: usize, words: &[u64], answer: Answer) -> P
         Answer::Value(_, _, _) => put_one(out, at, answer),
         Answer::Backup(_, _) => put_one(out, at, answer),
         Answer::Cut(_, _, _) => put_one(out, at, answer),
+        Answer::Reduce(_) => put_one(out, at, answer),
         Answer::Refused(_, _) => put_one(out, at, answer),
         Answer::Show(n) => put_rows(out, at, words, n),
         Answer::Nothing => put_one(out, at, answer),

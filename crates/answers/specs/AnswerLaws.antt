@@ -37,9 +37,9 @@ use Rattle.diagram.specs.Words.{labelAt, highAt, lowAt}
 use Rattle.cutting.specs.declared.Edge.{Edge}
 use Rattle.cutting.specs.declared.Edge.the-variants.{True, False}
 use Rattle.answers.specs.declared.Answer.{Answer}
-use Rattle.answers.specs.declared.Answer.the-variants.{Value, Backup, Cut, Refused, Show, Nothing}
+use Rattle.answers.specs.declared.Answer.the-variants.{Value, Backup, Cut, Reduce, Refused, Show, Nothing}
 use Rattle.answers.specs.DigitLaws.{digits-short}
-use Rattle.answers.specs.Answers.{field, edgeField, leafField, lineEnd, valueHead, backupHead, cutHead, refusedHead, rowHead, answerLine, rowLine, rowLineAt, rowLines, answerBytes}
+use Rattle.answers.specs.Answers.{field, edgeField, leafField, lineEnd, valueHead, backupHead, cutHead, reduceHead, refusedHead, rowHead, answerLine, rowLine, rowLineAt, rowLines, answerBytes}
 use Rattle.answers.specs.Writing.{IsWord, OfWords, lineBytes, mostBytes}
 
 field-short : (v : ℕ) → IsWord v → length (field v) ≤ 21
@@ -75,6 +75,9 @@ number-word Runs = omega arith
 number-word Combinations = omega arith
 
 -- a line of parts, each with its length at most
+three-short : (a b c : List ℕ) → length (a ++ b ++ c) ≡ length a + length b + length c
+three-short a b c = omega (arith, length-append (a ++ b) c, length-append a b)
+
 four-short : (a b c d : List ℕ) → length (a ++ b ++ c ++ d) ≡ length a + length b + length c + length d
 four-short a b c d = omega (arith, length-append (a ++ b ++ c) d, length-append (a ++ b) c, length-append a b)
 
@@ -89,6 +92,7 @@ line-short (Value v k s) h =
 line-short (Backup k n) h = omega (arith, four-short backupHead (field k) (field n) lineEnd, field-short k (h .0), field-short n (h .1))
 line-short (Cut i e n) h =
     omega (arith, five-short cutHead (field i) (edgeField e) (field n) lineEnd, field-short i (h .0), edge-short e, field-short n (h .1))
+line-short (Reduce n) h = omega (arith, three-short reduceHead (field n) lineEnd, field-short n h)
 line-short (Refused r line) h =
     omega (arith, four-short refusedHead (field (numberOf r)) (field line) lineEnd, field-short (numberOf r) (number-word r), field-short line h)
 line-short (Show n) h = omega arith
@@ -129,6 +133,7 @@ unfolding answerBytes
 answer-short ws (Value v k s) g h = omega (arith, line-short (Value v k s) h)
 answer-short ws (Backup k n) g h = omega (arith, line-short (Backup k n) h)
 answer-short ws (Cut i e n) g h = omega (arith, line-short (Cut i e n) h)
+answer-short ws (Reduce n) g h = omega (arith, line-short (Reduce n) h)
 answer-short ws (Refused r line) g h = omega (arith, line-short (Refused r line) h)
 answer-short ws (Show n) g h = omega (arith, rows-short ws n g (omega arith))
 answer-short ws Nothing g h = omega arith

@@ -9,7 +9,7 @@ use Rattle.diagram.specs.Words.{labelAt, highAt, lowAt}
 use Rattle.cutting.specs.declared.Edge.{Edge}
 use Rattle.cutting.specs.declared.Edge.the-variants.{True, False}
 use Rattle.answers.specs.declared.Answer.{Answer}
-use Rattle.answers.specs.declared.Answer.the-variants.{Value, Backup, Cut, Refused, Show, Nothing}
+use Rattle.answers.specs.declared.Answer.the-variants.{Value, Backup, Cut, Reduce, Refused, Show, Nothing}
 use Rattle.answers.specs.Digits.{digits}
 
 -- a number, a space before it
@@ -26,7 +26,7 @@ edgeField False = 32 ∷ 102 ∷ 97 ∷ 108 ∷ 115 ∷ 101 ∷ []
 abbrev pub leafField : List ℕ
 leafField = 32 ∷ 108 ∷ 101 ∷ 97 ∷ 102 ∷ []
 
--- `(value`, `(backup`, `(cut`, `(refused`, `(row`
+-- `(value`, `(backup`, `(cut`, `(reduce` (document 02, L13), `(refused`, `(row`
 abbrev pub valueHead : List ℕ
 valueHead = 40 ∷ 118 ∷ 97 ∷ 108 ∷ 117 ∷ 101 ∷ []
 
@@ -35,6 +35,9 @@ backupHead = 40 ∷ 98 ∷ 97 ∷ 99 ∷ 107 ∷ 117 ∷ 112 ∷ []
 
 abbrev pub cutHead : List ℕ
 cutHead = 40 ∷ 99 ∷ 117 ∷ 116 ∷ []
+
+abbrev pub reduceHead : List ℕ
+reduceHead = 40 ∷ 114 ∷ 101 ∷ 100 ∷ 117 ∷ 99 ∷ 101 ∷ []
 
 abbrev pub refusedHead : List ℕ
 refusedHead = 40 ∷ 114 ∷ 101 ∷ 102 ∷ 117 ∷ 115 ∷ 101 ∷ 100 ∷ []
@@ -46,12 +49,13 @@ rowHead = 40 ∷ 114 ∷ 111 ∷ 119 ∷ []
 abbrev pub lineEnd : List ℕ
 lineEnd = 41 ∷ 10 ∷ []
 
--- the line of an answer. Fields: value, k, S^k; k, rows; cut row, edge, rows left; number, line. Other lines print nothing.
+-- the line of an answer. Fields: value, k, S^k; k, rows; cut row, edge, rows left; rows left; number, line. Other lines print nothing.
 unfoldable pub answerLine : Answer → List ℕ
 unfolding field
 answerLine (Value v k s) = valueHead ++ field v ++ field k ++ field s ++ lineEnd
 answerLine (Backup k n) = backupHead ++ field k ++ field n ++ lineEnd
 answerLine (Cut i e n) = cutHead ++ field i ++ edgeField e ++ field n ++ lineEnd
+answerLine (Reduce n) = reduceHead ++ field n ++ lineEnd
 answerLine (Refused r line) = refusedHead ++ field (numberOf r) ++ field line ++ lineEnd
 answerLine (Show n) = []
 answerLine Nothing = []
@@ -81,6 +85,7 @@ unfolding answerLine rowLines
 answerBytes ws (Value v k s) = answerLine (Value v k s)
 answerBytes ws (Backup k n) = answerLine (Backup k n)
 answerBytes ws (Cut i e n) = answerLine (Cut i e n)
+answerBytes ws (Reduce n) = answerLine (Reduce n)
 answerBytes ws (Refused r line) = answerLine (Refused r line)
 answerBytes ws (Show n) = rowLines ws n
 answerBytes ws Nothing = []

@@ -1,10 +1,10 @@
 -- The answers of a text as bytes (document 01, sections 'Text' and 'A run, whole').
 --
 -- Definitions
---   Answer == value, k, S^k; k, rows; row, edge, rows left; rows shown; refusal and line; or nothing (an enum of the code)
+--   Answer == value, k, S^k; k, rows; row, edge, rows left; rows left; rows shown; refusal and line; or nothing (an enum of the code)
 --   digitsWithin, digits == the decimal digits of a number
 --   field, edgeField, leafField == a number, ` true` or ` false`, ` leaf`, a space before each
---   valueHead, backupHead, cutHead, refusedHead, rowHead, lineEnd == the words of answers, and the end of a line
+--   valueHead, backupHead, cutHead, reduceHead, refusedHead, rowHead, lineEnd == the words of answers, and the end of a line
 --   answerLine == the line of an answer
 --   rowLine, rowLineAt, rowLines == the line of a row; of row k of a listing; of the first n rows
 --   answerBytes == an answer's bytes, (show) with the rows of the value's listing

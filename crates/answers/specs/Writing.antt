@@ -9,7 +9,7 @@ use Rattle.diagram.specs.Sizes.{mostRows}
 use Rattle.answers.specs.declared.Put.{Put}
 use Rattle.answers.specs.declared.Put.the-variants.{At, Full}
 use Rattle.answers.specs.declared.Answer.{Answer}
-use Rattle.answers.specs.declared.Answer.the-variants.{Value, Backup, Cut, Refused, Show, Nothing}
+use Rattle.answers.specs.declared.Answer.the-variants.{Value, Backup, Cut, Reduce, Refused, Show, Nothing}
 
 -- the bytes of a line at most: a word, four numbers and the signs between them
 abbrev pub lineBytes : ℕ
@@ -36,6 +36,7 @@ abbrev pub Showable : List ℕ → Answer → Type 0
 Showable ws (Value v k s) = Unit {0}
 Showable ws (Backup k n) = Unit {0}
 Showable ws (Cut i e n) = Unit {0}
+Showable ws (Reduce n) = Unit {0}
 Showable ws (Refused r line) = Unit {0}
 Showable ws (Show n) = n * 3 ≤ length ws
 Showable ws Nothing = Unit {0}
@@ -49,6 +50,7 @@ abbrev pub OfWords : Answer → Type 0
 OfWords (Value v k s) = IsWord v × IsWord k × IsWord s
 OfWords (Backup k n) = IsWord k × IsWord n
 OfWords (Cut i e n) = IsWord i × IsWord n
+OfWords (Reduce n) = IsWord n
 OfWords (Refused r line) = IsWord line
 OfWords (Show n) = n ≤ mostRows
 OfWords Nothing = Unit {0}

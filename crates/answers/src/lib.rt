@@ -5,12 +5,13 @@ use refusal::Refusal;
 // The bytes of any answer at most: a line for each of 1,024 rows.
 pub const MOST_BYTES: usize = 92160;
 
-// What a line of a text is answered: value, k and S^k; k and rows; the cut row, its edge and the rows left; the refusal and the line's number; the rows
-// of the value's listing to be shown; or nothing.
+// What a line of a text is answered: value, k and S^k; k and rows; the cut row, its edge and the rows left; the rows a reduction leaves; the refusal and
+// the line's number; the rows of the value's listing to be shown; or nothing.
 pub enum Answer {
     Value(u64, u64, u64),
     Backup(u64, usize),
     Cut(usize, Edge, usize),
+    Reduce(usize),
     Refused(Refusal, u64),
     Show(usize),
     Nothing,
