@@ -34,12 +34,13 @@
 --   stateIn, valueRead == (value): the state in hand, and its highest leaf, or 15
 --   withHeld, backupLine == (backup)
 --   cutTo, cutLine, cutSays == (cut)
+--   reduceLine == (reduce) (document 02, L13)
 --
 -- Definitions: replies
 --   Reply == the session behind a line, and what the line is answered
 --   withModel, withNames, withLive, withVocabulary, withTotal, withDiscount, withAction == a session with one part new
 --   refusal, silent, quietly == a refused line leaves the session as it was; nothing is printed; a line that prints nothing unless it is refused
---   valueSays, backupSays == value, k, S^k; k, rows
+--   valueSays, backupSays, reduceSays == value, k, S^k; k, rows; rows
 --   done == what each kind of line does and is answered, where it stands where it may
 --   replyTo, wordsOf, reply == 1, 5, then the line's own checks; a line in bytes, of which one of none passes (document 02, L1)
 --

@@ -1,4 +1,4 @@
--- (start) and the lines of the run: what their operations answer, and what an accepted one does (document 01, sections 'Text', 'Backup' and 'Cut').
+-- (start) and the lines of the run: what their operations answer, and what an accepted one does (document 01, sections 'Text', 'Backup' and 'Cut'; document 02, L13).
 use mathlib.Core.Bool.{Bool, true, false}
 use mathlib.Core.List.{List, []}
 use Prim.Native.Nat.{ℕ, suc, _^_}
@@ -16,6 +16,7 @@ use Rattle.refusal.specs.Outcome.{Outcome, ok, andThen}
 use Rattle.cutting.specs.declared.Cut.{Cut}
 use Rattle.cutting.specs.declared.Cut.the-variants as C
 use Rattle.cutting.specs.Cut.{diagramAnswer, cutDiagram, isTrueEdge}
+use Rattle.reduction.specs.Reduction.{reduceAnswer}
 use Rattle.mdp.specs.Model.{Model, scale}
 use Rattle.mdp.specs.Backup.{backup}
 use Rattle.mdp.specs.Runs.{Held, begin}
@@ -83,3 +84,10 @@ cutLine ar h = cutTo ar h (diagramAnswer ar (h .diagram))
 abbrev pub cutSays : ℕ → Cut → Answer
 cutSays number (C.Done k e n) = A.Cut k e n
 cutSays number (C.Refused r) = A.Refused r number
+
+-- ===== (reduce) =====
+
+-- "An accepted (reduce) replaces the value diagram by its result and leaves k": 17, 26, 27, 28
+unfoldable pub reduceLine : List ℕ → Held → Outcome Held
+unfolding reduceAnswer
+reduceLine ar h = andThen (reduceAnswer ar (h .diagram)) (λ d. ok (record { diagram = d; steps = h .steps }))

@@ -53,6 +53,7 @@ pub fn rule_of(kind: Kind, part: Part) -> Rule
             Kind::Backup => Rule::Misplaced,
             Kind::Cut => Rule::Misplaced,
             Kind::Show => Rule::Misplaced,
+            Kind::Reduce => Rule::Misplaced,
             Kind::Bad => Rule::NoForm,
         },
         Part::Run => match kind {
@@ -72,6 +73,7 @@ pub fn rule_of(kind: Kind, part: Part) -> Rule
             Kind::Backup => Rule::Anywhere,
             Kind::Cut => Rule::Anywhere,
             Kind::Show => Rule::Anywhere,
+            Kind::Reduce => Rule::Anywhere,
             Kind::Bad => Rule::NoForm,
         },
     }
