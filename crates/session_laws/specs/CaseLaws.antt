@@ -24,8 +24,8 @@ use Rattle.session.specs.Session.{Names, Live, Session}
 use Rattle.session.specs.Declaring.{Vocabulary, constantLine, predicateLine, totalLine, discountLine, actionLine}
 use Rattle.session.specs.Facts.{objectsLine, isLine, trueLine}
 use Rattle.session.specs.Modelling.{rewardLine, variantLine, becomesLine}
-use Rattle.session.specs.Running.{withHeld, startLine, valueRead, backupLine, cutLine, cutTo, cutSays}
-use Rattle.session.specs.Replies.{Reply, refusal, silent, quietly, valueSays, backupSays, allowed, withNames, withLive}
+use Rattle.session.specs.Running.{withHeld, startLine, valueRead, backupLine, cutLine, cutTo, cutSays, reduceLine}
+use Rattle.session.specs.Replies.{Reply, refusal, silent, quietly, valueSays, backupSays, reduceSays, allowed, withNames, withLive}
 use Rattle.session.specs.Replies.{withVocabulary, withTotal, withDiscount, withAction, done, placed, replyTo, wordsOf, reply}
 
 abbrev pub vocabularyOf : Session → Vocabulary
@@ -52,6 +52,8 @@ pub record Cases (σ : Session) (number : ℕ) (es : List Event) (P : Kind → R
       → P K.Backup (record { session = withHeld σ (σ .part) h; answer = A.Backup (h .steps) (length (rows (h .diagram))) })
   pub forCut : (row : ℕ) (e : Edge) (n : ℕ) → diagramAnswer (σ .model .arities) (σ .held .diagram) ≡ C.Done row e n
       → P K.Cut (record { session = withHeld σ (σ .part) (cutLine (σ .model .arities) (σ .held)); answer = A.Cut row e n })
+  pub forReduce : (h : Held) → reduceLine (σ .model .arities) (σ .held) ≡ ok h
+      → P K.Reduce (record { session = withHeld σ (σ .part) h; answer = A.Reduce (length (rows (h .diagram))) })
   pub forShow : P K.Show (record { session = σ; answer = A.Show (length (rows (σ .held .diagram))) })
 
 -- ===== By the outcome of a line =====
@@ -78,6 +80,12 @@ module _ (σ : Session) (number : ℕ) (P : Reply → Type 0) (r : (t : Refusal)
       → P (record { session = withHeld σ (σ .part) (cutTo ar (σ .held) c); answer = cutSays number c })
   cut-by ar (C.Done row e n) h = h row e n refl
   cut-by ar (C.Refused t) h = r t
+
+  reduce-by : (o : Outcome Held)
+      → ((x : Held) → o ≡ ok x → P (record { session = withHeld σ (σ .part) x; answer = A.Reduce (length (rows (x .diagram))) }))
+      → P (reduceSays σ number o)
+  reduce-by (ok x) h = h x refl
+  reduce-by (refused t) h = r t
 
   pub placed-by : (o : Outcome (Unit {0})) (y : Reply) → (o ≡ ok tt → P y) → P (placed σ number o y)
   placed-by (ok u) y h = h refl
@@ -116,6 +124,7 @@ module _ (σ : Session) (number : ℕ) (es : List Event) (P : Kind → Reply →
   done-by K.Backup = backup-by σ number (P K.Backup) (c .refusing K.Backup) (backupLine (σ .model) (σ .held)) (c .forBackup)
   done-by K.Cut = cut-by σ number (P K.Cut) (c .refusing K.Cut) (σ .model .arities) (diagramAnswer (σ .model .arities) (σ .held .diagram)) (c .forCut)
   done-by K.Show = c .forShow
+  done-by K.Reduce = reduce-by σ number (P K.Reduce) (c .refusing K.Reduce) (reduceLine (σ .model .arities) (σ .held)) (c .forReduce)
   done-by K.Bad = c .refusing K.Bad Form
 
 -- a line in bytes: blank, refused for its place, or done

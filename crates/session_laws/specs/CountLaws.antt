@@ -54,6 +54,7 @@ module _ (σ : Session) (g : GoodSession σ) (h : Counted σ) where
     forValue = λ v e a. h;
     forBackup = λ x e a. h;
     forCut = λ row e n q a. h;
+    forReduce = λ x e a. h;
     forShow = λ a. h;
   }
 

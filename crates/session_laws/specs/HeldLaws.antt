@@ -1,4 +1,4 @@
--- A backup or a cut leaves a good value diagram (document 01, sections 'Backup' and 'Cut').
+-- A backup, a cut or a reduction leaves a good value diagram (document 01, sections 'Backup' and 'Cut'; document 02, L13).
 use mathlib.Core.Path.{refl}
 use mathlib.Core.List.{List, []}
 use Prim.Native.Nat.{ℕ, suc}
@@ -8,10 +8,13 @@ use Rattle.refusal.specs.OutcomeLaws.{accepted-mono}
 use Rattle.state.specs.State.{State, meaning}
 use Rattle.state.specs.Highest.{highest}
 use Rattle.state.specs.HighestLaws.{highest-is}
+use Rattle.reduction.specs.Reduction.{reduceAnswer}
+use Rattle.reduction.specs.Claims.{Values}
+use Rattle.reduction.specs.ReductionLaws.{reduce-is}
 use Rattle.mdp.specs.Model.{Model, GoodModel}
 use Rattle.mdp.specs.Backup.{backup}
-use Rattle.mdp.specs.Runs.{Call, aBackup, aCut, Held, cutOutcome, taken, call}
-use Rattle.mdp.specs.BackupLaws.{Values, bound-none, backup-steps}
+use Rattle.mdp.specs.Runs.{Call, aBackup, aCut, aReduce, Held, cutOutcome, taken, call}
+use Rattle.mdp.specs.BackupLaws.{bound-none, backup-steps}
 use Rattle.mdp.specs.CutLaws.{cut-is}
 use Rattle.session.specs.Good.{GoodValue}
 
@@ -39,3 +42,6 @@ call-good m gm aBackup h g =
 call-good m gm aCut h g =
     taken-good (m .arities) h (cutOutcome (m .arities) (h .diagram)) (h .steps) g
     (accepted-mono (cut-is (m .arities) _ (h .diagram) (own-values (m .arities) (h .diagram) g)) (λ d v. values-good (m .arities) _ d v))
+call-good m gm aReduce h g =
+    taken-good (m .arities) h (reduceAnswer (m .arities) (h .diagram)) (h .steps) g
+    (accepted-mono (reduce-is (m .arities) _ (h .diagram) (own-values (m .arities) (h .diagram) g)) (λ d v. values-good (m .arities) _ d v))

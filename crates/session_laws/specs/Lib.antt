@@ -1,4 +1,4 @@
--- What holds of every session from line to line, and demands 1 and 3 for texts (document 01, sections 'Text', 'Backup' and 'A run, whole').
+-- What holds of every session from line to line, and demands 1 and 3 for texts (document 01, sections 'Text', 'Backup' and 'A run, whole'; document 02, L1, L5, L6 and L13).
 --
 -- Definitions: a line
 --   Makes, MovesTo == the session behind an accepted line that prints nothing, kind by kind: a line of the model, (start), (objects), (is), (true)
@@ -13,11 +13,11 @@
 --   Spacing == the answers of a text and of the same text without its blank lines: those of one list of replies, each under its line's number
 --
 -- Definitions: the run behind lines
---   callOf, callThen, callsOf == the backups and cuts that lines ask for, in order, accepted or refused
+--   callOf, callThen, callsOf == the backups, cuts and reductions that lines ask for, in order, accepted or refused
 --   isRefused, oneIfBackup, acceptedBackup, acceptedBackups == how many of the lines, with their replies, are accepted (backup) lines
 --   HoldsValues == in every state the highest leaf of the value diagram is Mk
---   RunOf == the model is the one accepted at (start); value diagram and k are those of a run of it, of the very backups and cuts asked for behind it; k counts
---            the accepted (backup) lines; HoldsValues
+--   RunOf == the model is the one accepted at (start); value diagram and k are those of a run of it, of the very backups, cuts and reductions asked for behind it;
+--            k counts the accepted (backup) lines; HoldsValues
 --
 -- Theorems: demand 1 for texts
 --   one-answer: every line has exactly one reply: none where it is blank, a refusal, or the answer of its kind; and the session behind it, by its kind
@@ -36,8 +36,8 @@
 --   opening-good: the session before the first line is good
 --   reply-good: every line keeps a session good
 --   objects-good: (objects n); is-good: (is c o); true-good: (true p o ..)
---   start-good: (start); backup-good: (backup); cut-good: (cut)
---   call-good: a backup or a cut leaves a good value diagram
+--   start-good: (start); backup-good: (backup); cut-good: (cut); reduce-good: (reduce)
+--   call-good: a backup, a cut or a reduction leaves a good value diagram
 --   reply-counted: every line keeps `rows` the sum of the rows of all model listings
 --   text-sound: so behind any lines a session is good, its facts are whole rows and `rows` is that sum
 --   kept-good: every line keeps a session good that is kept in lent words

@@ -1,4 +1,4 @@
--- What a line is answered, and the session behind it, kind by kind (document 01, sections 'Text' and 'A run, whole').
+-- What a line is answered, and the session behind it, kind by kind (document 01, sections 'Text' and 'A run, whole'; document 02, L13).
 use mathlib.Core.Path.{_≡_}
 use mathlib.Core.List.{List, []}
 use Prim.Native.Nat.{ℕ, _^_}
@@ -23,7 +23,7 @@ use Rattle.session.specs.Session.{Session}
 use Rattle.session.specs.Declaring.{constantLine, predicateLine, totalLine, discountLine, actionLine}
 use Rattle.session.specs.Facts.{objectsLine, isLine, trueLine}
 use Rattle.session.specs.Modelling.{rewardLine, variantLine, becomesLine}
-use Rattle.session.specs.Running.{withHeld, startLine, stateIn, valueRead, backupLine, cutLine}
+use Rattle.session.specs.Running.{withHeld, startLine, stateIn, valueRead, backupLine, cutLine, reduceLine}
 use Rattle.session.specs.Replies.{Reply, refusal, silent, allowed, withNames, withLive, withVocabulary, withTotal, withDiscount, withAction, wordsOf}
 
 -- the outcome is accepted, and the session is made of it
@@ -49,6 +49,7 @@ MovesTo σ es K.Value τ = ⊥
 MovesTo σ es K.Backup τ = ⊥
 MovesTo σ es K.Cut τ = ⊥
 MovesTo σ es K.Show τ = ⊥
+MovesTo σ es K.Reduce τ = ⊥
 MovesTo σ es K.Bad τ = ⊥
 
 -- the reply y to an accepted line of the kind k with the words es; (value) and (show) leave the session as it was
@@ -60,6 +61,8 @@ pub data Answered (σ : Session) (es : List Event) (k : Kind) (y : Reply) : Type
       → y .session ≡ withHeld σ (σ .part) h → y .answer ≡ A.Backup (h .steps) (length (rows (h .diagram))) → Answered σ es k y
   cutting : (row : ℕ) (e : Edge) (n : ℕ) → k ≡ K.Cut → diagramAnswer (σ .model .arities) (σ .held .diagram) ≡ C.Done row e n
       → y .session ≡ withHeld σ (σ .part) (cutLine (σ .model .arities) (σ .held)) → y .answer ≡ A.Cut row e n → Answered σ es k y
+  reducing : (h : Held) → k ≡ K.Reduce → reduceLine (σ .model .arities) (σ .held) ≡ ok h
+      → y .session ≡ withHeld σ (σ .part) h → y .answer ≡ A.Reduce (length (rows (h .diagram))) → Answered σ es k y
   showing : k ≡ K.Show → y .session ≡ σ → y .answer ≡ A.Show (length (rows (σ .held .diagram))) → Answered σ es k y
 
 -- the reply y to line `number`, which has the bytes s and is of the kind k: it is blank, prints nothing and leaves the session as it was; or it is

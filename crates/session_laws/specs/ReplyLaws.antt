@@ -32,7 +32,7 @@ use Rattle.model_laws.specs.BecomesLaws.{becomes-good}
 use Rattle.session_laws.specs.StateLaws.{objects-good, is-good}
 use Rattle.session_laws.specs.FactLaws.{WholeRows, true-good}
 use Rattle.session_laws.specs.PlaceLaws.{in-model, in-run, variant-action}
-use Rattle.session_laws.specs.RunLaws.{start-good, backup-good, cut-good}
+use Rattle.session_laws.specs.RunLaws.{start-good, backup-good, cut-good, reduce-good}
 use Rattle.session_laws.specs.CaseLaws.{Cases, done-by, reply-by}
 
 -- a line of the kind k that stands where it may, and the events es of its words are those of its tree
@@ -88,6 +88,7 @@ module _ (σ : Session) (g : GoodSession σ) (whole : WholeRows (σ .live .facts
     forValue = λ v e t. g;
     forBackup = λ h e t. backup-good σ g h e;
     forCut = λ row e n q t. cut-good σ g;
+    forReduce = λ h e t. reduce-good σ g h e;
     forShow = λ t. g;
   }
 

@@ -1,4 +1,4 @@
--- (start), (backup) and (cut) keep a session good (document 01, sections 'Text', 'Backup' and 'Cut').
+-- (start), (backup), (cut) and (reduce) keep a session good (document 01, sections 'Text', 'Backup' and 'Cut'; document 02, L13).
 use mathlib.Core.Path.{_≡_, refl, sym}
 use mathlib.Core.Bool.{true}
 use mathlib.Core.List.{List}
@@ -11,15 +11,16 @@ use Rattle.refusal.specs.OutcomeLaws.{accepted-ok, accepted-then}
 use Rattle.cutting.specs.declared.Cut.{Cut}
 use Rattle.cutting.specs.declared.Cut.the-variants as C
 use Rattle.cutting.specs.Cut.{diagramAnswer}
+use Rattle.reduction.specs.Reduction.{reduceAnswer}
 use Rattle.mdp.specs.Model.{Model, GoodModel}
 use Rattle.mdp.specs.Backup.{backup}
-use Rattle.mdp.specs.Runs.{Call, aBackup, aCut, Held, leaves, cutOutcome, taken, call, begin}
+use Rattle.mdp.specs.Runs.{Call, aBackup, aCut, aReduce, Held, leaves, cutOutcome, taken, call, begin}
 use Rattle.text.specs.declared.Kind.the-variants as K
 use Rattle.session.specs.declared.Part.the-variants.{Model as ModelPart, Run}
 use Rattle.session.specs.Place.{ruleOf}
 use Rattle.session.specs.Session.{Session}
 use Rattle.session.specs.Modelling.{weighed}
-use Rattle.session.specs.Running.{withHeld, startLine, backupLine, cutTo, cutLine}
+use Rattle.session.specs.Running.{withHeld, startLine, backupLine, cutTo, cutLine, reduceLine}
 use Rattle.session.specs.Replies.{isWhole, allowed}
 use Rattle.session.specs.Good.{GoodValue, Begun, GoodSession}
 use Rattle.session_laws.specs.PlaceLaws.{model-run, start-model}
@@ -73,7 +74,7 @@ start-good σ g p a τ e =
     made-by GoodSession (weighed (σ .model .arities) (σ .model .total) (σ .model .actions)) (λ u. withHeld σ Run (begin (σ .model)))
     (λ u. held-good σ g (begin (σ .model)) (record { good = m; value = reward-value (σ .model) m })) τ e
 
--- ===== (backup) and (cut): one call more =====
+-- ===== (backup), (cut) and (reduce): one call more =====
 
 -- the session that one call more leads to
 called-good : (σ : Session) → GoodSession σ → (c : Call) → GoodSession (withHeld σ (σ .part) (call (σ .model) c (σ .held)))
@@ -87,14 +88,13 @@ called-good σ g c = record {
   begun = λ e. let b = g .begun e in record { good = b .good; value = call-good (σ .model) (b .good) c (σ .held) (b .value) };
 }
 
-backup-taken : (h : Held) (o : Outcome Diagram) (h′ : Held) → andThen o (λ d. ok (record { diagram = d; steps = suc (h .steps) })) ≡ ok h′
-    → taken h o (suc (h .steps)) ≡ h′
-backup-taken h (ok d) h′ e = cc
-backup-taken h (refused r) h′ e = let z : _≡_ {A = ℕ} 0 1 = cc in absurd (omega arith)
+made-taken : (h : Held) (k : ℕ) (o : Outcome Diagram) (h′ : Held) → andThen o (λ d. ok (record { diagram = d; steps = k })) ≡ ok h′ → taken h o k ≡ h′
+made-taken h k (ok d) h′ e = cc
+made-taken h k (refused r) h′ e = let z : _≡_ {A = ℕ} 0 1 = cc in absurd (omega arith)
 
 backup-call : (m : Model) (h h′ : Held) → backupLine m h ≡ ok h′ → call m aBackup h ≡ h′
 unfolding backupLine call
-backup-call m h h′ e = backup-taken h (backup m (h .steps) (h .diagram)) h′ e
+backup-call m h h′ e = made-taken h (suc (h .steps)) (backup m (h .steps) (h .diagram)) h′ e
 
 pub backup-good : (σ : Session) → GoodSession σ → (h : Held) → backupLine (σ .model) (σ .held) ≡ ok h → GoodSession (withHeld σ (σ .part) h)
 backup-good σ g h e = rw (← backup-call (σ .model) (σ .held) h e) (called-good σ g aBackup)
@@ -109,3 +109,10 @@ cut-call m h = cut-taken (m .arities) h (diagramAnswer (m .arities) (h .diagram)
 
 pub cut-good : (σ : Session) → GoodSession σ → GoodSession (withHeld σ (σ .part) (cutLine (σ .model .arities) (σ .held)))
 cut-good σ g = rw (← cut-call (σ .model) (σ .held)) (called-good σ g aCut)
+
+reduce-call : (m : Model) (h h′ : Held) → reduceLine (m .arities) h ≡ ok h′ → call m aReduce h ≡ h′
+unfolding reduceLine call
+reduce-call m h h′ e = made-taken h (h .steps) (reduceAnswer (m .arities) (h .diagram)) h′ e
+
+pub reduce-good : (σ : Session) → GoodSession σ → (h : Held) → reduceLine (σ .model .arities) (σ .held) ≡ ok h → GoodSession (withHeld σ (σ .part) h)
+reduce-good σ g h e = rw (← reduce-call (σ .model) (σ .held) h e) (called-good σ g aReduce)

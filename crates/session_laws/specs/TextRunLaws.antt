@@ -1,5 +1,5 @@
--- Demand 3 for texts, whole: behind whatever lines, the value diagram and k are those of a run of the model accepted at (start), of the very backups and
--- cuts that the lines behind it ask for (document 01, section 'Backup').
+-- Demand 3 for texts, whole: behind whatever lines, the value diagram and k are those of a run of the model accepted at (start), of the very backups,
+-- cuts and reductions that the lines behind it ask for (document 01, section 'Backup'; document 02, L13).
 use mathlib.Core.Path.{_≡_, refl, sym, ap, ap₂, _∙_, subst}
 use mathlib.Core.Bool.{Bool, true, false, cond}
 use mathlib.Core.List.{List, [], _∷_, _++_}
@@ -14,12 +14,13 @@ use Rattle.refusal.specs.OutcomeLaws.{accepted-ok, accepted-next}
 use Rattle.cutting.specs.declared.Cut.{Cut}
 use Rattle.cutting.specs.declared.Cut.the-variants as C
 use Rattle.cutting.specs.Cut.{diagramAnswer}
+use Rattle.reduction.specs.Reduction.{reduceAnswer}
 use Rattle.state.specs.State.{meaning}
 use Rattle.state.specs.Highest.{highest}
 use Rattle.mdp.specs.Model.{Model, GoodModel}
 use Rattle.mdp.specs.Bellman.{bellman}
 use Rattle.mdp.specs.Backup.{backup}
-use Rattle.mdp.specs.Runs.{Call, aBackup, aCut, Held, leaves, cutOutcome, taken, call, runFrom, begin, run}
+use Rattle.mdp.specs.Runs.{Call, aBackup, aCut, aReduce, Held, leaves, cutOutcome, taken, call, runFrom, begin, run}
 use Rattle.mdp.specs.RunLaws.{demand-3}
 use Rattle.words.specs.declared.Key.{Key}
 use Rattle.text.specs.declared.Kind.{Kind}
@@ -33,8 +34,8 @@ use Rattle.session.specs.declared.Rule.the-variants as R
 use Rattle.session.specs.Place.{ruleOf}
 use Rattle.session.specs.Session.{Session, opening}
 use Rattle.session.specs.Modelling.{withReward, rewardRead, rewardLine, withVariant, weightRead, variantLine, truthsNow, withTruth, truthRead, becomesLine, weighed}
-use Rattle.session.specs.Running.{withHeld, startLine, backupLine, cutTo, cutLine, cutSays}
-use Rattle.session.specs.Replies.{Reply, silent, allowed, withVocabulary, withTotal, withDiscount, withAction, backupSays, done, placed, replyTo, wordsOf, reply}
+use Rattle.session.specs.Running.{withHeld, startLine, backupLine, cutTo, cutLine, cutSays, reduceLine}
+use Rattle.session.specs.Replies.{Reply, silent, allowed, withVocabulary, withTotal, withDiscount, withAction, backupSays, reduceSays, done, placed, replyTo, wordsOf, reply}
 use Rattle.session.specs.Texts.{hasBytes, Progress, replied, afterLine, afterLines, beginning}
 use Rattle.session_laws.specs.TextReplies.{replies}
 use Rattle.session_laws.specs.TextRuns.{callOf, callThen, callsOf, isRefused, oneIfBackup, acceptedBackup, acceptedBackups, RunOf, HoldsValues}
@@ -64,30 +65,32 @@ uncounted k a c = go (isRefused a)
     go true = refl
     go false = ap oneIfBackup c
 
--- a kind of line that asks for a backup, a cut, or neither
+-- a kind of line that asks for a backup, a cut, a reduction, or nothing
 data Asks (k : Kind) : Type 0 where
   backs : k ≡ K.Backup → Asks k
   cuts : k ≡ K.Cut → Asks k
-  neither : callOf k ≡ none → Asks k
+  reduces : k ≡ K.Reduce → Asks k
+  nothing : callOf k ≡ none → Asks k
 
 asks : (k : Kind) → Asks k
-asks K.Constant = neither refl
-asks K.Predicate = neither refl
-asks K.Total = neither refl
-asks K.Discount = neither refl
-asks K.Reward = neither refl
-asks K.Action = neither refl
-asks K.Variant = neither refl
-asks K.Becomes = neither refl
-asks K.Start = neither refl
-asks K.Objects = neither refl
-asks K.Is = neither refl
-asks K.True = neither refl
-asks K.Value = neither refl
+asks K.Constant = nothing refl
+asks K.Predicate = nothing refl
+asks K.Total = nothing refl
+asks K.Discount = nothing refl
+asks K.Reward = nothing refl
+asks K.Action = nothing refl
+asks K.Variant = nothing refl
+asks K.Becomes = nothing refl
+asks K.Start = nothing refl
+asks K.Objects = nothing refl
+asks K.Is = nothing refl
+asks K.True = nothing refl
+asks K.Value = nothing refl
 asks K.Backup = backs refl
 asks K.Cut = cuts refl
-asks K.Show = neither refl
-asks K.Bad = neither refl
+asks K.Show = nothing refl
+asks K.Reduce = reduces refl
+asks K.Bad = nothing refl
 
 module _ (σ : Session) (p : σ .part ≡ Run) (number : ℕ) where
   -- no call asked for, and the same run
@@ -128,6 +131,7 @@ module _ (σ : Session) (p : σ .part ≡ Run) (number : ℕ) where
     forValue = λ v e a c. no-call K.Value _ c refl refl refl;
     forBackup = λ h e a c. called c;
     forCut = λ row e n q a c. called c;
+    forReduce = λ h e a c. called c;
     forShow = λ a c. no-call K.Show _ c refl refl refl;
   }
 
@@ -167,6 +171,17 @@ module _ (σ : Session) (p : σ .part ≡ Run) (number : ℕ) where
       go (C.Done k e n) = record { part = p; model = refl; held = refl; steps = omega arith }
       go (C.Refused r) = record { part = p; model = refl; held = refl; steps = omega arith }
 
+  reduce-done : (es : List Event) → OneCall σ K.Reduce (done σ number K.Reduce es)
+  unfolding done reduceLine runFrom call acceptedBackup
+  reduce-done es = go (reduceAnswer (σ .model .arities) (σ .held .diagram))
+    where
+      said : Outcome Diagram → Reply
+      said o = reduceSays σ number (andThen o (λ d. ok (record { diagram = d; steps = σ .held .steps })))
+
+      go : (o : Outcome Diagram) → Went σ (taken (σ .held) o (σ .held .steps)) (acceptedBackup K.Reduce (said o .answer)) (said o .session)
+      go (ok d) = record { part = p; model = refl; held = refl; steps = omega arith }
+      go (refused r) = record { part = p; model = refl; held = refl; steps = omega arith }
+
   line-run : (s : List ℕ) → OneCall σ (lineKind s) (reply σ number s)
   line-run s = go (asks (lineKind s))
     where
@@ -176,7 +191,8 @@ module _ (σ : Session) (p : σ .part ≡ Run) (number : ℕ) where
       go : Asks (lineKind s) → OneCall σ (lineKind s) (reply σ number s)
       go (backs i) = by-done K.Backup i refl (backup-done (wordsOf K.Backup s))
       go (cuts i) = by-done K.Cut i refl (cut-done (wordsOf K.Cut s))
-      go (neither c) = uncalled s c
+      go (reduces i) = by-done K.Reduce i refl (reduce-done (wordsOf K.Reduce s))
+      go (nothing c) = uncalled s c
 
 -- ===== Lines of the run =====
 
@@ -257,6 +273,7 @@ module _ (σ : Session) (p : σ .part ≡ ModelPart) (number : ℕ) where
     forValue = λ v e a. later K.Value refl a;
     forBackup = λ h e a. later K.Backup refl a;
     forCut = λ row e n q a. later K.Cut refl a;
+    forReduce = λ h e a. later K.Reduce refl a;
     forShow = λ a. later K.Show refl a;
   }
 

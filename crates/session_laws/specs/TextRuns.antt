@@ -1,4 +1,5 @@
--- The run behind the lines of a text: the backups and cuts that they ask for, and the model accepted at (start) (document 01, sections 'Text' and 'Backup').
+-- The run behind the lines of a text: the backups, cuts and reductions that they ask for, and the model accepted at (start) (document 01, sections 'Text' and 'Backup';
+-- document 02, L13).
 use mathlib.Core.Path.{_≡_}
 use mathlib.Core.Bool.{Bool, true, false, cond}
 use mathlib.Core.List.{List, [], _∷_, _++_}
@@ -11,7 +12,7 @@ use Rattle.state.specs.State.{State, Good, meaning}
 use Rattle.state.specs.Highest.{highest}
 use Rattle.elimination.specs.Answer.{isTooLarge}
 use Rattle.mdp.specs.Bellman.{bellman}
-use Rattle.mdp.specs.Runs.{Call, aBackup, aCut, begin, run}
+use Rattle.mdp.specs.Runs.{Call, aBackup, aCut, aReduce, begin, run}
 use Rattle.text.specs.declared.Kind.{Kind}
 use Rattle.text.specs.declared.Kind.the-variants as K
 use Rattle.text.specs.LineForm.{lineKind}
@@ -27,7 +28,7 @@ use Rattle.session_laws.specs.TextReplies.{replies}
 
 -- ===== What lines ask for =====
 
--- (backup) asks for a backup, (cut) for a cut, no other line for either
+-- (backup) asks for a backup, (cut) for a cut, (reduce) for a reduction, no other line for any
 abbrev pub callOf : Kind → Option Call
 callOf K.Constant = none
 callOf K.Predicate = none
@@ -45,13 +46,14 @@ callOf K.Value = none
 callOf K.Backup = some aBackup
 callOf K.Cut = some aCut
 callOf K.Show = none
+callOf K.Reduce = some aReduce
 callOf K.Bad = none
 
 abbrev pub callThen : Option Call → List Call → List Call
 callThen none l = l
 callThen (some c) l = c ∷ l
 
--- the backups and cuts that lines ask for, in order, whether they are accepted or refused
+-- the backups, cuts and reductions that lines ask for, in order, whether they are accepted or refused
 unfoldable pub callsOf : List (List ℕ) → List Call
 unfolding lineKind
 callsOf [] = []
@@ -63,6 +65,7 @@ abbrev pub isRefused : Answer → Bool
 isRefused (A.Value v k w) = false
 isRefused (A.Backup k n) = false
 isRefused (A.Cut r e n) = false
+isRefused (A.Reduce n) = false
 isRefused (A.Show n) = false
 isRefused (A.Refused r line) = true
 isRefused A.Nothing = false
@@ -71,6 +74,7 @@ abbrev pub oneIfBackup : Option Call → ℕ
 oneIfBackup none = 0
 oneIfBackup (some aBackup) = 1
 oneIfBackup (some aCut) = 0
+oneIfBackup (some aReduce) = 0
 
 -- 1 for an accepted (backup) line, 0 for any other
 unfoldable pub acceptedBackup : Kind → Answer → ℕ
@@ -94,8 +98,8 @@ pub record HoldsValues (σ : Session) : Type 0 where
   pub each : (s : State) → Good s → highest s [] (meaning (σ .model .arities) (σ .held .diagram)) ≡ bellman (σ .model) (σ .held .steps) s
 
 -- the session σ behind the lines ls, one of which, `start`, is the accepted (start), and no other is: a second (start) is 5. Its model is the one that stands
--- before that line, and so its sums of weights passed; its value diagram and k are those that a run of this model leads to, of the very backups and cuts that
--- the lines behind it ask for; k is the number of accepted (backup) lines; and in every state the highest leaf of the value diagram is Mk
+-- before that line, and so its sums of weights passed; its value diagram and k are those that a run of this model leads to, of the very backups, cuts and
+-- reductions that the lines behind it ask for; k is the number of accepted (backup) lines; and in every state the highest leaf of the value diagram is Mk
 pub record RunOf (ls : List (List ℕ)) (σ : Session) : Type 0 where
   pub before : List (List ℕ)
   pub start : List ℕ

@@ -72,6 +72,7 @@ module _ (σ : Session) (w : WholeRows (σ .live .facts)) where
     forValue = λ v e. w;
     forBackup = λ h e. w;
     forCut = λ row e n q. w;
+    forReduce = λ h e. w;
     forShow = w;
   }
 
