@@ -60,6 +60,7 @@ pub fn first_word(kind: Kind) -> usize
         Kind::Backup => 8,
         Kind::Cut => 5,
         Kind::Show => 6,
+        Kind::Reduce => 8,
         Kind::Bad => 2,
     }
 }

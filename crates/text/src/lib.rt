@@ -27,6 +27,7 @@ pub enum Kind {
     Backup,
     Cut,
     Show,
+    Reduce,
     Bad,
 }
 
@@ -53,7 +54,7 @@ pub struct Keyword {
 // The most bytes that a line has.
 const LINE_BYTES: usize = 4095;
 
-const KINDS: usize = 16;
+const KINDS: usize = 17;
 
 // The key words of all kinds of lines.
 const KEYWORDS: [Keyword; KINDS] = [
@@ -177,6 +178,14 @@ const KEYWORDS: [Keyword; KINDS] = [
             b: 0,
         },
         kind: Kind::Show,
+        shape: Shape::Nothing,
+    },
+    Keyword {
+        key: Key {
+            a: 111477845681522,
+            b: 0,
+        },
+        kind: Kind::Reduce,
         shape: Shape::Nothing,
     },
 ];
