@@ -1,4 +1,4 @@
--- Laws of what is held: behind a backup, behind a cut, and where a run begins.
+-- Laws of what is held: behind a backup, behind a cut or a reduction, and where a run begins.
 use mathlib.Core.Path.{_≡_, refl, sym, ap, subst, _∙_}
 use mathlib.Core.Bool.{Bool, true, false, cond}
 use mathlib.Core.List.{List, _++_}
@@ -44,7 +44,7 @@ use Rattle.planner.specs.declared.Held.{Held}
 use Rattle.steps.specs.Steps.{stepAs, Result, Wrote}
 use Rattle.planner.specs.Backed.{Powered, backedAs, BackedUp}
 use Rattle.planner.specs.Tasks.{Standing}
-use Rattle.planner.specs.Run.{heldIn, Holds, Room, Callable, CutTask, CutTo, Takeable, Taken}
+use Rattle.planner.specs.Run.{heldIn, Holds, Room, Callable, ReplaceTask, Replaced, Takeable, Taken}
 use Rattle.steps.specs.GivenLaws.{listing-result, wrote-given, result-few, fold-there, fold-given}
 
 -- two held values are equal by their parts
@@ -88,6 +88,39 @@ module _ {ar : List ℕ} {m : Model} {h : Held} {value : List ℕ} (c : Callable
         power = sym s ∙ ap (λ (k : ℕ). scale m ^ k) (sym (add-one (h .steps)));
       })
 
+-- ===== A value replaced by what a call gives, k staying =====
+
+module _ {ar : List ℕ} {h : Held} {value work : List ℕ} (t : ReplaceTask ar h value work) where
+  pub replace-long : h .rows * 3 ≡ length (take (h .rows * 3) value)
+  replace-long = sym (length-take-le (h .rows * 3) value (t .room))
+
+  pub replace-stays : {o : Outcome Diagram} {x : Refusal} → o ≡ refused x → Replaced ar h value o h value
+  replace-stays e = record {
+    listing = t .listing;
+    room = t .room;
+    is = sym (ap (λ (o : Outcome Diagram). taken (heldIn h value) o (h .steps)) e);
+    steps = refl;
+    power = refl;
+  }
+
+  module _ {o : Outcome Diagram} {n : ℕ} {out out′ : List ℕ} (w : Wrote ar o (Rows n) out out′) where
+    pub replace-there : n * 3 ≤ length out′
+    replace-there = fold-there w refl
+
+    pub replace-room : n * 3 ≤ length value
+    replace-room = omega (arith, result-few (wrote-given w .result n refl), t .value-room)
+
+    pub replace-holds : {value′ : List ℕ} → value′ ≡ take (n * 3) out′ ++ drop (n * 3) value → Replaced ar h value o (record { rows = n; steps = h .steps; power = h .power }) value′
+    replace-holds {value′} u =
+        let x : Result ar o n value′ = fold-given w refl value u .result n refl in
+        record {
+          listing = x .listing;
+          room = x .room;
+          is = sym (ap (λ (q : Outcome Diagram). taken (heldIn h value) q (h .steps)) (x .is));
+          steps = refl;
+          power = refl;
+        }
+
 -- ===== A cut =====
 
 cut-fits : (ar : List ℕ) (d : Diagram) → Good ar d → Accepted (Good ar) (cutOutcome ar d)
@@ -118,10 +151,7 @@ cut-rows ar d k e n h = go (ltb mostPaths (length (paths d))) (choice ar d) h
         let t : isTrueEdge e ≡ b = sym (ap isTrueEdge s) ∙ edge-side b in
         ap (λ (x : ℕ). length (rows (cutDiagram ar d x (isTrueEdge e)))) (sym p) ∙ ap (λ (x : Bool). length (rows (cutDiagram ar d j x))) t ∙ l
 
-module _ {ar : List ℕ} {h : Held} {value work : List ℕ} (t : CutTask ar h value work) where
-  pub cut-long : h .rows * 3 ≡ length (take (h .rows * 3) value)
-  cut-long = sym (length-take-le (h .rows * 3) value (t .room))
-
+module _ {ar : List ℕ} {h : Held} {value work : List ℕ} (t : ReplaceTask ar h value work) where
   pub cut-able : (n : ℕ) → resultWords ≤ n → Cuttable ar (take (h .rows * 3) value) (replicate n 0) work
   cut-able n k = record { listing = t .listing; out-room = omega (arith, length-replicate {A = ℕ} n 0); work-room = t .work-room }
 
@@ -129,42 +159,19 @@ module _ {ar : List ℕ} {h : Held} {value work : List ℕ} (t : CutTask ar h va
   W = diagramOf (take (h .rows * 3) value)
 
   module _ {q : Cut} (a : q ≡ diagramAnswer ar (diagramOf (take (h .rows * 3) value))) where
-    pub cut-stays : {x : Refusal} → q ≡ NotCut x → CutTo ar h value h value
-    cut-stays {x} e = record {
-      listing = t .listing;
-      room = t .room;
-      is = sym (ap (λ (o : Outcome Diagram). taken (heldIn h value) o (h .steps)) (cut-refused ar W x (sym a ∙ e)));
-      steps = refl;
-      power = refl;
-    }
+    pub cut-stays : {x : Refusal} → q ≡ NotCut x → Replaced ar h value (cutOutcome ar W) h value
+    cut-stays {x} e = replace-stays t (cut-refused ar W x (sym a ∙ e))
 
-    module _ (out : List ℕ) {out′ : List ℕ} (w : out′ ≡ answerBuffer ar (take (h .rows * 3) value) out q) {k : ℕ} {e : Edge} {n : ℕ} (d : q ≡ CutDone k e n) where
-      wrote : Wrote ar (cutOutcome ar W) (Rows n) out out′
-      unfolding answerBuffer written
-      wrote =
-          let z = cut-done ar W k e n (sym a ∙ d) in
-          record {
-            answer = ap Rows (sym (cut-rows ar W k e n (sym a ∙ d))) ∙ ap stepAs (sym z);
-            words = w ∙ ap (answerBuffer ar (take (h .rows * 3) value) out) d ∙ ap (λ (o : Outcome Diagram). writtenAs o out) (sym z);
-            good = cut-fits ar W (is-listing-good ar (take (h .rows * 3) value) (t .listing));
-          }
-
-      pub cut-there : n * 3 ≤ length out′
-      cut-there = fold-there wrote refl
-
-      pub cut-room : n * 3 ≤ length value
-      cut-room = omega (arith, result-few (wrote-given wrote .result n refl), t .value-room)
-
-      pub cut-holds : {value′ : List ℕ} → value′ ≡ take (n * 3) out′ ++ drop (n * 3) value → CutTo ar h value (record { rows = n; steps = h .steps; power = h .power }) value′
-      cut-holds {value′} u =
-          let x : Result ar (cutOutcome ar W) n value′ = fold-given wrote refl value u .result n refl in
-          record {
-            listing = x .listing;
-            room = x .room;
-            is = sym (ap (λ (o : Outcome Diagram). taken (heldIn h value) o (h .steps)) (x .is));
-            steps = refl;
-            power = refl;
-          }
+    pub cut-wrote : (out : List ℕ) {out′ : List ℕ} → out′ ≡ answerBuffer ar (take (h .rows * 3) value) out q → {k : ℕ} {e : Edge} {n : ℕ} → q ≡ CutDone k e n
+        → Wrote ar (cutOutcome ar W) (Rows n) out out′
+    unfolding answerBuffer written
+    cut-wrote out w {k} {e} {n} d =
+        let z = cut-done ar W k e n (sym a ∙ d) in
+        record {
+          answer = ap Rows (sym (cut-rows ar W k e n (sym a ∙ d))) ∙ ap stepAs (sym z);
+          words = w ∙ ap (answerBuffer ar (take (h .rows * 3) value) out) d ∙ ap (λ (o : Outcome Diagram). writtenAs o out) (sym z);
+          good = cut-fits ar W (is-listing-good ar (take (h .rows * 3) value) (t .listing));
+        }
 
 -- ===== The reward =====
 

@@ -1,11 +1,13 @@
--- Runs of backups and cuts on a model in lent words (document 01, section 'Backup': "the value diagram starts as the reward read, k as 0").
+-- Runs of backups, cuts and reductions on a model in lent words (document 01, section 'Backup': "the value diagram starts as the reward read, k as 0").
 use mathlib.Core.Path.{_≡_}
 use mathlib.Core.Bool.{true, cond}
 use mathlib.Core.List.{List, [], _∷_}
 use Prim.Native.Nat.{ℕ, _+_, _*_, _/_, _^_, _≤_}
 use lib.ListN.{length, take}
 use lib.Dec.{eqb}
+use Rattle.refusal.specs.Outcome.{Outcome}
 use Rattle.diagram.specs.Sizes.{resultWords, spaceWords}
+use Rattle.diagram.specs.Diagram.{Diagram}
 use Rattle.diagram.specs.Words.{isListing}
 use Rattle.diagram.specs.Listing.{diagramOf}
 use Rattle.state.specs.State.{meaning}
@@ -42,18 +44,18 @@ pub record Callable (ar : List ℕ) (m : Model) (h : Held) (value : List ℕ) : 
   pub steps : h .steps ≤ mostSteps
   pub power : h .power ≡ scale m ^ h .steps
 
--- what a cut requires of what is held
-pub record CutTask (ar : List ℕ) (h : Held) (value work : List ℕ) : Type 0 where
+-- what a cut or a reduction requires of what is held
+pub record ReplaceTask (ar : List ℕ) (h : Held) (value work : List ℕ) : Type 0 where
   pub listing : isListing ar (take (h .rows * 3) value) ≡ true
   pub room : h .rows * 3 ≤ length value
   pub value-room : resultWords ≤ length value
   pub work-room : spaceWords ≤ length work
 
--- what a cut leaves: k and S^k stay
-pub record CutTo (ar : List ℕ) (h : Held) (value : List ℕ) (h′ : Held) (value′ : List ℕ) : Type 0 where
+-- what it leaves, by what it gives: k and S^k stay
+pub record Replaced (ar : List ℕ) (h : Held) (value : List ℕ) (o : Outcome Diagram) (h′ : Held) (value′ : List ℕ) : Type 0 where
   pub listing : isListing ar (take (h′ .rows * 3) value′) ≡ true
   pub room : h′ .rows * 3 ≤ length value′
-  pub is : heldIn h′ value′ ≡ mdp.taken (heldIn h value) (mdp.cutOutcome ar (diagramOf (take (h .rows * 3) value))) (h .steps)
+  pub is : heldIn h′ value′ ≡ mdp.taken (heldIn h value) o (h .steps)
   pub steps : h′ .steps ≡ h .steps
   pub power : h′ .power ≡ h .power
 

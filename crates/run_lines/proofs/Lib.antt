@@ -2,6 +2,7 @@
 pub mod BackupLaws
 pub mod CutLaws
 pub mod HoldLaws
+pub mod ReduceLaws
 pub mod ShowLaws
 pub mod StartLaws
 pub mod ValueLaws

@@ -3,7 +3,7 @@
 use mathlib.Core.List.{List}
 use Prim.Native.Nat.{ℕ, _*_, _≤_}
 use lib.ListN.{length}
-use Rattle.text.specs.declared.Kind.the-variants.{Start, Value, Backup, Cut, Show}
+use Rattle.text.specs.declared.Kind.the-variants.{Start, Value, Backup, Cut, Reduce, Show}
 use Rattle.session.specs.declared.Part.the-variants.{Run}
 use Rattle.facts.specs.Words.{GoodLive}
 use Rattle.model.specs.Layout.{modelOf, Laid}
@@ -26,7 +26,7 @@ runningWith n h = record {
   held = h;
 }
 
--- ===== What they require; (cut) requires what a cut of a run does =====
+-- ===== What they require; (cut) and (reduce) require what a cut or a reduction of a run does =====
 
 -- a model laid out, and room for its reward and for the rows formed
 pub record StartTask (n : Numbers) (arities listings table value work : List ℕ) : Type 0 where
@@ -61,6 +61,10 @@ pub record BackupAnswered (number : ℕ) (n : Numbers) (arities listings table v
 pub record CutAnswered (number : ℕ) (n : Numbers) (arities value : List ℕ) (r : Said) (value′ : List ℕ) : Type 0 where
   pub says : (s names listings table state : List ℕ) → Ready Cut s n (memoryOf names arities listings table state value)
       → Answers Cut s number n (memoryOf names arities listings table state value) r (memoryOf names arities listings table state value′)
+
+pub record ReduceAnswered (number : ℕ) (n : Numbers) (arities value : List ℕ) (r : Said) (value′ : List ℕ) : Type 0 where
+  pub says : (s names listings table state : List ℕ) → Ready Reduce s n (memoryOf names arities listings table state value)
+      → Answers Reduce s number n (memoryOf names arities listings table state value) r (memoryOf names arities listings table state value′)
 
 pub record ShowAnswered (n : Numbers) (r : Said) : Type 0 where
   pub says : (s : List ℕ) (number : ℕ) (names arities listings table state value : List ℕ) → Ready Show s n (memoryOf names arities listings table state value)

@@ -16,7 +16,7 @@ use Rattle.refusal.specs.Outcome.{ok, refused}
 use Rattle.regression.specs.Parameters.{Within}
 use Rattle.mdp.specs.Model.{GoodModel}
 use Rattle.text.specs.declared.Kind.{Kind}
-use Rattle.text.specs.declared.Kind.the-variants.{Start, Value, Backup, Cut}
+use Rattle.text.specs.declared.Kind.the-variants.{Start, Value, Backup, Cut, Reduce}
 use Rattle.session.specs.declared.Part.{Part}
 use Rattle.session.specs.declared.Part.the-variants.{Model, Run}
 use Rattle.session.specs.declared.Rule.the-variants.{Misplaced}
@@ -26,7 +26,7 @@ use Rattle.session.specs.Replies.{isWhole, isPlaced, unless, allowed}
 use Rattle.facts.specs.Words.{liveOf}
 use Rattle.model.specs.Layout.{modelOf, Laid}
 use Rattle.modelling.specs.BuildingLaws.{building-laid}
-use Rattle.planner.specs.Run.{Room, CutTask}
+use Rattle.planner.specs.Run.{Room, ReplaceTask}
 use Rattle.memory.specs.declared.Numbers.{Numbers}
 use Rattle.memory.specs.Memory.{Memory, sessionOf, Holding, Stored, Ready, workWords}
 use Rattle.memory.specs.StoredLaws.{stored-reward}
@@ -138,12 +138,19 @@ module _ {s : List ℕ} {n : Numbers} {w : Memory} (r : Ready Backup s n w) wher
         room = stored-room (r .stored) l;
       }
 
--- ===== (cut) =====
+-- ===== (cut) and (reduce) =====
 
-pub cut-task : {s : List ℕ} {n : Numbers} {w : Memory} {work : List ℕ} → Ready Cut s n w → workWords ≤ length work → CutTask (w .arities) (n .held) (w .value) work
-cut-task r l = record {
-  listing = run-holding refl r .listing;
+replace-task : {k : Kind} {s : List ℕ} {n : Numbers} {w : Memory} {work : List ℕ} → ruleOf k Model ≡ Misplaced → Ready k s n w → workWords ≤ length work
+    → ReplaceTask (w .arities) (n .held) (w .value) work
+replace-task e r l = record {
+  listing = run-holding e r .listing;
   room = r .stored .value-rows;
   value-room = r .stored .value-room;
   work-room = omega (arith, l);
 }
+
+pub cut-task : {s : List ℕ} {n : Numbers} {w : Memory} {work : List ℕ} → Ready Cut s n w → workWords ≤ length work → ReplaceTask (w .arities) (n .held) (w .value) work
+cut-task r l = replace-task refl r l
+
+pub reduce-task : {s : List ℕ} {n : Numbers} {w : Memory} {work : List ℕ} → Ready Reduce s n w → workWords ≤ length work → ReplaceTask (w .arities) (n .held) (w .value) work
+reduce-task r l = replace-task refl r l

@@ -1,4 +1,4 @@
-// (start), (value), (backup), (cut) and (show): from a line that stands where it may to the session behind it and its answer. What they are stands in
+// (start), (value), (backup), (cut), (reduce) and (show): from a line that stands where it may to the session behind it and its answer. What they are stands in
 // crate session, specs/Running and specs/Replies.
 use answers::Answer;
 use cutting::Cut;
@@ -6,12 +6,13 @@ use memory::Numbers;
 use memory::Said;
 use planner::Backed;
 use planner::Held;
+use reduction::Reduced;
 use session::Part;
 use state::Valued;
 use weights::Weighed;
 ghost use mathlib.Core.Path.{_≡_};
-ghost use Rattle.planner.specs.Run.{CutTask};
-ghost use Rattle.run_lines.specs.Lines.{runningWith, StartTask, ValueTask, BackupTask, StartAnswered, ValueAnswered, BackupAnswered, CutAnswered, ShowAnswered};
+ghost use Rattle.planner.specs.Run.{ReplaceTask};
+ghost use Rattle.run_lines.specs.Lines.{runningWith, StartTask, ValueTask, BackupTask, StartAnswered, ValueAnswered, BackupAnswered, CutAnswered, ReduceAnswered, ShowAnswered};
 
 // The numbers once the run holds `held`.
 fn running(n: Numbers, held: Held) -> Numbers
@@ -136,7 +137,7 @@ pub fn backup(
 
 // (cut): the cut row, its edge and the rows left, or the refusal; k stays.
 pub fn cut(number: u64, n: Numbers, arities: &[u64], value: &mut [u64], work: &mut [u64]) -> Said
-    requires { ⌜ CutTask (now arities) (n .held) (now value) (now work) ⌝ }
+    requires { ⌜ ReplaceTask (now arities) (n .held) (now value) (now work) ⌝ }
     ensures { λ r. ⌜ CutAnswered number n (now (arities .entry)) (now (value .entry)) r (now (value .exit)) ⌝ }
 {
     let mut left = [0u64; diagram::RESULT_WORDS];
@@ -159,6 +160,37 @@ pub fn cut(number: u64, n: Numbers, arities: &[u64], value: &mut [u64], work: &m
             }
         }
         Cut::Refused(why) => Said {
+            numbers: n,
+            answer: Answer::Refused(why, number),
+        },
+    }
+}
+
+// (reduce): the rows left, or the refusal; k stays.
+pub fn reduce(number: u64, n: Numbers, arities: &[u64], value: &mut [u64], work: &mut [u64]) -> Said
+    requires { ⌜ ReplaceTask (now arities) (n .held) (now value) (now work) ⌝ }
+    ensures { λ r. ⌜ ReduceAnswered number n (now (arities .entry)) (now (value .entry)) r (now (value .exit)) ⌝ }
+{
+    let mut left = [0u64; diagram::RESULT_WORDS];
+    let held = n.held;
+    let rows = held.rows;
+    let steps = held.steps;
+    let power = held.power;
+    let r = reduce::reduce_checked(arities, &value[..rows * 3], &mut left, work);
+    match r {
+        Reduced::Done(m) => {
+            write::copy(&left, m, value);
+            let next = Held {
+                rows: m,
+                steps: steps,
+                power: power,
+            };
+            Said {
+                numbers: running(n, next),
+                answer: Answer::Reduce(m),
+            }
+        }
+        Reduced::Refused(why) => Said {
             numbers: n,
             answer: Answer::Refused(why, number),
         },

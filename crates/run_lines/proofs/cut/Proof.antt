@@ -1,12 +1,12 @@
 use lib.Dec.{lit≤}
 use borrow.Author.Needs.{needs}
-use Rattle.planner.proofs.HeldLaws.{cut-long, cut-able, cut-stays as held-stays, cut-there, cut-room, cut-holds}
+use Rattle.planner.proofs.HeldLaws.{replace-long, replace-there, replace-room, replace-holds, cut-able, cut-stays as held-stays, cut-wrote}
 use Rattle.run_lines.proofs.CutLaws.{cut-left, cut-stays}
 use Rattle.run_lines.proofs.cut.Statement.{statement}
 use Rattle.run_lines.proofs.cut.Tie as tie
 
 slice-aggregate-cut-checked : tie.Need-slice-aggregate-cut-checked
-slice-aggregate-cut-checked c = cut-long (c .before .before .before .before .before .pre)
+slice-aggregate-cut-checked c = replace-long (c .before .before .before .before .before .pre)
 
 cut-checked-requires : tie.Need-cut-checked-requires
 cut-checked-requires c κs = cut-able (c .before .before .before .before .before .before .before .pre) 3072 (lit≤ tt)
@@ -16,14 +16,16 @@ copy-requires c κs =
     let t = c .before .before .before .before .before .before .before .before .before .before .before .before .before .before .before .before .pre in
     let q = c .before .before .before .before .before .before .before .before .cut-checked .ensures in
     let d = c .before .before .before .r .given .1 in
-    (cut-there t (q .0) _ (q .1) d, cut-room t (q .0) _ (q .1) d)
+    let w = cut-wrote t (q .0) _ (q .1) d in
+    (replace-there t w, replace-room t w)
 
 returns : tie.Need-returns
 returns c =
     let q = c .before .before .before .before .before .before .before .before .before .before .before .before .cut-checked .ensures in
     let d = c .before .before .before .before .before .before .before .r .given .1 in
     let u = c .before .before .before .copy in
-    cut-left (q .0) d (cut-holds (c .before .before .before .before .before .before .before .before .before .before .before .before .before .before .before .before .before .before .before .before .pre) (q .0) _ (q .1) d (u .ensures)) (u .kept .1 .1 .0) (c .running .ensures)
+    let t = c .before .before .before .before .before .before .before .before .before .before .before .before .before .before .before .before .before .before .before .before .pre in
+    cut-left (q .0) d (replace-holds t (cut-wrote t (q .0) _ (q .1) d) (u .ensures)) (u .kept .1 .1 .0) (c .running .ensures)
 
 returns-2 : tie.Need-returns-2
 returns-2 c =
