@@ -12,7 +12,7 @@ use Rattle.memory.specs.declared.Said.{Said}
 use Rattle.memory.specs.Memory.{Memory, memoryOf, Ready, Answers}
 use Rattle.declaration_lines.specs.Lines.{ConstantSays, PredicateSays, TotalSays, DiscountSays, ActionSays}
 use Rattle.diagram_lines.specs.Lines.{RewardSays, VariantSays, BecomesSays}
-use Rattle.run_lines.specs.Lines.{StartAnswered, ValueAnswered, BackupAnswered, CutAnswered, ShowAnswered}
+use Rattle.run_lines.specs.Lines.{StartAnswered, ValueAnswered, BackupAnswered, CutAnswered, ReduceAnswered, ShowAnswered}
 use Rattle.state_lines.specs.Lines.{ObjectsSays, IsSays, TrueSays}
 
 pub ready-as : {k l : Kind} {s : List ℕ} {n : Numbers} {w : Memory} → k ≡ l → Ready k s n w → Ready l s n w
@@ -79,6 +79,10 @@ module _ {k : Kind} {s : List ℕ} (number : ℕ) {n : Numbers} {names arities l
   pub cut-answers : {r : Said} {value′ : List ℕ} → k ≡ K.Cut → CutAnswered number n arities value r value′
       → Answers k s number n (memoryOf names arities listings table state value) r (memoryOf names arities listings table state value′)
   cut-answers e c = rw e (c .says s names listings table state (ready-as e h))
+
+  pub reduce-answers : {r : Said} {value′ : List ℕ} → k ≡ K.Reduce → ReduceAnswered number n arities value r value′
+      → Answers k s number n (memoryOf names arities listings table state value) r (memoryOf names arities listings table state value′)
+  reduce-answers e c = rw e (c .says s names listings table state (ready-as e h))
 
   pub show-answers : {r : Said} → k ≡ K.Show → ShowAnswered n r
       → Answers k s number n (memoryOf names arities listings table state value) r (memoryOf names arities listings table state value)

@@ -191,6 +191,7 @@ fn perform(
         Kind::Backup => run_lines::backup(number, n, arities, listings, table, value, work),
         Kind::Cut => run_lines::cut(number, n, arities, value, work),
         Kind::Show => run_lines::show(n),
+        Kind::Reduce => run_lines::reduce(number, n, arities, value, work),
         Kind::Bad => Said {
             numbers: n,
             answer: Answer::Refused(Refusal::Form, number),

@@ -1,7 +1,7 @@
-use Rattle.lines.proofs.AnswerLaws.{ready-as, constant-answers, predicate-answers, total-answers, discount-answers, reward-answers, action-answers, variant-answers, becomes-answers, start-answers, objects-answers, is-answers, tell-answers, value-answers, backup-answers, cut-answers, show-answers, bad-answers}
+use Rattle.lines.proofs.AnswerLaws.{ready-as, constant-answers, predicate-answers, total-answers, discount-answers, reward-answers, action-answers, variant-answers, becomes-answers, start-answers, objects-answers, is-answers, tell-answers, value-answers, backup-answers, cut-answers, show-answers, reduce-answers, bad-answers}
 use Rattle.declaration_lines.specs.LineLaws.{for-constant, for-predicate, for-total, for-discount, for-action}
 use Rattle.diagram_lines.specs.ReadyLaws.{reward-ready, variant-ready, becomes-ready}
-use Rattle.run_lines.specs.ReadyLaws.{start-task, value-task, backup-task, cut-task}
+use Rattle.run_lines.specs.ReadyLaws.{start-task, value-task, backup-task, cut-task, reduce-task}
 use Rattle.state_lines.specs.LineLaws.{for-objects, for-is, for-true}
 use borrow.Author.Needs.{needs}
 use Rattle.lines.proofs.perform.Statement.{statement}
@@ -52,6 +52,9 @@ backup-requires c κs = backup-task (ready-as (c .before .before .before .before
 cut-requires : tie.Need-cut-requires
 cut-requires c κs = cut-task (ready-as (c .before .before .before .enum-told15 .given .1) (c .before .before .before .before .before .before .before .before .before .before .before .before .before .pre .0)) (c .before .before .before .before .before .before .before .before .before .before .before .before .before .pre .1)
 
+reduce-requires : tie.Need-reduce-requires
+reduce-requires c κs = reduce-task (ready-as (c .before .before .before .enum-told17 .given .1) (c .before .before .before .before .before .before .before .before .before .before .before .before .before .pre .0)) (c .before .before .before .before .before .before .before .before .before .before .before .before .before .pre .1)
+
 returns : tie.Need-returns
 returns c = constant-answers _ (c .before .before .before .before .before .before .before .before .before .before .before .before .before .before .pre .0) (c .before .before .before .before .enum-told .given .1) (c .before .before .constant .ensures)
 
@@ -101,9 +104,12 @@ returns-16 : tie.Need-returns-16
 returns-16 c = show-answers _ (c .before .before .before .before .before .before .before .before .before .before .before .pre .0) (c .before .enum-told16 .given .1) (c .show .ensures)
 
 returns-17 : tie.Need-returns-17
-returns-17 c = bad-answers _ (c .before .before .before .before .before .before .before .before .before .before .pre .0) (c .enum-told17 .given .1)
+returns-17 c = reduce-answers _ (c .before .before .before .before .before .before .before .before .before .before .before .before .before .before .before .before .before .before .pre .0) (c .before .before .before .before .before .before .before .before .enum-told17 .given .1) (c .before .before .before .before .reduce .ensures)
+
+returns-18 : tie.Need-returns-18
+returns-18 c = bad-answers _ (c .before .before .before .before .before .before .before .before .before .before .pre .0) (c .enum-told18 .given .1)
 
 pub perform-spec : {M : Type 1} → statement M
 perform-spec =
     tie.close
-    (tie.spec (λ c. search needs) constant-requires (λ c. search needs) predicate-requires (λ c. search needs) total-requires (λ c. search needs) discount-requires (λ c. search needs) reward-requires (λ c. search needs) action-requires (λ c. search needs) variant-requires (λ c. search needs) becomes-requires (λ c. search needs) start-requires (λ c. search needs) objects-requires (λ c. search needs) is-requires (λ c. search needs) tell-requires (λ c. search needs) value-requires (λ c. search needs) backup-requires (λ c. search needs) cut-requires (λ c. search needs) (λ c κs. search needs) (λ c. search needs) (λ c. search needs) returns (λ c. search needs) (λ c. search needs) returns-2 returns-3 returns-4 (λ c. search needs) (λ c. search needs) (λ c. search needs) (λ c. search needs) returns-5 (λ c. search needs) (λ c. search needs) (λ c. search needs) returns-6 (λ c. search needs) (λ c. search needs) (λ c. search needs) (λ c. search needs) (λ c. search needs) returns-7 (λ c. search needs) (λ c. search needs) (λ c. search needs) (λ c. search needs) (λ c. search needs) returns-8 (λ c. search needs) (λ c. search needs) (λ c. search needs) (λ c. search needs) (λ c. search needs) returns-9 (λ c. search needs) returns-10 (λ c. search needs) (λ c. search needs) returns-11 (λ c. search needs) (λ c. search needs) (λ c. search needs) returns-12 (λ c. search needs) (λ c. search needs) (λ c. search needs) returns-13 (λ c. search needs) (λ c. search needs) (λ c. search needs) (λ c. search needs) (λ c. search needs) returns-14 (λ c. search needs) (λ c. search needs) (λ c. search needs) returns-15 returns-16 returns-17)
+    (tie.spec (λ c. search needs) constant-requires (λ c. search needs) predicate-requires (λ c. search needs) total-requires (λ c. search needs) discount-requires (λ c. search needs) reward-requires (λ c. search needs) action-requires (λ c. search needs) variant-requires (λ c. search needs) becomes-requires (λ c. search needs) start-requires (λ c. search needs) objects-requires (λ c. search needs) is-requires (λ c. search needs) tell-requires (λ c. search needs) value-requires (λ c. search needs) backup-requires (λ c. search needs) cut-requires (λ c. search needs) (λ c κs. search needs) (λ c. search needs) reduce-requires (λ c. search needs) (λ c. search needs) returns (λ c. search needs) (λ c. search needs) returns-2 returns-3 returns-4 (λ c. search needs) (λ c. search needs) (λ c. search needs) (λ c. search needs) returns-5 (λ c. search needs) (λ c. search needs) (λ c. search needs) returns-6 (λ c. search needs) (λ c. search needs) (λ c. search needs) (λ c. search needs) (λ c. search needs) returns-7 (λ c. search needs) (λ c. search needs) (λ c. search needs) (λ c. search needs) (λ c. search needs) returns-8 (λ c. search needs) (λ c. search needs) (λ c. search needs) (λ c. search needs) (λ c. search needs) returns-9 (λ c. search needs) returns-10 (λ c. search needs) (λ c. search needs) returns-11 (λ c. search needs) (λ c. search needs) (λ c. search needs) returns-12 (λ c. search needs) (λ c. search needs) (λ c. search needs) returns-13 (λ c. search needs) (λ c. search needs) (λ c. search needs) (λ c. search needs) (λ c. search needs) returns-14 (λ c. search needs) (λ c. search needs) (λ c. search needs) returns-15 returns-16 (λ c. search needs) (λ c. search needs) (λ c. search needs) returns-17 returns-18)
