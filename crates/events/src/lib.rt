@@ -61,6 +61,7 @@ pub fn first_word(kind: Kind) -> usize
         Kind::Cut => 5,
         Kind::Show => 6,
         Kind::Reduce => 8,
+        Kind::Text => 6,
         Kind::Bad => 2,
     }
 }

@@ -35,6 +35,7 @@ keyword-right K.Backup w = ((refl, refl, omega arith), refl)
 keyword-right K.Cut w = ((refl, refl, omega arith), refl)
 keyword-right K.Show w = ((refl, refl, omega arith), refl)
 keyword-right K.Reduce w = ((refl, refl, omega arith), refl)
+keyword-right K.Text w = ((refl, refl, omega arith), refl)
 keyword-right K.Bad w = absurd w
 
 pub keyword-name : (k : Kind) → Words k → IsName (keyword k)

@@ -28,6 +28,7 @@ pub enum Kind {
     Cut,
     Show,
     Reduce,
+    Text,
     Bad,
 }
 
@@ -54,7 +55,7 @@ pub struct Keyword {
 // The most bytes that a line has.
 const LINE_BYTES: usize = 4095;
 
-const KINDS: usize = 17;
+const KINDS: usize = 18;
 
 // The key words of all kinds of lines.
 const KEYWORDS: [Keyword; KINDS] = [
@@ -186,6 +187,14 @@ const KEYWORDS: [Keyword; KINDS] = [
             b: 0,
         },
         kind: Kind::Reduce,
+        shape: Shape::Nothing,
+    },
+    Keyword {
+        key: Key {
+            a: 1954047348,
+            b: 0,
+        },
+        kind: Kind::Text,
         shape: Shape::Nothing,
     },
 ];
