@@ -21,7 +21,7 @@ module _ (s : List ℕ) (place : ℕ) where
   wrote-from : {r : ℕ} → r ≡ place → Wrote s place [] r s
   wrote-from e = rw e wrote-nothing
 
-  one-byte : (b : ℕ) → place < length s → Wrote s place (b ∷ []) (place + 1) (set s place b)
+  pub one-byte : (b : ℕ) → place < length s → Wrote s place (b ∷ []) (place + 1) (set s place b)
   one-byte b h = record { behind = omega arith; bytes = rw (add-one place) (set-split s place b h ∙ sym (append-snoc (take place s) b (drop (suc place) s))) }
 
   -- one byte more

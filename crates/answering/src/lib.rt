@@ -18,7 +18,7 @@ ghost use Rattle.answering.specs.Wrote.{Wrote, WroteWithin};
 const LINE_BYTES: usize = 90;
 
 // Writes bytes at a place, and answers the place behind them.
-fn put_bytes(out: &mut [u8], at: usize, word: &[u8]) -> usize
+pub fn put_bytes(out: &mut [u8], at: usize, word: &[u8]) -> usize
     requires { ⌜ at + length (now word) ≤ length (now out) ⌝ }
     ensures { λ r. ⌜ Wrote (now (out .entry)) at (now (word .entry)) r (now (out .exit)) ⌝ }
 {
@@ -31,7 +31,7 @@ fn put_bytes(out: &mut [u8], at: usize, word: &[u8]) -> usize
 }
 
 // Writes the digits of a number, the highest first.
-fn put_number(out: &mut [u8], at: usize, v: u64) -> usize
+pub fn put_number(out: &mut [u8], at: usize, v: u64) -> usize
     requires { ⌜ at + length (digits v) ≤ length (now out) ⌝ }
     ensures { λ r. ⌜ Wrote (now (out .entry)) at (digits v) r (now (out .exit)) ⌝ }
 {

@@ -1,0 +1,4 @@
+pub mod NameLaws
+pub mod TestLaws
+pub mod RowLaws
+pub mod CountLaws
