@@ -3,7 +3,7 @@ use mathlib.Core.Path.{_≡_, ap, subst, _∙_}
 use mathlib.Core.Logic.{⊎-elim}
 use mathlib.Core.Bool.{true, false}
 use mathlib.Core.List.{List, [], _∷_, _++_}
-use Prim.Native.Nat.{ℕ, suc, _+_, _-_, _*_, _/_, _≤_, _<_, min, max}
+use Prim.Native.Nat.{ℕ, suc, _+_, _-_, _*_, _/_, _≤_, _<_, max}
 use native.Mathlib.Omega.{arith}
 use native.Mathlib.Nat.{eq-or-lt-of-le, le-of-suc-le-suc}
 use native.Mathlib.Numerals.{add-one}
@@ -27,7 +27,7 @@ use Rattle.diagram_form.specs.Form.{Tables, formBytes, formLength, openBrackets
 use Rattle.diagram_form.specs.FormLaws.{form-length}
 use Rattle.spelling.specs.declared.Measured.the-variants.{Bytes, TooLong}
 use Rattle.spelling.specs.Spelling.{tablesAt, measured}
-use Rattle.spelling.specs.Parts.{Spelt, testText, rowText, heldBytes, heldOpen, ByteCounts, OpenCounts}
+use Rattle.spelling.specs.Parts.{Spelt, testText, testBytes, rowText, mostFormBytes, mostFormBrackets, heldBytes, heldOpen, ByteCounts, OpenCounts}
 use Rattle.spelling.proofs.TestLaws.{test-within}
 use Rattle.spelling.proofs.RowLaws.{spelt-arities, leaf-word, leaf-text, row-parts, high-less, low-less, root-row, root-tree}
 
@@ -42,7 +42,7 @@ module _ {ar names ws : List ℕ} {constants predicates i : ℕ} (g : Spelt ar n
   N = tablesAt names constants predicates
 
   module _ (e : getD ws (i * 3) 0 ≡ leafMark) where
-    pub leaf-line : 0 + length (digits (getD ws (i * 3 + 1) 0)) ≤ 160
+    pub leaf-line : 0 + length (digits (getD ws (i * 3 + 1) 0)) ≤ testBytes
     leaf-line = omega (arith, digits-short (getD ws (i * 3 + 1) 0) (leaf-word g r e))
 
     pub leaf-bytes : {s s′ : List ℕ} {q : ℕ} → Wrote s 0 (digits (getD ws (i * 3 + 1) 0)) q s′ → q ≡ heldBytes (formLength ar N (tree ws i))
@@ -75,11 +75,11 @@ module _ {ar names ws : List ℕ} {constants predicates i : ℕ} (g : Spelt ar n
           row-bytes ar N ws low 41,
         )
 
-    pub test-line : 0 + length T ≤ 160
+    pub test-line : 0 + length T ≤ testBytes
     test-line = omega (arith, test-within ar names constants predicates (getD ws (i * 3) 0) (spelt-arities g r))
 
     module _ {s s′ : List ℕ} {q : ℕ} (x : Wrote s 0 T q s′) where
-      pub test-few : q ≤ 160
+      pub test-few : q ≤ testBytes
       test-few = omega (arith, x .behind, test-line)
 
       module _ {bytes : List ℕ} (c : ByteCounts ar N ws bytes i) where
@@ -89,10 +89,10 @@ module _ {ar names ws : List ℕ} {constants predicates i : ℕ} (g : Spelt ar n
         low-count : getD bytes low 0 ≡ heldBytes (formLength ar N (tree ws low))
         low-count = c .each low (low-less g r e)
 
-        pub bytes-over : 4086 < q + 2 + getD bytes high 0 + getD bytes low 0 → 4087 ≡ heldBytes (formLength ar N (tree ws i))
+        pub bytes-over : mostFormBytes < q + 2 + getD bytes high 0 + getD bytes low 0 → mostFormBytes + 1 ≡ heldBytes (formLength ar N (tree ws i))
         bytes-over h = omega (arith, branch-bytes, x .behind, high-count, low-count)
 
-        pub bytes-sum : q + 2 + getD bytes high 0 + getD bytes low 0 ≤ 4086 → q + 2 + getD bytes high 0 + getD bytes low 0 ≡ heldBytes (formLength ar N (tree ws i))
+        pub bytes-sum : q + 2 + getD bytes high 0 + getD bytes low 0 ≤ mostFormBytes → q + 2 + getD bytes high 0 + getD bytes low 0 ≡ heldBytes (formLength ar N (tree ws i))
         bytes-sum h = omega (arith, branch-bytes, x .behind, high-count, low-count)
 
   module _ (e : getD ws (i * 3) 0 ≡ leafMark → ⊥) {bytes : List ℕ} (c : ByteCounts ar N ws bytes i) where
@@ -102,10 +102,10 @@ module _ {ar names ws : List ℕ} {constants predicates i : ℕ} (g : Spelt ar n
     pub low-there : getD ws (i * 3 + 2) 0 < length bytes
     low-there = omega (arith, low-less g r e, c .room)
 
-    pub high-few : getD bytes (getD ws (i * 3 + 1) 0) 0 ≤ 4087
+    pub high-few : getD bytes (getD ws (i * 3 + 1) 0) 0 ≤ mostFormBytes + 1
     high-few = omega (arith, c .each (getD ws (i * 3 + 1) 0) (high-less g r e))
 
-    pub low-few : getD bytes (getD ws (i * 3 + 2) 0) 0 ≤ 4087
+    pub low-few : getD bytes (getD ws (i * 3 + 2) 0) 0 ≤ mostFormBytes + 1
     low-few = omega (arith, c .each (getD ws (i * 3 + 2) 0) (low-less g r e))
 
 pub spelt-shown : {ar names ws : List ℕ} {constants predicates : ℕ} → Spelt ar names constants predicates ws → Shown ws (rowCount ws) (tree ws)
@@ -113,7 +113,7 @@ spelt-shown {ar} {names} {ws} g = shown-rows ar ws (listing-is-valid ar ws (g .l
 
 -- the brackets of a row
 
-held-max : (x y : ℕ) → max (min x 64) (min y 64) ≡ min (max x y) 64
+held-max : (x y : ℕ) → max (heldOpen x) (heldOpen y) ≡ heldOpen (max x y)
 held-max x y = omega arith
 
 module _ {ws : List ℕ} {i : ℕ} (g : Shown ws (rowCount ws) (tree ws)) (r : i < rowCount ws) where
@@ -141,21 +141,21 @@ module _ {ws : List ℕ} {i : ℕ} (g : Shown ws (rowCount ws) (tree ws)) (r : i
         abbrev both : ℕ
         both = max (openBrackets (tree ws (getD ws (i * 3 + 1) 0))) (openBrackets (tree ws (getD ws (i * 3 + 2) 0)))
 
-        open-both : m ≡ min both 64
+        open-both : m ≡ heldOpen both
         open-both =
             x ∙ (λ t. max (c .each (getD ws (i * 3 + 1) 0) (open-kids .0) t) (c .each (getD ws (i * 3 + 2) 0) (open-kids .1) t))
             ∙ held-max (openBrackets (tree ws (getD ws (i * 3 + 1) 0))) (openBrackets (tree ws (getD ws (i * 3 + 2) 0)))
 
-        pub open-over : 63 ≤ most → 64 ≡ heldOpen (openBrackets (tree ws i))
+        pub open-over : mostFormBrackets ≤ most → mostFormBrackets + 1 ≡ heldOpen (openBrackets (tree ws i))
         open-over h = rw open-tree (over both m open-both y h)
           where
-            over : (b k : ℕ) → k ≡ min b 64 → most ≡ max 1 k → 63 ≤ most → 64 ≡ min (suc (max 1 b)) 64
+            over : (b k : ℕ) → k ≡ heldOpen b → most ≡ max 1 k → mostFormBrackets ≤ most → mostFormBrackets + 1 ≡ heldOpen (suc (max 1 b))
             over b k p q l = omega arith
 
-        pub open-more : most < 63 → most + 1 ≡ heldOpen (openBrackets (tree ws i))
+        pub open-more : most < mostFormBrackets → most + 1 ≡ heldOpen (openBrackets (tree ws i))
         open-more h = rw open-tree (more both m open-both y h)
           where
-            more : (b k : ℕ) → k ≡ min b 64 → most ≡ max 1 k → most < 63 → most + 1 ≡ min (suc (max 1 b)) 64
+            more : (b k : ℕ) → k ≡ heldOpen b → most ≡ max 1 k → most < mostFormBrackets → most + 1 ≡ heldOpen (suc (max 1 b))
             more b k p q l = omega arith
 
 -- one row more
@@ -204,7 +204,7 @@ module _ (ar : List ℕ) (n : Tables) (ws : List ℕ) (l : isListing ar ws ≡ t
   root-bytes : getD bytes (length ws / 3 - 1) 0 ≡ heldBytes (formLength ar n (diagramOf ws))
   root-bytes = c .each (length ws / 3 - 1) (root-row ar ar ws 0 0 l) ∙ ap (λ (d : Diagram). heldBytes (formLength ar n d)) (root-tree ar ar ws 0 0 l)
 
-  pub too-many-bytes : 4086 < getD bytes (length ws / 3 - 1) 0 → TooLong ≡ measured ar n (diagramOf ws)
+  pub too-many-bytes : mostFormBytes < getD bytes (length ws / 3 - 1) 0 → TooLong ≡ measured ar n (diagramOf ws)
   unfolding measured isTooLong
   too-many-bytes h = rw (lt-ltb mostLineBytes (9 + formLength ar n (diagramOf ws)) (omega (arith, root-bytes)))
 
@@ -212,15 +212,15 @@ module _ (ar : List ℕ) (n : Tables) (ws : List ℕ) (l : isListing ar ws ≡ t
     root-open : getD brackets (length ws / 3 - 1) 0 ≡ heldOpen (openBrackets (diagramOf ws))
     root-open = o .each (length ws / 3 - 1) (root-row ar ar ws 0 0 l) ∙ ap (λ (d : Diagram). heldOpen (openBrackets d)) (root-tree ar ar ws 0 0 l)
 
-    module _ (h : getD bytes (length ws / 3 - 1) 0 ≤ 4086) where
+    module _ (h : getD bytes (length ws / 3 - 1) 0 ≤ mostFormBytes) where
       bytes-fit : ltb mostLineBytes (9 + formLength ar n (diagramOf ws)) ≡ false
       bytes-fit = le-ltb mostLineBytes (9 + formLength ar n (diagramOf ws)) (omega (arith, root-bytes))
 
-      pub too-many-brackets : 63 < getD brackets (length ws / 3 - 1) 0 → TooLong ≡ measured ar n (diagramOf ws)
+      pub too-many-brackets : mostFormBrackets < getD brackets (length ws / 3 - 1) 0 → TooLong ≡ measured ar n (diagramOf ws)
       unfolding measured isTooLong
       too-many-brackets k = rw (bytes-fit, lt-ltb mostOpenBrackets (1 + openBrackets (diagramOf ws)) (omega (arith, root-open)))
 
-      pub not-too-many : getD brackets (length ws / 3 - 1) 0 ≤ 63 → Bytes (getD bytes (length ws / 3 - 1) 0) ≡ measured ar n (diagramOf ws)
+      pub not-too-many : getD brackets (length ws / 3 - 1) 0 ≤ mostFormBrackets → Bytes (getD bytes (length ws / 3 - 1) 0) ≡ measured ar n (diagramOf ws)
       unfolding measured isTooLong
       not-too-many k =
           let e : getD bytes (length ws / 3 - 1) 0 ≡ formLength ar n (diagramOf ws) = omega (arith, root-bytes) in

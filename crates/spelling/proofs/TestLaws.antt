@@ -21,7 +21,7 @@ use Rattle.answering.specs.Wrote.{Wrote}
 use Rattle.answering.proofs.WriteLaws.{wrote-nothing, wrote-then}
 use Rattle.diagram_form.specs.Form.{tablesOf, termTree, atomTree}
 use Rattle.spelling.specs.Spelling.{tablesAt, Named}
-use Rattle.spelling.specs.Parts.{nameAt, termText, placesText, headText, testText}
+use Rattle.spelling.specs.Parts.{nameAt, termText, placesText, headText, testText, testBytes}
 use Rattle.spelling.proofs.NameLaws.{name-within, term-within}
 
 -- the places of a label, one more
@@ -184,7 +184,7 @@ module _ (ar names : List ℕ) (constants predicates l : ℕ) (a : areArities ar
           rw (head-equal names predicates (predicateOf l) z, n) (equality-text ar names constants predicates l e)
       go (isFalse e) = rw (head-name names predicates (predicateOf l) (eqb-false (predicateOf l) equality e)) (fact-text ar names constants predicates l e)
 
-  pub test-within : length (testText ar names constants predicates l) ≤ 160
+  pub test-within : length (testText ar names constants predicates l) ≤ testBytes
   unfolding testText
   test-within =
       let H : List ℕ = headText names predicates (predicateOf l) in

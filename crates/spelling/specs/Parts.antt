@@ -2,7 +2,7 @@
 use mathlib.Core.Path.{_≡_}
 use mathlib.Core.Bool.{true, cond}
 use mathlib.Core.List.{List, [], _∷_, _++_, map}
-use Prim.Native.Nat.{ℕ, _-_, _≤_, _<_, min}
+use Prim.Native.Nat.{ℕ, _+_, _-_, _≤_, _<_, min}
 use lib.ListN.{length, getD, take}
 use lib.Dec.{eqb}
 use Rattle.label.specs.Limits.{equality}
@@ -43,16 +43,27 @@ testText ar names constants predicates l =
     (40 ∷ 105 ∷ 102 ∷ 32 ∷ [])
     ++ (headText names predicates (predicateOf l) ++ (placesText names constants l (getD ar (predicateOf l) 0) ++ (41 ∷ 32 ∷ [])))
 
+-- its bytes at most: (if, a name of 15 behind its bracket, six terms of at most 22 with a space before each
+abbrev pub testBytes : ℕ
+testBytes = 160
+
 -- the form of row i, and a byte behind it
 unfoldable pub rowText : List ℕ → Tables → List ℕ → ℕ → ℕ → List ℕ
 rowText ar n ws i behind = formBytes ar n (tree ws i) ++ (behind ∷ [])
 
--- a form that is not too long has 4,086 bytes and 63 open brackets at most; counts are held at one more
+-- what a form may have at most: a reward line's bytes less its own nine, its open brackets less its own one
+abbrev pub mostFormBytes : ℕ
+mostFormBytes = 4086
+
+abbrev pub mostFormBrackets : ℕ
+mostFormBrackets = 63
+
+-- counts are held at one above the limit
 abbrev pub heldBytes : ℕ → ℕ
-heldBytes n = min n 4087
+heldBytes n = min n (mostFormBytes + 1)
 
 abbrev pub heldOpen : ℕ → ℕ
-heldOpen n = min n 64
+heldOpen n = min n (mostFormBrackets + 1)
 
 -- the first i rows are counted
 pub record ByteCounts (ar : List ℕ) (n : Tables) (ws bytes : List ℕ) (i : ℕ) : Type 0 where

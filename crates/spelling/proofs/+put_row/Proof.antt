@@ -24,66 +24,107 @@ abbrev put-row-below : ℕ → In 4 put-row-kinds.ps
 put-row-below t = and 4 put-row-kinds.ps (falls 4 put-row-kinds.ps _<_ μ-put-row t) put-row.Pre
 
 put-row-put-number-requires :
-    (t : ℕ) → put-row-lts.Need-put-number-requires (put-number-reads.Asked, put-number-reads.Learnt, put-test-reads.Asked, put-test-reads.Learnt, put-row-below t, put-row.Post) (put-row-at t) put-row.Post
+    (t : ℕ) →
+    put-row-lts.Need-put-number-requires
+    (put-number-reads.Asked, put-number-reads.Learnt, put-test-reads.Asked, put-test-reads.Learnt, put-row-below t, put-row.Post)
+    (put-row-at t)
+    put-row.Post
 put-row-put-number-requires t c κs =
-    let a = c .before .before .before .before .before .before .before .before .before .args in
-    let p = c .before .before .before .before .before .before .before .before .before .pre .1 in
+    let s = c .before .before .before .before .before .before .before .before .before in
+    let a = s .args in
+    let p = s .pre .1 in
     leaf-room (a .out .now) (a .at) (a .behind) (p .0) (p .1 .0) (p .1 .1) (c .before .if1 .taken)
 
 put-row-slice-write-out :
-    (t : ℕ) → put-row-lts.Need-slice-write-out (put-number-reads.Asked, put-number-reads.Learnt, put-test-reads.Asked, put-test-reads.Learnt, put-row-below t, put-row.Post) (put-row-at t) put-row.Post
+    (t : ℕ) →
+    put-row-lts.Need-slice-write-out
+    (put-number-reads.Asked, put-number-reads.Learnt, put-test-reads.Asked, put-test-reads.Learnt, put-row-below t, put-row.Post)
+    (put-row-at t)
+    put-row.Post
 put-row-slice-write-out t c =
-    let a = c .before .before .before .before .before .before .before .before .before .before .before .before .args in
-    let p = c .before .before .before .before .before .before .before .before .before .before .before .before .pre .1 in
+    let s = c .before .before .before .before .before .before .before .before .before .before .before .before in
+    let a = s .args in
+    let p = s .pre .1 in
     let x = c .before .before .put-number in
     leaf-below (a .out .now) (a .at) (a .behind) (p .0) (p .1 .0) (p .1 .1) (c .before .before .before .before .if1 .taken) (x .ensures) (x .kept .0)
 
 put-row-add-result :
-    (t : ℕ) → put-row-lts.Need-add-result (put-number-reads.Asked, put-number-reads.Learnt, put-test-reads.Asked, put-test-reads.Learnt, put-row-below t, put-row.Post) (put-row-at t) put-row.Post
-put-row-add-result t c = omega (arith, put-row-slice-write-out t c, c .before .before .before .before .before .before .before .before .before .before .before .before .good, c .before .before .put-number .kept .0)
+    (t : ℕ) →
+    put-row-lts.Need-add-result
+    (put-number-reads.Asked, put-number-reads.Learnt, put-test-reads.Asked, put-test-reads.Learnt, put-row-below t, put-row.Post)
+    (put-row-at t)
+    put-row.Post
+put-row-add-result t c =
+    let s = c .before .before .before .before .before .before .before .before .before .before .before .before in
+    omega (arith, put-row-slice-write-out t c, s .good, c .before .before .put-number .kept .0)
 
 put-row-returns :
-    (t : ℕ) → put-row-lts.Need-returns (put-number-reads.Asked, put-number-reads.Learnt, put-test-reads.Asked, put-test-reads.Learnt, put-row-below t, put-row.Post) (put-row-at t) put-row.Post
+    (t : ℕ) →
+    put-row-lts.Need-returns
+    (put-number-reads.Asked, put-number-reads.Learnt, put-test-reads.Asked, put-test-reads.Learnt, put-row-below t, put-row.Post)
+    (put-row-at t)
+    put-row.Post
 put-row-returns t c =
-    let a = c .before .before .before .before .before .before .before .before .before .before .before .before .args in
-    let p = c .before .before .before .before .before .before .before .before .before .before .before .before .pre .1 in
+    let s = c .before .before .before .before .before .before .before .before .before .before .before .before in
+    let a = s .args in
+    let p = s .pre .1 in
     let x = c .before .before .put-number in
     leaf-wrote (a .out .now) (a .at) (a .behind) (p .0) (p .1 .0) (p .1 .1) (c .before .before .before .before .if1 .taken) (x .ensures) (x .kept .0)
 
 put-row-put-test-requires :
-    (t : ℕ) → put-row-lts.Need-put-test-requires (put-number-reads.Asked, put-number-reads.Learnt, put-test-reads.Asked, put-test-reads.Learnt, put-row-below t, put-row.Post) (put-row-at t) put-row.Post
+    (t : ℕ) →
+    put-row-lts.Need-put-test-requires
+    (put-number-reads.Asked, put-number-reads.Learnt, put-test-reads.Asked, put-test-reads.Learnt, put-row-below t, put-row.Post)
+    (put-row-at t)
+    put-row.Post
 put-row-put-test-requires t c κs =
-    let a = c .before .before .before .before .before .before .before .before .before .args in
-    let p = c .before .before .before .before .before .before .before .before .before .pre .1 in
+    let s = c .before .before .before .before .before .before .before .before .before in
+    let a = s .args in
+    let p = s .pre .1 in
     let e = c .before .if1 .left in
     (spelt-arities (p .0) (p .1 .0), (row-label (p .0) (p .1 .0) e, (p .0 .named, test-room (a .out .now) (a .at) (a .behind) (p .0) (p .1 .0) (p .1 .1) e)))
 
 put-row-put-row-requires :
-    (t : ℕ) → put-row-lts.Need-put-row-requires (put-number-reads.Asked, put-number-reads.Learnt, put-test-reads.Asked, put-test-reads.Learnt, put-row-below t, put-row.Post) (put-row-at t) put-row.Post
+    (t : ℕ) →
+    put-row-lts.Need-put-row-requires
+    (put-number-reads.Asked, put-number-reads.Learnt, put-test-reads.Asked, put-test-reads.Learnt, put-row-below t, put-row.Post)
+    (put-row-at t)
+    put-row.Post
 put-row-put-row-requires t c κs =
-    let a = c .before .before .before .before .before .before .before .before .before .before .before .before .before .args in
-    let p = c .before .before .before .before .before .before .before .before .before .before .before .before .before .pre .1 in
+    let s = c .before .before .before .before .before .before .before .before .before .before .before .before .before in
+    let a = s .args in
+    let p = s .pre .1 in
     let e = c .before .before .before .before .before .if1 .left in
     let x = c .before .before .before .put-test in
     let h = high-less (p .0) (p .1 .0) e in
-    (omega (arith, c .before .before .before .before .before .before .before .before .before .before .before .before .before .pre .0, h), (p .0, (omega (arith, h, p .1 .0), high-room (a .out .now) (a .at) (a .behind) (p .0) (p .1 .0) (p .1 .1) e (x .ensures) (x .kept .0))))
+    (omega (arith, s .pre .0, h), (p .0, (omega (arith, h, p .1 .0), high-room (a .out .now) (a .at) (a .behind) (p .0) (p .1 .0) (p .1 .1) e (x .ensures) (x .kept .0))))
 
 put-row-put-row-requires-2 :
-    (t : ℕ) → put-row-lts.Need-put-row-requires-2 (put-number-reads.Asked, put-number-reads.Learnt, put-test-reads.Asked, put-test-reads.Learnt, put-row-below t, put-row.Post) (put-row-at t) put-row.Post
+    (t : ℕ) →
+    put-row-lts.Need-put-row-requires-2
+    (put-number-reads.Asked, put-number-reads.Learnt, put-test-reads.Asked, put-test-reads.Learnt, put-row-below t, put-row.Post)
+    (put-row-at t)
+    put-row.Post
 put-row-put-row-requires-2 t c κs =
-    let a = c .before .before .before .before .before .before .before .before .before .before .before .before .before .before .before .before .before .args in
-    let p = c .before .before .before .before .before .before .before .before .before .before .before .before .before .before .before .before .before .pre .1 in
+    let s = c .before .before .before .before .before .before .before .before .before .before .before .before .before .before .before .before .before in
+    let a = s .args in
+    let p = s .pre .1 in
     let e = c .before .before .before .before .before .before .before .before .before .if1 .left in
     let x = c .before .before .before .before .before .before .before .put-test in
     let y = c .before .before .before .put-row in
     let h = low-less (p .0) (p .1 .0) e in
-    (omega (arith, c .before .before .before .before .before .before .before .before .before .before .before .before .before .before .before .before .before .pre .0, h), (p .0, (omega (arith, h, p .1 .0), low-room (a .out .now) (a .at) (a .behind) (p .0) (p .1 .0) (p .1 .1) e (x .ensures) (x .kept .0) (y .ensures) (y .kept .0))))
+    (omega (arith, s .pre .0, h), (p .0, (omega (arith, h, p .1 .0), low-room (a .out .now) (a .at) (a .behind) (p .0) (p .1 .0) (p .1 .1) e (x .ensures) (x .kept .0) (y .ensures) (y .kept .0))))
 
 put-row-slice-write-out-2 :
-    (t : ℕ) → put-row-lts.Need-slice-write-out-2 (put-number-reads.Asked, put-number-reads.Learnt, put-test-reads.Asked, put-test-reads.Learnt, put-row-below t, put-row.Post) (put-row-at t) put-row.Post
+    (t : ℕ) →
+    put-row-lts.Need-slice-write-out-2
+    (put-number-reads.Asked, put-number-reads.Learnt, put-test-reads.Asked, put-test-reads.Learnt, put-row-below t, put-row.Post)
+    (put-row-at t)
+    put-row.Post
 put-row-slice-write-out-2 t c =
-    let a = c .before .before .before .before .before .before .before .before .before .before .before .before .before .before .before .before .before .before .before .before .args in
-    let p = c .before .before .before .before .before .before .before .before .before .before .before .before .before .before .before .before .before .before .before .before .pre .1 in
+    let s = c .before .before .before .before .before .before .before .before .before .before .before .before .before .before .before .before .before .before .before .before in
+    let a = s .args in
+    let p = s .pre .1 in
     let e = c .before .before .before .before .before .before .before .before .before .before .before .before .if1 .left in
     let x = c .before .before .before .before .before .before .before .before .before .before .put-test in
     let y = c .before .before .before .before .before .before .put-row in
@@ -91,7 +132,11 @@ put-row-slice-write-out-2 t c =
     end-below (a .out .now) (a .at) (a .behind) (p .0) (p .1 .0) (p .1 .1) e (x .ensures) (x .kept .0) (y .ensures) (y .kept .0) (z .ensures) (z .kept .0)
 
 put-row-add-result-2 :
-    (t : ℕ) → put-row-lts.Need-add-result-2 (put-number-reads.Asked, put-number-reads.Learnt, put-test-reads.Asked, put-test-reads.Learnt, put-row-below t, put-row.Post) (put-row-at t) put-row.Post
+    (t : ℕ) →
+    put-row-lts.Need-add-result-2
+    (put-number-reads.Asked, put-number-reads.Learnt, put-test-reads.Asked, put-test-reads.Learnt, put-row-below t, put-row.Post)
+    (put-row-at t)
+    put-row.Post
 put-row-add-result-2 t c =
     omega (
       arith,
@@ -103,16 +148,28 @@ put-row-add-result-2 t c =
     )
 
 put-row-same-length-2 :
-    (t : ℕ) → put-row-lts.Need-same-length-2 (put-number-reads.Asked, put-number-reads.Learnt, put-test-reads.Asked, put-test-reads.Learnt, put-row-below t, put-row.Post) (put-row-at t) put-row.Post
+    (t : ℕ) →
+    put-row-lts.Need-same-length-2
+    (put-number-reads.Asked, put-number-reads.Learnt, put-test-reads.Asked, put-test-reads.Learnt, put-row-below t, put-row.Post)
+    (put-row-at t)
+    put-row.Post
 put-row-same-length-2 t c =
+    let s = c .before .before .before .before .before .before .before .before .before .before .before .before .before .before .before .before .before .before .before .before in
+    let x = c .before .before .before .before .before .before .before .before .before .before .put-test in
+    let y = c .before .before .before .before .before .before .put-row in
     let z = c .before .before .put-row2 in
-    length-set (z .last .0) (z .result) (c .before .before .before .before .before .before .before .before .before .before .before .before .before .before .before .before .before .before .before .before .args .behind) ∙ z .kept .0 ∙ c .before .before .before .before .before .before .put-row .kept .0 ∙ c .before .before .before .before .before .before .before .before .before .before .put-test .kept .0
+    length-set (z .last .0) (z .result) (s .args .behind) ∙ z .kept .0 ∙ y .kept .0 ∙ x .kept .0
 
 put-row-returns-2 :
-    (t : ℕ) → put-row-lts.Need-returns-2 (put-number-reads.Asked, put-number-reads.Learnt, put-test-reads.Asked, put-test-reads.Learnt, put-row-below t, put-row.Post) (put-row-at t) put-row.Post
+    (t : ℕ) →
+    put-row-lts.Need-returns-2
+    (put-number-reads.Asked, put-number-reads.Learnt, put-test-reads.Asked, put-test-reads.Learnt, put-row-below t, put-row.Post)
+    (put-row-at t)
+    put-row.Post
 put-row-returns-2 t c =
-    let a = c .before .before .before .before .before .before .before .before .before .before .before .before .before .before .before .before .before .before .before .before .args in
-    let p = c .before .before .before .before .before .before .before .before .before .before .before .before .before .before .before .before .before .before .before .before .pre .1 in
+    let s = c .before .before .before .before .before .before .before .before .before .before .before .before .before .before .before .before .before .before .before .before in
+    let a = s .args in
+    let p = s .pre .1 in
     let e = c .before .before .before .before .before .before .before .before .before .before .before .before .if1 .left in
     let x = c .before .before .before .before .before .before .before .before .before .before .put-test in
     let y = c .before .before .before .before .before .before .put-row in

@@ -26,16 +26,30 @@ row-bytes-requires : tie.Need-row-bytes-requires Inv-loop μ-loop
 row-bytes-requires c κs = (c .before .before .before .before .before .before .before .before .pre .0, (c .before .loop-test .taken, c .before .before .loop .inv .3))
 
 row-open-requires : tie.Need-row-open-requires Inv-loop μ-loop
-row-open-requires c κs = (spelt-shown (c .before .before .before .before .before .before .before .before .before .before .pre .0), (c .before .before .before .loop-test .taken, c .before .before .before .before .loop .inv .4))
+row-open-requires c κs =
+    let past-3 = c .before .before .before in
+    let past-4 = c .before .before .before .before in
+    let past-10 = c .before .before .before .before .before .before .before .before .before .before in
+    (spelt-shown (past-10 .pre .0), (past-3 .loop-test .taken, past-4 .loop .inv .4))
 
 mul-bytes : tie.Need-mul-bytes Inv-loop μ-loop
-mul-bytes c = let v = c .before .before .before .before .before .loop .inv in omega (arith, v .1, v .3 .room, c .before .before .before .before .loop-test .taken, c .before .before .before .before .before .before .before .before .before .before .before .good)
+mul-bytes c =
+    let past-4 = c .before .before .before .before in
+    let past-5 = c .before .before .before .before .before in
+    let past-11 = c .before .before .before .before .before .before .before .before .before .before .before in
+    let v = past-5 .loop .inv in
+    omega (arith, v .1, v .3 .room, past-4 .loop-test .taken, past-11 .good)
 
 slice-write-bytes : tie.Need-slice-write-bytes Inv-loop μ-loop
 slice-write-bytes c = let v = c .before .before .before .before .before .loop .inv in omega (arith, v .3 .room, c .before .before .before .before .loop-test .taken)
 
 mul-brackets : tie.Need-mul-brackets Inv-loop μ-loop
-mul-brackets c = let v = c .before .before .before .before .before .loop .inv in omega (arith, v .2, v .4 .room, c .before .before .before .before .loop-test .taken, c .before .before .before .before .before .before .before .before .before .before .before .good)
+mul-brackets c =
+    let past-4 = c .before .before .before .before in
+    let past-5 = c .before .before .before .before .before in
+    let past-11 = c .before .before .before .before .before .before .before .before .before .before .before in
+    let v = past-5 .loop .inv in
+    omega (arith, v .2, v .4 .room, past-4 .loop-test .taken, past-11 .good)
 
 slice-write-brackets : tie.Need-slice-write-brackets Inv-loop μ-loop
 slice-write-brackets c = let v = c .before .before .before .before .before .loop .inv in omega (arith, v .4 .room, c .before .before .before .before .loop-test .taken)

@@ -5,20 +5,28 @@ use Rattle.spelling.proofs.put.Tie as tie
 
 sub-root : tie.Need-sub-root
 sub-root c =
-    let a = c .before .before .before .before .args in
-    let p = c .before .before .before .before .pre in
+    let s = c .before .before .before .before in
+    let a = s .args in
+    let p = s .pre in
     some-row (a .arities .now) (a .names .now) (a .words .now) (a .constants) (a .predicates) (p .0)
 
 put-row-requires : tie.Need-put-row-requires
 put-row-requires c κs =
-    let a = c .before .before .before .before .before .args in
-    let p = c .before .before .before .before .before .pre in
-    (spelt (p .0) (p .1 .0), (root-row (a .arities .now) (a .names .now) (a .words .now) (a .constants) (a .predicates) (p .0), root-room (a .arities .now) (a .names .now) (a .words .now) (a .constants) (a .predicates) (p .0) (a .out .now) (a .at) (p .1 .1)))
+    let s = c .before .before .before .before .before in
+    let a = s .args in
+    let p = s .pre in (
+      spelt (p .0) (p .1 .0),
+      (
+        root-row (a .arities .now) (a .names .now) (a .words .now) (a .constants) (a .predicates) (p .0),
+        root-room (a .arities .now) (a .names .now) (a .words .now) (a .constants) (a .predicates) (p .0) (a .out .now) (a .at) (p .1 .1),
+      ),
+    )
 
 returns : tie.Need-returns
 returns c =
-    let a = c .before .before .before .before .before .before .before .before .args in
-    let p = c .before .before .before .before .before .before .before .before .pre in
+    let s = c .before .before .before .before .before .before .before .before in
+    let a = s .args in
+    let p = s .pre in
     root-wrote (a .arities .now) (a .names .now) (a .words .now) (a .constants) (a .predicates) (p .0) (c .before .before .put-row .ensures)
 
 pub put-spec : {M : Type 1} → statement M

@@ -25,7 +25,9 @@ loop-again c =
     let l = c .before .before .before .before .before .before .before .before .before .before .before in
     let y = c .before .before .before .before .before .before .before .put-bytes in
     let z = c .before .before .put-term in
-    places-step (e .0) (e .1 .1) (l .loop .inv) (c .before .before .before .before .before .before .before .before .before .before .loop-test .taken) (y .ensures) (y .kept .0) (c .before .before .before .place .ensures) (z .ensures) (z .kept .0)
+    let past-3 = c .before .before .before in
+    let past-10 = c .before .before .before .before .before .before .before .before .before .before in
+    places-step (e .0) (e .1 .1) (l .loop .inv) (past-10 .loop-test .taken) (y .ensures) (y .kept .0) (past-3 .place .ensures) (z .ensures) (z .kept .0)
 
 returns : tie.Need-returns Inv-loop μ-loop
 returns c = search places-done
