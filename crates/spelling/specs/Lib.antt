@@ -7,7 +7,13 @@
 --   measured == the bytes of a diagram's form, or 19
 --   formLine == what (text) prints: the form and a line feed
 --
+-- Theorems
+--   measured-bytes: what was measured is the form's length, and 19 is not given; measured-long: where it was too long, 19 is given
+--   line-short: the line that (text) prints has at most 4,087 bytes
+--
 -- Parts has inner contracts.
 
 pub mod Spelling
 pub mod Parts
+-- laws
+pub mod SpellingLaws
