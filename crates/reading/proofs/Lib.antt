@@ -3,3 +3,5 @@ pub mod PassCode
 pub mod TermCode
 pub mod WordCode
 pub mod HeadCode
+pub mod NumberCode
+pub mod GatherCode

@@ -112,12 +112,12 @@ nothing os = refl
 
 -- the event at a place, and those behind it
 
-events-next : (line : List ℕ) (place : ℕ) (n : Next) → n ≡ nextAt line place → isEnd (n .event) ≡ false
+pub events-next : (line : List ℕ) (place : ℕ) (n : Next) → n ≡ nextAt line place → isEnd (n .event) ≡ false
     → eventsOf (drop place line) ≡ n .event ∷ eventsOf (drop (n .place) line)
 events-next line place n q =
     subst (λ (x : Next). isEnd (x .event) ≡ false → eventsOf (drop place line) ≡ x .event ∷ eventsOf (drop (x .place) line)) (sym q) (next-more line place)
 
-events-none : (line : List ℕ) (place : ℕ) (n : Next) → n ≡ nextAt line place → isEnd (n .event) ≡ true → eventsOf (drop place line) ≡ []
+pub events-none : (line : List ℕ) (place : ℕ) (n : Next) → n ≡ nextAt line place → isEnd (n .event) ≡ true → eventsOf (drop place line) ≡ []
 events-none line place n q = subst (λ (x : Next). isEnd (x .event) ≡ true → eventsOf (drop place line) ≡ []) (sym q) (next-end line place)
 
 pub moves : (line : List ℕ) (place : ℕ) (n : Next) → n ≡ nextAt line place → place ≤ length line → (n .place ≤ length line) × (isEnd (n .event) ≡ false → place < n .place)

@@ -16,6 +16,12 @@
 --   State, with-pass, readWord, readWords == how far the words are read
 --   Written, begin, finished, reading == all words; then more variables than the limit are 8
 --
+-- Definitions: the variables of a reward by ascending N (document 02, L2)
+--   variableKeys == the variables among the words, as often as they are written
+--   isNumbered, numberOf, allNumbered == a name is v and N without leading zeros, nothing else; its N; every variable is so
+--   inserted, byNumber, variablesFirst == sorted in by ascending N, each once; the variables that have their number before the words: all, or none
+--   rewardReading == the words of a reward
+--
 -- Definitions: the head of (becomes (p ?a ..) DIAGRAM)
 --   Opening, openingOf, openedNumber, headNumber == its predicate, or 2
 --   Argument, argumentOf, pickArgument, Head, argumentsFrom, openedArguments, headArguments == its arguments: 3 for another count, 2 for a second
@@ -29,9 +35,10 @@
 -- Theorems
 --   reading-diagram: the words of a diagram, read one after another, come to what its tree stands for
 --   reading-sound: what is accepted names nothing unbound, has labels under the arity list and leaves in range
+--   reading-many: with more variables than the limit, the words' first fault and 8 do not depend on how variables are numbered
 --   reading-counts: where any variable may stand, 8 is judged by all of them, though only one more than the limit is kept
 --
--- Callers has inner contracts.
+-- Callers and Gathering have inner contracts.
 
 -- definitions
 pub mod Operations
@@ -39,7 +46,9 @@ pub mod Reading
 pub mod Head
 pub mod Tree
 pub mod Occurrences
+pub mod Numbering
 pub mod Callers
+pub mod Gathering
 -- laws
 pub mod JudgedLaws
 pub mod AllLaws
@@ -49,3 +58,4 @@ pub mod OperationLaws
 pub mod OccurrenceLaws
 pub mod LineLaws
 pub mod ReadLaws
+pub mod NumberingLaws

@@ -5,8 +5,9 @@ use label::Term;
 use label::Test;
 use refusal::Refusal;
 use words::Key;
+use words::Took;
 ghost use mathlib.Core.Path.{_≡_};
-ghost use mathlib.Core.List.{[]};
+ghost use mathlib.Core.List.{[], _∷_};
 ghost use Prim.Native.Nat.{_+_, _*_, _≤_, _<_, min};
 ghost use lib.ListN.{length, drop};
 ghost use Rattle.label.specs.Limits.{constantCount, parameterCount, predicateCount, termEnd, mostPlaces};
@@ -20,6 +21,10 @@ ghost use Rattle.reading.specs.Operations.{opOf};
 ghost use Rattle.reading.specs.Reading.{asked, begun, termWord, numberWord, atomWord, more, constantNumber, parameterNumber, lastVariable, variableNumber, met, metAt, word, reading};
 ghost use Rattle.reading.specs.declared.Binding.the-variants.{Any, Only};
 ghost use Rattle.reading.specs.Reading.Judged.{fine};
+ghost use Rattle.words.specs.Keys.{bytesWithin, nameOf};
+ghost use Rattle.reading.specs.Occurrences.{variableKeys};
+ghost use Rattle.reading.specs.Numbering.{numberOf, rewardReading};
+ghost use Rattle.reading.specs.Gathering.{wholeNumber, numberedAs, paired, moved, keptFirst, wordKeys, Spelt, Insertable, Gathers};
 ghost use Rattle.reading.specs.Callers.{namesOf, placed, passOf, judgedNumber, readAnswer, refusedRead, Reads, Opens, Heads, Tables, Variables, Readable, Room, Fillable, TermBelow, Resolves, Meets, Goes, Steps};
 
 // The first words of operations: a leaf, a label to ask, t = t to ask, a row step.
@@ -35,6 +40,9 @@ pub const STEP: u64 = 3;
 const VARIABLES: usize = Term::VARIABLES as usize;
 
 const LAST_VARIABLE: usize = VARIABLES - 1;
+
+// The letter of a variable that is written with its number.
+const LETTER_V: u8 = 118;
 
 // Which variables may be named: any, numbered as they come; none; those in the table.
 pub enum Binding {
@@ -86,6 +94,25 @@ enum Opening {
 // A word that should be an argument: a variable, or another word.
 enum Argument {
     Named(Key),
+    Other,
+}
+
+// The N of a variable's name that is written vN, or that it is another name.
+enum Numbered {
+    Number(u64),
+    Other,
+}
+
+// Two variables by ascending N, and the greater N.
+struct Pair {
+    low: Key,
+    high: Key,
+    order: u64,
+}
+
+// How many variables are gathered, or that one is not written vN.
+enum Gathered {
+    Count(usize),
     Other,
 }
 
@@ -568,4 +595,187 @@ pub fn head_arguments(line: &[u8], at: usize, variables: &mut [u64], arity: usiz
     }
     let place = next.place;
     read_variables(line, place, variables, arity)
+}
+
+// Writes the bytes of m at the place `at`, the first byte lowest and none of them 0, at most `left`: the place behind them.
+fn spell(out: &mut [u8], at: usize, m: u64, left: usize) -> usize
+    requires { ⌜ at + left ≤ length (now out) ⌝ }
+    ensures { λ r. ⌜ Spelt (now (out .entry)) at (bytesWithin left m) r (now (out .exit)) ⌝ }
+{
+    let mut i = 0;
+    let mut rest = m;
+    while i < left {
+        if rest == 0 {
+            return at + i;
+        }
+        out[at + i] = (rest % 256) as u8;
+        rest = rest / 256;
+        i += 1;
+    }
+    at + i
+}
+
+// The number that all of the bytes write.
+fn whole_number(s: &[u8]) -> Numbered
+    requires { ⌜ length (now s) ≤ 14 ⌝ }
+    ensures { λ r. ⌜ r ≡ wholeNumber (now (s .entry)) ⌝ }
+{
+    let Took::Bytes(n) = words::read_number(s) else {
+        return Numbered::Other;
+    };
+    if n != s.len() {
+        return Numbered::Other;
+    }
+    Numbered::Number(words::value(s))
+}
+
+// The N of a name.
+fn name_number(name: &[u8]) -> Numbered
+    requires { ⌜ length (now name) ≤ 15 ⌝ }
+    ensures { λ r. ⌜ r ≡ numberedAs (now (name .entry)) ⌝ }
+{
+    if words::byte_at(name, 0) != LETTER_V {
+        return Numbered::Other;
+    }
+    whole_number(words::rest(name, 1))
+}
+
+// The N of a key's name.
+fn number_of(key: Key) -> Numbered
+    ensures { λ r. ⌜ r ≡ numberedAs (nameOf key) ⌝ }
+{
+    let mut bytes = [0u8; 15];
+    let middle = spell(&mut bytes, 0, key.a, 8);
+    let end = spell(&mut bytes, middle, key.b, 7);
+    name_number(&bytes[..end])
+}
+
+// The same, 0 for any other name.
+fn order_of(key: Key) -> u64
+    ensures { λ r. ⌜ r ≡ numberOf (nameOf key) ⌝ }
+{
+    match number_of(key) {
+        Numbered::Number(n) => n,
+        Numbered::Other => 0,
+    }
+}
+
+// Two variables with their N, by ascending N.
+fn ordered(x: Key, n: u64, y: Key, m: u64) -> Pair
+    ensures { λ r. ⌜ r ≡ paired x n y m ⌝ }
+{
+    if n < m {
+        return Pair {
+            low: x,
+            high: y,
+            order: m,
+        };
+    }
+    Pair {
+        low: y,
+        high: x,
+        order: n,
+    }
+}
+
+// A variable with its N joins the table by ascending N, each greater one moved up by one place: how many there are then.
+fn insert(variables: &mut [u64], count: usize, key: Key, number: u64) -> usize
+    requires { ⌜ Insertable (now variables) count key number ⌝ }
+    ensures { λ r. ⌜ Meets (moved key (keysAt (now (variables .entry)) 0 count)) r (now (variables .exit)) ⌝ }
+{
+    let mut i = 0;
+    let mut carried = key;
+    let mut n = number;
+    while i < count {
+        let there = names::key_at(variables, 0, i);
+        let m = order_of(there);
+        if n == m {
+            return count;
+        }
+        let pair = ordered(carried, n, there, m);
+        let low = pair.low;
+        names::put(variables, i * 2, low);
+        carried = pair.high;
+        n = pair.order;
+        i += 1;
+    }
+    names::put(variables, count * 2, carried);
+    count + 1
+}
+
+// A variable joins the table by ascending N, if it is written so and there is room.
+fn gather(variables: &mut [u64], count: usize, key: Key) -> Gathered
+    requires { ⌜ Variables (now variables) count ⌝ }
+    ensures { λ r. ⌜ Gathers (keysAt (now (variables .entry)) 0 count) (key ∷ []) r (now (variables .exit)) ⌝ }
+{
+    let Numbered::Number(n) = number_of(key) else {
+        return Gathered::Other;
+    };
+    if VARIABLES < count {
+        return Gathered::Count(count);
+    }
+    Gathered::Count(insert(variables, count, key, n))
+}
+
+// The variable of a word, if it is one.
+fn gather_word(variables: &mut [u64], count: usize, word: Argument) -> Gathered
+    requires { ⌜ Variables (now variables) count ⌝ }
+    ensures { λ r. ⌜ Gathers (keysAt (now (variables .entry)) 0 count) (wordKeys word) r (now (variables .exit)) ⌝ }
+{
+    match word {
+        Argument::Named(key) => gather(variables, count, key),
+        Argument::Other => Gathered::Count(count),
+    }
+}
+
+// The variables of the words from the place `at` on into the table, by ascending N: how many; none where one is not written so.
+fn number_variables(line: &[u8], at: usize, variables: &mut [u64]) -> usize
+    requires { ⌜ at ≤ length (now line) ⌝ }
+    requires { ⌜ Variables (now variables) 0 ⌝ }
+    ensures { λ r. ⌜ Meets (keptFirst [] (variableKeys (eventsOf (drop at (now (line .entry)))))) r (now (variables .exit)) ⌝ }
+{
+    let mut place = at;
+    let mut count = 0;
+    while place < line.len() {
+        let next = events::next_event(line, place);
+        let event = next.event;
+        if is_end(event) {
+            return count;
+        }
+        let word = argument_of(event);
+        let gathered = gather_word(variables, count, word);
+        let Gathered::Count(n) = gathered else {
+            return 0;
+        };
+        count = n;
+        place = next.place;
+    }
+    count
+}
+
+// The words of a reward from the place `at` on, as `read_words` does, its variables by ascending N where each is written so.
+pub fn read_reward(
+    line: &[u8],
+    at: usize,
+    names: &[u64],
+    arities: &[u64],
+    variables: &mut [u64],
+    operations: &mut [u64],
+    scope: Scope,
+) -> Read
+    requires { ⌜ Readable (now line) at (now names) (now arities) (now variables) (now operations) scope 0 ⌝ }
+    requires { ⌜ scope .binding ≡ Any ⌝ }
+    ensures { λ r. ⌜ Reads (rewardReading (namesOf (now (names .entry)) (now (arities .entry)) scope) (eventsOf (drop at (now (line .entry))))) r (now (variables .exit)) (now (operations .exit)) ⌝ }
+{
+    let known = number_variables(line, at, variables);
+    read_words(
+        line,
+        at,
+        names,
+        arities,
+        variables,
+        operations,
+        scope,
+        known,
+    )
 }

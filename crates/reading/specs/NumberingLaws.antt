@@ -1,0 +1,222 @@
+-- Sorting in by moving the greater ones up, with one more than the limit kept, comes to the same words of a reward: up to the limit the variables are the same, and
+-- above it the words' first fault and 8 do not depend on how variables are numbered.
+use Prim.Native.Nat.{ℕ, suc, _+_, _-_, _≤_, _<_}
+use mathlib.Core.Path.{_≡_, refl, sym, ap, ap₂, subst, _∙_}
+use mathlib.Core.Bool.{Bool, true, false}
+use mathlib.Core.List.{List, [], _∷_}
+use native.Mathlib.Omega.{arith}
+use native.Mathlib.Decide.{decLt}
+use borrow.Author.Tests.{lt-ltb, le-ltb, eq-eqb, ne-eqb, le-leb, lt-leb}
+use lib.Dec.{eqb, ltb, leb}
+use lib.ListN.{length, getD}
+use Rattle.basics.specs.Tests.{Cmp, below, equal, above, cmp}
+use Rattle.refusal.specs.declared.Refusal.{Refusal}
+use Rattle.refusal.specs.declared.Refusal.the-variants as F
+use Rattle.label.specs.Limits.{variableCount, equality, equalityArity}
+use Rattle.label.specs.Labels.{atomFrom, testOf}
+use Rattle.diagram.specs.Sizes.{highestValue}
+use Rattle.words.specs.Keys.{nameOf}
+use Rattle.words.specs.declared.Key.{Key}
+use Rattle.names.specs.Keys.{placeOf, isAmong}
+use Rattle.events.specs.declared.Event.{Event}
+use Rattle.events.specs.declared.Event.the-variants as E
+use Rattle.reading.specs.declared.Binding.{Binding}
+use Rattle.reading.specs.declared.Binding.the-variants.{Any}
+use Rattle.reading.specs.Operations.Op.{ask}
+use Rattle.reading.specs.Reading.{Names, Judged, pickJudged, andThen, pickKeys, met, metAt, Pass, more, pickPass, asked, beginning, begun, filling, termWord, numberWord, atomWord, constantNumber, parameterNumber, variableNumber, word, State, with-pass, readWord, readWords, finished, begin, reading}
+use Rattle.reading.specs.Reading.Judged.{fine, refused}
+use Rattle.reading.specs.Occurrences.{variableKeys}
+use Rattle.reading.specs.Numbering.{numberOf, allNumbered, inserted, byNumber, variablesFirst, rewardReading}
+use Rattle.reading.specs.Gathering.{moved, movedIn, gathered, keptFirst}
+
+-- ===== Sorted in =====
+
+abbrev order : Key → ℕ
+order k = numberOf (nameOf k)
+
+-- every N is n at least, and each above the one before it
+abbrev Rising : ℕ → List Key → Type 0
+Rising n [] = Unit {0}
+Rising n (x ∷ xs) = (n ≤ order x) × Rising (suc (order x)) xs
+
+inserted-rising : (n : ℕ) (k : Key) (xs : List Key) → n ≤ order k → Rising n xs → Rising n (inserted k xs)
+unfolding inserted
+inserted-rising n k [] h r = (h, tt)
+inserted-rising n k (x ∷ xs) h r = go (cmp (order k) (order x)) (λ l. inserted-rising (suc (order x)) k xs l (r .1))
+  where
+    go : Cmp (order k) (order x) → (suc (order x) ≤ order k → Rising (suc (order x)) (inserted k xs))
+        → Rising n (pickKeys (ltb (order k) (order x)) (k ∷ x ∷ xs) (pickKeys (eqb (order k) (order x)) (x ∷ xs) (x ∷ inserted k xs)))
+    go (below l) ih = rw (lt-ltb (order k) (order x) l) (h, (omega arith, r .1))
+    go (equal e) ih = rw (le-ltb (order k) (order x) (omega arith), eq-eqb (order k) (order x) e) r
+    go (above g) ih = rw (le-ltb (order k) (order x) (omega arith), ne-eqb (order k) (order x) (λ (e : order k ≡ order x). omega arith)) (r .0, ih (omega arith))
+
+inserted-grows : (k : Key) (xs : List Key) → length xs ≤ length (inserted k xs)
+unfolding inserted
+inserted-grows k [] = omega arith
+inserted-grows k (x ∷ xs) = go (ltb (order k) (order x)) (eqb (order k) (order x)) (inserted-grows k xs)
+  where
+    go : (a b : Bool) → length xs ≤ length (inserted k xs) → suc (length xs) ≤ length (pickKeys a (k ∷ x ∷ xs) (pickKeys b (x ∷ xs) (x ∷ inserted k xs)))
+    go true b h = omega arith
+    go false true h = omega arith
+    go false false h = omega arith
+
+-- what stands before all others moves them up
+moved-front : (x : Key) (xs : List Key) → Rising (suc (order x)) xs → moved x xs ≡ x ∷ xs
+unfolding moved
+moved-front x [] r = refl
+moved-front x (y ∷ ys) r = rw (lt-ltb (order x) (order y) (omega (arith, r .0)), moved-front y ys (r .1))
+
+moved-inserted : (n : ℕ) (k : Key) (xs : List Key) → Rising n xs → moved k xs ≡ inserted k xs
+unfolding moved inserted
+moved-inserted n k [] r = refl
+moved-inserted n k (x ∷ xs) r =
+    ap₂ (λ (us ws : List Key). pickKeys (ltb (order k) (order x)) (k ∷ us) (pickKeys (eqb (order k) (order x)) (x ∷ xs) (x ∷ ws)))
+    (moved-front x xs (r .1)) (moved-inserted (suc (order x)) k xs (r .1))
+
+-- ===== Up to the limit the same, above it as many =====
+
+-- the variables kept, and all of them
+data Alike (vs us : List Key) : Type 0 where
+  same : vs ≡ us → Rising 0 us → Alike vs us
+  many : variableCount < length vs → variableCount < length us → Alike vs us
+
+alike-more : (vs us : List Key) (k : Key) → Alike vs us → Alike (movedIn vs k) (inserted k us)
+alike-more vs us k (many h l) = many (rw (lt-leb (length vs) variableCount h) h) (omega (arith, inserted-grows k us))
+alike-more vs us k (same e r) = go (decLt variableCount (length us))
+  where
+    go : Dec (variableCount < length us) → Alike (movedIn vs k) (inserted k us)
+    go (yes h) = many (rw (e, lt-leb (length us) variableCount h) h) (omega (arith, inserted-grows k us))
+    go (no h) = same (rw (e, le-leb (length us) variableCount (omega arith)) (moved-inserted 0 k us r)) (inserted-rising 0 k us (omega arith) r)
+
+alike-all : (ks vs us : List Key) → Alike vs us → Alike (gathered vs ks) (byNumber us ks)
+alike-all [] vs us a = a
+alike-all (k ∷ ks) vs us a = alike-all ks (movedIn vs k) (inserted k us) (alike-more vs us k a)
+
+-- ===== The first fault, and 8 =====
+
+-- both are answers, or both are the same refusal
+abbrev Both : {A : Type 0} → (A → A → Type 0) → Judged A → Judged A → Type 0
+Both P (fine x) (fine y) = P x y
+Both P (fine x) (refused s) = ⊥
+Both P (refused r) (fine y) = ⊥
+Both P (refused r) (refused s) = r ≡ s
+
+-- as many terms are due
+abbrev Due : Pass → Pass → Type 0
+Due p q = p .due ≡ q .due
+
+both-same : {A : Type 0} (P : A → A → Type 0) (j : Judged A) → ((x : A) → P x x) → Both P j j
+both-same P (fine x) f = f x
+both-same P (refused r) f = refl
+
+both-test : {A : Type 0} (P : A → A → Type 0) (b : Bool) (i j : Judged A) (r : Refusal) → Both P i j → Both P (pickJudged b i (refused r)) (pickJudged b j (refused r))
+both-test P true i j r m = m
+both-test P false i j r m = refl
+
+asked-same : (p : Pass) → asked p .due ≡ p .due
+unfolding asked
+asked-same p = go (eqb (p .due) 0)
+  where
+    go : (b : Bool) → pickPass b (more p (ask (testOf (atomFrom (p .predicate) (p .terms))))) p .due ≡ p .due
+    go true = refl
+    go false = refl
+
+begun-same : (p q : Pass) (r n : ℕ) → Due (begun p r n) (begun q r n)
+unfolding begun
+begun-same p q r n = asked-same (beginning p r n) ∙ sym (asked-same (beginning q r n))
+
+-- a term, whatever its number
+term-both : (p q : Pass) (i j : Judged ℕ) → Due p q → Both (λ x y. Unit {0}) i j → Both Due (termWord p i) (termWord q j)
+unfolding termWord
+term-both p q (fine x) (fine y) d m =
+    subst (λ (n : ℕ). Both Due (pickJudged (eqb (p .due) 0) (refused F.Form) (fine (asked (filling p x)))) (pickJudged (eqb n 0) (refused F.Form) (fine (asked (filling q y))))) d
+    (go (eqb (p .due) 0))
+  where
+    go : (b : Bool) → Both Due (pickJudged b (refused F.Form) (fine (asked (filling p x)))) (pickJudged b (refused F.Form) (fine (asked (filling q y))))
+    go true = refl
+    go false = asked-same (filling p x) ∙ ap (λ (n : ℕ). n - 1) d ∙ sym (asked-same (filling q y))
+term-both p q (fine x) (refused s) d m = absurd m
+term-both p q (refused r) (fine y) d m = absurd m
+term-both p q (refused r) (refused s) d m = m
+
+module _ (σ : Names) (any : σ .binding ≡ Any) where
+  word-both : (us vs : List Key) (p q : Pass) (e : Event) → Due p q → Both Due (word σ us p e) (word σ vs q e)
+  unfolding word numberWord atomWord variableNumber
+  word-both us vs p q (E.Name k) d = term-both p q _ _ d (both-same _ (constantNumber (σ .constants) k) (λ x. tt))
+  word-both us vs p q (E.Variable k) d =
+      term-both p q (variableNumber (σ .binding) us k) (variableNumber (σ .binding) vs k) d
+      (subst (λ (b : Binding). Both (λ x y. Unit {0}) (variableNumber b us k) (variableNumber b vs k)) (sym any) tt)
+  word-both us vs p q (E.Parameter k) d = term-both p q _ _ d (both-same _ (parameterNumber (σ .parameters) k) (λ x. tt))
+  word-both us vs p q (E.Number v) d = both-test Due (leb v highestValue) _ _ F.Range d
+  word-both us vs p q E.Equal d = begun-same p q equality equalityArity
+  word-both us vs p q (E.Holds k n) d =
+      both-test Due (isAmong k (σ .predicates)) _ _ F.Name
+      (both-test Due (eqb n (getD (σ .arities) (placeOf k (σ .predicates) + 1) 0)) _ _ F.Arity (begun-same p q (placeOf k (σ .predicates) + 1) n))
+  word-both us vs p q E.Step d = d
+  word-both us vs p q E.End d = d
+
+  -- a full table stays
+  full-met : (vs : List Key) (k : Key) → variableCount < length vs → met (σ .binding) vs k ≡ vs
+  unfolding met
+  full-met vs k h = rw (any, lt-leb (length vs) variableCount h) (go (isAmong k vs))
+    where
+      go : (b : Bool) → pickKeys b vs vs ≡ vs
+      go true = refl
+      go false = refl
+
+  full-stays : (vs : List Key) (e : Event) → variableCount < length vs → metAt (σ .binding) vs e ≡ vs
+  full-stays vs (E.Name k) h = refl
+  full-stays vs (E.Variable k) h = full-met vs k h
+  full-stays vs (E.Parameter k) h = refl
+  full-stays vs (E.Number v) h = refl
+  full-stays vs E.Equal h = refl
+  full-stays vs (E.Holds k n) h = refl
+  full-stays vs E.Step h = refl
+  full-stays vs E.End h = refl
+
+  abbrev Full : State → State → Type 0
+  Full s t = (variableCount < length (s .variables)) × (variableCount < length (t .variables))
+
+  abbrev at : List Key → Pass → State
+  at vs p = record { variables = vs; pass = p }
+
+  words-both : (es : List Event) (us vs : List Key) (p q : Pass) → variableCount < length us → variableCount < length vs → Due p q
+      → Both Full (readWords σ es (at us p)) (readWords σ es (at vs q))
+  unfolding readWords
+  words-both [] us vs p q h l d = (h, l)
+  words-both (e ∷ es) us vs p q h l d =
+      rw (full-stays us e h, full-stays vs e l)
+      (go (word σ us p e) (word σ vs q e) (word-both us vs p q e d) (λ x y. words-both es us vs x y h l))
+    where
+      go : (i j : Judged Pass) → Both Due i j → ((x y : Pass) → Due x y → Both Full (readWords σ es (at us x)) (readWords σ es (at vs y)))
+          → Both Full (andThen (with-pass us i) (readWords σ es)) (andThen (with-pass vs j) (readWords σ es))
+      go (fine x) (fine y) m ih = ih x y m
+      go (fine x) (refused s) m ih = absurd m
+      go (refused r) (fine y) m ih = absurd m
+      go (refused r) (refused s) m ih = m
+
+  -- with more variables than the limit, the words come to their first fault, or to 8, whatever the order of the variables
+  pub reading-many : (es : List Event) (us vs : List Key) → variableCount < length us → variableCount < length vs → reading σ es us ≡ reading σ es vs
+  unfolding reading
+  reading-many es us vs h l = go (readWords σ es (begin us)) (readWords σ es (begin vs)) (words-both es us vs _ _ h l refl)
+    where
+      go : (i j : Judged State) → Both Full i j → andThen i finished ≡ andThen j finished
+      go (fine s) (fine t) m = rw (lt-leb (length (s .variables)) variableCount (m .0), lt-leb (length (t .variables)) variableCount (m .1))
+      go (fine s) (refused r) m = absurd m
+      go (refused r) (fine t) m = absurd m
+      go (refused r) (refused s) m = ap refused m
+
+  -- ===== A reward's words =====
+
+  -- those that the code keeps do
+  pub kept-reading : (es : List Event) → reading σ es (keptFirst [] (variableKeys es)) ≡ rewardReading σ es
+  unfolding rewardReading variablesFirst keptFirst
+  kept-reading es = by-test (allNumbered (variableKeys es))
+    where
+      by-kind : (us vs : List Key) → Alike us vs → reading σ es us ≡ reading σ es vs
+      by-kind us vs (same e r) = ap (reading σ es) e
+      by-kind us vs (many h l) = reading-many es us vs h l
+
+      by-test : (b : Bool) → reading σ es (pickKeys b (gathered [] (variableKeys es)) []) ≡ reading σ es (pickKeys b (byNumber [] (variableKeys es)) [])
+      by-test true = by-kind _ _ (alike-all (variableKeys es) [] [] (same refl tt))
+      by-test false = refl
