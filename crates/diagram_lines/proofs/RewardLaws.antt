@@ -22,7 +22,8 @@ use Rattle.names.specs.Keys.{keysAt}
 use Rattle.names.specs.Layout.{parametersAt}
 use Rattle.reading.specs.declared.Binding.the-variants.{Any}
 use Rattle.reading.specs.declared.Scope.{Scope}
-use Rattle.reading.specs.Reading.{Written, reading}
+use Rattle.reading.specs.Reading.{Written}
+use Rattle.reading.specs.Numbering.{rewardReading}
 use Rattle.reading.specs.Callers.{namesOf as tableNames}
 use Rattle.build.specs.declared.Built.{Built}
 use Rattle.build.specs.declared.Built.the-variants.{Done, Refused}
@@ -47,10 +48,10 @@ use Rattle.diagram_lines.proofs.LineLaws.{line-short, line-begins, tabl
 
 -- ===== Read =====
 
-reward-drawn : (n : Names) (ar : List ℕ) (r : ℕ) (es : List Event) → rewardRead n ar r es ≡ roomed false r (drawnClosed (namesFor n ar Any []) es [])
+reward-drawn : (n : Names) (ar : List ℕ) (r : ℕ) (es : List Event) → rewardRead n ar r es ≡ roomed false r (drawnClosed (namesFor n ar Any []) es)
 unfolding rewardRead drawnClosed
 reward-drawn n ar r es =
-    sym (then-then (outcomeOf (reading (namesFor n ar Any []) es [])) (λ (w : Written). builtClosed ar (w .operations)) (λ (d : Diagram). roomed false r (ok d)))
+    sym (then-then (outcomeOf (rewardReading (namesFor n ar Any []) es)) (λ (w : Written). builtClosed ar (w .operations)) (λ (d : Diagram). roomed false r (ok d)))
 
 -- the counts of names on the line: a reward has no parameters
 abbrev pub rewardScope : Numbers → Scope
@@ -77,17 +78,14 @@ module _ {s : List ℕ} {n : Numbers} {names ar work : List ℕ} (x : Lent Rewar
   }
 
   -- `read_reward`
-  pub reward-reads : (vs : List ℕ) {out : List ℕ} {at : ℕ} {b r : Built} → at ≡ firstWord Reward
-      → Draws ar (drawnClosed (tableNames names ar (rewardScope n)) (eventsOf (drop at s)) (keysAt vs 0 0)) b out → r ≡ roomedAs false (n .head .words / 3) b
+  pub reward-reads : {out : List ℕ} {at : ℕ} {b r : Built} → at ≡ firstWord Reward
+      → Draws ar (drawnClosed (tableNames names ar (rewardScope n)) (eventsOf (drop at s))) b out → r ≡ roomedAs false (n .head .words / 3) b
       → Draws ar (rewardRead (namesOf names (n .counts)) ar (n .head .words / 3) (wordsOf Reward s)) r out
   unfolding namesOf
-  reward-reads vs {out} {at} {b} {r} f d e =
-      let q : ℕ → List Key → List Key → Outcome Diagram
-      = λ i ps ks. drawnClosed (namesFor (namesOf names (n .counts)) ar Any ps) (eventsOf (drop i s)) ks in
-      let y : q at (keysAt names parametersAt 0) (keysAt vs 0 0) ≡ q (firstWord Reward) [] []
-      = ap (λ (i : ℕ). q i (keysAt names parametersAt 0) (keysAt vs 0 0)) f
-      ∙ ap (λ (ps : List Key). q (firstWord Reward) ps (keysAt vs 0 0)) (no-keys names parametersAt)
-      ∙ ap (q (firstWord Reward) []) (no-keys vs 0) in
+  reward-reads {out} {at} {b} {r} f d e =
+      let q : ℕ → List Key → Outcome Diagram = λ i ps. drawnClosed (namesFor (namesOf names (n .counts)) ar Any ps) (eventsOf (drop i s)) in
+      let y : q at (keysAt names parametersAt 0) ≡ q (firstWord Reward) []
+      = ap (λ (i : ℕ). q i (keysAt names parametersAt 0)) f ∙ ap (q (firstWord Reward)) (no-keys names parametersAt) in
       subst (λ (o : Outcome Diagram). Draws ar o r out) (sym (reward-drawn (namesOf names (n .counts)) ar (n .head .words / 3) (wordsOf Reward s)))
       (draws-room false (n .head .words / 3) (subst (λ (o : Outcome Diagram). Draws ar o b out) y d) e)
 
@@ -121,7 +119,7 @@ module _ (s : List ℕ) (n : Numbers) (names ar listings : List ℕ) where
           omega (
             arith,
             D .count,
-            roomed-ok false (n .head .words / 3) (drawnClosed (namesFor (namesOf names (n .counts)) ar Any []) (wordsOf Reward s) []) (D .diagram)
+            roomed-ok false (n .head .words / 3) (drawnClosed (namesFor (namesOf names (n .counts)) ar Any []) (wordsOf Reward s)) (D .diagram)
                 (sym (reward-drawn (namesOf names (n .counts)) ar (n .head .words / 3) (wordsOf Reward s)) ∙ D .is) .room,
           )
 

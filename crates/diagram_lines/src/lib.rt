@@ -81,17 +81,7 @@ fn read_reward(
         parameters: 0,
         binding: Binding::Any,
     };
-    let built = drawing::draw_closed(
-        line,
-        at,
-        names,
-        arities,
-        scope,
-        &mut variables,
-        0,
-        out,
-        work,
-    );
+    let built = drawing::draw_closed(line, at, names, arities, scope, &mut variables, out, work);
     room(built, false, n.head.words)
 }
 

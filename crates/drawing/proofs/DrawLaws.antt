@@ -19,13 +19,15 @@ use Rattle.words.specs.declared.Key.{Key}
 use Rattle.events.specs.declared.Event.{Event}
 use Rattle.events.specs.Front.{eventsOf}
 use Rattle.names.specs.Keys.{keysAt}
+use Rattle.reading.specs.declared.Binding.the-variants.{Any}
 use Rattle.reading.specs.declared.Scope.{Scope}
 use Rattle.reading.specs.declared.Read.{Read}
 use Rattle.reading.specs.declared.Read.the-variants as W
 use Rattle.reading.specs.Operations.{Op, opsIn}
 use Rattle.reading.specs.Reading.{Names, Judged, Written, reading}
 use Rattle.reading.specs.Tree.{Reading, depth, opsOf, Named, reach, GoodReading}
-use Rattle.reading.specs.Callers.{namesOf, Reads}
+use Rattle.reading.specs.Numbering.{rewardReading}
+use Rattle.reading.specs.Callers.{namesOf, Readable, Reads}
 use Rattle.reading.specs.ReadLaws.{tables-fit, Diagrammed, read-diagram}
 use Rattle.build.specs.declared.Built.{Built}
 use Rattle.build.specs.declared.Built.the-variants.{Refused}
@@ -35,16 +37,16 @@ use Rattle.build.specs.ReadingLaws.{text-good, reward-good}
 use Rattle.build.specs.Writing.{builtAs, Buildable, Labelled, Answered}
 use Rattle.session.specs.Modelling.{outcomeOf}
 use Rattle.drawing.specs.Drawing.{Drawable, Holds, Draws}
-use Rattle.drawing.specs.Endings.{builtTo, drawnTo}
+use Rattle.drawing.specs.Endings.{builtTo, knownTo, Allows, drawnTo, shortLine}
 use Rattle.drawing.specs.declared.Ending.{Ending}
 use Rattle.drawing.specs.declared.Ending.the-variants.{Plain, Closed}
 use Rattle.drawing.proofs.LabelLaws.{asked-label, each-asked, each-value}
 
 -- ===== What is drawn, by what is read =====
 
-drawn-by : (x : Ending) (σ : Names) (es : List Event) (vs : List Key) (j : Judged Written) → reading σ es vs ≡ j
+drawn-by : (x : Ending) (σ : Names) (es : List Event) (vs : List Key) (j : Judged Written) → reading σ es (knownTo x es vs) ≡ j
     → drawnTo x σ es vs ≡ andThen (outcomeOf j) (λ w. builtTo x (σ .arities) (w .operations))
-unfolding builtTo drawnTo
+unfolding builtTo drawnTo knownTo rewardReading
 drawn-by Plain σ es vs j e = ap (λ (i : Judged Written). andThen (outcomeOf i) (λ w. built (w .operations))) e
 drawn-by Closed σ es vs j e = ap (λ (i : Judged Written). andThen (outcomeOf i) (λ w. builtClosed (σ .arities) (w .operations))) e
 
@@ -89,9 +91,36 @@ module _ (ar : List ℕ) (os : List Op) {x : Ending} {out out′ : List ℕ} {r 
   unfolding builtTo
   answered-closed e a = subst (λ (y : Ending). Answered (builtTo y ar os) out r out′) (sym e) a
 
-module _ {line : List ℕ} {at : ℕ} {names arities : List ℕ} {scope : Scope} {vs : List ℕ} {known : ℕ} {out work : List ℕ}
+-- the words by how the diagram ends
+
+pub reads-fresh : {line : List ℕ} {at : ℕ} {names arities vs os : List ℕ} {scope : Scope} {known : ℕ} → Readable line at names arities vs os scope known
+    → Readable line at names arities vs os scope 0
+reads-fresh g = record {
+  within = g .within;
+  tables = g .tables;
+  variables = record { words = g .variables .words; within = omega arith };
+  words = g .words;
+}
+
+pub reads-any : (x : Ending) (scope : Scope) → x ≡ Closed → Allows x scope → scope .binding ≡ Any
+reads-any x scope e a = subst (λ (y : Ending). Allows y scope) e a
+
+module _ (σ : Names) (es : List Event) (ks : List Key) {x : Ending} {r : Read} {vs′ os′ : List ℕ} where
+  pub reads-plain : x ≡ Plain → Reads (reading σ es ks) r vs′ os′ → Reads (reading σ es (knownTo x es ks)) r vs′ os′
+  unfolding knownTo
+  reads-plain e g = subst (λ (y : Ending). Reads (reading σ es (knownTo y es ks)) r vs′ os′) (sym e) g
+
+  pub reads-closed : x ≡ Closed → Reads (rewardReading σ es) r vs′ os′ → Reads (reading σ es (knownTo x es ks)) r vs′ os′
+  unfolding knownTo rewardReading
+  reads-closed e g = subst (λ (y : Ending). Reads (reading σ es (knownTo y es ks)) r vs′ os′) (sym e) g
+
+-- room for the operations of a short line in an array of n words
+pub short-room : (n : ℕ) → shortLine * 2 ≤ n → (line : List ℕ) → length line ≤ shortLine → length line * 2 ≤ length {A = ℕ} (replicate n 0)
+short-room n h line l = omega (arith, h, l, length-replicate {A = ℕ} n 0)
+
+module _ (ending : Ending) {line : List ℕ} {at : ℕ} {names arities : List ℕ} {scope : Scope} {vs : List ℕ} {known : ℕ} {out work : List ℕ}
     (x : Drawable line at names arities scope vs known out work) {r : Read} {vs′ os′ : List ℕ}
-    (g : Reads (reading (namesOf names arities scope) (eventsOf (drop at line)) (keysAt vs 0 known)) r vs′ os′) where
+    (g : Reads (reading (namesOf names arities scope) (eventsOf (drop at line)) (knownTo ending (eventsOf (drop at line)) (keysAt vs 0 known))) r vs′ os′) where
   abbrev σ : Names
   σ = namesOf names arities scope
 
@@ -99,7 +128,10 @@ module _ {line : List ℕ} {at : ℕ} {names arities : List ℕ} {scope : Scope}
   es = eventsOf (drop at line)
 
   abbrev ks : List Key
-  ks = keysAt vs 0 known
+  ks = knownTo ending es (keysAt vs 0 known)
+
+  abbrev us : List Key
+  us = keysAt vs 0 known
 
   module _ {n m : ℕ} (e : r ≡ W.Done n m) where
     done : Reads (reading σ es ks) (W.Done n m) vs′ os′
@@ -123,18 +155,18 @@ module _ {line : List ℕ} {at : ℕ} {names arities : List ℕ} {scope : Scope}
       work-room = x .work-room;
     }
 
-    pub built-draws : (ending : Ending) {q : Built} {out′ : List ℕ} → Answered (builtTo ending arities (opsIn os′ n)) out q out′
-        → Draws arities (drawnTo ending σ es ks) q out′
-    built-draws ending a = answered-draws (drawn-by ending σ es ks _ (sym (done .answer))) good a
+    pub built-draws : {q : Built} {out′ : List ℕ} → Answered (builtTo ending arities (opsIn os′ n)) out q out′
+        → Draws arities (drawnTo ending σ es us) q out′
+    built-draws a = answered-draws (drawn-by ending σ es us _ (sym (done .answer))) good a
       where
         good : (d : Diagram) → builtTo ending arities (opsIn os′ n) ≡ ok d → Good arities d
         good d h = built-good ending arities (Named (length (σ .parameters)) (reach (σ .binding) ks)) (read-as .tree) d (x .tables .arities-fit) (read-as .good)
             (le-trans (read-as .shallow) (x .there .shallow)) (ap (builtTo ending arities) (sym (read-as .operations)) ∙ h)
 
-  pub refused-draws : (ending : Ending) {w : Refusal} {out′ : List ℕ} → r ≡ W.Refused w → Draws arities (drawnTo ending σ es ks) (Refused w) out′
-  refused-draws ending {w} e =
+  pub refused-draws : {w : Refusal} {out′ : List ℕ} → r ≡ W.Refused w → Draws arities (drawnTo ending σ es us) (Refused w) out′
+  refused-draws {w} e =
       let b : Reads (reading σ es ks) (W.Refused w) vs′ os′ = subst (λ (y : Read). Reads (reading σ es ks) y vs′ os′) e g in
-      let z : drawnTo ending σ es ks ≡ refused w = drawn-by ending σ es ks _ (sym (b .answer)) in
+      let z : drawnTo ending σ es us ≡ refused w = drawn-by ending σ es us _ (sym (b .answer)) in
       record {
         answer = ap builtAs (sym z);
         result = λ d h. let y : _≡_ {A = ℕ} 0 1 = cc in absurd (omega arith);

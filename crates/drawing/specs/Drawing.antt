@@ -16,6 +16,7 @@ use Rattle.events.specs.Events.{diagramEvents}
 use Rattle.events.specs.Front.{eventsOf}
 use Rattle.reading.specs.declared.Scope.{Scope}
 use Rattle.reading.specs.Reading.{Names, reading}
+use Rattle.reading.specs.Numbering.{rewardReading}
 use Rattle.reading.specs.Callers.{Tables, Variables}
 use Rattle.build.specs.declared.Built.{Built}
 use Rattle.build.specs.Machine.{built, builtClosed, mostTests}
@@ -27,10 +28,10 @@ unfoldable pub drawn : Names → List Event → List Key → Outcome Diagram
 unfolding reading built
 drawn σ es vs = andThen (outcomeOf (reading σ es vs)) (λ w. built (w .operations))
 
--- the same closed up, as a reward is
-unfoldable pub drawnClosed : Names → List Event → List Key → Outcome Diagram
-unfolding reading builtClosed
-drawnClosed σ es vs = andThen (outcomeOf (reading σ es vs)) (λ w. builtClosed (σ .arities) (w .operations))
+-- a reward: its variables by ascending N where each is written so, its diagram closed up
+unfoldable pub drawnClosed : Names → List Event → Outcome Diagram
+unfolding rewardReading builtClosed
+drawnClosed σ es = andThen (outcomeOf (rewardReading σ es)) (λ w. builtClosed (σ .arities) (w .operations))
 
 -- the words of the line from the place `at` on are those of a diagram with at most 64 brackets open together
 pub record DiagramAt (line : List ℕ) (at : ℕ) : Type 0 where

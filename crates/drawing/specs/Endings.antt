@@ -1,11 +1,16 @@
 -- A diagram that is built ends as it is, or closed up: what the code's inner functions answer.
 use Prim.Native.Nat.{ℕ}
+use mathlib.Core.Path.{_≡_}
 use mathlib.Core.List.{List}
 use Rattle.diagram.specs.Diagram.{Diagram}
 use Rattle.refusal.specs.Outcome.{Outcome}
 use Rattle.words.specs.declared.Key.{Key}
 use Rattle.events.specs.declared.Event.{Event}
+use Rattle.reading.specs.declared.Binding.the-variants.{Any}
+use Rattle.reading.specs.declared.Scope.{Scope}
 use Rattle.reading.specs.Operations.{Op}
+use Rattle.reading.specs.Occurrences.{variableKeys}
+use Rattle.reading.specs.Numbering.{variablesFirst}
 use Rattle.reading.specs.Reading.{Names}
 use Rattle.build.specs.Machine.{built, builtClosed}
 use Rattle.drawing.specs.Drawing.{drawn, drawnClosed}
@@ -17,10 +22,20 @@ unfolding built builtClosed
 builtTo Plain ar os = built os
 builtTo Closed ar os = builtClosed ar os
 
+-- the variables known before the words: those of the table, or a reward's own
+unfoldable pub knownTo : Ending → List Event → List Key → List Key
+knownTo Plain es vs = vs
+knownTo Closed es vs = variablesFirst (variableKeys es)
+
+-- a reward may name any variable
+abbrev pub Allows : Ending → Scope → Type 0
+Allows Plain s = Unit {0}
+Allows Closed s = s .binding ≡ Any
+
 unfoldable pub drawnTo : Ending → Names → List Event → List Key → Outcome Diagram
 unfolding drawn drawnClosed
 drawnTo Plain σ es vs = drawn σ es vs
-drawnTo Closed σ es vs = drawnClosed σ es vs
+drawnTo Closed σ es vs = drawnClosed σ es
 
 -- a line of at most as many bytes is short
 abbrev pub shortLine : ℕ

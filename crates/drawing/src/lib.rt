@@ -2,15 +2,18 @@
 use build::Built;
 use reading::Read;
 use reading::Scope;
+ghost use mathlib.Core.Path.{_≡_};
 ghost use Prim.Native.Nat.{_*_, _≤_};
 ghost use lib.ListN.{length, drop};
 ghost use Rattle.names.specs.Keys.{keysAt};
 ghost use Rattle.events.specs.Front.{eventsOf};
 ghost use Rattle.reading.specs.Operations.{opsIn};
-ghost use Rattle.reading.specs.Callers.{namesOf};
+ghost use Rattle.reading.specs.declared.Binding.the-variants.{Any};
+ghost use Rattle.reading.specs.Reading.{reading};
+ghost use Rattle.reading.specs.Callers.{namesOf, Readable, Reads};
 ghost use Rattle.build.specs.Writing.{Buildable, Labelled, Answered};
 ghost use Rattle.drawing.specs.Drawing.{drawn, drawnClosed, Drawable, Draws};
-ghost use Rattle.drawing.specs.Endings.{builtTo, drawnTo, shortLine};
+ghost use Rattle.drawing.specs.Endings.{builtTo, knownTo, Allows, drawnTo, shortLine};
 
 // The bytes of a short line, at most, and words for the operations of one: two for each byte.
 const SHORT_LINE: usize = 255;
@@ -45,6 +48,45 @@ fn build_to(
     }
 }
 
+// Reads the words of the line into the lent operations: those of a reward where the diagram is closed up.
+fn read_to(
+    ending: Ending,
+    line: &[u8],
+    at: usize,
+    names: &[u64],
+    arities: &[u64],
+    scope: Scope,
+    variables: &mut [u64],
+    known: usize,
+    operations: &mut [u64],
+) -> Read
+    requires { ⌜ Readable (now line) at (now names) (now arities) (now variables) (now operations) scope known ⌝ }
+    requires { ⌜ Allows ending scope ⌝ }
+    ensures { λ r. ⌜ Reads (reading (namesOf (now (names .entry)) (now (arities .entry)) scope) (eventsOf (drop at (now (line .entry)))) (knownTo ending (eventsOf (drop at (now (line .entry)))) (keysAt (now (variables .entry)) 0 known))) r (now (variables .exit)) (now (operations .exit)) ⌝ }
+{
+    match ending {
+        Ending::Plain => reading::read_words(
+            line,
+            at,
+            names,
+            arities,
+            variables,
+            operations,
+            scope,
+            known,
+        ),
+        Ending::Closed => reading::read_reward(
+            line,
+            at,
+            names,
+            arities,
+            variables,
+            operations,
+            scope,
+        ),
+    }
+}
+
 // Reads the words of the line into the lent operations, and builds its diagram.
 fn draw_in(
     ending: Ending,
@@ -61,17 +103,19 @@ fn draw_in(
 ) -> Built
     requires { ⌜ Drawable (now line) at (now names) (now arities) scope (now variables) known (now out) (now work) ⌝ }
     requires { ⌜ length (now line) * 2 ≤ length (now operations) ⌝ }
+    requires { ⌜ Allows ending scope ⌝ }
     ensures { λ r. ⌜ Draws (now (arities .entry)) (drawnTo ending (namesOf (now (names .entry)) (now (arities .entry)) scope) (eventsOf (drop at (now (line .entry)))) (keysAt (now (variables .entry)) 0 known)) r (now (out .exit)) ⌝ }
 {
-    let read = reading::read_words(
+    let read = read_to(
+        ending,
         line,
         at,
         names,
         arities,
-        variables,
-        operations,
         scope,
+        variables,
         known,
+        operations,
     );
     match read {
         Read::Done(n, _) => build_to(ending, arities, operations, n, out, work),
@@ -94,6 +138,7 @@ fn draw_short(
 ) -> Built
     requires { ⌜ Drawable (now line) at (now names) (now arities) scope (now variables) known (now out) (now work) ⌝ }
     requires { ⌜ length (now line) ≤ shortLine ⌝ }
+    requires { ⌜ Allows ending scope ⌝ }
     ensures { λ r. ⌜ Draws (now (arities .entry)) (drawnTo ending (namesOf (now (names .entry)) (now (arities .entry)) scope) (eventsOf (drop at (now (line .entry)))) (keysAt (now (variables .entry)) 0 known)) r (now (out .exit)) ⌝ }
 {
     let mut operations = [0u64; SHORT_WORDS];
@@ -126,6 +171,7 @@ fn draw_long(
     work: &mut [u64],
 ) -> Built
     requires { ⌜ Drawable (now line) at (now names) (now arities) scope (now variables) known (now out) (now work) ⌝ }
+    requires { ⌜ Allows ending scope ⌝ }
     ensures { λ r. ⌜ Draws (now (arities .entry)) (drawnTo ending (namesOf (now (names .entry)) (now (arities .entry)) scope) (eventsOf (drop at (now (line .entry)))) (keysAt (now (variables .entry)) 0 known)) r (now (out .exit)) ⌝ }
 {
     let mut operations = [0u64; LINE_WORDS];
@@ -158,6 +204,7 @@ fn draw_to(
     work: &mut [u64],
 ) -> Built
     requires { ⌜ Drawable (now line) at (now names) (now arities) scope (now variables) known (now out) (now work) ⌝ }
+    requires { ⌜ Allows ending scope ⌝ }
     ensures { λ r. ⌜ Draws (now (arities .entry)) (drawnTo ending (namesOf (now (names .entry)) (now (arities .entry)) scope) (eventsOf (drop at (now (line .entry)))) (keysAt (now (variables .entry)) 0 known)) r (now (out .exit)) ⌝ }
 {
     if line.len() <= SHORT_LINE {
@@ -218,7 +265,7 @@ pub fn draw(
     )
 }
 
-// The same closed up, as a reward is.
+// The diagram of a reward, closed up: its variables by ascending N where each is written so.
 pub fn draw_closed(
     line: &[u8],
     at: usize,
@@ -226,12 +273,12 @@ pub fn draw_closed(
     arities: &[u64],
     scope: Scope,
     variables: &mut [u64],
-    known: usize,
     out: &mut [u64],
     work: &mut [u64],
 ) -> Built
-    requires { ⌜ Drawable (now line) at (now names) (now arities) scope (now variables) known (now out) (now work) ⌝ }
-    ensures { λ r. ⌜ Draws (now (arities .entry)) (drawnClosed (namesOf (now (names .entry)) (now (arities .entry)) scope) (eventsOf (drop at (now (line .entry)))) (keysAt (now (variables .entry)) 0 known)) r (now (out .exit)) ⌝ }
+    requires { ⌜ Drawable (now line) at (now names) (now arities) scope (now variables) 0 (now out) (now work) ⌝ }
+    requires { ⌜ scope .binding ≡ Any ⌝ }
+    ensures { λ r. ⌜ Draws (now (arities .entry)) (drawnClosed (namesOf (now (names .entry)) (now (arities .entry)) scope) (eventsOf (drop at (now (line .entry))))) r (now (out .exit)) ⌝ }
 {
     draw_to(
         Ending::Closed,
@@ -241,7 +288,7 @@ pub fn draw_closed(
         arities,
         scope,
         variables,
-        known,
+        0,
         out,
         work,
     )

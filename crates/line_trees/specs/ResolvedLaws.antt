@@ -185,18 +185,18 @@ reads-only σ ps vs d = tracked σ Only ps vs (Stay vs) (record { each = each; c
         (same-number σ Only ps vs (Stay vs) ts vs refl (isAmong (keyOf n) vs) (numberIn vs (keyOf n)) (variableTerm (placeOf (keyOf n) vs)) Unbound
         (λ few c. number-exact vs (keyOf n) few (ltb-true (placeOf (keyOf n) vs) (length vs) c)))
 
--- a reward: any variables, of which the pass keeps one more than the limit
+-- a reward: any variables, behind those that are known before its words; the pass keeps one more than the limit
 record Met (vs ws : List Key) (ts : List T.Term) : Type 0 where
   all : List Key
   keeps : ws ≡ kept all
   whole : vs ≡ variablesAfter all ts
 
-pub reads-any : (σ : Session) (ps : List Key) (d : T.Diagram) → Reads σ Any ps (variablesAfter [] (diagramTerms d)) [] d
+pub reads-any : (σ : Session) (ps us : List Key) (d : T.Diagram) → Reads σ Any ps (variablesAfter us (diagramTerms d)) (kept us) d
 unfolding variableNumber
-reads-any σ ps d = tracked σ Any ps vs (Met vs) (record { each = each; counts = counts }) [] d (record { all = []; keeps = refl; whole = refl })
+reads-any σ ps us d = tracked σ Any ps vs (Met vs) (record { each = each; counts = counts }) (kept us) d (record { all = us; keeps = refl; whole = refl })
   where
     vs : List Key
-    vs = variablesAfter [] (diagramTerms d)
+    vs = variablesAfter us (diagramTerms d)
 
     counts : (ws : List Key) → Met vs ws [] → leb (length ws) variableCount ≡ leb (length vs) variableCount
     counts ws m = stay-counts (kept (m .all)) ws (m .keeps) ∙ count-kept (m .all) ∙ stay-counts vs (m .all) (sym (m .whole))

@@ -22,6 +22,7 @@ use Rattle.forms.specs.Tree.Mark.{plain, variable, parameter}
 use Rattle.forms.specs.Tree.Term.{term}
 use Rattle.forms.specs.Tree.Atom.{equal, holds}
 use Rattle.forms.specs.Tree.Diagram.{number as numeral, branch as conditional}
+use Rattle.reading.specs.Numbering.{variablesFirst}
 use Rattle.reading.specs.Tree.{Reading}
 use Rattle.reading.specs.Tree.Reading.{number, branch}
 use Rattle.session.specs.Session.{Session, refuseIf}
@@ -44,6 +45,18 @@ variablesAfter vs [] = vs
 variablesAfter vs (term plain n ∷ ts) = variablesAfter vs ts
 variablesAfter vs (term parameter n ∷ ts) = variablesAfter vs ts
 variablesAfter vs (term variable n ∷ ts) = variablesAfter (cond (isAmong (keyOf n) vs) vs (vs ++ (keyOf n ∷ []))) ts
+
+-- the keys of the variables among the terms, as often as they are written
+abbrev pub termKeys : List T.Term → List Key
+termKeys [] = []
+termKeys (term plain n ∷ ts) = termKeys ts
+termKeys (term parameter n ∷ ts) = termKeys ts
+termKeys (term variable n ∷ ts) = keyOf n ∷ termKeys ts
+
+-- those of a reward: 'Where every variable of a reward is written in that way, N without leading zeros, the reader numbers them by ascending N instead of by first
+-- occurrence' (document 02, L2)
+abbrev pub rewardVariables : T.Diagram → List Key
+rewardVariables d = variablesAfter (variablesFirst (termKeys (diagramTerms d))) (diagramTerms d)
 
 -- ===== Names =====
 

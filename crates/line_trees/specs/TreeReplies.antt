@@ -31,13 +31,13 @@ use Rattle.session.specs.Facts.{predicateOf, objectsLine, isLine, trueLine}
 use Rattle.session.specs.Modelling.{mostModelRows, rowsWith, withReward, withVariant, truthsNow, isSome, withTruth}
 use Rattle.session.specs.Running.{withHeld, startLine, valueRead, backupLine, cutLine, cutSays, reduceLine}
 use Rattle.session.specs.Replies.{Reply, allowed, withNames, withLive, withVocabulary, withTotal, withDiscount, withAction, refusal, quietly, valueSays, backupSays, reduceSays, placed}
-use Rattle.line_trees.specs.TreeReading.{diagramTerms, variablesAfter, readTree}
+use Rattle.line_trees.specs.TreeReading.{rewardVariables, readTree}
 
--- (reward DIAGRAM): no parameter, any variables; its row steps, closed up; last 9 for model rows
+-- (reward DIAGRAM): no parameter, any variables, by ascending N where each is written so; its row steps, closed up; last 9 for model rows
 unfoldable pub rewardTree : Session → T.Diagram → Outcome Diagram
 unfolding readTree rewardDiagram rows
 rewardTree σ d =
-    andThen (readTree σ [] (variablesAfter [] (diagramTerms d)) d) (λ r.
+    andThen (readTree σ [] (rewardVariables d) d) (λ r.
     andThen (rewardDiagram (σ .model .arities) r) (λ x.
     refuseIf (ltb mostModelRows (rowsWith (σ .rows) x)) Space
     (ok x)))

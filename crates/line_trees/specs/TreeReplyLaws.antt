@@ -29,8 +29,9 @@ use Rattle.events.specs.Events.{parameterEvent, numberEvent, diagramEvents, wor
 use Rattle.events.specs.LineEvents.{line-events}
 use Rattle.events.specs.Contents.{keysIn, numbersIn}
 use Rattle.reading.specs.declared.Binding.the-variants.{Any, None, Only}
-use Rattle.reading.specs.Reading.{Names as ReadingNames, pickJudged, reading}
+use Rattle.reading.specs.Reading.{Names as ReadingNames, Judged, Written, pickJudged, reading}
 use Rattle.reading.specs.Reading.Judged.{fine, refused as judged}
+use Rattle.reading.specs.Numbering.{variablesFirst, rewardReading}
 use Rattle.reading.specs.Head.{headNumber, openedNumber, headArguments}
 use Rattle.build.specs.Build.{textDiagram, rewardDiagram}
 use Rattle.build.specs.Machine.{mostTests, built, builtClosed}
@@ -45,8 +46,9 @@ use Rattle.session.specs.Facts.{predicateOf}
 use Rattle.session.specs.Modelling.{mostModelRows, outcomeOf, namesFor, rowsWith, withReward, rewardRead, rewardLine, withVariant, weightRead, variantLine}
 use Rattle.session.specs.Modelling.{truthsNow, isSome, withTruth, truthRead, becomesLine}
 use Rattle.session.specs.Replies.{Reply, allowed, refusal, quietly, done, placed, replyTo, wordsOf, reply}
-use Rattle.line_trees.specs.TreeReading.{diagramTerms, variablesAfter, readTree}
+use Rattle.line_trees.specs.TreeReading.{diagramTerms, termKeys, rewardVariables, readTree}
 use Rattle.line_trees.specs.TreeReplies.{rewardTree, weightTree, truthTree, treeDone, treeReply}
+use Rattle.line_trees.specs.VariableLaws.{kept, reading-kept, diagram-keys}
 use Rattle.line_trees.specs.ResolvedLaws.{reads-none, reads-only, reads-any}
 use Rattle.line_trees.specs.TreeReadLaws.{read-built}
 use Rattle.line_trees.specs.TreeHeadLaws.{head-tree}
@@ -84,11 +86,15 @@ map-numbers (o ∷ os) = ap (λ (l : List ℕ). valueOf o ∷ l) (map-numbers os
 
 module _ (σ : Session) where
   reward-tree : (d : T.Diagram) → T.brackets d ≤ mostTests → rewardRead (σ .names) (σ .model .arities) (σ .rows) (diagramEvents d) ≡ rewardTree σ d
-  unfolding rewardRead rewardTree
+  unfolding rewardRead rewardReading rewardTree
   reward-tree d shallow =
-      read-built (builtClosed (σ .model .arities)) (rewardDiagram (σ .model .arities)) (built-reward (σ .model .arities))
-      σ Any [] (variablesAfter [] (diagramTerms d)) [] d shallow (reads-any σ [] d)
-      (λ x. refuseIf (ltb mostModelRows (rowsWith (σ .rows) x)) Space (ok x))
+      let last : Diagram → Outcome Diagram = λ x. refuseIf (ltb mostModelRows (rowsWith (σ .rows) x)) Space (ok x) in
+      let us : List Key = variablesFirst (termKeys (diagramTerms d)) in
+      let ν = namesFor (σ .names) (σ .model .arities) Any [] in
+      ap (λ (j : Judged Written). andThen (outcomeOf j) (λ w. andThen (builtClosed (σ .model .arities) (w .operations)) last))
+      (ap (λ (ks : List Key). reading ν (diagramEvents d) (variablesFirst ks)) (diagram-keys d) ∙ reading-kept ν refl (diagramEvents d) us)
+      ∙ read-built (builtClosed (σ .model .arities)) (rewardDiagram (σ .model .arities)) (built-reward (σ .model .arities))
+      σ Any [] (rewardVariables d) (kept us) d shallow (reads-any σ [] us d) last
 
   weight-tree : (k : Key) (d : T.Diagram) → T.brackets d ≤ mostTests → weightRead (σ .names) (σ .model .arities) (σ .rows) k (diagramEvents d) ≡ weightTree σ k d
   unfolding weightRead weightTree

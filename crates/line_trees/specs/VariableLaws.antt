@@ -1,7 +1,8 @@
--- Variables by first occurrence: those met first stay first, and the pass over words, which keeps one more than the limit, loses none that has a number.
-use mathlib.Core.Path.{_≡_, refl, sym, ap, _∙_}
+-- Variables by first occurrence: those met first stay first, and the pass over words, which keeps one more than the limit, loses none that has a number. The
+-- variables of a diagram's words are those of its terms.
+use mathlib.Core.Path.{_≡_, refl, sym, ap, ap₂, _∙_}
 use mathlib.Core.Bool.{Bool, true, false, cond}
-use mathlib.Core.List.{List, [], _∷_, _++_, append-nil, append-assoc}
+use mathlib.Core.List.{List, [], _∷_, _++_, map, append-nil, append-assoc}
 use Prim.Native.Nat.{suc, _≤_, _<_}
 use native.Mathlib.Omega.{arith}
 use native.Mathlib.Decide.{decLt}
@@ -19,9 +20,16 @@ use Rattle.names.specs.KeyLaws.{same-refl}
 use Rattle.forms.specs.Tree as T
 use Rattle.forms.specs.Tree.Mark.{plain, variable, parameter}
 use Rattle.forms.specs.Tree.Term.{term}
+use Rattle.forms.specs.Tree.Atom.{equal, holds}
+use Rattle.forms.specs.Tree.Diagram.{number as numeral, branch as conditional}
+use Rattle.events.specs.declared.Event.{Event}
+use Rattle.events.specs.declared.Event.the-variants as E
+use Rattle.events.specs.Events.{termEvent, atomEvents, diagramEvents}
 use Rattle.reading.specs.declared.Binding.the-variants.{Any}
-use Rattle.reading.specs.Reading.{pickKeys, met, numberIn}
-use Rattle.line_trees.specs.TreeReading.{variablesAfter}
+use Rattle.reading.specs.Reading.{Names, pickKeys, met, numberIn, reading}
+use Rattle.reading.specs.Occurrences.{variableKeys}
+use Rattle.reading.specs.NumberingLaws.{reading-many}
+use Rattle.line_trees.specs.TreeReading.{atomTerms, diagramTerms, variablesAfter, termKeys}
 
 -- ===== Places =====
 
@@ -141,3 +149,50 @@ met-numbered us k ts =
           ∙ number-exact os k (omega arith) (one-below us k)
           ∙ ap variableTerm (sym p);
     }
+
+-- known before a reward's words, one more than the limit does
+pub reading-kept : (σ : Names) → σ .binding ≡ Any → (es : List Event) (us : List Key) → reading σ es us ≡ reading σ es (kept us)
+reading-kept σ any es us = go (decLt variableCount (length us))
+  where
+    go : Dec (variableCount < length us) → reading σ es us ≡ reading σ es (kept us)
+    go (yes h) = reading-many σ any es us (kept us) h (omega (arith, length-take-le (suc variableCount) us h))
+    go (no h) = ap (reading σ es) (sym (take-all (suc variableCount) us (omega arith)))
+
+-- ===== The variables of a diagram's words =====
+
+join-words : (xs ys : List Event) → variableKeys (xs ++ ys) ≡ variableKeys xs ++ variableKeys ys
+join-words [] ys = refl
+join-words (E.Name k ∷ xs) ys = join-words xs ys
+join-words (E.Variable k ∷ xs) ys = ap (λ (l : List Key). k ∷ l) (join-words xs ys)
+join-words (E.Parameter k ∷ xs) ys = join-words xs ys
+join-words (E.Number v ∷ xs) ys = join-words xs ys
+join-words (E.Equal ∷ xs) ys = join-words xs ys
+join-words (E.Holds k n ∷ xs) ys = join-words xs ys
+join-words (E.Step ∷ xs) ys = join-words xs ys
+join-words (E.End ∷ xs) ys = join-words xs ys
+
+join-terms : (ss ts : List T.Term) → termKeys (ss ++ ts) ≡ termKeys ss ++ termKeys ts
+join-terms [] ts = refl
+join-terms (term plain n ∷ ss) ts = join-terms ss ts
+join-terms (term parameter n ∷ ss) ts = join-terms ss ts
+join-terms (term variable n ∷ ss) ts = ap (λ (l : List Key). keyOf n ∷ l) (join-terms ss ts)
+
+terms-keys : (ts : List T.Term) → variableKeys (map termEvent ts) ≡ termKeys ts
+terms-keys [] = refl
+terms-keys (term plain n ∷ ts) = terms-keys ts
+terms-keys (term parameter n ∷ ts) = terms-keys ts
+terms-keys (term variable n ∷ ts) = ap (λ (l : List Key). keyOf n ∷ l) (terms-keys ts)
+
+atom-keys : (a : T.Atom) → variableKeys (atomEvents a) ≡ termKeys (atomTerms a)
+atom-keys (equal a b) = terms-keys (a ∷ b ∷ [])
+atom-keys (holds p ts) = terms-keys ts
+
+pub diagram-keys : (d : T.Diagram) → variableKeys (diagramEvents d) ≡ termKeys (diagramTerms d)
+diagram-keys (numeral n) = refl
+diagram-keys (conditional a d e) =
+    join-words (atomEvents a) (diagramEvents d ++ (diagramEvents e ++ (E.Step ∷ [])))
+    ∙ ap₂ (λ (x y : List Key). x ++ y) (atom-keys a)
+    (join-words (diagramEvents d) (diagramEvents e ++ (E.Step ∷ []))
+    ∙ ap₂ (λ (x y : List Key). x ++ y) (diagram-keys d) (join-words (diagramEvents e) (E.Step ∷ []) ∙ append-nil (variableKeys (diagramEvents e)) ∙ diagram-keys e)
+    ∙ sym (join-terms (diagramTerms d) (diagramTerms e)))
+    ∙ sym (join-terms (atomTerms a) (diagramTerms d ++ diagramTerms e))

@@ -13,6 +13,8 @@ use Rattle.events.specs.declared.Event.{Event}
 use Rattle.events.specs.Events.{diagramEvents}
 use Rattle.reading.specs.declared.Binding.the-variants.{Any}
 use Rattle.reading.specs.Reading.{reading}
+use Rattle.reading.specs.Occurrences.{variableKeys}
+use Rattle.reading.specs.Numbering.{variablesFirst, rewardReading}
 use Rattle.build.specs.Machine.{mostTests, builtClosed}
 use Rattle.session.specs.declared.Part.the-variants.{Model as ModelPart}
 use Rattle.session.specs.Session.{Names, Session}
@@ -28,12 +30,13 @@ record Rewarded (ar : List ℕ) (r : ℕ) (d : Diagram) : Type 0 where
   few : rowsWith r d ≤ mostModelRows
 
 rewarded : (n : Names) (ar : List ℕ) → GoodTables n ar → (r : ℕ) (w : T.Diagram) → T.brackets w ≤ mostTests → Accepted (Rewarded ar r) (rewardRead n ar r (diagramEvents w))
-unfolding rewardRead
+unfolding rewardRead rewardReading
 rewarded n ar tables r w shallow =
-    accepted-read (reading (namesFor n ar Any []) (diagramEvents w) []) _ (λ u e.
+    let vs = variablesFirst (variableKeys (diagramEvents w)) in
+    accepted-read (reading (namesFor n ar Any []) (diagramEvents w) vs) _ (λ u e.
     accepted-next (builtClosed ar (u .operations)) _ (λ d m.
     accepted-cond (ltb mostModelRows (rowsWith r d)) Space _ (λ few.
-    accepted-ok (record { good = line-reward n ar tables w shallow Any [] u d e m; few = ltb-false mostModelRows (rowsWith r d) few }))))
+    accepted-ok (record { good = line-reward n ar tables w shallow Any vs u d e m; few = ltb-false mostModelRows (rowsWith r d) few }))))
 
 module _ (σ : Session) (good : GoodSession σ) (part : σ .part ≡ ModelPart) where
   pub reward-good : (w : T.Diagram) → T.brackets w ≤ mostTests → (es : List Event) → es ≡ diagramEvents w → (τ : Session) → rewardLine σ es ≡ ok τ → GoodSession τ

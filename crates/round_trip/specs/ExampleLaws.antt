@@ -5,22 +5,26 @@ use mathlib.Core.List.{List, [], _∷_}
 use Prim.Native.Nat.{ℕ}
 use Rattle.label.specs.Labels.{predicateOf, placeAt, unpacked, termsOf}
 use Rattle.diagram.specs.Diagram.{Diagram, leaf, branch}
-use Rattle.words.specs.Bytes.{decimal, decimalFrom}
-use Rattle.words.specs.Keys.{keyOf}
+use Rattle.words.specs.Bytes.{isDigit, run, decimal, decimalFrom}
+use Rattle.words.specs.Words.{numberForm}
+use Rattle.words.specs.Keys.{little, keyOf, bytesWithin, nameOf}
+use Rattle.words.specs.declared.Key.{Key}
 use Rattle.forms.specs.Tree as T
 use Rattle.forms.specs.Tree.Mark.{variable}
 use Rattle.forms.specs.Tree.Term.{term}
 use Rattle.forms.specs.Tree.Atom.{holds}
 use Rattle.forms.specs.Tree.Diagram.{number as numeral, branch as conditional}
 use Rattle.answers.specs.Digits.{digits, digitsWithin}
+use Rattle.events.specs.Events.{diagramEvents}
+use Rattle.reading.specs.Occurrences.{variableKeys}
+use Rattle.reading.specs.Numbering.{isNumbered, numberOf, inserted, variablesFirst}
 use Rattle.diagram_form.specs.Form.{Tables, variableName, termTree, atomTree, formTree, formBytes}
-use Rattle.round_trip.specs.Numbering.{variableNames, numberOf, isNumbered, inserted, sorted, variablesFirst, rewardVariables}
 
 -- v0 and v10 are written in that way; v00, v01, v, v1a and w0 are not
 pub names-written : (isNumbered (118 ∷ 48 ∷ []) ≡ true) × (isNumbered (118 ∷ 49 ∷ 48 ∷ []) ≡ true)
     × (isNumbered (118 ∷ 48 ∷ 48 ∷ []) ≡ false) × (isNumbered (118 ∷ 48 ∷ 49 ∷ []) ≡ false) × (isNumbered (118 ∷ []) ≡ false)
     × (isNumbered (118 ∷ 49 ∷ 97 ∷ []) ≡ false) × (isNumbered (119 ∷ 48 ∷ []) ≡ false)
-unfolding isNumbered numberOf variableName decimal decimalFrom digits digitsWithin
+unfolding isNumbered numberForm run isDigit
 names-written = (refl, refl, refl, refl, refl, refl, refl)
 
 -- (if (q ?a) (if (p ?b ?a) 5 0) 0)
@@ -30,10 +34,14 @@ example a b =
     (conditional (holds (112 ∷ []) (term variable b ∷ term variable a ∷ [])) (numeral (53 ∷ [])) (numeral (48 ∷ [])))
     (numeral (48 ∷ []))
 
+-- the variables that have their number before the words
+abbrev firstOf : T.Diagram → List Key
+firstOf d = variablesFirst (variableKeys (diagramEvents d))
+
 -- written with ?v7 and ?v3, ?v3 comes first; with ?v07 for ?v7, first occurrence is back
-pub variables-written : (rewardVariables (example (118 ∷ 55 ∷ []) (118 ∷ 51 ∷ [])) ≡ keyOf (118 ∷ 51 ∷ []) ∷ keyOf (118 ∷ 55 ∷ []) ∷ [])
-    × (rewardVariables (example (118 ∷ 48 ∷ 55 ∷ []) (118 ∷ 51 ∷ [])) ≡ [])
-unfolding rewardVariables variableNames variablesFirst isNumbered numberOf variableName sorted inserted decimal decimalFrom digits digitsWithin
+pub variables-written : (firstOf (example (118 ∷ 55 ∷ []) (118 ∷ 51 ∷ [])) ≡ keyOf (118 ∷ 51 ∷ []) ∷ keyOf (118 ∷ 55 ∷ []) ∷ [])
+    × (firstOf (example (118 ∷ 48 ∷ 55 ∷ []) (118 ∷ 51 ∷ [])) ≡ [])
+unfolding variablesFirst isNumbered numberOf inserted numberForm run isDigit decimal decimalFrom keyOf little nameOf bytesWithin
 variables-written = (refl, refl)
 
 -- the constant hub and the predicate stock of the run in document 01

@@ -1,11 +1,8 @@
--- A diagram's form read again as a reward (document 02, L2): how a reward's variables are numbered, and that the reward is the very diagram.
+-- A diagram's form read again as a reward (document 02, L2): by ascending N its variables have their own numbers, and the reward is the very diagram.
 --
--- Definitions: variables by ascending N
---   variableNames == the names of the variables among terms, as often as they are written
---   numberOf, isNumbered, every == the N of a name; it is v and N without leading zeros, nothing else; every name is so
+-- Definitions: variables by ascending N (which are, and how the reader sorts them: reading Numbering)
+--   every == each name is so
 --   inserted, sorted == numbers ascending, each once
---   variablesFirst, rewardVariables == the variables that have their number before the words of a reward are read: all, by ascending N, where each is written in that
---     way, else none; reading's pass takes them as the variables met so far
 --
 -- Definitions: the round trip
 --   Different, AreNames, Declared == no two names alike; each a name; tables as declarations leave them
@@ -29,7 +26,7 @@
 --   That building the reward is not refused: no 10 or 9 at its row steps, no 9 for its result. `same-diagram` says what is built where it is accepted.
 --   That the model's rows have room for it (9), and that a reward may stand there (5): the session's own checks.
 --   That every session has names for its keys, each once (`KeysOf`, `Declared`), and that they cover its value diagram (`Covers`): no law of sessions says so yet.
---   The line (text) itself, its place in the session, the code, and the numbering in reading's own definitions and in its pass.
+--   The line (text) itself, its place in the session, and the code.
 
 -- definitions
 pub mod Numbering

@@ -1,35 +1,51 @@
 -- The variables of a form, by ascending N: those of a closed diagram are the first ones in their order.
-use mathlib.Core.Path.{_≡_, refl, sym, ap, _∙_, subst}
-use mathlib.Core.Bool.{Bool, true, false, cond, _||_}
-use mathlib.Core.List.{List, [], _∷_, _++_, map}
-use Prim.Native.Nat.{ℕ, suc, _+_, _-_, _≤_, _<_}
+use mathlib.Core.Path.{_≡_, refl, sym, ap, ap₂, _∙_, subst}
+use mathlib.Core.Bool.{Bool, true, false, cond, not, _||_}
+use mathlib.Core.List.{List, [], _∷_, _++_, map, append-nil, append-assoc}
+use Prim.Native.Nat.{ℕ, suc, _+_, _-_, _*_, _/_, _%_, _≤_, _<_}
 use native.Mathlib.Omega.{arith}
-use lib.ListN.{length, getD}
+use lib.ListN.{length, getD, take, drop}
+use lib.Seq.{take-length}
 use lib.Dec.{eqb, ltb}
 use borrow.Author.Tests.{ltb-true, ltb-false, lt-ltb, le-ltb, eqb-true, eq-eqb, ne-eqb}
-use Rattle.basics.specs.Tests.{Flag, isTrue, isFalse, flag, Either, one, other, either, or-one, or-other, Cmp, below, equal, above, cmp}
-use Rattle.basics.specs.Members.{mem, mem-append}
-use Rattle.label.specs.Limits.{firstVariable, equality}
+use Rattle.basics.specs.Tests.{Flag, isTrue, isFalse, flag, Either, one, other, either, or-one, or-other, and-left, and-right, Cmp, below, equal, above, cmp}
+use Rattle.basics.specs.Members.{mem, mem-append, clash}
+use Rattle.label.specs.Limits.{firstVariable, variableCount, equality}
 use Rattle.label.specs.Labels.{areArities, predicateOf, placeAt, unpacked, termsOf}
 use Rattle.label.specs.ArityLaws.{arity-two}
 use Rattle.label.specs.LabelLaws.{term-below}
 use Rattle.diagram.specs.Diagram.{Diagram, leaf, branch}
 use Rattle.diagram.specs.Listing.{Good}
 use Rattle.diagram.specs.Variables.{occurs, variables, closed}
-use Rattle.diagram.specs.WordLaws.{equal-lists, lists-equal}
+use Rattle.rename.specs.Ascending as S
 use Rattle.rename.specs.Ascending.{Ascending, consecutive}
 use Rattle.rename.specs.AscendingLaws.{ascending-one, consecutive-ascending, in-consecutive, consecutive-in}
 use Rattle.rename.specs.ClosingLaws.{closed-variables}
-use Rattle.rename.specs.VariableLaws.{occurs-term, variable-occurs, occurs-variable}
-use Rattle.words.specs.Keys.{keyOf}
+use Rattle.rename.specs.VariableLaws.{occurs-term, variable-occurs, occurs-variable, variables-few}
+use Rattle.words.specs.Bytes.{isDigit, run, decimalFrom, decimal}
+use Rattle.words.specs.ByteLaws.{digit-range}
+use Rattle.words.specs.Words.{IsName, IsNumber, numberForm}
+use Rattle.words.specs.WordLaws.{number-sound, number-complete}
+use Rattle.words.specs.Keys.{keyOf, nameOf}
+use Rattle.words.specs.KeyLaws.{name-of}
+use Rattle.words.specs.declared.Key.{Key}
+use Rattle.words.specs.declared.Took.{Took}
+use Rattle.words.specs.declared.Took.the-variants.{Bytes, Refused}
 use Rattle.forms.specs.Tree as T
 use Rattle.forms.specs.Tree.Mark.{plain, variable}
 use Rattle.forms.specs.Tree.Term.{term}
 use Rattle.forms.specs.Tree.Atom.{equal as equality-of, holds}
-use Rattle.answers.specs.DigitLaws.{digits-read}
-use Rattle.line_trees.specs.TreeReading.{atomTerms, diagramTerms}
+use Rattle.events.specs.Events.{diagramEvents}
+use Rattle.answers.specs.Digits.{digits}
+use Rattle.answers.specs.DigitLaws.{digits-one, digits-more, digits-read, digits-number}
+use Rattle.reading.specs.Reading.{pickKeys}
+use Rattle.reading.specs.Occurrences.{variableKeys}
+use Rattle.reading.specs.Numbering.{takes, isNumbered, numberOf, allNumbered, inserted as insertedKey, byNumber, variablesFirst}
+use Rattle.line_trees.specs.TreeReading.{atomTerms, diagramTerms, termKeys}
+use Rattle.line_trees.specs.VariableLaws.{diagram-keys}
 use Rattle.diagram_form.specs.Form.{Tables, variableName, termTree, atomTree, formTree}
-use Rattle.round_trip.specs.Numbering.{variableNames, numberOf, isNumbered, every, inserted, sorted, variablesFirst, rewardVariables}
+use Rattle.round_trip.specs.Numbering.{every, inserted, sorted}
+use Rattle.round_trip.specs.NameLaws.{variable-is-name}
 
 -- ===== Sorted =====
 
@@ -74,20 +90,125 @@ unfolding sorted
 mem-sorted u [] = refl
 mem-sorted u (x ∷ xs) = mem-inserted u x (sorted xs) ∙ ap (λ (b : Bool). eqb u x || b) (mem-sorted u xs)
 
+-- one after another, begun with vs
+abbrev sortedIn : List ℕ → List ℕ → List ℕ
+sortedIn vs [] = vs
+sortedIn vs (x ∷ xs) = sortedIn (inserted x vs) xs
+
+in-ascending : (vs xs : List ℕ) → Ascending 0 vs → Ascending 0 (sortedIn vs xs)
+in-ascending vs [] a = a
+in-ascending vs (x ∷ xs) a = in-ascending (inserted x vs) xs (inserted-ascending 0 x vs (omega arith) a)
+
+mem-in : (u : ℕ) (vs xs : List ℕ) → mem eqb u (sortedIn vs xs) ≡ (mem eqb u xs || mem eqb u vs)
+mem-in u vs [] = refl
+mem-in u vs (x ∷ xs) =
+    mem-in u (inserted x vs) xs
+    ∙ ap (λ (b : Bool). mem eqb u xs || b) (mem-inserted u x vs)
+    ∙ or-swap (mem eqb u xs) (eqb u x) (mem eqb u vs)
+    ∙ or-join (eqb u x) (mem eqb u xs) (mem eqb u vs)
+  where
+    or-join : (a b c : Bool) → (a || (b || c)) ≡ ((a || b) || c)
+    or-join true b c = refl
+    or-join false b c = refl
+
+-- the same numbers, ascending
+in-sorted : (xs : List ℕ) → sortedIn [] xs ≡ sorted xs
+in-sorted xs =
+    ascending-one 0 0 (sortedIn [] xs) (sorted xs) (in-ascending [] xs tt) (sorted-ascending xs) (λ u e. mem-sorted u xs ∙ sym (members u) ∙ e) (λ u e. members u ∙ sym (mem-sorted u xs) ∙ e)
+  where
+    or-nothing : (b : Bool) → (b || false) ≡ b
+    or-nothing true = refl
+    or-nothing false = refl
+
+    members : (u : ℕ) → mem eqb u (sortedIn [] xs) ≡ mem eqb u xs
+    members u = mem-in u [] xs ∙ or-nothing (mem eqb u xs)
+
+-- ===== Numbers as they are written =====
+
+is-number : (s : List ℕ) → IsNumber s → takes (length s) (numberForm s) ≡ true
+unfolding isDigit
+is-number s g =
+    let e : numberForm s ≡ Bytes (length s) = ap numberForm (sym (append-nil s)) ∙ number-complete s [] g refl in
+    rw e (eq-eqb (length s) (length s) refl)
+
+number-is : (s : List ℕ) → takes (length s) (numberForm s) ≡ true → IsNumber s
+number-is s = go (numberForm s) refl
+  where
+    go : (t : Took) → numberForm s ≡ t → takes (length s) t ≡ true → IsNumber s
+    go (Bytes n) q f =
+        let z : n ≡ length s = eqb-true n (length s) f in
+        subst (λ (x : List ℕ). IsNumber x) (ap (λ (m : ℕ). take m s) z ∙ take-length s) (number-sound s q)
+    go Refused q f = clash f refl
+
+-- the digits of a number, and digits behind them
+digits-behind : (s : List ℕ) (v : ℕ) → 0 < v → run isDigit s ≡ length s → digits (decimalFrom v s) ≡ digits v ++ s
+unfolding decimalFrom run
+digits-behind [] v h e = sym (append-nil (digits v))
+digits-behind (b ∷ s) v h e = go (flag (isDigit b)) (digits-behind s (v * 10 + (b - 48)))
+  where
+    go : Flag (isDigit b) → (0 < v * 10 + (b - 48) → run isDigit s ≡ length s → digits (decimalFrom (v * 10 + (b - 48)) s) ≡ digits (v * 10 + (b - 48)) ++ s)
+        → digits (decimalFrom (v * 10 + (b - 48)) s) ≡ digits v ++ (b ∷ s)
+    go (isTrue d) ih =
+        let r = digit-range b d in
+        let q : suc (run isDigit s) ≡ suc (length s) = rw d at e in
+        let high : (v * 10 + (b - 48)) / 10 ≡ v = omega (arith, r) in
+        let low : (v * 10 + (b - 48)) % 10 + 48 ≡ b = omega (arith, r) in
+        let whole : digits (v * 10 + (b - 48)) ≡ digits v ++ (b ∷ []) =
+        digits-more (v * 10 + (b - 48)) (omega (arith, r)) ∙ ap₂ (λ (x y : ℕ). digits x ++ (y ∷ [])) high low in
+        ih (omega arith) (omega arith) ∙ ap (λ (x : List ℕ). x ++ s) whole ∙ append-assoc (digits v) (b ∷ []) s
+    go (isFalse d) ih = let q : 0 ≡ suc (length s) = rw d at e in absurd (omega arith)
+
+zero-alone : (s : List ℕ) → length s ≡ 0 → digits (decimalFrom 0 s) ≡ 48 ∷ s
+unfolding decimalFrom
+zero-alone [] h = digits-one 0 (omega arith)
+zero-alone (x ∷ s) h = absurd (omega arith)
+
+-- what is decimal without leading zeros is the digits of its number
+number-digits : (s : List ℕ) → IsNumber s → digits (decimal s) ≡ s
+unfolding decimal decimalFrom run
+number-digits [] g = absurd (omega (arith, g .0))
+number-digits (b ∷ s) g = go (flag (isDigit b)) (cmp b 48) (g .1) (g .2)
+  where
+    go : Flag (isDigit b) → Cmp b 48 → cond (isDigit b) (suc (run isDigit s)) 0 ≡ suc (length s) → (not (eqb b 48) || eqb (suc (length s)) 1) ≡ true
+        → digits (decimalFrom (0 * 10 + (b - 48)) s) ≡ b ∷ s
+    go (isFalse d) c e z = let q : 0 ≡ suc (length s) = rw d at e in absurd (omega arith)
+    go (isTrue d) (below h) e z = absurd (omega (arith, digit-range b d))
+    go (isTrue d) (equal h) e z =
+        let l : eqb (suc (length s)) 1 ≡ true = rw (eq-eqb b 48 h) at z in
+        let m : suc (length s) ≡ 1 = eqb-true (suc (length s)) 1 l in
+        let n : 0 * 10 + (b - 48) ≡ 0 = omega arith in
+        ap (λ (v : ℕ). digits (decimalFrom v s)) n ∙ zero-alone s (omega arith) ∙ ap (λ (x : ℕ). x ∷ s) (sym h)
+    go (isTrue d) (above h) e z =
+        let r = digit-range b d in
+        let q : suc (run isDigit s) ≡ suc (length s) = rw d at e in
+        let n : 0 * 10 + (b - 48) + 48 ≡ b = omega (arith, r) in
+        digits-behind s (0 * 10 + (b - 48)) (omega arith) (omega arith)
+        ∙ ap (λ (x : List ℕ). x ++ s) (digits-one (0 * 10 + (b - 48)) (omega (arith, r)) ∙ ap (λ (x : ℕ). x ∷ []) n)
+
 -- ===== Names of variables =====
 
-number-of : (i : ℕ) → numberOf (variableName i) ≡ i
-unfolding numberOf variableName
-number-of i = digits-read i
-
 pub is-numbered : (i : ℕ) → isNumbered (variableName i) ≡ true
-unfolding isNumbered
-is-numbered i = rw (number-of i) (equal-lists (variableName i))
+unfolding isNumbered variableName
+is-numbered i = is-number (digits i) (digits-number i)
+
+rest-read : (i : ℕ) → decimal (drop 1 (variableName i)) ≡ i
+unfolding variableName
+rest-read i = digits-read i
+
+number-of : (i : ℕ) → numberOf (variableName i) ≡ i
+unfolding numberOf
+number-of i = rw (is-numbered i) (rest-read i)
 
 -- a name is written in that way exactly if it is v and some N in decimal
 pub numbered-exact : (n : List ℕ) → isNumbered n ≡ true → n ≡ variableName (numberOf n)
-unfolding isNumbered
-numbered-exact n e = lists-equal n (variableName (numberOf n)) e
+unfolding isNumbered numberOf variableName
+numbered-exact [] e = clash e refl
+numbered-exact (b ∷ m) e =
+    let h : b ≡ 118 = eqb-true b 118 (and-left _ _ e) in
+    let t : takes (length m) (numberForm m) ≡ true = and-right (eqb b 118) _ e in
+    ap (λ (x : ℕ). x ∷ m) h
+    ∙ ap (λ (s : List ℕ). 118 ∷ s) (sym (number-digits m (number-is m t)))
+    ∙ ap (λ (c : Bool). 118 ∷ digits (cond c (decimal m) 0)) (sym e)
 
 every-numbered : (xs : List ℕ) → every isNumbered (map variableName xs) ≡ true
 every-numbered [] = refl
@@ -97,9 +218,70 @@ numbers-of : (xs : List ℕ) → map numberOf (map variableName xs) ≡ xs
 numbers-of [] = refl
 numbers-of (x ∷ xs) = rw (number-of x, numbers-of xs)
 
-pub variables-first : (xs : List ℕ) → variablesFirst (map variableName xs) ≡ map keyOf (map variableName (sorted xs))
+-- ===== Their keys, sorted =====
+
+abbrev Named : ℕ → Type 0
+Named i = IsName (variableName i)
+
+abbrev pub keyed : List ℕ → List Key
+keyed xs = map keyOf (map variableName xs)
+
+key-number : (i : ℕ) → Named i → numberOf (nameOf (keyOf (variableName i))) ≡ i
+key-number i g = ap numberOf (name-of (variableName i) g) ∙ number-of i
+
+all-keyed : (xs : List ℕ) → S.All Named xs → allNumbered (keyed xs) ≡ true
+all-keyed [] g = refl
+all-keyed (x ∷ xs) g = rw (name-of (variableName x) (g .0), is-numbered x) (all-keyed xs (g .1))
+
+inserted-keyed : (x : ℕ) (ys : List ℕ) → Named x → S.All Named ys → insertedKey (keyOf (variableName x)) (keyed ys) ≡ keyed (inserted x ys)
+unfolding insertedKey inserted
+inserted-keyed x [] g h = refl
+inserted-keyed x (y ∷ ys) g h = rw (key-number x g, key-number y (h .0)) (go (ltb x y) (eqb x y) (inserted-keyed x ys g (h .1)))
+  where
+    go : (a b : Bool) → insertedKey (keyOf (variableName x)) (keyed ys) ≡ keyed (inserted x ys)
+        → pickKeys a (keyOf (variableName x) ∷ keyOf (variableName y) ∷ keyed ys)
+        (pickKeys b (keyOf (variableName y) ∷ keyed ys) (keyOf (variableName y) ∷ insertedKey (keyOf (variableName x)) (keyed ys)))
+        ≡ keyed (cond a (x ∷ y ∷ ys) (cond b (y ∷ ys) (y ∷ inserted x ys)))
+    go true b e = refl
+    go false true e = refl
+    go false false e = ap (λ (m : List Key). keyOf (variableName y) ∷ m) e
+
+inserted-named : (x : ℕ) (ys : List ℕ) → Named x → S.All Named ys → S.All Named (inserted x ys)
+unfolding inserted
+inserted-named x [] g h = (g, tt)
+inserted-named x (y ∷ ys) g h = go (ltb x y) (eqb x y) (inserted-named x ys g (h .1))
+  where
+    go : (a b : Bool) → S.All Named (inserted x ys) → S.All Named (cond a (x ∷ y ∷ ys) (cond b (y ∷ ys) (y ∷ inserted x ys)))
+    go true b m = (g, h)
+    go false true m = h
+    go false false m = (h .0, m)
+
+in-keyed : (xs vs : List ℕ) → S.All Named vs → S.All Named xs → byNumber (keyed vs) (keyed xs) ≡ keyed (sortedIn vs xs)
+in-keyed [] vs g h = refl
+in-keyed (x ∷ xs) vs g h =
+    ap (λ (us : List Key). byNumber us (keyed xs)) (inserted-keyed x vs (h .0) g) ∙ in-keyed xs (inserted x vs) (inserted-named x vs (h .0) g) (h .1)
+
+numbered-keys : (ns : List (List ℕ)) → every isNumbered ns ≡ true → map keyOf ns ≡ keyed (map numberOf ns)
+numbered-keys [] e = refl
+numbered-keys (n ∷ ns) e =
+    ap₂ (λ (k : Key) (ks : List Key). k ∷ ks) (ap keyOf (numbered-exact n (and-left _ _ e))) (numbered-keys ns (and-right (isNumbered n) _ e))
+
+numbered-named : (ns : List (List ℕ)) → T.All IsName ns → every isNumbered ns ≡ true → S.All Named (map numberOf ns)
+numbered-named [] g e = tt
+numbered-named (n ∷ ns) g e =
+    (subst (λ (x : List ℕ). IsName x) (numbered-exact n (and-left _ _ e)) (g .0), numbered-named ns (g .1) (and-right (isNumbered n) _ e))
+
+-- the variables that the reader begins with, by ascending N
+pub variables-first : (ns : List (List ℕ)) → T.All IsName ns → every isNumbered ns ≡ true → variablesFirst (map keyOf ns) ≡ keyed (sorted (map numberOf ns))
 unfolding variablesFirst
-variables-first xs = rw (every-numbered xs, numbers-of xs)
+variables-first ns g e =
+    let named = numbered-named ns g e in
+    ap variablesFirst (numbered-keys ns e)
+    ∙ rw (all-keyed (map numberOf ns) named) (in-keyed (map numberOf ns) [] tt named ∙ ap keyed (in-sorted (map numberOf ns)))
+
+all-names : (xs : List ℕ) → ((i : ℕ) → mem eqb i xs ≡ true → i < variableCount) → T.All IsName (map variableName xs)
+all-names [] h = tt
+all-names (x ∷ xs) h = (variable-is-name x (h x (or-one _ _ (eq-eqb x x refl))), all-names xs (λ i m. h i (or-other (eqb i x) _ m)))
 
 -- ===== The terms of a form =====
 
@@ -144,16 +326,16 @@ form-terms ar n (branch l t f) good =
       form-terms ar n f good,
     )
 
-names-indices : (n : Tables) (ts : List ℕ) → variableNames (map (termTree n) ts) ≡ map variableName (indices ts)
-unfolding variableNames termTree indices
-names-indices n [] = refl
-names-indices n (t ∷ ts) = go (ltb t firstVariable) (names-indices n ts)
+keys-indices : (n : Tables) (ts : List ℕ) → termKeys (map (termTree n) ts) ≡ keyed (indices ts)
+unfolding termTree indices
+keys-indices n [] = refl
+keys-indices n (t ∷ ts) = go (ltb t firstVariable) (keys-indices n ts)
   where
-    go : (b : Bool) → variableNames (map (termTree n) ts) ≡ map variableName (indices ts)
-        → variableNames (cond b (term plain (getD (n .constants) t [])) (term variable (variableName (t - firstVariable))) ∷ map (termTree n) ts)
-        ≡ map variableName (cond b (indices ts) ((t - firstVariable) ∷ indices ts))
+    go : (b : Bool) → termKeys (map (termTree n) ts) ≡ keyed (indices ts)
+        → termKeys (cond b (term plain (getD (n .constants) t [])) (term variable (variableName (t - firstVariable))) ∷ map (termTree n) ts)
+        ≡ keyed (cond b (indices ts) ((t - firstVariable) ∷ indices ts))
     go true ih = ih
-    go false ih = ap (λ l. variableName (t - firstVariable) ∷ l) ih
+    go false ih = ap (λ (l : List Key). keyOf (variableName (t - firstVariable)) ∷ l) ih
 
 -- ===== Which they are =====
 
@@ -224,11 +406,14 @@ module _ (ar : List ℕ) (d : Diagram) (good : Good ar d) (is-closed : closed ar
       mem-sorted i (indices (written ar d))
       ∙ term-index i (written ar d) (mem-written ar (firstVariable + i) d ∙ below-variable i (omega (arith, in-consecutive 0 (length (variables ar d)) i e .1))))
 
+  few-indices : (i : ℕ) → mem eqb i (indices (written ar d)) ≡ true → i < variableCount
+  few-indices i e = omega (arith, variables-few ar d, variable-below i (sym (mem-written ar (firstVariable + i) d) ∙ index-term i (written ar d) e))
+
   -- the variables of a form are numbered as the diagram has them
-  pub form-variables : (n : Tables) → rewardVariables (formTree ar n d) ≡ map keyOf (map variableName (consecutive 0 (length (variables ar d))))
-  unfolding rewardVariables
+  pub form-variables : (n : Tables) → variablesFirst (variableKeys (diagramEvents (formTree ar n d))) ≡ keyed (consecutive 0 (length (variables ar d)))
   form-variables n =
-      ap (λ (ts : List T.Term). variablesFirst (variableNames ts)) (form-terms ar n d (good .arities))
-      ∙ ap variablesFirst (names-indices n (written ar d))
-      ∙ variables-first (indices (written ar d))
-      ∙ ap (λ (xs : List ℕ). map keyOf (map variableName xs)) sorted-indices
+      let xs : List ℕ = indices (written ar d) in
+      ap variablesFirst (diagram-keys (formTree ar n d) ∙ ap (λ (ts : List T.Term). termKeys ts) (form-terms ar n d (good .arities)) ∙ keys-indices n (written ar d))
+      ∙ variables-first (map variableName xs) (all-names xs few-indices) (every-numbered xs)
+      ∙ ap (λ (ys : List ℕ). keyed (sorted ys)) (numbers-of xs)
+      ∙ ap keyed sorted-indices

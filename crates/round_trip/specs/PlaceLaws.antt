@@ -18,9 +18,10 @@ use Rattle.words.specs.Keys.{keyOf}
 use Rattle.names.specs.Keys.{placeOf}
 use Rattle.forms.specs.Tree as T
 use Rattle.diagram_form.specs.Form.{variableName}
-use Rattle.round_trip.specs.Numbering.{numberOf, isNumbered, every, sorted, variablesFirst}
+use Rattle.reading.specs.Numbering.{numberOf, isNumbered, variablesFirst}
+use Rattle.round_trip.specs.Numbering.{every, sorted}
 use Rattle.round_trip.specs.RoundTrip.{Different, AreNames}
-use Rattle.round_trip.specs.NumberingLaws.{sorted-ascending, mem-sorted, numbered-exact}
+use Rattle.round_trip.specs.NumberingLaws.{sorted-ascending, mem-sorted, numbered-exact, variables-first}
 use Rattle.round_trip.specs.NameLaws.{variable-one, place-name}
 
 getD-names : (xs : List ℕ) (i : ℕ) → i < length xs → getD (map variableName xs) i [] ≡ variableName (getD xs i 0)
@@ -72,8 +73,7 @@ module _ (ns : List (List ℕ)) (named : T.All IsName ns) (all : every isNumbere
       sym (rank-place 0 numbers i rising l) ∙ ap (rank numbers) same ∙ rank-place 0 numbers j rising m
 
   -- every variable that is written: its place among the variables that the pass begins with, by which it is numbered
-  pub ascending-place : (i : ℕ) → i < length ns → placeOf (keyOf (getD ns i [])) (variablesFirst ns) ≡ rank numbers (numberOf (getD ns i []))
-  unfolding variablesFirst
+  pub ascending-place : (i : ℕ) → i < length ns → placeOf (keyOf (getD ns i [])) (variablesFirst (map keyOf ns)) ≡ rank numbers (numberOf (getD ns i []))
   ascending-place i h =
       let u : ℕ = numberOf (getD ns i []) in
       let inside : mem eqb u numbers ≡ true =
@@ -84,6 +84,6 @@ module _ (ns : List (List ℕ)) (named : T.All IsName ns) (all : every isNumbere
       getD-names numbers (rank numbers u) below
       ∙ ap variableName (place-rank 0 numbers u rising inside)
       ∙ sym (numbered-exact (getD ns i []) (every-at ns all i h)) in
-      rw all
-      (ap (λ (s : List ℕ). placeOf (keyOf s) (map keyOf (map variableName numbers))) (sym name)
-      ∙ place-name (map variableName numbers) are-names differ (rank numbers u) (omega (arith, count)))
+      ap (placeOf (keyOf (getD ns i []))) (variables-first ns named all)
+      ∙ ap (λ (s : List ℕ). placeOf (keyOf s) (map keyOf (map variableName numbers))) (sym name)
+      ∙ place-name (map variableName numbers) are-names differ (rank numbers u) (omega (arith, count))

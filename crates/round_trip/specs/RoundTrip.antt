@@ -17,13 +17,13 @@ use Rattle.words.specs.Keys.{keyOf}
 use Rattle.text.specs.Line.{GoodLine}
 use Rattle.events.specs.Events.{diagramEvents}
 use Rattle.reading.specs.declared.Binding.the-variants.{Any}
-use Rattle.reading.specs.Reading.{Names, Judged, Written, reading}
+use Rattle.reading.specs.Reading.{Names, Judged, Written}
 use Rattle.reading.specs.Reading.Judged.{fine}
+use Rattle.reading.specs.Numbering.{rewardReading}
 use Rattle.reading.specs.Tree.{Reading, opsOf}
 use Rattle.reading.specs.Tree.Reading.{number, branch as conditional}
 use Rattle.build.specs.Machine.{builtClosed}
 use Rattle.diagram_form.specs.Form.{Tables, formTree, rewardOf}
-use Rattle.round_trip.specs.Numbering.{rewardVariables}
 
 -- no two names are alike
 abbrev pub Different : List (List ℕ) → Type 0
@@ -49,9 +49,9 @@ abbrev pub rewardNames : List ℕ → Tables → Names
 rewardNames ar n =
     record { constants = map keyOf (n .constants); predicates = map keyOf (n .predicates); arities = ar; parameters = []; binding = Any }
 
--- the words of the form as a reward line's, its variables numbered by ascending N
+-- the words of the form as a reward line's
 abbrev pub wordsRead : List ℕ → Tables → Diagram → Judged Written
-wordsRead ar n d = reading (rewardNames ar n) (diagramEvents (formTree ar n d)) (rewardVariables (formTree ar n d))
+wordsRead ar n d = rewardReading (rewardNames ar n) (diagramEvents (formTree ar n d))
 
 -- a diagram as it is written, each row as what it asks
 unfoldable pub readingOf : Diagram → Reading

@@ -24,6 +24,7 @@ use Rattle.regression.specs.Parameters.{Allowed}
 use Rattle.events.specs.Events.{diagramEvents}
 use Rattle.reading.specs.Reading.{Written, reading, andThen}
 use Rattle.reading.specs.Reading.Judged.{fine}
+use Rattle.reading.specs.Numbering.{rewardReading}
 use Rattle.reading.specs.Tree.{opsOf, depth, diagramReading, writing}
 use Rattle.reading.specs.TreeLaws.{reading-diagram}
 use Rattle.build.specs.Build as B
@@ -107,7 +108,7 @@ module _ (ar : List ℕ) (n : Tables) (d : Diagram) (value : GoodValue ar d) (de
   read = record { variables = firstKeys (length (variables ar d)); operations = opsOf (readingOf d) }
 
   words-read : wordsRead ar n d ≡ fine read
-  unfolding diagramReading read
+  unfolding diagramReading read rewardReading
   words-read =
       ap (reading (rewardNames ar n) (diagramEvents (formTree ar n d))) (form-variables ar d (value .listed) (value .is-closed) n)
       ∙ reading-diagram (rewardNames ar n) (formTree ar n d) (firstKeys (length (variables ar d)))

@@ -25,6 +25,7 @@ use Rattle.reading.specs.declared.Binding.{Binding}
 use Rattle.reading.specs.declared.Binding.the-variants.{Any, None, Only}
 use Rattle.reading.specs.Reading.{Names as ReadingNames, Judged, Written, reading}
 use Rattle.reading.specs.Reading.Judged.{fine, refused as judged}
+use Rattle.reading.specs.Numbering.{rewardReading}
 use Rattle.reading.specs.Head.{Head, headNumber, headArguments}
 use Rattle.build.specs.Machine.{built, builtClosed}
 use Rattle.mdp.specs.Model.{Variant, Action, Model, mostVariants}
@@ -40,8 +41,8 @@ abbrev pub outcomeOf : {A : Type 0} → Judged A → Outcome A
 outcomeOf (fine a) = ok a
 outcomeOf (judged r) = refused r
 
--- the names that a diagram of the line may have: a reward has no parameters, and numbers its variables as they occur; a weight and a truth diagram have
--- those of the last action
+-- the names that a diagram of the line may have: a reward has no parameters, and numbers its variables itself; a weight and a truth diagram have those of the
+-- last action
 abbrev pub namesFor : Names → List ℕ → Binding → List Key → ReadingNames
 namesFor n ar b ps = record {
   constants = n .constants;
@@ -77,9 +78,9 @@ withReward σ d = record {
 
 -- its words, 8, then 10, 11, 9 at each row step, 9 for its result, closed up; last 9 for model rows, of which there are r so far
 unfoldable pub rewardRead : Names → List ℕ → ℕ → List Event → Outcome Diagram
-unfolding reading builtClosed rows
+unfolding rewardReading builtClosed rows
 rewardRead n ar r es =
-    andThen (outcomeOf (reading (namesFor n ar Any []) es [])) (λ w.
+    andThen (outcomeOf (rewardReading (namesFor n ar Any []) es)) (λ w.
     andThen (builtClosed ar (w .operations)) (λ d.
     refuseIf (ltb mostModelRows (rowsWith r d)) Space
     (ok d)))

@@ -15,6 +15,8 @@ use Rattle.diagram.specs.Diagram.{Diagram}
 use Rattle.reading.specs.declared.Binding.the-variants.{Any, None, Only}
 use Rattle.reading.specs.Reading.{Names}
 use Rattle.reading.specs.Reading.Judged.{fine}
+use Rattle.reading.specs.Occurrences.{variableKeys}
+use Rattle.reading.specs.Numbering.{variablesFirst}
 use Rattle.reading.specs.Head.{headKeys}
 use Rattle.reading.specs.Tree.{Reading, resolveDiagram}
 use Rattle.build.specs.Build.{meaning}
@@ -46,11 +48,11 @@ pub record WritesClosed (names : Names) (vs : List Key) (t : T.Diagram) (d : Dia
 
 -- ===== Accepted lines =====
 
--- (reward DIAGRAM): any variables, no parameter
+-- (reward DIAGRAM): any variables, by ascending N where each is written so (document 02, L2), no parameter
 pub record RewardOf (σ : Session) (t : T.Diagram) (τ : Session) : Type 0 where
   pub diagram : Diagram
   pub behind : τ ≡ withReward σ diagram
-  pub is : WritesClosed (namesFor (σ .names) (σ .model .arities) Any []) [] t diagram
+  pub is : WritesClosed (namesFor (σ .names) (σ .model .arities) Any []) (variablesFirst (variableKeys (diagramEvents t))) t diagram
 
 -- (variant n WEIGHT): no variable, the parameters of the last action
 pub record WeightOf (σ : Session) (n : List ℕ) (t : T.Diagram) (τ : Session) : Type 0 where

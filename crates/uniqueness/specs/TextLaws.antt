@@ -28,6 +28,8 @@ use Rattle.reading.specs.declared.Binding.{Binding}
 use Rattle.reading.specs.declared.Binding.the-variants.{Any, None, Only}
 use Rattle.reading.specs.Reading.{reading}
 use Rattle.reading.specs.Reading.Judged.{fine}
+use Rattle.reading.specs.Occurrences.{variableKeys}
+use Rattle.reading.specs.Numbering.{variablesFirst, rewardReading}
 use Rattle.reading.specs.Head.{Head, openedNumber, headNumber, headArguments, headKeys}
 use Rattle.reading.specs.JudgedLaws.{fine-one, passed, chained}
 use Rattle.reading.specs.LineLaws.{becomes-arguments}
@@ -54,14 +56,15 @@ names-fit n ar good b ps few =
     record { constants-few = good .constants; predicates-few = good .predicates; parameters-few = few; arity-list = good .arities }
 
 module _ (n : Names) (ar : List ℕ) (good : GoodTables n ar) (rows : ℕ) where
-  reward-written : (t : T.Diagram) → T.brackets t ≤ mostTests → Accepted (WritesClosed (namesFor n ar Any []) [] t) (rewardRead n ar rows (diagramEvents t))
-  unfolding rewardRead
+  reward-written : (t : T.Diagram) → T.brackets t ≤ mostTests → Accepted (WritesClosed (namesFor n ar Any []) (variablesFirst (variableKeys (diagramEvents t))) t) (rewardRead n ar rows (diagramEvents t))
+  unfolding rewardRead rewardReading
   reward-written t shallow =
       let fit = names-fit n ar good Any [] (omega arith) in
-      accepted-read (reading (namesFor n ar Any []) (diagramEvents t) []) _ (λ w e.
+      let vs = variablesFirst (variableKeys (diagramEvents t)) in
+      accepted-read (reading (namesFor n ar Any []) (diagramEvents t) vs) _ (λ w e.
       accepted-next (builtClosed ar (w .operations)) _ (λ d m.
       accepted-cond (ltb mostModelRows (rowsWith rows d)) Space _ (λ few.
-      accepted-ok (built-closed (namesFor n ar Any []) fit t shallow [] w (resolved (namesFor n ar Any []) fit t [] w e) d m))))
+      accepted-ok (built-closed (namesFor n ar Any []) fit t shallow vs w (resolved (namesFor n ar Any []) fit t vs w e) d m))))
 
   weight-written : (k : Key) (t : T.Diagram) → T.brackets t ≤ mostTests
       → Accepted (Writes (namesFor n ar None (n .parameters)) [] t) (weightRead n ar rows k (diagramEvents t))

@@ -1,5 +1,6 @@
 use Rattle.diagram_lines.proofs.RewardLaws.{reward-drawable, reward-reads}
 use Prim.Native.Nat.{_+_, _*_}
+use mathlib.Core.Path.{refl}
 use lib.Dec.{lit≤}
 use Rattle.label.specs.Limits.{variableCount}
 use borrow.Author.Needs.{needs}
@@ -7,10 +8,10 @@ use Rattle.diagram_lines.proofs.read_reward.Statement.{statement}
 use Rattle.diagram_lines.proofs.read_reward.Tie as tie
 
 draw-closed-requires : tie.Need-draw-closed-requires
-draw-closed-requires c κs = reward-drawable (c .before .before .before .before .before .before .before .before .before .pre .0) ((variableCount + 1) * 2) (lit≤ tt) (c .before .before .before .first-word .ensures) (c .before .before .before .before .before .before .before .before .before .pre .1)
+draw-closed-requires c κs = (reward-drawable (c .before .before .before .before .before .before .before .before .before .pre .0) ((variableCount + 1) * 2) (lit≤ tt) (c .before .before .before .first-word .ensures) (c .before .before .before .before .before .before .before .before .before .pre .1), refl)
 
 returns : tie.Need-returns
-returns c = reward-reads (c .before .before .before .before .before .before .before .before .before .before .before .before .before .before .before .before .pre .0) _ (c .before .before .before .before .before .before .before .before .before .before .first-word .ensures) (c .before .before .before .before .before .before .draw-closed .ensures) (c .room .ensures)
+returns c = reward-reads (c .before .before .before .before .before .before .before .before .before .before .before .before .before .before .before .before .pre .0) (c .before .before .before .before .before .before .before .before .before .before .first-word .ensures) (c .before .before .before .before .before .before .draw-closed .ensures) (c .room .ensures)
 
 pub read-reward-spec : {M : Type 1} → statement M
 read-reward-spec =

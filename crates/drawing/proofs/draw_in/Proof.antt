@@ -5,16 +5,26 @@ use Rattle.drawing.proofs.draw_in.Tie as tie
 
 build-to-requires : tie.Need-build-to-requires
 build-to-requires c κs =
-    let d = c .before .before .before .before .before .before .before .before .before .before .before .before .before .before .before .before .before .before .before .before .pre .0 in
-    let g = c .before .before .before .before .before .before .before .before .before .before .read-words .ensures in
-    let e = c .before .before .before .before .read .given .1 in
-    (read-labelled d g e, read-buildable d g e)
+    let told = c .before .before .before .before in
+    let words = told .before .before .before .before .before .before in
+    let start = words .before .before .before .before .before .before .before .before .before .before in
+    let x = start .args .ending in
+    let e = told .read .given .1 in
+    (read-labelled x (start .pre .0) (words .read-to .ensures) e, read-buildable x (start .pre .0) (words .read-to .ensures) e)
 
 returns : tie.Need-returns
-returns c = built-draws (c .before .before .before .before .before .before .before .before .before .before .before .before .before .before .before .before .before .before .before .before .before .before .before .before .before .pre .0) (c .before .before .before .before .before .before .before .before .before .before .before .before .before .before .before .read-words .ensures) (c .before .before .before .before .before .before .before .before .before .read .given .1) _ (c .before .before .before .before .build-to .ensures)
+returns c =
+    let building = c .before .before .before .before in
+    let told = building .before .before .before .before .before in
+    let words = told .before .before .before .before .before .before in
+    let start = words .before .before .before .before .before .before .before .before .before .before in
+    built-draws (start .args .ending) (start .pre .0) (words .read-to .ensures) (told .read .given .1) (building .build-to .ensures)
 
 returns-2 : tie.Need-returns-2
-returns-2 c = refused-draws (c .before .before .before .before .before .before .before .before .before .before .before .before .before .before .before .before .before .pre .0) (c .before .before .before .before .before .before .before .read-words .ensures) _ (c .before .read2 .given .1)
+returns-2 c =
+    let words = c .before .before .before .before .before .before .before in
+    let start = words .before .before .before .before .before .before .before .before .before .before in
+    refused-draws (start .args .ending) (start .pre .0) (words .read-to .ensures) (c .before .read2 .given .1)
 
 pub draw-in-spec : {M : Type 1} → statement M
 draw-in-spec =
