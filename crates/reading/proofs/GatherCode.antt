@@ -1,6 +1,6 @@
 -- What the code that gathers a reward's variables needs to know.
 use Prim.Native.Nat.{ℕ, _-_, _≤_, _<_}
-use mathlib.Core.Path.{_≡_, refl, sym, ap, ap₂, subst, _∙_}
+use mathlib.Core.Path.{_≡_, refl, sym, ap, subst, _∙_}
 use mathlib.Core.Bool.{Bool, true, false, _&&_}
 use mathlib.Core.List.{List, [], _∷_, _++_}
 use native.Mathlib.Omega.{arith}
@@ -26,10 +26,10 @@ use Rattle.reading.specs.declared.Numbered.{Numbered}
 use Rattle.reading.specs.declared.Numbered.the-variants as N
 use Rattle.reading.specs.declared.Gathered.{Gathered}
 use Rattle.reading.specs.declared.Gathered.the-variants as G
-use Rattle.reading.specs.Reading.{Judged, Written, pickKeys, reading}
+use Rattle.reading.specs.Reading.{Judged, Written, reading}
 use Rattle.reading.specs.Head.{argumentOf}
 use Rattle.reading.specs.Occurrences.{variableKeys}
-use Rattle.reading.specs.Numbering.{isNumbered, numberOf, allNumbered, rewardReading}
+use Rattle.reading.specs.Numbering.{isNumbered, allNumbered, rewardReading}
 use Rattle.reading.specs.NumberingLaws.{kept-reading}
 use Rattle.reading.specs.Gathering.{numberedAs, moved, gathered, keptFirst, wordKeys, Insertable, GathersAs, Gathers}
 use Rattle.reading.specs.Callers.{namesOf, Variables, Reads, Meets}
@@ -150,7 +150,8 @@ module _ {line : List ℕ} {place₀ : ℕ} {vs₀ : List ℕ} where
                 table = record { words = omega (arith, size′, l .table .words); within = omega arith };
               }
 
-          pub gathering-more : {vs′ : List ℕ} → length vs′ ≡ length vs → {x : Gathered} {c : ℕ} → Gathers (keysAt vs 0 count) (wordKeys w) x vs′ → x ≡ G.Count c → Gathering line place₀ vs₀ vs′ (n .place) c
+          pub gathering-more : {vs′ : List ℕ} → length vs′ ≡ length vs → {x : Gathered} {c : ℕ} → Gathers (keysAt vs 0 count) (wordKeys w) x vs′ → x ≡ G.Count c
+              → Gathering line place₀ vs₀ vs′ (n .place) c
           gathering-more {vs′} size′ {x} {c} g e =
               let o : GathersAs (keysAt vs 0 count) (wordKeys w) vs′ (G.Count c) = subst (GathersAs (keysAt vs 0 count) (wordKeys w) vs′) e (g .is) in
               let rest : List Key = variableKeys (eventsOf (drop (n .place) line)) in

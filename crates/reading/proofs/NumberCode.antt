@@ -1,15 +1,14 @@
 -- What the code that numbers a reward's variables needs to know.
 use Prim.Native.Nat.{ℕ, zero, suc, _+_, _-_, _*_, _/_, _%_, _≤_, _<_}
-use mathlib.Core.Path.{_≡_, refl, sym, ap, ap₂, subst, _∙_}
-use mathlib.Core.Bool.{Bool, true, false, _&&_, cond}
+use mathlib.Core.Path.{_≡_, refl, sym, ap, ap₂, _∙_}
+use mathlib.Core.Bool.{Bool, true, false, cond}
 use mathlib.Core.List.{List, [], _∷_, _++_, append-nil, append-assoc}
 use native.Mathlib.Omega.{arith}
 use borrow.Author.Tests.{lt-ltb, le-ltb, eq-eqb, ne-eqb, eqb-true, eqb-false}
-use lib.Dec.{eqb, ltb}
+use lib.Dec.{eqb}
 use lib.ListN.{length, getD, take, drop, set, length-set, length-append, length-drop, take-append-drop}
-use lib.Seq.{take-suc, take-suc-set, take-all, drop-cons, drop-length, drop-set-lt, length-take-le, ext-getD, getD-set-same, getD-set-other}
+use lib.Seq.{take-suc-set, take-all, drop-cons, drop-length, drop-set-lt, length-take-le, ext-getD, getD-set-same, getD-set-other}
 use Rattle.basics.specs.Tests.{Flag, isTrue, isFalse, flag, Cmp, below, equal, above, cmp}
-use Rattle.label.specs.Limits.{variableCount}
 use Rattle.words.specs.Bytes.{isDigit, run, decimalFrom, decimal, over, valueOf}
 use Rattle.words.specs.ByteLaws.{digit-range}
 use Rattle.words.specs.Words.{numberForm}
@@ -18,15 +17,14 @@ use Rattle.words.specs.Keys.{bytesWithin, nameOf}
 use Rattle.words.specs.declared.Key.{Key}
 use Rattle.words.specs.declared.Took.{Took}
 use Rattle.words.specs.declared.Took.the-variants as T
-use Rattle.names.specs.Many.{many}
-use Rattle.names.specs.ManyLaws.{length-many, getD-many}
+use Rattle.names.specs.ManyLaws.{getD-many}
 use Rattle.names.specs.Keys.{keyAt, keysAt, putKey}
 use Rattle.names.specs.KeyLaws.{key-ext, length-keys, keys-more, length-put}
 use Rattle.reading.specs.declared.Numbered.{Numbered}
 use Rattle.reading.specs.declared.Numbered.the-variants as N
 use Rattle.reading.specs.declared.Pair.{Pair}
-use Rattle.reading.specs.Numbering.{letterV, takes, isNumbered, numberOf}
-use Rattle.reading.specs.Gathering.{pickNumbered, wholeNumber, numberedAs, pickPair, paired, moved, Spelt, Insertable}
+use Rattle.reading.specs.Numbering.{takes, isNumbered, numberOf}
+use Rattle.reading.specs.Gathering.{pickNumbered, wholeNumber, numberedAs, paired, moved, Spelt, Insertable}
 use Rattle.reading.specs.Callers.{Variables, Meets}
 
 -- ===== The bytes of a key =====

@@ -23,7 +23,8 @@ use Rattle.events.specs.declared.Event.the-variants as E
 use Rattle.reading.specs.declared.Binding.{Binding}
 use Rattle.reading.specs.declared.Binding.the-variants.{Any}
 use Rattle.reading.specs.Operations.Op.{ask}
-use Rattle.reading.specs.Reading.{Names, Judged, pickJudged, andThen, pickKeys, met, metAt, Pass, more, pickPass, asked, beginning, begun, filling, termWord, numberWord, atomWord, constantNumber, parameterNumber, variableNumber, word, State, with-pass, readWord, readWords, finished, begin, reading}
+use Rattle.reading.specs.Reading.{Names, Judged, pickJudged, andThen, pickKeys, met, metAt, Pass, more, pickPass, asked, beginning, begun, filling, termWord}
+use Rattle.reading.specs.Reading.{numberWord, atomWord, constantNumber, parameterNumber, variableNumber, word, State, with-pass, readWords, finished, begin, reading}
 use Rattle.reading.specs.Reading.Judged.{fine, refused}
 use Rattle.reading.specs.Occurrences.{variableKeys}
 use Rattle.reading.specs.Numbering.{numberOf, allNumbered, inserted, byNumber, variablesFirst, rewardReading}

@@ -14,8 +14,8 @@
 --     listing; 11 is not met
 --
 -- Theorems
---   numbered-exact: a name is written in that way only if it is v and its N in decimal; ascending-place: a variable's place is how many different N on the line are
---     below its own; form-variables: so the variables of a closed diagram's form have their own numbers
+--   numbered-exact: a name is written in that way only if it is v and its N in decimal; ascending-place, ascending-count: a variable's place is how many different N on
+--     the line are below its own, and there are as many variables as different N; form-variables: so the variables of a closed diagram's form have their own numbers
 --   form-good: a form is a well-formed diagram by the grammar; form-resolved: resolved, it is the diagram row for row
 --   reward-no-value: a reward that is read from words never meets 11 when it is built
 --   round-trip: for a value diagram (session `GoodValue`) under tables that declare what it names, where 19 is not given: RoundTrip

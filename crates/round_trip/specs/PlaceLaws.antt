@@ -1,4 +1,4 @@
--- By ascending N: a variable's place is how many different N on the line are below its own.
+-- By ascending N: a variable's place is how many different N on the line are below its own, and there are as many variables as different N.
 use mathlib.Core.Path.{_≡_, refl, sym, ap, _∙_, subst}
 use mathlib.Core.Bool.{true}
 use mathlib.Core.List.{List, [], _∷_, map}
@@ -71,6 +71,10 @@ module _ (ns : List (List ℕ)) (named : T.All IsName ns) (all : every isNumbere
       let m : j < length numbers = omega (arith, count) in
       let same = variable-one (getD numbers i 0) (getD numbers j 0) (sym (getD-names numbers i l) ∙ e ∙ getD-names numbers j m) in
       sym (rank-place 0 numbers i rising l) ∙ ap (rank numbers) same ∙ rank-place 0 numbers j rising m
+
+  -- there are as many variables as different N
+  pub ascending-count : length (variablesFirst (map keyOf ns)) ≡ length numbers
+  ascending-count = ap length (variables-first ns named all) ∙ length-map (map variableName numbers) keyOf ∙ count
 
   -- every variable that is written: its place among the variables that the pass begins with, by which it is numbered
   pub ascending-place : (i : ℕ) → i < length ns → placeOf (keyOf (getD ns i [])) (variablesFirst (map keyOf ns)) ≡ rank numbers (numberOf (getD ns i []))

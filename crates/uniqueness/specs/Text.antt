@@ -12,6 +12,7 @@ use Rattle.text.specs.Line.{Words, Line, lineBytes, GoodLine}
 use Rattle.text.specs.Line.Line.{line}
 use Rattle.names.specs.Keys.{placeOf, isAmong}
 use Rattle.diagram.specs.Diagram.{Diagram}
+use Rattle.events.specs.Events.{diagramEvents}
 use Rattle.reading.specs.declared.Binding.the-variants.{Any, None, Only}
 use Rattle.reading.specs.Reading.{Names}
 use Rattle.reading.specs.Reading.Judged.{fine}

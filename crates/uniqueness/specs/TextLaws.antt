@@ -56,7 +56,8 @@ names-fit n ar good b ps few =
     record { constants-few = good .constants; predicates-few = good .predicates; parameters-few = few; arity-list = good .arities }
 
 module _ (n : Names) (ar : List ℕ) (good : GoodTables n ar) (rows : ℕ) where
-  reward-written : (t : T.Diagram) → T.brackets t ≤ mostTests → Accepted (WritesClosed (namesFor n ar Any []) (variablesFirst (variableKeys (diagramEvents t))) t) (rewardRead n ar rows (diagramEvents t))
+  reward-written : (t : T.Diagram) → T.brackets t ≤ mostTests → Accepted (WritesClosed (namesFor n ar Any []) (variablesFirst (variableKeys (diagramEvents t))) t)
+      (rewardRead n ar rows (diagramEvents t))
   unfolding rewardRead rewardReading
   reward-written t shallow =
       let fit = names-fit n ar good Any [] (omega arith) in

@@ -8,10 +8,16 @@ use Rattle.diagram_lines.proofs.read_reward.Statement.{statement}
 use Rattle.diagram_lines.proofs.read_reward.Tie as tie
 
 draw-closed-requires : tie.Need-draw-closed-requires
-draw-closed-requires c κs = (reward-drawable (c .before .before .before .before .before .before .before .before .before .pre .0) ((variableCount + 1) * 2) (lit≤ tt) (c .before .before .before .first-word .ensures) (c .before .before .before .before .before .before .before .before .before .pre .1), refl)
+draw-closed-requires c κs =
+    let first = c .before .before .before in
+    let start = first .before .before .before .before .before .before in
+    (reward-drawable (start .pre .0) ((variableCount + 1) * 2) (lit≤ tt) (first .first-word .ensures) (start .pre .1), refl)
 
 returns : tie.Need-returns
-returns c = reward-reads (c .before .before .before .before .before .before .before .before .before .before .before .before .before .before .before .before .pre .0) (c .before .before .before .before .before .before .before .before .before .before .first-word .ensures) (c .before .before .before .before .before .before .draw-closed .ensures) (c .room .ensures)
+returns c =
+    let drawn = c .before .before .before .before .before .before in
+    let first = drawn .before .before .before .before in
+    reward-reads (first .before .before .before .before .before .before .pre .0) (first .first-word .ensures) (drawn .draw-closed .ensures) (c .room .ensures)
 
 pub read-reward-spec : {M : Type 1} → statement M
 read-reward-spec =

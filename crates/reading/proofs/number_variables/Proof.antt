@@ -2,7 +2,6 @@
 use Rattle.reading.proofs.GatherCode.{Gathering, gathering-start, gathering-end, gathering-other, gathering-shrinks, gathering-more, gathering-over}
 use lib.ListN.{length}
 use Prim.Native.Nat.{_-_}
-use mathlib.Core.Path.{_∙_}
 use borrow.Author.Needs.{needs}
 use Rattle.reading.proofs.number_variables.Statement.{statement}
 use Rattle.reading.proofs.number_variables.Tie as tie
@@ -34,4 +33,5 @@ returns-3 c = search gathering-over
 pub number-variables-spec : {M : Type 1} → statement M
 number-variables-spec =
     tie.close
-    (tie.spec Inv-loop μ-loop loop-holds (λ c κs. search needs) (λ c κs. search needs) (λ c. search needs) returns (λ c κs. search needs) (λ c κs. search needs) (λ c. search needs) (λ c. search needs) (λ c. search needs) returns-2 loop-less loop-again (λ c. search needs) returns-3)
+    (tie.spec Inv-loop μ-loop loop-holds (λ c κs. search needs) (λ c κs. search needs) (λ c. search needs) returns
+    (λ c κs. search needs) (λ c κs. search needs) (λ c. search needs) (λ c. search needs) (λ c. search needs) returns-2 loop-less loop-again (λ c. search needs) returns-3)

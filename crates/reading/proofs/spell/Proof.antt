@@ -1,7 +1,6 @@
 -- `reading::spell` meets its contract. Assumes nothing.
 use Rattle.reading.proofs.NumberCode.{Spelling, spell-start, spell-zero, spell-end, spell-more}
 use Prim.Native.Nat.{_-_}
-use native.Mathlib.Omega.{arith}
 use borrow.Author.Needs.{needs}
 use Rattle.reading.proofs.spell.Statement.{statement}
 use Rattle.reading.proofs.spell.Tie as tie
@@ -27,4 +26,5 @@ returns-2 c = search spell-end
 pub spell-spec : {M : Type 1} → statement M
 spell-spec =
     tie.close
-    (tie.spec Inv-loop μ-loop loop-holds (λ c. search needs) (λ c. search needs) returns (λ c. search needs) (λ c. search needs) (λ c. search needs) (λ c. search needs) (λ c. search needs) loop-again (λ c. search needs) (λ c. search needs) returns-2)
+    (tie.spec Inv-loop μ-loop loop-holds (λ c. search needs) (λ c. search needs) returns
+    (λ c. search needs) (λ c. search needs) (λ c. search needs) (λ c. search needs) (λ c. search needs) loop-again (λ c. search needs) (λ c. search needs) returns-2)
