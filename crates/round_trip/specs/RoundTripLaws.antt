@@ -72,7 +72,7 @@ built-same : (d : Diagram) → Ordered d → Reduced d → diagramFor (readingOf
 built-same d o r =
     canonicity (diagramFor (readingOf d)) d (ordered-for (readingOf d)) (reduced-for (readingOf d)) o r (λ c. eval-for c (readingOf d) ∙ reading-means c d)
 
-reading-depth : (d : Diagram) → depth (readingOf d) ≤ openBrackets d
+pub reading-depth : (d : Diagram) → depth (readingOf d) ≤ openBrackets d
 unfolding readingOf openBrackets
 reading-depth (leaf v) = omega arith
 reading-depth (branch l t f) = omega (arith, reading-depth t, reading-depth f)
