@@ -1,0 +1,1 @@
+// What every session names is declared (document 02, L2). What is said, and the theorems, stand in specs/.
