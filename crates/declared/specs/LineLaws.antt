@@ -217,10 +217,13 @@ module _ (σ : Session) (h : DeclaredSession σ) where
           constants = h .constants;
           predicates = h .predicates;
           in-reward = h .in-reward;
-          in-actions = added (record { weight = x; truths = noTruths }) (record { weight = w; truths = λ q y e. absurd (let z : _≡_ {A = ℕ} 0 1 = cc in omega arith) }) (σ .model .actions) (h .in-actions);
+          in-actions = added (record { weight = x; truths = noTruths }) (weighted x w) (σ .model .actions) (h .in-actions);
           in-value = h .in-value;
         })) .given)
       where
+        weighted : (x : Diagram) → Named x → NamedVariant (record { weight = x; truths = noTruths })
+        weighted x w = record { weight = w; truths = λ q y e. absurd (let z : _≡_ {A = ℕ} 0 1 = cc in omega arith) }
+
         added : (v : Variant) → NamedVariant v → (l : List Action) → NamedActions l → NamedActions (addVariant l v)
         added v w [] g = tt
         added v w (a ∷ []) g = (every-more _ (a .variants) v (g .0) w, tt)
@@ -286,7 +289,8 @@ module _ (σ : Session) (h : DeclaredSession σ) where
     backup-line x e =
         let b = good .begun run in
         answered-declared (backup (σ .model) (σ .held .steps) (σ .held .diagram)) (suc (σ .held .steps)) x
-        (backup-declared (σ .model) (length (σ .names .constants)) (length (σ .names .predicates)) (b .good) (σ .held .diagram) (b .value) (h .in-value) (h .in-reward) (h .in-actions) (σ .held .steps)) e
+        (backup-declared (σ .model) (length (σ .names .constants)) (length (σ .names .predicates)) (b .good) (σ .held .diagram) (b .value) (h .in-value)
+        (h .in-reward) (h .in-actions) (σ .held .steps)) e
 
     cut-line : DeclaredSession (withHeld σ (σ .part) (cutLine (σ .model .arities) (σ .held)))
     unfolding cutLine
@@ -295,7 +299,8 @@ module _ (σ : Session) (h : DeclaredSession σ) where
         go : (x : Cut) → DeclaredSession (withHeld σ (σ .part) (cutTo (σ .model .arities) (σ .held) x))
         go (C.Done k e n) =
             let b = good .begun run in
-            held-declared (cutTo (σ .model .arities) (σ .held) (C.Done k e n)) (cut-declared (σ .model) (length (σ .names .constants)) (length (σ .names .predicates)) (b .good) (σ .held .diagram) (b .value) (h .in-value) k (isTrueEdge e))
+            held-declared (cutTo (σ .model .arities) (σ .held) (C.Done k e n))
+            (cut-declared (σ .model) (length (σ .names .constants)) (length (σ .names .predicates)) (b .good) (σ .held .diagram) (b .value) (h .in-value) k (isTrueEdge e))
         go (C.Refused r) = h
 
 -- ===== Any line =====

@@ -228,4 +228,5 @@ module _ (σ : Names) (fit : NamesFit σ) where
         let h = reward-held ar (r .tree) .given x (sym (built-reward ar (r .tree) (omega (arith, r .shallow))) ∙ ap (builtClosed ar) (sym (r .operations)) ∙ m) in
         let q = proper-asked ar c p _ (r .tree) (r .good) (diagram-asks d vs _ (r .stands .resolved)) in
         subst (Declares ar c p) (sym (h .is))
-        (proper-declared ar c p (Constant c) (λ t k. k) (closed ar (diagramFor (r .tree))) (closed-proper ar (fit .arity-list) p (Constant c) (λ t k i. absurd (omega arith)) (diagramFor (r .tree)) (labels-for _ (r .tree) q)))
+        (proper-declared ar c p (Constant c) (λ t k. k) (closed ar (diagramFor (r .tree)))
+        (closed-proper ar (fit .arity-list) p (Constant c) (λ t k i. absurd (omega arith)) (diagramFor (r .tree)) (labels-for _ (r .tree) q)))

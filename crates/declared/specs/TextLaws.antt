@@ -30,7 +30,8 @@ module _ (ar : List ℕ) (c p n m : ℕ) (constants : c ≤ n) (predicates : p �
   unfolding atomOf
   covers-constants (leaf v) w = tt
   covers-constants (branch l t f) w =
-      (each-in (Constant n) ar l (Each-mono (Constant c) (Constant n) (λ t h i. let j = h i in omega arith) (termsOf ar (unpacked l)) (w .0 .constants)), covers-constants t (w .1), covers-constants f (w .2))
+      let more = Each-mono (Constant c) (Constant n) (λ t h i. let j = h i in omega arith) (termsOf ar (unpacked l)) (w .0 .constants) in
+      (each-in (Constant n) ar l more, covers-constants t (w .1), covers-constants f (w .2))
 
   covers-predicates : (d : Diagram) → Declares ar c p d → Labels (λ l. predicateOf l ≤ m) d
   covers-predicates (leaf v) w = tt
