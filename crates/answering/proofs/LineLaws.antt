@@ -2,7 +2,7 @@
 use Prim.Native.Nat.{ℕ, zero, suc, _+_, _*_, _-_, _≤_, _<_}
 use mathlib.Core.Path.{_≡_, refl, sym, ap, subst, _∙_}
 use mathlib.Core.Bool.{Bool, true, false, cond}
-use mathlib.Core.List.{List, _++_}
+use mathlib.Core.List.{List, [], _++_}
 use native.Mathlib.Omega.{arith}
 use native.Mathlib.Numerals.{add-one}
 use borrow.Author.Tests.{eq-eqb, ne-eqb, le-leb, lt-leb, leb-true, leb-false}
@@ -16,11 +16,11 @@ use Rattle.diagram.specs.Sizes.{mostRows}
 use Rattle.diagram.specs.Words.{labelAt, highAt, lowAt}
 use Rattle.cutting.specs.declared.Edge.{Edge}
 use Rattle.answers.specs.declared.Answer.{Answer}
-use Rattle.answers.specs.declared.Answer.the-variants.{Value, Backup, Cut, Reduce, Refused, Show, Nothing}
+use Rattle.answers.specs.declared.Answer.the-variants.{Value, Backup, Cut, Reduce, Refused, Show, Text, Nothing}
 use Rattle.answers.specs.declared.Put.{Put}
 use Rattle.answers.specs.declared.Put.the-variants.{At, Full}
 use Rattle.answers.specs.Answers.{field, edgeField, leafField, lineEnd, valueHead, backupHead, cutHead, reduceHead, refusedHead, rowHead, answerLine, rowLine, rowLineAt, rowLines, answerBytes}
-use Rattle.answers.specs.Writing.{IsWord, lineBytes, mostBytes, putAnswer, putResult, Placed, Showable}
+use Rattle.answers.specs.Writing.{IsWord, lineBytes, mostBytes, putAnswer, putResult, Placed, Showable, Plain}
 use Rattle.answers.specs.AnswerLaws.{answer-short}
 use Rattle.answering.specs.Wrote.{Wrote, WroteWithin}
 use Rattle.answering.proofs.WriteLaws.{wrote-nothing, wrote-then, one-field, three-fields, four-fields, of-word, wider}
@@ -91,6 +91,10 @@ module _ {s s′ : List ℕ} {r : ℕ} {answer : Answer} where
 pub line-show : (s : List ℕ) {answer : Answer} {n : ℕ} → answer ≡ Show n → WroteWithin s 0 (answerLine answer) lineBytes 0 s
 unfolding answerLine
 line-show s e = rw e (record { wrote = wrote-nothing s 0; within = omega arith })
+
+pub line-text : (s : List ℕ) {answer : Answer} {n : ℕ} → answer ≡ Text n → WroteWithin s 0 (answerLine answer) lineBytes 0 s
+unfolding answerLine
+line-text s e = rw e (record { wrote = wrote-nothing s 0; within = omega arith })
 
 pub line-none : (s : List ℕ) {answer : Answer} → answer ≡ Nothing → WroteWithin s 0 (answerLine answer) lineBytes 0 s
 unfolding answerLine
@@ -243,52 +247,56 @@ module _ (s w : List ℕ) (place : ℕ) {x : Put} (p : x ≡ putAnswer (length s
 -- the rows of a listing, in bytes
 pub rows-short : (ws : List ℕ) (n : ℕ) → ((i : ℕ) → IsWord (getD ws i 0)) → n ≤ mostRows → length (rowLines ws n) ≤ mostBytes
 unfolding answerBytes
-rows-short ws n g h = answer-short ws (Show n) g h
+rows-short ws n g h = answer-short ws [] (Show n) g h tt
 
 -- an answer's bytes are put, and are at most as many as any answer's
 abbrev pub PutShort : List ℕ → ℕ → List ℕ → Answer → Put → List ℕ → Type 0
 PutShort s place ws answer r s′ =
-    Placed s place (answerBytes ws answer) r s′ × (((n : ℕ) → answer ≡ Show n → n ≤ mostRows) → length (answerBytes ws answer) ≤ mostBytes)
+    Placed s place (answerBytes ws [] answer) r s′ × (((n : ℕ) → answer ≡ Show n → n ≤ mostRows) → length (answerBytes ws [] answer) ≤ mostBytes)
 
 abbrev LineShort : List ℕ → ℕ → Answer → Put → List ℕ → Type 0
 LineShort s place answer r s′ = Placed s place (answerLine answer) r s′ × (length (answerLine answer) ≤ lineBytes)
 
 -- one line: its bytes are the answer's
-as-line : {s s′ : List ℕ} (ws : List ℕ) {place : ℕ} (answer : Answer) {r : Put} → answerBytes ws answer ≡ answerLine answer → LineShort s place answer r s′ → PutShort s place ws answer r s′
+as-line : {s s′ : List ℕ} (ws : List ℕ) {place : ℕ} (answer : Answer) {r : Put} → answerBytes ws [] answer ≡ answerLine answer → LineShort s place answer r s′ → PutShort s place ws answer r s′
 as-line {s} {s′} ws {place} answer {r} e p =
     (subst (λ (w : List ℕ). Placed s place w r s′) (sym e) (p .0), λ few. omega (arith, p .1, ap length e))
 
 module _ {s s′ : List ℕ} (ws : List ℕ) {place : ℕ} {answer : Answer} {r : Put} where
   pub put-value : {v k n : ℕ} → answer ≡ Value v k n → LineShort s place answer r s′ → PutShort s place ws answer r s′
   unfolding answerBytes
-  put-value e p = as-line ws answer (ap (answerBytes ws) e ∙ sym (ap answerLine e)) p
+  put-value e p = as-line ws answer (ap (answerBytes ws []) e ∙ sym (ap answerLine e)) p
 
   pub put-backup : {k n : ℕ} → answer ≡ Backup k n → LineShort s place answer r s′ → PutShort s place ws answer r s′
   unfolding answerBytes
-  put-backup e p = as-line ws answer (ap (answerBytes ws) e ∙ sym (ap answerLine e)) p
+  put-backup e p = as-line ws answer (ap (answerBytes ws []) e ∙ sym (ap answerLine e)) p
 
   pub put-cut : {i n : ℕ} {g : Edge} → answer ≡ Cut i g n → LineShort s place answer r s′ → PutShort s place ws answer r s′
   unfolding answerBytes
-  put-cut e p = as-line ws answer (ap (answerBytes ws) e ∙ sym (ap answerLine e)) p
+  put-cut e p = as-line ws answer (ap (answerBytes ws []) e ∙ sym (ap answerLine e)) p
 
   pub put-reduce : {n : ℕ} → answer ≡ Reduce n → LineShort s place answer r s′ → PutShort s place ws answer r s′
   unfolding answerBytes
-  put-reduce e p = as-line ws answer (ap (answerBytes ws) e ∙ sym (ap answerLine e)) p
+  put-reduce e p = as-line ws answer (ap (answerBytes ws []) e ∙ sym (ap answerLine e)) p
 
   pub put-refused : {w : Refusal} {n : ℕ} → answer ≡ Refused w n → LineShort s place answer r s′ → PutShort s place ws answer r s′
   unfolding answerBytes
-  put-refused e p = as-line ws answer (ap (answerBytes ws) e ∙ sym (ap answerLine e)) p
+  put-refused e p = as-line ws answer (ap (answerBytes ws []) e ∙ sym (ap answerLine e)) p
 
   pub put-none : answer ≡ Nothing → LineShort s place answer r s′ → PutShort s place ws answer r s′
   unfolding answerBytes answerLine
-  put-none e p = as-line ws answer (ap (answerBytes ws) e ∙ sym (ap answerLine e)) p
+  put-none e p = as-line ws answer (ap (answerBytes ws []) e ∙ sym (ap answerLine e)) p
 
   -- the rows of a listing
   pub put-show : {n : ℕ} → answer ≡ Show n → Placed s place (rowLines ws n) r s′ × (n ≤ mostRows → length (rowLines ws n) ≤ mostBytes) → PutShort s place ws answer r s′
   unfolding answerBytes
   put-show {n} e p =
-      let b : answerBytes ws answer ≡ rowLines ws n = ap (answerBytes ws) e in
+      let b : answerBytes ws [] answer ≡ rowLines ws n = ap (answerBytes ws []) e in
       (subst (λ (w : List ℕ). Placed s place w r s′) (sym b) (p .0), λ few. omega (arith, p .1 (few n e), ap length b))
+
+-- a form is put elsewhere
+pub put-form : {s s′ : List ℕ} (ws : List ℕ) {place : ℕ} {answer : Answer} {r : Put} {n : ℕ} → answer ≡ Text n → Plain answer → PutShort s place ws answer r s′
+put-form ws e p = absurd (subst Plain e p)
 
 pub shown-there : (ws : List ℕ) {answer : Answer} {n : ℕ} → Showable ws answer → answer ≡ Show n → n * 3 ≤ length ws
 shown-there ws p e = subst (Showable ws) e p

@@ -5,13 +5,13 @@ use cutting::Edge;
 use label::Label;
 ghost use mathlib.Core.Path.{_≡_};
 ghost use Prim.Native.Nat.{ℕ, _+_, _*_, _≤_};
-ghost use mathlib.Core.List.{_++_};
+ghost use mathlib.Core.List.{[], _++_};
 ghost use lib.ListN.{length};
 ghost use Rattle.diagram.specs.Sizes.{mostRows};
 ghost use Rattle.answers.specs.declared.Answer.the-variants.{Show};
 ghost use Rattle.answers.specs.Digits.{digits};
 ghost use Rattle.answers.specs.Answers.{field, edgeField, leafField, valueHead, cutHead, reduceHead, rowHead, lineEnd, rowLineAt, rowLines, answerLine, answerBytes};
-ghost use Rattle.answers.specs.Writing.{lineBytes, mostBytes, putAnswer, Placed, Showable};
+ghost use Rattle.answers.specs.Writing.{lineBytes, mostBytes, putAnswer, Placed, Showable, Plain};
 ghost use Rattle.answering.specs.Wrote.{Wrote, WroteWithin};
 
 // The bytes of a line at most: a word, four numbers and the signs between them.
@@ -162,6 +162,7 @@ fn answer_line(line: &mut [u8], answer: Answer) -> usize
         Answer::Reduce(rows) => reduce_line(line, rows),
         Answer::Refused(why, number) => pair_line(line, b"(refused", why.number(), number),
         Answer::Show(_) => 0,
+        Answer::Text(_) => 0,
         Answer::Nothing => 0,
     }
 }
@@ -242,12 +243,13 @@ fn put_one(out: &mut [u8], at: usize, answer: Answer) -> Put
     put_line(out, at, &line[..n])
 }
 
-// Puts an answer's bytes at a place, if there is room; the value's listing begins the words. An answer that shows as many rows as a listing may have, or
+// Puts the bytes of an answer that is no form at a place, if there is room; the value's listing begins the words. An answer that shows as many rows as a listing may have, or
 // none, has at most MOST_BYTES.
 pub fn put_answer(out: &mut [u8], at: usize, words: &[u64], answer: Answer) -> Put
     requires { ⌜ Showable (now words) answer ⌝ }
-    ensures { λ r. ⌜ Placed (now (out .entry)) at (answerBytes (now (words .entry)) answer) r (now (out .exit)) ⌝ }
-    ensures { λ r. ⌜ (((n : ℕ) → answer ≡ Show n → n ≤ mostRows) → length (answerBytes (now (words .entry)) answer) ≤ mostBytes) ⌝ }
+    requires { ⌜ Plain answer ⌝ }
+    ensures { λ r. ⌜ Placed (now (out .entry)) at (answerBytes (now (words .entry)) [] answer) r (now (out .exit)) ⌝ }
+    ensures { λ r. ⌜ (((n : ℕ) → answer ≡ Show n → n ≤ mostRows) → length (answerBytes (now (words .entry)) [] answer) ≤ mostBytes) ⌝ }
 {
     match answer {
         Answer::Value(_, _, _) => put_one(out, at, answer),
@@ -256,6 +258,7 @@ pub fn put_answer(out: &mut [u8], at: usize, words: &[u64], answer: Answer) -> P
         Answer::Reduce(_) => put_one(out, at, answer),
         Answer::Refused(_, _) => put_one(out, at, answer),
         Answer::Show(n) => put_rows(out, at, words, n),
+        Answer::Text(_) => put_one(out, at, answer),
         Answer::Nothing => put_one(out, at, answer),
     }
 }

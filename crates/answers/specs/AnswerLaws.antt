@@ -1,8 +1,8 @@
 -- How many bytes an answer has at most, so that a buffer has room for it.
 use Prim.Native.Nat.{ℕ, zero, suc, _+_, _*_, _≤_}
-use mathlib.Core.Path.{_≡_}
+use mathlib.Core.Path.{_≡_, refl}
 use mathlib.Core.Bool.{Bool, true, false, cond}
-use mathlib.Core.List.{List, _++_}
+use mathlib.Core.List.{List, [], _++_}
 use native.Mathlib.Omega.{arith}
 use lib.Dec.{eqb}
 use lib.ListN.{length, getD, length-append}
@@ -37,10 +37,10 @@ use Rattle.diagram.specs.Words.{labelAt, highAt, lowAt}
 use Rattle.cutting.specs.declared.Edge.{Edge}
 use Rattle.cutting.specs.declared.Edge.the-variants.{True, False}
 use Rattle.answers.specs.declared.Answer.{Answer}
-use Rattle.answers.specs.declared.Answer.the-variants.{Value, Backup, Cut, Reduce, Refused, Show, Nothing}
+use Rattle.answers.specs.declared.Answer.the-variants.{Value, Backup, Cut, Reduce, Refused, Show, Text, Nothing}
 use Rattle.answers.specs.DigitLaws.{digits-short}
 use Rattle.answers.specs.Answers.{field, edgeField, leafField, lineEnd, valueHead, backupHead, cutHead, reduceHead, refusedHead, rowHead, answerLine, rowLine, rowLineAt, rowLines, answerBytes}
-use Rattle.answers.specs.Writing.{IsWord, OfWords, lineBytes, mostBytes}
+use Rattle.answers.specs.Writing.{Plain, IsWord, OfWords, lineBytes, mostBytes}
 
 field-short : (v : ℕ) → IsWord v → length (field v) ≤ 21
 unfolding field
@@ -96,6 +96,7 @@ line-short (Reduce n) h = omega (arith, three-short reduceHead (field n) lineEnd
 line-short (Refused r line) h =
     omega (arith, four-short refusedHead (field (numberOf r)) (field line) lineEnd, field-short (numberOf r) (number-word r), field-short line h)
 line-short (Show n) h = omega arith
+line-short (Text n) h = omega arith
 line-short Nothing h = omega arith
 
 -- and so has a row's line
@@ -127,13 +128,26 @@ rows-short ws (suc n) g h =
       row-short n (labelAt ws n) (highAt ws n) (lowAt ws n) (omega arith) (g (n * 3)) (g (n * 3 + 1)) (g (n * 3 + 2)),
     )
 
--- no answer has more bytes than 1,024 rows may have
-pub answer-short : (ws : List ℕ) (a : Answer) → ((i : ℕ) → IsWord (getD ws i 0)) → OfWords a → length (answerBytes ws a) ≤ mostBytes
+-- an answer that is no form has its bytes whatever the value's form is
+pub plain-bytes : (ws form : List ℕ) (a : Answer) → Plain a → answerBytes ws form a ≡ answerBytes ws [] a
 unfolding answerBytes
-answer-short ws (Value v k s) g h = omega (arith, line-short (Value v k s) h)
-answer-short ws (Backup k n) g h = omega (arith, line-short (Backup k n) h)
-answer-short ws (Cut i e n) g h = omega (arith, line-short (Cut i e n) h)
-answer-short ws (Reduce n) g h = omega (arith, line-short (Reduce n) h)
-answer-short ws (Refused r line) g h = omega (arith, line-short (Refused r line) h)
-answer-short ws (Show n) g h = omega (arith, rows-short ws n g (omega arith))
-answer-short ws Nothing g h = omega arith
+plain-bytes ws form (Value v k s) p = refl
+plain-bytes ws form (Backup k n) p = refl
+plain-bytes ws form (Cut i e n) p = refl
+plain-bytes ws form (Reduce n) p = refl
+plain-bytes ws form (Refused r line) p = refl
+plain-bytes ws form (Show n) p = refl
+plain-bytes ws form (Text n) p = absurd p
+plain-bytes ws form Nothing p = refl
+
+-- no answer but a form has more bytes than 1,024 rows may have
+pub answer-short : (ws form : List ℕ) (a : Answer) → ((i : ℕ) → IsWord (getD ws i 0)) → OfWords a → Plain a → length (answerBytes ws form a) ≤ mostBytes
+unfolding answerBytes
+answer-short ws form (Value v k s) g h p = omega (arith, line-short (Value v k s) h)
+answer-short ws form (Backup k n) g h p = omega (arith, line-short (Backup k n) h)
+answer-short ws form (Cut i e n) g h p = omega (arith, line-short (Cut i e n) h)
+answer-short ws form (Reduce n) g h p = omega (arith, line-short (Reduce n) h)
+answer-short ws form (Refused r line) g h p = omega (arith, line-short (Refused r line) h)
+answer-short ws form (Show n) g h p = omega (arith, rows-short ws n g (omega arith))
+answer-short ws form (Text n) g h p = absurd p
+answer-short ws form Nothing g h p = omega arith

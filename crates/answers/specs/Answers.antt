@@ -1,4 +1,4 @@
--- The answers of a text (document 01, section 'A run, whole'): one line each, and for (show) a line for each row.
+-- The answers of a text (document 01, section 'A run, whole'): one line each, for (show) a line for each row, for (text) the value as a form (document 02, L2).
 use Prim.Native.Nat.{ℕ, zero, suc}
 use mathlib.Core.Bool.{cond}
 use mathlib.Core.List.{List, [], _∷_, _++_}
@@ -9,7 +9,7 @@ use Rattle.diagram.specs.Words.{labelAt, highAt, lowAt}
 use Rattle.cutting.specs.declared.Edge.{Edge}
 use Rattle.cutting.specs.declared.Edge.the-variants.{True, False}
 use Rattle.answers.specs.declared.Answer.{Answer}
-use Rattle.answers.specs.declared.Answer.the-variants.{Value, Backup, Cut, Reduce, Refused, Show, Nothing}
+use Rattle.answers.specs.declared.Answer.the-variants.{Value, Backup, Cut, Reduce, Refused, Show, Text, Nothing}
 use Rattle.answers.specs.Digits.{digits}
 
 -- a number, a space before it
@@ -45,6 +45,9 @@ refusedHead = 40 ∷ 114 ∷ 101 ∷ 102 ∷ 117 ∷ 115 ∷ 101 ∷ 100 ∷ []
 abbrev pub rowHead : List ℕ
 rowHead = 40 ∷ 114 ∷ 111 ∷ 119 ∷ []
 
+abbrev pub lineFeed : List ℕ
+lineFeed = 10 ∷ []
+
 -- `)` and a line feed
 abbrev pub lineEnd : List ℕ
 lineEnd = 41 ∷ 10 ∷ []
@@ -58,6 +61,7 @@ answerLine (Cut i e n) = cutHead ++ field i ++ edgeField e ++ field n ++ lineEnd
 answerLine (Reduce n) = reduceHead ++ field n ++ lineEnd
 answerLine (Refused r line) = refusedHead ++ field (numberOf r) ++ field line ++ lineEnd
 answerLine (Show n) = []
+answerLine (Text n) = []
 answerLine Nothing = []
 
 -- the line of row k, whose words are l, h and w. Fields: row number, label, true, false; a leaf's value behind `leaf`.
@@ -79,13 +83,15 @@ unfolding rowLineAt
 rowLines ws zero = []
 rowLines ws (suc n) = rowLines ws n ++ rowLineAt ws n
 
--- an answer's bytes, where the value's listing begins the words ws
-unfoldable pub answerBytes : List ℕ → Answer → List ℕ
+-- an answer's bytes, where the value's listing begins the words ws, and the value as a form has these bytes: (text) prints it 'with nothing around it, on one line'
+-- (document 02, L2)
+unfoldable pub answerBytes : List ℕ → List ℕ → Answer → List ℕ
 unfolding answerLine rowLines
-answerBytes ws (Value v k s) = answerLine (Value v k s)
-answerBytes ws (Backup k n) = answerLine (Backup k n)
-answerBytes ws (Cut i e n) = answerLine (Cut i e n)
-answerBytes ws (Reduce n) = answerLine (Reduce n)
-answerBytes ws (Refused r line) = answerLine (Refused r line)
-answerBytes ws (Show n) = rowLines ws n
-answerBytes ws Nothing = []
+answerBytes ws form (Value v k s) = answerLine (Value v k s)
+answerBytes ws form (Backup k n) = answerLine (Backup k n)
+answerBytes ws form (Cut i e n) = answerLine (Cut i e n)
+answerBytes ws form (Reduce n) = answerLine (Reduce n)
+answerBytes ws form (Refused r line) = answerLine (Refused r line)
+answerBytes ws form (Show n) = rowLines ws n
+answerBytes ws form (Text n) = form ++ lineFeed
+answerBytes ws form Nothing = []

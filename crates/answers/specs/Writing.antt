@@ -9,7 +9,7 @@ use Rattle.diagram.specs.Sizes.{mostRows}
 use Rattle.answers.specs.declared.Put.{Put}
 use Rattle.answers.specs.declared.Put.the-variants.{At, Full}
 use Rattle.answers.specs.declared.Answer.{Answer}
-use Rattle.answers.specs.declared.Answer.the-variants.{Value, Backup, Cut, Reduce, Refused, Show, Nothing}
+use Rattle.answers.specs.declared.Answer.the-variants.{Value, Backup, Cut, Reduce, Refused, Show, Text, Nothing}
 
 -- the bytes of a line at most: a word, four numbers and the signs between them
 abbrev pub lineBytes : ℕ
@@ -39,7 +39,19 @@ Showable ws (Cut i e n) = Unit {0}
 Showable ws (Reduce n) = Unit {0}
 Showable ws (Refused r line) = Unit {0}
 Showable ws (Show n) = n * 3 ≤ length ws
+Showable ws (Text n) = Unit {0}
 Showable ws Nothing = Unit {0}
+
+-- no form is to be printed
+abbrev pub Plain : Answer → Type 0
+Plain (Value v k s) = Unit {0}
+Plain (Backup k n) = Unit {0}
+Plain (Cut i e n) = Unit {0}
+Plain (Reduce n) = Unit {0}
+Plain (Refused r line) = Unit {0}
+Plain (Show n) = Unit {0}
+Plain (Text n) = ⊥
+Plain Nothing = Unit {0}
 
 -- a machine word
 abbrev pub IsWord : ℕ → Type 0
@@ -53,4 +65,5 @@ OfWords (Cut i e n) = IsWord i × IsWord n
 OfWords (Reduce n) = IsWord n
 OfWords (Refused r line) = IsWord line
 OfWords (Show n) = n ≤ mostRows
+OfWords (Text n) = Unit {0}
 OfWords Nothing = Unit {0}

@@ -6,7 +6,7 @@ use refusal::Refusal;
 pub const MOST_BYTES: usize = 92160;
 
 // What a line of a text is answered: value, k and S^k; k and rows; the cut row, its edge and the rows left; the rows a reduction leaves; the refusal and
-// the line's number; the rows of the value's listing to be shown; or nothing.
+// the line's number; the rows of the value's listing to be shown; the bytes of the value's form; or nothing.
 pub enum Answer {
     Value(u64, u64, u64),
     Backup(u64, usize),
@@ -14,6 +14,7 @@ pub enum Answer {
     Reduce(usize),
     Refused(Refusal, u64),
     Show(usize),
+    Text(usize),
     Nothing,
 }
 

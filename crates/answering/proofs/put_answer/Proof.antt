@@ -1,4 +1,4 @@
-use Rattle.answering.proofs.LineLaws.{put-value, put-backup, put-cut, put-reduce, put-refused, put-none, put-show, shown-there}
+use Rattle.answering.proofs.LineLaws.{put-value, put-backup, put-cut, put-reduce, put-refused, put-none, put-show, put-form, shown-there}
 use borrow.Author.Needs.{needs}
 use Rattle.answering.proofs.put_answer.Statement.{statement}
 use Rattle.answering.proofs.put_answer.Tie as tie
@@ -25,12 +25,15 @@ returns-6 : tie.Need-returns-6
 returns-6 c = put-show _ (c .before .before .before .before .before .answer .given .1) (c .before .before .put-rows .ensures)
 
 returns-7 : tie.Need-returns-7
-returns-7 c = put-none _ (c .before .before .before .before .enum-told6 .given .1) (c .before .before .put-one6 .ensures)
+returns-7 c = put-form _ (c .before .before .before .before .enum-told6 .given .1) (search needs)
+
+returns-8 : tie.Need-returns-8
+returns-8 c = put-none _ (c .before .before .before .before .enum-told7 .given .1) (c .before .before .put-one7 .ensures)
 
 pub put-answer-spec : {M : Type 1} → statement M
 put-answer-spec =
     tie.close
     (tie.spec (λ c. search needs) (λ c κs. search needs) (λ c. search needs) (λ c κs. search needs) (λ c. search needs) (λ c κs. search needs)
     (λ c. search needs) (λ c κs. search needs) (λ c. search needs) (λ c κs. search needs) (λ c. search needs) put-rows-requires (λ c. search needs)
-    (λ c κs. search needs) (λ c. search needs) returns (λ c. search needs) returns-2 (λ c. search needs) returns-3 (λ c. search needs) returns-4
-    (λ c. search needs) returns-5 (λ c. search needs) returns-6 (λ c. search needs) returns-7)
+    (λ c κs. search needs) (λ c. search needs) (λ c κs. search needs) (λ c. search needs) returns (λ c. search needs) returns-2 (λ c. search needs) returns-3 (λ c. search needs) returns-4
+    (λ c. search needs) returns-5 (λ c. search needs) returns-6 (λ c. search needs) returns-7 (λ c. search needs) returns-8)
