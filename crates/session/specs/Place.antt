@@ -1,6 +1,6 @@
 -- Which line may stand in which part of a text (document 01, section 'Text').
 use Rattle.text.specs.declared.Kind.{Kind}
-use Rattle.text.specs.declared.Kind.the-variants.{Constant, Predicate, Total, Discount, Reward, Action, Variant, Becomes, Start, Objects, Is, True, Value, Backup, Cut, Show, Reduce, Bad}
+use Rattle.text.specs.declared.Kind.the-variants.{Constant, Predicate, Total, Discount, Reward, Action, Variant, Becomes, Start, Objects, Is, True, Value, Backup, Cut, Show, Reduce, Text, Bad}
 use Rattle.session.specs.declared.Part.{Part}
 use Rattle.session.specs.declared.Part.the-variants.{Model, Run}
 use Rattle.session.specs.declared.Rule.{Rule}
@@ -26,6 +26,7 @@ ruleOf Backup Model = Misplaced
 ruleOf Cut Model = Misplaced
 ruleOf Show Model = Misplaced
 ruleOf Reduce Model = Misplaced
+ruleOf Text Model = Misplaced
 ruleOf Bad Model = NoForm
 ruleOf Constant Run = Misplaced
 ruleOf Predicate Run = Misplaced
@@ -44,4 +45,5 @@ ruleOf Backup Run = Anywhere
 ruleOf Cut Run = Anywhere
 ruleOf Show Run = Anywhere
 ruleOf Reduce Run = Anywhere
+ruleOf Text Run = Anywhere
 ruleOf Bad Run = NoForm

@@ -4,7 +4,7 @@ use mathlib.Core.List.{List, []}
 use Prim.Native.Nat.{ℕ, suc, _^_}
 use lib.ListN.{length}
 use Rattle.refusal.specs.declared.Refusal.{Refusal}
-use Rattle.refusal.specs.declared.Refusal.the-variants.{Valuations}
+use Rattle.refusal.specs.declared.Refusal.the-variants.{Valuations, Length}
 use Rattle.diagram.specs.Diagram.{Diagram}
 use Rattle.diagram.specs.Rows.{rows}
 use Rattle.diagram.specs.Listing.{listing}
@@ -20,11 +20,12 @@ use Rattle.reduction.specs.Reduction.{reduceAnswer}
 use Rattle.mdp.specs.Model.{Model, scale}
 use Rattle.mdp.specs.Backup.{backup}
 use Rattle.mdp.specs.Runs.{Held, begin}
+use Rattle.diagram_form.specs.Form.{Tables, tablesOf, formLength, isTooLong}
 use Rattle.answers.specs.declared.Answer.{Answer}
 use Rattle.answers.specs.declared.Answer.the-variants as A
 use Rattle.session.specs.declared.Part.{Part}
 use Rattle.session.specs.declared.Part.the-variants.{Run}
-use Rattle.session.specs.Session.{Live, Session, refuseIf}
+use Rattle.session.specs.Session.{Names, Live, Session, refuseIf}
 use Rattle.session.specs.Modelling.{weighed}
 
 -- the session with another value diagram and another k, in a part of the text
@@ -91,3 +92,14 @@ cutSays number (C.Refused r) = A.Refused r number
 unfoldable pub reduceLine : List ℕ → Held → Outcome Held
 unfolding reduceAnswer
 reduceLine ar h = andThen (reduceAnswer ar (h .diagram)) (λ d. ok (record { diagram = d; steps = h .steps }))
+
+-- ===== (text) =====
+
+-- names of constants and predicates as declared
+abbrev pub tablesIn : Names → Tables
+tablesIn n = tablesOf (n .constants) (n .predicates)
+
+-- how many bytes the value diagram has as a form; '19, the reward line made of the form would pass 4,095 bytes or 64 open brackets' (document 02, L2)
+unfoldable pub textRead : List ℕ → Names → Diagram → Outcome ℕ
+unfolding isTooLong formLength tablesOf
+textRead ar n d = refuseIf (isTooLong ar (tablesIn n) d) Length (ok (formLength ar (tablesIn n) d))

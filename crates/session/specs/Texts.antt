@@ -6,12 +6,14 @@ use lib.ListN.{length}
 use lib.Dec.{eqb, ltb}
 use Rattle.refusal.specs.declared.Refusal.the-variants.{Form, Place}
 use Rattle.diagram.specs.Listing.{listing}
+use Rattle.diagram_form.specs.Form.{formBytes}
 use Rattle.answers.specs.declared.Answer.{Answer}
 use Rattle.answers.specs.declared.Answer.the-variants.{Refused}
 use Rattle.answers.specs.Answers.{answerBytes, answerLine}
 use Rattle.session.specs.declared.Part.{Part}
 use Rattle.session.specs.declared.Part.the-variants.{Model, Run}
 use Rattle.session.specs.Session.{Session, opening}
+use Rattle.session.specs.Running.{tablesIn}
 use Rattle.session.specs.Replies.{Reply, reply, refusal}
 
 -- 'line feed at the end'
@@ -47,10 +49,14 @@ pub record Progress : Type 0 where
   pub met : Bool
   pub bytes : List ℕ
 
--- the bytes of a reply; (show) shows the value diagram's listing
+-- the value diagram as one nested form (document 02, L2)
+unfoldable pub valueForm : Session → List ℕ
+valueForm σ = formBytes (σ .model .arities) (tablesIn (σ .names)) (σ .held .diagram)
+
+-- the bytes of a reply; (show) shows the value diagram's listing, (text) prints its form
 unfoldable pub replyBytes : Reply → List ℕ
-unfolding answerBytes listing
-replyBytes r = answerBytes (listing (r .session .held .diagram)) (r .answer)
+unfolding answerBytes listing valueForm
+replyBytes r = answerBytes (listing (r .session .held .diagram)) (valueForm (r .session)) (r .answer)
 
 -- one reply more, to a line with bytes or to a blank one
 abbrev pub replied : Progress → Bool → Reply → Progress

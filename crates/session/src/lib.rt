@@ -54,6 +54,7 @@ pub fn rule_of(kind: Kind, part: Part) -> Rule
             Kind::Cut => Rule::Misplaced,
             Kind::Show => Rule::Misplaced,
             Kind::Reduce => Rule::Misplaced,
+            Kind::Text => Rule::Misplaced,
             Kind::Bad => Rule::NoForm,
         },
         Part::Run => match kind {
@@ -74,6 +75,7 @@ pub fn rule_of(kind: Kind, part: Part) -> Rule
             Kind::Cut => Rule::Anywhere,
             Kind::Show => Rule::Anywhere,
             Kind::Reduce => Rule::Anywhere,
+            Kind::Text => Rule::Anywhere,
             Kind::Bad => Rule::NoForm,
         },
     }
