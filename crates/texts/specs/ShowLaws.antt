@@ -32,8 +32,8 @@ use Rattle.session.specs.Place.{ruleOf}
 use Rattle.session.specs.Declaring.{constantLine, predicateLine, totalLine, discountLine, actionLine}
 use Rattle.session.specs.Facts.{objectsLine, isLine, trueLine}
 use Rattle.session.specs.Modelling.{rewardLine, variantLine, becomesLine}
-use Rattle.session.specs.Running.{startLine, valueRead, backupLine, cutSays}
-use Rattle.session.specs.Replies.{Reply, withNames, withVocabulary, withTotal, withDiscount, withAction, withLive, allowed, quietly, valueSays, backupSays, done, placed, replyTo, reply, wordsOf}
+use Rattle.session.specs.Running.{startLine, valueRead, backupLine, cutSays, reduceLine}
+use Rattle.session.specs.Replies.{Reply, withNames, withVocabulary, withTotal, withDiscount, withAction, withLive, allowed, quietly, valueSays, backupSays, reduceSays, done, placed, replyTo, reply, wordsOf}
 
 -- ===== The bytes of an answer =====
 
@@ -55,6 +55,7 @@ unfolding answerBytes
 answers-same vs ws (A.Value v k s) h = refl
 answers-same vs ws (A.Backup k n) h = refl
 answers-same vs ws (A.Cut i e n) h = refl
+answers-same vs ws (A.Reduce n) h = refl
 answers-same vs ws (A.Refused r line) h = refl
 answers-same vs ws (A.Show n) h = h n refl
 answers-same vs ws A.Nothing h = refl
@@ -63,6 +64,7 @@ pub showable : (ws : List ℕ) (a : Answer) → ((n : ℕ) → a ≡ A.Show n �
 showable ws (A.Value v k s) h = tt
 showable ws (A.Backup k n) h = tt
 showable ws (A.Cut i e n) h = tt
+showable ws (A.Reduce n) h = tt
 showable ws (A.Refused r line) h = tt
 showable ws (A.Show n) h = h n refl
 showable ws A.Nothing h = tt
@@ -87,6 +89,10 @@ backup-quiet σ number (refused r) T n e = unequal T (cc)
 cut-quiet : (number : ℕ) (c : Cut) (T : Type 0) (n : ℕ) → cutSays number c ≡ A.Show n → T
 cut-quiet number (C.Done k e n) T m p = unequal T (cc)
 cut-quiet number (C.Refused r) T m p = unequal T (cc)
+
+reduce-quiet : (σ : Session) (number : ℕ) (o : Outcome Held) (T : Type 0) (n : ℕ) → reduceSays σ number o .answer ≡ A.Show n → T
+reduce-quiet σ number (ok v) T n e = unequal T (cc)
+reduce-quiet σ number (refused r) T n e = unequal T (cc)
 
 done-shows : (σ : Session) (number : ℕ) (k : Kind) (es : List Event) (n : ℕ) → done σ number k es .answer ≡ A.Show n → k ≡ K.Show
 unfolding done
@@ -120,6 +126,7 @@ done-shows σ number K.Value es n e = value-quiet σ number (valueRead (σ .mode
 done-shows σ number K.Backup es n e = backup-quiet σ number (backupLine (σ .model) (σ .held)) _ n e
 done-shows σ number K.Cut es n e = cut-quiet number (diagramAnswer (σ .model .arities) (σ .held .diagram)) _ n e
 done-shows σ number K.Show es n e = refl
+done-shows σ number K.Reduce es n e = reduce-quiet σ number (reduceLine (σ .model .arities) (σ .held)) _ n e
 done-shows σ number K.Bad es n e = unequal _ (cc)
 
 -- (show) is of the run, answers the diagram's rows, and leaves the session
