@@ -8,6 +8,7 @@ use label::Label;
 use label::Term;
 use libc::STDIN_FILENO;
 use libc::STDOUT_FILENO;
+use reduction::Reduced;
 use refusal::Refusal;
 use regression::Freed;
 use regression::Regressed;
@@ -44,6 +45,9 @@ const SKIP: u64 = 1;
 
 // A chain's tests of two constants.
 const GROUND: u64 = 2048;
+
+// The kind of `reduce`, which is told from `regress` by its third letter.
+const REDUCE: u8 = b'd';
 
 // What a term weighs in the first place of a label and in the second.
 const FIRST_PLACE: u64 = Label::PREDICATE_WEIGHT / Term::BASE;
@@ -304,6 +308,13 @@ fn tell_cut(answer: Cut) -> usize {
     }
 }
 
+fn tell_reduced(answer: Reduced) -> usize {
+    match answer {
+        Reduced::Done(rows) => tell_rows(rows),
+        Reduced::Refused(why) => tell_refusal(why),
+    }
+}
+
 fn tell_value(answer: Valued) -> usize {
     match answer {
         Valued::Value(v) => {
@@ -375,6 +386,9 @@ fn call(
     }
     if kind == b'c' {
         return tell_cut(cut::cut(arities, x, out, work));
+    }
+    if kind == REDUCE {
+        return tell_reduced(reduce::reduce(arities, x, out, work));
     }
     combine(desk, kind, arities, out, work)
 }
@@ -556,12 +570,29 @@ fn size(rest: &[u8]) -> usize
     i
 }
 
+// The kind of a line: its first letter.
+fn kind_of(line: &[u8]) -> u8
+    requires { ⌜ 0 < length (now line) ⌝ }
+{
+    let first = line[0];
+    if first != b'r' {
+        return first;
+    }
+    if line.len() < 3 {
+        return first;
+    }
+    if line[2] == b'd' {
+        return REDUCE;
+    }
+    first
+}
+
 fn run(text: &[u8], desk: &mut [u64]) {
     let mut at = 0;
     while at < text.len() {
         let rest = &text[at..];
         let n = size(rest);
-        run_line(begin(rest, n), desk, rest[0]);
+        run_line(begin(rest, n), desk, kind_of(rest));
         at += n;
     }
 }
