@@ -21,14 +21,17 @@ use Rattle.cutting.specs.declared.Edge.{Edge}
 use Rattle.cutting.specs.declared.Cut.{Cut}
 use Rattle.cutting.specs.declared.Cut.the-variants.{Done as CutDone, Refused as CutRefused}
 use Rattle.cutting.specs.Cut.{cutAnswer, cutBuffer}
+use Rattle.reduction.specs.declared.Reduced.{Reduced}
+use Rattle.reduction.specs.declared.Reduced.the-variants.{Done as ReducedDone, Refused as ReducedRefused}
+use Rattle.reduction.specs.Reduction.{reduceCall, answerOf, bufferOf}
 use Rattle.state.specs.declared.Valued.{Valued}
 use Rattle.state.specs.declared.Valued.the-variants.{Value, Refused as ValuedRefused}
 use Rattle.elimination.specs.Answer.{valueAnswer}
 use Rattle.texts.specs.declared.Ran.{Ran}
 use Rattle.texts.specs.declared.Ran.the-variants.{Done as RanDone, Full}
 use Rattle.texts.specs.Running.{filled, Fills}
-use Rattle.c_library.specs.Answers.{combinedNumber, combinedRows, combinedPairs, regressedNumber, regressedRows, freedNumber, freedRows, cutNumber, cutRow, edgeNumber, cutEdge, cutRows, valuedNumber, valuedValue, listingNumber, fullNumber, ranNumber, ranBytes, ranLines}
-use Rattle.c_library.specs.Calls.{Combines, Regresses, Frees, Cuts, Values, Runs}
+use Rattle.c_library.specs.Answers.{combinedNumber, combinedRows, combinedPairs, regressedNumber, regressedRows, freedNumber, freedRows, cutNumber, cutRow, edgeNumber, cutEdge, cutRows, reducedNumber, reducedRows, valuedNumber, valuedValue, listingNumber, fullNumber, ranNumber, ranBytes, ranLines}
+use Rattle.c_library.specs.Calls.{Combines, Regresses, Frees, Cuts, Reduces, Values, Runs}
 
 module _ {op : Operation} {names : Names} {ar x y out work : List ℕ} (rows pairs : ℕ) {a : Combined} {out′ : List ℕ}
     (q : a ≡ combineAnswer op names ar x y (length out) (length work)) (b : out′ ≡ combineResult op names ar x y (length work) out) where
@@ -75,6 +78,14 @@ module _ {ar words out work : List ℕ} (row edge rows : ℕ) {a : Cut} {out′ 
     edge-cut = ap (λ (z : Cut). cutEdge z edge) (sym e ∙ q);
     row-count = ap (λ (z : Cut). cutRows z rows) (sym e ∙ q);
   }
+
+module _ {ar words out work : List ℕ} (rows : ℕ) {a : Reduced} {out′ : List ℕ}
+    (q : a ≡ answerOf (reduceCall ar words (length out) (length work))) (b : out′ ≡ bufferOf out (reduceCall ar words (length out) (length work))) where
+  pub reduced-done : {n : ℕ} → a ≡ ReducedDone n → Reduces ar words out work rows 0 out′ n
+  reduced-done e = record { answer = ap reducedNumber (sym e ∙ q); buffer = b; row-count = ap (λ (z : Reduced). reducedRows z rows) (sym e ∙ q) }
+
+  pub reduced-refused : {why : Refusal} {k : ℕ} → a ≡ ReducedRefused why → k ≡ numberOf why → Reduces ar words out work rows k out′ rows
+  reduced-refused e h = record { answer = h ∙ ap reducedNumber (sym e ∙ q); buffer = b; row-count = ap (λ (z : Reduced). reducedRows z rows) (sym e ∙ q) }
 
 module _ {ar words : List ℕ} {count : ℕ} {out work : List ℕ} (rows : ℕ) {a : Freed} {out′ : List ℕ}
     (q : a ≡ freeAnswer ar words count (length out) (length work)) (b : out′ ≡ freeResult ar words count (length work) out) where

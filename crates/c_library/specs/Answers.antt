@@ -1,5 +1,5 @@
 -- An answer as numbers: 0 for an accepted call and the refusal's number for a refused one; counts and values that a refusal leaves as they were (document 01, section 'Refusals by
--- trade word').
+-- trade word'; document 02, L13).
 use mathlib.Core.Bool.{Bool, true, false}
 use Prim.Native.Nat.{ℕ}
 use Rattle.refusal.specs.Numbers.{numberOf}
@@ -14,6 +14,8 @@ use Rattle.cutting.specs.declared.Edge.{Edge}
 use Rattle.cutting.specs.declared.Edge.the-variants.{True, False}
 use Rattle.cutting.specs.declared.Cut.{Cut}
 use Rattle.cutting.specs.declared.Cut.the-variants.{Done as CutDone, Refused as CutRefused}
+use Rattle.reduction.specs.declared.Reduced.{Reduced}
+use Rattle.reduction.specs.declared.Reduced.the-variants.{Done as ReducedDone, Refused as ReducedRefused}
 use Rattle.state.specs.declared.Valued.{Valued}
 use Rattle.state.specs.declared.Valued.the-variants.{Value, Refused as ValuedRefused}
 use Rattle.texts.specs.declared.Ran.{Ran}
@@ -70,6 +72,15 @@ cutEdge (CutRefused r) before = before
 abbrev pub cutRows : Cut → ℕ → ℕ
 cutRows (CutDone k e n) before = n
 cutRows (CutRefused r) before = before
+
+-- a reduction: its number and the rows left
+abbrev pub reducedNumber : Reduced → ℕ
+reducedNumber (ReducedDone n) = 0
+reducedNumber (ReducedRefused r) = numberOf r
+
+abbrev pub reducedRows : Reduced → ℕ → ℕ
+reducedRows (ReducedDone n) before = n
+reducedRows (ReducedRefused r) before = before
 
 -- valuing: its number and the value
 abbrev pub valuedNumber : Valued → ℕ

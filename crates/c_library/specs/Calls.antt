@@ -8,9 +8,10 @@ use Rattle.apply.specs.declared.Names.{Names}
 use Rattle.apply.specs.Combination.{combineAnswer, combineResult}
 use Rattle.regression.specs.RegressCall.{regressAnswer, regressResult, freeAnswer, freeResult}
 use Rattle.cutting.specs.Cut.{cutAnswer, cutBuffer}
+use Rattle.reduction.specs.Reduction.{reduceCall, answerOf, bufferOf}
 use Rattle.elimination.specs.Answer.{valueAnswer}
 use Rattle.texts.specs.Running.{filled, inFront}
-use Rattle.c_library.specs.Answers.{combinedNumber, combinedRows, combinedPairs, regressedNumber, regressedRows, freedNumber, freedRows, cutNumber, cutRow, cutEdge, cutRows, valuedNumber, valuedValue, ranNumber, ranBytes, ranLines}
+use Rattle.c_library.specs.Answers.{combinedNumber, combinedRows, combinedPairs, regressedNumber, regressedRows, freedNumber, freedRows, cutNumber, cutRow, cutEdge, cutRows, reducedNumber, reducedRows, valuedNumber, valuedValue, ranNumber, ranBytes, ranLines}
 
 -- a combination of x and y; r is the answer, and a dash marks what is lent after the call
 pub record Combines (op : Operation) (names : Names) (ar x y out work : List ℕ) (rows pairs r : ℕ) (out′ : List ℕ) (rows′ pairs′ : ℕ) : Type 0 where
@@ -38,6 +39,12 @@ pub record Cuts (ar words out work : List ℕ) (row edge rows r : ℕ) (out′ :
   pub row-cut : row′ ≡ cutRow (cutAnswer ar words (length out) (length work)) row
   pub edge-cut : edge′ ≡ cutEdge (cutAnswer ar words (length out) (length work)) edge
   pub row-count : rows′ ≡ cutRows (cutAnswer ar words (length out) (length work)) rows
+
+-- the reduction of a listing by model checking (document 02, L13)
+pub record Reduces (ar words out work : List ℕ) (rows r : ℕ) (out′ : List ℕ) (rows′ : ℕ) : Type 0 where
+  pub answer : r ≡ reducedNumber (answerOf (reduceCall ar words (length out) (length work)))
+  pub buffer : out′ ≡ bufferOf out (reduceCall ar words (length out) (length work))
+  pub row-count : rows′ ≡ reducedRows (answerOf (reduceCall ar words (length out) (length work))) rows
 
 -- valuing a listing in a state of n objects
 pub record Values (ar words : List ℕ) (n : ℕ) (constants facts : List ℕ) (value r value′ : ℕ) : Type 0 where

@@ -6,6 +6,7 @@ use apply::Operation;
 use cutting::Cut;
 use cutting::Edge;
 use label::Label;
+use reduction::Reduced;
 use refusal::Refusal;
 use regression::Freed;
 use regression::Regressed;
@@ -24,7 +25,7 @@ ghost use Rattle.memory.specs.Memory.{memoryOf, workWords};
 ghost use Rattle.memory.specs.Saving.{numberWords};
 ghost use Rattle.answers.specs.Writing.{mostBytes};
 ghost use Rattle.c_library.specs.Answers.{listingNumber, edgeNumber, entryNumber};
-ghost use Rattle.c_library.specs.Calls.{Combines, Regresses, Frees, Cuts, Values, Runs};
+ghost use Rattle.c_library.specs.Calls.{Combines, Regresses, Frees, Cuts, Reduces, Values, Runs};
 ghost use Rattle.c_library.specs.Sessions.{hasRoom, Opens, hasRooms, isPlain, canAnswer, isOpen, positionAt, putEnd, Replies, RepliesAll, canClose, Closes};
 
 // Whether the words are a listing under the arity list: 0, or 14.
@@ -296,6 +297,27 @@ pub extern "C" fn yindolve_cut(
             0
         }
         Cut::Refused(why) => why.number(),
+    }
+}
+
+// Reduces a listing by model checking.
+#[no_mangle]
+pub extern "C" fn yindolve_reduce(
+    arities: &[u64],
+    words: &[u64],
+    result: &mut [u64],
+    work: &mut [u64],
+    rows: &mut u64,
+) -> u64
+    ensures { λ r. ⌜ Reduces (now (arities .entry)) (now (words .entry)) (now (result .entry)) (now (work .entry)) (now (rows .entry)) r (now (result .exit)) (now (rows .exit)) ⌝ }
+{
+    let answer = reduce::reduce(arities, words, result, work);
+    match answer {
+        Reduced::Done(n) => {
+            *rows = n as u64;
+            0
+        }
+        Reduced::Refused(why) => why.number(),
     }
 }
 
