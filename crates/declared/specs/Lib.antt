@@ -11,7 +11,6 @@
 -- Definitions: the value diagram as another session's reward
 --   valueLine == the line (reward FORM) of a session's value diagram
 --   CanTake == a session in its model part without a reward, with the same constants and predicates in their order, and room for the rows
---   rewardFrom, ReadsByNumber == a reward's words, variables by ascending N, built and held; the session's own reader of rewards does so
 --
 -- Inner (Proper)
 --   Proper, AllProper == labels under the arity list, with a predicate up to p and terms in P; Known, KnownArgument == the terms of a diagram of an action of k parameters
@@ -24,8 +23,8 @@
 --   declares-grown: what is declared stays so when more is; keys-more: one name more
 --   reply-declared: every line keeps a session's parts declared (a new line of the run: held-declared, or answered-declared for a call's outcome)
 --   text-declared: every session that any text leads to is Named
---   text-round-trip: the reply to the form's line leaves the reward that was printed, where the reader numbers by ascending N (ReadsByNumber, an explicit premise:
---     session's reader numbers by first occurrence)
+--   text-round-trip: for every text in its run part where 19 is not given: the reply of a session that can take it, to the form's line, leaves the very diagram as its
+--     reward
 
 -- definitions
 pub mod Declares

@@ -41,6 +41,8 @@ use Rattle.reading.specs.declared.Binding.{Binding}
 use Rattle.reading.specs.declared.Binding.the-variants.{Any, None, Only}
 use Rattle.reading.specs.Reading.{Written, reading}
 use Rattle.reading.specs.Reading.Judged.{fine}
+use Rattle.reading.specs.Occurrences.{variableKeys}
+use Rattle.reading.specs.Numbering.{variablesFirst, rewardReading}
 use Rattle.reading.specs.Head.{headNumber, headArguments}
 use Rattle.reading.specs.Tree.{NamesFit}
 use Rattle.build.specs.Machine.{mostTests, built, builtClosed}
@@ -167,12 +169,13 @@ module _ (σ : Session) (h : DeclaredSession σ) where
     names-fit b ps few = record { constants-few = good .constants; predicates-few = good .predicates; parameters-few = few; arity-list = good .arities }
 
     reward-read : (r : ℕ) (d : T.Diagram) → T.brackets d ≤ mostTests → Accepted Named (rewardRead (σ .names) (σ .model .arities) r (diagramEvents d))
-    unfolding rewardRead
+    unfolding rewardRead rewardReading
     reward-read r d shallow =
-        accepted-read (reading (namesFor (σ .names) (σ .model .arities) Any []) (diagramEvents d) []) _ (λ w e.
+        let vs = variablesFirst (variableKeys (diagramEvents d)) in
+        accepted-read (reading (namesFor (σ .names) (σ .model .arities) Any []) (diagramEvents d) vs) _ (λ w e.
         accepted-next (builtClosed (σ .model .arities) (w .operations)) _ (λ x m.
         accepted-cond (ltb mostModelRows (rowsWith r x)) Space _ (λ few.
-        accepted-ok (reward-declares (namesFor (σ .names) (σ .model .arities) Any []) (names-fit Any [] (omega arith)) d shallow [] w e x m))))
+        accepted-ok (reward-declares (namesFor (σ .names) (σ .model .arities) Any []) (names-fit Any [] (omega arith)) d shallow vs w e x m))))
 
     weight-read : (r : ℕ) (k : Key) (d : T.Diagram) → T.brackets d ≤ mostTests → Accepted Named (weightRead (σ .names) (σ .model .arities) r k (diagramEvents d))
     unfolding weightRead

@@ -2,21 +2,12 @@
 -- the same order, has the very listing it was printed from.'
 use mathlib.Core.Path.{_≡_}
 use mathlib.Core.Bool.{false}
-use mathlib.Core.List.{List}
-use Prim.Native.Nat.{ℕ, _≤_}
-use lib.Dec.{ltb}
-use Rattle.refusal.specs.declared.Refusal.the-variants.{Space}
-use Rattle.refusal.specs.Outcome.{Outcome, ok, andThen}
-use Rattle.diagram.specs.Diagram.{Diagram}
+use Prim.Native.Nat.{_≤_}
 use Rattle.text.specs.Line.{Line}
-use Rattle.events.specs.Events.{diagramEvents}
-use Rattle.reading.specs.Reading.{Judged, Written}
-use Rattle.build.specs.Machine.{builtClosed}
 use Rattle.session.specs.declared.Part.the-variants.{Model}
-use Rattle.session.specs.Session.{Session, refuseIf}
-use Rattle.session.specs.Modelling.{mostModelRows, outcomeOf, rowsWith, rewardRead}
-use Rattle.diagram_form.specs.Form.{formTree, rewardOf}
-use Rattle.round_trip.specs.RoundTrip.{wordsRead}
+use Rattle.session.specs.Session.{Session}
+use Rattle.session.specs.Modelling.{mostModelRows, rowsWith}
+use Rattle.diagram_form.specs.Form.{rewardOf}
 use Rattle.declared.specs.Declares.{tablesIn}
 
 -- the line (reward FORM) of the session's value diagram
@@ -31,17 +22,3 @@ pub record CanTake (σ τ : Session) : Type 0 where
   pub predicates : τ .names .predicates ≡ σ .names .predicates
   pub arities : τ .model .arities ≡ σ .model .arities
   pub room : rowsWith (τ .rows) (σ .held .diagram) ≤ mostModelRows
-
--- a reward's words read as round_trip has it, variables by ascending N, then built
-abbrev pub rewardFrom : List ℕ → ℕ → Judged Written → Outcome Diagram
-rewardFrom ar r j =
-    andThen (outcomeOf j) (λ w.
-    andThen (builtClosed ar (w .operations)) (λ d.
-    refuseIf (ltb mostModelRows (rowsWith r d)) Space
-    (ok d)))
-
--- the session's own reader of rewards does so: by definition once it numbers variables by ascending N
-abbrev pub ReadsByNumber : Session → Session → Type 0
-ReadsByNumber σ τ =
-    rewardRead (τ .names) (τ .model .arities) (τ .rows) (diagramEvents (formTree (σ .model .arities) (tablesIn σ) (σ .held .diagram)))
-    ≡ rewardFrom (σ .model .arities) (τ .rows) (wordsRead (σ .model .arities) (tablesIn σ) (σ .held .diagram))

@@ -20,25 +20,27 @@ use Rattle.text.specs.LineLaws.{line-complete}
 use Rattle.events.specs.declared.Event.{Event}
 use Rattle.events.specs.Events.{diagramEvents}
 use Rattle.events.specs.LineEvents.{line-events}
-use Rattle.reading.specs.Reading.{Judged, Written}
+use Rattle.reading.specs.declared.Binding.the-variants.{Any}
+use Rattle.reading.specs.Reading.{Names as ReadingNames, Judged, Written}
 use Rattle.reading.specs.Reading.Judged.{fine}
+use Rattle.reading.specs.Numbering.{rewardReading}
 use Rattle.build.specs.Machine.{builtClosed}
 use Rattle.session.specs.declared.Part.{Part}
 use Rattle.session.specs.declared.Part.the-variants.{Model, Run}
 use Rattle.session.specs.Place.{ruleOf}
-use Rattle.session.specs.Session.{Session}
-use Rattle.session.specs.Modelling.{mostModelRows, rowsWith, withReward, rewardRead, rewardLine}
+use Rattle.session.specs.Session.{Names, Session, refuseIf}
+use Rattle.session.specs.Modelling.{mostModelRows, outcomeOf, namesFor, rowsWith, withReward, rewardRead, rewardLine}
 use Rattle.session.specs.Replies.{silent, allowed, unless, done, placed, quietly, replyTo, wordsOf, reply}
 use Rattle.session.specs.Good.{GoodSession}
 use Rattle.session.specs.Texts.{Progress, afterLines, afterRest, beginning, linesOf, textRead}
 use Rattle.session_laws.specs.CaseLaws.{reply-line}
 use Rattle.session_laws.specs.TextLaws.{Sound, text-sound}
 use Rattle.diagram_form.specs.Form.{formTree, isTooLong}
-use Rattle.round_trip.specs.RoundTrip.{wordsRead}
+use Rattle.round_trip.specs.RoundTrip.{rewardNames}
 use Rattle.acceptance.specs.ReadAgain.{ReadAgain}
 use Rattle.acceptance.specs.SessionLaws.{value-accepted}
 use Rattle.declared.specs.Declares.{tablesIn, Named}
-use Rattle.declared.specs.RewardAgain.{valueLine, CanTake, rewardFrom, ReadsByNumber}
+use Rattle.declared.specs.RewardAgain.{valueLine, CanTake}
 use Rattle.declared.specs.TextLaws.{text-declared}
 
 -- ===== A reward line that stands where it may =====
@@ -61,17 +63,38 @@ reward-reply τ number t d g p r e =
 
 -- ===== The form's line =====
 
+-- words that are read and built, with room for their rows
 reward-from : (ar : List ℕ) (r : ℕ) (j : Judged Written) (w : Written) (d : Diagram) → j ≡ fine w → builtClosed ar (w .operations) ≡ ok d → rowsWith r d ≤ mostModelRows
-    → rewardFrom ar r j ≡ ok d
+    → andThen (outcomeOf j) (λ v. andThen (builtClosed ar (v .operations)) (λ x. refuseIf (ltb mostModelRows (rowsWith r x)) Space (ok x))) ≡ ok d
 reward-from ar r j w d e b room = rw (e, b, le-ltb mostModelRows (rowsWith r d) room)
 
+reward-read : (n : Names) (ar : List ℕ) (r : ℕ) (es : List Event) (w : Written) (d : Diagram) → rewardReading (namesFor n ar Any []) es ≡ fine w
+    → builtClosed ar (w .operations) ≡ ok d → rowsWith r d ≤ mostModelRows → rewardRead n ar r es ≡ ok d
+unfolding rewardRead
+reward-read n ar r es w d = reward-from ar r (rewardReading (namesFor n ar Any []) es) w d
+
 -- a session whose names are declared, after (start), where 19 is not given
-pub session-round-trip : (σ : Session) → GoodSession σ → Named σ → σ .part ≡ Run → isTooLong (σ .model .arities) (tablesIn σ) (σ .held .diagram) ≡ false
-    → (τ : Session) → CanTake σ τ → ReadsByNumber σ τ → (number : ℕ) → reply τ number (lineBytes (valueLine σ)) ≡ silent (withReward τ (σ .held .diagram))
-session-round-trip σ good named run short τ can reads number =
-    let again = value-accepted σ (tablesIn σ) (named .declared) (named .keys) good run (named .covers) short in
-    reward-reply τ number (formTree (σ .model .arities) (tablesIn σ) (σ .held .diagram)) (σ .held .diagram) (again .trip .well-formed) (can .part) (can .reward)
-    (reads ∙ reward-from (σ .model .arities) (τ .rows) _ (again .trip .words) (σ .held .diagram) (again .trip .accepted) (again .built) (can .room))
+module _ (σ : Session) (good : GoodSession σ) (named : Named σ) (run : σ .part ≡ Run) (short : isTooLong (σ .model .arities) (tablesIn σ) (σ .held .diagram) ≡ false) where
+  again : ReadAgain (σ .model .arities) (tablesIn σ) (σ .held .diagram)
+  again = value-accepted σ (tablesIn σ) (named .declared) (named .keys) good run (named .covers) short
+
+  module _ (τ : Session) (can : CanTake σ τ) where
+    -- 'under the same constants and predicates declared in the same order'
+    names-same : namesFor (τ .names) (τ .model .arities) Any [] ≡ rewardNames (σ .model .arities) (tablesIn σ)
+    names-same =
+        let c = can .constants ∙ named .keys .constants in
+        let p = can .predicates ∙ named .keys .predicates in
+        λ i. record { constants = c i; predicates = p i; arities = can .arities i; parameters = []; binding = Any }
+
+    words-read : rewardReading (namesFor (τ .names) (τ .model .arities) Any []) (diagramEvents (formTree (σ .model .arities) (tablesIn σ) (σ .held .diagram))) ≡ fine (again .trip .words)
+    words-read =
+        ap (λ (ν : ReadingNames). rewardReading ν (diagramEvents (formTree (σ .model .arities) (tablesIn σ) (σ .held .diagram)))) names-same ∙ again .trip .accepted
+
+    pub session-round-trip : (number : ℕ) → reply τ number (lineBytes (valueLine σ)) ≡ silent (withReward τ (σ .held .diagram))
+    session-round-trip number =
+        reward-reply τ number (formTree (σ .model .arities) (tablesIn σ) (σ .held .diagram)) (σ .held .diagram) (again .trip .well-formed) (can .part) (can .reward)
+        (reward-read (τ .names) (τ .model .arities) (τ .rows) _ (again .trip .words) (σ .held .diagram) words-read
+        (ap (λ (ar : List ℕ). builtClosed ar (again .trip .words .operations)) (can .arities) ∙ again .built) (can .room))
 
 -- ===== Texts =====
 
@@ -87,6 +110,6 @@ read-sound s = rest-sound (afterLines beginning (linesOf s .whole)) (linesOf s .
 -- whatever text led to the value diagram: a session that can take it has it as its reward behind the line (reward FORM), with the very listing
 pub text-round-trip : (s : List ℕ) → textRead s .session .part ≡ Run
     → isTooLong (textRead s .session .model .arities) (tablesIn (textRead s .session)) (textRead s .session .held .diagram) ≡ false
-    → (τ : Session) → CanTake (textRead s .session) τ → ReadsByNumber (textRead s .session) τ → (number : ℕ)
+    → (τ : Session) → CanTake (textRead s .session) τ → (number : ℕ)
     → reply τ number (lineBytes (valueLine (textRead s .session))) ≡ silent (withReward τ (textRead s .session .held .diagram))
 text-round-trip s = session-round-trip (textRead s .session) (read-sound s .good) (text-declared s)
