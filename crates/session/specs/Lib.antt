@@ -35,17 +35,19 @@
 --   withHeld, backupLine == (backup)
 --   cutTo, cutLine, cutSays == (cut)
 --   reduceLine == (reduce) (document 02, L13)
+--   tablesIn, formRead == (text): the names declared; how many bytes the value has as a form, or 19 (document 02, L2)
 --
 -- Definitions: replies
 --   Reply == the session behind a line, and what the line is answered
 --   withModel, withNames, withLive, withVocabulary, withTotal, withDiscount, withAction == a session with one part new
 --   refusal, silent, quietly == a refused line leaves the session as it was; nothing is printed; a line that prints nothing unless it is refused
---   valueSays, backupSays, reduceSays == value, k, S^k; k, rows; rows
+--   valueSays, backupSays, reduceSays, textSays == value, k, S^k; k, rows; rows; the bytes of the form
 --   done == what each kind of line does and is answered, where it stands where it may
 --   replyTo, wordsOf, reply == 1, 5, then the line's own checks; a line in bytes, of which one of none passes (document 02, L1)
 --
 -- Definitions: texts
 --   lineFeed, Lines, behindByte, linesOf == the lines of a text, and the bytes behind the last line feed
+--   valueForm == the value diagram as one nested form (document 02, L2)
 --   hasBytes, Progress, replyBytes, replied, afterLine, afterLines == how far a text is read, from line to line, numbered from 1, blank ones too
 --   afterRest, unfinished, closing == a last line without a line feed is 1; without an accepted (start) a last (refused 5 0), if a line with bytes was met
 --   beginning, textRead, textAnswers == all answers of a text

@@ -28,7 +28,7 @@ use Rattle.session.specs.Session.{Names, Singles, Live, Session, refuseI
 use Rattle.session.specs.Declaring.{Vocabulary, constantLine, predicateLine, totalLine, discountLine, actionLine}
 use Rattle.session.specs.Facts.{objectsLine, isLine, trueLine}
 use Rattle.session.specs.Modelling.{rewardLine, variantLine, becomesLine}
-use Rattle.session.specs.Running.{withHeld, startLine, valueRead, backupLine, cutLine, cutSays, reduceLine, textRead}
+use Rattle.session.specs.Running.{withHeld, startLine, valueRead, backupLine, cutLine, cutSays, reduceLine, formRead}
 
 -- the session behind a line, and what the line is answered
 pub record Reply : Type 0 where
@@ -190,7 +190,7 @@ textSays σ number (refused r) = refusal σ number r
 
 -- the words es of a line of the kind that stands where it may
 unfoldable pub done : Session → ℕ → Kind → List Event → Reply
-unfolding constantLine predicateLine totalLine discountLine actionLine rewardLine variantLine becomesLine startLine objectsLine isLine trueLine withVocabulary withTotal withDiscount withAction valueRead backupLine cutLine diagramAnswer reduceLine textRead rows
+unfolding constantLine predicateLine totalLine discountLine actionLine rewardLine variantLine becomesLine startLine objectsLine isLine trueLine withVocabulary withTotal withDiscount withAction valueRead backupLine cutLine diagramAnswer reduceLine formRead rows
 done σ number K.Constant es = quietly σ number (withNames σ) (constantLine (σ .names) (keyIn (wordAt es 0)))
 done σ number K.Predicate es =
     quietly σ number (withVocabulary σ) (predicateLine (record { names = σ .names; arities = σ .model .arities }) (keyIn (wordAt es 0)) (numberIn (wordAt es 1)))
@@ -213,7 +213,7 @@ done σ number K.Cut es = record {
 }
 done σ number K.Show es = record { session = σ; answer = A.Show (length (rows (σ .held .diagram))) }
 done σ number K.Reduce es = reduceSays σ number (reduceLine (σ .model .arities) (σ .held))
-done σ number K.Text es = textSays σ number (textRead (σ .model .arities) (σ .names) (σ .held .diagram))
+done σ number K.Text es = textSays σ number (formRead (σ .model .arities) (σ .names) (σ .held .diagram))
 done σ number K.Bad es = refusal σ number Form
 
 -- behind the place

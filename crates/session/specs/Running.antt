@@ -100,6 +100,6 @@ abbrev pub tablesIn : Names → Tables
 tablesIn n = tablesOf (n .constants) (n .predicates)
 
 -- how many bytes the value diagram has as a form; '19, the reward line made of the form would pass 4,095 bytes or 64 open brackets' (document 02, L2)
-unfoldable pub textRead : List ℕ → Names → Diagram → Outcome ℕ
+unfoldable pub formRead : List ℕ → Names → Diagram → Outcome ℕ
 unfolding isTooLong formLength tablesOf
-textRead ar n d = refuseIf (isTooLong ar (tablesIn n) d) Length (ok (formLength ar (tablesIn n) d))
+formRead ar n d = refuseIf (isTooLong ar (tablesIn n) d) Length (ok (formLength ar (tablesIn n) d))
