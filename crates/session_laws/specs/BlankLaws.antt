@@ -23,8 +23,8 @@ use Rattle.session.specs.Place.{ruleOf}
 use Rattle.session.specs.Declaring.{constantLine, predicateLine, totalLine, discountLine, actionLine}
 use Rattle.session.specs.Facts.{objectsLine, isLine, trueLine}
 use Rattle.session.specs.Modelling.{rewardLine, variantLine, becomesLine}
-use Rattle.session.specs.Running.{startLine, valueRead, backupLine, cutSays, reduceLine}
-use Rattle.session.specs.Replies.{Reply, silent, quietly, valueSays, backupSays, reduceSays, allowed, withNames, withLive, withVocabulary}
+use Rattle.session.specs.Running.{startLine, valueRead, backupLine, cutSays, reduceLine, formRead}
+use Rattle.session.specs.Replies.{Reply, silent, quietly, valueSays, backupSays, reduceSays, textSays, allowed, withNames, withLive, withVocabulary}
 use Rattle.session.specs.Replies.{withTotal, withDiscount, withAction, done, placed, replyTo, wordsOf, reply}
 use Rattle.session.specs.Texts.{lineFeed, Lines, behindByte, linesOf, hasBytes, Progress, replyBytes}
 use Rattle.session.specs.Texts.{afterLine, afterLines, afterRest, closing, beginning, textRead, textAnswers}
@@ -62,6 +62,10 @@ reduce-under : (σ : Session) (i j : ℕ) (o : Outcome Held) → replyUnder j (r
 reduce-under σ i j (ok h) = refl
 reduce-under σ i j (refused r) = refl
 
+text-under : (σ : Session) (i j : ℕ) (o : Outcome ℕ) → replyUnder j (textSays σ i o) ≡ textSays σ j o
+text-under σ i j (ok n) = refl
+text-under σ i j (refused r) = refl
+
 cut-under : (i j : ℕ) (c : Cut) → under j (cutSays i c) ≡ cutSays j c
 cut-under i j (C.Done row e n) = refl
 cut-under i j (C.Refused r) = refl
@@ -88,6 +92,7 @@ done-under σ i j K.Cut es =
     ap (λ a. record { session = done σ j K.Cut es .session; answer = a }) (cut-under i j (diagramAnswer (σ .model .arities) (σ .held .diagram)))
 done-under σ i j K.Show es = refl
 done-under σ i j K.Reduce es = reduce-under σ i j (reduceLine (σ .model .arities) (σ .held))
+done-under σ i j K.Text es = text-under σ i j (formRead (σ .model .arities) (σ .names) (σ .held .diagram))
 done-under σ i j K.Bad es = refl
 
 placed-under : (σ : Session) (i j : ℕ) (o : Outcome (Unit {0})) (x y : Reply) → replyUnder j x ≡ y → replyUnder j (placed σ i o x) ≡ placed σ j o y

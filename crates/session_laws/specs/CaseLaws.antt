@@ -24,8 +24,8 @@ use Rattle.session.specs.Session.{Names, Live, Session}
 use Rattle.session.specs.Declaring.{Vocabulary, constantLine, predicateLine, totalLine, discountLine, actionLine}
 use Rattle.session.specs.Facts.{objectsLine, isLine, trueLine}
 use Rattle.session.specs.Modelling.{rewardLine, variantLine, becomesLine}
-use Rattle.session.specs.Running.{withHeld, startLine, valueRead, backupLine, cutLine, cutTo, cutSays, reduceLine}
-use Rattle.session.specs.Replies.{Reply, refusal, silent, quietly, valueSays, backupSays, reduceSays, allowed, withNames, withLive}
+use Rattle.session.specs.Running.{withHeld, startLine, valueRead, backupLine, cutLine, cutTo, cutSays, reduceLine, formRead}
+use Rattle.session.specs.Replies.{Reply, refusal, silent, quietly, valueSays, backupSays, reduceSays, textSays, allowed, withNames, withLive}
 use Rattle.session.specs.Replies.{withVocabulary, withTotal, withDiscount, withAction, done, placed, replyTo, wordsOf, reply}
 
 abbrev pub vocabularyOf : Session → Vocabulary
@@ -55,6 +55,7 @@ pub record Cases (σ : Session) (number : ℕ) (es : List Event) (P : Kind → R
   pub forReduce : (h : Held) → reduceLine (σ .model .arities) (σ .held) ≡ ok h
       → P K.Reduce (record { session = withHeld σ (σ .part) h; answer = A.Reduce (length (rows (h .diagram))) })
   pub forShow : P K.Show (record { session = σ; answer = A.Show (length (rows (σ .held .diagram))) })
+  pub forText : (n : ℕ) → formRead (σ .model .arities) (σ .names) (σ .held .diagram) ≡ ok n → P K.Text (record { session = σ; answer = A.Text n })
 
 -- ===== By the outcome of a line =====
 
@@ -86,6 +87,10 @@ module _ (σ : Session) (number : ℕ) (P : Reply → Type 0) (r : (t : Refusal)
       → P (reduceSays σ number o)
   reduce-by (ok x) h = h x refl
   reduce-by (refused t) h = r t
+
+  text-by : (o : Outcome ℕ) → ((n : ℕ) → o ≡ ok n → P (record { session = σ; answer = A.Text n })) → P (textSays σ number o)
+  text-by (ok n) h = h n refl
+  text-by (refused t) h = r t
 
   pub placed-by : (o : Outcome (Unit {0})) (y : Reply) → (o ≡ ok tt → P y) → P (placed σ number o y)
   placed-by (ok u) y h = h refl
@@ -125,6 +130,7 @@ module _ (σ : Session) (number : ℕ) (es : List Event) (P : Kind → Reply →
   done-by K.Cut = cut-by σ number (P K.Cut) (c .refusing K.Cut) (σ .model .arities) (diagramAnswer (σ .model .arities) (σ .held .diagram)) (c .forCut)
   done-by K.Show = c .forShow
   done-by K.Reduce = reduce-by σ number (P K.Reduce) (c .refusing K.Reduce) (reduceLine (σ .model .arities) (σ .held)) (c .forReduce)
+  done-by K.Text = text-by σ number (P K.Text) (c .refusing K.Text) (formRead (σ .model .arities) (σ .names) (σ .held .diagram)) (c .forText)
   done-by K.Bad = c .refusing K.Bad Form
 
 -- a line in bytes: blank, refused for its place, or done

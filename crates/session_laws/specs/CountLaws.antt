@@ -56,6 +56,7 @@ module _ (σ : Session) (g : GoodSession σ) (h : Counted σ) where
     forCut = λ row e n q a. h;
     forReduce = λ x e a. h;
     forShow = λ a. h;
+    forText = λ n e a. h;
   }
 
   pub reply-counted : (number : ℕ) (s : List ℕ) → Counted (reply σ number s .session)

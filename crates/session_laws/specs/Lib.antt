@@ -1,9 +1,10 @@
--- What holds of every session from line to line, and demands 1 and 3 for texts (document 01, sections 'Text', 'Backup' and 'A run, whole'; document 02, L1, L5, L6 and L13).
+-- What holds of every session from line to line, and demands 1 and 3 for texts (document 01, sections 'Text', 'Backup' and 'A run, whole'; document 02, L1, L2, L5, L6 and L13).
 --
 -- Definitions: a line
 --   Makes, MovesTo == the session behind an accepted line that prints nothing, kind by kind: a line of the model, (start), (objects), (is), (true)
---   Answered == the reply to an accepted line is of its kind; (value) and (show) leave the session
+--   Answered == the reply to an accepted line is of its kind; (value), (show) and (text) leave the session
 --   OneAnswer == a line is blank, prints nothing and leaves the session; or is refused under its own number, the session left; or stands where it may and is Answered
+--   Shows, Prints == the reply to an accepted (show); to an accepted (text): the value's form and a line feed, at most 4,086 bytes and one, the session left
 --   IsValue == the run has begun; v is Mk of the state in hand, k that of the session, w is S^k
 --
 -- Definitions: lines and texts
@@ -22,6 +23,7 @@
 -- Theorems: demand 1 for texts
 --   one-answer: every line has exactly one reply: none where it is blank, a refusal, or the answer of its kind; and the session behind it, by its kind
 --   refused-leaves: a refused line leaves the session as it was
+--   reply-prints: a line that is answered by a form is an accepted (text), and prints the value's form (document 02, L2); reply-shows: so for (show)
 --   text-bytes: a text's answers are those of its lines, one after another
 --   blank-leaves: a blank line prints nothing and leaves the session as it was
 --   spacing: blank lines move the line numbers of refusals and change no other answer (document 02, L1)
@@ -58,6 +60,7 @@ pub mod CountLaws
 pub mod MemoryLaws
 pub mod AnswerLaws
 pub mod ValueLaws
+pub mod PrintLaws
 pub mod FoldLaws
 pub mod BlankLaws
 pub mod TextRunLaws

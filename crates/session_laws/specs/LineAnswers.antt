@@ -1,7 +1,8 @@
--- What a line is answered, and the session behind it, kind by kind (document 01, sections 'Text' and 'A run, whole'; document 02, L13).
+-- What a line is answered, and the session behind it, kind by kind (document 01, sections 'Text' and 'A run, whole'; document 02, L2 and L13).
 use mathlib.Core.Path.{_≡_}
-use mathlib.Core.List.{List, []}
-use Prim.Native.Nat.{ℕ, _^_}
+use mathlib.Core.Bool.{false}
+use mathlib.Core.List.{List, [], _++_}
+use Prim.Native.Nat.{ℕ, _+_, _^_, _≤_}
 use lib.ListN.{length, drop}
 use Rattle.refusal.specs.declared.Refusal.{Refusal}
 use Rattle.diagram.specs.Rows.{rows}
@@ -14,17 +15,21 @@ use Rattle.mdp.specs.Bellman.{bellman}
 use Rattle.mdp.specs.Runs.{Held}
 use Rattle.text.specs.declared.Kind.{Kind}
 use Rattle.text.specs.declared.Kind.the-variants as K
+use Rattle.text.specs.Line.{mostLineBytes}
+use Rattle.diagram_form.specs.Form.{isTooLong}
 use Rattle.events.specs.declared.Event.{Event}
 use Rattle.events.specs.Contents.{keyIn, numberIn, wordAt, keysIn, numbersIn}
 use Rattle.answers.specs.declared.Answer.the-variants as A
+use Rattle.answers.specs.Answers.{lineFeed}
 use Rattle.session.specs.declared.Part.the-variants.{Run}
 use Rattle.session.specs.Place.{ruleOf}
 use Rattle.session.specs.Session.{Session}
 use Rattle.session.specs.Declaring.{constantLine, predicateLine, totalLine, discountLine, actionLine}
 use Rattle.session.specs.Facts.{objectsLine, isLine, trueLine}
 use Rattle.session.specs.Modelling.{rewardLine, variantLine, becomesLine}
-use Rattle.session.specs.Running.{withHeld, startLine, stateIn, valueRead, backupLine, cutLine, reduceLine}
+use Rattle.session.specs.Running.{withHeld, startLine, stateIn, valueRead, backupLine, cutLine, reduceLine, tablesIn, formRead}
 use Rattle.session.specs.Replies.{Reply, refusal, silent, allowed, withNames, withLive, withVocabulary, withTotal, withDiscount, withAction, wordsOf}
+use Rattle.session.specs.Texts.{valueForm, replyBytes}
 
 -- the outcome is accepted, and the session is made of it
 abbrev pub Makes : {A : Type 0} → Outcome A → (A → Session) → Session → Type 0
@@ -50,9 +55,10 @@ MovesTo σ es K.Backup τ = ⊥
 MovesTo σ es K.Cut τ = ⊥
 MovesTo σ es K.Show τ = ⊥
 MovesTo σ es K.Reduce τ = ⊥
+MovesTo σ es K.Text τ = ⊥
 MovesTo σ es K.Bad τ = ⊥
 
--- the reply y to an accepted line of the kind k with the words es; (value) and (show) leave the session as it was
+-- the reply y to an accepted line of the kind k with the words es; (value), (show) and (text) leave the session as it was
 pub data Answered (σ : Session) (es : List Event) (k : Kind) (y : Reply) : Type 0 where
   quiet : MovesTo σ es k (y .session) → y .answer ≡ A.Nothing → Answered σ es k y
   valued : (v : ℕ) → k ≡ K.Value → valueRead (σ .model .arities) (σ .live) (σ .held .diagram) ≡ ok v
@@ -64,6 +70,7 @@ pub data Answered (σ : Session) (es : List Event) (k : Kind) (y : Reply) : Type
   reducing : (h : Held) → k ≡ K.Reduce → reduceLine (σ .model .arities) (σ .held) ≡ ok h
       → y .session ≡ withHeld σ (σ .part) h → y .answer ≡ A.Reduce (length (rows (h .diagram))) → Answered σ es k y
   showing : k ≡ K.Show → y .session ≡ σ → y .answer ≡ A.Show (length (rows (σ .held .diagram))) → Answered σ es k y
+  printing : (n : ℕ) → k ≡ K.Text → formRead (σ .model .arities) (σ .names) (σ .held .diagram) ≡ ok n → y .session ≡ σ → y .answer ≡ A.Text n → Answered σ es k y
 
 -- the reply y to line `number`, which has the bytes s and is of the kind k: it is blank, prints nothing and leaves the session as it was; or it is
 -- refused under its own number and leaves the session as it was (which refusal: session Replies, and line_trees TreeReplies); or it stands where it may and is answered as its kind is
@@ -78,3 +85,19 @@ pub record IsValue (σ : Session) (v k w : ℕ) : Type 0 where
   pub value : v ≡ bellman (σ .model) k (stateIn (σ .model .arities) (σ .live))
   pub steps : k ≡ σ .held .steps
   pub power : w ≡ scale (σ .model) ^ k
+
+-- the reply y to an accepted (show): it stands in the run, answers the n rows of the value diagram, and leaves the session as it was
+pub record Shows (σ : Session) (n : ℕ) (y : Reply) : Type 0 where
+  pub run : σ .part ≡ Run
+  pub session : y .session ≡ σ
+  pub count : n ≡ length (rows (σ .held .diagram))
+
+-- the reply y to an accepted (text): it stands in the run, prints the value as a form and a line feed, n bytes and one, and leaves the session as it was; the
+-- form has at most 4,086 bytes, and is not too long to be a reward (19)
+pub record Prints (σ : Session) (n : ℕ) (y : Reply) : Type 0 where
+  pub run : σ .part ≡ Run
+  pub session : y .session ≡ σ
+  pub bytes : replyBytes y ≡ valueForm σ ++ lineFeed
+  pub count : n ≡ length (valueForm σ)
+  pub short : 9 + n ≤ mostLineBytes
+  pub fits : isTooLong (σ .model .arities) (tablesIn (σ .names)) (σ .held .diagram) ≡ false

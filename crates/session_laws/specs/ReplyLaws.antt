@@ -90,6 +90,7 @@ module _ (σ : Session) (g : GoodSession σ) (whole : WholeRows (σ .live .facts
     forCut = λ row e n q t. cut-good σ g;
     forReduce = λ h e t. reduce-good σ g h e;
     forShow = λ t. g;
+    forText = λ n e t. g;
   }
 
   pub done-good : (number : ℕ) (k : Kind) (es : List Event) → Standing σ k es → GoodSession (done σ number k es .session)

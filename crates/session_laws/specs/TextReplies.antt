@@ -54,6 +54,7 @@ under i (A.Backup k n) = A.Backup k n
 under i (A.Cut r e n) = A.Cut r e n
 under i (A.Reduce n) = A.Reduce n
 under i (A.Show n) = A.Show n
+under i (A.Text n) = A.Text n
 under i (A.Refused r line) = A.Refused r i
 under i A.Nothing = A.Nothing
 

@@ -90,6 +90,7 @@ asks K.Backup = backs refl
 asks K.Cut = cuts refl
 asks K.Show = nothing refl
 asks K.Reduce = reduces refl
+asks K.Text = nothing refl
 asks K.Bad = nothing refl
 
 module _ (σ : Session) (p : σ .part ≡ Run) (number : ℕ) where
@@ -133,6 +134,7 @@ module _ (σ : Session) (p : σ .part ≡ Run) (number : ℕ) where
     forCut = λ row e n q a c. called c;
     forReduce = λ h e a c. called c;
     forShow = λ a c. no-call K.Show _ c refl refl refl;
+    forText = λ n e a c. no-call K.Text _ c refl refl refl;
   }
 
   uncalled : (s : List ℕ) → callOf (lineKind s) ≡ none → OneCall σ (lineKind s) (reply σ number s)
@@ -275,6 +277,7 @@ module _ (σ : Session) (p : σ .part ≡ ModelPart) (number : ℕ) where
     forCut = λ row e n q a. later K.Cut refl a;
     forReduce = λ h e a. later K.Reduce refl a;
     forShow = λ a. later K.Show refl a;
+    forText = λ n e a. later K.Text refl a;
   }
 
   line-model : (s : List ℕ) → Modelled σ (lineKind s) (reply σ number s)

@@ -47,6 +47,7 @@ callOf K.Backup = some aBackup
 callOf K.Cut = some aCut
 callOf K.Show = none
 callOf K.Reduce = some aReduce
+callOf K.Text = none
 callOf K.Bad = none
 
 abbrev pub callThen : Option Call → List Call → List Call
@@ -67,6 +68,7 @@ isRefused (A.Backup k n) = false
 isRefused (A.Cut r e n) = false
 isRefused (A.Reduce n) = false
 isRefused (A.Show n) = false
+isRefused (A.Text n) = false
 isRefused (A.Refused r line) = true
 isRefused A.Nothing = false
 

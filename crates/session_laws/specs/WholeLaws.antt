@@ -74,6 +74,7 @@ module _ (σ : Session) (w : WholeRows (σ .live .facts)) where
     forCut = λ row e n q. w;
     forReduce = λ h e. w;
     forShow = w;
+    forText = λ n e. w;
   }
 
   pub reply-whole : (number : ℕ) (s : List ℕ) → WholeRows (reply σ number s .session .live .facts)
