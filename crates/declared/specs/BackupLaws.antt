@@ -25,7 +25,8 @@ use Rattle.regression.specs.RegressCall.{freedOutcome}
 use Rattle.regression.specs.Parameters.{Allowed}
 use Rattle.regression.specs.ResultLaws.{terms-every}
 use Rattle.cutting.specs.Cut.{cutDiagram}
-use Rattle.reduction.specs.Reduction.{reducedDiagram}
+use Rattle.reduction.specs.Reduction.{reducedDiagram, reduceAnswer}
+use Rattle.reduction.specs.ReductionLaws.{answered}
 use Rattle.mdp.specs.Model.{Variant, Action, Model, scale, Every, GoodTruthDiagram, GoodVariant, GoodAction, GoodModel}
 use Rattle.mdp.specs.Backup.{combined, variantsSum, actionsBest, rowOfCalls, scaleEnds, backup}
 use Rattle.mdp.specs.BackupLaws.{weight-within}
@@ -164,5 +165,8 @@ module _ (m : Model) (c p : ℕ) (gm : GoodModel m) (d : Diagram) (g : GoodValue
   pub cut-declared : (k : ℕ) (b : Bool) → Declares (m .arities) c p (cutDiagram (m .arities) d k b)
   cut-declared k b = back (cutDiagram (m .arities) d k b) (cut-proper (m .arities) (gm .arities) p (Known c 0) (known-free c 0) d k b before)
 
-  pub reduced-declared : Declares (m .arities) c p (reducedDiagram (m .arities) d)
+  reduced-declared : Declares (m .arities) c p (reducedDiagram (m .arities) d)
   reduced-declared = back (reducedDiagram (m .arities) d) (reduced-proper (m .arities) (gm .arities) p (Known c 0) (known-free c 0) d before)
+
+  pub reduce-declared : Accepted (Declares (m .arities) c p) (reduceAnswer (m .arities) d)
+  reduce-declared = record { given = λ r e. subst (Declares (m .arities) c p) (answered (m .arities) d r e .is) reduced-declared }

@@ -34,6 +34,7 @@ use Rattle.regression.specs.RegressCall.{leafAbove}
 use Rattle.cutting.specs.declared.Cut.{Cut}
 use Rattle.cutting.specs.declared.Cut.the-variants as C
 use Rattle.cutting.specs.Cut.{diagramAnswer, isTrueEdge}
+use Rattle.reduction.specs.Reduction.{reduceAnswer}
 use Rattle.mdp.specs.Model.{Variant, Action, Every, mostVariants, mostActions}
 use Rattle.mdp.specs.Backup.{backup}
 use Rattle.mdp.specs.Runs.{Held, begin}
@@ -53,7 +54,7 @@ use Rattle.session.specs.Session.{Names, Session}
 use Rattle.session.specs.Declaring.{isDeclared, constantLine, Vocabulary, predicateLine, repeated, actionLine}
 use Rattle.session.specs.Modelling.{mostModelRows, namesFor, rowsWith, withReward, rewardRead, rewardLine, addVariant, noTruths, withVariant, weightRead, variantLine}
 use Rattle.session.specs.Modelling.{pickOption, withTruthAt, lastTruths, lastVariant, truthsNow, isSome, withTruth, truthRead, becomesLine, weighed}
-use Rattle.session.specs.Running.{withHeld, startLine, backupLine, cutTo, cutLine}
+use Rattle.session.specs.Running.{withHeld, startLine, backupLine, cutTo, cutLine, reduceLine}
 use Rattle.session.specs.Replies.{Reply, allowed, withNames, withVocabulary, withTotal, withDiscount, withAction, wordsOf, reply}
 use Rattle.session.specs.Good.{GoodTables, GoodSession}
 use Rattle.model_laws.specs.OutcomeLaws.{accepted-read, neither}
@@ -67,7 +68,7 @@ use Rattle.declared.specs.Declares.{DeclaredLabel, Declares, DeclaredVar
 use Rattle.declared.specs.NameLaws.{name-is-key, keys-more}
 use Rattle.declared.specs.GrowthLaws.{declares-grown, actions-grown}
 use Rattle.declared.specs.ReadLaws.{text-declares, reward-declares}
-use Rattle.declared.specs.BackupLaws.{backup-declared, cut-declared}
+use Rattle.declared.specs.BackupLaws.{backup-declared, cut-declared, reduce-declared}
 
 -- ===== (constant) and (predicate): more names =====
 
@@ -306,6 +307,13 @@ module _ (σ : Session) (h : DeclaredSession σ) where
             (cut-declared (σ .model) (length (σ .names .constants)) (length (σ .names .predicates)) (b .good) (σ .held .diagram) (b .value) (h .in-value) k (isTrueEdge e))
         go (C.Refused r) = h
 
+    reduce-line : (x : Held) → reduceLine (σ .model .arities) (σ .held) ≡ ok x → DeclaredSession (withHeld σ (σ .part) x)
+    unfolding reduceLine
+    reduce-line x e =
+        let b = good .begun run in
+        answered-declared (reduceAnswer (σ .model .arities) (σ .held .diagram)) (σ .held .steps) x
+        (reduce-declared (σ .model) (length (σ .names .constants)) (length (σ .names .predicates)) (b .good) (σ .held .diagram) (b .value) (h .in-value)) e
+
 -- ===== Any line =====
 
 abbrev Keeps : Session → List Event → Kind → Reply → Type 0
@@ -358,7 +366,9 @@ module _ (σ : Session) (good : GoodSession σ) (h : DeclaredSession σ) where
     forValue = λ v e t. h;
     forBackup = λ x e t. backup-line σ h good (run K.Backup refl t) x e;
     forCut = λ row e n q t. cut-line σ h good (run K.Cut refl t);
+    forReduce = λ x e t. reduce-line σ h good (run K.Reduce refl t) x e;
     forShow = λ t. h;
+    forText = λ n e t. h;
   }
 
   -- the events of a line that stands where it may are those of its tree

@@ -23,7 +23,8 @@ use Rattle.diagram.specs.DiagramOfListing.{shown-rows}
 use Rattle.answers.specs.Digits.{digits}
 use Rattle.answers.specs.DigitLaws.{digits-short}
 use Rattle.answering.specs.Wrote.{Wrote}
-use Rattle.diagram_form.specs.Form.{Tables, formBytes, formLength, openBrackets, isTooLong, mostLineBytes, mostOpenBrackets}
+use Rattle.text.specs.Line.{mostLineBytes, mostOpenBrackets}
+use Rattle.diagram_form.specs.Form.{Tables, formBytes, formLength, openBrackets, isTooLong}
 use Rattle.diagram_form.specs.FormLaws.{form-length}
 use Rattle.spelling.specs.declared.Measured.the-variants.{Bytes, TooLong}
 use Rattle.spelling.specs.Spelling.{tablesAt, measured}
