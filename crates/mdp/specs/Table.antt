@@ -27,6 +27,8 @@ use Rattle.regression.specs.Regression.{truthAt}
 use Rattle.cutting.specs.declared.Edge.the-variants.{False}
 use Rattle.cutting.specs.declared.Cut.the-variants.{Done as CutDone, Refused as CutRefused}
 use Rattle.cutting.specs.Cut.{diagramAnswer as cutAnswer}
+use Rattle.reduction.specs.Combinations.{formed as combinationsFormed}
+use Rattle.reduction.specs.Reduction.{reducedDiagram}
 use Rattle.mdp.specs.Model.{Model, scale}
 use Rattle.mdp.specs.Example.{forFirst, noTruths, runModel, nothingTrue, stockAtHub}
 use Rattle.mdp.specs.Backup.{backup}
@@ -87,12 +89,26 @@ pairModel = record {
 }
 
 -- What several paths do together: where p(?b ?a) holds, p(?b ?b) holds or not, and each way another path has the leaf 1. No single one covers both ways, so that a cut
--- finds nothing (16); a reduction takes the test of p(?b ?a) away.
+-- finds nothing (16); a reduction takes the test of p(?b ?a) away. It forms 28 combinations, those for the first valuations counted too.
 pub table-reduction : (cutAnswer (pairModel .arities) (pairModel .reward) ≡ CutRefused Nothing)
     × (run pairModel (aCut ∷ []) .diagram ≡ linked (branch ba (leaf 1) (leaf 0)))
     × (run pairModel (aCut ∷ aReduce ∷ []) .diagram ≡ linked (leaf 0))
-unfolding run cutAnswer variables closed moved testOf equates renamed numbering mapped placed packed unpacked predicateOf termsOf isConstant isVariable
-table-reduction = (refl, refl, refl)
+    × (combinationsFormed (pairModel .arities) (pairModel .reward) ≡ 28)
+unfolding run cutAnswer combinationsFormed variables closed moved testOf equates renamed numbering mapped placed packed unpacked predicateOf termsOf isConstant isVariable
+table-reduction = (refl, refl, refl, refl)
+
+-- p(?b ?b)
+abbrev bb : ℕ
+bb = packed (atomFrom 1 ((firstVariable + 1) ∷ (firstVariable + 1) ∷ []))
+
+-- 2 if p(?b ?b), and p(?b ?a) or not p(?a ?a)
+abbrev pathToZero : Diagram
+pathToZero = branch aa (branch ba (branch bb (leaf 2) (leaf 0)) (leaf 0)) (branch bb (leaf 2) (leaf 0))
+
+-- Where nothing holds every path that is followed has the leaf 0, and one of them wins too: it leads over the false edge of p(?a ?a), on which no other winning path lies.
+pub table-path-to-zero : reducedDiagram (pairModel .arities) pathToZero ≡ pathToZero
+unfolding reducedDiagram variables closed moved testOf equates renamed numbering mapped placed packed unpacked predicateOf termsOf isConstant isVariable
+table-path-to-zero = refl
 
 -- the rows that the run shows after its backup, its labels with the numbers of document 02, L8: stock(hub) is 2^48, hub = ?v0 is 64 · 2^32
 pub run-rows : listing (run runModel (aBackup ∷ []) .diagram)

@@ -1,4 +1,4 @@
--- Laws of `has_constant` and `is_plain`.
+-- Laws of `has_marked`, `is_plain` and `has_parameter`.
 use mathlib.Core.Path.{_≡_, refl, sym, ap, ap₂, subst, _∙_}
 use mathlib.Core.Bool.{Bool, true, false, not, _||_, _&&_, cond}
 use mathlib.Core.List.{List, [], _∷_}
@@ -22,10 +22,9 @@ use Rattle.diagram.specs.Variables.{occurs}
 use Rattle.diagram.specs.DiagramOfListing.{diagram-is, good-diagram, shown-rows}
 use Rattle.diagram.specs.ListingValid.{listing-is-valid}
 use Rattle.listing.specs.Used.{Used}
-use Rattle.diagram.specs.Words.{upTo}
 use Rattle.reduction.specs.Combinations.{someOf}
-use Rattle.reduction.specs.ListLaws.{someOf-in, in-someOf, upTo-in, in-upTo}
 use Rattle.reduction.specs.Reduction.{isPlain, hasParameter}
+use Rattle.reduction.specs.CallLaws.{parameter-quiet, quiet-parameter}
 use Rattle.reduce.specs.Winning.{someUsed, Markable}
 
 -- `has_marked`
@@ -255,19 +254,22 @@ module _ (ar used : List ℕ) (x : Diagram) (u : Used ar x used) where
       go (isFalse q) = absurd (e (u .each (firstParameter + i) (omega arith) ∙ ap (λ (b : Bool). cond b 1 0) q))
 
   parameter-is : someUsed used firstParameter parameterCount ≡ hasParameter ar x
-  unfolding hasParameter
-  parameter-is = go (flag (someUsed used firstParameter parameterCount)) (flag (someOf (λ i. occurs ar (firstParameter + i) x) (upTo parameterCount)))
+  parameter-is = go (flag (someUsed used firstParameter parameterCount)) (flag (hasParameter ar x))
     where
-      go : Flag (someUsed used firstParameter parameterCount) → Flag (someOf (λ i. occurs ar (firstParameter + i) x) (upTo parameterCount))
-          → someUsed used firstParameter parameterCount ≡ someOf (λ i. occurs ar (firstParameter + i) x) (upTo parameterCount)
+      none : someUsed used firstParameter parameterCount ≡ false → (t : ℕ) → firstParameter ≤ t → t < firstParameter + parameterCount → occurs ar t x ≡ false
+      none a t h k = off (flag (occurs ar (firstParameter + (t - firstParameter)) x))
+        where
+          off : Flag (occurs ar (firstParameter + (t - firstParameter)) x) → occurs ar t x ≡ false
+          off (isTrue o) =
+              clash (used-later used firstParameter (t - firstParameter) parameterCount (omega arith) (parameter-used (t - firstParameter) (omega arith) o)) a
+          off (isFalse o) = subst (λ (u : ℕ). occurs ar u x ≡ false) (let z : firstParameter + (t - firstParameter) ≡ t = omega arith in z) o
+
+      go : Flag (someUsed used firstParameter parameterCount) → Flag (hasParameter ar x) → someUsed used firstParameter parameterCount ≡ hasParameter ar x
       go (isTrue a) (isTrue b) = a ∙ sym b
       go (isTrue a) (isFalse b) =
           let r = used-from used firstParameter parameterCount a in
-          clash (someOf-in (λ i. occurs ar (firstParameter + i) x) (upTo parameterCount) (r .0) (upTo-in parameterCount (r .0) (r .1)) (used-parameter (r .0) (r .1) (r .2))) b
-      go (isFalse a) (isTrue b) =
-          let r = in-someOf (λ i. occurs ar (firstParameter + i) x) (upTo parameterCount) b in
-          let h = in-upTo parameterCount (r .0) (r .1) in
-          clash (used-later used firstParameter (r .0) parameterCount h (parameter-used (r .0) h (r .2))) a
+          clash (used-parameter (r .0) (r .1) (r .2)) (parameter-quiet ar x b (firstParameter + r .0) (omega arith) (omega (arith, r .1)))
+      go (isFalse a) (isTrue b) = clash b (quiet-parameter ar x (none a))
       go (isFalse a) (isFalse b) = a ∙ sym b
 
   pub parameter-yes : {b : Bool} → b ≡ someUsed used firstParameter parameterCount → b ≡ true → true ≡ hasParameter ar x

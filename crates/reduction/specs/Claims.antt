@@ -1,12 +1,16 @@
 -- What the theorems on reductions say, in types.
 use mathlib.Core.Path.{_≡_}
 use mathlib.Core.Logic.{_⊎_}
-use mathlib.Core.Bool.{true, false}
+use mathlib.Core.Bool.{true, false, _||_}
 use mathlib.Core.List.{List, [], _∷_, List·Memᴰ}
 use Prim.Native.Nat.{ℕ, _≤_, _<_}
 use lib.ListN.{length}
+use lib.Dec.{ltb}
+use Rattle.refusal.specs.Outcome.{ok}
+use Rattle.diagram.specs.Sizes.{resultWords, spaceWords}
 use Rattle.diagram.specs.Diagram.{Diagram}
-use Rattle.diagram.specs.Listing.{Good as Listed}
+use Rattle.diagram.specs.Words.{isListing}
+use Rattle.diagram.specs.Listing.{diagramOf, Good as Listed}
 use Rattle.diagram.specs.Variables.{closed}
 use Rattle.state.specs.State.{meaning, State, Good}
 use Rattle.state.specs.Highest.{Highest}
@@ -14,7 +18,7 @@ use Rattle.regression.specs.Parameters.{Within}
 use Rattle.paths.specs.Paths.{Step, paths, mostPaths}
 use Rattle.paths.specs.Routes.{stepOn, pathAt}
 use Rattle.reduction.specs.Combinations.{Ground, formed}
-use Rattle.reduction.specs.Reduction.{reducedDiagram, isPlain, runs, mostRuns, mostFormed}
+use Rattle.reduction.specs.Reduction.{reducedDiagram, isPlain, runs, mostRuns, mostFormed, reduceAnswer, hasParameter}
 
 -- ===== Lists =====
 
@@ -66,6 +70,13 @@ pub record Answered (ar : List ℕ) (d r : Diagram) : Type 0 where
   pub runs-few : runs ar d ≤ mostRuns
   pub formed-few : formed ar d ≤ mostFormed
   pub is : reducedDiagram ar d ≡ r
+
+-- the call on lent words has an answer: a listing, enough words, no parameter, and none of 17, 26, 27 and 28
+pub record Called (ar ws : List ℕ) (n m : ℕ) (r : Diagram) : Type 0 where
+  pub listed : isListing ar ws ≡ true
+  pub room : (ltb n resultWords || ltb m spaceWords) ≡ false
+  pub quiet : hasParameter ar (diagramOf ws) ≡ false
+  pub answer : reduceAnswer ar (diagramOf ws) ≡ ok r
 
 -- a value diagram of the values y, as backups, cuts and reductions ask for it and leave it: a listing, closed up, without parameters, with the highest leaf y in every state
 pub record Values (ar : List ℕ) (y : State → ℕ) (d : Diagram) : Type 0 where

@@ -37,14 +37,17 @@
 --   AtLeast == a path has no place behind another
 --   Clash == a fact that is both true and false
 --   Answered == none of 17, 26, 27 and 28 is met
+--   Called == nor 14, 18 and 6 by the call
 --   Values == a value diagram of the values y: with a listing, closed up, without parameters, and y its highest leaf in every state
 --
 -- Theorems
 --   reduce-keeps: a reduction leaves the value in every state
+--   call-keeps: so does every reduction that the call on lent words accepts
 --   reduce-is: it leaves a value diagram one of the same values, as backups, cuts and reductions want it: with a listing, closed up, without parameters
 --   within-closed, closed-highest: closing up adds no parameter and keeps the highest leaf
 --   reduced-few: at most 511 rows are left, so that 9 is never met
---   answered: an answer is given if none of 17, 26, 27 and 28 is met
+--   answered: an answer is given only if none of 17, 26, 27 and 28 is met
+--   called: the call gives it only for a listing without parameters, with room for result and work
 --   choices-in, in-choices, choices-once: the choices are the consistent ones, each once
 --   consistent-clear, clash-found: consistent is that no fact is both true and false
 --   tuples-in, in-tuples, tuples-once, valuations-count: the valuations are all lists of objects, each once, and v to the v
@@ -62,3 +65,4 @@ pub mod KeepingLaws
 pub mod ModelLaws
 pub mod ClosedLaws
 pub mod ReductionLaws
+pub mod CallLaws

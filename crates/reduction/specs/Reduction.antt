@@ -6,15 +6,16 @@ use lib.ListN.{length}
 use lib.Dec.{eqb, ltb}
 use Rattle.refusal.specs.declared.Refusal.the-variants.{Unbound, Listing, Paths, Buffer, Kinds, Runs, Combinations}
 use Rattle.refusal.specs.Outcome.{Outcome, ok, refused}
-use Rattle.label.specs.Limits.{equality, parameterCount}
-use Rattle.label.specs.Terms.{isConstant, parameterTerm}
+use Rattle.label.specs.Limits.{equality, firstParameter, parameterCount}
+use Rattle.label.specs.Terms.{isConstant}
 use Rattle.label.specs.Labels.{predicateOf, unpacked, termsOf}
 use Rattle.diagram.specs.Diagram.{Diagram, leaf, branch}
 use Rattle.diagram.specs.Rows.{rows}
 use Rattle.diagram.specs.Sizes.{resultWords, spaceWords}
-use Rattle.diagram.specs.Words.{upTo, isListing}
+use Rattle.diagram.specs.Words.{isListing}
 use Rattle.diagram.specs.Listing.{listing, diagramOf}
-use Rattle.diagram.specs.Variables.{variables, closed, occurs}
+use Rattle.diagram.specs.Variables.{variables, closed}
+use Rattle.regression.specs.RegressCall.{anyOccurs}
 use Rattle.paths.specs.Paths.{paths, mostPaths, through}
 use Rattle.paths.specs.Routes.{pathAt}
 use Rattle.cutting.specs.Cut.{reduced, written}
@@ -73,9 +74,10 @@ reduceAnswer ar d =
 
 -- ===== What the call answers =====
 
--- a parameter stands in a label of d
+-- a parameter occurs in d
 unfoldable pub hasParameter : List ℕ → Diagram → Bool
-hasParameter ar d = someOf (λ i. occurs ar (parameterTerm i) d) (upTo parameterCount)
+unfolding anyOccurs
+hasParameter ar d = anyOccurs ar d firstParameter parameterCount
 
 -- what a reduction of the words ws answers, with n words of result buffer and m of working space: "Library calls check 14 by operand, then 18"; then 6 for a parameter
 unfoldable pub reduceCall : List ℕ → List ℕ → ℕ → ℕ → Outcome Diagram

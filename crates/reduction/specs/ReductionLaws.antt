@@ -116,7 +116,7 @@ module _ (ar : List ℕ) (d : Diagram) (listed : Listed ar d) (few : length (pat
       P : ℕ → Type 0
       P l = Each (Allowed 0) (args (atomOf ar l))
 
-  -- whatever is the highest leaf of the diagram is that of the result, in every state and with any objects for parameters
+  -- whatever is the highest leaf of the diagram is that of the result, in every state
   pub reduced-highest : isPlain ar d ≡ true → Within 0 (meaning ar d) → (s : State) (os : List ℕ) (x : ℕ)
       → Highest s os (meaning ar d) x → Highest s os (meaning ar (reducedDiagram ar d)) x
   unfolding reducedDiagram
