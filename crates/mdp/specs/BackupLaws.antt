@@ -113,7 +113,7 @@ module _ (ar : List ℕ) (good : areArities ar ≡ true) (g : ℕ) (g-few : g �
         (vals .high (stateAfter ar s os v) (stateAfter-good ar s os v gs));
   }
 
-  variants-sum : (c : ℕ) → c ≤ parameterCount → (vs : List Variant) → Every (GoodVariant ar c) vs → (y : State → List ℕ → ℕ) (sum : Diagram) → Has ar c y sum
+  pub variants-sum : (c : ℕ) → c ≤ parameterCount → (vs : List Variant) → Every (GoodVariant ar c) vs → (y : State → List ℕ → ℕ) (sum : Diagram) → Has ar c y sum
       → Accepted (Has ar c (λ s os. y s os + gain ar g x s os vs)) (variantsSum ar g d sum vs)
   unfolding variantsSum sumOf
   variants-sum c few [] gs y sum h = accepted-ok (has-same h (λ s os. omega arith))

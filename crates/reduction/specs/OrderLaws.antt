@@ -17,7 +17,7 @@ use Rattle.reduction.specs.ListLaws.{in-gather, in-upTo}
 
 -- ===== Sorted lists =====
 module _ {A : Type 0} (R : A → A → Type 0) where
-  sorted-append : (l m : List A) → Sorted R l → Sorted R m → ((a b : A) → List·Memᴰ a l → List·Memᴰ b m → R a b) → Sorted R (l ++ m)
+  pub sorted-append : (l m : List A) → Sorted R l → Sorted R m → ((a b : A) → List·Memᴰ a l → List·Memᴰ b m → R a b) → Sorted R (l ++ m)
   sorted-append [] m u v w = v
   sorted-append (x ∷ l) m u v w = (
     (λ b i. go b (List·Memᴰ·append-cases l i)),
@@ -29,7 +29,7 @@ module _ {A : Type 0} (R : A → A → Type 0) where
       go b (inr i) = w x b (List·Memᴰ·head refl) i
 
 module _ {A B : Type 0} (R : A → A → Type 0) (S : B → B → Type 0) where
-  sorted-map : (f : A → B) (l : List A) → ((a b : A) → R a b → S (f a) (f b)) → Sorted R l → Sorted S (map f l)
+  pub sorted-map : (f : A → B) (l : List A) → ((a b : A) → R a b → S (f a) (f b)) → Sorted R l → Sorted S (map f l)
   sorted-map f [] h u = tt
   sorted-map f (x ∷ l) h u = (
     (λ b i. let r = mem-unmap f l b i in subst (S (f x)) (sym (r .2)) (h x (r .0) (u .0 (r .0) (r .1)))),

@@ -1,0 +1,1 @@
+// Which move to make. What it is stands in specs/.
