@@ -4,6 +4,7 @@ use crate::combine::{self, Names, Operator};
 use crate::cut::{self, Edge};
 use crate::diagram::{Diagram, ROWS, SPACE_ROWS};
 use crate::listing::{read_arities, read_listing, write_listing, ROW_WORDS};
+use crate::reduce;
 use crate::refusal::{require, Refusal};
 use crate::regress::{self, Truths};
 use crate::slips::Slips;
@@ -79,6 +80,15 @@ pub fn cut(value: &[u64], arities: &[u64], lent: Lent) -> Result<(Vec<u64>, Edge
     lent.check()?;
     let cut = cut::cut(&value, &arities, Slips::NONE)?;
     Ok((write_listing(&cut.diagram), cut.edge))
+}
+
+/// 14, 18, then 6 for any parameter, then the reduction's own: 17, 26, 27, 28.
+pub fn reduce(value: &[u64], arities: &[u64], lent: Lent) -> Result<Vec<u64>, Refusal> {
+    let arities = read_arities(arities)?;
+    let value = read_listing(value, &arities)?;
+    lent.check()?;
+    require(value.parameters().is_empty(), Refusal::Unbound)?;
+    Ok(write_listing(&reduce::reduce(&value, &arities, Slips::NONE)?))
 }
 
 /// A lent state: n, the object of each constant, and the facts, `FACT_WORDS` words each.

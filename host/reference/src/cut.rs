@@ -47,7 +47,7 @@ pub fn paths(diagram: &Diagram) -> Result<Vec<Path>, Refusal> {
     Ok(found)
 }
 
-fn terms_of<'a>(path: &'a Path, arities: &'a Arities) -> impl Iterator<Item = Term> + 'a {
+pub fn terms_of<'a>(path: &'a Path, arities: &'a Arities) -> impl Iterator<Item = Term> + 'a {
     path.literals.iter().flat_map(|(label, _)| label.places().into_iter().take(arities[label.predicate() as usize] as usize))
 }
 
@@ -133,8 +133,8 @@ fn may_go(diagram: &Diagram, arities: &Arities, edge: Edge, paths: &[Path], slip
         .all(|first| paths.iter().any(|second| may_cover(first, second) && covers(first, second, arities)))
 }
 
-/// The diagram with one edge led to leaf 0, reduced and closed up.
-fn without(diagram: &Diagram, edge: Edge) -> Diagram {
+/// The diagram with these edges led to leaf 0, reduced and closed up.
+pub fn without(diagram: &Diagram, goes: impl Fn(Edge) -> bool) -> Diagram {
     let mut space = Space::new();
     let zero = space.form(Row::Leaf(0)).expect("the first row");
     let mut places: Vec<usize> = Vec::new();
@@ -142,8 +142,8 @@ fn without(diagram: &Diagram, edge: Edge) -> Diagram {
         let row = match *row {
             Row::Branch { label, yes, no } => Row::Branch {
                 label,
-                yes: if edge == (number, true) { zero } else { places[yes] },
-                no: if edge == (number, false) { zero } else { places[no] },
+                yes: if goes((number, true)) { zero } else { places[yes] },
+                no: if goes((number, false)) { zero } else { places[no] },
             },
             leaf => leaf,
         };
@@ -159,7 +159,7 @@ pub fn cut(diagram: &Diagram, arities: &Arities, slips: Slips) -> Result<Cut, Re
         for side in [true, false] {
             let edge = (number, side);
             if may_go(diagram, arities, edge, &paths, slips) {
-                return Ok(Cut { edge, diagram: without(diagram, edge) });
+                return Ok(Cut { edge, diagram: without(diagram, |other| other == edge) });
             }
         }
     }

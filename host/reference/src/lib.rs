@@ -1,4 +1,4 @@
-//! An independent implementation of document 01, and of document 02 as far as it is done (L1, L4 to L8), for tests: plain and slow, one module for each of its sections.
+//! An independent implementation of document 01, and of document 02 as far as it is done (L1, L4 to L8, L13), for tests: plain and slow, one module for each of its sections.
 
 pub mod bellman;
 pub mod calls;
@@ -10,6 +10,7 @@ pub mod explain;
 pub mod listing;
 pub mod mdp;
 pub mod names;
+pub mod reduce;
 pub mod refusal;
 pub mod regress;
 pub mod session;

@@ -1,4 +1,4 @@
-//! Document 01, "Refusals by trade word".
+//! Document 01, "Refusals by trade word", and the numbers of document 02.
 
 #[derive(Clone, Copy, Debug, PartialEq, Eq, PartialOrd, Ord, Hash)]
 pub enum Refusal {
@@ -20,9 +20,40 @@ pub enum Refusal {
     Nothing,
     Paths,
     Buffer,
+    Kinds = 26,
+    Runs,
+    Combinations,
 }
 
 impl Refusal {
+    /// All of them, by number.
+    pub const ALL: [Refusal; 21] = {
+        use Refusal::*;
+        [
+            Form,
+            Name,
+            Arity,
+            Range,
+            Place,
+            Unbound,
+            Truth,
+            Variables,
+            Space,
+            Pairs,
+            Value,
+            Scale,
+            Weights,
+            Listing,
+            Valuations,
+            Nothing,
+            Paths,
+            Buffer,
+            Kinds,
+            Runs,
+            Combinations,
+        ]
+    };
+
     pub fn number(self) -> u64 {
         self as u64
     }

@@ -4,6 +4,7 @@ use crate::cut::cut;
 use crate::declarations::{Declarations, DeclaredAction, DeclaredVariant, Lookup, Variables, DEFAULT_DISCOUNT, DEFAULT_TOTAL};
 use crate::diagram::{Diagram, Row};
 use crate::mdp::{backup, power, Action, Model, Variant};
+use crate::reduce::reduce;
 use crate::refusal::{require, Refusal};
 use crate::slips::Slips;
 use crate::state::{value, State};
@@ -26,6 +27,7 @@ pub enum Answer {
     Backup { k: u64, rows: usize },
     Row { number: usize, row: Row },
     Cut { row: usize, edge: bool, rows: usize },
+    Reduce { rows: usize },
     Refused { refusal: Refusal, line: usize },
 }
 
@@ -38,6 +40,7 @@ impl Answer {
             Answer::Row { number, row: Row::Leaf(value) } => format!("(row {number} leaf {value})\n"),
             Answer::Row { number, row: Row::Branch { label, yes, no } } => format!("(row {number} {} {yes} {no})\n", label.0),
             Answer::Cut { row, edge, rows } => format!("(cut {row} {edge} {rows})\n"),
+            Answer::Reduce { rows } => format!("(reduce {rows})\n"),
             Answer::Refused { refusal, line } => format!("(refused {} {line})\n", refusal.number()),
         }
     }
@@ -108,7 +111,7 @@ impl Session {
         }
         let line = read_line(line)?;
         match line {
-            Line::Objects(_) | Line::Is(..) | Line::True(..) | Line::Value | Line::Backup | Line::Cut | Line::Show => {
+            Line::Objects(_) | Line::Is(..) | Line::True(..) | Line::Value | Line::Backup | Line::Cut | Line::Reduce | Line::Show => {
                 let run = self.run.as_mut().ok_or(Refusal::Place)?;
                 run.take(&line, &self.declarations, self.slips)
             }
@@ -253,6 +256,7 @@ impl Run {
             Line::Value => self.value(),
             Line::Backup => self.backup(slips),
             Line::Cut => self.cut(slips),
+            Line::Reduce => self.reduce(slips),
             _ => Ok(self.show()),
         }
     }
@@ -303,6 +307,11 @@ impl Run {
         self.value = cut.diagram;
         let (row, edge) = cut.edge;
         Ok(vec![Answer::Cut { row, edge, rows: self.value.rows().len() }])
+    }
+
+    fn reduce(&mut self, slips: Slips) -> Taken {
+        self.value = reduce(&self.value, &self.arities, slips)?;
+        Ok(vec![Answer::Reduce { rows: self.value.rows().len() }])
     }
 
     fn show(&self) -> Vec<Answer> {

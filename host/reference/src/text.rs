@@ -83,6 +83,7 @@ pub enum Line {
     Value,
     Backup,
     Cut,
+    Reduce,
     Show,
 }
 
@@ -200,6 +201,7 @@ pub fn line_of(words: &[Word]) -> Option<Line> {
         ("value", []) => Line::Value,
         ("backup", []) => Line::Backup,
         ("cut", []) => Line::Cut,
+        ("reduce", []) => Line::Reduce,
         ("show", []) => Line::Show,
         _ => return None,
     })

@@ -1,4 +1,4 @@
-//! Each slip of document 01 changes the stored answers of one text.
+//! Each slip changes the stored answers of one text.
 
 use reference::session::{answers, run};
 use reference::slips::Slips;
@@ -33,4 +33,9 @@ fn arguments_in_turn() {
 #[test]
 fn a_better_path_through_the_cut_edge() {
     assert!(caught("meaning-cut-edge-not-used", Slips { cover_through_edge: true, ..Slips::NONE }));
+}
+
+#[test]
+fn a_reduction_over_one_object_fewer() {
+    assert!(caught("meaning-reduction-over-all-objects", Slips { one_object_fewer: true, ..Slips::NONE }));
 }

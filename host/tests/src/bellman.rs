@@ -1,4 +1,4 @@
-//! Values after backups and cuts, by the reference and by a program, against the Bellman equation worked out from state to state.
+//! Values after backups, cuts and reductions, by the reference and by a program, against the Bellman equation worked out from state to state.
 
 use crate::models::{model, state, write_model, write_state, Size};
 use crate::program::printed;
@@ -9,10 +9,13 @@ use reference::session::{Answer, Session};
 use reference::slips::Slips;
 use std::path::Path;
 
-/// One model in four has predicates of up to six places.
-const SIZES: [Size; 4] = [Size::SMALL, Size::SMALL, Size::SMALL, Size::PLACES];
+/// Backups, cuts and reductions, in any order.
+const OPERATIONS: [&str; 5] = ["(backup)", "(backup)", "(cut)", "(cut)", "(reduce)"];
 
-/// One random model with a random list of backups and cuts. A wrong value is described.
+/// One model in five has predicates of up to six places, and two may be reduced as far as equality and constants are concerned.
+const SIZES: [Size; 5] = [Size::SMALL, Size::SMALL, Size::PLAIN, Size::PLAIN, Size::PLACES];
+
+/// One random model with a random list of backups, cuts and reductions. A wrong value is described.
 pub fn check(seed: u64, slips: Slips, tally: &mut Tally) -> Result<(), String> {
     let random = &mut Random::new(seed);
     let size = *random.pick(&SIZES);
@@ -28,8 +31,11 @@ pub fn check(seed: u64, slips: Slips, tally: &mut Tally) -> Result<(), String> {
         states.push(state(random, &signature, objects));
     }
     for _ in 0..6 {
-        let operation = if random.once_in(3) { "(backup)" } else { "(cut)" };
-        let _ = tally.watch(session.take(operation.as_bytes()));
+        let operation = *random.pick(&OPERATIONS);
+        let answer = tally.watch(session.take(operation.as_bytes()));
+        if matches!(answer.as_deref(), Ok([Answer::Reduce { .. }])) && session.started().expect("started").k > 0 {
+            tally.see("a reduction behind a backup");
+        }
         for state in &states {
             for line in write_state(state) {
                 session.take(line.as_bytes()).map_err(|refusal| format!("{line} is refused with {}", refusal.number()))?;
@@ -51,7 +57,7 @@ pub fn check(seed: u64, slips: Slips, tally: &mut Tally) -> Result<(), String> {
     Ok(())
 }
 
-/// One random model with backups and cuts as a text for a program: how many values it printed, all of them those of the equation.
+/// One random model with backups, cuts and reductions as a text for a program: how many values it printed, all of them those of the equation.
 pub fn check_program(program: &Path, seed: u64) -> Result<u64, String> {
     let random = &mut Random::new(seed);
     let size = *random.pick(&SIZES);
@@ -61,7 +67,7 @@ pub fn check_program(program: &Path, seed: u64) -> Result<u64, String> {
     // the state at each (value) line, in their order
     let mut states = Vec::new();
     for _ in 0..6 {
-        lines.push(random.pick(&["(backup)", "(cut)", "(cut)"]).to_string());
+        lines.push(random.pick(&OPERATIONS).to_string());
         let objects = random.between(1, size.objects);
         let state = state(random, &signature, objects);
         lines.extend(write_state(&state));
@@ -80,7 +86,7 @@ pub fn check_program(program: &Path, seed: u64) -> Result<u64, String> {
         let number = |place: usize| words.get(place).and_then(|word| word.parse::<u128>().ok()).ok_or_else(|| wrong("a number is due"));
         match words[0] {
             "backup" if number(1)? == u128::from(k) + 1 => k += 1,
-            "cut" => {}
+            "cut" | "reduce" => {}
             "value" => {
                 let (_, state) = states.next().ok_or_else(|| wrong("one too many"))?;
                 let right = (bellman.value(k, state), u128::from(k), scale.pow(k as u32));
@@ -95,7 +101,7 @@ pub fn check_program(program: &Path, seed: u64) -> Result<u64, String> {
                     return Err(wrong("a line of the model"));
                 }
                 match lines[line - 1].as_str() {
-                    "(backup)" | "(cut)" => {}
+                    "(backup)" | "(cut)" | "(reduce)" => {}
                     "(value)" if states.next().is_some_and(|(at, _)| *at == line) => {}
                     line => return Err(wrong(line)),
                 }

@@ -5,7 +5,7 @@ use reference::terms::{LARGEST_ARITY, PARAMETERS, PLACES, VARIABLES};
 
 /// The lines of a text about one limit.
 pub fn lines(random: &mut Random) -> Vec<String> {
-    match random.below(14) {
+    match random.below(16) {
         0 => declarations(random),
         1 => variables(random),
         2 => brackets(random),
@@ -19,6 +19,8 @@ pub fn lines(random: &mut Random) -> Vec<String> {
         10 => freed(random),
         11 => entries(random),
         12 => related(random),
+        13 => runs(random),
+        14 => combinations(random),
         _ => variants_apart(random),
     }
 }
@@ -222,11 +224,58 @@ fn freed(random: &mut Random) -> Vec<String> {
 
 /// A tree of tests of p{first}, p{first + 1}, .. over these leaves.
 fn tree(first: u64, leaves: &[u64]) -> String {
+    tree_of("p", "", first, leaves)
+}
+
+/// The same of predicates of another name, each with these terms.
+fn tree_of(name: &str, terms: &str, first: u64, leaves: &[u64]) -> String {
     if let [leaf] = leaves {
         return leaf.to_string();
     }
     let (yes, no) = leaves.split_at(leaves.len() / 2);
-    format!("(if (p{first}) {} {})", tree(first + 1, yes), tree(first + 1, no))
+    format!("(if ({name}{first}{terms}) {} {})", tree_of(name, terms, first + 1, yes), tree_of(name, terms, first + 1, no))
+}
+
+/// About 512 valuations times paths: propositions with one test of all variables, or one of each, at their end. Over four objects no test is left that combinations do not pass.
+fn runs(random: &mut Random) -> Vec<String> {
+    let (end, paths) = *random.pick(&[
+        ("(if (q ?x) 9 8)", 256),
+        ("(if (r ?x ?y) 9 8)", 128),
+        ("(if (q ?x) (if (q ?y) 9 8) 7)", 128),
+        ("(if (q ?x) (if (q ?y) (if (q ?z) 9 8) 7) 6)", 18),
+        ("(if (r ?x ?y) (if (r ?y ?z) 9 8) 7)", 18),
+        ("(if (s ?x ?y ?z ?w) 9 8)", 2),
+        ("(if (t ?x ?y ?z ?w ?v) 9 8)", 2),
+    ]);
+    let below = 1 + end.matches("(if").count() as u64;
+    let above: Vec<u64> = (1..=(about(random, paths) + 1).saturating_sub(below).max(1)).collect();
+    let predicates = [("q", 1), ("r", 2), ("s", 4), ("t", 5)].map(|(name, arity)| format!("(predicate {name} {arity})"));
+    let reward = tree(0, &above).replacen("1 ", &format!("{end} "), 1);
+    let reward = if above.len() == 1 { end.to_string() } else { reward };
+    let mut lines = model(numbered(9, |i| format!("(predicate p{i} 0)")).chain(predicates).collect(), reward);
+    lines.extend(["(cut)", "(reduce)", "(show)", "(reduce)"][random.below(2) as usize..].iter().map(|line| line.to_string()));
+    lines
+}
+
+/// About 100,000 combinations, at the ends of a few propositions: n paths by tests of both variables form n + n^2 + n^3 + n^4, by tests of one variable 2 * (n + n^2), and 17 and 10
+/// of the first kind 99,850.
+fn combinations(random: &mut Random) -> Vec<String> {
+    let leaves = |count: u64| (1..=count).collect::<Vec<u64>>();
+    let both = |count: u64| tree_of("r", " ?x ?y", 0, &leaves(count));
+    let mut end = |large: bool| match random.below(if large { 2 } else { 6 }) {
+        0 => both(3),
+        1 => both(2),
+        2 => tree_of("q", " ?x", 0, &leaves(random.between(2, 4))),
+        3 => "(if (q0 ?x) (if (q0 ?y) 9 8) 7)".to_string(),
+        4 => "5".to_string(),
+        _ => "(if (q1 ?x) (if (r0 ?x ?y) 9 8) 7)".to_string(),
+    };
+    let small = format!("(if (p1) {} (if (p2) {} {}))", end(true), end(true), end(false));
+    let reward = format!("(if (p0) (if (p1) {} {}) {small})", both(17), both(10));
+    let predicates = [("p", 0), ("q", 1), ("r", 2)].map(|(name, arity)| numbered(5, move |i| format!("(predicate {name}{i} {arity})")));
+    let mut lines = model(predicates.into_iter().flatten().collect(), reward);
+    lines.extend(["(reduce)", "(show)"].map(str::to_string));
+    lines
 }
 
 /// Two weights, one above the other, of about 4,096 pairs: 8 leaves over 511 rows are 4,095.

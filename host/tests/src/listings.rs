@@ -5,7 +5,7 @@ use crate::models::{terms, Signature, Size};
 use crate::old::{old_listing, OLD_LEAF_MARK};
 use crate::random::Random;
 use crate::tally::Tally;
-use reference::calls::{combine, cut, free, regress, value, Lent, RESULT_WORDS, SPACE_WORDS};
+use reference::calls::{combine, cut, free, reduce, regress, value, Lent, RESULT_WORDS, SPACE_WORDS};
 use reference::combine::{Names, Operator};
 use reference::diagram::LARGEST;
 use reference::listing::{read_listing, write_listing};
@@ -64,6 +64,7 @@ fn every_call(random: &mut Random, words: &[u64], arities: &Arities) -> Vec<Resu
         regress(&leaf, &truths, arities, lent).map(|_| ()),
         free(words, count, arities, lent).map(|_| ()),
         cut(words, arities, lent).map(|_| ()),
+        reduce(words, arities, lent).map(|_| ()),
         value(words, arities, objects, &[random.below(3)], &[]).map(|_| ()),
     ]
 }

@@ -8,7 +8,8 @@
 //!     tests text SEED
 //!
 //! `self` holds the reference against brute force, the weight rule over all states that matter, compares ground listings by their values, sees that blank
-//! lines change nothing but line numbers, that listings of the old kind meet 14 and that both ways to a value agree, counts the refusals met, and sees that each of document 01's slips is caught.
+//! lines change nothing but line numbers, that listings of the old kind meet 14 and that both ways to a value agree, works reductions out from states alone, counts the refusals met, and sees that each
+//! slip is caught.
 //! `program` feeds random texts to a program and to the reference. `bellman` holds the values that a program prints against brute force,
 //! without the reference's diagrams. `library` (feature `library`) makes random calls of the static
 //! library and of the reference, whole texts too, and sees that each call gave each of its answers.
@@ -32,6 +33,7 @@ mod old;
 mod order;
 mod program;
 mod random;
+mod reductions;
 #[cfg(feature = "library")]
 mod shapes;
 mod tables;
@@ -109,6 +111,7 @@ fn values_and_meanings(seed: u64, slips: Slips, tally: &mut Tally) -> Result<(),
     let failed = |what: &'static str| move |message: String| format!("seed {seed}, {what}: {message}");
     meaning::check_regression(seed, slips, tally).map_err(failed("regression"))?;
     meaning::check_cut(seed, slips, tally).map_err(failed("cut"))?;
+    reductions::check(seed, slips, tally).map_err(failed("reduction"))?;
     bellman::check(seed, slips, tally).map_err(failed("value"))
 }
 
@@ -146,6 +149,7 @@ fn slips_are_caught() -> Result<(), String> {
         ("sums under shared names", Slips { sums_shared: true, ..Slips::NONE }),
         ("arguments replaced in turn", Slips { arguments_in_turn: true, ..Slips::NONE }),
         ("a better path through the cut edge", Slips { cover_through_edge: true, ..Slips::NONE }),
+        ("a reduction over one object fewer", Slips { one_object_fewer: true, ..Slips::NONE }),
     ];
     for (name, slips) in slips {
         let caught = |seed: u64| values_and_meanings(seed, slips, &mut Tally::default()).err();

@@ -59,7 +59,7 @@ fn pair_set(operator: Operator, a: &Diagram, b: &Diagram, set: &mut BTreeSet<(Di
     }
 }
 
-fn expect(condition: bool, message: impl FnOnce() -> String) -> Result<(), String> {
+pub fn expect(condition: bool, message: impl FnOnce() -> String) -> Result<(), String> {
     if condition {
         Ok(())
     } else {
@@ -67,7 +67,7 @@ fn expect(condition: bool, message: impl FnOnce() -> String) -> Result<(), Strin
     }
 }
 
-fn is_listing(diagram: &Diagram, signature: &Signature) -> bool {
+pub fn is_listing(diagram: &Diagram, signature: &Signature) -> bool {
     read_listing(&write_listing(diagram), &signature.arities).as_ref() == Ok(diagram)
 }
 

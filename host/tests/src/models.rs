@@ -16,6 +16,8 @@ use std::collections::{BTreeMap, BTreeSet};
 #[derive(Clone, Copy)]
 pub struct Size {
     pub constants: u64,
+    /// Whether diagrams have equalities.
+    pub equality: bool,
     pub predicates: u64,
     pub arity: u64,
     pub variables: u64,
@@ -37,6 +39,7 @@ impl Size {
     /// Small enough for brute force over states.
     pub const SMALL: Size = Size {
         constants: 2,
+        equality: true,
         predicates: 3,
         arity: 2,
         variables: 2,
@@ -55,12 +58,16 @@ impl Size {
     /// Predicates of up to all places, over two objects.
     pub const PLACES: Size = Size { predicates: 2, arity: LARGEST_ARITY, objects: 2, ..Size::SMALL };
 
+    /// No constant and no equality, and few variables after a backup: diagrams that may be reduced.
+    pub const PLAIN: Size = Size { constants: 0, equality: false, depth: 2, actions: 1, parameters: 1, ..Size::SMALL };
+
     /// Rewards of up to all variables and a few more.
     pub const VARIABLES: Size = Size { variables: VARIABLES + 6, depth: 5, ..Size::PLACES };
 
     /// Backups soon meet the limits.
     pub const LARGE: Size = Size {
         constants: 3,
+        equality: true,
         predicates: 6,
         arity: LARGEST_ARITY,
         variables: 5,
@@ -95,6 +102,7 @@ impl Size {
 /// The predicates, numbered from 1, and the number of constants.
 pub struct Signature {
     pub constants: u64,
+    pub equality: bool,
     pub predicates: u64,
     pub arities: Arities,
 }
@@ -107,12 +115,12 @@ impl Signature {
         for arity in &mut arities[1..=predicates as usize] {
             *arity = random.between(0, size.arity);
         }
-        Signature { constants: random.between(0, size.constants), predicates, arities }
+        Signature { constants: random.between(0, size.constants), equality: size.equality, predicates, arities }
     }
 
     /// An atom over these terms; one without terms where there are none, if a predicate allows it.
     fn atom(&self, random: &mut Random, terms: &[Term]) -> Option<(u64, Vec<Term>)> {
-        let predicate = random.between(0, self.predicates);
+        let predicate = random.between(u64::from(!self.equality), self.predicates);
         let arity = self.arities[predicate as usize];
         if arity > 0 && terms.is_empty() {
             return None;
@@ -122,7 +130,7 @@ impl Signature {
 
     /// An atom for a weight: an equality half the time.
     fn weight_atom(&self, random: &mut Random, terms: &[Term]) -> Option<(u64, Vec<Term>)> {
-        if terms.len() > 1 && random.once_in(2) {
+        if self.equality && terms.len() > 1 && random.once_in(2) {
             return Some((EQUALITY, vec![*random.pick(terms), *random.pick(terms)]));
         }
         self.atom(random, terms)

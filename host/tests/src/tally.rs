@@ -1,4 +1,4 @@
-//! How often each refusal was met.
+//! How often each refusal was met, and what else was seen.
 
 use reference::refusal::Refusal;
 use std::collections::BTreeMap;
@@ -6,6 +6,7 @@ use std::collections::BTreeMap;
 #[derive(Default)]
 pub struct Tally {
     met: BTreeMap<u64, u64>,
+    seen: BTreeMap<&'static str, u64>,
 }
 
 impl Tally {
@@ -21,13 +22,21 @@ impl Tally {
         answer
     }
 
+    /// Counts what a run should see now and then.
+    pub fn see(&mut self, what: &'static str) {
+        *self.seen.entry(what).or_default() += 1;
+    }
+
     pub fn missing(&self) -> Vec<u64> {
-        (1..=Refusal::Buffer.number()).filter(|number| !self.met.contains_key(number)).collect()
+        Refusal::ALL.map(Refusal::number).into_iter().filter(|number| !self.met.contains_key(number)).collect()
     }
 
     pub fn print(&self) {
         for (number, times) in &self.met {
             println!("refusal {number}: met {times} times");
+        }
+        for (what, times) in &self.seen {
+            println!("{what}: {times} times");
         }
     }
 }

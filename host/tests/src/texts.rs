@@ -11,11 +11,11 @@ pub fn text(seed: u64) -> Vec<u8> {
     if seed % 16 == 15 {
         return if random.once_in(8) { next_to_nothing(random) } else { bytes(random) };
     }
-    let kind = random.below(10);
-    let sizes = [Size::LARGE, Size::WIDE, Size::EQUALITIES, Size::PLACES, Size::VARIABLES];
+    let kind = random.below(12);
+    let sizes = [Size::LARGE, Size::WIDE, Size::EQUALITIES, Size::PLACES, Size::VARIABLES, Size::PLAIN];
     let size = *sizes.get(kind as usize).unwrap_or(&Size::SMALL);
-    let damaged = (6..9).contains(&kind);
-    let mut lines = if kind == 9 { limits::lines(random) } else { whole(random, size) }.into_iter().map(String::into_bytes).collect();
+    let damaged = (7..10).contains(&kind);
+    let mut lines = if kind >= 10 { limits::lines(random) } else { whole(random, size) }.into_iter().map(String::into_bytes).collect();
     if damaged {
         for _ in 0..random.between(1, 6) {
             damage(random, &mut lines);
@@ -71,7 +71,7 @@ fn whole(random: &mut Random, size: Size) -> Vec<String> {
     let mut lines = write_model(&signature, &plain);
     for _ in 0..random.between(1, 3) {
         for _ in 0..random.below(4) {
-            lines.push(random.pick(&["(backup)", "(cut)", "(cut)", "(show)"]).to_string());
+            lines.push(random.pick(&["(backup)", "(cut)", "(cut)", "(reduce)", "(show)"]).to_string());
         }
         let objects = random.between(1, size.objects);
         lines.extend(write_state(&sparse_state(random, &signature, objects)));
@@ -97,13 +97,14 @@ const NUMBERS: [&str; 14] = [
     "x",
 ];
 
-const LINES: [&str; 24] = [
+const LINES: [&str; 25] = [
     "",
     "()",
     "(start)",
     "(value)",
     "(backup)",
     "(cut)",
+    "(reduce)",
     "(show)",
     "(objects 2)",
     "(objects 0)",

@@ -138,7 +138,7 @@ const fn form(name: &'static str, written: &'static str, shapes: &'static [Shape
     Form { name, written, shapes }
 }
 
-const FORMS: [Form; 16] = [
+const FORMS: [Form; 17] = [
     form("constant", "(constant NAME)", &[Shape::Name]),
     form("predicate", "(predicate NAME ARITY)", &[Shape::Name, Shape::Number]),
     form("total", "(total W)", &[Shape::Number]),
@@ -154,6 +154,7 @@ const FORMS: [Form; 16] = [
     form("value", "(value)", &[]),
     form("backup", "(backup)", &[]),
     form("cut", "(cut)", &[]),
+    form("reduce", "(reduce)", &[]),
     form("show", "(show)", &[]),
 ];
 

@@ -20,7 +20,7 @@ pub fn check(session: &Session, line: &Line, span: Span) -> Checked {
 }
 
 fn is_run_form(line: &Line) -> bool {
-    matches!(line, Line::Objects(_) | Line::Is(..) | Line::True(..) | Line::Value | Line::Backup | Line::Cut | Line::Show)
+    matches!(line, Line::Objects(_) | Line::Is(..) | Line::True(..) | Line::Value | Line::Backup | Line::Cut | Line::Reduce | Line::Show)
 }
 
 type Found = Result<(), (String, &'static str)>;

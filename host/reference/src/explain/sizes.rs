@@ -7,6 +7,7 @@ use crate::cut::{cut, Path, PATHS};
 use crate::declarations::{Declarations, DeclaredAction, Lookup, Variables, DEFAULT_TOTAL};
 use crate::diagram::{Diagram, Row, Space};
 use crate::names::Names as TermNames;
+use crate::reduce::{is_plain, reduce, runs, COMBINATIONS, RUNS};
 use crate::refusal::Refusal;
 use crate::regress::row_step;
 use crate::session::{Run, Session, ACTIONS, FACTS, MODEL_ROWS, VARIANTS};
@@ -222,6 +223,7 @@ pub fn check_run(run: &Run, declared: &Declarations, line: &Line, span: Span) ->
         Line::Value => valuations(run, span),
         Line::Backup => backup::refused_backup(run, declared, span).map_or(Ok(()), Err),
         Line::Cut => cuts(run, span),
+        Line::Reduce => reductions(run, declared, span),
         _ => Ok(()),
     }
 }
@@ -261,17 +263,21 @@ fn valuations(run: &Run, span: Span) -> Checked {
     })
 }
 
+fn many_paths(run: &Run, span: Span, advice: &str) -> Fault {
+    let (rows, paths) = (counted(run.value.rows().len(), "row"), grouped(measure::count_paths(&run.value)));
+    Fault::new(
+        Refusal::Paths,
+        span,
+        format!("after step {}: the value diagram of {rows} has {paths} paths; at most {PATHS}", run.k),
+        advice,
+    )
+}
+
 fn cuts(run: &Run, span: Span) -> Checked {
     cut(&run.value, &run.arities, Slips::NONE).map(|_| ()).map_err(|refusal| {
         let rows = counted(run.value.rows().len(), "row");
         if refusal == Refusal::Paths {
-            let paths = grouped(measure::count_paths(&run.value));
-            return Fault::new(
-                refusal,
-                span,
-                format!("after step {}: the value diagram of {rows} has {paths} paths; at most {PATHS}", run.k),
-                "values are right uncut, so go on; a smaller model has fewer paths",
-            );
+            return many_paths(run, span, "values are right uncut, so go on; a smaller model has fewer paths");
         }
         Fault::new(
             refusal,
@@ -279,5 +285,42 @@ fn cuts(run: &Run, span: Span) -> Checked {
             format!("after step {}: the value diagram of {rows} has no edge that may go", run.k),
             "all is cut, so go on",
         )
+    })
+}
+
+fn reductions(run: &Run, declared: &Declarations, span: Span) -> Checked {
+    reduce(&run.value, &run.arities, Slips::NONE).map(|_| ()).map_err(|refusal| {
+        let rows = counted(run.value.rows().len(), "row");
+        let (variables, paths) = (run.value.variables().len(), measure::count_paths(&run.value) as usize);
+        let names = TermNames { declarations: declared, parameters: &[] };
+        let other = run.value.labels().find(|label| !is_plain(*label, &run.arities)).map(|label| names.label(label));
+        let (met, advice) = match refusal {
+            Refusal::Paths => {
+                return many_paths(run, span, "values are right unreduced, so go on; cuts take paths away once there are 256")
+            }
+            Refusal::Kinds => (
+                format!("tests {}; a reduction is for diagrams without equality and constants", other.unwrap_or_default()),
+                "values are right unreduced, so go on; (cut) takes such diagrams",
+            ),
+            Refusal::Runs => (
+                format!(
+                    "has {} and {}: {variables}^{variables} valuations over as many objects, times the paths, are {}; at most {RUNS}",
+                    counted(variables, "variable"),
+                    counted(paths, "path"),
+                    grouped(runs(variables, paths))
+                ),
+                "cut until 16, which leaves fewer variables and paths; values are right unreduced, so go on",
+            ),
+            _ => (
+                format!(
+                    "has {} and {}, which combine in more than {} ways",
+                    counted(variables, "variable"),
+                    counted(paths, "path"),
+                    grouped(COMBINATIONS as u128)
+                ),
+                "cut until 16, which leaves fewer paths; values are right unreduced, so go on",
+            ),
+        };
+        Fault::new(refusal, span, format!("after step {}: the value diagram of {rows} {met}", run.k), advice)
     })
 }
