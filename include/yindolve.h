@@ -80,26 +80,30 @@ extern "C" {
 #define YINDOLVE_SESSION_WORK_WORDS 6144 /* a session's working space, at least */
 #define YINDOLVE_ANSWER_BYTES 92160      /* the answer of a line: 90 bytes for each of 1,024 rows */
 
-/* The refusals. Calls on diagrams answer 4, 6 to 11 and 14 to 18; lines of a text 1 to 13 and 15 to 17. Later versions add numbers from 19 on. */
+/* The refusals. Calls on diagrams answer 4, 6 to 11, 14 to 18 and 26 to 28; lines of a text 1 to 13, 15 to 17 and 26 to 28. Later versions add numbers from 20 to 25. */
 enum {
-    YINDOLVE_FORM = 1,        /* a line that is not of the grammar */
-    YINDOLVE_NAME = 2,        /* a name that is not declared, or given twice */
-    YINDOLVE_ARITY = 3,       /* not as many terms or objects as the predicate has places */
-    YINDOLVE_RANGE = 4,       /* a number outside its range; a state without objects or with an object beyond them; more than 4 parameters */
-    YINDOLVE_PLACE = 5,       /* a line in the wrong part of the text, a missing part, a second single form, a constant that is not placed */
-    YINDOLVE_UNBOUND = 6,     /* a parameter where none is allowed, or past the action's; a truth diagram's variable that is no argument */
-    YINDOLVE_TRUTH = 7,       /* a truth diagram's leaf above 1 */
-    YINDOLVE_VARIABLES = 8,   /* more than 64 variables, or a variable past 127 */
-    YINDOLVE_SPACE = 9,       /* more than 2,048 rows formed, or a result of more than 1,024; more facts or declarations than there is room for */
-    YINDOLVE_PAIRS = 10,      /* more than 4,096 pairs */
-    YINDOLVE_TOO_HIGH = 11,   /* a leaf above YINDOLVE_VALUE; its trade word is "value" */
-    YINDOLVE_SCALE = 12,      /* a power of the scale above 10^18, or 10^18 backups */
-    YINDOLVE_WEIGHTS = 13,    /* an action's weights, summed, are not the total in a case that equality does not rule out */
-    YINDOLVE_LISTING = 14,    /* words that are no listing, or a wrong arity list */
-    YINDOLVE_VALUATIONS = 15, /* more than 1,000,000 valuations, and more than 8,192 entries in the tables that take their place */
-    YINDOLVE_NOTHING = 16,    /* no edge to cut */
-    YINDOLVE_PATHS = 17,      /* more than 256 paths: of a diagram to cut, or at (start) of an action's summed weights */
-    YINDOLVE_BUFFER = 18      /* a result buffer or a working space that is too small: nothing is done */
+    YINDOLVE_FORM = 1,         /* a line that is not of the grammar */
+    YINDOLVE_NAME = 2,         /* a name that is not declared, or given twice */
+    YINDOLVE_ARITY = 3,        /* not as many terms or objects as the predicate has places */
+    YINDOLVE_RANGE = 4,        /* a number outside its range; a state without objects or with an object beyond them; more than 4 parameters */
+    YINDOLVE_PLACE = 5,        /* a line in the wrong part of the text, a missing part, a second single form, a constant that is not placed */
+    YINDOLVE_UNBOUND = 6,      /* a parameter where none is allowed, or past the action's; a truth diagram's variable that is no argument */
+    YINDOLVE_TRUTH = 7,        /* a truth diagram's leaf above 1 */
+    YINDOLVE_VARIABLES = 8,    /* more than 64 variables, or a variable past 127 */
+    YINDOLVE_SPACE = 9,        /* more than 2,048 rows formed, or a result of more than 1,024; more facts or declarations than there is room for */
+    YINDOLVE_PAIRS = 10,       /* more than 4,096 pairs */
+    YINDOLVE_TOO_HIGH = 11,    /* a leaf above YINDOLVE_VALUE; its trade word is "value" */
+    YINDOLVE_SCALE = 12,       /* a power of the scale above 10^18, or 10^18 backups */
+    YINDOLVE_WEIGHTS = 13,     /* an action's weights, summed, are not the total in a case that equality does not rule out */
+    YINDOLVE_LISTING = 14,     /* words that are no listing, or a wrong arity list */
+    YINDOLVE_VALUATIONS = 15,  /* more than 1,000,000 valuations, and more than 8,192 entries in the tables that take their place */
+    YINDOLVE_NOTHING = 16,     /* no edge to cut */
+    YINDOLVE_PATHS = 17,       /* more than 256 paths: of a diagram to cut or to reduce, or at (start) of an action's summed weights */
+    YINDOLVE_BUFFER = 18,      /* a result buffer or a working space that is too small: nothing is done */
+    YINDOLVE_LENGTH = 19,      /* the value diagram, written as a form, is too long for a (reward ..) line; no line of this version answers it yet */
+    YINDOLVE_KINDS = 26,       /* an equality or a constant in a diagram to reduce */
+    YINDOLVE_RUNS = 27,        /* more than 512 valuations times paths of a diagram to reduce */
+    YINDOLVE_COMBINATIONS = 28 /* more than 100,000 combinations of paths in a reduction */
 };
 
 /* No refusal: the answers of a text do not fit the buffer. Those before the first that does not are written, and their bytes and lines are told. */
@@ -127,6 +131,10 @@ static inline const char *yindolve_refusal_word(uint64_t refusal) {
     case YINDOLVE_NOTHING: return "nothing";
     case YINDOLVE_PATHS: return "paths";
     case YINDOLVE_BUFFER: return "buffer";
+    case YINDOLVE_LENGTH: return "length";
+    case YINDOLVE_KINDS: return "kinds";
+    case YINDOLVE_RUNS: return "runs";
+    case YINDOLVE_COMBINATIONS: return "combinations";
     default: return "unknown";
     }
 }
@@ -151,8 +159,12 @@ static inline const char *yindolve_refusal_meaning(uint64_t refusal) {
     case YINDOLVE_LISTING: return "the words are no listing, or the arity list is wrong";
     case YINDOLVE_VALUATIONS: return "more than 1,000,000 ways to choose objects for the variables, and more than 8,192 entries in the tables that take their place";
     case YINDOLVE_NOTHING: return "no edge is left to cut";
-    case YINDOLVE_PATHS: return "more than 256 paths, in the diagram to cut or in an action's summed weights";
+    case YINDOLVE_PATHS: return "more than 256 paths, in the diagram to cut or to reduce or in an action's summed weights";
     case YINDOLVE_BUFFER: return "a result buffer or a working space that is too small";
+    case YINDOLVE_LENGTH: return "the value diagram, written as a form, is too long for a (reward ..) line: more than 4,095 bytes or 64 open brackets";
+    case YINDOLVE_KINDS: return "an equality or a constant in the diagram to reduce";
+    case YINDOLVE_RUNS: return "more than 512 valuations times paths of the diagram to reduce";
+    case YINDOLVE_COMBINATIONS: return "more than 100,000 combinations of paths in a reduction";
     default: return "a refusal that this version does not have";
     }
 }
@@ -211,6 +223,16 @@ uint64_t yindolve_free_parameters(const uint64_t *arities, size_t arities_count,
  */
 uint64_t yindolve_cut(const uint64_t *arities, size_t arities_count, const uint64_t *words, size_t words_count, uint64_t *result, size_t result_count,
     uint64_t *work, size_t work_count, uint64_t *row, uint64_t *edge, uint64_t *rows);
+
+/* Reduces a listing by model checking: every edge that no winning path has goes to leaf 0, and the diagram is reduced and closed up. The result goes to `result` and
+ * its rows to *rows. The value stays in every state. A valuation gives each variable one of as many invented objects as there are variables; a combination is a path for
+ * each valuation, and is consistent where no atom over these objects is both true and false; its winning path has the highest leaf and, of equal ones, the true edge
+ * where they part. Unlike a cut this sees what several paths do together. The result may be the listing itself, closed up, and may have one row more, leaf 0.
+ * The work is bounded: valuations times paths by 512, and combinations, counted after each valuation (lowest objects first, the lowest variable changing slowest), by 100,000.
+ * Refused, in this order: LISTING; BUFFER; UNBOUND (any parameter); PATHS; KINDS; RUNS; COMBINATIONS.
+ */
+uint64_t yindolve_reduce(const uint64_t *arities, size_t arities_count, const uint64_t *words, size_t words_count, uint64_t *result, size_t result_count,
+    uint64_t *work, size_t work_count, uint64_t *rows);
 
 /* The value of a listing in a state, to *value: the highest leaf over all valuations of its variables. The state has objects 0 to objects - 1; constants[c] is the
  * object of constant c (0 for a constant that has no word, words past YINDOLVE_CONSTANTS are not read); facts are rows of YINDOLVE_FACT_WORDS words, words behind
@@ -275,6 +297,7 @@ typedef enum {
     YINDOLVE_ANSWER_VALUE,   /* (value V k S^k): value, steps, scale; the value of the state is value / scale */
     YINDOLVE_ANSWER_BACKUP,  /* (backup k rows): steps, rows */
     YINDOLVE_ANSWER_CUT,     /* (cut row edge rows): row, edge (1 for true, 0 for false), rows */
+    YINDOLVE_ANSWER_REDUCE,  /* (reduce rows): rows */
     YINDOLVE_ANSWER_ROWS,    /* (row ..) lines: rows; yindolve_read_rows reads them */
     YINDOLVE_ANSWER_REFUSED, /* (refused number line): refusal, line; line 0 in a closing answer */
     YINDOLVE_ANSWER_UNKNOWN  /* bytes that are no answer of this version; none where no line was answered */
@@ -373,6 +396,9 @@ static inline yindolve_answer yindolve_read_answer(const uint8_t *bytes, size_t 
         a.edge = (uint64_t)yindolve_take_word(bytes, count, &at, " true ");
         whole = whole && (a.edge || yindolve_take_word(bytes, count, &at, " false ")) && yindolve_take_number(bytes, count, &at, &a.rows) &&
             yindolve_take_word(bytes, count, &at, ")\n");
+    } else if (yindolve_take_word(bytes, count, &at, "(reduce ")) {
+        a.kind = YINDOLVE_ANSWER_REDUCE;
+        whole = yindolve_take_number(bytes, count, &at, &a.rows) && yindolve_take_word(bytes, count, &at, ")\n");
     } else if (yindolve_take_word(bytes, count, &at, "(refused ")) {
         a.kind = YINDOLVE_ANSWER_REFUSED;
         whole = yindolve_take_number(bytes, count, &at, &a.refusal) && yindolve_take_word(bytes, count, &at, " ") &&

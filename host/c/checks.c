@@ -1,4 +1,4 @@
-/* What include/yindolve.h adds to the library's functions: refusals in words, answers as structs, null pointers, the end of a text, saved sessions. Prints nothing if all is well. */
+/* What include/yindolve.h adds to the library's functions: refusals in words, answers as structs, null pointers, the end of a text, saved sessions; and a reduction. Prints nothing if all is well. */
 #include <stdio.h>
 #include <stdlib.h>
 #include "yindolve.h"
@@ -25,14 +25,15 @@ static yindolve_answer read_text(const char *text) {
 static void refusals(void) {
     uint64_t number;
     EXPECT(strcmp(yindolve_refusal_word(0), "accepted") == 0);
-    for (number = 1; number <= YINDOLVE_BUFFER; ++number) {
+    for (number = 1; number <= YINDOLVE_COMBINATIONS; number += number == YINDOLVE_LENGTH ? YINDOLVE_KINDS - YINDOLVE_LENGTH : 1) {
         EXPECT(strcmp(yindolve_refusal_word(number), "unknown") != 0);
         EXPECT(strlen(yindolve_refusal_meaning(number)) > 20);
     }
     EXPECT(strcmp(yindolve_refusal_word(YINDOLVE_TOO_HIGH), "value") == 0);
     EXPECT(strcmp(yindolve_refusal_word(99), "unknown") == 0);
     EXPECT(strcmp(yindolve_refusal_word(YINDOLVE_FULL), "unknown") == 0); /* no refusal */
-    EXPECT(YINDOLVE_FORM == 1 && YINDOLVE_WEIGHTS == 13 && YINDOLVE_BUFFER == 18);
+    EXPECT(YINDOLVE_FORM == 1 && YINDOLVE_WEIGHTS == 13 && YINDOLVE_BUFFER == 18 && YINDOLVE_LENGTH == 19);
+    EXPECT(YINDOLVE_KINDS == 26 && YINDOLVE_RUNS == 27 && YINDOLVE_COMBINATIONS == 28);
 }
 
 static void read_answers(void) {
@@ -44,6 +45,10 @@ static void read_answers(void) {
     EXPECT(a.kind == YINDOLVE_ANSWER_CUT && a.row == 5 && a.edge == 0 && a.rows == 4);
     a = read_text("(cut 5 true 4)\n");
     EXPECT(a.kind == YINDOLVE_ANSWER_CUT && a.edge == 1);
+    a = read_text("(reduce 7)\n");
+    EXPECT(a.kind == YINDOLVE_ANSWER_REDUCE && a.rows == 7 && a.steps == 0 && a.bytes == 11);
+    a = read_text("(refused 28 9)\n");
+    EXPECT(a.kind == YINDOLVE_ANSWER_REFUSED && a.refusal == YINDOLVE_COMBINATIONS && a.line == 9);
     a = read_text("(refused 16 18)\n");
     EXPECT(a.kind == YINDOLVE_ANSWER_REFUSED && a.refusal == YINDOLVE_NOTHING && a.line == 18);
     a = read_text("(row 0 leaf 30)\n(row 1 leaf 0)\n(row 2 281474976710656 0 1)\n");
@@ -51,7 +56,7 @@ static void read_answers(void) {
     EXPECT(read_text("").kind == YINDOLVE_ANSWER_NOTHING);
     EXPECT(yindolve_read_answer(NULL, 0).kind == YINDOLVE_ANSWER_NOTHING);
     EXPECT(yindolve_read_answer(NULL, 1).kind == YINDOLVE_ANSWER_UNKNOWN);
-    static const char *const wrong[] = {"(", "(value", "(value 1 2)\n", "(value 1 2 3)", "(value 1 2 3)\nx", "(value 99999999999999999999 1 1)\n", "(cut 5 maybe 4)\n",
+    static const char *const wrong[] = {"(", "(value", "(value 1 2)\n", "(value 1 2 3)", "(value 1 2 3)\nx", "(value 99999999999999999999 1 1)\n", "(cut 5 maybe 4)\n", "(reduce)\n", "(reduce 5 4)\n",
         "(row 0 leaf)\n", "(row)\n", "(refused x 1)\n", "\n", "(value  1 2 3)\n"};
     size_t i;
     for (i = 0; i < sizeof wrong / sizeof wrong[0]; ++i) {
@@ -76,6 +81,39 @@ static void labels(void) {
     EXPECT(yindolve_check(arities, YINDOLVE_ARITIES, test, 9) == YINDOLVE_LISTING);
     test[0] = test[3] = UINT64_C(4294967295); /* and its leaves */
     EXPECT(yindolve_check(arities, YINDOLVE_ARITIES, test, 9) == YINDOLVE_LISTING && yindolve_check(arities, YINDOLVE_ARITIES, test, 3) == YINDOLVE_LISTING);
+}
+
+/* A reduction of these words with all memory lent; a refused one leaves the count. */
+static uint64_t reduced(const uint64_t *arities, const uint64_t *from, size_t count, uint64_t *rows) {
+    return yindolve_reduce(arities, YINDOLVE_ARITIES, from, count, listing, YINDOLVE_RESULT_WORDS, work, YINDOLVE_WORK_WORDS, rows);
+}
+
+/* A branch with stock (1) is near (2) one without, or near one that is: the one in between decides which of the two steps is enough, and no cut finds it. */
+static void reductions(void) {
+    const uint64_t arities[YINDOLVE_ARITIES] = {2, 1, 2, 5}, x = 64, y = 65, z = 66;
+    const uint64_t between[] = {YINDOLVE_LEAF, 0, 0, YINDOLVE_LEAF, 5, 0, YINDOLVE_LABEL(2, z, y, 0, 0, 0, 0), 1, 0, YINDOLVE_LABEL(2, x, z, 0, 0, 0, 0), 2, 0,
+        YINDOLVE_LABEL(2, x, y, 0, 0, 0, 0), 1, 3, YINDOLVE_LABEL(1, y, 0, 0, 0, 0, 0), 0, 4, YINDOLVE_LABEL(1, x, 0, 0, 0, 0, 0), 5, 0};
+    const uint64_t left[] = {YINDOLVE_LEAF, 0, 0, YINDOLVE_LEAF, 5, 0, YINDOLVE_LABEL(2, x, y, 0, 0, 0, 0), 1, 0, YINDOLVE_LABEL(1, y, 0, 0, 0, 0, 0), 0, 2,
+        YINDOLVE_LABEL(1, x, 0, 0, 0, 0, 0), 3, 0};
+    uint64_t test[] = {YINDOLVE_LEAF, 1, 0, YINDOLVE_LEAF, 0, 0, 0, 0, 1}, rows = 99, row = 99, edge = 99;
+    EXPECT(yindolve_cut(arities, YINDOLVE_ARITIES, between, 21, listing, YINDOLVE_RESULT_WORDS, work, YINDOLVE_WORK_WORDS, &row, &edge, &rows) == YINDOLVE_NOTHING);
+    listing[15] = 77; /* behind the result */
+    EXPECT(reduced(arities, between, 21, &rows) == 0 && rows == 5 && memcmp(listing, left, sizeof left) == 0 && listing[15] == 77);
+    EXPECT(reduced(arities, left, 15, &rows) == 0 && rows == 5 && memcmp(listing, left, sizeof left) == 0); /* nothing changes */
+    rows = 99;
+    EXPECT(reduced(arities, between, 20, &rows) == YINDOLVE_LISTING);
+    EXPECT(yindolve_reduce(arities, YINDOLVE_ARITIES, between, 21, listing, YINDOLVE_RESULT_WORDS - 1, work, YINDOLVE_WORK_WORDS, &rows) == YINDOLVE_BUFFER);
+    EXPECT(yindolve_reduce(arities, YINDOLVE_ARITIES, between, 21, listing, YINDOLVE_RESULT_WORDS, work, YINDOLVE_WORK_WORDS - 1, &rows) == YINDOLVE_BUFFER);
+    test[6] = YINDOLVE_LABEL(1, YINDOLVE_FIRST_PARAMETER, 0, 0, 0, 0, 0);
+    EXPECT(reduced(arities, test, 9, &rows) == YINDOLVE_UNBOUND);
+    test[6] = YINDOLVE_LABEL(1, 0, 0, 0, 0, 0, 0); /* a constant */
+    EXPECT(reduced(arities, test, 9, &rows) == YINDOLVE_KINDS);
+    test[6] = YINDOLVE_LABEL(0, x, y, 0, 0, 0, 0); /* an equality */
+    EXPECT(reduced(arities, test, 9, &rows) == YINDOLVE_KINDS);
+    test[6] = YINDOLVE_LABEL(3, x, y, z, 67, 68, 0);
+    EXPECT(reduced(arities, test, 9, &rows) == YINDOLVE_RUNS);
+    test[6] = YINDOLVE_LABEL(3, x, y, z, 67, x, 0);
+    EXPECT(reduced(arities, test, 9, &rows) == YINDOLVE_COMBINATIONS && rows == 99 && memcmp(listing, left, sizeof left) == 0);
 }
 
 static void null_pointers(void) {
@@ -154,6 +192,7 @@ static void sessions(void) {
     EXPECT(yindolve_read_rows(session.answer, bytes, listing, YINDOLVE_RESULT_WORDS, &rows) == 0 && rows == 6);
     EXPECT(yindolve_check(session.arities, YINDOLVE_ARITIES, listing, rows * YINDOLVE_ROW_WORDS) == 0);
     EXPECT(yindolve_session_ask(&session, "(value)").value == 30);
+    EXPECT(yindolve_session_ask(&session, "(reduce)").refusal == YINDOLVE_KINDS);
     EXPECT(closes_with(&session, ""));
 
     EXPECT(yindolve_session_save(&session, words, YINDOLVE_SAVED_WORDS - 1) == YINDOLVE_BUFFER);
@@ -182,6 +221,7 @@ int main(void) {
     refusals();
     read_answers();
     labels();
+    reductions();
     null_pointers();
     ends();
     sessions();

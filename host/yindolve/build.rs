@@ -6,7 +6,7 @@ use std::path::{Path, PathBuf};
 /// Names that the library has in a folder: as it is installed, and as it is built.
 const NAMES: [&str; 2] = ["libyindolve.a", "libc_library.a"];
 /// The newest function, by which an old library is told.
-const FUNCTION: &str = "yindolve_end";
+const FUNCTION: &str = "yindolve_reduce";
 const HELP: &str = "Run `rt staticlib c_library` at the root of the repository, or let YINDOLVE_LIBRARY name a library or its folder.";
 
 fn main() {

@@ -11,12 +11,12 @@ use reference::diagram::Diagram;
 use reference::listing::{read_arities, read_listing, write_listing};
 use reference::refusal::Refusal;
 use reference::state::VALUATIONS;
-use reference::terms::{Label, FIRST_PARAMETER, FIRST_VARIABLE, LARGEST_ARITY, LAST_VARIABLE, PARAMETERS, PREDICATES, VARIABLES};
+use reference::terms::{Label, EQUALITY, FIRST_PARAMETER, FIRST_VARIABLE, LARGEST_ARITY, LAST_VARIABLE, PARAMETERS, PREDICATES, VARIABLES};
 use std::collections::BTreeMap;
 use yindolve::calls;
 
 /// The calls and the refusals that each can answer, 0 for an accepted call.
-const CALLS: [(&str, &[u64]); 11] = [
+const CALLS: [(&str, &[u64]); 12] = [
     ("check", &[0, 14]),
     ("sum apart", &[0, 8, 9, 10, 11, 14, 18]),
     ("sum shared", &[0, 9, 10, 11, 14, 18]),
@@ -27,6 +27,7 @@ const CALLS: [(&str, &[u64]); 11] = [
     ("regress", &[0, 6, 7, 9, 10, 14, 18]),
     ("free", &[0, 4, 6, 8, 14, 18]),
     ("cut", &[0, 14, 16, 17, 18]),
+    ("reduce", &[0, 6, 14, 17, 18, 26, 27, 28]),
     ("value", &[0, 4, 6, 14, 15]),
 ];
 
@@ -313,6 +314,70 @@ fn check_cut(random: &mut Random, answers: &mut Answers) -> Result<(), String> {
     )
 }
 
+/// Atoms for a reduction: as a rule without equality, constants and parameters, and of up to three variables.
+fn plain_atoms(random: &mut Random) -> Atoms {
+    let parameters = u64::from(random.once_in(12));
+    let variables = *random.pick(&[1, 2, 2, 2, 3, 3, 4, 6]);
+    let mut atoms = Atoms::random(random, parameters, variables);
+    if !random.once_in(12) {
+        atoms.predicates.retain(|predicate| *predicate != EQUALITY);
+        atoms.terms.retain(|term| *term >= FIRST_PARAMETER);
+    }
+    if random.once_in(2) {
+        let most = random.below(3);
+        atoms.arities[1..].iter_mut().for_each(|arity| *arity = (*arity).min(most));
+    }
+    atoms
+}
+
+/// The library's own values of two listings in a state of up to three objects.
+fn values_agree(random: &mut Random, atoms: &Atoms, before: &[u64], after: &[u64]) -> Result<(), String> {
+    let objects = random.between(1, 3);
+    let facts: Vec<u64> = (0..random.below(30))
+        .flat_map(|_| {
+            [*random.pick(&atoms.predicates)].into_iter().chain((0..LARGEST_ARITY).map(|_| random.below(objects))).collect::<Vec<u64>>()
+        })
+        .collect();
+    let value = |words: &[u64]| {
+        let mut value = 0;
+        calls::value(&atoms.arities, words, objects, &[], &facts, &mut value).map(|()| value)
+    };
+    match (value(before), value(after)) {
+        (Ok(before), Ok(after)) if before != after => {
+            Err(format!("the value {before} is {after} after the reduction, with facts {facts:?}"))
+        }
+        _ => Ok(()),
+    }
+}
+
+fn check_reduction(random: &mut Random, answers: &mut Answers) -> Result<(), String> {
+    let atoms = &plain_atoms(random);
+    let arities = lent_arities(random, atoms);
+    let shape = match random.below(8) {
+        0 => Shape::any(random, 8),
+        1 => Shape { levels: random.between(5, 9), width: random.between(2, 8) },
+        _ => Shape { levels: random.between(1, 5), width: random.between(1, 6) },
+    };
+    let leaves = leaves(random);
+    let words = listing(random, atoms, shape, &leaves);
+    compare(
+        random,
+        answers,
+        "reduce",
+        |result, work, [rows, ..]| calls::reduce(&arities, &words, result, work, rows),
+        |lent| {
+            let words = right::reduce(&words, &arities, lent)?;
+            let counts = vec![rows(&words)];
+            Ok((words, counts))
+        },
+    )?;
+    let (result, work, rows) = (&mut vec![0; RESULT_WORDS][..], &mut vec![0; SPACE_WORDS][..], &mut 0);
+    match calls::reduce(&atoms.arities, &words, result, work, rows) {
+        Ok(()) => (0..4).try_for_each(|_| values_agree(random, atoms, &words, &result[..3 * *rows as usize])),
+        Err(_) => Ok(()),
+    }
+}
+
 /// A number of objects: few valuations, which the reference goes through, or so many that tables take their place, some of them with too many entries.
 fn objects(random: &mut Random, variables: u32) -> u64 {
     let objects = match random.below(3) {
@@ -386,6 +451,7 @@ fn check_old_listing(random: &mut Random) -> Result<(), String> {
     met.push(("regress, a truth diagram", calls::regress(arities, leaf, &old, &spans, result, work, first)));
     met.push(("free", calls::free(arities, &old, 0, result, work, first)));
     met.push(("cut", calls::cut(arities, &old, result, work, first, second, third)));
+    met.push(("reduce", calls::reduce(arities, &old, result, work, first)));
     met.push(("value", calls::value(arities, &old, 1, &[], &[], first)));
     match met.iter().find(|(_, answer)| *answer != Err(yindolve::Refusal::Listing)) {
         Some((call, answer)) => Err(format!("{call} answers {answer:?} to {old:?}, of the old kind")),
@@ -402,5 +468,6 @@ pub fn check(seed: u64, answers: &mut Answers) -> Result<(), String> {
     check_regression(random, answers)?;
     check_freeing(random, answers)?;
     check_cut(random, answers)?;
+    check_reduction(random, answers)?;
     check_value(random, answers)
 }

@@ -199,6 +199,31 @@ pub fn cut(
     })
 }
 
+/// Reduces by model checking: every edge that no winning path has goes to leaf 0, without changing any value.
+///
+/// A valuation gives each variable one of as many invented objects as there are variables; a combination is a path for each valuation, such that no
+/// atom over these objects is both true and false; its winning path has the highest leaf and, of equal ones, the true edge where they part.
+///
+/// # Refusals
+/// In this order: [`Listing`](Refusal::Listing); [`Buffer`](Refusal::Buffer); [`Unbound`](Refusal::Unbound) (any parameter);
+/// [`Paths`](Refusal::Paths); [`Kinds`](Refusal::Kinds); [`Runs`](Refusal::Runs); [`Combinations`](Refusal::Combinations).
+pub fn reduce(arities: &[u64], words: &[u64], result: &mut [u64], work: &mut [u64], rows: &mut u64) -> Result<(), Refusal> {
+    // SAFETY: each pointer is to as many words as its count says, and what is written to overlaps nothing.
+    accepted(unsafe {
+        ffi::yindolve_reduce(
+            arities.as_ptr(),
+            arities.len(),
+            words.as_ptr(),
+            words.len(),
+            result.as_mut_ptr(),
+            result.len(),
+            work.as_mut_ptr(),
+            work.len(),
+            rows,
+        )
+    })
+}
+
 /// The value of a listing in a state, to `value`: the highest leaf over all valuations of its variables.
 ///
 /// `constants[c]` is the object of constant c, 0 for a constant that has no word; `facts` are rows of [`FACT_WORDS`] words. More than

@@ -74,6 +74,18 @@ extern "C" {
         rows: *mut u64,
     ) -> u64;
 
+    pub fn yindolve_reduce(
+        arities: *const u64,
+        arities_count: usize,
+        words: *const u64,
+        words_count: usize,
+        result: *mut u64,
+        result_count: usize,
+        work: *mut u64,
+        work_count: usize,
+        rows: *mut u64,
+    ) -> u64;
+
     pub fn yindolve_value(
         arities: *const u64,
         arities_count: usize,

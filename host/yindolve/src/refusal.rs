@@ -46,10 +46,18 @@ pub enum Refusal {
     Valuations = 15,
     /// No edge to cut.
     Nothing = 16,
-    /// More than 256 paths: of a diagram to cut, or at `(start)` of an action's summed weights.
+    /// More than 256 paths: of a diagram to cut or to reduce, or at `(start)` of an action's summed weights.
     Paths = 17,
     /// A result buffer or a working space that is too small.
     Buffer = 18,
+    /// The value diagram, written as a form, is too long for a `(reward ..)` line. No line of this version answers it yet.
+    Length = 19,
+    /// An equality or a constant in a diagram to reduce.
+    Kinds = 26,
+    /// More than 512 valuations times paths of a diagram to reduce.
+    Runs = 27,
+    /// More than 100,000 combinations of paths in a reduction.
+    Combinations = 28,
 }
 
 impl Refusal {
@@ -73,6 +81,10 @@ impl Refusal {
         Refusal::Nothing,
         Refusal::Paths,
         Refusal::Buffer,
+        Refusal::Length,
+        Refusal::Kinds,
+        Refusal::Runs,
+        Refusal::Combinations,
     ];
 
     /// The refusal's number.
@@ -106,6 +118,10 @@ impl Refusal {
             Refusal::Nothing => "nothing",
             Refusal::Paths => "paths",
             Refusal::Buffer => "buffer",
+            Refusal::Length => "length",
+            Refusal::Kinds => "kinds",
+            Refusal::Runs => "runs",
+            Refusal::Combinations => "combinations",
         }
     }
 
@@ -128,8 +144,12 @@ impl Refusal {
             Refusal::Listing => "the words are no listing, or the arity list is wrong",
             Refusal::Valuations => "more than 1,000,000 ways to choose objects for the variables, and more than 8,192 entries in the tables that take their place",
             Refusal::Nothing => "no edge is left to cut",
-            Refusal::Paths => "more than 256 paths, in the diagram to cut or in an action's summed weights",
+            Refusal::Paths => "more than 256 paths, in the diagram to cut or to reduce or in an action's summed weights",
             Refusal::Buffer => "a result buffer or a working space that is too small",
+            Refusal::Length => "the value diagram, written as a form, is too long for a (reward ..) line: more than 4,095 bytes or 64 open brackets",
+            Refusal::Kinds => "an equality or a constant in the diagram to reduce",
+            Refusal::Runs => "more than 512 valuations times paths of the diagram to reduce",
+            Refusal::Combinations => "more than 100,000 combinations of paths in a reduction",
         }
     }
 }

@@ -4,7 +4,7 @@ use crate::memory::{Memory, ANSWER_BYTES};
 use crate::refusal::Refusal;
 use crate::saved::{self, Damaged, Parts};
 use crate::state::{State, StateBuilder};
-use crate::text::{Answer, BackupDone, CutDone};
+use crate::text::{Answer, BackupDone, CutDone, ReduceDone};
 use crate::value::Value;
 use crate::vocabulary::Vocabulary;
 use std::fmt;
@@ -272,7 +272,7 @@ impl Session {
         self.memory.started()
     }
 
-    /// How many lines were answered; each of the calls [`backup`](Session::backup), [`cut`](Session::cut) and
+    /// How many lines were answered; each of the calls [`backup`](Session::backup), [`cut`](Session::cut), [`reduce`](Session::reduce) and
     /// [`value_in_hand`](Session::value_in_hand) counts as one.
     pub fn lines(&self) -> u64 {
         self.memory.lines()
@@ -362,6 +362,29 @@ impl Session {
         }
     }
 
+    /// Reduces the value diagram by model checking, which changes no value: it sees what several paths do together, and is for small
+    /// diagrams without equality and constants. Best once nothing is left to cut.
+    ///
+    /// # Refusals
+    /// `Place` before a `(start)`; `Paths` (more than 256); `Kinds` (an equality or a constant); `Runs` (more than 512 valuations times
+    /// paths); `Combinations` (more than 100,000 combinations of paths). The value diagram stays.
+    ///
+    /// ```
+    /// use yindolve::{Refusal, Session};
+    /// let mut session = Session::load(include_str!("../../../examples/relay.txt"))?;
+    /// session.backup()?;
+    /// assert_eq!(session.cut(), Err(Refusal::Nothing));
+    /// assert_eq!(session.reduce()?.rows, 7);
+    /// # Ok::<(), Box<dyn std::error::Error>>(())
+    /// ```
+    pub fn reduce(&mut self) -> Result<ReduceDone, Refusal> {
+        match self.line("(reduce)") {
+            Answer::Reduce(done) => Ok(done),
+            Answer::Refused { refusal, .. } => Err(refusal),
+            other => unreachable!("{other:?} for (reduce)"),
+        }
+    }
+
     /// The value diagram, once a `(start)` was accepted.
     pub fn listing(&self) -> Option<Listing> {
         self.is_started().then(|| self.memory.value())
@@ -427,7 +450,7 @@ impl Session {
     /// The session that was saved: it answers as the saved one would have.
     ///
     /// The model and the state are read anew from their lines, the value diagram is checked to be one of this model, and a sum tells
-    /// bytes that were damaged. That the diagram came from backups and cuts is taken on trust: who makes up bytes with a right sum may
+    /// bytes that were damaged. That the diagram came from backups, cuts and reductions is taken on trust: who makes up bytes with a right sum may
     /// make up values, and nothing worse.
     ///
     /// # Errors

@@ -215,6 +215,44 @@ impl Space {
         Ok(Cut { row: row as usize, edge: edge == 1, listing: self.written(rows) })
     }
 
+    /// Reduces a listing by model checking: every edge that no winning path has goes to leaf 0, and the value in every state stays.
+    /// It sees what several paths do together, which no [`cut`](Space::cut) does, and is for small diagrams without equality and constants.
+    ///
+    /// # Refusals
+    /// In this order: `Unbound` (a parameter), `Paths` (more than 256), `Kinds` (an equality or a constant), `Runs` (more than 512
+    /// valuations times paths), `Combinations` (more than 100,000 combinations of paths).
+    ///
+    /// ```
+    /// use yindolve::{Arities, Label, Listing, Refusal, Row, Space, Term};
+    /// // predicate 1, stock, is about one branch; predicate 2, near, about two
+    /// let arities = Arities::new(&[1, 2])?;
+    /// let mut space = Space::new(arities);
+    /// let stock = |branch| Label::new(1, &[Term::Variable(branch)]);
+    /// let near = |one, other| Label::new(2, &[Term::Variable(one), Term::Variable(other)]);
+    /// // 5 where a branch with stock is near one without, or near one that is
+    /// let over_another = Listing::from_rows(
+    ///     &arities,
+    ///     [
+    ///         Row::Leaf(0),
+    ///         Row::Leaf(5),
+    ///         Row::Branch { label: near(2, 1), yes: 1, no: 0 },
+    ///         Row::Branch { label: near(0, 2), yes: 2, no: 0 },
+    ///         Row::Branch { label: near(0, 1), yes: 1, no: 3 },
+    ///         Row::Branch { label: stock(1), yes: 0, no: 4 },
+    ///         Row::Branch { label: stock(0), yes: 5, no: 0 },
+    ///     ],
+    /// )?;
+    /// // the branch in between has stock or has none: a step to it, or one from it, is enough
+    /// assert_eq!(space.cut(&over_another), Err(Refusal::Nothing));
+    /// assert_eq!(space.reduce(&over_another)?.len(), 5);
+    /// # Ok::<(), Refusal>(())
+    /// ```
+    pub fn reduce(&mut self, listing: &Listing) -> Result<Listing, Refusal> {
+        let mut rows = 0;
+        calls::reduce(self.arities.words(), listing.words(), &mut self.result, &mut self.work, &mut rows)?;
+        Ok(self.written(rows))
+    }
+
     /// The value of a listing in a state: the highest leaf over all ways to choose an object for each of its variables.
     ///
     /// # Refusals

@@ -81,6 +81,14 @@ pub struct CutDone {
     pub rows: usize,
 }
 
+/// What an accepted `(reduce)` did.
+#[non_exhaustive]
+#[derive(Clone, Copy, Debug, PartialEq, Eq)]
+pub struct ReduceDone {
+    /// The rows of the value diagram: as a rule fewer than before, at most one more.
+    pub rows: usize,
+}
+
 /// What a session answers to a line.
 #[non_exhaustive]
 #[derive(Clone, Debug, PartialEq, Eq)]
@@ -93,6 +101,8 @@ pub enum Answer {
     Backup(BackupDone),
     /// To `(cut)`.
     Cut(CutDone),
+    /// To `(reduce)`.
+    Reduce(ReduceDone),
     /// To `(show)`: the rows of the value diagram, the root last.
     Rows(Vec<Row>),
     /// The line is refused and changed nothing.
@@ -125,6 +135,7 @@ impl Answer {
             Some(&["value", value, steps, scale]) => Answer::Value(Value::new(number(value)?, number(steps)?, number(scale)?)),
             Some(&["backup", steps, rows]) => Answer::Backup(BackupDone { steps: number(steps)?, rows: place(rows)? }),
             Some(&["cut", row, edge, rows]) => Answer::Cut(CutDone { row: place(row)?, edge: edge.parse().ok()?, rows: place(rows)? }),
+            Some(&["reduce", rows]) => Answer::Reduce(ReduceDone { rows: place(rows)? }),
             Some(&["refused", refusal, line]) => Answer::Refused { refusal: Refusal::from_number(number(refusal)?)?, line: number(line)? },
             Some(_) => Answer::Rows(forms.iter().map(|form| read_row(form)).collect::<Option<_>>()?),
         })
@@ -153,7 +164,10 @@ mod tests {
         assert_eq!(read("(value 30 1 8)\n"), Some(Answer::Value(Value::new(30, 1, 8))));
         assert_eq!(read("(backup 1 6)\n"), Some(Answer::Backup(BackupDone { steps: 1, rows: 6 })));
         assert_eq!(read("(cut 5 false 5)\n"), Some(Answer::Cut(CutDone { row: 5, edge: false, rows: 5 })));
+        assert_eq!(read("(reduce 7)\n"), Some(Answer::Reduce(ReduceDone { rows: 7 })));
+        assert_eq!(read("(reduce)\n"), None);
         assert_eq!(read("(refused 16 18)\n"), Some(Answer::Refused { refusal: Refusal::Nothing, line: 18 }));
+        assert_eq!(read("(refused 28 9)\n"), Some(Answer::Refused { refusal: Refusal::Combinations, line: 9 }));
         let rows = vec![Row::Leaf(30), Row::Leaf(0), Row::Branch { label: Label::new(1, &[Term::Constant(0)]), yes: 0, no: 1 }];
         assert_eq!(read("(row 0 leaf 30)\n(row 1 leaf 0)\n(row 2 281474976710656 0 1)\n"), Some(Answer::Rows(rows)));
         assert_eq!(read("(refused 99 1)\n"), None);

@@ -25,11 +25,13 @@ fn pair(number: usize) -> Label {
 
 #[test]
 fn refusals_by_number() {
-    for (number, refusal) in (1..).zip(Refusal::ALL.iter().copied()) {
+    for (number, refusal) in (1..20).chain(26..29).zip(Refusal::ALL.iter().copied()) {
         assert_eq!(refusal.number(), number);
         assert_eq!(Refusal::from_number(number), Some(refusal));
     }
+    assert_eq!(Refusal::ALL.len(), 22);
     assert_eq!(Refusal::from_number(0), None);
+    assert_eq!(Refusal::from_number(20), None);
     assert_eq!(Refusal::from_number(99), None);
     let error: Box<dyn std::error::Error> = Refusal::Listing.into();
     assert_eq!(error.to_string(), "refused, 14 (listing): the words are no listing, or the arity list is wrong");
@@ -117,6 +119,30 @@ fn operations() {
     let state = State { objects: 2, constants: vec![], facts: vec![fact(1, &[0, 1])] };
     assert_eq!(space.value(&freed, &state), Ok(1));
     assert_eq!(space.value(&freed, &State { objects: 1, ..state }), Err(Refusal::Range));
+}
+
+/// p(x), or p(y): what y finds, x could have found. Parameters, equality, constants and too many variables are refused.
+#[test]
+fn reductions() {
+    let mut space = Space::new(arities());
+    let test = |label| Listing::from_rows(&arities(), [Row::Leaf(5), Row::Leaf(0), Row::Branch { label, yes: 0, no: 1 }]).unwrap();
+    let of = |variable| Label::new(2, &[Term::Variable(variable)]);
+    let rows = [Row::Leaf(5), Row::Leaf(0), Row::Branch { label: of(9), yes: 0, no: 1 }, Row::Branch { label: of(4), yes: 0, no: 2 }];
+    let either = Listing::from_rows(&arities(), rows).unwrap();
+    assert_eq!(space.reduce(&either), Ok(test(of(0))));
+    assert_eq!(space.reduce(&test(Label::new(2, &[Term::Parameter(0)]))), Err(Refusal::Unbound));
+    assert_eq!(space.reduce(&test(Label::new(2, &[Term::Constant(0)]))), Err(Refusal::Kinds));
+    assert_eq!(space.reduce(&test(Label::equality(Term::Variable(0), Term::Variable(1)).unwrap())), Err(Refusal::Kinds));
+    assert_eq!(space.reduce(&conjunction((0..5).map(|i| Label::new(2, &[Term::Variable(i)])))), Err(Refusal::Runs));
+    let related = [(0, 1), (2, 0), (2, 1)].map(|(one, other)| Label::new(1, &[Term::Variable(one), Term::Variable(other)]));
+    assert!(space.reduce(&conjunction(related.into_iter())).is_ok());
+    let related = [1, 3].into_iter().flat_map(|predicate| {
+        [(0, 1), (1, 2), (2, 0)].map(|(one, other)| Label::new(predicate, &[Term::Variable(one), Term::Variable(other)]))
+    });
+    assert_eq!(space.reduce(&conjunction(related.collect::<Vec<Label>>().into_iter())), Err(Refusal::Combinations));
+    let mut rows = 7;
+    assert_eq!(calls::reduce(arities().words(), either.words(), &mut [], &mut [], &mut rows), Err(Refusal::Buffer));
+    assert_eq!((rows, calls::reduce(&[], either.words(), &mut [], &mut [], &mut rows)), (7, Err(Refusal::Listing)));
 }
 
 #[test]

@@ -4,6 +4,7 @@ use yindolve::{fact, Answer, Refusal, Row, Session, Space, State};
 
 const SAMPLE: &str = include_str!("../../../examples/sample.txt");
 const LIFT_PARTS: &str = include_str!("../../../examples/liftparts.txt");
+const RELAY: &str = include_str!("../../../examples/relay.txt");
 
 /// Each example text, by its name.
 fn examples() -> Vec<(String, String)> {
@@ -56,9 +57,10 @@ fn calls_answer_as_lines_do() {
     let cut = session.cut().unwrap();
     assert_eq!((cut.row, cut.edge, cut.rows), (5, false, 5));
     assert_eq!(session.cut(), Err(Refusal::Nothing));
+    assert_eq!(session.reduce(), Err(Refusal::Kinds));
     let all = session.cut_all().unwrap();
     assert_eq!((all.cuts, all.rows), (0, 5));
-    assert_eq!((session.steps(), session.scale(), session.lines()), (1, 8, 14));
+    assert_eq!((session.steps(), session.scale(), session.lines()), (1, 8, 15));
 
     let mut lift_parts = Session::load(LIFT_PARTS).unwrap();
     lift_parts.backup().unwrap();
@@ -69,9 +71,22 @@ fn calls_answer_as_lines_do() {
     assert_eq!(lift_parts.backup(), Err(Refusal::Space));
     assert_eq!(lift_parts.steps(), 2);
 
+    // what nothing is left to cut of, a reduction shortens; k stays, and values are as they were
+    let mut relay = Session::load(RELAY).unwrap();
+    assert_eq!(relay.reduce().unwrap().rows, 3);
+    relay.backup().unwrap();
+    let state = relay.state(3).fact("stock", &[0]).unwrap().fact("near", &[0, 1]).unwrap().fact("near", &[1, 2]).unwrap().finish().unwrap();
+    let value = relay.value(&state).unwrap();
+    assert_eq!((value.value, relay.cut()), (108, Err(Refusal::Nothing)));
+    assert_eq!((relay.reduce().unwrap().rows, relay.steps()), (7, 1));
+    assert_eq!(relay.value(&state), Ok(value));
+    relay.backup().unwrap();
+    assert_eq!(relay.reduce(), Err(Refusal::Runs));
+
     let mut open = Session::open();
     assert_eq!(open.backup(), Err(Refusal::Place));
     assert_eq!(open.cut_all(), Err(Refusal::Place));
+    assert_eq!(open.reduce(), Err(Refusal::Place));
     assert_eq!(open.value(&State { objects: 1, ..State::default() }), Err(Refusal::Place));
     assert_eq!((open.listing(), open.reward()), (None, None));
 }
