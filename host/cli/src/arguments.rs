@@ -15,7 +15,7 @@ const fn known(long: &'static str, short: &'static str, takes_word: bool, comman
     Known { long, short, takes_word, commands }
 }
 
-const KNOWN: [Known; 8] = [
+const KNOWN: [Known; 9] = [
     known("--help", "-h", false, &[]),
     known("--version", "-V", false, &[]),
     known("--strict", "", false, &["run"]),
@@ -24,6 +24,7 @@ const KNOWN: [Known; 8] = [
     known("--output", "-o", true, &["plan", "picture", "report"]),
     known("--format", "", true, &["picture"]),
     known("--uncut", "", false, &["plan", "picture", "report"]),
+    known("--reduce", "", false, &["plan"]),
 ];
 
 pub struct Arguments {

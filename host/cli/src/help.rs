@@ -29,7 +29,7 @@ Exit status: 0 all accepted, 1 a line was refused, 2 input or output failed.
 ";
 
 pub const PLAN: &str = "\
-use: yindolve-desk plan MODEL --steps K -o FILE [--uncut]
+use: yindolve-desk plan MODEL --steps K -o FILE [--uncut] [--reduce]
 
 Loads the model (the text MODEL up to its (start), or a saved plan to go on
 with), looks K steps ahead, cuts after each step until nothing is left to cut,
@@ -40,6 +40,8 @@ it are saved, and the reason is told.
   --steps K        how many steps to look ahead
   -o, --output FILE  where the result is saved, for value and picture
   --uncut          leave the cuts out
+  --reduce         reduce behind the cuts of each step, as long as rows go; for
+                   small diagrams without equality and constants
 
 Exit status: 0 all steps done, 1 a line or a step was refused, 2 input or output
 failed.

@@ -1,4 +1,4 @@
-//! Backups, with cuts after each until nothing is left to cut.
+//! Backups, with cuts after each until nothing is left to cut, and reductions behind these where they are asked for.
 
 use crate::model::Loaded;
 use crate::trouble::Trouble;
@@ -7,9 +7,9 @@ use reference::diagram::Diagram;
 use reference::explain::{count_paths, explain, Fault};
 use reference::listing::read_listing;
 use std::time::{Duration, Instant};
-use yindolve::{CutDone, Refusal, Session};
+use yindolve::{CutDone, Refusal, Session, Space};
 
-/// A backup and the cuts after it; for the reward alone neither.
+/// A backup with the cuts and reductions after it; for the reward alone none of these.
 pub struct Step {
     pub k: u64,
     /// The rows before the cuts.
@@ -17,6 +17,10 @@ pub struct Step {
     pub cuts: Vec<CutDone>,
     /// Why not all was cut; none where nothing is left to cut.
     pub uncut: Option<Fault>,
+    /// The rows that each reduction left.
+    pub reductions: Vec<usize>,
+    /// Why it was not reduced, or not further.
+    pub unreduced: Option<Fault>,
     pub rows: usize,
     pub variables: usize,
     pub paths: u128,
@@ -40,6 +44,8 @@ pub struct Planner<'a> {
     pub steps: u64,
     /// Whether cuts are left out.
     pub uncut: bool,
+    /// Whether each step is reduced behind its cuts.
+    pub reduce: bool,
     pub watch: &'a mut dyn FnMut(Progress) -> Result<(), Trouble>,
 }
 
@@ -76,7 +82,8 @@ impl Planner<'_> {
         let (k, variables) = (done.steps, diagram(engine).variables().len());
         (self.watch)(Progress::Backup { k, rows: done.rows, variables })?;
         let (cuts, uncut) = self.cuts(engine, k)?;
-        let step = Step { backed_up: done.rows, cuts, uncut, time: begun.elapsed(), ..start(engine) };
+        let (reductions, unreduced) = self.reductions(engine)?;
+        let step = Step { backed_up: done.rows, cuts, uncut, reductions, unreduced, time: begun.elapsed(), ..start(engine) };
         (self.watch)(Progress::Step(&step, engine))?;
         Ok(Ok(step))
     }
@@ -95,9 +102,26 @@ impl Planner<'_> {
         }
         Ok((cuts, None))
     }
+
+    /// Reduces as long as rows go.
+    fn reductions(&mut self, engine: &mut Session) -> Result<(Vec<usize>, Option<Fault>), Trouble> {
+        let mut reductions = Vec::new();
+        while let (true, Some(listing)) = (self.reduce, engine.listing()) {
+            // tried apart from the engine, whose diagram stays where it would not get shorter
+            match Space::new(engine.arities()).reduce(&listing) {
+                Ok(reduced) if reduced.len() < listing.len() => match engine.reduce() {
+                    Ok(done) => reductions.push(done.rows),
+                    Err(refusal) => return Ok((reductions, Some(reason(engine, "(reduce)", refusal)?))),
+                },
+                Ok(_) => break,
+                Err(refusal) => return Ok((reductions, Some(reason(engine, "(reduce)", refusal)?))),
+            }
+        }
+        Ok((reductions, None))
+    }
 }
 
-/// The step that an engine stands at, nothing cut.
+/// The step that an engine stands at, nothing cut or reduced.
 fn start(engine: &Session) -> Step {
     let value = diagram(engine);
     Step {
@@ -105,6 +129,8 @@ fn start(engine: &Session) -> Step {
         backed_up: value.rows().len(),
         cuts: Vec::new(),
         uncut: None,
+        reductions: Vec::new(),
+        unreduced: None,
         rows: value.rows().len(),
         variables: value.variables().len(),
         paths: count_paths(&value),

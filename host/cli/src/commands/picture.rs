@@ -69,7 +69,7 @@ fn plan_to(model: &mut Loaded, steps: u64, arguments: &Arguments) -> Result<bool
         let there = counted(there as usize, "step");
         return Err(Trouble(format!("{} looks {there} ahead already, and no step can be taken back; name the model's text", model.name)));
     }
-    let mut planner = Planner { steps: steps - there, uncut: arguments.has("--uncut"), watch: &mut |_| Ok(()) };
+    let mut planner = Planner { steps: steps - there, uncut: arguments.has("--uncut"), reduce: false, watch: &mut |_| Ok(()) };
     let plan = planner.plan(model)?;
     if let Some(fault) = &plan.stop {
         message(&format!(

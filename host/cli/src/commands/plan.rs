@@ -1,4 +1,4 @@
-//! plan: steps ahead with cuts, saved for the branches.
+//! plan: steps ahead with cuts and reductions, saved for the branches.
 
 use crate::arguments::Arguments;
 use crate::input::Text;
@@ -26,11 +26,12 @@ pub fn plan(arguments: &Arguments, out: &mut Out) -> Outcome {
     // a file that cannot be written is told before the work
     try_file(save_to)?;
     let mut watch = |progress: Progress| watch(progress, save_to);
-    let planned = Planner { steps, uncut: arguments.has("--uncut"), watch: &mut watch }.plan(&mut model)?;
+    let reduce = arguments.has("--reduce");
+    let planned = Planner { steps, uncut: arguments.has("--uncut"), reduce, watch: &mut watch }.plan(&mut model)?;
     if planned.steps.len() == 1 {
         write_file(save_to, &model.twin.engine.save())?;
     }
-    out.text(&table(&planned).print())?;
+    out.text(&table(&planned, reduce).print())?;
     notes(&planned, out)?;
     let k = model.twin.engine.steps();
     let size = planned.steps.last().map(size).unwrap_or_default();
@@ -59,7 +60,10 @@ fn watch(progress: Progress, save_to: &OsStr) -> Result<(), Trouble> {
         Progress::Step(step, engine) => {
             write_file(save_to, &engine.save())?;
             let end = if on_terminal { "\r\x1b[K" } else { "" };
-            let cuts = counted(step.cuts.len(), "cut");
+            let mut cuts = counted(step.cuts.len(), "cut");
+            if !step.reductions.is_empty() {
+                cuts += &format!(" and {}", counted(step.reductions.len(), "reduction"));
+            }
             remark(&format!(
                 "{end}step {}: {}, {cuts} done, {} left, {}",
                 step.k,
@@ -82,26 +86,37 @@ fn seconds(time: Duration) -> String {
 }
 
 /// A line for each step. Times stand with the progress, so that the table of a model is always the same.
-fn table(plan: &Plan) -> Table {
-    let mut table = Table::new(&["step", "rows", "cuts", "rows left", "variables", "paths"]);
+fn table(plan: &Plan, reduce: bool) -> Table {
+    let mut head = vec!["step", "rows", "cuts", "rows left", "variables", "paths"];
+    if reduce {
+        head.insert(3, "reductions");
+    }
+    let mut table = Table::new(&head);
     for step in &plan.steps {
         let done = |cell: String| if step.k == plan.steps[0].k { "-".to_string() } else { cell };
-        table.row(vec![
+        let mut row = vec![
             step.k.to_string(),
             step.backed_up.to_string(),
             done(step.cuts.len().to_string()),
             step.rows.to_string(),
             step.variables.to_string(),
             grouped(step.paths),
-        ]);
+        ];
+        if reduce {
+            row.insert(3, done(step.reductions.len().to_string()));
+        }
+        table.row(row);
     }
     table
 }
 
-/// Where not all could be cut.
+/// Where not all could be cut or reduced.
 fn notes(plan: &Plan, out: &mut Out) -> Result<(), Trouble> {
     for fault in plan.steps.iter().filter_map(|step| step.uncut.as_ref()) {
         out.text(&format!("not all was cut: {}\n", reason(fault)))?;
+    }
+    for fault in plan.steps.iter().filter_map(|step| step.unreduced.as_ref()) {
+        out.text(&format!("not reduced: {}\n", reason(fault)))?;
     }
     Ok(())
 }

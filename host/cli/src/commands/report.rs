@@ -42,7 +42,7 @@ pub fn report(arguments: &Arguments, out: &mut Out) -> Outcome {
     let Some(mut model) = load(&Text::read(file)?)? else {
         return Ok(Verdict::Refused);
     };
-    let plan = Planner { steps, uncut: arguments.has("--uncut"), watch: &mut |_| Ok(()) }.plan(&mut model)?;
+    let plan = Planner { steps, uncut: arguments.has("--uncut"), reduce: false, watch: &mut |_| Ok(()) }.plan(&mut model)?;
     let given = given(states)?;
     let refused = refused_among(&model, &given)?;
     let mut samples: Vec<(Sample, Option<Value>)> = given.into_iter().chain(asked(&model)).map(|sample| valued(&model, sample)).collect();

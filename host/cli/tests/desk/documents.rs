@@ -94,6 +94,7 @@ fn the_manual_page() {
         "\\-\\-strict",
         "\\-\\-steps",
         "\\-\\-uncut",
+        "\\-\\-reduce",
         "\\-\\-format",
         "\\-\\-version",
     ] {

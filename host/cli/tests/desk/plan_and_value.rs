@@ -168,3 +168,25 @@ fn without_cuts() {
     let ended = desk(&["plan", &example("sample.txt"), "--steps", "9", "--uncut", "-o", &out]);
     assert!(ended.err.contains("stopped after 3 of 9 steps: space (9): step 4: "), "{}", ended.err);
 }
+
+/// What cuts leave and a reduction does not; where it is refused the plan goes on.
+#[test]
+fn with_reductions() {
+    let here = folder("reductions");
+    let out = here.join("out").display().to_string();
+    let ended = desk(&["plan", &example("relay.txt"), "--steps", "2", "--reduce", "-o", &out]);
+    let table = "step  rows  cuts  reductions  rows left  variables  paths\n0        3     -           -          3          0      2\n1        9     0           1          7          2      5\n2       39     7           0         14 ";
+    assert!(ended.out.starts_with(table), "{}", ended.out);
+    assert!(ended.out.contains("not reduced: runs (27): after step 2: the value diagram of 14 rows has "), "{}", ended.out);
+    assert!(ended.err.contains("step 1: 9 rows, 0 cuts and 1 reduction done, 7 rows, 2 variables left, "), "{}", ended.err);
+    assert_eq!(ended.status, 0);
+    // the same values as without
+    let plain = here.join("plain").display().to_string();
+    desk(&["plan", &example("relay.txt"), "--steps", "2", "-o", &plain]);
+    let state = file(&here, "row.txt", "(objects 3)\n(true near 0 1)\n(true near 1 2)\n(true stock 0)\n");
+    let values = [&out, &plain].map(|plan| desk(&["value", plan, &state]).out);
+    assert!(values[0].contains("3348  2  256"), "{}", values[0]);
+    assert_eq!(values[0], values[1]);
+    let constants = desk(&["plan", &example("sample.txt"), "--steps", "1", "--reduce", "-o", &out]);
+    assert!(constants.out.contains("not reduced: kinds (26): after step 1: the value diagram of 5 rows tests "), "{}", constants.out);
+}
