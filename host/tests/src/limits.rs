@@ -236,7 +236,7 @@ fn tree_of(name: &str, terms: &str, first: u64, leaves: &[u64]) -> String {
     format!("(if ({name}{first}{terms}) {} {})", tree_of(name, terms, first + 1, yes), tree_of(name, terms, first + 1, no))
 }
 
-/// About 512 valuations times paths: propositions with one test of all variables, or one of each, at their end. Over four objects no test is left that combinations do not pass.
+/// About 512 valuations times paths: propositions with one test of all variables, or one of each, at their end. Four variables have 512 with one test, which then meets 28.
 fn runs(random: &mut Random) -> Vec<String> {
     let (end, paths) = *random.pick(&[
         ("(if (q ?x) 9 8)", 256),
