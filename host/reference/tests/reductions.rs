@@ -86,6 +86,15 @@ fn path_order() {
     assert!(reduced_to(&when(1, &[X], one.clone(), other), &when(1, &[X], one, leaf(0))));
 }
 
+/// Where nothing is p and nothing is r, the last path wins with leaf 0; its edge from r(x, z) to r(y, z) stays, and so the way over both, which wins nowhere.
+#[test]
+fn a_path_to_zero_wins() {
+    let (ten, zero) = (|| Tree::Number(10), || Tree::Number(0));
+    let of_y = || when(2, &[Y, Z], ten(), zero());
+    let whole = when(1, &[X], of_y(), when(2, &[X, Z], ten(), of_y()));
+    assert!(reduced_to(&whole, &whole));
+}
+
 /// Lowest objects first, the lowest variable changing slowest; one valuation where there is no variable.
 #[test]
 fn order_of_valuations() {
@@ -168,6 +177,7 @@ fn stored(name: &str) -> usize {
 fn stored_texts_at_the_limit() {
     assert_eq!(stored("combinations-at-100000"), COMBINATIONS);
     assert_eq!(stored("combinations-at-100001"), COMBINATIONS + 1);
+    assert_eq!(stored("combinations-lowest-variable-slowest"), COMBINATIONS);
 }
 
 /// An accepted reduction leaves k and the state; a refused one leaves all.
