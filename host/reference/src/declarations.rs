@@ -40,8 +40,8 @@ pub struct Declarations {
 
 /// The variables that a diagram may name.
 pub enum Variables {
-    Any,
     None,
+    /// These, numbered in their order.
     Only(Vec<String>),
 }
 
@@ -78,29 +78,19 @@ impl Declarations {
     }
 }
 
-/// Looks up the words of one line's diagram. Variables are numbered from the first one on by first occurrence on the line.
+/// Looks up the words of one line's diagram.
 pub struct Lookup<'a> {
     declarations: &'a Declarations,
     parameters: &'a [String],
     variables: Variables,
-    occurred: Vec<String>,
 }
 
 impl<'a> Lookup<'a> {
     pub fn new(declarations: &'a Declarations, parameters: &'a [String], variables: Variables) -> Lookup<'a> {
-        let occurred = match &variables {
-            Variables::Only(names) => names.clone(),
-            _ => Vec::new(),
-        };
-        Lookup { declarations, parameters, variables, occurred }
+        Lookup { declarations, parameters, variables }
     }
 
-    /// How many variables the line names.
-    pub fn variables_named(&self) -> usize {
-        self.occurred.len()
-    }
-
-    pub fn diagram(&mut self, written: &WrittenDiagram) -> Result<Tree, Refusal> {
+    pub fn diagram(&self, written: &WrittenDiagram) -> Result<Tree, Refusal> {
         match written {
             WrittenDiagram::Number(value) => {
                 require(*value <= LARGEST, Refusal::Range)?;
@@ -115,7 +105,7 @@ impl<'a> Lookup<'a> {
         }
     }
 
-    fn atom(&mut self, atom: &WrittenAtom) -> Result<(u64, Vec<Term>), Refusal> {
+    fn atom(&self, atom: &WrittenAtom) -> Result<(u64, Vec<Term>), Refusal> {
         match atom {
             WrittenAtom::Equality(a, b) => Ok((EQUALITY, vec![self.term(a)?, self.term(b)?])),
             WrittenAtom::Predicate(name, terms) => {
@@ -127,7 +117,7 @@ impl<'a> Lookup<'a> {
         }
     }
 
-    fn term(&mut self, term: &WrittenTerm) -> Result<Term, Refusal> {
+    fn term(&self, term: &WrittenTerm) -> Result<Term, Refusal> {
         match term {
             WrittenTerm::Constant(name) => self.declarations.constant(name).ok_or(Refusal::Name),
             WrittenTerm::Parameter(name) => {
@@ -135,17 +125,11 @@ impl<'a> Lookup<'a> {
                 Ok(FIRST_PARAMETER + place as Term)
             }
             WrittenTerm::Variable(name) => {
-                let allowed = match &self.variables {
-                    Variables::Any => true,
-                    Variables::None => false,
-                    Variables::Only(names) => names.contains(name),
+                let place = match &self.variables {
+                    Variables::None => None,
+                    Variables::Only(names) => names.iter().position(|n| n == name),
                 };
-                require(allowed, Refusal::Unbound)?;
-                let place = self.occurred.iter().position(|n| n == name).unwrap_or_else(|| {
-                    self.occurred.push(name.clone());
-                    self.occurred.len() - 1
-                });
-                Ok(FIRST_VARIABLE + place as Term)
+                Ok(FIRST_VARIABLE + place.ok_or(Refusal::Unbound)? as Term)
             }
         }
     }

@@ -1,4 +1,4 @@
-//! An independent implementation of document 01, and of document 02 as far as it is done (L1, L4 to L8, L13), for tests: plain and slow, one module for each of its sections.
+//! An independent implementation of document 01, and of document 02 as far as it is done (L1, L2, L4 to L8, L13), for tests: plain and slow, one module for each of its sections.
 
 pub mod bellman;
 pub mod calls;
@@ -7,6 +7,7 @@ pub mod cut;
 pub mod declarations;
 pub mod diagram;
 pub mod explain;
+pub mod form;
 pub mod listing;
 pub mod mdp;
 pub mod names;

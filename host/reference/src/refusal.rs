@@ -20,6 +20,7 @@ pub enum Refusal {
     Nothing,
     Paths,
     Buffer,
+    Length,
     Kinds = 26,
     Runs,
     Combinations,
@@ -27,7 +28,7 @@ pub enum Refusal {
 
 impl Refusal {
     /// All of them, by number.
-    pub const ALL: [Refusal; 21] = {
+    pub const ALL: [Refusal; 22] = {
         use Refusal::*;
         [
             Form,
@@ -48,6 +49,7 @@ impl Refusal {
             Nothing,
             Paths,
             Buffer,
+            Length,
             Kinds,
             Runs,
             Combinations,

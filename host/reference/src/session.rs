@@ -3,6 +3,7 @@
 use crate::cut::cut;
 use crate::declarations::{Declarations, DeclaredAction, DeclaredVariant, Lookup, Variables, DEFAULT_DISCOUNT, DEFAULT_TOTAL};
 use crate::diagram::{Diagram, Row};
+use crate::form::{first_occurrences, form, variables_in_order};
 use crate::mdp::{backup, power, Action, Model, Variant};
 use crate::reduce::reduce;
 use crate::refusal::{require, Refusal};
@@ -28,6 +29,7 @@ pub enum Answer {
     Row { number: usize, row: Row },
     Cut { row: usize, edge: bool, rows: usize },
     Reduce { rows: usize },
+    Text { form: String },
     Refused { refusal: Refusal, line: usize },
 }
 
@@ -41,6 +43,7 @@ impl Answer {
             Answer::Row { number, row: Row::Branch { label, yes, no } } => format!("(row {number} {} {yes} {no})\n", label.0),
             Answer::Cut { row, edge, rows } => format!("(cut {row} {edge} {rows})\n"),
             Answer::Reduce { rows } => format!("(reduce {rows})\n"),
+            Answer::Text { form } => format!("{form}\n"),
             Answer::Refused { refusal, line } => format!("(refused {} {line})\n", refusal.number()),
         }
     }
@@ -110,16 +113,12 @@ impl Session {
             return Ok(NOTHING_PRINTED);
         }
         let line = read_line(line)?;
-        match line {
-            Line::Objects(_) | Line::Is(..) | Line::True(..) | Line::Value | Line::Backup | Line::Cut | Line::Reduce | Line::Show => {
-                let run = self.run.as_mut().ok_or(Refusal::Place)?;
-                run.take(&line, &self.declarations, self.slips)
-            }
-            _ => {
-                require(self.run.is_none(), Refusal::Place)?;
-                self.declare(&line)
-            }
+        if !line.is_of_the_run() {
+            require(self.run.is_none(), Refusal::Place)?;
+            return self.declare(&line);
         }
+        let run = self.run.as_mut().ok_or(Refusal::Place)?;
+        run.take(&line, &self.declarations, self.slips)
     }
 
     fn declare(&mut self, line: &Line) -> Taken {
@@ -167,9 +166,14 @@ impl Session {
 
     fn reward(&mut self, written: &WrittenDiagram) -> Taken {
         require(self.declarations.reward.is_none(), Refusal::Place)?;
-        let mut lookup = Lookup::new(&self.declarations, &[], Variables::Any);
-        let tree = lookup.diagram(written)?;
-        require(lookup.variables_named() as u64 <= VARIABLES, Refusal::Variables)?;
+        let mut variables = variables_in_order(written);
+        if self.slips.first_occurrence {
+            variables.clear();
+            first_occurrences(written, &mut variables);
+        }
+        let named = variables.len() as u64;
+        let tree = Lookup::new(&self.declarations, &[], Variables::Only(variables)).diagram(written)?;
+        require(named <= VARIABLES, Refusal::Variables)?;
         let reward = tree.read()?.closed_up();
         self.has_room_for(&reward)?;
         self.declarations.reward = Some(reward);
@@ -257,6 +261,7 @@ impl Run {
             Line::Backup => self.backup(slips),
             Line::Cut => self.cut(slips),
             Line::Reduce => self.reduce(slips),
+            Line::Text => self.text(declarations),
             _ => Ok(self.show()),
         }
     }
@@ -312,6 +317,10 @@ impl Run {
     fn reduce(&mut self, slips: Slips) -> Taken {
         self.value = reduce(&self.value, &self.arities, slips)?;
         Ok(vec![Answer::Reduce { rows: self.value.rows().len() }])
+    }
+
+    fn text(&self, declarations: &Declarations) -> Taken {
+        Ok(vec![Answer::Text { form: form(&self.value, declarations)? }])
     }
 
     fn show(&self) -> Vec<Answer> {

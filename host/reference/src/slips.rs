@@ -1,4 +1,4 @@
-//! Document 01, "Slips to keep out", and one for document 02: deliberately wrong versions, all off unless a test turns one on.
+//! Document 01, "Slips to keep out", and those for document 02: deliberately wrong versions, all off unless a test turns one on.
 
 #[derive(Clone, Copy, Debug, Default, PartialEq, Eq)]
 pub struct Slips {
@@ -10,8 +10,11 @@ pub struct Slips {
     pub cover_through_edge: bool,
     /// A reduction over one invented object fewer than there are variables.
     pub one_object_fewer: bool,
+    /// A reward whose variables are all written ?vN numbered by first occurrence all the same.
+    pub first_occurrence: bool,
 }
 
 impl Slips {
-    pub const NONE: Slips = Slips { sums_shared: false, arguments_in_turn: false, cover_through_edge: false, one_object_fewer: false };
+    pub const NONE: Slips =
+        Slips { sums_shared: false, arguments_in_turn: false, cover_through_edge: false, one_object_fewer: false, first_occurrence: false };
 }

@@ -85,6 +85,15 @@ pub enum Line {
     Cut,
     Reduce,
     Show,
+    Text,
+}
+
+impl Line {
+    /// Whether it belongs behind (start).
+    pub fn is_of_the_run(&self) -> bool {
+        use Line::*;
+        matches!(self, Objects(_) | Is(..) | True(..) | Value | Backup | Cut | Reduce | Show | Text)
+    }
 }
 
 /// The lines of a text with their line feed taken off; `false` beside a last line that has none.
@@ -166,7 +175,7 @@ fn read_name(bytes: &[u8]) -> Option<String> {
 }
 
 /// Decimal without leading zeros.
-fn read_number(bytes: &[u8]) -> Option<u64> {
+pub fn read_number(bytes: &[u8]) -> Option<u64> {
     let plain = bytes.iter().all(u8::is_ascii_digit) && (bytes == b"0" || bytes[0] != b'0');
     let add = |number: u64, byte: &u8| number.saturating_mul(10).saturating_add(u64::from(byte - b'0'));
     plain.then(|| bytes.iter().fold(0, add))
@@ -203,6 +212,7 @@ pub fn line_of(words: &[Word]) -> Option<Line> {
         ("cut", []) => Line::Cut,
         ("reduce", []) => Line::Reduce,
         ("show", []) => Line::Show,
+        ("text", []) => Line::Text,
         _ => return None,
     })
 }

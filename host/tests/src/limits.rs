@@ -5,7 +5,7 @@ use reference::terms::{LARGEST_ARITY, PARAMETERS, PLACES, VARIABLES};
 
 /// The lines of a text about one limit.
 pub fn lines(random: &mut Random) -> Vec<String> {
-    match random.below(16) {
+    match random.below(18) {
         0 => declarations(random),
         1 => variables(random),
         2 => brackets(random),
@@ -21,6 +21,8 @@ pub fn lines(random: &mut Random) -> Vec<String> {
         12 => related(random),
         13 => runs(random),
         14 => combinations(random),
+        15 => nested_form(random),
+        16 => long_form(random),
         _ => variants_apart(random),
     }
 }
@@ -276,6 +278,42 @@ fn combinations(random: &mut Random) -> Vec<String> {
     let mut lines = model(predicates.into_iter().flatten().collect(), reward);
     lines.extend(["(reduce)", "(show)"].map(str::to_string));
     lines
+}
+
+/// A model of one certain outcome, with (text) before and after a backup. A reward in hand is doubled by it.
+fn printed_as_form(declarations: Vec<String>, reward: String, becomes: &str) -> Vec<String> {
+    let before = ["(total 1)".to_string(), "(discount 1 1)".to_string(), format!("(reward {reward})")];
+    let behind = ["(action go)", "(variant only 1)", becomes, "(start)", "(text)", "(backup)", "(text)", "(show)"].map(str::to_string);
+    declarations.into_iter().chain(before).chain(behind).collect()
+}
+
+/// About 62 tests inside one another, the last of them (more), which the backup brings.
+fn nested_form(random: &mut Random) -> Vec<String> {
+    let tests = about(random, 62) - 2;
+    let mut declarations: Vec<String> = numbered(16, |c| format!("(constant c{c})")).collect();
+    declarations.extend(numbered(4, |p| format!("(predicate p{p} 1)")));
+    declarations.extend(["(predicate last 0)", "(predicate more 0)"].map(str::to_string));
+    let leaf = random.between(1, 9);
+    let chain = (0..tests).rev().fold(format!("(if (last) {leaf} 0)"), |inner, i| match random.once_in(8) {
+        true => format!("(if (p{} c{}) 0 {inner})", i / 16, i % 16),
+        false => format!("(if (p{} c{}) {inner} 0)", i / 16, i % 16),
+    });
+    printed_as_form(declarations, chain, "(becomes (last) (if (more) 1 0))")
+}
+
+/// About 4,095 bytes, the last of them by the backup, since one leaf has a digit more then: 38 tests of six long names and one of a name that fits.
+fn long_form(random: &mut Random) -> Vec<String> {
+    let rest = about(random, 4_095) as usize - "(reward )".len() - 38 * 107 - "(if (r ) 10 0)".len();
+    let long = |c: u64| format!("wholesalebranc{}", char::from(b'a' + c as u8));
+    let mut declarations: Vec<String> = numbered(14, |c| format!("(constant {})", long(c))).collect();
+    declarations.extend([format!("(constant {})", "z".repeat(rest)), "(predicate q 6)".to_string(), "(predicate r 1)".to_string()]);
+    let leaf = random.between(5, 9);
+    let test = |inner: String, i: u64| {
+        let (first, next, last) = (format!(" {}", long(0)).repeat(4), long(i / 14), long(i % 14));
+        format!("(if (q{first} {next} {last}) {inner} 0)")
+    };
+    let reward = (0..38).rev().fold(format!("(if (r {}) {leaf} 0)", "z".repeat(rest)), test);
+    printed_as_form(declarations, reward, "(becomes (q ?a ?b ?c ?d ?e ?f) (if (q ?a ?b ?c ?d ?e ?f) 1 0))")
 }
 
 /// Two weights, one above the other, of about 4,096 pairs: 8 leaves over 511 rows are 4,095.

@@ -3,15 +3,16 @@
 //!     tests self [seconds N | count N] [seed N]
 //!     tests program PATH [seconds N | count N] [seed N]
 //!     tests bellman PATH [seconds N | count N] [seed N]
+//!     tests round PATH [seconds N | count N] [seed N]
 //!     tests library [seconds N | count N] [seed N]
 //!     tests stored FOLDER [PATH]
 //!     tests text SEED
 //!
 //! `self` holds the reference against brute force, the weight rule over all states that matter, compares ground listings by their values, sees that blank
-//! lines change nothing but line numbers, that listings of the old kind meet 14 and that both ways to a value agree, works reductions out from states alone, counts the refusals met, and sees that each
-//! slip is caught.
+//! lines change nothing but line numbers, that listings of the old kind meet 14 and that both ways to a value agree, works reductions out from states alone, sends value diagrams round
+//! (printed by (text), read as the next model's reward, with the same rows), counts the refusals met, and sees that each slip is caught.
 //! `program` feeds random texts to a program and to the reference. `bellman` holds the values that a program prints against brute force,
-//! without the reference's diagrams. `library` (feature `library`) makes random calls of the static
+//! without the reference's diagrams. `round` sends value diagrams round through a program. `library` (feature `library`) makes random calls of the static
 //! library and of the reference, whole texts too, and sees that each call gave each of its answers.
 //! `stored` runs each NAME.txt of a folder and compares with NAME.out, by the reference or by the program at PATH. `text` prints
 //! the random text of a seed. Default: a minute. Without `seed` or `count`, the seeds from 0 on come first, the same in every run, and then those
@@ -20,6 +21,7 @@
 mod bellman;
 mod blanks;
 mod follows;
+mod forms;
 mod ground;
 #[cfg(feature = "library")]
 mod library;
@@ -112,6 +114,7 @@ fn values_and_meanings(seed: u64, slips: Slips, tally: &mut Tally) -> Result<(),
     meaning::check_regression(seed, slips, tally).map_err(failed("regression"))?;
     meaning::check_cut(seed, slips, tally).map_err(failed("cut"))?;
     reductions::check(seed, slips, tally).map_err(failed("reduction"))?;
+    forms::check(seed, slips, tally).map_err(failed("form"))?;
     bellman::check(seed, slips, tally).map_err(failed("value"))
 }
 
@@ -150,6 +153,7 @@ fn slips_are_caught() -> Result<(), String> {
         ("arguments replaced in turn", Slips { arguments_in_turn: true, ..Slips::NONE }),
         ("a better path through the cut edge", Slips { cover_through_edge: true, ..Slips::NONE }),
         ("a reduction over one object fewer", Slips { one_object_fewer: true, ..Slips::NONE }),
+        ("a form numbered by first occurrence", Slips { first_occurrence: true, ..Slips::NONE }),
     ];
     for (name, slips) in slips {
         let caught = |seed: u64| values_and_meanings(seed, slips, &mut Tally::default()).err();
@@ -181,6 +185,16 @@ fn program_values(program: &Path, bound: &Bound) -> Result<(), String> {
         done += 1;
     }
     println!("{values} values of {} are those of the equation", bound.told(done, SEEDS / 4));
+    Ok(())
+}
+
+fn round_trips(program: &Path, bound: &Bound) -> Result<(), String> {
+    let (mut done, mut rounds) = (0, 0);
+    for seed in bound.seeds(SEEDS) {
+        rounds += forms::check_program(program, seed).map_err(|message| format!("seed {seed}: {message}"))?;
+        done += 1;
+    }
+    println!("{rounds} value diagrams of {} went round", bound.told(done, SEEDS));
     Ok(())
 }
 
@@ -232,6 +246,7 @@ fn run(arguments: &[String]) -> Result<(), String> {
         [mode, rest @ ..] if mode == "self" => self_tests(&Bound::read(rest)?),
         [mode, path, rest @ ..] if mode == "program" => compare(Path::new(path), &Bound::read(rest)?),
         [mode, path, rest @ ..] if mode == "bellman" => program_values(Path::new(path), &Bound::read(rest)?),
+        [mode, path, rest @ ..] if mode == "round" => round_trips(Path::new(path), &Bound::read(rest)?),
         [mode, rest @ ..] if mode == "library" => library_calls(&Bound::read(rest)?),
         [mode, folder] if mode == "stored" => stored(Path::new(folder), None),
         [mode, folder, path] if mode == "stored" => stored(Path::new(folder), Some(Path::new(path))),
@@ -239,7 +254,7 @@ fn run(arguments: &[String]) -> Result<(), String> {
             let seed = seed.parse().map_err(|_| format!("{seed} is no number"))?;
             std::io::stdout().write_all(&texts::text(seed)).map_err(|error| error.to_string())
         }
-        _ => Err("use: tests self | program PATH | bellman PATH | library | stored FOLDER [PATH] | text SEED".to_string()),
+        _ => Err("use: tests self | program PATH | bellman PATH | round PATH | library | stored FOLDER [PATH] | text SEED".to_string()),
     }
 }
 

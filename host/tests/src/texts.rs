@@ -1,5 +1,6 @@
 //! Random texts: whole models with a run, damaged lines, models that soon meet a limit, and plain bytes.
 
+use crate::forms::renamed;
 use crate::limits;
 use crate::models::{model, sparse_state, write_model, write_state, Size};
 use crate::random::Random;
@@ -69,9 +70,12 @@ fn next_to_nothing(random: &mut Random) -> Vec<u8> {
 fn whole(random: &mut Random, size: Size) -> Vec<String> {
     let (signature, plain) = model(random, size);
     let mut lines = write_model(&signature, &plain);
+    for line in lines.iter_mut().filter(|line| line.starts_with("(reward ")) {
+        *line = renamed(random, line);
+    }
     for _ in 0..random.between(1, 3) {
         for _ in 0..random.below(4) {
-            lines.push(random.pick(&["(backup)", "(cut)", "(cut)", "(reduce)", "(show)"]).to_string());
+            lines.push(random.pick(&["(backup)", "(cut)", "(cut)", "(reduce)", "(show)", "(text)"]).to_string());
         }
         let objects = random.between(1, size.objects);
         lines.extend(write_state(&sparse_state(random, &signature, objects)));
@@ -97,7 +101,7 @@ const NUMBERS: [&str; 14] = [
     "x",
 ];
 
-const LINES: [&str; 25] = [
+const LINES: [&str; 27] = [
     "",
     "()",
     "(start)",
@@ -106,6 +110,7 @@ const LINES: [&str; 25] = [
     "(cut)",
     "(reduce)",
     "(show)",
+    "(text)",
     "(objects 2)",
     "(objects 0)",
     "(is c0 1)",
@@ -123,6 +128,7 @@ const LINES: [&str; 25] = [
     "(becomes (p1 ?x0) 1)",
     "(becomes (p1) 2)",
     "(reward (if (= ?x0 ?x0) 3 (if (p1 ?x1 !a0) 1 2)))",
+    "(reward (if (= ?v7 c0) 3 (if (= ?v3 ?v7) 1 2)))",
 ];
 
 /// One small damage to a text.
@@ -167,7 +173,7 @@ fn change_word(random: &mut Random, line: &mut Vec<u8>) {
     let mut word = match random.below(6) {
         0 => random.pick(&NUMBERS).as_bytes().to_vec(),
         1 => format!("c{}", random.below(3)).into_bytes(),
-        2 => format!("?x{}", random.below(4)).into_bytes(),
+        2 => format!("?{}{}", random.pick(&["x", "v", "v0"]), random.below(4)).into_bytes(),
         3 => format!("!a{}", random.below(4)).into_bytes(),
         4 => format!("p{}", random.between(1, 4)).into_bytes(),
         _ => [&words[at][..words[at].len() - brackets], *random.pick(&[&b" c0"[..], b" ?x0", b" 0"])].concat(),

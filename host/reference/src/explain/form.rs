@@ -138,7 +138,7 @@ const fn form(name: &'static str, written: &'static str, shapes: &'static [Shape
     Form { name, written, shapes }
 }
 
-const FORMS: [Form; 17] = [
+const FORMS: [Form; 18] = [
     form("constant", "(constant NAME)", &[Shape::Name]),
     form("predicate", "(predicate NAME ARITY)", &[Shape::Name, Shape::Number]),
     form("total", "(total W)", &[Shape::Number]),
@@ -156,6 +156,7 @@ const FORMS: [Form; 17] = [
     form("cut", "(cut)", &[]),
     form("reduce", "(reduce)", &[]),
     form("show", "(show)", &[]),
+    form("text", "(text)", &[]),
 ];
 
 /// The fault of words that are no line.

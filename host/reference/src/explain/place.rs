@@ -8,7 +8,7 @@ use crate::text::{Line, Span};
 
 pub fn check(session: &Session, line: &Line, span: Span) -> Checked {
     let place = |what: String, advice: &str| Fault::new(Refusal::Place, span, what, advice);
-    match (session.started(), is_run_form(line)) {
+    match (session.started(), line.is_of_the_run()) {
         (None, true) => Err(place(
             "this form belongs behind (start), and none was accepted so far".into(),
             "close the model with (start) before it; where there is one, mend what was refused",
@@ -17,10 +17,6 @@ pub fn check(session: &Session, line: &Line, span: Span) -> Checked {
         (None, false) => in_model(session.declarations(), line).map_err(|(what, advice)| place(what, advice)),
         (Some(run), true) => in_run(run, session.declarations(), line).map_err(|(what, advice)| place(what, advice)),
     }
-}
-
-fn is_run_form(line: &Line) -> bool {
-    matches!(line, Line::Objects(_) | Line::Is(..) | Line::True(..) | Line::Value | Line::Backup | Line::Cut | Line::Reduce | Line::Show)
 }
 
 type Found = Result<(), (String, &'static str)>;

@@ -6,6 +6,7 @@ use crate::combine::{combine, Names, Operator};
 use crate::cut::{cut, Path, PATHS};
 use crate::declarations::{Declarations, DeclaredAction, Lookup, Variables, DEFAULT_TOTAL};
 use crate::diagram::{Diagram, Row, Space};
+use crate::form::{form, reward_line, variables_in_order};
 use crate::names::Names as TermNames;
 use crate::reduce::{is_plain, reduce, runs, COMBINATIONS, RUNS};
 use crate::refusal::Refusal;
@@ -15,7 +16,7 @@ use crate::slips::Slips;
 use crate::state::{value, VALUATIONS};
 use crate::tables::ENTRIES;
 use crate::terms::{Test, CONSTANTS, PARAMETERS, PREDICATES, VARIABLES};
-use crate::text::{Kind, Line, Span, Word, WrittenDiagram};
+use crate::text::{Kind, Line, Span, Word, WrittenDiagram, LINE_BYTES, OPEN_BRACKETS};
 use crate::tree::Tree;
 use crate::weights::wrong_paths;
 use std::collections::BTreeSet;
@@ -48,9 +49,9 @@ fn has_room(there: usize, most: usize, what: &str, span: Span) -> Checked {
 }
 
 fn reward(declared: &Declarations, written: &WrittenDiagram, word: &Word) -> Checked {
-    let mut lookup = Lookup::new(declared, &[], Variables::Any);
-    let Ok(tree) = lookup.diagram(written) else { return Ok(()) };
-    let named = lookup.variables_named();
+    let variables = variables_in_order(written);
+    let named = variables.len();
+    let Ok(tree) = Lookup::new(declared, &[], Variables::Only(variables)).diagram(written) else { return Ok(()) };
     unless_fault(named as u64 <= VARIABLES, || {
         Fault::new(
             Refusal::Variables,
@@ -224,6 +225,7 @@ pub fn check_run(run: &Run, declared: &Declarations, line: &Line, span: Span) ->
         Line::Backup => backup::refused_backup(run, declared, span).map_or(Ok(()), Err),
         Line::Cut => cuts(run, span),
         Line::Reduce => reductions(run, declared, span),
+        Line::Text => length(run, declared, span),
         _ => Ok(()),
     }
 }
@@ -322,5 +324,29 @@ fn reductions(run: &Run, declared: &Declarations, span: Span) -> Checked {
             ),
         };
         Fault::new(refusal, span, format!("after step {}: the value diagram of {rows} {met}", run.k), advice)
+    })
+}
+
+fn length(run: &Run, declared: &Declarations, span: Span) -> Checked {
+    form(&run.value, declared).map(|_| ()).map_err(|refusal| {
+        let line = reward_line(&run.value, declared);
+        let bytes = match line.bytes {
+            u128::MAX => "more bytes than can be counted".to_string(),
+            bytes => format!("{} bytes", grouped(bytes)),
+        };
+        let what = format!(
+            "after step {}: the value diagram of {}, written out as a form, makes a reward line of {bytes} with {} brackets open together; at most {} \
+             and {OPEN_BRACKETS}",
+            run.k,
+            counted(run.value.rows().len(), "row"),
+            line.brackets,
+            grouped(LINE_BYTES as u128)
+        );
+        Fault::new(
+            refusal,
+            span,
+            what,
+            "cut until 16, which leaves fewer rows and paths, or take the form a step earlier; shorter names take fewer bytes; (show) prints every diagram",
+        )
     })
 }

@@ -1,0 +1,195 @@
+//! Document 02, L2: value diagrams go round, printed by (text) and read again as the reward of the next model, and rewards whose variables are written ?vN.
+
+use crate::models::{model, terms, write_model, write_tree, Signature, Size};
+use crate::program::printed;
+use crate::random::Random;
+use crate::tally::Tally;
+use reference::diagram::Diagram;
+use reference::session::{answers, Session};
+use reference::slips::Slips;
+use reference::terms::{is_variable, Term, FIRST_VARIABLE};
+use reference::tree::Tree;
+use std::path::Path;
+
+/// A program, or the reference: a text in, its answers out.
+type Answering<'a> = &'a dyn Fn(&[u8]) -> Result<Vec<u8>, String>;
+
+const SIZES: [Size; 5] = [Size::SMALL, Size::SMALL, Size::PLAIN, Size::PLACES, Size { variables: 24, depth: 5, ..Size::PLACES }];
+const OPERATIONS: [&str; 5] = ["(backup)", "(cut)", "(cut)", "(reduce)", ""];
+/// So many models behind one another have the value diagram of the one before as their reward.
+const QUARTERS: u64 = 4;
+
+/// The value diagrams of one seed go round by the reference, and its variables are numbered as they are written.
+pub fn check(seed: u64, slips: Slips, tally: &mut Tally) -> Result<(), String> {
+    check_numbers(seed, slips)?;
+    let answering = |text: &[u8]| Ok(answers(text, slips).iter().flat_map(|answer| answer.print().into_bytes()).collect());
+    for _ in 0..rounds(&answering, seed)? {
+        tally.see("a diagram goes round");
+    }
+    Ok(())
+}
+
+/// How many value diagrams of one seed went round by a program.
+pub fn check_program(program: &Path, seed: u64) -> Result<u64, String> {
+    rounds(&|text| printed(program, text), seed)
+}
+
+fn rounds(answering: Answering, seed: u64) -> Result<u64, String> {
+    let random = &mut Random::new(seed);
+    let size = *random.pick(&SIZES);
+    let (signature, plain) = model(random, size);
+    let mut lines = write_model(&signature, &plain);
+    let model_lines = lines.len();
+    let reward = lines.iter().position(|line| line.starts_with("(reward ")).expect("a reward");
+    lines[reward] = renamed(random, &lines[reward]);
+    let mut done = 0;
+    for _ in 0..QUARTERS {
+        lines.extend((0..random.below(4)).map(|_| random.pick(&OPERATIONS).to_string()));
+        let (rows, form) = shown(answering, &lines)?;
+        let Some(form) = form else { break };
+        lines.truncate(model_lines);
+        lines[reward] = format!("(reward {form})");
+        if shown(answering, &lines)? != (rows.clone(), Some(form)) {
+            return Err(format!("another diagram is read than the one printed:\n{}\nin\n{}", rows.join("\n"), lines.join("\n")));
+        }
+        done += 1;
+    }
+    Ok(done)
+}
+
+/// The value diagram at the end of a text: its rows as (show) prints them and its form, or none where that is too long.
+fn shown(answering: Answering, lines: &[String]) -> Result<(Vec<String>, Option<String>), String> {
+    let text: String = lines.iter().map(String::as_str).chain(["(show)", "(text)"]).flat_map(|line| [line, "\n"]).collect();
+    let answers = String::from_utf8(answering(text.as_bytes())?).map_err(|error| error.to_string())?;
+    let mut answers: Vec<&str> = answers.lines().collect();
+    let last = answers.pop().unwrap_or_default();
+    let rows: Vec<String> = answers.into_iter().filter(|line| line.starts_with("(row ")).map(str::to_string).collect();
+    let is_form = last.starts_with("(if ") || last.parse::<u64>().is_ok();
+    if rows.is_empty() || !(is_form || last == format!("(refused 19 {})", lines.len() + 2)) {
+        return Err(format!("{last} is the answer to (text) in\n{text}"));
+    }
+    Ok((rows, is_form.then(|| last.to_string())))
+}
+
+/// The line with another name in the place of each variable ?x0, ?x1, ..
+fn with_names(line: &str, name: impl Fn(usize) -> String) -> String {
+    let mut parts = line.split("?x");
+    let mut written = parts.next().unwrap_or_default().to_string();
+    for part in parts {
+        let digits = part.bytes().take_while(u8::is_ascii_digit).count();
+        written += &format!("?{}{}", name(part[..digits].parse().expect("a number")), &part[digits..]);
+    }
+    written
+}
+
+/// Different numbers, in any order, with gaps; some of them as long as a name allows.
+fn numbers(random: &mut Random, count: usize) -> Vec<u64> {
+    let mut next = if random.once_in(4) { 99_999_999_990_000 + random.below(10) } else { random.below(12) };
+    let mut numbers = Vec::new();
+    for _ in 0..count {
+        let place = random.below(numbers.len() as u64 + 1) as usize;
+        numbers.insert(place, next);
+        next += random.between(1, 9);
+    }
+    numbers
+}
+
+/// A name that is not of the way ?vN.
+fn other_name(random: &mut Random, number: u64) -> String {
+    match random.below(5) {
+        0 => format!("v0{}", number % 1_000),
+        1 => format!("v00{}", number % 1_000),
+        2 => format!("v{}a", number % 1_000),
+        3 => format!("w{number}"),
+        _ => "v".to_string(),
+    }
+}
+
+/// A reward's line with other names of its variables: all ?vN, all with a leading zero, or some of them so.
+pub fn renamed(random: &mut Random, line: &str) -> String {
+    const MOST: usize = 100;
+    let numbers = numbers(random, MOST);
+    let others: Vec<bool> = (0..MOST).map(|_| random.once_in(4)).collect();
+    match random.below(5) {
+        0 => line.to_string(),
+        1 => with_names(line, |i| format!("v{}", numbers[i])),
+        2 => with_names(line, |i| format!("v{i}")),
+        3 => with_names(line, |i| format!("v0{i}")),
+        _ => with_names(line, |i| if others[i] { format!("v0{i}") } else { format!("v{}", numbers[i]) }),
+    }
+}
+
+/// A reward is numbered by ascending N where every variable is written ?vN, and else by first occurrence, whatever N is.
+fn check_numbers(seed: u64, slips: Slips) -> Result<(), String> {
+    let random = &mut Random::new(seed ^ 0x2b);
+    let signature = Signature::random(random, Size::PLACES);
+    let count = random.between(1, 6);
+    let tree = signature.tree(random, &terms(&signature, 0, count), 4, &[0, 1, 2, 3]);
+    let mut numbers = numbers(random, count as usize + 1);
+    let apart = numbers.pop().expect("one more");
+    let mut occurred = Vec::new();
+    occurrences(&tree, &mut occurred);
+    let by_number = numbered(&tree, &|variable| numbers.iter().filter(|n| **n < numbers[variable]).count())?;
+    let by_occurrence = numbered(&tree, &|variable| occurred.iter().position(|v| *v == variable).expect("it occurs"))?;
+    let written = with_names(&write_tree(&tree), |i| format!("v{}", numbers[i]));
+    // a variable in a part that reduces away counts as one that is written
+    let below = |variable: &str| format!("(if (= ?{variable} ?{variable}) {written} 4)");
+    let mut cases = vec![(written.clone(), &by_number), (below(&format!("v{apart}")), &by_number), (below("z"), &by_occurrence)];
+    if !occurred.is_empty() {
+        let (other, name) = (*random.pick(&occurred), other_name(random, apart));
+        let mixed = with_names(&write_tree(&tree), |i| if i == other { name.clone() } else { format!("v{}", numbers[i]) });
+        cases.push((mixed, &by_occurrence));
+    }
+    for (written, right) in cases {
+        if reward(&signature, &written, slips)? != *right {
+            return Err(format!("(reward {written}) is not numbered as it is written"));
+        }
+    }
+    Ok(())
+}
+
+/// The variables of a tree, from 0 on, by first occurrence.
+fn occurrences(tree: &Tree, occurred: &mut Vec<usize>) {
+    if let Tree::If { terms, yes, no, .. } = tree {
+        let variables = terms.iter().filter(|term| is_variable(**term)).map(|term| (*term - FIRST_VARIABLE) as usize);
+        for variable in variables {
+            if !occurred.contains(&variable) {
+                occurred.push(variable);
+            }
+        }
+        occurrences(yes, occurred);
+        occurrences(no, occurred);
+    }
+}
+
+/// The diagram of a tree whose variables have other numbers.
+fn numbered(tree: &Tree, number: &dyn Fn(usize) -> usize) -> Result<Diagram, String> {
+    let read = with_numbers(tree, number).read();
+    read.map(|diagram| diagram.closed_up()).map_err(|refusal| format!("{tree:?} is refused with {}", refusal.number()))
+}
+
+fn with_numbers(tree: &Tree, number: &dyn Fn(usize) -> usize) -> Tree {
+    let other = |term: &Term| if is_variable(*term) { FIRST_VARIABLE + number((*term - FIRST_VARIABLE) as usize) as Term } else { *term };
+    match tree {
+        Tree::Number(value) => Tree::Number(*value),
+        Tree::If { predicate, terms, yes, no } => Tree::If {
+            predicate: *predicate,
+            terms: terms.iter().map(other).collect(),
+            yes: Box::new(with_numbers(yes, number)),
+            no: Box::new(with_numbers(no, number)),
+        },
+    }
+}
+
+/// The diagram of a reward.
+fn reward(signature: &Signature, written: &str, slips: Slips) -> Result<Diagram, String> {
+    let mut session = Session::new(slips);
+    let declarations = (0..signature.constants).map(|c| format!("(constant c{c})"));
+    let declarations =
+        declarations.chain((1..=signature.predicates).map(|p| format!("(predicate p{p} {})", signature.arities[p as usize])));
+    let behind = [format!("(reward {written})"), "(action go)".to_string(), "(variant only 100)".to_string(), "(start)".to_string()];
+    for line in declarations.chain(behind) {
+        session.take(line.as_bytes()).map_err(|refusal| format!("{line} is refused with {}", refusal.number()))?;
+    }
+    Ok(session.started().expect("started").value.clone())
+}
