@@ -169,6 +169,7 @@ if [ -n "$program" ] && [ -x "$program" ]; then
     step target/release/tests stored ../examples "$program"
     step target/release/tests program "$program" seconds "$seconds"
     step target/release/tests bellman "$program" seconds "$((seconds / 2))"
+    step target/release/tests round "$program" seconds "$((seconds / 2))"
     step program_at_its_ends
 else
     echo "no program${program:+ at $program}: its texts are left out"

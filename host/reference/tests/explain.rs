@@ -126,6 +126,22 @@ fn reductions_refused() {
     );
 }
 
+/// A form that is too long, by its bytes and by its brackets.
+#[test]
+fn a_form_that_is_too_long() {
+    let name = |c: u64| format!("wholesalebranch{c}")[4..].to_string();
+    let constants: String = (0..10).map(|c| format!("(constant {})\n", name(c))).collect();
+    let tests = (0..62).rev().fold("5".to_string(), |inner, i| format!("(if (near {} {}) {inner} 0)", name(i / 10), name(i % 10)));
+    let text = format!("{constants}(predicate near 2)\n(predicate last 0)\n(total 1)\n(reward {tests})\n(action wait)\n(variant only 1)\n");
+    let (line, column, what, _) =
+        only_fault(&format!("{text}(becomes (near ?a ?b) (if (last) 1 (if (near ?a ?b) 1 0)))\n(start)\n(text)\n(backup)\n(text)\n"));
+    assert_eq!((line, column), (21, 1));
+    assert_eq!(
+        what,
+        "after step 1: the value diagram of 66 rows, written out as a form, makes a reward line of 3,422 bytes with 65 brackets open together; at most 4,095 and 64"
+    );
+}
+
 #[test]
 fn a_misspelt_name() {
     let (line, column, what, advice) = only_fault("(predicate shelf 1)\n(reward (if (shelv ?p) 1 0))\n");

@@ -39,3 +39,10 @@ fn a_better_path_through_the_cut_edge() {
 fn a_reduction_over_one_object_fewer() {
     assert!(caught("meaning-reduction-over-all-objects", Slips { one_object_fewer: true, ..Slips::NONE }));
 }
+
+#[test]
+fn a_form_numbered_by_first_occurrence() {
+    let slips = Slips { first_occurrence: true, ..Slips::NONE };
+    assert!(caught("text-read-back-in-another-order", slips));
+    assert!(caught("numbering-ascending", slips));
+}
