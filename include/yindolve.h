@@ -100,7 +100,7 @@ enum {
     YINDOLVE_NOTHING = 16,     /* no edge to cut */
     YINDOLVE_PATHS = 17,       /* more than 256 paths: of a diagram to cut or to reduce, or at (start) of an action's summed weights */
     YINDOLVE_BUFFER = 18,      /* a result buffer or a working space that is too small: nothing is done */
-    YINDOLVE_LENGTH = 19,      /* the value diagram, written as a form, is too long for a (reward ..) line; no line of this version answers it yet */
+    YINDOLVE_LENGTH = 19,      /* (text): the value diagram as a form is too long for a (reward ..) line, more than 4,095 bytes or 64 open brackets */
     YINDOLVE_KINDS = 26,       /* an equality or a constant in a diagram to reduce */
     YINDOLVE_RUNS = 27,        /* more than 512 valuations times paths of a diagram to reduce */
     YINDOLVE_COMBINATIONS = 28 /* more than 100,000 combinations of paths in a reduction */

@@ -21,7 +21,7 @@ const KNOWN: [Known; 9] = [
     known("--strict", "", false, &["run"]),
     known("--steps", "", true, &["plan", "report"]),
     known("--step", "", true, &["picture"]),
-    known("--output", "-o", true, &["plan", "picture", "report"]),
+    known("--output", "-o", true, &["plan", "next", "picture", "report"]),
     known("--format", "", true, &["picture"]),
     known("--uncut", "", false, &["plan", "picture", "report"]),
     known("--reduce", "", false, &["plan"]),

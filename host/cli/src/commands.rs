@@ -1,6 +1,7 @@
 //! One module for each command.
 
 pub mod explain;
+pub mod next;
 pub mod picture;
 pub mod plan;
 pub mod report;

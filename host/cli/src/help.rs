@@ -8,6 +8,7 @@ The value engine for people. The numbers come from the proved library.
   run [FILE]                    the answers to a text, as the program gives them
   plan MODEL --steps K -o FILE  look K steps ahead, and save the value diagram
   value FILE STATE ..           the number of each state
+  next FILE [MODEL]             the value diagram as the next model's reward
   explain TEXT                  why lines are refused, and what to do
   picture MODEL [FILE]          the value diagram, drawn
   report MODEL [STATE ..]       a model on one HTML page
@@ -57,6 +58,24 @@ state that is refused is told by file, line and column, and the others are still
 done.
 
 Exit status: 0 all accepted, 1 a state was refused, 2 input or output failed.
+";
+
+pub const NEXT: &str = "\
+use: yindolve-desk next FILE [MODEL] [-o NEXT]
+
+Writes the text of the next quarter's model: MODEL, with the value diagram of
+FILE as its reward, by (text), in the place of the reward that MODEL has. FILE
+is a text, which is run to its end, or what plan saved. Without MODEL it is the
+model of FILE itself. Under the same constants and predicates, declared in the
+same order, the new reward has the very rows of the value diagram. Its numbers
+are S^k times the values, as the value diagram's are.
+
+Where a (backup) of FILE is refused, where the form is too long for a line, or
+where the new model is refused, the reason is told and nothing is written.
+
+  -o, --output NEXT  where it goes; standard output without it
+
+Exit status: 0 written, 1 a line was refused, 2 input or output failed.
 ";
 
 pub const EXPLAIN: &str = "\

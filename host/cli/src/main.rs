@@ -22,10 +22,11 @@ use trouble::{message, Outcome, Trouble, Verdict};
 
 type Command = fn(&Arguments, &mut Out) -> Outcome;
 
-const COMMANDS: [(&str, Command, &str); 6] = [
+const COMMANDS: [(&str, Command, &str); 7] = [
     ("run", commands::run::run, help::RUN),
     ("plan", commands::plan::plan, help::PLAN),
     ("value", commands::value::value, help::VALUE),
+    ("next", commands::next::next, help::NEXT),
     ("explain", commands::explain::explain, help::EXPLAIN),
     ("picture", commands::picture::picture, help::PICTURE),
     ("report", commands::report::report, help::REPORT),

@@ -77,7 +77,7 @@ impl Planner<'_> {
         let begun = Instant::now();
         let done = match engine.backup() {
             Ok(done) => done,
-            Err(refusal) => return reason(engine, "(backup)", refusal).map(Err),
+            Err(refusal) => return reason_of(engine, "(backup)", refusal).map(Err),
         };
         let (k, variables) = (done.steps, diagram(engine).variables().len());
         (self.watch)(Progress::Backup { k, rows: done.rows, variables })?;
@@ -97,7 +97,7 @@ impl Planner<'_> {
                     (self.watch)(Progress::Cut { k, cuts: cuts.len(), rows: cut.rows })?;
                 }
                 Err(Refusal::Nothing) => break,
-                Err(refusal) => return Ok((cuts, Some(reason(engine, "(cut)", refusal)?))),
+                Err(refusal) => return Ok((cuts, Some(reason_of(engine, "(cut)", refusal)?))),
             }
         }
         Ok((cuts, None))
@@ -111,10 +111,10 @@ impl Planner<'_> {
             match Space::new(engine.arities()).reduce(&listing) {
                 Ok(reduced) if reduced.len() < listing.len() => match engine.reduce() {
                     Ok(done) => reductions.push(done.rows),
-                    Err(refusal) => return Ok((reductions, Some(reason(engine, "(reduce)", refusal)?))),
+                    Err(refusal) => return Ok((reductions, Some(reason_of(engine, "(reduce)", refusal)?))),
                 },
                 Ok(_) => break,
-                Err(refusal) => return Ok((reductions, Some(reason(engine, "(reduce)", refusal)?))),
+                Err(refusal) => return Ok((reductions, Some(reason_of(engine, "(reduce)", refusal)?))),
             }
         }
         Ok((reductions, None))
@@ -139,7 +139,7 @@ fn start(engine: &Session) -> Step {
 }
 
 /// Why the engine refused a line.
-fn reason(engine: &Session, line: &str, refusal: Refusal) -> Result<Fault, Trouble> {
+pub fn reason_of(engine: &Session, line: &str, refusal: Refusal) -> Result<Fault, Trouble> {
     let fault = explain(&Twin::of(engine)?.known, line.as_bytes(), true);
     match fault {
         Some(fault) if fault.refusal.number() == refusal.number() => Ok(fault),

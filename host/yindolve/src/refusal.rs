@@ -50,7 +50,7 @@ pub enum Refusal {
     Paths = 17,
     /// A result buffer or a working space that is too small.
     Buffer = 18,
-    /// The value diagram, written as a form, is too long for a `(reward ..)` line. No line of this version answers it yet.
+    /// The value diagram, written as a form by `(text)`, is too long for a `(reward ..)` line: more than 4,095 bytes or 64 open brackets.
     Length = 19,
     /// An equality or a constant in a diagram to reduce.
     Kinds = 26,

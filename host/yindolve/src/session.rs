@@ -272,8 +272,8 @@ impl Session {
         self.memory.started()
     }
 
-    /// How many lines were answered; each of the calls [`backup`](Session::backup), [`cut`](Session::cut), [`reduce`](Session::reduce) and
-    /// [`value_in_hand`](Session::value_in_hand) counts as one.
+    /// How many lines were answered; each of the calls [`backup`](Session::backup), [`cut`](Session::cut), [`reduce`](Session::reduce),
+    /// [`text`](Session::text) and [`value_in_hand`](Session::value_in_hand) counts as one.
     pub fn lines(&self) -> u64 {
         self.memory.lines()
     }
@@ -382,6 +382,33 @@ impl Session {
             Answer::Reduce(done) => Ok(done),
             Answer::Refused { refusal, .. } => Err(refusal),
             other => unreachable!("{other:?} for (reduce)"),
+        }
+    }
+
+    /// The value diagram as one nested form, with variables `?v0`, `?v1` and so on: `(reward FORM)` of another model under the same
+    /// constants and predicates, declared in the same order, has the very listing. Its numbers are the value diagram's, S^k times the
+    /// values.
+    ///
+    /// # Refusals
+    /// `Place` before a `(start)`; `Length` (the line `(reward FORM)` would pass 4,095 bytes or 64 open brackets).
+    ///
+    /// ```
+    /// use yindolve::Session;
+    /// let model = include_str!("../../../examples/sample.txt");
+    /// let mut session = Session::load(model)?;
+    /// session.backup()?;
+    /// session.cut_all()?;
+    /// let form = session.text()?;
+    /// assert_eq!(form, "(if (= hub ?v0) (if (stock hub) 120 30) 0)");
+    /// let next = Session::load(model.replace("(if (stock hub) 10 0)", &form))?;
+    /// assert_eq!(next.reward(), session.listing());
+    /// # Ok::<(), Box<dyn std::error::Error>>(())
+    /// ```
+    pub fn text(&mut self) -> Result<String, Refusal> {
+        match self.line("(text)") {
+            Answer::Text(form) => Ok(form),
+            Answer::Refused { refusal, .. } => Err(refusal),
+            other => unreachable!("{other:?} for (text)"),
         }
     }
 

@@ -105,6 +105,8 @@ pub enum Answer {
     Reduce(ReduceDone),
     /// To `(show)`: the rows of the value diagram, the root last.
     Rows(Vec<Row>),
+    /// To `(text)`: the value diagram as one nested form, as a `(reward ..)` line takes it.
+    Text(String),
     /// The line is refused and changed nothing.
     Refused {
         /// Why.
@@ -126,6 +128,9 @@ impl Answer {
     /// ```
     pub fn read(bytes: &[u8]) -> Option<Answer> {
         let text = std::str::from_utf8(bytes).ok()?;
+        if let Some(form) = read_form(text) {
+            return Some(Answer::Text(form.to_string()));
+        }
         let forms = text.lines().map(|line| line.strip_prefix('(')?.strip_suffix(')').map(|words| words.split(' ').collect()));
         let forms: Vec<Vec<&str>> = forms.collect::<Option<_>>()?;
         let number = |word: &str| word.parse::<u64>().ok();
@@ -140,6 +145,13 @@ impl Answer {
             Some(_) => Answer::Rows(forms.iter().map(|form| read_row(form)).collect::<Option<_>>()?),
         })
     }
+}
+
+/// The one line of a diagram's form: a number, or `(if ..)`.
+fn read_form(text: &str) -> Option<&str> {
+    let form = Some(text.strip_suffix('\n').unwrap_or(text)).filter(|form| !form.is_empty() && !form.contains('\n'))?;
+    let is_number = form.bytes().all(|byte| byte.is_ascii_digit());
+    (is_number || form.starts_with("(if ") && form.ends_with(')')).then_some(form)
 }
 
 fn read_row(form: &[&str]) -> Option<Row> {
@@ -170,6 +182,9 @@ mod tests {
         assert_eq!(read("(refused 28 9)\n"), Some(Answer::Refused { refusal: Refusal::Combinations, line: 9 }));
         let rows = vec![Row::Leaf(30), Row::Leaf(0), Row::Branch { label: Label::new(1, &[Term::Constant(0)]), yes: 0, no: 1 }];
         assert_eq!(read("(row 0 leaf 30)\n(row 1 leaf 0)\n(row 2 281474976710656 0 1)\n"), Some(Answer::Rows(rows)));
+        assert_eq!(read("7\n"), Some(Answer::Text("7".to_string())));
+        assert_eq!(read("(if (stock ?v0) 5 0)\n"), Some(Answer::Text("(if (stock ?v0) 5 0)".to_string())));
+        assert_eq!(read("7\n7\n"), None);
         assert_eq!(read("(refused 99 1)\n"), None);
         assert_eq!(read("(row 0 leaf 30)\nrow\n"), None);
     }

@@ -1,4 +1,4 @@
-//! The documents: every transcript of docs/DESK.md, the quarter of sixty branches, and the manual page. With YINDOLVE_DESK_DOCS=write the
+//! The documents: every transcript of docs/DESK.md and docs/GUIDE.md, the quarter of sixty branches, and the manual page. With YINDOLVE_DESK_DOCS=write the
 //! transcripts and the quarter's answers are written anew.
 
 use crate::common::{folder, root, PROGRAM};
@@ -38,10 +38,20 @@ fn without_times(text: &str) -> String {
 }
 
 #[test]
+fn the_transcripts_of_the_front_end() {
+    transcripts_are_true("DESK.md", 8);
+}
+
+#[test]
 fn the_transcripts_of_the_guide() {
-    let here = folder("documents");
+    transcripts_are_true("GUIDE.md", 2);
+}
+
+/// Every transcript of a page is what its commands print; there are at least so many.
+fn transcripts_are_true(page: &str, least: usize) {
+    let here = folder(&format!("documents_{page}"));
     std::os::unix::fs::symlink(root().join("examples"), here.join("examples")).expect("a link");
-    let path = root().join("docs/DESK.md");
+    let path = root().join("docs").join(page);
     let document = std::fs::read_to_string(&path).expect("the document");
     let mut written = String::new();
     let mut transcripts = 0;
@@ -54,7 +64,7 @@ fn the_transcripts_of_the_guide() {
         rest = after;
     }
     written += rest;
-    assert!(transcripts >= 8, "{transcripts}");
+    assert!(transcripts >= least, "{transcripts}");
     if writes() {
         std::fs::write(&path, &written).expect("the document");
     }
@@ -87,6 +97,7 @@ fn the_manual_page() {
         "run",
         "plan",
         "value",
+        "next",
         "explain",
         "picture",
         "report",

@@ -3,6 +3,7 @@
 mod common;
 mod documents;
 mod explain;
+mod next;
 mod picture;
 mod plan_and_value;
 mod report;
