@@ -299,6 +299,7 @@ typedef enum {
     YINDOLVE_ANSWER_CUT,     /* (cut row edge rows): row, edge (1 for true, 0 for false), rows */
     YINDOLVE_ANSWER_REDUCE,  /* (reduce rows): rows */
     YINDOLVE_ANSWER_ROWS,    /* (row ..) lines: rows; yindolve_read_rows reads them */
+    YINDOLVE_ANSWER_TEXT,    /* the form that (text) prints: the answer's bytes but for the line feed, at most 4,086 */
     YINDOLVE_ANSWER_REFUSED, /* (refused number line): refusal, line; line 0 in a closing answer */
     YINDOLVE_ANSWER_UNKNOWN  /* bytes that are no answer of this version; none where no line was answered */
 } yindolve_answer_kind;
@@ -354,6 +355,15 @@ static inline int yindolve_take_row(const uint8_t *bytes, size_t count, size_t *
         yindolve_take_word(bytes, count, at, ")\n");
 }
 
+/* Reads the form of a diagram at *at, which has a line of its own: steps over it and answers 1 if one stands there. For the functions below. */
+static inline int yindolve_take_form(const uint8_t *bytes, size_t count, size_t *at) {
+    uint64_t number;
+    if (!yindolve_take_word(bytes, count, at, "(if "))
+        return yindolve_take_number(bytes, count, at, &number) && yindolve_take_word(bytes, count, at, "\n");
+    while (*at < count && bytes[*at] != '\n') ++*at;
+    return bytes[*at - 1] == ')' && yindolve_take_word(bytes, count, at, "\n");
+}
+
 /* Reads the row lines of an answer into the words of a listing, their rows to *rows: 0; BUFFER where they do not fit; LISTING where the bytes are no rows. */
 static inline uint64_t yindolve_read_rows(const uint8_t *bytes, size_t count, uint64_t *words, size_t words_count, uint64_t *rows) {
     size_t at = 0, n = 0;
@@ -403,8 +413,12 @@ static inline yindolve_answer yindolve_read_answer(const uint8_t *bytes, size_t 
         a.kind = YINDOLVE_ANSWER_REFUSED;
         whole = yindolve_take_number(bytes, count, &at, &a.refusal) && yindolve_take_word(bytes, count, &at, " ") &&
             yindolve_take_number(bytes, count, &at, &a.line) && yindolve_take_word(bytes, count, &at, ")\n");
+    } else if (yindolve_take_form(bytes, count, &at)) {
+        a.kind = YINDOLVE_ANSWER_TEXT;
+        whole = 1;
     } else {
         a.kind = YINDOLVE_ANSWER_ROWS;
+        at = 0;
         whole = 1;
         for (; whole && at < count; ++a.rows) whole = yindolve_take_row(bytes, count, &at, row);
     }

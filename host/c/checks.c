@@ -53,11 +53,17 @@ static void read_answers(void) {
     EXPECT(a.kind == YINDOLVE_ANSWER_REFUSED && a.refusal == YINDOLVE_NOTHING && a.line == 18);
     a = read_text("(row 0 leaf 30)\n(row 1 leaf 0)\n(row 2 281474976710656 0 1)\n");
     EXPECT(a.kind == YINDOLVE_ANSWER_ROWS && a.rows == 3);
+    a = read_text("(if (stock ?v0) 5 0)\n");
+    EXPECT(a.kind == YINDOLVE_ANSWER_TEXT && a.rows == 0 && a.value == 0 && a.bytes == 21);
+    a = read_text("1000000000000000000\n");
+    EXPECT(a.kind == YINDOLVE_ANSWER_TEXT && a.value == 0 && a.bytes == 20);
+    a = read_text("(refused 19 9)\n");
+    EXPECT(a.kind == YINDOLVE_ANSWER_REFUSED && a.refusal == YINDOLVE_LENGTH && a.line == 9);
     EXPECT(read_text("").kind == YINDOLVE_ANSWER_NOTHING);
     EXPECT(yindolve_read_answer(NULL, 0).kind == YINDOLVE_ANSWER_NOTHING);
     EXPECT(yindolve_read_answer(NULL, 1).kind == YINDOLVE_ANSWER_UNKNOWN);
     static const char *const wrong[] = {"(", "(value", "(value 1 2)\n", "(value 1 2 3)", "(value 1 2 3)\nx", "(value 99999999999999999999 1 1)\n", "(cut 5 maybe 4)\n", "(reduce)\n", "(reduce 5 4)\n",
-        "(row 0 leaf)\n", "(row)\n", "(refused x 1)\n", "\n", "(value  1 2 3)\n"};
+        "(row 0 leaf)\n", "(row)\n", "(refused x 1)\n", "\n", "(value  1 2 3)\n", "7", "7\n7\n", "(if (p) 1 0)", "(if (p) 1 0\n", "(if (p) 1 0)\n\n", "(if "};
     size_t i;
     for (i = 0; i < sizeof wrong / sizeof wrong[0]; ++i) {
         a = read_text(wrong[i]);
@@ -181,6 +187,7 @@ static void ends(void) {
 }
 
 static void sessions(void) {
+    static const char form[] = "(if (= hub ?v0) (if (stock hub) 120 30) (if (stock hub) 120 0))\n";
     size_t i;
     uint64_t rows = 0, bytes = 0;
     EXPECT(yindolve_session_open(&session) == 0);
@@ -193,6 +200,8 @@ static void sessions(void) {
     EXPECT(yindolve_check(session.arities, YINDOLVE_ARITIES, listing, rows * YINDOLVE_ROW_WORDS) == 0);
     EXPECT(yindolve_session_ask(&session, "(value)").value == 30);
     EXPECT(yindolve_session_ask(&session, "(reduce)").refusal == YINDOLVE_KINDS);
+    EXPECT(yindolve_session_ask(&session, "(text)").kind == YINDOLVE_ANSWER_TEXT);
+    EXPECT(memcmp(session.answer, form, sizeof form - 1) == 0);
     EXPECT(closes_with(&session, ""));
 
     EXPECT(yindolve_session_save(&session, words, YINDOLVE_SAVED_WORDS - 1) == YINDOLVE_BUFFER);

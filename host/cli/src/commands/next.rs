@@ -29,12 +29,12 @@ pub fn next(arguments: &Arguments, out: &mut Out) -> Outcome {
             return Ok(Verdict::Refused);
         }
     };
-    let written = Text { bytes: with_reward(&model.bytes, &form), ..model };
-    let Some(next) = load(&written)? else {
+    let written = with_reward(&model.bytes, &form);
+    let Some(next) = load(&Text { bytes: model_part(&written), ..model })? else {
         return Ok(Verdict::Refused);
     };
     tell(&ended, &next)?;
-    out.write_to(arguments.word("--output"), &written.bytes)?;
+    out.write_to(arguments.word("--output"), &written)?;
     Ok(Verdict::Accepted)
 }
 
@@ -70,14 +70,26 @@ fn value_form(model: &mut Loaded) -> Result<Result<String, Fault>, Trouble> {
     }
 }
 
-/// The text with this reward in the place of its own; before its (start) where it has none.
-fn with_reward(text: &[u8], form: &str) -> Vec<u8> {
+/// The lines of a text, and how many come before its (start).
+fn lines_to_start(text: &[u8]) -> (Vec<&[u8]>, usize) {
     let lines: Vec<&[u8]> = text.split_inclusive(|byte| *byte == b'\n').collect();
     let start = lines.iter().position(|line| line.starts_with(b"(start)")).unwrap_or(lines.len());
+    (lines, start)
+}
+
+/// The text with this reward in the place of its own; before its (start) where it has none.
+fn with_reward(text: &[u8], form: &str) -> Vec<u8> {
+    let (lines, start) = lines_to_start(text);
     let own = lines[..start].iter().position(|line| line.starts_with(b"(reward "));
     let reward = format!("(reward {form})\n").into_bytes();
     let (before, behind) = own.map_or((start, start), |at| (at, at + 1));
     [lines[..before].concat(), reward, lines[behind..].concat()].concat()
+}
+
+/// The text up to its (start).
+fn model_part(text: &[u8]) -> Vec<u8> {
+    let (lines, start) = lines_to_start(text);
+    lines[..lines.len().min(start + 1)].concat()
 }
 
 /// What the new reward is: its scale, and whether it has the very rows.

@@ -58,7 +58,7 @@ fn what_is_not_handed_on() {
         assert!(ended.err.contains(what), "{what}\n{}", ended.err);
         assert!(!std::path::Path::new(&next).exists());
     };
-    let long = file(&here, "long.txt", model_of("liftparts.txt") + "(backup)\n(backup)\n");
+    let long = file(&here, "long.txt", model_of("liftparts.txt") + "(backup)\n" + &"(cut)\n".repeat(13) + "(backup)\n");
     refused(&["next", &long], 1, "nothing is written, since a line is refused: length (19): after step 2: the value diagram of ");
     // the third backup of liftparts is refused
     refused(&["next", &example("liftparts.txt")], 1, "nothing is written, since a line is refused: space (9): step 3: ");
