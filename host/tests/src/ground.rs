@@ -103,7 +103,7 @@ mod examples {
     fn differ_with_equal_values(first: Tree, second: Tree) {
         let mut arities = [0; PREDICATES];
         (arities[EQUALITY as usize], arities[1]) = (2, 1);
-        let signature = Signature { constants: 2, predicates: 1, arities };
+        let signature = Signature { constants: 2, equality: true, predicates: 1, arities };
         let [first, second] = [first, second].map(|tree| tree.read().expect("few rows"));
         assert_ne!(first, second);
         for state in (1..=3).flat_map(|objects| every_state(&signature, objects)) {
