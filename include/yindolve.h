@@ -265,7 +265,7 @@ uint64_t yindolve_open(uint64_t *numbers, size_t numbers_count, uint64_t *aritie
  * The session's memory is tested once for a call, so that lines are best given many at a time. It passes the test if names, arities, the model laid out in listings
  * and table, state, value diagram and numbers agree as every line keeps them. So a session may be written to a file, read again and go on (examples/save.c), whatever
  * happened to its bytes: the call answers by the session that they are, or LISTING. (Words that pass but were not left by lines may hold any good value diagram; then a
- * value is that diagram's, and not the Bellman value.)
+ * value is that diagram's, and not the Bellman value, and (text) prints the bytes that its names hold.)
  * Words behind the numbers and bytes behind the answers stay. Within a table the words behind those in use are the session's working space.
  * Refused, in this order: LISTING where the memory is no session's, a table of another size among it, or its count of lines and the block's bytes together pass
  * 2^64 - 1; BUFFER where the working space or the buffer is smaller than above. Nothing is written then.

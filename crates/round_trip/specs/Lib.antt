@@ -22,11 +22,7 @@
 --   tables-of: the names that a session's keys stand for are printed as declared; value-round-trip: the round trip of a session's value diagram after (start)
 --   names-written, variables-written, forms-printed: cases of the request on the definitions
 --
--- Missing for the request's whole sentence
---   That building the reward is not refused: no 10 or 9 at its row steps, no 9 for its result. `same-diagram` says what is built where it is accepted.
---   That the model's rows have room for it (9), and that a reward may stand there (5): the session's own checks.
---   That every session has names for its keys, each once (`KeysOf`, `Declared`), and that they cover its value diagram (`Covers`): no law of sessions says so yet.
---   The line (text) itself, its place in the session, and the code.
+-- That building the reward is accepted stands in acceptance; that every session has names for its keys and that they cover its value diagram, and the round trip of texts, in declared.
 
 -- definitions
 pub mod Numbering
