@@ -95,6 +95,12 @@ pub fn check(seed: u64, slips: Slips, tally: &mut Tally) -> Result<(), String> {
     let all = descending(paths(&whole).unwrap_or_default());
     let combined = |limit: usize| combinations(&all, &valuations(&whole.variables(), slips), arities, limit);
     let variables = whole.variables().len();
+    let plain = signature.constants == 0 && !signature.equality;
+    expect(!plain || answer != Err(Refusal::Kinds), || format!("26 for {whole:?}"))?;
+    let runs = valuations(&whole.variables(), Slips::NONE).len() * all.len();
+    if !matches!(answer, Err(Refusal::Paths | Refusal::Kinds)) {
+        expect((answer == Err(Refusal::Runs)) == (runs > 512), || format!("{answer:?} with {runs} valuations times paths"))?;
+    }
     let few = matches!(answer, Ok(_) | Err(Refusal::Combinations)) && ground_facts(&signature, variables as u64).len() <= FACTS;
     if few && slips == Slips::NONE {
         let (formed, kept) = by_states(&whole, &signature);
