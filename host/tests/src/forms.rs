@@ -1,11 +1,13 @@
 //! Document 02, L2: value diagrams go round, printed by (text) and read again as the reward of the next model, and rewards whose variables are written ?vN.
 
+use crate::limits::{long_form, nested_form};
 use crate::models::{model, terms, write_model, write_tree, Signature, Size};
 use crate::program::printed;
 use crate::random::Random;
 use crate::tally::Tally;
 use reference::diagram::Diagram;
-use reference::session::{answers, Session};
+use reference::refusal::Refusal;
+use reference::session::{answers, Answer, Session};
 use reference::slips::Slips;
 use reference::terms::{is_variable, Term, FIRST_VARIABLE};
 use reference::tree::Tree;
@@ -19,9 +21,10 @@ const OPERATIONS: [&str; 5] = ["(backup)", "(cut)", "(cut)", "(reduce)", ""];
 /// So many models behind one another have the value diagram of the one before as their reward.
 const QUARTERS: u64 = 4;
 
-/// The value diagrams of one seed go round by the reference, and its variables are numbered as they are written.
+/// The value diagrams of one seed go round by the reference, variables are numbered as they are written, and forms are printed up to their limits.
 pub fn check(seed: u64, slips: Slips, tally: &mut Tally) -> Result<(), String> {
     check_numbers(seed, slips)?;
+    check_limits(seed, slips)?;
     let answering = |text: &[u8]| Ok(answers(text, slips).iter().flat_map(|answer| answer.print().into_bytes()).collect());
     for _ in 0..rounds(&answering, seed)? {
         tally.see("a diagram goes round");
@@ -143,6 +146,22 @@ fn check_numbers(seed: u64, slips: Slips) -> Result<(), String> {
     for (written, right) in cases {
         if reward(&signature, &written, slips)? != *right {
             return Err(format!("(reward {written}) is not numbered as it is written"));
+        }
+    }
+    Ok(())
+}
+
+/// 62 tests inside one another and 4,095 bytes of the reward line pass, and one more does not; one fewer stands there before the backup.
+fn check_limits(seed: u64, slips: Slips) -> Result<(), String> {
+    let random = &mut Random::new(seed);
+    let (tests, bytes) = (random.between(61, 63), random.between(4_094, 4_096));
+    for (lines, passes) in [(nested_form(random, tests), tests <= 62), (long_form(random, bytes), bytes <= 4_095)] {
+        let text: String = lines.iter().flat_map(|line| [line.as_str(), "\n"]).collect();
+        let answers = answers(text.as_bytes(), slips);
+        let printed = answers.iter().filter(|answer| matches!(answer, Answer::Text { .. })).count();
+        let refused = answers.iter().filter(|answer| matches!(answer, Answer::Refused { refusal: Refusal::Length, .. })).count();
+        if (printed, refused) != if passes { (2, 0) } else { (1, 1) } {
+            return Err(format!("{printed} forms printed and {refused} too long, with {tests} tests and with {bytes} bytes, in\n{text}"));
         }
     }
     Ok(())

@@ -21,8 +21,14 @@ pub fn lines(random: &mut Random) -> Vec<String> {
         12 => related(random),
         13 => runs(random),
         14 => combinations(random),
-        15 => nested_form(random),
-        16 => long_form(random),
+        15 => {
+            let tests = about(random, 62);
+            nested_form(random, tests)
+        }
+        16 => {
+            let bytes = about(random, 4_095);
+            long_form(random, bytes)
+        }
         _ => variants_apart(random),
     }
 }
@@ -287,23 +293,23 @@ fn printed_as_form(declarations: Vec<String>, reward: String, becomes: &str) -> 
     declarations.into_iter().chain(before).chain(behind).collect()
 }
 
-/// About 62 tests inside one another, the last of them (more), which the backup brings.
-fn nested_form(random: &mut Random) -> Vec<String> {
-    let tests = about(random, 62) - 2;
+/// So many tests inside one another, about 62, the last of them (more), which the backup brings.
+pub fn nested_form(random: &mut Random, tests: u64) -> Vec<String> {
+    let above = tests - 2;
     let mut declarations: Vec<String> = numbered(16, |c| format!("(constant c{c})")).collect();
     declarations.extend(numbered(4, |p| format!("(predicate p{p} 1)")));
     declarations.extend(["(predicate last 0)", "(predicate more 0)"].map(str::to_string));
     let leaf = random.between(1, 9);
-    let chain = (0..tests).rev().fold(format!("(if (last) {leaf} 0)"), |inner, i| match random.once_in(8) {
+    let chain = (0..above).rev().fold(format!("(if (last) {leaf} 0)"), |inner, i| match random.once_in(8) {
         true => format!("(if (p{} c{}) 0 {inner})", i / 16, i % 16),
         false => format!("(if (p{} c{}) {inner} 0)", i / 16, i % 16),
     });
     printed_as_form(declarations, chain, "(becomes (last) (if (more) 1 0))")
 }
 
-/// About 4,095 bytes, the last of them by the backup, since one leaf has a digit more then: 38 tests of six long names and one of a name that fits.
-fn long_form(random: &mut Random) -> Vec<String> {
-    let rest = about(random, 4_095) as usize - "(reward )".len() - 38 * 107 - "(if (r ) 10 0)".len();
+/// A reward line of so many bytes, about 4,095, the last of them by the backup, since one leaf has a digit more then: 38 tests of six long names and one of a name that fits.
+pub fn long_form(random: &mut Random, bytes: u64) -> Vec<String> {
+    let rest = bytes as usize - "(reward )".len() - 38 * 107 - "(if (r ) 10 0)".len();
     let long = |c: u64| format!("wholesalebranc{}", char::from(b'a' + c as u8));
     let mut declarations: Vec<String> = numbered(14, |c| format!("(constant {})", long(c))).collect();
     declarations.extend([format!("(constant {})", "z".repeat(rest)), "(predicate q 6)".to_string(), "(predicate r 1)".to_string()]);
