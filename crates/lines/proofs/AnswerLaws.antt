@@ -12,7 +12,7 @@ use Rattle.memory.specs.declared.Said.{Said}
 use Rattle.memory.specs.Memory.{Memory, memoryOf, Ready, Answers}
 use Rattle.declaration_lines.specs.Lines.{ConstantSays, PredicateSays, TotalSays, DiscountSays, ActionSays}
 use Rattle.diagram_lines.specs.Lines.{RewardSays, VariantSays, BecomesSays}
-use Rattle.run_lines.specs.Lines.{StartAnswered, ValueAnswered, BackupAnswered, CutAnswered, ReduceAnswered, ShowAnswered}
+use Rattle.run_lines.specs.Lines.{StartAnswered, ValueAnswered, BackupAnswered, CutAnswered, ReduceAnswered, ShowAnswered, TextAnswered}
 use Rattle.state_lines.specs.Lines.{ObjectsSays, IsSays, TrueSays}
 
 pub ready-as : {k l : Kind} {s : List ℕ} {n : Numbers} {w : Memory} → k ≡ l → Ready k s n w → Ready l s n w
@@ -87,6 +87,10 @@ module _ {k : Kind} {s : List ℕ} (number : ℕ) {n : Numbers} {names arities l
   pub show-answers : {r : Said} → k ≡ K.Show → ShowAnswered n r
       → Answers k s number n (memoryOf names arities listings table state value) r (memoryOf names arities listings table state value)
   show-answers e c = rw e (c .says s number names arities listings table state value (ready-as e h))
+
+  pub text-answers : {r : Said} → k ≡ K.Text → TextAnswered number n names arities value r
+      → Answers k s number n (memoryOf names arities listings table state value) r (memoryOf names arities listings table state value)
+  text-answers e c = rw e (c .says s listings table state (ready-as e h))
 
   pub bad-answers : k ≡ K.Bad → Answers k s number n (memoryOf names arities listings table state value) (record { numbers = n; answer = A.Refused Form number }) (memoryOf names arities listings table state value)
   unfolding done

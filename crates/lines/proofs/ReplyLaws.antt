@@ -64,6 +64,7 @@ some-kind σ K.Backup p e = refl
 some-kind σ K.Cut p e = refl
 some-kind σ K.Show p e = refl
 some-kind σ K.Reduce p e = refl
+some-kind σ K.Text p e = refl
 some-kind σ K.Bad p e = absurd (bad-nowhere σ p e)
 
 -- ===== The answer =====

@@ -192,6 +192,7 @@ fn perform(
         Kind::Cut => run_lines::cut(number, n, arities, value, work),
         Kind::Show => run_lines::show(n),
         Kind::Reduce => run_lines::reduce(number, n, arities, value, work),
+        Kind::Text => run_lines::text(number, n, names, arities, value),
         Kind::Bad => Said {
             numbers: n,
             answer: Answer::Refused(Refusal::Form, number),

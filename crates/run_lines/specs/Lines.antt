@@ -1,14 +1,18 @@
 -- What the functions of (start) and of the run's lines require of the lent words; and what they promise, whatever bytes the line has and whatever the
 -- words are that are not lent.
+use mathlib.Core.Path.{_≡_}
+use mathlib.Core.Bool.{true}
 use mathlib.Core.List.{List}
 use Prim.Native.Nat.{ℕ, _*_, _≤_}
-use lib.ListN.{length}
-use Rattle.text.specs.declared.Kind.the-variants.{Start, Value, Backup, Cut, Reduce, Show}
+use lib.ListN.{length, take}
+use Rattle.diagram.specs.Words.{isListing}
+use Rattle.text.specs.declared.Kind.the-variants.{Start, Value, Backup, Cut, Reduce, Show, Text}
 use Rattle.session.specs.declared.Part.the-variants.{Run}
 use Rattle.facts.specs.Words.{GoodLive}
 use Rattle.model.specs.Layout.{modelOf, Laid}
 use Rattle.planner.specs.declared.Held.{Held}
 use Rattle.planner.specs.Run.{Room, Callable}
+use Rattle.spelling.specs.Spelling.{Named}
 use Rattle.memory.specs.declared.Numbers.{Numbers}
 use Rattle.memory.specs.declared.Said.{Said}
 use Rattle.memory.specs.Memory.{memoryOf, Ready, Answers}
@@ -44,6 +48,12 @@ pub record BackupTask (n : Numbers) (arities listings table value work : List �
   pub callable : Callable arities (modelOf arities listings table (n .head)) (n .held) value
   pub room : Room value work
 
+-- the names declared, and the listing of a value
+pub record TextTask (n : Numbers) (names arities value : List ℕ) : Type 0 where
+  pub named : Named names (n .counts .constants) (n .counts .predicates)
+  pub listing : isListing arities (take (n .held .rows * 3) value) ≡ true
+  pub rows : n .held .rows * 3 ≤ length value
+
 -- ===== What they promise =====
 
 pub record StartAnswered (number : ℕ) (n : Numbers) (arities listings table value : List ℕ) (r : Said) (value′ : List ℕ) : Type 0 where
@@ -69,3 +79,7 @@ pub record ReduceAnswered (number : ℕ) (n : Numbers) (arities value : List ℕ
 pub record ShowAnswered (n : Numbers) (r : Said) : Type 0 where
   pub says : (s : List ℕ) (number : ℕ) (names arities listings table state value : List ℕ) → Ready Show s n (memoryOf names arities listings table state value)
       → Answers Show s number n (memoryOf names arities listings table state value) r (memoryOf names arities listings table state value)
+
+pub record TextAnswered (number : ℕ) (n : Numbers) (names arities value : List ℕ) (r : Said) : Type 0 where
+  pub says : (s listings table state : List ℕ) → Ready Text s n (memoryOf names arities listings table state value)
+      → Answers Text s number n (memoryOf names arities listings table state value) r (memoryOf names arities listings table state value)

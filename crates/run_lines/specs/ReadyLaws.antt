@@ -16,7 +16,7 @@ use Rattle.refusal.specs.Outcome.{ok, refused}
 use Rattle.regression.specs.Parameters.{Within}
 use Rattle.mdp.specs.Model.{GoodModel}
 use Rattle.text.specs.declared.Kind.{Kind}
-use Rattle.text.specs.declared.Kind.the-variants.{Start, Value, Backup, Cut, Reduce}
+use Rattle.text.specs.declared.Kind.the-variants.{Start, Value, Backup, Cut, Reduce, Text}
 use Rattle.session.specs.declared.Part.{Part}
 use Rattle.session.specs.declared.Part.the-variants.{Model, Run}
 use Rattle.session.specs.declared.Rule.the-variants.{Misplaced}
@@ -30,7 +30,7 @@ use Rattle.planner.specs.Run.{Room, ReplaceTask}
 use Rattle.memory.specs.declared.Numbers.{Numbers}
 use Rattle.memory.specs.Memory.{Memory, sessionOf, Holding, Stored, Ready, workWords}
 use Rattle.memory.specs.StoredLaws.{stored-reward}
-use Rattle.run_lines.specs.Lines.{StartTask, ValueTask, BackupTask}
+use Rattle.run_lines.specs.Lines.{StartTask, ValueTask, BackupTask, TextTask}
 
 -- ===== The run =====
 
@@ -154,3 +154,14 @@ cut-task r l = replace-task refl r l
 
 pub reduce-task : {s : List ℕ} {n : Numbers} {w : Memory} {work : List ℕ} → Ready Reduce s n w → workWords ≤ length work → ReplaceTask (w .arities) (n .held) (w .value) work
 reduce-task r l = replace-task refl r l
+
+-- ===== (text) =====
+
+-- the names declared, and the value's listing, once the run has begun
+pub stored-text : {n : Numbers} {w : Memory} → Stored n w → n .part ≡ Run → TextTask n (w .names) (w .arities) (w .value)
+stored-text s p =
+    let v = s .vocabulary .names in
+    record { named = record { words = v .room; constants-few = v .constants; predicates-few = v .predicates }; listing = s .holding p .listing; rows = s .value-rows }
+
+pub text-task : {s : List ℕ} {n : Numbers} {w : Memory} → Ready Text s n w → TextTask n (w .names) (w .arities) (w .value)
+text-task r = stored-text (r .stored) (in-run refl r)

@@ -1,4 +1,4 @@
-// (start), (value), (backup), (cut), (reduce) and (show): from a line that stands where it may to the session behind it and its answer. What they are stands in
+// (start), (value), (backup), (cut), (reduce), (show) and (text): from a line that stands where it may to the session behind it and its answer. What they are stands in
 // crate session, specs/Running and specs/Replies.
 use answers::Answer;
 use cutting::Cut;
@@ -7,12 +7,14 @@ use memory::Said;
 use planner::Backed;
 use planner::Held;
 use reduction::Reduced;
+use refusal::Refusal;
 use session::Part;
+use spelling::Measured;
 use state::Valued;
 use weights::Weighed;
 ghost use mathlib.Core.Path.{_≡_};
 ghost use Rattle.planner.specs.Run.{ReplaceTask};
-ghost use Rattle.run_lines.specs.Lines.{runningWith, StartTask, ValueTask, BackupTask, StartAnswered, ValueAnswered, BackupAnswered, CutAnswered, ReduceAnswered, ShowAnswered};
+ghost use Rattle.run_lines.specs.Lines.{runningWith, StartTask, ValueTask, BackupTask, TextTask, StartAnswered, ValueAnswered, BackupAnswered, CutAnswered, ReduceAnswered, ShowAnswered, TextAnswered};
 
 // The numbers once the run holds `held`.
 fn running(n: Numbers, held: Held) -> Numbers
@@ -205,5 +207,32 @@ pub fn show(n: Numbers) -> Said
     Said {
         numbers: n,
         answer: Answer::Show(held.rows),
+    }
+}
+
+// (text): the bytes of the value as a form, or 19.
+pub fn text(number: u64, n: Numbers, names: &[u64], arities: &[u64], value: &[u64]) -> Said
+    requires { ⌜ TextTask n (now names) (now arities) (now value) ⌝ }
+    ensures { λ r. ⌜ TextAnswered number n (now (names .entry)) (now (arities .entry)) (now (value .entry)) r ⌝ }
+{
+    let counts = n.counts;
+    let held = n.held;
+    let rows = held.rows;
+    let m = spelling::measure(
+        arities,
+        names,
+        counts.constants,
+        counts.predicates,
+        &value[..rows * 3],
+    );
+    match m {
+        Measured::Bytes(bytes) => Said {
+            numbers: n,
+            answer: Answer::Text(bytes),
+        },
+        Measured::TooLong => Said {
+            numbers: n,
+            answer: Answer::Refused(Refusal::Length, number),
+        },
     }
 }

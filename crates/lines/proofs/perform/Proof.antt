@@ -1,7 +1,7 @@
-use Rattle.lines.proofs.AnswerLaws.{ready-as, constant-answers, predicate-answers, total-answers, discount-answers, reward-answers, action-answers, variant-answers, becomes-answers, start-answers, objects-answers, is-answers, tell-answers, value-answers, backup-answers, cut-answers, show-answers, reduce-answers, bad-answers}
+use Rattle.lines.proofs.AnswerLaws.{ready-as, constant-answers, predicate-answers, total-answers, discount-answers, reward-answers, action-answers, variant-answers, becomes-answers, start-answers, objects-answers, is-answers, tell-answers, value-answers, backup-answers, cut-answers, show-answers, reduce-answers, text-answers, bad-answers}
 use Rattle.declaration_lines.specs.LineLaws.{for-constant, for-predicate, for-total, for-discount, for-action}
 use Rattle.diagram_lines.specs.ReadyLaws.{reward-ready, variant-ready, becomes-ready}
-use Rattle.run_lines.specs.ReadyLaws.{start-task, value-task, backup-task, cut-task, reduce-task}
+use Rattle.run_lines.specs.ReadyLaws.{start-task, value-task, backup-task, cut-task, reduce-task, text-task}
 use Rattle.state_lines.specs.LineLaws.{for-objects, for-is, for-true}
 use borrow.Author.Needs.{needs}
 use Rattle.lines.proofs.perform.Statement.{statement}
@@ -55,6 +55,9 @@ cut-requires c κs = cut-task (ready-as (c .before .before .before .enum-told15 
 reduce-requires : tie.Need-reduce-requires
 reduce-requires c κs = reduce-task (ready-as (c .before .before .before .enum-told17 .given .1) (c .before .before .before .before .before .before .before .before .before .before .before .before .before .pre .0)) (c .before .before .before .before .before .before .before .before .before .before .before .before .before .pre .1)
 
+text-requires : tie.Need-text-requires
+text-requires c κs = let a = c .before .before .before in text-task (ready-as (a .enum-told18 .given .1) (a .before .before .before .before .before .before .before .before .before .before .pre .0))
+
 returns : tie.Need-returns
 returns c = constant-answers _ (c .before .before .before .before .before .before .before .before .before .before .before .before .before .before .pre .0) (c .before .before .before .before .enum-told .given .1) (c .before .before .constant .ensures)
 
@@ -107,9 +110,25 @@ returns-17 : tie.Need-returns-17
 returns-17 c = reduce-answers _ (c .before .before .before .before .before .before .before .before .before .before .before .before .before .before .before .before .before .before .pre .0) (c .before .before .before .before .before .before .before .before .enum-told17 .given .1) (c .before .before .before .before .reduce .ensures)
 
 returns-18 : tie.Need-returns-18
-returns-18 c = bad-answers _ (c .before .before .before .before .before .before .before .before .before .before .pre .0) (c .enum-told18 .given .1)
+returns-18 c = let a = c .before .before .before .before in text-answers _ (a .before .before .before .before .before .before .before .before .before .before .pre .0) (a .enum-told18 .given .1) (c .text .ensures)
+
+returns-19 : tie.Need-returns-19
+returns-19 c = bad-answers _ (c .before .before .before .before .before .before .before .before .before .before .pre .0) (c .enum-told19 .given .1)
 
 pub perform-spec : {M : Type 1} → statement M
 perform-spec =
     tie.close
-    (tie.spec (λ c. search needs) constant-requires (λ c. search needs) predicate-requires (λ c. search needs) total-requires (λ c. search needs) discount-requires (λ c. search needs) reward-requires (λ c. search needs) action-requires (λ c. search needs) variant-requires (λ c. search needs) becomes-requires (λ c. search needs) start-requires (λ c. search needs) objects-requires (λ c. search needs) is-requires (λ c. search needs) tell-requires (λ c. search needs) value-requires (λ c. search needs) backup-requires (λ c. search needs) cut-requires (λ c. search needs) (λ c κs. search needs) (λ c. search needs) reduce-requires (λ c. search needs) (λ c. search needs) returns (λ c. search needs) (λ c. search needs) returns-2 returns-3 returns-4 (λ c. search needs) (λ c. search needs) (λ c. search needs) (λ c. search needs) returns-5 (λ c. search needs) (λ c. search needs) (λ c. search needs) returns-6 (λ c. search needs) (λ c. search needs) (λ c. search needs) (λ c. search needs) (λ c. search needs) returns-7 (λ c. search needs) (λ c. search needs) (λ c. search needs) (λ c. search needs) (λ c. search needs) returns-8 (λ c. search needs) (λ c. search needs) (λ c. search needs) (λ c. search needs) (λ c. search needs) returns-9 (λ c. search needs) returns-10 (λ c. search needs) (λ c. search needs) returns-11 (λ c. search needs) (λ c. search needs) (λ c. search needs) returns-12 (λ c. search needs) (λ c. search needs) (λ c. search needs) returns-13 (λ c. search needs) (λ c. search needs) (λ c. search needs) (λ c. search needs) (λ c. search needs) returns-14 (λ c. search needs) (λ c. search needs) (λ c. search needs) returns-15 returns-16 (λ c. search needs) (λ c. search needs) (λ c. search needs) returns-17 returns-18)
+    (tie.spec (λ c. search needs) constant-requires (λ c. search needs) predicate-requires (λ c. search needs) total-requires (λ c. search needs)
+    discount-requires (λ c. search needs) reward-requires (λ c. search needs) action-requires (λ c. search needs) variant-requires (λ c. search needs)
+    becomes-requires (λ c. search needs) start-requires (λ c. search needs) objects-requires (λ c. search needs) is-requires (λ c. search needs)
+    tell-requires (λ c. search needs) value-requires (λ c. search needs) backup-requires (λ c. search needs) cut-requires (λ c. search needs)
+    (λ c κs. search needs) (λ c. search needs) reduce-requires (λ c. search needs) text-requires (λ c. search needs) (λ c. search needs) returns
+    (λ c. search needs) (λ c. search needs) returns-2 returns-3 returns-4 (λ c. search needs) (λ c. search needs) (λ c. search needs)
+    (λ c. search needs) returns-5 (λ c. search needs) (λ c. search needs) (λ c. search needs) returns-6 (λ c. search needs) (λ c. search needs)
+    (λ c. search needs) (λ c. search needs) (λ c. search needs) returns-7 (λ c. search needs) (λ c. search needs) (λ c. search needs)
+    (λ c. search needs) (λ c. search needs) returns-8 (λ c. search needs) (λ c. search needs) (λ c. search needs) (λ c. search needs)
+    (λ c. search needs) returns-9 (λ c. search needs) returns-10 (λ c. search needs) (λ c. search needs) returns-11 (λ c. search needs)
+    (λ c. search needs) (λ c. search needs) returns-12 (λ c. search needs) (λ c. search needs) (λ c. search needs) returns-13 (λ c. search needs)
+    (λ c. search needs) (λ c. search needs) (λ c. search needs) (λ c. search needs) returns-14 (λ c. search needs) (λ c. search needs)
+    (λ c. search needs) returns-15 returns-16 (λ c. search needs) (λ c. search needs) (λ c. search needs) returns-17 (λ c. search needs)
+    (λ c. search needs) (λ c. search needs) returns-18 returns-19)
