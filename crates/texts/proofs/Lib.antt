@@ -1,3 +1,4 @@
+pub mod PutLaws
 pub mod SendLaws
 pub mod MoveLaws
 pub mod RunLaws

@@ -10,18 +10,24 @@ use Rattle.diagram.specs.Sizes.{mostRows}
 use Rattle.diagram.specs.Words.{isListing}
 use Rattle.diagram.specs.Listing.{listing, diagramOf}
 use Rattle.diagram.specs.Listings.{is-listing-diagram, is-listing-good}
+use Rattle.diagram_form.specs.Form.{isTooLong}
+use Rattle.diagram_form.specs.FormLaws.{form-length}
 use Rattle.answers.specs.declared.Put.{Put}
-use Rattle.answers.specs.declared.Answer.the-variants.{Show}
+use Rattle.answers.specs.declared.Answer.the-variants.{Show, Text}
 use Rattle.answers.specs.Answers.{rowLines, answerBytes}
-use Rattle.answers.specs.Writing.{mostBytes, Placed, Showable}
+use Rattle.answers.specs.Writing.{mostBytes, Placed}
 use Rattle.session.specs.declared.Part.the-variants.{Run}
 use Rattle.session.specs.Session.{Session}
+use Rattle.session.specs.Running as running
 use Rattle.session.specs.Replies.{reply}
-use Rattle.session.specs.Texts.{replyBytes}
+use Rattle.session.specs.Texts.{valueForm, replyBytes}
+use Rattle.session_laws.specs.PrintLaws.{reply-shows, reply-prints}
 use Rattle.memory.specs.declared.Numbers.{Numbers}
 use Rattle.memory.specs.declared.Said.{Said}
 use Rattle.memory.specs.Memory.{Memory, sessionOf, Replied}
-use Rattle.texts.specs.ShowLaws.{rows-begin, answers-same, showable, reply-shows, held-count}
+use Rattle.run_lines.specs.ReadyLaws.{stored-text}
+use Rattle.texts.specs.Putting.{tablesIn, valueIn, answerIn, Form, Puttable}
+use Rattle.texts.specs.ShowLaws.{rows-begin, answers-same, held-count}
 use Rattle.texts.specs.Sending.{Sends}
 
 -- the rows to be shown are the listing that the words hold
@@ -38,7 +44,7 @@ module _ {s : List ℕ} {number : ℕ} {n : Numbers} {w : Memory} {r : Said} {w�
       let v = reply-shows (sessionOf n w) number s m (sym (x .answer) ∙ h) in
       let q : sessionOf (r .numbers) w′ ≡ sessionOf n w = x .session ∙ v .session in
       let g = x .kept .stored in
-      let p : r .numbers .part ≡ Run = ap (λ (σ : Session). σ .part) q ∙ v .part in
+      let p : r .numbers .part ≡ Run = ap (λ (σ : Session). σ .part) q ∙ v .run in
       let l = g .holding p .listing in
       let e : m ≡ length (rows (diagramOf (take (r .numbers .held .rows * 3) (w′ .value)))) =
       v .count ∙ ap (λ (σ : Session). length (rows (σ .held .diagram))) (sym q) in
@@ -49,26 +55,45 @@ module _ {s : List ℕ} {number : ℕ} {n : Numbers} {w : Memory} {r : Said} {w�
         room = g .value-rows;
       }
 
-  pub sent-showable : Showable (w′ .value) (r .answer)
-  sent-showable = showable (w′ .value) (r .answer) (λ m h. let v = held-shown m h in omega (arith, v .count, v .room))
+  -- the form to be printed is that of the value that the words hold
+  form-printed : (m : ℕ) → r .answer ≡ Text m → Form m (r .numbers) (w′ .names) (w′ .arities) (w′ .value)
+  unfolding sessionOf valueForm
+  form-printed m h =
+      let v = reply-prints (sessionOf n w) number s m (sym (x .answer) ∙ h) in
+      let q : sessionOf (r .numbers) w′ ≡ sessionOf n w = x .session ∙ v .session in
+      record {
+        task = stored-text (x .kept .stored) (ap (λ (σ : Session). σ .part) q ∙ v .run);
+        count =
+            v .count ∙ ap (λ (σ : Session). length (valueForm σ)) (sym q)
+            ∙ form-length (w′ .arities) (tablesIn (r .numbers) (w′ .names)) (valueIn (r .numbers) (w′ .value));
+        fits = ap (λ (σ : Session). isTooLong (σ .model .arities) (running.tablesIn (σ .names)) (σ .held .diagram)) q ∙ v .fits;
+      }
 
-  sent-bytes : replyBytes (reply (sessionOf n w) number s) ≡ answerBytes (w′ .value) (r .answer)
-  unfolding replyBytes sessionOf
+  pub sent-puttable : Puttable (r .answer) (r .numbers) (w′ .names) (w′ .arities) (w′ .value)
+  sent-puttable = record {
+    there = λ m h. let v = held-shown m h in omega (arith, v .count, v .room);
+    few = λ m h. held-shown m h .few;
+    form = form-printed;
+  }
+
+  sent-bytes : replyBytes (reply (sessionOf n w) number s) ≡ answerIn (r .answer) (r .numbers) (w′ .names) (w′ .arities) (w′ .value)
+  unfolding replyBytes sessionOf valueForm answerIn
   sent-bytes =
       let ws : List ℕ = take (r .numbers .held .rows * 3) (w′ .value) in
-      sym (λ i. answerBytes (listing (x .session i .held .diagram)) (x .answer i))
-      ∙ answers-same (listing (diagramOf ws)) (w′ .value) (r .answer)
+      sym (λ i. answerBytes (listing (x .session i .held .diagram)) (valueForm (x .session i)) (x .answer i))
+      ∙ answers-same (listing (diagramOf ws)) (w′ .value) _ (r .answer)
       (λ m h.
       let v = held-shown m h in
       ap (λ (vs : List ℕ). rowLines vs m) (is-listing-diagram (w′ .arities) ws (v .listed))
       ∙ rows-begin (r .numbers .held .rows * 3) (w′ .value) m (omega (arith, v .count)))
 
   pub sent : {put : Put} {out out′ : List ℕ} {place : ℕ}
-      → Placed out place (answerBytes (w′ .value) (r .answer)) put out′ × (((m : ℕ) → r .answer ≡ Show m → m ≤ mostRows) → length (answerBytes (w′ .value) (r .answer)) ≤ mostBytes)
+      → Placed out place (answerIn (r .answer) (r .numbers) (w′ .names) (w′ .arities) (w′ .value)) put out′
+      × (length (answerIn (r .answer) (r .numbers) (w′ .names) (w′ .arities) (w′ .value)) ≤ mostBytes)
       → Sends s number n w out place (record { numbers = r .numbers; put = put }) w′ out′
   sent {put} {out} {out′} {place} p = record {
     session = x .session;
     kept = x .kept;
     placed = subst (λ (b : List ℕ). Placed out place b put out′) (sym sent-bytes) (p .0);
-    short = omega (arith, ap length sent-bytes, p .1 (λ m h. held-shown m h .few));
+    short = omega (arith, ap length sent-bytes, p .1);
   }

@@ -1,6 +1,7 @@
 -- Whole texts: answered in a lent buffer, or while they are read (document 01, sections 'Text' and 'A run, whole').
 pub mod Ends
 pub mod Running
+pub mod Putting
 pub mod Sending
 pub mod Streaming
 pub mod Whole

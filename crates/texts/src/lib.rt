@@ -12,7 +12,7 @@ ghost use Prim.Native.Nat.{ℕ, _+_, _-_, _<_, _≤_};
 ghost use lib.ListN.{length, take, drop};
 ghost use Rattle.answers.specs.declared.Answer.the-variants.{Refused};
 ghost use Rattle.answers.specs.Answers.{answerLine};
-ghost use Rattle.answers.specs.Writing.{Placed};
+ghost use Rattle.answers.specs.Writing.{mostBytes, Placed};
 ghost use Rattle.session.specs.Texts.{hasBytes, unfinished};
 ghost use Rattle.memory.specs.Memory.{Memory, memoryOf, Kept, Rooms, workWords};
 ghost use Rattle.label.specs.Limits.{predicateCount};
@@ -20,6 +20,7 @@ ghost use Rattle.facts.specs.Words.{stateWords};
 ghost use Rattle.texts.specs.Ends.{lineLength};
 ghost use Rattle.texts.specs.Running.{fillClosing, fillRest, filledBehind, filled, Fills};
 ghost use Rattle.texts.specs.Streaming.{restBy, Keeps};
+ghost use Rattle.texts.specs.Putting.{printedBy, answerIn, Puttable};
 ghost use Rattle.texts.specs.Sending.{Sends, mostLines, progressOf, Going, Starts};
 ghost use Rattle.texts.specs.Whole.{Answerable, Reaches, wholeOf, nextEnd, behindReply, Steps, Ending};
 
@@ -33,6 +34,12 @@ pub const LINE_ROOM: usize = 4096;
 pub enum Ran {
     Done(usize),
     Full(usize, u64),
+}
+
+// What an answer prints: the value as a form of so many bytes, or lines of its own, if any.
+pub enum Printed {
+    Form(usize),
+    Lines,
 }
 
 // The numbers behind a line, and the place behind its answer, if that has room.
@@ -76,6 +83,54 @@ fn line_end(text: &[u8], at: usize) -> usize
     i
 }
 
+// Whether an answer prints a form.
+fn printed_by(answer: Answer) -> Printed
+    ensures { λ r. ⌜ r ≡ printedBy answer ⌝ }
+{
+    match answer {
+        Answer::Value(_, _, _) => Printed::Lines,
+        Answer::Backup(_, _) => Printed::Lines,
+        Answer::Cut(_, _, _) => Printed::Lines,
+        Answer::Reduce(_) => Printed::Lines,
+        Answer::Refused(_, _) => Printed::Lines,
+        Answer::Show(_) => Printed::Lines,
+        Answer::Text(bytes) => Printed::Form(bytes),
+        Answer::Nothing => Printed::Lines,
+    }
+}
+
+// Puts an answer's bytes at a place, if there is room; names, arities and value are the session's, for rows and forms.
+fn put_reply(
+    out: &mut [u8],
+    at: usize,
+    answer: Answer,
+    n: Numbers,
+    names: &[u64],
+    arities: &[u64],
+    value: &[u64],
+) -> Put
+    requires { ⌜ Puttable answer n (now names) (now arities) (now value) ⌝ }
+    ensures { λ r. ⌜ Placed (now (out .entry)) at (answerIn answer n (now (names .entry)) (now (arities .entry)) (now (value .entry))) r (now (out .exit)) ⌝ }
+    ensures { λ r. ⌜ length (answerIn answer n (now (names .entry)) (now (arities .entry)) (now (value .entry))) ≤ mostBytes ⌝ }
+{
+    let Printed::Form(bytes) = printed_by(answer) else {
+        return answering::put_answer(out, at, value, answer);
+    };
+    let counts = n.counts;
+    let held = n.held;
+    let rows = held.rows;
+    spelling::put_form(
+        out,
+        at,
+        arities,
+        names,
+        counts.constants,
+        counts.predicates,
+        &value[..rows * 3],
+        bytes,
+    )
+}
+
 // Answers a line, and puts the answer's bytes at a place, if there is room.
 pub fn reply_line(
     line: &[u8],
@@ -109,7 +164,7 @@ pub fn reply_line(
     );
     let answer = said.answer;
     let numbers = said.numbers;
-    let put = answering::put_answer(out, at, value, answer);
+    let put = put_reply(out, at, answer, numbers, names, arities, value);
     Sent {
         numbers: numbers,
         put: put,

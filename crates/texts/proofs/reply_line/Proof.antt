@@ -1,16 +1,21 @@
 use borrow.Author.Needs.{needs}
-use Rattle.texts.proofs.SendLaws.{sent-showable, sent}
+use Rattle.texts.proofs.SendLaws.{sent-puttable, sent}
 use Rattle.texts.proofs.reply_line.Statement.{statement}
 use Rattle.texts.proofs.reply_line.Tie as tie
 
-put-answer-requires : tie.Need-put-answer-requires
-put-answer-requires c κs = sent-showable (c .before .before .before .before .before .before .before .before .before .before .before .before .before .before .before .before .before .answer .ensures)
+put-reply-requires : tie.Need-put-reply-requires
+put-reply-requires c κs =
+    let said = c .before .before .before .before .before .before .before .before .before .before .before .before .before .before .before .before .before .before .before in
+    sent-puttable (said .answer .ensures)
 
 returns : tie.Need-returns
-returns c = sent (c .before .before .before .before .before .before .before .before .before .before .before .before .before .before .before .before .before .before .before .before .answer .ensures) (c .before .before .put-answer .ensures)
+returns c =
+    let put = c .before .before in
+    let said = put .before .before .before .before .before .before .before .before .before .before .before .before .before .before .before .before .before .before .before .before in
+    sent (said .answer .ensures) (put .put-reply .ensures)
 
 pub reply-line-spec : {M : Type 1} → statement M
 reply-line-spec =
     tie.close
-    (tie.spec (λ c κs. search needs) put-answer-requires (λ c. search needs) (λ c. search needs) (λ c. search needs) (λ c. search needs)
+    (tie.spec (λ c κs. search needs) put-reply-requires (λ c. search needs) (λ c. search needs) (λ c. search needs) (λ c. search needs)
     (λ c. search needs) (λ c. search needs) (λ c. search needs) (λ c. search needs) returns)
