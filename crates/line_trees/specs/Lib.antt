@@ -28,6 +28,7 @@
 --   reply-unwritten: the reply to bytes that no well-formed line writes is refusal 1
 --   reply-answers: so every line in bytes has the reply of TreeAnswer; reply-only: and no other
 --   text-trees: the answers of a text are those of TextTrees; trees-only: and no others are
+--   line-whole, diagram-whole: what a well-formed line or diagram writes has no line feed inside: with one behind it, it is one line of a text
 
 -- definitions
 pub mod TreeReading
@@ -40,3 +41,4 @@ pub mod TreeReadLaws
 pub mod TreeHeadLaws
 pub mod TreeReplyLaws
 pub mod TextTreesLaws
+pub mod LineFeedLaws
