@@ -1,15 +1,17 @@
 -- Demand 1 for texts: each line of a text has exactly one reply, and the answers are those of the replies in order (document 01, sections 'Text' and
 -- 'A run, whole').
 use mathlib.Core.Path.{_≡_, refl, sym, ap, ap₂, _∙_}
+use mathlib.Core.Bool.{Bool, true, false, cond}
 use mathlib.Core.List.{List, [], _∷_, _++_, append-nil, append-assoc}
 use Prim.Native.Nat.{ℕ, suc, _+_}
 use native.Mathlib.Omega.{arith}
 use native.Mathlib.Nat.{zero-add}
 use lib.ListN.{length}
+use lib.Dec.{eqb}
 use Rattle.answers.specs.Answers.{answerBytes}
 use Rattle.session.specs.Session.{Session, opening}
 use Rattle.session.specs.Replies.{Reply, reply}
-use Rattle.session.specs.Texts.{hasBytes, Progress, replyBytes, replied, afterLine, afterLines, afterRest, beginning, linesOf, textRead}
+use Rattle.session.specs.Texts.{lineFeed, Lines, behindByte, linesOf, hasBytes, Progress, replyBytes, replied, afterLine, afterLines, afterRest, beginning, textRead}
 use Rattle.session_laws.specs.TextReplies.{replies, repliesBytes, restBytes}
 
 -- one for each line
@@ -63,3 +65,36 @@ unfolding replies beginning
 text-line ls s =
     replies-then beginning ls (s ∷ [])
     ∙ ap (λ n. replies opening 0 ls ++ (reply (afterLines beginning ls .session) (suc n) s ∷ [])) (lines-count beginning ls ∙ zero-add (length ls))
+
+-- ===== One text behind another =====
+
+-- a text that ends with a line feed, or has no bytes, and more behind it: the lines of both
+pub lines-then : (t u : List ℕ) → linesOf t .rest ≡ [] → linesOf (t ++ u) ≡ record { whole = linesOf t .whole ++ linesOf u .whole; rest = linesOf u .rest }
+unfolding linesOf
+lines-then [] u e = refl
+lines-then (b ∷ t) u e = go (eqb b lineFeed) (linesOf t .whole) (linesOf t .rest) e (lines-then t u)
+  where
+    -- one byte more in front of lines
+    more : Bool → List (List ℕ) → List ℕ → Lines
+    more x ls r = cond x (record { whole = [] ∷ ls; rest = r }) (behindByte b ls r)
+
+    go : (x : Bool) (ls : List (List ℕ)) (r : List ℕ) → more x ls r .rest ≡ []
+        → (r ≡ [] → linesOf (t ++ u) ≡ record { whole = ls ++ linesOf u .whole; rest = linesOf u .rest })
+        → more x (linesOf (t ++ u) .whole) (linesOf (t ++ u) .rest) ≡ record { whole = more x ls r .whole ++ linesOf u .whole; rest = linesOf u .rest }
+    go true ls r e ih = ap (λ (y : Lines). record { whole = [] ∷ y .whole; rest = y .rest }) (ih e)
+    go false [] r e ih = absurd (omega (arith, ap length e))
+    go false (l ∷ ls) r e ih = ap (λ (y : Lines). behindByte b (y .whole) (y .rest)) (ih e)
+
+after-then : (p : Progress) (ls ms : List (List ℕ)) → afterLines p (ls ++ ms) ≡ afterLines (afterLines p ls) ms
+unfolding afterLines
+after-then p [] ms = refl
+after-then p (l ∷ ls) ms = after-then (afterLine p l) ls ms
+
+-- so they are read one after another
+pub read-then : (t u : List ℕ) → linesOf t .rest ≡ [] → textRead (t ++ u) ≡ afterRest (afterLines (textRead t) (linesOf u .whole)) (linesOf u .rest)
+unfolding textRead afterRest
+read-then t u e =
+    let read = afterLines beginning (linesOf t .whole) in
+    ap (λ (ls : Lines). afterRest (afterLines beginning (ls .whole)) (ls .rest)) (lines-then t u e)
+    ∙ ap (λ (p : Progress). afterRest p (linesOf u .rest))
+    (after-then beginning (linesOf t .whole) (linesOf u .whole) ∙ ap (λ (r : List ℕ). afterLines (afterRest read r) (linesOf u .whole)) (sym e))

@@ -24,7 +24,8 @@
 --   one-answer: every line has exactly one reply: none where it is blank, a refusal, or the answer of its kind; and the session behind it, by its kind
 --   refused-leaves: a refused line leaves the session as it was
 --   reply-prints: a line that is answered by a form is an accepted (text), and prints the value's form (document 02, L2); reply-shows: so for (show)
---   text-bytes: a text's answers are those of its lines, one after another
+--   reply-short: a reply of machine words has at most 92,160 bytes, a form too
+--   text-bytes: a text's answers are those of its lines, one after another; read-then: a text that ends with a line feed, and one behind it, are read one after another
 --   blank-leaves: a blank line prints nothing and leaves the session as it was
 --   spacing: blank lines move the line numbers of refusals and change no other answer (document 02, L1)
 --
@@ -61,6 +62,7 @@ pub mod MemoryLaws
 pub mod AnswerLaws
 pub mod ValueLaws
 pub mod PrintLaws
+pub mod ShortLaws
 pub mod FoldLaws
 pub mod BlankLaws
 pub mod TextRunLaws
