@@ -15,7 +15,7 @@ use Rattle.words.specs.declared.Key.{Key}
 use Rattle.events.specs.Contents.{noKey}
 use Rattle.mdp.specs.Model.{Variant, Action, Every}
 use Rattle.session.specs.Session.{Session}
-use Rattle.diagram_form.specs.Form.{Tables, tablesOf}
+use Rattle.session.specs.Running.{tablesIn}
 use Rattle.round_trip.specs.RoundTrip.{Declared, Covers}
 use Rattle.round_trip.specs.KeyNames.{KeysOf}
 
@@ -67,12 +67,8 @@ DeclaredSession σ = DeclaredParts (σ .names .constants) (σ .names .predicates
 
 -- ===== What the round trip asks =====
 
--- the names that a session's keys stand for
-abbrev pub tablesIn : Session → Tables
-tablesIn σ = tablesOf (σ .names .constants) (σ .names .predicates)
-
--- the session's keys are those of these names, each is a name, no two constants and no two predicates have one name, and they name everything in the value diagram
+-- the session's keys are those of the names that they stand for, each is a name, no two constants and no two predicates have one name, and they name everything in the value diagram
 pub record Named (σ : Session) : Type 0 where
-  pub keys : KeysOf (tablesIn σ) (σ .names)
-  pub declared : Declared (tablesIn σ)
-  pub covers : Covers (σ .model .arities) (tablesIn σ) (σ .held .diagram)
+  pub keys : KeysOf (tablesIn (σ .names)) (σ .names)
+  pub declared : Declared (tablesIn (σ .names))
+  pub covers : Covers (σ .model .arities) (tablesIn (σ .names)) (σ .held .diagram)

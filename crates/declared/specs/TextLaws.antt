@@ -19,7 +19,7 @@ use Rattle.session.specs.Texts.{hasBytes, Progress, replied, afterLine, afterLi
 use Rattle.session_laws.specs.TextLaws.{Sound, reply-sound, text-sound}
 use Rattle.diagram_form.specs.Form.{tablesOf}
 use Rattle.round_trip.specs.RoundTrip.{Covers}
-use Rattle.declared.specs.Declares.{Constant, Declares, DeclaredSession, tablesIn, Named}
+use Rattle.declared.specs.Declares.{Constant, Declares, DeclaredSession, Named}
 use Rattle.declared.specs.NameLaws.{no-keys, keys-of, tables-declared}
 use Rattle.declared.specs.LineLaws.{reply-declared}
 
