@@ -142,6 +142,27 @@ fn listings_of_a_session() {
     assert_eq!(session.reward(), Some(reward));
 }
 
+/// A value diagram as a form, and the reward of another model that is read from it; one that is too long; no session before (start).
+#[test]
+fn the_form_of_a_value_diagram() {
+    let mut session = Session::load(LIFT_PARTS).unwrap();
+    session.backup().unwrap();
+    session.cut_all().unwrap();
+    let form = session.text().unwrap();
+    assert_eq!(session.line("(text)"), Answer::Text(form.clone()));
+    assert_eq!(session.answer_bytes(), format!("{form}\n").as_bytes());
+    let reward = LIFT_PARTS.lines().find(|line| line.starts_with("(reward ")).unwrap();
+    let mut next = Session::load(LIFT_PARTS.replace(reward, &format!("(reward {form})"))).unwrap();
+    assert_eq!((next.reward(), next.listing(), next.text()), (session.listing(), session.listing(), Ok(form)));
+    // 540 rows that share much; the value diagram stays
+    session.backup().unwrap();
+    assert_eq!((session.text(), session.listing().unwrap().len()), (Err(Refusal::Length), 540));
+    assert_eq!(Session::open().text(), Err(Refusal::Place));
+    // a restored session prints the same
+    let mut restored = Session::restore(&next.save()).unwrap();
+    assert_eq!(restored.text(), next.text());
+}
+
 #[test]
 fn the_state_in_hand() {
     let mut session = Session::load(SAMPLE).unwrap();
