@@ -161,19 +161,24 @@ length-rows (f ∷ fs) =
 pub rows-count : (fs : List Ground) → factCount (rowsOf fs) ≡ length fs
 rows-count fs = let a = length-rows fs in omega arith
 
+-- behind a row, the words of the rows that follow
+pub row-later : (f : Ground) (rest : List ℕ) (i : ℕ) → (getD (rowOf f ++ rest) (suc i * factWords) 0 ≡ getD rest (i * factWords) 0)
+    × (drop (suc (suc i * factWords)) (rowOf f ++ rest) ≡ drop (suc (i * factWords)) rest)
+row-later f rest i =
+    let l = length-row f in
+    let a : suc i * factWords ≡ length (rowOf f) + i * factWords = omega arith in
+    let b : suc (suc i * factWords) ≡ length (rowOf f) + suc (i * factWords) = omega arith in (
+      ap (λ k. getD (rowOf f ++ rest) k 0) a ∙ getD-append-add (rowOf f) rest (i * factWords) 0,
+      ap (λ k. drop k (rowOf f ++ rest)) b ∙ drop-append-add (rowOf f) rest (suc (i * factWords)),
+    )
+
 says-later : (ar : List ℕ) (f : Ground) (rest : List ℕ) (p : ℕ) (os : List ℕ) (i : ℕ) → saysFact ar (rowOf f ++ rest) p os (suc i) ≡ saysFact ar rest p os i
 unfolding saysFact predicateAt objectsAt
 says-later ar f rest p os i =
-    let l = length-row f in
-    let a : suc i * factWords ≡ length (rowOf f) + i * factWords = omega arith in
-    let b : suc (suc i * factWords) ≡ length (rowOf f) + suc (i * factWords) = omega arith in
-    let x : getD (rowOf f ++ rest) (suc i * factWords) 0 ≡ getD rest (i * factWords) 0
-    = ap (λ k. getD (rowOf f ++ rest) k 0) a ∙ getD-append-add (rowOf f) rest (i * factWords) 0 in
-    let y : drop (suc (suc i * factWords)) (rowOf f ++ rest) ≡ drop (suc (i * factWords)) rest
-    = ap (λ k. drop k (rowOf f ++ rest)) b ∙ drop-append-add (rowOf f) rest (suc (i * factWords)) in
-    ap₂ (λ q us. eqb q p && equalLists (take (getD ar p 0) (take mostPlaces us)) os) x y
+    let r = row-later f rest i in
+    ap₂ (λ q us. eqb q p && equalLists (take (getD ar p 0) (take mostPlaces us)) os) (r .0) (r .1)
 
-row-objects : (us rest : List ℕ) (k : ℕ) → length us ≡ k → k ≤ mostPlaces → take k (take mostPlaces (take mostPlaces (us ++ replicate mostPlaces 0) ++ rest)) ≡ us
+pub row-objects : (us rest : List ℕ) (k : ℕ) → length us ≡ k → k ≤ mostPlaces → take k (take mostPlaces (take mostPlaces (us ++ replicate mostPlaces 0) ++ rest)) ≡ us
 row-objects us rest k e h =
     ap (take k) (take-at (take mostPlaces (us ++ replicate mostPlaces 0)) rest mostPlaces (length-objects us))
     ∙ take-take k mostPlaces (us ++ replicate mostPlaces 0) h
@@ -244,7 +249,7 @@ all-shaped ar (f ∷ fs) h = (
 )
 
 module _ (ar : List ℕ) (count n : ℕ) (constants : List ℕ) (few : FewPlaces ar) where
-  shaped : (bs : List Bool) → AllShaped ar (chosen bs (groundFacts ar count n))
+  pub shaped : (bs : List Bool) → AllShaped ar (chosen bs (groundFacts ar count n))
   shaped bs = all-shaped ar (chosen bs (groundFacts ar count n))
       (λ x e. ground-shaped ar count n x few (sym (mem-ground ar count n x) ∙ chosen-within bs (groundFacts ar count n) x e))
 
