@@ -12,6 +12,8 @@ use borrow.Author.Tests.{eqb-true, eqb-false, eq-eqb, ne-eqb}
 use Rattle.basics.specs.Tests.{Flag, isTrue, isFalse, flag, and-left, and-right, Either, one, other, either, or-one, or-other}
 use Rattle.basics.specs.Members.{mem, NoDup, clash}
 use Rattle.label.specs.Limits.{mostPlaces}
+use Rattle.label.specs.Labels.{areArities}
+use Rattle.label.specs.ArityLaws.{arity-most}
 use Rattle.diagram.specs.Words.{equalLists}
 use Rattle.diagram.specs.WordLaws.{lists-equal, equal-lists}
 use Rattle.diagram.specs.RowLaws.{same-tests}
@@ -233,6 +235,10 @@ said-rows ar fs p os s = ap (λ k. someBelow k (saysFact ar (rowsOf fs) p os)) (
 -- no predicate has more than 6 places
 pub record FewPlaces (ar : List ℕ) : Type 0 where
   pub each : (p : ℕ) → getD ar p 0 ≤ mostPlaces
+
+-- as in every arity list
+pub arities-few : (ar : List ℕ) → areArities ar ≡ true → FewPlaces ar
+arities-few ar e = record { each = λ p. arity-most ar p e }
 
 ground-shaped : (ar : List ℕ) (count n : ℕ) (f : Ground) → FewPlaces ar → isGround ar count n f ≡ true → Shaped ar f
 unfolding isGround
