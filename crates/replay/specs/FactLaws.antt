@@ -1,0 +1,161 @@
+-- The facts of a state, listed as rows and lent again, are its facts; each is listed once.
+use mathlib.Core.Path.{_≡_, refl, sym, ap, subst, _∙_}
+use mathlib.Core.Bool.{Bool, true, _&&_}
+use mathlib.Core.List.{List, [], _∷_, _++_, map, List·Memᴰ, List·Memᴰ·head, List·Memᴰ·tail}
+use Prim.Native.Nat.{ℕ, zero, suc, pred, _+_, _*_, _≤_, _<_}
+use native.Mathlib.Omega.{arith}
+use lib.ListN.{length, getD, take, drop, replicate, length-append, length-replicate}
+use lib.Seq.{length-take-le, take-append-seam, drop-append-add, getD-append-add}
+use lib.Dec.{eqb}
+use borrow.Author.Tests.{eqb-true, eq-eqb}
+use Rattle.basics.specs.Tests.{and-left, and-right}
+use Rattle.label.specs.Limits.{predicateCount, mostPlaces}
+use Rattle.label.specs.Labels.{areArities}
+use Rattle.label.specs.ArityLaws.{arity-most}
+use Rattle.diagram.specs.Words.{upTo, equalLists}
+use Rattle.diagram.specs.WordLaws.{lists-equal, equal-lists}
+use Rattle.diagram.specs.RowLaws.{same-tests}
+use Rattle.paths.specs.PathLaws.{mem-map, mem-unmap}
+use Rattle.state.specs.State.{State}
+use Rattle.state.specs.Max.{Tuple, none, more}
+use Rattle.state.specs.Lent.{factWords, factCount, predicateAt, objectsAt, saysFact, saidBy}
+use Rattle.state.specs.LentLaws.{some-made, some-found}
+use Rattle.reduction.specs.Combinations.{gather, those, tuples}
+use Rattle.reduction.specs.ListLaws.{gather-in, in-gather, those-in, in-those, upTo-in, in-upTo, place-of}
+use Rattle.reduction.specs.CombinationLaws.{tuples-in, in-tuples}
+use Rattle.replay.specs.Replay.{factRow, rowsAt, factRows, flat, factsOf}
+
+-- ===== Rows behind one another =====
+
+-- each row has the words of a row of facts
+record Whole (rows : List (List ℕ)) : Type 0 where
+  each : (row : List ℕ) → List·Memᴰ row rows → length row ≡ factWords
+
+whole-rest : {row : List ℕ} {rows : List (List ℕ)} → Whole (row ∷ rows) → Whole rows
+whole-rest w = record { each = λ r m. w .each r (List·Memᴰ·tail m) }
+
+whole-first : {row : List ℕ} {rows : List (List ℕ)} → Whole (row ∷ rows) → length row ≡ factWords
+whole-first {row} w = w .each row (List·Memᴰ·head refl)
+
+flat-length : (rows : List (List ℕ)) → Whole rows → length (flat rows) ≡ length rows * factWords
+flat-length [] w = refl
+flat-length (row ∷ rows) w =
+    let h = flat-length rows (whole-rest w) in
+    let k = whole-first w in
+    length-append row (flat rows) ∙ omega arith
+
+flat-count : (rows : List (List ℕ)) → Whole rows → factCount (flat rows) ≡ length rows
+flat-count rows w = let h = flat-length rows w in omega arith
+
+-- what one row says
+rowSays : List ℕ → ℕ → List ℕ → List ℕ → Bool
+rowSays ar p os row = eqb (getD row 0 0) p && equalLists (take (getD ar p 0) (drop 1 row)) os
+
+front-word : (row rest : List ℕ) → length row ≡ factWords → getD (row ++ rest) 0 0 ≡ getD row 0 0
+front-word [] rest e = absurd (omega arith)
+front-word (w ∷ ws) rest e = refl
+
+front-objects : (row rest : List ℕ) → length row ≡ factWords → take mostPlaces (drop 1 (row ++ rest)) ≡ drop 1 row
+front-objects [] rest e = absurd (omega arith)
+front-objects (w ∷ ws) rest e =
+    let k : length ws ≡ mostPlaces = omega arith in
+    ap (λ (n : ℕ). take n (ws ++ rest)) (sym k) ∙ take-append-seam ws rest
+
+says-flat : (ar : List ℕ) (p : ℕ) (os : List ℕ) (rows : List (List ℕ)) → Whole rows → (i : ℕ) → i < length rows
+    → saysFact ar (flat rows) p os i ≡ rowSays ar p os (getD rows i [])
+unfolding saysFact predicateAt objectsAt rowSays
+says-flat ar p os [] w i h = absurd (omega arith)
+says-flat ar p os (row ∷ rows) w zero h =
+    rw (front-word row (flat rows) (whole-first w), front-objects row (flat rows) (whole-first w)) refl
+says-flat ar p os (row ∷ rows) w (suc i) h =
+    let k = whole-first w in
+    let e : suc i * factWords ≡ length row + i * factWords = omega arith in
+    let f : suc (suc i * factWords) ≡ length row + suc (i * factWords) = omega arith in
+    rw (f, e, getD-append-add row (flat rows) (i * factWords) 0, drop-append-add row (flat rows) (suc (i * factWords)))
+    (says-flat ar p os rows (whole-rest w) i (omega arith))
+
+get-in : (rows : List (List ℕ)) (i : ℕ) → i < length rows → List·Memᴰ (getD rows i []) rows
+get-in [] i h = absurd (omega arith)
+get-in (row ∷ rows) zero h = List·Memᴰ·head refl
+get-in (row ∷ rows) (suc i) h = List·Memᴰ·tail (get-in rows i (omega arith))
+
+said-in : (ar : List ℕ) (p : ℕ) (os : List ℕ) (rows : List (List ℕ)) → Whole rows → (row : List ℕ) → List·Memᴰ row rows → rowSays ar p os row ≡ true
+    → saidBy ar (flat rows) p os ≡ true
+unfolding saidBy
+said-in ar p os rows w row m e =
+    let q = place-of [] row rows m in
+    some-made (factCount (flat rows)) (saysFact ar (flat rows) p os) (q .0) (rw (flat-count rows w) (q .1))
+    (says-flat ar p os rows w (q .0) (q .1) ∙ ap (rowSays ar p os) (q .2) ∙ e)
+
+in-said : (ar : List ℕ) (p : ℕ) (os : List ℕ) (rows : List (List ℕ)) → Whole rows → saidBy ar (flat rows) p os ≡ true
+    → (row : List ℕ) × List·Memᴰ row rows × (rowSays ar p os row ≡ true)
+unfolding saidBy
+in-said ar p os rows w e =
+    let q = some-found (factCount (flat rows)) (saysFact ar (flat rows) p os) e in
+    let h = subst (q .0 <_) (flat-count rows w) (q .1) in
+    (getD rows (q .0) [], get-in rows (q .0) h, sym (says-flat ar p os rows w (q .0) h) ∙ q .2)
+
+-- ===== The row of a fact =====
+
+tuple-length : {n c : ℕ} {os : List ℕ} → Tuple n c os → length os ≡ c
+tuple-length none = refl
+tuple-length (more h t) = ap suc (tuple-length t)
+
+front : (xs ys : List ℕ) (j : ℕ) → length xs ≤ j → take (length xs) (take j (xs ++ ys)) ≡ xs
+front [] ys j h = refl
+front (x ∷ xs) ys zero h = absurd (omega arith)
+front (x ∷ xs) ys (suc j) h = ap (x ∷_) (front xs ys j (omega arith))
+
+row-length : (p : ℕ) (os : List ℕ) → length (factRow p os) ≡ factWords
+row-length p os = ap suc (length-take-le mostPlaces (os ++ replicate mostPlaces 0) (omega (arith, length-append os (replicate mostPlaces 0))))
+
+module _ (ar : List ℕ) (good : areArities ar ≡ true) where
+  row-objects : (n q : ℕ) (os : List ℕ) → Tuple n (getD ar q 0) os → take (getD ar q 0) (take mostPlaces (os ++ replicate mostPlaces 0)) ≡ os
+  row-objects n q os t =
+      let e = tuple-length t in
+      let k = arity-most ar q good in
+      subst (λ (c : ℕ). take c (take mostPlaces (os ++ replicate mostPlaces 0)) ≡ os) e (front os (replicate mostPlaces 0) mostPlaces (omega arith))
+
+  row-says : (n q : ℕ) (os : List ℕ) → Tuple n (getD ar q 0) os → rowSays ar q os (factRow q os) ≡ true
+  unfolding rowSays
+  row-says n q os t = rw (eq-eqb q q refl, row-objects n q os t, equal-lists os)
+
+  says-row : (n q : ℕ) (os : List ℕ) → Tuple n (getD ar q 0) os → (p : ℕ) (os′ : List ℕ) → rowSays ar p os′ (factRow q os) ≡ true → (q ≡ p) × (os ≡ os′)
+  unfolding rowSays
+  says-row n q os t p os′ e =
+      let h = eqb-true q p (and-left (eqb q p) _ e) in
+      let k = lists-equal _ os′ (and-right (eqb q p) _ e) in
+      (h, sym (row-objects n q os t) ∙ ap (λ (c : ℕ). take (getD ar c 0) (take mostPlaces (os ++ replicate mostPlaces 0))) h ∙ k)
+
+  rows-whole : (s : State) → Whole (factRows ar s)
+  unfolding factRows rowsAt
+  rows-whole s = record {
+    each = λ row m.
+        let q = in-gather (λ p. rowsAt ar s (suc p)) (upTo (pred predicateCount)) row m in
+        let u = mem-unmap (factRow (suc (q .0))) (those (s .fact (suc (q .0))) (tuples (s .size) (getD ar (suc (q .0)) 0))) row (q .2) in
+        ap length (u .2) ∙ row-length (suc (q .0)) (u .0);
+  }
+
+  -- the rows say what is true, of every declared predicate and all tuples of objects
+  pub facts-said : (s : State) (p : ℕ) (os : List ℕ) → 0 < p → p < predicateCount → Tuple (s .size) (getD ar p 0) os → saidBy ar (factsOf ar s) p os ≡ s .fact p os
+  unfolding factsOf factRows rowsAt
+  facts-said s zero os h k t = absurd (omega arith)
+  facts-said s (suc p) os h k t = same-tests _ _ there back
+    where
+      there : saidBy ar (flat (factRows ar s)) (suc p) os ≡ true → s .fact (suc p) os ≡ true
+      there e =
+          let r = in-said ar (suc p) os (factRows ar s) (rows-whole s) e in
+          let q = in-gather (λ i. rowsAt ar s (suc i)) (upTo (pred predicateCount)) (r .0) (r .1) in
+          let l = those (s .fact (suc (q .0))) (tuples (s .size) (getD ar (suc (q .0)) 0)) in
+          let u = mem-unmap (factRow (suc (q .0))) (those (s .fact (suc (q .0))) (tuples (s .size) (getD ar (suc (q .0)) 0))) (r .0) (q .2) in
+          let i = in-those (s .fact (suc (q .0))) (tuples (s .size) (getD ar (suc (q .0)) 0)) (u .0) (u .1) in
+          let w = in-tuples (s .size) (getD ar (suc (q .0)) 0) (u .0) (i .0) in
+          let z = says-row (s .size) (suc (q .0)) (u .0) w (suc p) os (sym (ap (rowSays ar (suc p) os) (u .2)) ∙ r .2) in
+          subst (λ (c : ℕ). s .fact c os ≡ true) (z .0) (subst (λ (x : List ℕ). s .fact (suc (q .0)) x ≡ true) (z .1) (i .1))
+
+      back : s .fact (suc p) os ≡ true → saidBy ar (flat (factRows ar s)) (suc p) os ≡ true
+      back e = said-in ar (suc p) os (factRows ar s) (rows-whole s) (factRow (suc p) os)
+          (gather-in (λ i. rowsAt ar s (suc i)) (upTo (pred predicateCount)) p (factRow (suc p) os) (upTo-in (pred predicateCount) p (omega arith))
+          (mem-map (factRow (suc p)) (those (s .fact (suc p)) (tuples (s .size) (getD ar (suc p) 0))) os
+          (those-in (s .fact (suc p)) (tuples (s .size) (getD ar (suc p) 0)) os (tuples-in (s .size) t) e)))
+          (row-says (s .size) (suc p) os t)

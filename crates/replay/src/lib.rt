@@ -1,0 +1,1 @@
+// Replay of logged lines. What it is stands in specs/.
