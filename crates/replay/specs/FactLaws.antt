@@ -1,4 +1,4 @@
--- The facts of a state, listed as rows and lent again, are its facts; each is listed once.
+-- The facts of a state, listed as rows and lent again, are its facts.
 use mathlib.Core.Path.{_≡_, refl, sym, ap, subst, _∙_}
 use mathlib.Core.Bool.{Bool, true, _&&_}
 use mathlib.Core.List.{List, [], _∷_, _++_, map, List·Memᴰ, List·Memᴰ·head, List·Memᴰ·tail}
