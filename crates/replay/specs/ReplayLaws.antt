@@ -15,7 +15,8 @@ use Rattle.state.specs.HighestLaws.{bound-tuple}
 use Rattle.mdp.specs.Model.{Variant, Action, Model, Every, GoodVariant, GoodAction, GoodModel}
 use Rattle.mdp.specs.Bellman.{weightIn, stateAfter, rewardIn}
 use Rattle.replay.specs.Replay.{mostFacts, Did, noVariant, noAction, actionOf, variantOf, Replay, inHand, begun, factsOf, stateNext, movedBy, rewardHere, isFirst, rewardMet, counted}
-use Rattle.replay.specs.Replay.{Answer, accepted, stopped, weightless, manyFacts, valuations, tooHigh, hasNoWeight, hasManyFacts, hasValuations, isTooHigh, did, behind, replay, ifAccepted, acceptedOf}
+use Rattle.replay.specs.Replay.{Answer, accepted, stopped, weightless, manyFacts, valuations, tooHigh, hasNoWeight, hasManyFacts, hasValuations, isTooHigh}
+use Rattle.replay.specs.Replay.{did, behind, replay, ifAccepted, acceptedOf}
 use Rattle.replay.specs.Along.{states, stateBehind, rewardsAlong, Alike, Checked, Comes, Verdict, on21, on22, on15, on23, allowed}
 use Rattle.replay.specs.AlikeLaws.{alike-same, alike-then, next-alike, reward-alike}
 use Rattle.replay.specs.FactLaws.{facts-said}
