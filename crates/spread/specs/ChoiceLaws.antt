@@ -74,10 +74,6 @@ number-bits (suc g) c h =
     go (isFalse e) ih = let q = eqb-false (c % 2) 1 e in rw (e, ih) (omega arith)
 
 -- ===== What is chosen =====
-or-skip : (a b : Bool) → b ≡ true → (a || b) ≡ true
-or-skip true b e = refl
-or-skip false b e = e
-
 pub chosen-within : (bs : List Bool) (fs : List Ground) (x : Ground) → mem sameGround x (chosen bs fs) ≡ true → mem sameGround x fs ≡ true
 unfolding chosen
 chosen-within [] fs x e = clash e refl
@@ -88,8 +84,8 @@ chosen-within (true ∷ bs) (f ∷ fs) x e = go (either (sameGround x f) _ e) (c
     go : Either (sameGround x f) (mem sameGround x (chosen bs fs)) → (mem sameGround x (chosen bs fs) ≡ true → mem sameGround x fs ≡ true)
         → (sameGround x f || mem sameGround x fs) ≡ true
     go (one d) ih = or-one (sameGround x f) (mem sameGround x fs) d
-    go (other d) ih = or-skip (sameGround x f) (mem sameGround x fs) (ih d)
-chosen-within (false ∷ bs) (f ∷ fs) x e = or-skip (sameGround x f) (mem sameGround x fs) (chosen-within bs fs x e)
+    go (other d) ih = or-other (sameGround x f) (mem sameGround x fs) (ih d)
+chosen-within (false ∷ bs) (f ∷ fs) x e = or-other (sameGround x f) (mem sameGround x fs) (chosen-within bs fs x e)
 
 not-true : (b c : Bool) → (b ≡ true → c ≡ true) → c ≡ false → b ≡ false
 not-true true c h e = clash (h refl) e
@@ -98,7 +94,7 @@ not-true false c h e = refl
 mem-at : (fs : List Ground) (i : ℕ) (d : Ground) → i < length fs → mem sameGround (getD fs i d) fs ≡ true
 mem-at [] i d h = absurd (omega arith)
 mem-at (f ∷ fs) zero d h = or-one (sameGround f f) (mem sameGround f fs) (ground-test .complete f)
-mem-at (f ∷ fs) (suc i) d h = or-skip (sameGround (getD fs i d) f) (mem sameGround (getD fs i d) fs) (mem-at fs i d (omega arith))
+mem-at (f ∷ fs) (suc i) d h = or-other (sameGround (getD fs i d) f) (mem sameGround (getD fs i d) fs) (mem-at fs i d (omega arith))
 
 -- fact i is among the chosen exactly if its bit is true
 pub chosen-at : (bs : List Bool) (fs : List Ground) (i : ℕ) (d : Ground) → length bs ≡ length fs → NoDup sameGround fs → i < length fs
@@ -251,7 +247,7 @@ all-shaped : (ar : List ℕ) (fs : List Ground) → ((x : Ground) → mem sameGr
 all-shaped ar [] h = tt
 all-shaped ar (f ∷ fs) h = (
   h f (or-one (sameGround f f) (mem sameGround f fs) (ground-test .complete f)),
-  all-shaped ar fs (λ x e. h x (or-skip (sameGround x f) (mem sameGround x fs) e)),
+  all-shaped ar fs (λ x e. h x (or-other (sameGround x f) (mem sameGround x fs) e)),
 )
 
 module _ (ar : List ℕ) (count n : ℕ) (constants : List ℕ) (few : FewPlaces ar) where

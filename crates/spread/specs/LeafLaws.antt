@@ -7,7 +7,7 @@ use native.Mathlib.Omega.{arith}
 use lib.ListN.{length}
 use lib.Dec.{eqb}
 use borrow.Author.Tests.{eqb-true, eq-eqb}
-use Rattle.basics.specs.Tests.{Either, one, other, either, or-one}
+use Rattle.basics.specs.Tests.{Either, one, other, either, or-one, or-other}
 use Rattle.basics.specs.Members.{mem, mem-append, NoDup, Within, clash, nodup-le}
 use Rattle.diagram.specs.Sizes.{mostRows}
 use Rattle.diagram.specs.Diagram.{Tree, leaf, branch, Diagram, eval, relabel, same}
@@ -35,10 +35,6 @@ abbrev pub hasLeaf : {L : Type 0} → ℕ → Tree L → Bool
 hasLeaf v (leaf x) = eqb v x
 hasLeaf v (branch l t f) = hasLeaf v t || hasLeaf v f
 
-or-skip : (a b : Bool) → b ≡ true → (a || b) ≡ true
-or-skip true b e = refl
-or-skip false b e = e
-
 eval-leaf : {L : Type 0} (c : L → Bool) (d : Tree L) → hasLeaf (eval c d) d ≡ true
 unfolding eval
 eval-leaf c (leaf x) = eq-eqb x x refl
@@ -47,7 +43,7 @@ eval-leaf c (branch l t f) = go (c l) (eval-leaf c t) (eval-leaf c f)
     go : (b : Bool) → hasLeaf (eval c t) t ≡ true → hasLeaf (eval c f) f ≡ true
         → (hasLeaf (cond b (eval c t) (eval c f)) t || hasLeaf (cond b (eval c t) (eval c f)) f) ≡ true
     go true x y = or-one (hasLeaf (eval c t) t) (hasLeaf (eval c t) f) x
-    go false x y = or-skip (hasLeaf (eval c f) t) (hasLeaf (eval c f) f) y
+    go false x y = or-other (hasLeaf (eval c f) t) (hasLeaf (eval c f) f) y
 
 relabel-leaf : {L M : Type 0} (g : L → M) (v : ℕ) (d : Tree L) → hasLeaf v (relabel g d) ≡ hasLeaf v d
 unfolding relabel
