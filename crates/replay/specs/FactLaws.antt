@@ -1,4 +1,4 @@
--- The facts of a state, listed as rows and lent again, are its facts.
+-- The facts of a state, listed as rows and lent again, are its facts; none is listed twice.
 use mathlib.Core.Path.{_≡_, refl, sym, ap, subst, _∙_}
 use mathlib.Core.Bool.{Bool, true, _&&_}
 use mathlib.Core.List.{List, [], _∷_, _++_, map, List·Memᴰ, List·Memᴰ·head, List·Memᴰ·tail}
@@ -21,8 +21,9 @@ use Rattle.state.specs.Max.{Tuple, none, more}
 use Rattle.state.specs.Lent.{factWords, factCount, predicateAt, objectsAt, saysFact, saidBy}
 use Rattle.state.specs.LentLaws.{some-made, some-found}
 use Rattle.reduction.specs.Combinations.{gather, those, tuples}
-use Rattle.reduction.specs.ListLaws.{gather-in, in-gather, those-in, in-those, upTo-in, in-upTo, place-of}
-use Rattle.reduction.specs.CombinationLaws.{tuples-in, in-tuples}
+use Rattle.reduction.specs.Claims.{Once}
+use Rattle.reduction.specs.ListLaws.{gather-in, in-gather, those-in, in-those, upTo-in, place-of, once-those, once-gather, once-upTo}
+use Rattle.reduction.specs.CombinationLaws.{tuples-in, in-tuples, tuples-once}
 use Rattle.replay.specs.Replay.{factRow, rowsAt, factRows, flat, factsOf}
 
 -- ===== Rows behind one another =====
@@ -159,3 +160,29 @@ module _ (ar : List ℕ) (good : areArities ar ≡ true) where
           (mem-map (factRow (suc p)) (those (s .fact (suc p)) (tuples (s .size) (getD ar (suc p) 0))) os
           (those-in (s .fact (suc p)) (tuples (s .size) (getD ar (suc p) 0)) os (tuples-in (s .size) t) e)))
           (row-says (s .size) (suc p) os t)
+
+  -- ===== Each fact once =====
+
+  once-rows : (s : State) (p : ℕ) (l : List (List ℕ)) → ((os : List ℕ) → List·Memᴰ os l → Tuple (s .size) (getD ar p 0) os) → Once l → Once (map (factRow p) l)
+  once-rows s p [] t u = tt
+  once-rows s p (os ∷ l) t u = (
+    (λ i. let r = mem-unmap (factRow p) l (factRow p os) i in
+        let e = says-row (s .size) p (r .0) (t (r .0) (List·Memᴰ·tail (r .1))) p os
+        (ap (rowSays ar p os) (sym (r .2)) ∙ row-says (s .size) p os (t os (List·Memᴰ·head refl))) in
+        u .0 (subst (λ (z : List ℕ). List·Memᴰ z l) (e .1) (r .1))),
+    once-rows s p l (λ x i. t x (List·Memᴰ·tail i)) (u .1),
+  )
+
+  -- no fact is listed twice, so that 22 counts facts
+  pub facts-once : (s : State) → Once (factRows ar s)
+  unfolding factRows rowsAt
+  facts-once s = once-gather (λ p. rowsAt ar s (suc p)) (λ row. pred (getD row 0 0)) (upTo (pred predicateCount))
+      (λ p row i. ap (λ (r : List ℕ). pred (getD r 0 0)) (mem-unmap (factRow (suc p)) (those (s .fact (suc p)) (tuples (s .size) (getD ar (suc p) 0))) row i .2))
+      (λ p. once-rows s (suc p) (those (s .fact (suc p)) (tuples (s .size) (getD ar (suc p) 0)))
+      (λ os i. in-tuples (s .size) (getD ar (suc p) 0) os (in-those (s .fact (suc p)) (tuples (s .size) (getD ar (suc p) 0)) os i .0))
+      (once-those (s .fact (suc p)) (tuples (s .size) (getD ar (suc p) 0)) (tuples-once (s .size) (getD ar (suc p) 0))))
+      (once-upTo (pred predicateCount))
+
+  pub facts-count : (s : State) → factCount (factsOf ar s) ≡ length (factRows ar s)
+  unfolding factsOf
+  facts-count s = flat-count (factRows ar s) (rows-whole s)

@@ -25,6 +25,7 @@
 --       state is the one that their truth diagrams give in that order, and total is the sum of rewards along it
 --   verdict: each refusal exactly under its condition, in the order 21, 22, 15, 23
 --   facts-said: the facts of a state, listed as rows and lent again, are its facts
+--   facts-once, facts-count: none is listed twice, and they are as many as the rows that 22 counts
 --   reward-alike, next-alike: states that are alike have one reward, and their next states are alike
 
 -- definitions
