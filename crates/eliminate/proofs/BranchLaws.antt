@@ -2,7 +2,7 @@
 use mathlib.Core.Path.{_≡_, refl, ap, ap₂, sym, _∙_, subst}
 use mathlib.Core.Logic.{_≢_}
 use mathlib.Core.Bool.{Bool, true, false, not, _&&_}
-use mathlib.Core.List.{List, []}
+use mathlib.Core.List.{List}
 use Prim.Native.Nat.{ℕ, zero, suc, _+_, _-_, _*_, _^_, _≤_, _<_, min}
 use native.Mathlib.Omega.{arith}
 use native.Mathlib.Nat.{pow-le-pow-right}
@@ -101,7 +101,7 @@ module _ {ar ws above heads space env : List ℕ} {n i next used : ℕ} (b : Bra
 
     module _ (facts : List ℕ) {env₁ : List ℕ} {e : ℕ} (r : Rowed ar facts env n (getD ws (i * 3) 0) own sh sl drops e env₁) where
       -- the count of the row, for a state
-      module _ (s : State) (t : Tabled s ar facts ws heads space env n i used) where
+      module _ (s : State) (os : List ℕ) (t : Tabled s os ar facts ws heads space env n i used) where
         abbrev ts : List T.Table
         ts = tables s ar ws i
 
@@ -111,13 +111,13 @@ module _ {ar ws above heads space env : List ℕ} {n i next used : ℕ} (b : Bra
         abbrev y : T.Table
         y = getD ts (lowAt ws i) (leafTable 0)
 
-        holds-x : Holds s heads space (highAt ws i) x
+        holds-x : Holds s os heads space (highAt ws i) x
         unfolding highAt
-        holds-x = subst (Holds s heads space (highAt ws i)) (sym (table-at s ar ws i (highAt ws i) high-less)) (t .holds (highAt ws i) high-less)
+        holds-x = subst (Holds s os heads space (highAt ws i)) (sym (table-at s ar ws i (highAt ws i) high-less)) (t .holds (highAt ws i) high-less)
 
-        holds-y : Holds s heads space (lowAt ws i) y
+        holds-y : Holds s os heads space (lowAt ws i) y
         unfolding lowAt
-        holds-y = subst (Holds s heads space (lowAt ws i)) (sym (table-at s ar ws i (lowAt ws i) low-less)) (t .holds (lowAt ws i) low-less)
+        holds-y = subst (Holds s os heads space (lowAt ws i)) (sym (table-at s ar ws i (lowAt ws i) low-less)) (t .holds (lowAt ws i) low-less)
 
         names-x : namesOf sh ≡ x .names
         unfolding setAt highAt
@@ -131,40 +131,40 @@ module _ {ar ws above heads space env : List ℕ} {n i next used : ℕ} (b : Bra
         unfolding labelAt
         union-is = union-names s ar (labelAt ws i) own sh sl x y own-is names-x names-y
 
-        total : rowTotal s ar (labelAt ws i) x y (namesOf drops) ≡ rowEntries s [] ar ws ts i
+        total : rowTotal s os ar (labelAt ws i) x y (namesOf drops) ≡ rowEntries s os ar ws ts i
         unfolding rowTotal rowJoin rowUnion rowDrops
-        total = ap (λ vs. entries s [] (rowJoin s ar ws ts i true) + entries s [] (rowJoin s ar ws ts i false) + entries s [] (rowUnion s ar ws ts i)
-            + aggregateEntries s [] vs (rowUnion s ar ws ts i)) (sym (ap (untested ar ws i) union-is ∙ drops-are (b .ready .sets) i (b .row) all))
-            ∙ sym (counts-branch s [] ar ws ts i (b .branch))
+        total = ap (λ vs. entries s os (rowJoin s ar ws ts i true) + entries s os (rowJoin s ar ws ts i false) + entries s os (rowUnion s ar ws ts i)
+            + aggregateEntries s os vs (rowUnion s ar ws ts i)) (sym (ap (untested ar ws i) union-is ∙ drops-are (b .ready .sets) i (b .row) all))
+            ∙ sym (counts-branch s os ar ws ts i (b .branch))
 
-        told : Tells e (rowEntries s [] ar ws ts i)
+        told : Tells e (rowEntries s os ar ws ts i)
         unfolding labelAt
-        told = subst (Tells e) total (r .count s x y (t .said) names-x names-y (holds-x .full) (holds-y .full)
+        told = subst (Tells e) total (r .count s os x y (t .said) names-x names-y (holds-x .full) (holds-y .full)
             (subst (Ascending firstVariable) names-x (of-ascending sh)) (subst (Ascending firstVariable) names-y (of-ascending sl)))
 
-        over : mostEntries - used < e → mostEntries < entriesTo s [] ar ws (suc i)
+        over : mostEntries - used < e → mostEntries < entriesTo s os ar ws (suc i)
         over h = go told
           where
-            go : Tells e (rowEntries s [] ar ws ts i) → mostEntries < entriesTo s [] ar ws (suc i)
-            go (exactly q) = let z = entries-step s [] ar ws i in let c = t .count in let u = b .ready .used-few in omega arith
-            go (too-many p q) = let z = entries-step s [] ar ws i in omega arith
+            go : Tells e (rowEntries s os ar ws ts i) → mostEntries < entriesTo s os ar ws (suc i)
+            go (exactly q) = let z = entries-step s os ar ws i in let c = t .count in let u = b .ready .used-few in omega arith
+            go (too-many p q) = let z = entries-step s os ar ws i in omega arith
 
-        under : e ≤ mostEntries - used → used + e ≡ entriesTo s [] ar ws (suc i)
+        under : e ≤ mostEntries - used → used + e ≡ entriesTo s os ar ws (suc i)
         under h = go told
           where
-            go : Tells e (rowEntries s [] ar ws ts i) → used + e ≡ entriesTo s [] ar ws (suc i)
-            go (exactly q) = let z = entries-step s [] ar ws i in let c = t .count in omega arith
+            go : Tells e (rowEntries s os ar ws ts i) → used + e ≡ entriesTo s os ar ws (suc i)
+            go (exactly q) = let z = entries-step s os ar ws i in let c = t .count in omega arith
             go (too-many p q) = absurd (omega arith)
 
       pub branch-full : mostEntries - used < e → Branched ar facts ws above heads space env n i next used Full space env₁
       branch-full h = record {
         before = λ j q. refl;
         range = r .moved .range (b .ready .range);
-        fits = λ s g. fits-moved {set = own} (g .size-is) (g .fits) (r .moved);
+        fits = λ s os g. fits-moved {set = own} (g .size-is) (g .fits) (r .moved);
         table = λ k c d q. absurd (no q);
-        holds = λ k c d q s t hs p o. absurd (no q);
-        counts = λ k c d q s t. absurd (no q);
-        full = λ q s t. over s t h;
+        holds = λ k c d q s os t hs p o. absurd (no q);
+        counts = λ k c d q s os t. absurd (no q);
+        full = λ q s os t. over s os t h;
       }
         where
           no : {k c d : ℕ} → Full ≡ Table k c d → ⊥
@@ -212,23 +212,23 @@ module _ {ar ws above heads space env : List ℕ} {n i next used : ℕ} (b : Bra
           branch-done {space′} {env₂} f = record {
             before = f .before;
             range = f .range;
-            fits = λ s g. f .fits s (said-on s g);
+            fits = λ s os g. f .fits s os (said-on s os g);
             table = λ k c d q.
                 let p : kept ≡ k = cc in
                 let o : count ≡ c = cc in
                 let z : e ≡ d = cc in
                 (sym o ∙ count-exact ∙ ap (λ v. n ^ length (namesOf v)) p, rw (← o, ← z) room, rw (← z) (let u = b .ready .used-few in omega arith));
-            holds = λ k c d q s t hs p o. let z : kept ≡ k = cc in held s t hs (p ∙ sym z) o;
-            counts = λ k c d q s t. let z : e ≡ d = cc in ap (λ v. used + v) (sym z) ∙ under s t h;
-            full = λ q s t. absurd (no q);
+            holds = λ k c d q s os t hs p o. let z : kept ≡ k = cc in held s os t hs (p ∙ sym z) o;
+            counts = λ k c d q s os t. let z : e ≡ d = cc in ap (λ v. used + v) (sym z) ∙ under s os t h;
+            full = λ q s os t. absurd (no q);
           }
             where
               no : Table kept count e ≡ Full → ⊥
               no q = let z : _≡_ {A = ℕ} 0 1 = cc in omega arith
 
-              said-on : (s : State) → Said s ar facts env n → Said s ar facts env₁ n
-              said-on s g = record { good = g .good; size-is = g .size-is; facts-are = g .facts-are; fits = fits-moved {set = own} (g .size-is) (g .fits) (r .moved) }
+              said-on : (s : State) (os : List ℕ) → Said s os ar facts env n → Said s os ar facts env₁ n
+              said-on s os g = record { good = g .good; size-is = g .size-is; facts-are = g .facts-are; fits = fits-moved {set = own} (g .size-is) (g .fits) (r .moved) }
 
-              held : (s : State) (t : Tabled s ar facts ws heads space env n i used) (hs : List ℕ) → setAt hs i ≡ kept → startAt hs i ≡ next
-                  → Holds s hs space′ i (rowTable s ar ws (tables s ar ws i) i)
-              held s t hs p o = branch-holds hs all (tables s ar ws i) (b .ready .sets) (b .row) (b .branch) (said-on s (t .said)) (holds-x s t) (holds-y s t) (union-is s t) f p o
+              held : (s : State) (os : List ℕ) (t : Tabled s os ar facts ws heads space env n i used) (hs : List ℕ) → setAt hs i ≡ kept → startAt hs i ≡ next
+                  → Holds s os hs space′ i (rowTable s ar ws (tables s ar ws i) i)
+              held s os t hs p o = branch-holds hs all (tables s ar ws i) (b .ready .sets) (b .row) (b .branch) (said-on s os (t .said)) (holds-x s os t) (holds-y s os t) (union-is s os t) f p o

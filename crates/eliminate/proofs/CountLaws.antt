@@ -226,18 +226,18 @@ module _ {ar env : List ℕ} {n l own high low drops : ℕ} (w : Rowing ar env n
   in-low t m = of-or (bitOr own high) low t ∙ or-other (mem eqb t (namesOf (bitOr own high))) _ (and-left (mem eqb t (namesOf low)) _ (sym (mem-rest low own t) ∙ m))
 
   -- the union's entries
-  union-entries : (s : State) (x y : Table) (facts : List ℕ) → Said s ar facts env n → namesOf high ≡ x .names → namesOf low ≡ y .names → Full x → Full y
-      → entries s [] (unionOf s ar l x y) ≡ n ^ length (namesOf all)
-  union-entries s x y facts g p q fx fy =
-      full-entries s [] (unionOf s ar l x y) (union-full s (atomOf ar l) x y fx fy)
+  union-entries : (s : State) (os : List ℕ) (x y : Table) (facts : List ℕ) → Said s os ar facts env n → namesOf high ≡ x .names → namesOf low ≡ y .names → Full x → Full y
+      → entries s os (unionOf s ar l x y) ≡ n ^ length (namesOf all)
+  union-entries s os x y facts g p q fx fy =
+      full-entries s os (unionOf s ar l x y) (union-full s (atomOf ar l) x y fx fy)
       ∙ ap₂ (λ m vs. m ^ length vs) (g .size-is) (union-names s ar l own high low x y (w .own-is) p q)
 
   pub row-large : (facts : List ℕ) {whole : ℕ} → whole ≡ min (n ^ length (namesOf all)) (mostEntries + 1) → mostEntries < whole
       → Rowed ar facts env n l own high low drops whole env
   unfolding rowTotal
   row-large facts {whole} e h = record {
-    count = λ s x y g p q fx fy nx ny.
-        let u = union-entries s x y facts g p q fx fy in
+    count = λ s os x y g p q fx fy nx ny.
+        let u = union-entries s os x y facts g p q fx fy in
         too-many h (omega arith);
     moved = moved-none n own env;
     whole = λ q. absurd (omega arith);
@@ -278,14 +278,14 @@ module _ {ar env : List ℕ} {n l own high low drops : ℕ} (w : Rowing ar env n
         pub row-exact : {rest : ℕ} → Shrunk n whole drops rest → Rowed ar facts env n l own high low drops (c * yes + (choices - c) * no + whole + rest) env′
         unfolding rowTotal labelVariables
         row-exact {rest} k = record {
-          count = λ s x y g p q fx fy nx ny. exactly (sums s x y g p q fx fy nx ny);
+          count = λ s os x y g p q fx fy nx ny. exactly (sums s os x y g p q fx fy nx ny);
           moved = counted .moved;
           whole = λ q. let f = fits in omega arith;
         }
           where
-            sums : (s : State) (x y : Table) → Said s ar facts env n → namesOf high ≡ x .names → namesOf low ≡ y .names → Full x → Full y → Named x → Named y
-                → c * yes + (choices - c) * no + whole + rest ≡ rowTotal s ar l x y (namesOf drops)
-            sums s x y g p q fx fy nx ny = ap₂ _+_ (ap₂ _+_ (ap₂ _+_ true-part false-part) whole-part) drop-part
+            sums : (s : State) (os : List ℕ) (x y : Table) → Said s os ar facts env n → namesOf high ≡ x .names → namesOf low ≡ y .names → Full x → Full y → Named x → Named y
+                → c * yes + (choices - c) * no + whole + rest ≡ rowTotal s os ar l x y (namesOf drops)
+            sums s os x y g p q fx fy nx ny = ap₂ _+_ (ap₂ _+_ (ap₂ _+_ true-part false-part) whole-part) drop-part
               where
                 own-is : varsOf (args (atomOf ar l)) [] ≡ namesOf own
                 own-is = sym (w .own-is)
@@ -293,35 +293,35 @@ module _ {ar env : List ℕ} {n l own high low drops : ℕ} (w : Rowing ar env n
                 exact : choices ≡ n ^ length (namesOf own)
                 exact = part-size own all some fits in-own choices-is .0
 
-                yes-cases : c ≡ labelCases s [] true (atomOf ar l)
-                yes-cases = counted .count ∙ ap (casesOf ar facts env n l own) exact ∙ cases-are s ar facts env n l own g (w .countable .asked .places) (w .own-is)
+                yes-cases : c ≡ labelCases s os true (atomOf ar l)
+                yes-cases = counted .count ∙ ap (casesOf ar facts env n l own) exact ∙ cases-are s os ar facts env n l own g (w .countable .asked .places) (w .own-is)
 
-                no-cases : choices - c ≡ labelCases s [] false (atomOf ar l)
+                no-cases : choices - c ≡ labelCases s os false (atomOf ar l)
                 no-cases =
-                    let z : labelCases s [] true (atomOf ar l) + labelCases s [] false (atomOf ar l) ≡ n ^ length (namesOf own)
-                    = cases-split s [] (atomOf ar l) ∙ ap₂ (λ m vs. m ^ length vs) (g .size-is) own-is in
+                    let z : labelCases s os true (atomOf ar l) + labelCases s os false (atomOf ar l) ≡ n ^ length (namesOf own)
+                    = cases-split s os (atomOf ar l) ∙ ap₂ (λ m vs. m ^ length vs) (g .size-is) own-is in
                     let y = yes-cases in
                     let e = exact in
                     omega arith
 
-                true-part : c * yes ≡ entries s [] (join s true (atomOf ar l) x)
+                true-part : c * yes ≡ entries s os (join s true (atomOf ar l) x)
                 true-part =
                     ap₂ _*_ yes-cases
                     (part-size (bitXor high (bitAnd high own)) all some fits in-high yes-is .0
                     ∙ ap₂ (λ m j. m ^ j) (sym (g .size-is)) (sym (lack-is high own) ∙ ap₂ lacking (sym own-is) p))
-                    ∙ sym (join-entries s [] true (atomOf ar l) x fx nx)
+                    ∙ sym (join-entries s os true (atomOf ar l) x fx nx)
 
-                false-part : (choices - c) * no ≡ entries s [] (join s false (atomOf ar l) y)
+                false-part : (choices - c) * no ≡ entries s os (join s false (atomOf ar l) y)
                 false-part =
                     ap₂ _*_ no-cases
                     (part-size (bitXor low (bitAnd low own)) all some fits in-low no-is .0
                     ∙ ap₂ (λ m j. m ^ j) (sym (g .size-is)) (sym (lack-is low own) ∙ ap₂ lacking (sym own-is) q))
-                    ∙ sym (join-entries s [] false (atomOf ar l) y fy ny)
+                    ∙ sym (join-entries s os false (atomOf ar l) y fy ny)
 
-                whole-part : whole ≡ entries s [] (unionOf s ar l x y)
-                whole-part = let u = union-entries s x y facts g p q fx fy in let f = fits in omega arith
+                whole-part : whole ≡ entries s os (unionOf s ar l x y)
+                whole-part = let u = union-entries s os x y facts g p q fx fy in let f = fits in omega arith
 
-                drop-part : rest ≡ aggregateEntries s [] (namesOf drops) (unionOf s ar l x y)
+                drop-part : rest ≡ aggregateEntries s os (namesOf drops) (unionOf s ar l x y)
                 drop-part =
                     let j : ℕ = length (namesOf all) - length (namesOf drops) in
                     let i = part-length drops all (w .inside) in
@@ -332,6 +332,6 @@ module _ {ar env : List ℕ} {n l own high low drops : ℕ} (w : Rowing ar env n
                     let f = fits in
                     let z : whole ≡ n ^ j * n ^ length (namesOf drops) = omega arith in
                     k .is (n ^ j) z ∙ ap (λ m. geometric m (m ^ j) (length (namesOf drops))) (sym (g .size-is))
-                    ∙ sym (aggregate-sum s [] (namesOf drops) (unionOf s ar l x y) (g .good .some) (union-full s (atomOf ar l) x y fx fy)
+                    ∙ sym (aggregate-sum s os (namesOf drops) (unionOf s ar l x y) (g .good .some) (union-full s (atomOf ar l) x y fx fy)
                     (unite-named (join s true (atomOf ar l) x) (join s false (atomOf ar l) y) (join-named s false (atomOf ar l) y ny))
                     (ascending-nodup firstVariable (namesOf drops) (of-ascending drops)) (λ t m. ap (mem eqb t) u ∙ w .inside t m) j (ap length u ∙ len))

@@ -34,8 +34,8 @@ use Rattle.eliminate.proofs.SetLaws.{within-names, moved-none, moved-de
 low-out : (set t : ℕ) → t < firstVariable → mem eqb t (namesOf set) ≡ false
 low-out set t h = ascending-not firstVariable (namesOf set) t (of-ascending set) h
 
-pub fits-moved : {s : State} {n set : ℕ} {env env′ : List ℕ} → s .size ≡ n → Fits s [] (envOf env) → Moved n set env env′ → Fits s [] (envOf env′)
-fits-moved {s} {n} {set} {env} {env′} e f w = record {
+pub fits-moved : {s : State} {os : List ℕ} {n set : ℕ} {env env′ : List ℕ} → s .size ≡ n → Fits s os (envOf env) → Moved n set env env′ → Fits s os (envOf env′)
+fits-moved {s} {os} {n} {set} {env} {env′} e f w = record {
   low = λ t h. w .others t (low-out set t h) ∙ f .low t h;
   range = λ t. subst (λ x. envOf env′ t < x) (sym e) (w .range (λ u. subst (λ x. envOf env u < x) e (f .range u)) t);
 }
@@ -49,14 +49,14 @@ tells-holds s ar facts env l e = go (predicateOf l) (map (envOf env) (termsOf ar
     go zero os = refl
     go (suc p) os = ap (λ f. f (suc p) os) (sym e)
 
-module _ (s : State) (ar facts heads space : List ℕ) (n l high low : ℕ) (x y : Table) (good : Good s) (size-is : s .size ≡ n) (facts-are : s .fact ≡ saidBy ar facts)
-    (hx : Holds s heads space high x) (hy : Holds s heads space low y) where
-  entry-value : (i : ℕ) (z : Table) → Holds s heads space i z → (env : List ℕ) → Fits s [] (envOf env) → entryIn heads space env n i ≡ z .value (envOf env)
+module _ (s : State) (os : List ℕ) (ar facts heads space : List ℕ) (n l high low : ℕ) (x y : Table) (good : Good s) (size-is : s .size ≡ n) (facts-are : s .fact ≡ saidBy ar facts)
+    (hx : Holds s os heads space high x) (hy : Holds s os heads space low y) where
+  entry-value : (i : ℕ) (z : Table) → Holds s os heads space i z → (env : List ℕ) → Fits s os (envOf env) → entryIn heads space env n i ≡ z .value (envOf env)
   unfolding entryIn
   entry-value i z h env f =
       ap₂ (λ m vs. getD space (startAt heads i + placeOf m vs (envOf env)) 0) (sym size-is) (h .names-are) ∙ h .entry (envOf env) f
 
-  look-value : (env : List ℕ) → Fits s [] (envOf env) → lookIn ar facts heads space n l high low env ≡ unionOf s ar l x y .value (envOf env)
+  look-value : (env : List ℕ) → Fits s os (envOf env) → lookIn ar facts heads space n l high low env ≡ unionOf s ar l x y .value (envOf env)
   unfolding lookIn
   look-value env f =
       rw (tells-holds s ar facts env l facts-are, entry-value high x hx env f, entry-value low y hy env f)
@@ -69,7 +69,7 @@ module _ (s : State) (ar facts heads space : List ℕ) (n l high low : ℕ) (x y
   u-sees = unite-sees (join s true (atomOf ar l) x) (join s false (atomOf ar l) y) (join-sees s true (atomOf ar l) x (hx .sees)) (join-sees s false (atomOf ar l) y (hy .sees))
 
   -- the highest entry is the aggregated value
-  module _ (drops m : ℕ) (m-is : m ≡ n ^ length (namesOf drops)) (env : List ℕ) (places : termEnd ≤ length env) (f : Fits s [] (envOf env)) where
+  module _ (drops m : ℕ) (m-is : m ≡ n ^ length (namesOf drops)) (env : List ℕ) (places : termEnd ≤ length env) (f : Fits s os (envOf env)) where
     some : 0 < n
     some = subst (λ k. 0 < k) size-is (good .some)
 
@@ -79,7 +79,7 @@ module _ (s : State) (ar facts heads space : List ℕ) (n l high low : ℕ) (x y
     choice : ℕ → List ℕ
     choice c = decoded n (namesOf drops) c env
 
-    choice-fits : (c : ℕ) → Fits s [] (envOf (choice c))
+    choice-fits : (c : ℕ) → Fits s os (envOf (choice c))
     unfolding choice
     choice-fits c = fits-moved {set = drops} size-is f (moved-decode c some places (moved-none n drops env) refl)
 
@@ -89,13 +89,13 @@ module _ (s : State) (ar facts heads space : List ℕ) (n l high low : ℕ) (x y
     under : (c : ℕ) → c < m → lookIn ar facts heads space n l high low (choice c) ≤ top
     unfolding choice top
     under c h = rw (look-value (choice c) (choice-fits c))
-        (aggregate-bound s [] good (namesOf drops) (unionOf s ar l x y) u-full (envOf env) (envOf (choice c)) f (choice-fits c .range)
+        (aggregate-bound s os good (namesOf drops) (unionOf s ar l x y) u-full (envOf env) (envOf (choice c)) f (choice-fits c .range)
         (λ t o. decoded-other n (namesOf drops) c env t o))
 
     hit : (c : ℕ) × (c < m) × (lookIn ar facts heads space n l high low (choice c) ≡ top)
     unfolding choice top
     hit =
-        let r = aggregate-hit s [] good (namesOf drops) (unionOf s ar l x y) (λ t o. ascending-above firstVariable (namesOf drops) t (of-ascending drops) o) u-full (envOf env) f in
+        let r = aggregate-hit s os good (namesOf drops) (unionOf s ar l x y) (λ t o. ascending-above firstVariable (namesOf drops) t (of-ascending drops) o) u-full (envOf env) f in
         let η = r .0 in
         let rng : (t : ℕ) → η t < n = λ t. subst (λ k. η t < k) size-is (r .1 .range t) in
         let c : ℕ = placeOf n (namesOf drops) η in
@@ -122,9 +122,9 @@ module _ (s : State) (ar facts heads space : List ℕ) (n l high low : ℕ) (x y
 -- ===== Writing, entry by entry =====
 
 -- tables that stand before `start` are held still
-pub holds-before : {s : State} {heads space space′ : List ℕ} {n start i : ℕ} {z : Table} → s .size ≡ n → startAt heads i + n ^ length (namesOf (setAt heads i)) ≤ start
-    → ((j : ℕ) → j < start → getD space′ j 0 ≡ getD space j 0) → Holds s heads space i z → Holds s heads space′ i z
-holds-before {s} {heads} {space} {space′} {n} {start} {i} {z} e l b h = record {
+pub holds-before : {s : State} {os : List ℕ} {heads space space′ : List ℕ} {n start i : ℕ} {z : Table} → s .size ≡ n → startAt heads i + n ^ length (namesOf (setAt heads i)) ≤ start
+    → ((j : ℕ) → j < start → getD space′ j 0 ≡ getD space j 0) → Holds s os heads space i z → Holds s os heads space′ i z
+holds-before {s} {os} {heads} {space} {space′} {n} {start} {i} {z} e l b h = record {
   names-are = h .names-are;
   full = h .full;
   sees = h .sees;
@@ -146,9 +146,9 @@ pub record Writing (ar facts heads space₀ env₀ : List ℕ) (n l high low kep
   pub env-kept : length env ≡ length env₀
   pub before : (j : ℕ) → j < start → getD space j 0 ≡ getD space₀ j 0
   pub range : (t : ℕ) → envOf env t < n
-  pub fits : (s : State) → Said s ar facts env₀ n → Fits s [] (envOf env)
-  pub table : (s : State) (x y : Table) → Said s ar facts env₀ n → Holds s heads space₀ high x → Holds s heads space₀ low y → Covers s ar l x y kept drops
-      → (θ : ℕ → ℕ) → Fits s [] θ → placeOf n (namesOf kept) θ < e
+  pub fits : (s : State) (os : List ℕ) → Said s os ar facts env₀ n → Fits s os (envOf env)
+  pub table : (s : State) (os : List ℕ) (x y : Table) → Said s os ar facts env₀ n → Holds s os heads space₀ high x → Holds s os heads space₀ low y → Covers s ar l x y kept drops
+      → (θ : ℕ → ℕ) → Fits s os θ → placeOf n (namesOf kept) θ < e
       → getD space (start + placeOf n (namesOf kept) θ) 0 ≡ aggregateAll n (namesOf drops) (unionOf s ar l x y) .value θ
 
 pub fill-start : (ar facts heads space env : List ℕ) (n l high low kept start count drops m : ℕ) → Filling ar heads space env n l high low kept start count drops m
@@ -160,8 +160,8 @@ fill-start ar facts heads space env n l high low kept start count drops m f = re
   env-kept = refl;
   before = λ j h. refl;
   range = f .looking .range;
-  fits = λ s w. w .fits;
-  table = λ s x y w hx hy cover θ g h. absurd (omega arith);
+  fits = λ s os w. w .fits;
+  table = λ s os x y w hx hy cover θ g h. absurd (omega arith);
 }
 
 module _ {ar facts heads space₀ env₀ : List ℕ} {n l high low kept start count drops m : ℕ} {space env : List ℕ} {e : ℕ}
@@ -196,8 +196,8 @@ module _ {ar facts heads space₀ env₀ : List ℕ} {n l high low kept start co
     env-kept = r .moved .kept ∙ first .kept ∙ w .env-kept;
     before = λ j q. getD-set-other space (start + e) j b 0 (omega arith) ∙ w .before j q;
     range = r .moved .range (first .range (w .range));
-    fits = λ s g. fits-moved {set = drops} (g .size-is) (one-fits s g) (r .moved);
-    table = λ s x y g hx hy cover θ f q. go s x y g hx hy cover θ f (cmp (placeOf n (namesOf kept) θ) e) q;
+    fits = λ s os g. fits-moved {set = drops} (g .size-is) (one-fits s os g) (r .moved);
+    table = λ s os x y g hx hy cover θ f q. go s os x y g hx hy cover θ f (cmp (placeOf n (namesOf kept) θ) e) q;
   }
     where
       first : Moved n kept env env₁
@@ -206,25 +206,25 @@ module _ {ar facts heads space₀ env₀ : List ℕ} {n l high low kept start co
       one-places : termEnd ≤ length env₁
       one-places = let p = places in let k = first .kept in omega arith
 
-      one-fits : (s : State) → Said s ar facts env₀ n → Fits s [] (envOf env₁)
-      one-fits s g = fits-moved {set = kept} (g .size-is) (w .fits s g) first
+      one-fits : (s : State) (os : List ℕ) → Said s os ar facts env₀ n → Fits s os (envOf env₁)
+      one-fits s os g = fits-moved {set = kept} (g .size-is) (w .fits s os g) first
 
       -- the entry that is written now
-      now-is : (s : State) (x y : Table) → Said s ar facts env₀ n → Holds s heads space₀ high x → Holds s heads space₀ low y → Covers s ar l x y kept drops
-          → (θ : ℕ → ℕ) → Fits s [] θ → placeOf n (namesOf kept) θ ≡ e → b ≡ aggregateAll n (namesOf drops) (unionOf s ar l x y) .value θ
-      now-is s x y g hx hy cover θ f q =
+      now-is : (s : State) (os : List ℕ) (x y : Table) → Said s os ar facts env₀ n → Holds s os heads space₀ high x → Holds s os heads space₀ low y → Covers s ar l x y kept drops
+          → (θ : ℕ → ℕ) → Fits s os θ → placeOf n (namesOf kept) θ ≡ e → b ≡ aggregateAll n (namesOf drops) (unionOf s ar l x y) .value θ
+      now-is s os x y g hx hy cover θ f q =
           let k = g .size-is in
           let hx′ = holds-before {n = n} k (w .filling .high-end) (w .before) hx in
           let hy′ = holds-before {n = n} k (w .filling .low-end) (w .before) hy in
-          let v = best-value s ar facts heads space n l high low x y (g .good) k (g .facts-are) hx′ hy′ drops m (w .filling .m-is) env₁ one-places (one-fits s g) in
+          let v = best-value s os ar facts heads space n l high low x y (g .good) k (g .facts-are) hx′ hy′ drops m (w .filling .m-is) env₁ one-places (one-fits s os g) in
           let u = unionOf s ar l x y in
-          let sees = aggregateAll-sees (s .size) (namesOf drops) u (u-sees s ar facts heads space n l high low x y (g .good) k (g .facts-are) hx′ hy′) in
-          r .is ∙ v ∙ sees .same-value (envOf env₁) θ (agree s x y g cover θ f q) ∙ ap (λ z. aggregateAll z (namesOf drops) u .value θ) k
+          let sees = aggregateAll-sees (s .size) (namesOf drops) u (u-sees s os ar facts heads space n l high low x y (g .good) k (g .facts-are) hx′ hy′) in
+          r .is ∙ v ∙ sees .same-value (envOf env₁) θ (agree s os x y g cover θ f q) ∙ ap (λ z. aggregateAll z (namesOf drops) u .value θ) k
         where
-          agree : (s : State) (x y : Table) (g : Said s ar facts env₀ n) → Covers s ar l x y kept drops → (θ : ℕ → ℕ) → Fits s [] θ → placeOf n (namesOf kept) θ ≡ e
+          agree : (s : State) (os : List ℕ) (x y : Table) (g : Said s os ar facts env₀ n) → Covers s ar l x y kept drops → (θ : ℕ → ℕ) → Fits s os θ → placeOf n (namesOf kept) θ ≡ e
               → Agree (aggregateAll (s .size) (namesOf drops) (unionOf s ar l x y) .names) (envOf env₁) θ
-          agree s x y g cover θ f q t c = by-low (envOf env₁ t ≡ θ t) firstVariable t
-              (λ o. one-fits s g .low t o ∙ sym (f .low t o))
+          agree s os x y g cover θ f q t c = by-low (envOf env₁ t ≡ θ t) firstVariable t
+              (λ o. one-fits s os g .low t o ∙ sym (f .low t o))
               (λ o.
               let i = sym (mem-aggregateAll (s .size) t (namesOf drops) (unionOf s ar l x y)) ∙ c o in
               let p = cover t (and-left (mem eqb t (unionOf s ar l x y .names)) _ i) (not-true (mem eqb t (namesOf drops)) (and-right (mem eqb t (unionOf s ar l x y .names)) _ i)) in
@@ -235,22 +235,22 @@ module _ {ar facts heads space₀ env₀ : List ℕ} {n l high low kept start co
                   ∙ place-decoded n firstVariable (namesOf kept) e env (w .filling .looking .some) (of-ascending kept) (within-names kept env places)
                   (subst (λ z. e < z) (w .filling .count-is) h)
 
-      go : (s : State) (x y : Table) → Said s ar facts env₀ n → Holds s heads space₀ high x → Holds s heads space₀ low y → Covers s ar l x y kept drops
-          → (θ : ℕ → ℕ) → Fits s [] θ → Cmp (placeOf n (namesOf kept) θ) e → placeOf n (namesOf kept) θ < e + 1
+      go : (s : State) (os : List ℕ) (x y : Table) → Said s os ar facts env₀ n → Holds s os heads space₀ high x → Holds s os heads space₀ low y → Covers s ar l x y kept drops
+          → (θ : ℕ → ℕ) → Fits s os θ → Cmp (placeOf n (namesOf kept) θ) e → placeOf n (namesOf kept) θ < e + 1
           → getD (set space (start + e) b) (start + placeOf n (namesOf kept) θ) 0 ≡ aggregateAll n (namesOf drops) (unionOf s ar l x y) .value θ
-      go s x y g hx hy cover θ f (below p) q =
-          getD-set-other space (start + e) (start + placeOf n (namesOf kept) θ) b 0 (omega arith) ∙ w .table s x y g hx hy cover θ f p
-      go s x y g hx hy cover θ f (equal p) q =
-          ap (λ z. getD (set space (start + e) b) (start + z) 0) p ∙ getD-set-same space (start + e) b 0 (fill-room h) ∙ now-is s x y g hx hy cover θ f p
-      go s x y g hx hy cover θ f (above p) q = absurd (omega arith)
+      go s os x y g hx hy cover θ f (below p) q =
+          getD-set-other space (start + e) (start + placeOf n (namesOf kept) θ) b 0 (omega arith) ∙ w .table s os x y g hx hy cover θ f p
+      go s os x y g hx hy cover θ f (equal p) q =
+          ap (λ z. getD (set space (start + e) b) (start + z) 0) p ∙ getD-set-same space (start + e) b 0 (fill-room h) ∙ now-is s os x y g hx hy cover θ f p
+      go s os x y g hx hy cover θ f (above p) q = absurd (omega arith)
 
   pub fill-end : count ≤ e → Filled ar facts heads space₀ env₀ n l high low kept start drops space env
   fill-end h = record {
     before = w .before;
-    table = λ s x y g hx hy cover θ f.
+    table = λ s os x y g hx hy cover θ f.
         let p = place-less n (namesOf kept) θ (λ t. subst (λ z. θ t < z) (g .size-is) (f .range t)) in
         let c = w .filling .count-is in
-        w .table s x y g hx hy cover θ f (omega arith);
+        w .table s os x y g hx hy cover θ f (omega arith);
     fits = w .fits;
     range = w .range;
   }

@@ -86,9 +86,9 @@ module _ {ar ws above : List ℕ} (a : Above ar ws above 0) (i : ℕ) (h : i < r
           ∙ sym (mem-aggregateAll n t (namesOf drops) u ∙ ap₂ (λ p q. p && not q) (ap (mem eqb t) e) (drops-mem t))
 
 -- ===== The table of a branch row =====
-module _ {s : State} {ar ws above facts heads space space′ env env′ : List ℕ} {n i start : ℕ} (heads′ : List ℕ) (all : ℕ) (ts : List Table) (a : Above ar ws above 0)
-    (h : i < rowCount ws) (branching : labelAt ws i ≢ leafMark) (g : Said s ar facts env n)
-    (hx : Holds s heads space (highAt ws i) (getD ts (highAt ws i) (leafTable 0))) (hy : Holds s heads space (lowAt ws i) (getD ts (lowAt ws i) (leafTable 0)))
+module _ {s : State} {os : List ℕ} {ar ws above facts heads space space′ env env′ : List ℕ} {n i start : ℕ} (heads′ : List ℕ) (all : ℕ) (ts : List Table) (a : Above ar ws above 0)
+    (h : i < rowCount ws) (branching : labelAt ws i ≢ leafMark) (g : Said s os ar facts env n)
+    (hx : Holds s os heads space (highAt ws i) (getD ts (highAt ws i) (leafTable 0))) (hy : Holds s os heads space (lowAt ws i) (getD ts (lowAt ws i) (leafTable 0)))
     (names : unionOf s ar (labelAt ws i) (getD ts (highAt ws i) (leafTable 0)) (getD ts (lowAt ws i) (leafTable 0)) .names ≡ namesOf all)
     (filled : Filled ar facts heads space env n (labelAt ws i) (highAt ws i) (lowAt ws i) (bitAnd all (getD above i 0)) start
     (bitXor all (bitAnd all (getD above i 0))) space′ env′)
@@ -111,8 +111,8 @@ module _ {s : State} {ar ws above facts heads space space′ env env′ : List �
       ∙ ap (λ vs. aggregateAll (s .size) vs u) (ap (untested ar ws i) names ∙ drops-are a i h all)
 
   -- the words hold it
-  pub branch-holds : Holds s heads′ space′ i (rowTable s ar ws ts i)
-  branch-holds = subst (Holds s heads′ space′ i) (sym table-is) (record {
+  pub branch-holds : Holds s os heads′ space′ i (rowTable s ar ws ts i)
+  branch-holds = subst (Holds s os heads′ space′ i) (sym table-is) (record {
     names-are = ap namesOf set-is ∙ sym (kept-are a i h all (s .size) u names);
     full = aggregateAll-full (s .size) (namesOf (bitXor all (bitAnd all (getD above i 0)))) u (g .good .some) (union-full s _ x y (hx .full) (hy .full));
     sees = aggregateAll-sees (s .size) (namesOf (bitXor all (bitAnd all (getD above i 0)))) u
@@ -120,6 +120,6 @@ module _ {s : State} {ar ws above facts heads space space′ env env′ : List �
     entry = λ θ f.
         ap₂ (λ p vs. getD space′ (p + placeOf (s .size) vs θ) 0) start-is (kept-are a i h all (s .size) u names)
         ∙ ap (λ m. getD space′ (start + placeOf m (namesOf (bitAnd all (getD above i 0))) θ) 0) (g .size-is)
-        ∙ filled .table s x y g hx hy (λ t m o. drops-cover a i h all t (ap (mem eqb t) (sym names) ∙ m) o) θ f
+        ∙ filled .table s os x y g hx hy (λ t m o. drops-cover a i h all t (ap (mem eqb t) (sym names) ∙ m) o) θ f
         ∙ ap (λ m. aggregateAll m (namesOf (bitXor all (bitAnd all (getD above i 0)))) u .value θ) (sym (g .size-is));
   })

@@ -73,21 +73,21 @@ decode-sum n (v ∷ vs) env p w =
     ∙ ap (λ θ. countChoices n vs θ p) (env-set env v o room)))
 
 -- ===== The cases of a label =====
-pub cases-are : (s : State) (ar facts env : List ℕ) (n l own : ℕ) → Said s ar facts env n → termEnd ≤ length env → namesOf own ≡ labelVariables ar l
-    → casesOf ar facts env n l own (n ^ length (namesOf own)) ≡ labelCases s [] true (atomOf ar l)
+pub cases-are : (s : State) (os : List ℕ) (ar facts env : List ℕ) (n l own : ℕ) → Said s os ar facts env n → termEnd ≤ length env → namesOf own ≡ labelVariables ar l
+    → casesOf ar facts env n l own (n ^ length (namesOf own)) ≡ labelCases s os true (atomOf ar l)
 unfolding casesOf labelCases labelVariables start
-cases-are s ar facts env n l own g room is =
+cases-are s os ar facts env n l own g room is =
     sum-same (n ^ length (namesOf own)) _ _ (λ c h. ap (λ b. cond b 1 0) (tells-holds s ar facts (decoded n (namesOf own) c env) l (g .facts-are)))
     ∙ decode-sum n (namesOf own) env (λ θ. holds s θ (atomOf ar l)) (within-names own env room)
     ∙ ap₂ (λ m vs. countChoices m vs (envOf env) (λ θ. holds s θ (atomOf ar l))) (sym (g .size-is)) is
     ∙ count-agree (s .size) (λ t. firstVariable ≤ t → mem eqb t (varsOf (args (atomOf ar l)) []) ≡ true) (λ θ. holds s θ (atomOf ar l))
-    (λ θ η e. holds-agree s (atomOf ar l) [] θ η e) (varsOf (args (atomOf ar l)) []) (envOf env) (start s [])
-    (λ t c m. by-low (envOf env t ≡ start s [] t) firstVariable t
+    (λ θ η e. holds-agree s (atomOf ar l) [] θ η e) (varsOf (args (atomOf ar l)) []) (envOf env) (start s os)
+    (λ t c m. by-low (envOf env t ≡ start s os t) firstVariable t
     (λ h. g .fits .low t h ∙ sym (start-low t h))
     (λ h. clash (c h) m))
   where
-    start-low : (t : ℕ) → t < firstVariable → start s [] t ≡ fixed s [] t
-    start-low t h = low-lt firstVariable t (fixed s [] t) 0 h
+    start-low : (t : ℕ) → t < firstVariable → start s os t ≡ fixed s os t
+    start-low t h = low-lt firstVariable t (fixed s os t) 0 h
 
 -- ===== Names =====
 

@@ -1,7 +1,7 @@
 -- Laws of working out one row after the other, in the words of the code.
 use mathlib.Core.Path.{_≡_, refl, ap, ap₂, sym, _∙_, subst}
 use mathlib.Core.Logic.{_≢_}
-use mathlib.Core.List.{List, []}
+use mathlib.Core.List.{List}
 use Prim.Native.Nat.{ℕ, zero, suc, _+_, _-_, _*_, _^_, _≤_, _<_}
 use native.Mathlib.Omega.{arith}
 use native.Mathlib.Nat.{pow-zero}
@@ -56,8 +56,8 @@ module _ (heads : List ℕ) (i k p : ℕ) where
     start-here = getD-set-same (set heads (i * 2) k) (i * 2 + 1) p 0 (let e = length-set heads (i * 2) k in omega arith)
 
 -- a table is held under other heads, if its own is the same
-holds-heads : {s : State} {heads heads′ space : List ℕ} {i : ℕ} {z : T.Table} → setAt heads′ i ≡ setAt heads i → startAt heads′ i ≡ startAt heads i
-    → Holds s heads space i z → Holds s heads′ space i z
+holds-heads : {s : State} {os : List ℕ} {heads heads′ space : List ℕ} {i : ℕ} {z : T.Table} → setAt heads′ i ≡ setAt heads i → startAt heads′ i ≡ startAt heads i
+    → Holds s os heads space i z → Holds s os heads′ space i z
 holds-heads {s} {heads} {heads′} {space} {i} {z} e d h = record {
   names-are = ap namesOf e ∙ h .names-are;
   full = h .full;
@@ -74,10 +74,10 @@ leaf-table : (s : State) (ar ws : List ℕ) (ts : List T.Table) (i : ℕ) → ge
 unfolding labelAt
 leaf-table s ar ws ts i e = row-leaf s ar ws ts i e
 
-leaf-held : (s : State) (heads space ws : List ℕ) (i next : ℕ) → i * 2 + 2 ≤ length heads → next < length space
-    → Holds s (headed heads i 0 next) (set space next (getD ws (i * 3 + 1) 0)) i (leafTable (highAt ws i))
+leaf-held : (s : State) (os : List ℕ) (heads space ws : List ℕ) (i next : ℕ) → i * 2 + 2 ≤ length heads → next < length space
+    → Holds s os (headed heads i 0 next) (set space next (getD ws (i * 3 + 1) 0)) i (leafTable (highAt ws i))
 unfolding leafTable highAt placeOf
-leaf-held s heads space ws i next h r = record {
+leaf-held s os heads space ws i next h r = record {
   names-are = ap namesOf (set-here heads i 0 next h) ∙ of-zero;
   full = leaf-full (highAt ws i);
   sees = leaf-sees (highAt ws i);
@@ -136,36 +136,36 @@ module _ {ar ws sets heads space env : List ℕ} {n i next used : ℕ} (w : Work
       ends = λ j l. still j (cmp j i) l .1;
     }
 
-    pub work-tabled : (s : State) (facts : List ℕ) → Tabled s ar facts ws heads space env n i used → ((j : ℕ) → j < next → getD space′ j 0 ≡ getD space j 0)
-        → Holds s heads′ space′ i (rowTable s ar ws (tables s ar ws i) i) → Fits s [] (envOf env′) → used′ ≡ entriesTo s [] ar ws (suc i)
-        → Tabled s ar facts ws heads′ space′ env′ n (i + 1) used′
-    work-tabled s facts t before here f count = record {
+    pub work-tabled : (s : State) (os : List ℕ) (facts : List ℕ) → Tabled s os ar facts ws heads space env n i used → ((j : ℕ) → j < next → getD space′ j 0 ≡ getD space j 0)
+        → Holds s os heads′ space′ i (rowTable s ar ws (tables s ar ws i) i) → Fits s os (envOf env′) → used′ ≡ entriesTo s os ar ws (suc i)
+        → Tabled s os ar facts ws heads′ space′ env′ n (i + 1) used′
+    work-tabled s os facts t before here f count = record {
       said = record { good = t .said .good; size-is = t .said .size-is; facts-are = t .said .facts-are; fits = f };
       holds = λ j l. go j (cmp j i) l;
-      count = count ∙ ap (entriesTo s [] ar ws) (sym (add-one i));
+      count = count ∙ ap (entriesTo s os ar ws) (sym (add-one i));
     }
       where
-        go : (j : ℕ) → Cmp j i → j < i + 1 → Holds s heads′ space′ j (rowTable s ar ws (tables s ar ws j) j)
+        go : (j : ℕ) → Cmp j i → j < i + 1 → Holds s os heads′ space′ j (rowTable s ar ws (tables s ar ws j) j)
         go j (below q) l = holds-heads (set-other heads i k next j q) (start-other heads i k next j q)
             (holds-before {n = n} (t .said .size-is) (w .ready .ends j q) before (t .holds j q))
-        go j (equal q) l = subst (λ x. Holds s heads′ space′ x (rowTable s ar ws (tables s ar ws x) x)) (sym q) here
+        go j (equal q) l = subst (λ x. Holds s os heads′ space′ x (rowTable s ar ws (tables s ar ws x) x)) (sym q) here
         go j (above q) l = absurd (omega arith)
 
   -- ===== A leaf row =====
   module _ (facts : List ℕ) (leaf : getD ws (i * 3) 0 ≡ leafMark) where
-    leaf-count : (s : State) → Tabled s ar facts ws heads space env n i used → suc used ≡ entriesTo s [] ar ws (suc i)
+    leaf-count : (s : State) (os : List ℕ) → Tabled s os ar facts ws heads space env n i used → suc used ≡ entriesTo s os ar ws (suc i)
     unfolding labelAt
-    leaf-count s t =
-        let z = entries-step s [] ar ws i in
+    leaf-count s os t =
+        let z = entries-step s os ar ws i in
         let c = t .count in
-        let e : rowEntries s [] ar ws (tables s ar ws i) i ≡ 1 = counts-leaf s [] ar ws (tables s ar ws i) i leaf ∙ leaf-entries s [] (highAt ws i) in
+        let e : rowEntries s os ar ws (tables s ar ws i) i ≡ 1 = counts-leaf s os ar ws (tables s ar ws i) i leaf ∙ leaf-entries s os (highAt ws i) in
         omega arith
 
     pub work-full : used ≡ mostEntries → RowWorked ar facts ws sets heads space env n i used Over heads space env
     work-full e = record {
       ready = λ a b q. absurd (no q);
-      tabled = λ a b q s t. absurd (no q);
-      over = λ q s t. let c = leaf-count s t in let o = ap (entriesTo s [] ar ws) (add-one i) in omega arith;
+      tabled = λ a b q s os t. absurd (no q);
+      over = λ q s os t. let c = leaf-count s os t in let o = ap (entriesTo s os ar ws) (add-one i) in omega arith;
     }
       where
         no : {a b : ℕ} → Over ≡ At a b → ⊥
@@ -175,8 +175,8 @@ module _ {ar ws sets heads space env : List ℕ} {n i next used : ℕ} (w : Work
         → RowWorked ar facts ws sets heads space env n i used (At (next + 1) (used + 1)) (headed heads i 0 next) (set space next (getD ws (i * 3 + 1) 0)) env
     work-leaf d = record {
       ready = λ a b q. let p : next + 1 ≡ a = cc in let o : used + 1 ≡ b = cc in rw (← p, ← o) all-ready;
-      tabled = λ a b q s t. let o : used + 1 ≡ b = cc in rw (← o) (all-tabled s t);
-      over = λ q s t. absurd (no q);
+      tabled = λ a b q s os t. let o : used + 1 ≡ b = cc in rw (← o) (all-tabled s os t);
+      over = λ q s os t. absurd (no q);
     }
       where
         no : At (next + 1) (used + 1) ≡ Over → ⊥
@@ -192,16 +192,16 @@ module _ {ar ws sets heads space env : List ℕ} {n i next used : ℕ} (w : Work
         all-ready = work-ready 0 1 (used + 1) (set space next (getD ws (i * 3 + 1) 0)) env one-entry (let a = w .ready .next-used in omega arith)
             (let b = w .ready .used-few in omega arith) (length-set space next (getD ws (i * 3 + 1) 0)) refl (w .ready .range)
 
-        all-tabled : (s : State) → Tabled s ar facts ws heads space env n i used
-            → Tabled s ar facts ws (headed heads i 0 next) (set space next (getD ws (i * 3 + 1) 0)) env n (i + 1) (used + 1)
-        all-tabled s t = work-tabled 0 1 (used + 1) (set space next (getD ws (i * 3 + 1) 0)) env one-entry (let a = w .ready .next-used in omega arith)
-            (let b = w .ready .used-few in omega arith) (length-set space next (getD ws (i * 3 + 1) 0)) refl (w .ready .range) s facts t
-            (λ j l. getD-set-other space next j (getD ws (i * 3 + 1) 0) 0 (omega arith)) (leaf-holds s) (t .said .fits)
-            (let c = leaf-count s t in omega arith)
+        all-tabled : (s : State) (os : List ℕ) → Tabled s os ar facts ws heads space env n i used
+            → Tabled s os ar facts ws (headed heads i 0 next) (set space next (getD ws (i * 3 + 1) 0)) env n (i + 1) (used + 1)
+        all-tabled s os t = work-tabled 0 1 (used + 1) (set space next (getD ws (i * 3 + 1) 0)) env one-entry (let a = w .ready .next-used in omega arith)
+            (let b = w .ready .used-few in omega arith) (length-set space next (getD ws (i * 3 + 1) 0)) refl (w .ready .range) s os facts t
+            (λ j l. getD-set-other space next j (getD ws (i * 3 + 1) 0) 0 (omega arith)) (leaf-holds s os) (t .said .fits)
+            (let c = leaf-count s os t in omega arith)
           where
-            leaf-holds : (s : State) → Holds s (headed heads i 0 next) (set space next (getD ws (i * 3 + 1) 0)) i (rowTable s ar ws (tables s ar ws i) i)
-            leaf-holds s = subst (Holds s (headed heads i 0 next) (set space next (getD ws (i * 3 + 1) 0)) i)
-                (sym (leaf-table s ar ws (tables s ar ws i) i leaf)) (leaf-held s heads space ws i next work-head room)
+            leaf-holds : (s : State) (os : List ℕ) → Holds s os (headed heads i 0 next) (set space next (getD ws (i * 3 + 1) 0)) i (rowTable s ar ws (tables s ar ws i) i)
+            leaf-holds s os = subst (Holds s os (headed heads i 0 next) (set space next (getD ws (i * 3 + 1) 0)) i)
+                (sym (leaf-table s ar ws (tables s ar ws i) i leaf)) (leaf-held s os heads space ws i next work-head room)
 
   -- ===== A branch row =====
   pub work-branching : (getD ws (i * 3) 0 ≡ leafMark → ⊥) → Branching ar ws sets heads space env n i next used
@@ -212,8 +212,8 @@ module _ {ar ws sets heads space env : List ℕ} {n i next used : ℕ} (w : Work
     pub work-over : r ≡ Full → RowWorked ar facts ws sets heads space env n i used Over heads space′ env′
     work-over e = record {
       ready = λ x y q. absurd (no q);
-      tabled = λ x y q s t. absurd (no q);
-      over = λ q s t. let c = b .full e s t in let o = ap (entriesTo s [] ar ws) (add-one i) in omega arith;
+      tabled = λ x y q s os t. absurd (no q);
+      over = λ q s os t. let c = b .full e s os t in let o = ap (entriesTo s os ar ws) (add-one i) in omega arith;
     }
       where
         no : {x y : ℕ} → Over ≡ At x y → ⊥
@@ -226,9 +226,9 @@ module _ {ar ws sets heads space env : List ℕ} {n i next used : ℕ} (w : Work
         → RowWorked ar facts ws sets heads space env n i used (At (next + c) (used + e)) (headed heads i k next) space′ env′
     work-table {k} {c} {e} q sk ek = record {
       ready = λ x y z. let p : next + c ≡ x = cc in let o : used + e ≡ y = cc in rw (← p, ← o) (work-ready k c (used + e) space′ env′ (t .0) (t .1) (t .2) sk ek (b .range));
-      tabled = λ x y z s d. let o : used + e ≡ y = cc in rw (← o) (work-tabled k c (used + e) space′ env′ (t .0) (t .1) (t .2) sk ek (b .range) s facts d (b .before)
-          (b .holds k c e q s d (headed heads i k next) (set-here heads i k next work-head) (start-here heads i k next work-head)) (b .fits s (d .said)) (b .counts k c e q s d));
-      over = λ z s d. absurd (no z);
+      tabled = λ x y z s os d. let o : used + e ≡ y = cc in rw (← o) (work-tabled k c (used + e) space′ env′ (t .0) (t .1) (t .2) sk ek (b .range) s os facts d (b .before)
+          (b .holds k c e q s os d (headed heads i k next) (set-here heads i k next work-head) (start-here heads i k next work-head)) (b .fits s os (d .said)) (b .counts k c e q s os d));
+      over = λ z s os d. absurd (no z);
     }
       where
         t : (c ≡ n ^ length (namesOf k)) × (next + c ≤ used + e) × (used + e ≤ mostEntries)
@@ -241,7 +241,7 @@ module _ {ar ws sets heads space env : List ℕ} {n i next used : ℕ} (w : Work
 pub record Going (ar facts ws sets heads₀ space₀ env₀ : List ℕ) (n : ℕ) (heads space env : List ℕ) (i next used : ℕ) : Type 0 where
   pub end : i ≤ rowCount ws
   pub ready : Ready ar ws sets heads space env n i next used
-  pub tabled : (s : State) → Tabled s ar facts ws heads₀ space₀ env₀ n 0 0 → Tabled s ar facts ws heads space env n i used
+  pub tabled : (s : State) (os : List ℕ) → Tabled s os ar facts ws heads₀ space₀ env₀ n 0 0 → Tabled s os ar facts ws heads space env n i used
   pub heads-kept : length heads ≡ length heads₀
   pub space-kept : length space ≡ length space₀
   pub env-kept : length env ≡ length env₀
@@ -250,7 +250,7 @@ pub go-start : (ar facts ws sets heads space env : List ℕ) (n : ℕ) → Ready
 go-start ar facts ws sets heads space env n r = record {
   end = omega arith;
   ready = r;
-  tabled = λ s t. t;
+  tabled = λ s os t. t;
   heads-kept = refl;
   space-kept = refl;
   env-kept = refl;
@@ -265,8 +265,8 @@ module _ {ar facts ws sets heads₀ space₀ env₀ : List ℕ} {n : ℕ} {heads
       → Finished ar facts ws sets heads₀ space₀ env₀ n Over heads′ space′ env′
   go-over {r} h w e = record {
     ready = λ a b q. absurd (no q);
-    tabled = λ a b q s t. absurd (no q);
-    over = λ q s t. let o = w .over e s (g .tabled s t) in let p = entries-passed s [] ar ws (i + 1) (omega arith) in omega arith;
+    tabled = λ a b q s os t. absurd (no q);
+    over = λ q s os t. let o = w .over e s os (g .tabled s os t) in let p = entries-passed s os ar ws (i + 1) (omega arith) in omega arith;
   }
     where
       no : {a b : ℕ} → Over ≡ At a b → ⊥
@@ -278,7 +278,7 @@ module _ {ar facts ws sets heads₀ space₀ env₀ : List ℕ} {n : ℕ} {heads
   go-on {r} {heads′} {space′} {env′} {a} {b} h w e x y z = record {
     end = omega arith;
     ready = w .ready a b e;
-    tabled = λ s t. w .tabled a b e s (g .tabled s t);
+    tabled = λ s os t. w .tabled a b e s os (g .tabled s os t);
     heads-kept = x ∙ g .heads-kept;
     space-kept = y ∙ g .space-kept;
     env-kept = z ∙ g .env-kept;
@@ -288,9 +288,9 @@ module _ {ar facts ws sets heads₀ space₀ env₀ : List ℕ} {n : ℕ} {heads
   go-end h = record {
     ready = λ a b q. let p : next ≡ a = cc in let o : used ≡ b = cc in let e : i ≡ rowCount ws = omega (arith, g .end) in
         subst (λ j. Ready ar ws sets heads space env n j a b) e (rw (← p, ← o) (g .ready));
-    tabled = λ a b q s t. let o : used ≡ b = cc in let e : i ≡ rowCount ws = omega (arith, g .end) in
-        subst (λ j. Tabled s ar facts ws heads space env n j b) e (rw (← o) (g .tabled s t));
-    over = λ q s t. absurd (no q);
+    tabled = λ a b q s os t. let o : used ≡ b = cc in let e : i ≡ rowCount ws = omega (arith, g .end) in
+        subst (λ j. Tabled s os ar facts ws heads space env n j b) e (rw (← o) (g .tabled s os t));
+    over = λ q s os t. absurd (no q);
   }
     where
       no : At next used ≡ Over → ⊥

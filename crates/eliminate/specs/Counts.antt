@@ -1,7 +1,7 @@
 -- What counting a row's entries asks and ensures.
 use mathlib.Core.Path.{_≡_}
 use mathlib.Core.Bool.{true, false}
-use mathlib.Core.List.{List, []}
+use mathlib.Core.List.{List}
 use Prim.Native.Nat.{ℕ, _+_, _*_, _^_, _≤_, _<_}
 use lib.ListN.{length}
 use lib.Bits.{bitOr}
@@ -25,11 +25,11 @@ pub record Shrunk (n whole set r : ℕ) : Type 0 where
   pub is : (small : ℕ) → whole ≡ small * n ^ length (namesOf set) → r ≡ geometric n small (length (namesOf set))
   pub few : r ≤ variableCount * mostEntries
 
--- the entries of a branch row, whose children have the tables x and y
-unfoldable pub rowTotal : State → List ℕ → ℕ → Table → Table → List ℕ → ℕ
-rowTotal s ar l x y drops =
-    entries s [] (join s true (atomOf ar l) x) + entries s [] (join s false (atomOf ar l) y) + entries s [] (unionOf s ar l x y)
-    + aggregateEntries s [] drops (unionOf s ar l x y)
+-- the entries of a branch row, whose children have the tables x and y, with the objects os for the parameters
+unfoldable pub rowTotal : State → List ℕ → List ℕ → ℕ → Table → Table → List ℕ → ℕ
+rowTotal s os ar l x y drops =
+    entries s os (join s true (atomOf ar l) x) + entries s os (join s false (atomOf ar l) y) + entries s os (unionOf s ar l x y)
+    + aggregateEntries s os drops (unionOf s ar l x y)
 
 -- r is the number t, or both are above the limit
 pub data Tells (r t : ℕ) : Type 0 where
@@ -42,7 +42,7 @@ pub record Rowing (ar env : List ℕ) (n l own high low drops : ℕ) : Type 0 wh
   pub inside : (t : ℕ) → mem eqb t (namesOf drops) ≡ true → mem eqb t (namesOf (bitOr (bitOr own high) low)) ≡ true
 
 pub record Rowed (ar facts env : List ℕ) (n l own high low drops r : ℕ) (env′ : List ℕ) : Type 0 where
-  pub count : (s : State) (x y : Table) → Said s ar facts env n → namesOf high ≡ x .names → namesOf low ≡ y .names → Full x → Full y → Named x → Named y
-      → Tells r (rowTotal s ar l x y (namesOf drops))
+  pub count : (s : State) (os : List ℕ) (x y : Table) → Said s os ar facts env n → namesOf high ≡ x .names → namesOf low ≡ y .names → Full x → Full y → Named x → Named y
+      → Tells r (rowTotal s os ar l x y (namesOf drops))
   pub moved : Moved n own env env′
   pub whole : r ≤ mostEntries → n ^ length (namesOf (bitOr (bitOr own high) low)) ≤ r

@@ -20,7 +20,7 @@
 --   place-decoded, place-one: each choice has one place, and each place one choice
 --   of-or, of-and, of-xor, of-one: sets are lists of variables
 --
--- The entry, which makes the arrays and reads the root's entry, is to come.
+-- The entry, which makes the arrays and reads the root's entry, is `by_tables` in valuing.
 
 pub mod Masks
 pub mod Calls

@@ -6,28 +6,28 @@ use Prim.Native.Nat.{ℕ, suc, _+_, _-_, _*_, _/_, _^_, _≤_, _<_, min}
 use native.Mathlib.Nat.{pow-zero, pow-suc, pow-le-pow-right, mul-le-mul}
 use native.Mathlib.Numerals.{add-one}
 use native.Mathlib.Omega.{arith}
-use borrow.Author.Tests.{leb-true, leb-false, eq-eqb, ne-eqb, lt-ltb, le-ltb, le-leb, lt-leb, not-true, not-false}
+use borrow.Author.Tests.{leb-true, eq-eqb, ne-eqb, lt-ltb, le-ltb, le-leb, lt-leb, not-true, not-false}
 use lib.ListN.{length, getD, take, length-take}
 use lib.Seq.{getD-take}
 use lib.Dec.{eqb, ltb, leb}
-use Rattle.basics.specs.Tests.{and-left, one}
+use Rattle.basics.specs.Tests.{Cmp, below, equal, above, cmp, and-left}
 use Rattle.label.specs.Limits.{constantCount, firstParameter, parameterCount, mostPlaces}
 use Rattle.diagram.specs.Words.{everyBelow, isListing}
 use Rattle.diagram.specs.WordLaws.{every-below, below-every}
 use Rattle.diagram.specs.RowLaws.{same-tests}
 use Rattle.diagram.specs.Listing.{diagramOf}
+use Rattle.diagram.specs.Variables.{variables}
 use Rattle.diagram.specs.Validity.{Valid}
 use Rattle.diagram.specs.ListingValid.{listing-is-valid}
 use Rattle.state.specs.Lent.{factCount, factWords, predicateAt, objectsAt, allBelow, namesBelow, constantsBelow, stateOf, isState}
-use Rattle.refusal.specs.declared.Refusal.the-variants.{Range, Unbound, Listing, Valuations}
+use Rattle.refusal.specs.declared.Refusal.the-variants.{Range, Unbound, Listing}
 use Rattle.listing.specs.Used.{Used, setFrom, markedVariables}
 use Rattle.listing.specs.UsedLaws.{set-occurring, marked-variables}
 use Rattle.state.specs.declared.Valued.{Valued}
 use Rattle.state.specs.declared.Valued.the-variants.{Value, Refused}
-use Rattle.state.specs.State.{meaning}
-use Rattle.state.specs.Highest.{highest}
 use Rattle.state.specs.ValueCall.{mostValuations, parameters, valuations, answerBy}
 use Rattle.elimination.specs.Answer.{isTooLarge, valueAnswer}
+use Rattle.valuing.specs.Walks.{boundHighest, boundAnswer, isFew}
 use Rattle.valuing.specs.Tables.{tablesAnswer}
 use Rattle.state.specs.LentLaws.{objects-length, object-at, all-made, all-at}
 use Rattle.valuing.specs.Index.{placeCount, objectAt}
@@ -223,26 +223,36 @@ module _ (ar ws : List ℕ) (n : ℕ) (constants facts : List ℕ) where
       unfolding valueAnswer answerBy
       value-3 z = rw (sym e ∙ not-false b f, sym g ∙ not-false c h, has-parameters ∙ z)
 
-      module _ (z : p ≡ false) {v : ℕ} (j : v ≡ markedVariables marks) {q : Bool} (w : q ≡ leb (n ^ v) mostValuations) where
-        count-valuations : n ^ v ≡ valuations ar n (diagramOf ws)
-        unfolding valuations
-        count-valuations = ap (λ x. n ^ x) (j ∙ marked-variables ar (diagramOf ws) marks u)
+      -- no parameter: the answer is that with no objects for the parameters
+      pub value-4 : p ≡ false → {r : Valued} → r ≡ boundAnswer ar ws n constants facts [] → r ≡ valueAnswer ar ws n constants facts
+      unfolding valueAnswer answerBy boundAnswer
+      value-4 z o = rw (sym e ∙ not-false b f, sym g ∙ not-false c h, has-parameters ∙ z) o
 
-        -- many valuations: the second way decides
-        pub value-4 : not q ≡ true → {r : Valued} → r ≡ tablesAnswer ar ws n constants facts → r ≡ valueAnswer ar ws n constants facts
-        unfolding valueAnswer answerBy isTooLarge tablesAnswer stateOf
-        value-4 y o =
-            let x = leb-false (n ^ v) mostValuations (sym w ∙ not-true q y) in
-            let k = count-valuations in
-            rw (sym e ∙ not-false b f, sym g ∙ not-false c h, has-parameters ∙ z, lt-ltb mostValuations (valuations ar n (diagramOf ws)) (omega arith)) o
+-- few valuations, by the marks
+pub few-marks : (ar ws : List ℕ) (n : ℕ) {marks : List ℕ} {v : ℕ} {q : Bool} → Used ar (diagramOf ws) marks → v ≡ markedVariables marks → q ≡ leb (n ^ v) mostValuations
+    → q ≡ isFew ar n ws
+unfolding isFew valuations
+few-marks ar ws n {marks} {v} {q} u j w =
+    w ∙ ap (λ x. leb x mostValuations) (ap (λ x. n ^ x) (j ∙ marked-variables ar (diagramOf ws) marks u))
+    ∙ le-not-lt (n ^ length (variables ar (diagramOf ws))) mostValuations
+  where
+    le-not-lt : (a b : ℕ) → leb a b ≡ not (ltb b a)
+    le-not-lt a b = go (cmp b a)
+      where
+        go : Cmp b a → leb a b ≡ not (ltb b a)
+        go (below c) = rw (lt-leb a b c, lt-ltb b a c)
+        go (equal c) = rw (le-leb a b (omega arith), le-ltb b a (omega arith))
+        go (above c) = rw (le-leb a b (omega arith), le-ltb b a (omega arith))
 
-        pub value-5 : not q ≡ false → {x : ℕ} → x ≡ highest (stateOf ar n constants facts) [] (meaning ar (diagramOf ws)) → Value x ≡ valueAnswer ar ws n constants facts
-        unfolding valueAnswer answerBy isTooLarge stateOf
-        value-5 y {x} o =
-            let l = leb-true (n ^ v) mostValuations (sym w ∙ not-false q y) in
-            let k = count-valuations in
-            rw (sym e ∙ not-false b f, sym g ∙ not-false c h, has-parameters ∙ z, le-ltb mostValuations (valuations ar n (diagramOf ws)) (omega arith))
-            (ap Value o)
+-- the two ways of working
+module _ (ar ws : List ℕ) (n : ℕ) (constants facts os : List ℕ) {few : Bool} (e : few ≡ isFew ar n ws) where
+  pub bound-few : few ≡ true → {x : ℕ} → x ≡ boundHighest ar ws n constants facts os → Value x ≡ boundAnswer ar ws n constants facts os
+  unfolding isFew boundAnswer isTooLarge stateOf
+  bound-few t o = rw (not-true (ltb mostValuations (valuations ar n (diagramOf ws))) (sym e ∙ t)) (ap Value o)
+
+  pub bound-many : few ≡ false → {r : Valued} → r ≡ tablesAnswer ar ws n constants facts os → r ≡ boundAnswer ar ws n constants facts os
+  unfolding isFew boundAnswer isTooLarge tablesAnswer stateOf
+  bound-many t o = rw (not-false (ltb mostValuations (valuations ar n (diagramOf ws))) (sym e ∙ t)) o
 
 -- what the checks passed say
 module _ (ar ws : List ℕ) {b : Bool} (e : b ≡ isListing ar ws) (f : not b ≡ false) where
@@ -255,6 +265,9 @@ module _ (ar ws : List ℕ) {b : Bool} (e : b ≡ isListing ar ws) (f : not b �
 pub fits-state : (ar : List ℕ) (n : ℕ) (constants facts : List ℕ) {c : Bool} → c ≡ isState ar n constants facts → not c ≡ false → isState ar n constants facts ≡ true
 fits-state ar n constants facts {c} g h = sym g ∙ not-false c h
 
-pub state-some : (ar : List ℕ) (n : ℕ) (constants facts : List ℕ) {c : Bool} → c ≡ isState ar n constants facts → not c ≡ false → 0 < n
+pub lent-some : (ar : List ℕ) (n : ℕ) (constants facts : List ℕ) → isState ar n constants facts ≡ true → 0 < n
 unfolding isState
-state-some ar n constants facts {c} g h = leb-true 1 n (and-left (leb 1 n) _ (sym g ∙ not-false c h))
+lent-some ar n constants facts e = leb-true 1 n (and-left (leb 1 n) _ e)
+
+pub state-some : (ar : List ℕ) (n : ℕ) (constants facts : List ℕ) {c : Bool} → c ≡ isState ar n constants facts → not c ≡ false → 0 < n
+state-some ar n constants facts {c} g h = lent-some ar n constants facts (sym g ∙ not-false c h)

@@ -7,7 +7,7 @@ use Prim.Native.Nat.{ℕ, zero, suc, _+_, _-_, _*_, _/_, _≤_, _<_}
 use native.Mathlib.Numerals.{add-one}
 use native.Mathlib.Omega.{arith}
 use borrow.Author.Tests.{eqb-true, eq-eqb, ne-eqb}
-use lib.ListN.{length, getD, set, length-set, replicate, length-replicate, getD-replicate, List·getD-eq-default}
+use lib.ListN.{length, getD, set, length-set, List·getD-eq-default}
 use lib.Seq.{getD-set-same, getD-set-other}
 use lib.Dec.{eqb}
 use Rattle.basics.specs.Tests.{Cmp, below, equal, above, cmp, Flag, isTrue, isFalse, flag, and-left, and-right}
@@ -19,7 +19,7 @@ use Rattle.diagram.specs.WordLaws.{below-every}
 use Rattle.state.specs.Lent.{factCount, factWords, predicateAt, someBelow}
 use Rattle.state.specs.LentLaws.{some-made, some-none}
 use Rattle.table.specs.Chains.{prev}
-use Rattle.table.specs.ChainLaws.{test, prev-same, prev-other, prev-zero, prev-le, prev-gap, prev-hits}
+use Rattle.table.specs.ChainLaws.{test, prev-same, prev-other, prev-le, prev-gap, prev-hits}
 use Rattle.valuing.specs.Index.{
   buckets,
   mostIndexed,
@@ -37,6 +37,7 @@ use Rattle.valuing.specs.Index.{
   bucketOf,
   says,
   Indexed,
+  Clean,
   Placed,
   Asked,
   Sought,
@@ -144,16 +145,6 @@ in-bucket ar facts env l k i a e =
     ∙ hash-same (predicateOf l) (objectAt facts i) (givenAt env l) k (λ j h.
     eqb-true _ _ (below-every k (λ m. eqb (objectAt facts i m) (givenAt env l m)) j r h)))
 
--- an index with no rows, over cleared words
-pub index-empty : (ar facts : List ℕ) (m : ℕ) → buckets + mostIndexed ≤ m → Indexed ar facts (replicate m 0) 0
-index-empty ar facts m h = record {
-  places = rw length-replicate h;
-  rows = omega arith;
-  few = omega arith;
-  head = λ b l. getD-replicate m b 0 0 (omega arith) ∙ sym (prev-zero (bucketAt ar facts) b);
-  link = λ i l. absurd (omega arith);
-}
-
 -- one more row
 module _ (ar facts index : List ℕ) (i h : ℕ) (t : Indexed ar facts index i) (room : i < mostIndexed)
     (row : i * factWords + factWords ≤ length facts) (e : (h ≡ bucketAt ar facts i) × (h < buckets)) where
@@ -197,6 +188,63 @@ pub index-done : (ar facts index : List ℕ) (i : ℕ) → Indexed ar facts inde
     → Indexed ar facts index (indexedCount facts)
 unfolding indexedCount
 index-done ar facts index i t l e = subst (Indexed ar facts index) (omega (arith, t .few)) t
+
+-- ===== The index cleaned, row by row =====
+
+-- bucket b is clean, or one of the rows from i on is in it
+pub data Cleared (ar facts index : List ℕ) (i b : ℕ) : Type 0 where
+  clean : getD index b 0 ≡ 0 → Cleared ar facts index i b
+  later : (j : ℕ) → i ≤ j → j < indexedCount facts → bucketAt ar facts j ≡ b → Cleared ar facts index i b
+
+pub record Clearing (ar facts index : List ℕ) (i : ℕ) : Type 0 where
+  pub places : buckets + mostIndexed ≤ length index
+  pub most : i ≤ mostIndexed
+  pub each : (b : ℕ) → b < buckets → Cleared ar facts index i b
+
+pub clear-start : {ar facts index : List ℕ} → Indexed ar facts index (indexedCount facts) → Clearing ar facts index 0
+clear-start {ar} {facts} {index} t = record { places = t .places; most = omega arith; each = λ b l. go b l (getD index b 0) refl }
+  where
+    go : (b : ℕ) → b < buckets → (x : ℕ) → getD index b 0 ≡ x → Cleared ar facts index 0 b
+    go b l zero e = clean e
+    go b l (suc j) e =
+        let q = sym (t .head b l) ∙ e in
+        later j (omega arith) (omega (arith, prev-le (bucketAt ar facts) b (indexedCount facts))) (prev-hits (bucketAt ar facts) b (indexedCount facts) j q)
+
+pub clear-on : {ar facts index : List ℕ} {i h : ℕ} → Clearing ar facts index i → (i ≡ mostIndexed → ⊥) → (h ≡ bucketAt ar facts i) × (h < buckets)
+    → Clearing ar facts (set index h 0) (i + 1)
+clear-on {ar} {facts} {index} {i} {h} t n e = record {
+  places = rw length-set (t .places);
+  most = omega (arith, t .most);
+  each = λ b l. ⊎-elim (λ (q : b ≡ h). here b l q) (λ (q : b ≡ h → ⊥). other b q (t .each b l)) (test b h);
+}
+  where
+    here : (b : ℕ) → b < buckets → b ≡ h → Cleared ar facts (set index h 0) (i + 1) b
+    here b l q = clean (subst (λ (y : ℕ). getD (set index h 0) y 0 ≡ 0) (sym q) (getD-set-same index h 0 0 (omega (arith, t .places))))
+
+    other : (b : ℕ) → (b ≡ h → ⊥) → Cleared ar facts index i b → Cleared ar facts (set index h 0) (i + 1) b
+    other b q (clean z) = clean (getD-set-other index h b 0 0 q ∙ z)
+    other b q (later j l m k) = later j (past (cmp i j)) m k
+      where
+        past : Cmp i j → i + 1 ≤ j
+        past (below c) = omega arith
+        past (equal c) = absurd (q (sym k ∙ ap (bucketAt ar facts) (sym c) ∙ sym (e .0)))
+        past (above c) = absurd (omega arith)
+
+module _ {ar facts index : List ℕ} {i : ℕ} (t : Clearing ar facts index i) where
+  all-cleared : indexedCount facts ≤ i → Clean index
+  all-cleared h = record { places = t .places; heads = λ b l. go b (t .each b l) }
+    where
+      go : (b : ℕ) → Cleared ar facts index i b → getD index b 0 ≡ 0
+      go b (clean z) = z
+      go b (later j l m k) = absurd (omega arith)
+
+  pub clear-full : i ≡ mostIndexed → Clean index
+  unfolding indexedCount
+  clear-full e = all-cleared (omega arith)
+
+  pub clear-done : length facts / factWords ≤ i → Clean index
+  unfolding indexedCount
+  clear-done h = all-cleared (omega arith)
 
 -- the walk of a bucket's chain for a fact: rows at or above `at` are passed
 pub record Chain (facts index env : List ℕ) (l k b at : ℕ) : Type 0 where

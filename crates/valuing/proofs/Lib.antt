@@ -4,3 +4,4 @@ pub mod SearchLaws
 pub mod StartLaws
 pub mod CheckLaws
 mod TablesLaws
+mod ClimbLaws

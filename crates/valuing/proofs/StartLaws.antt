@@ -1,11 +1,11 @@
 -- Laws of what stands before the search: each row's highest leaf, the terms' first objects; and what the search's end says of the state.
 use mathlib.Core.Path.{_≡_, refl, sym, ap, subst, _∙_}
 use mathlib.Core.Bool.{Bool, true, false, cond}
-use mathlib.Core.List.{List, [], map}
+use mathlib.Core.List.{List, [], _∷_, map}
 use Prim.Native.Nat.{ℕ, zero, suc, _+_, _-_, _*_, _≤_, _<_, max}
 use native.Mathlib.Omega.{arith}
 use borrow.Author.Tests.{ltb-true, leb-true, eqb-true, eqb-false, eq-eqb, ne-eqb}
-use lib.ListN.{length, getD, set, replicate, length-set, length-replicate, getD-replicate}
+use lib.ListN.{length, getD, set, replicate, length-set, length-replicate, getD-replicate, List·getD-eq-default}
 use lib.Seq.{getD-set-same, getD-set-other}
 use lib.Dec.{eqb, ltb, leb}
 use Rattle.basics.specs.Tests.{Cmp, below, equal, above, cmp, Flag, isTrue, isFalse, flag, and-left, and-right}
@@ -20,15 +20,16 @@ use Rattle.diagram.specs.Validity.{Valid, tree}
 use Rattle.diagram.specs.RowDiagrams.{branch-row}
 use Rattle.diagram.specs.DiagramOfListing.{valid-rows, shown-rows, diagram-is}
 use Rattle.diagram.specs.ListingValid.{listing-is-valid}
-use Rattle.state.specs.MaxLaws.{max-one}
-use Rattle.state.specs.State.{atomOf, meaning, State, Good, truth, holds, value, low, fixed, Fits}
+use Rattle.state.specs.State.{atomOf, meaning, State, truth, holds, value, low, fixed, Fits}
 use Rattle.state.specs.ValueLaws.{low-lt, low-ge, by-low}
-use Rattle.state.specs.Highest.{Highest, highest, Bound}
+use Rattle.state.specs.Highest.{Highest, Bound}
 use Rattle.state.specs.HighestLaws.{highest-is}
-use Rattle.state.specs.Lent.{constantsBelow, stateOf, isState}
+use Rattle.state.specs.Lent.{allBelow, constantsBelow, stateOf, isState}
+use Rattle.elimination.specs.AnswerLaws.{lent-good}
 use Rattle.valuing.specs.Index.{Indexed, indexedCount}
 use Rattle.valuing.specs.Search.{free, Topping, Tops, topAt, fixedIn, Placing, Started, lentTruth, lentHolds, leafFrom, Extends, Hit, old, new, Best, Ready}
-use Rattle.valuing.proofs.SearchLaws.{filled, filled-extends}
+use Rattle.valuing.specs.Walks.{boundHighest, Prepared}
+use Rattle.valuing.specs.WalkLaws.{bound-below, topping-room, prepared}
 
 -- a row's number, test by test
 module _ (ws high : List ℕ) (i : ℕ) where
@@ -121,77 +122,90 @@ pub topped-end : {ws high : List ℕ} {i : ℕ} → Topped ws high i → rowCoun
 topped-end {ws} {high} t h = subst (Tops ws high) (omega (arith, t .most)) (t .done)
 
 -- the terms' first objects
-pub fixed-constant : (constants : List ℕ) (t : ℕ) {x : ℕ} → t < firstParameter → x ≡ getD constants t 0 → x ≡ fixedIn constants t
-unfolding fixedIn
-fixed-constant constants t h e = e ∙ sym (low-lt firstParameter t (getD constants t 0) (getD constants 0 0) h)
+module _ (constants os : List ℕ) (t : ℕ) where
+  pub fixed-constant : {x : ℕ} → t < firstParameter → x ≡ getD constants t 0 → x ≡ fixedIn constants os t
+  unfolding fixedIn
+  fixed-constant h e = e ∙ sym (low-lt firstParameter t (getD constants t 0) (getD os (t - firstParameter) (getD constants 0 0)) h)
 
-pub fixed-parameter : (constants : List ℕ) (t : ℕ) {x : ℕ} → firstParameter ≤ t → x ≡ getD constants 0 0 → x ≡ fixedIn constants t
-unfolding fixedIn
-fixed-parameter constants t h e = e ∙ sym (low-ge firstParameter t (getD constants t 0) (getD constants 0 0) h)
+  pub fixed-object : firstParameter ≤ t → t - firstParameter < length os → getD os (t - firstParameter) 0 ≡ fixedIn constants os t
+  unfolding fixedIn
+  fixed-object h l =
+      any-default os (t - firstParameter) 0 (getD constants 0 0) l
+      ∙ sym (low-ge firstParameter t (getD constants t 0) (getD os (t - firstParameter) (getD constants 0 0)) h)
+    where
+      any-default : (xs : List ℕ) (i d e : ℕ) → i < length xs → getD xs i d ≡ getD xs i e
+      any-default [] i d e l = absurd (omega arith)
+      any-default (x ∷ xs) zero d e l = refl
+      any-default (x ∷ xs) (suc i) d e l = any-default xs i d e (omega arith)
 
-pub placing-none : (constants env : List ℕ) → length env ≡ termEnd → Placing constants env env 0
-placing-none constants env h = record { places = h; bound = λ t l. absurd (omega arith); others = λ t l. refl }
+  pub fixed-parameter : {x : ℕ} → firstParameter ≤ t → length os ≤ t - firstParameter → x ≡ getD constants 0 0 → x ≡ fixedIn constants os t
+  unfolding fixedIn
+  fixed-parameter h l e =
+      e ∙ sym (List·getD-eq-default os (getD constants 0 0) l)
+      ∙ sym (low-ge firstParameter t (getD constants t 0) (getD os (t - firstParameter) (getD constants 0 0)) h)
 
-pub placing-on : {constants env₀ env : List ℕ} {t o : ℕ} → Placing constants env₀ env t → t < firstVariable → o ≡ fixedIn constants t
-    → Placing constants env₀ (set env t o) (t + 1)
-placing-on {constants} {env₀} {env} {t} {o} s l e = record {
+pub placing-none : (constants os env : List ℕ) → length env ≡ termEnd → Placing constants os env env 0
+placing-none constants os env h = record { places = h; bound = λ t l. absurd (omega arith); others = λ t l. refl }
+
+pub placing-on : {constants os env₀ env : List ℕ} {t o : ℕ} → Placing constants os env₀ env t → t < firstVariable → o ≡ fixedIn constants os t
+    → Placing constants os env₀ (set env t o) (t + 1)
+placing-on {constants} {os} {env₀} {env} {t} {o} s l e = record {
   places = length-set env t o ∙ s .places;
   bound = λ u m. given u m (cmp u t);
   others = λ u m. getD-set-other env t u o 0 (omega arith) ∙ s .others u (omega arith);
 }
   where
-    given : (u : ℕ) → u < t + 1 → Cmp u t → getD (set env t o) u 0 ≡ fixedIn constants u
+    given : (u : ℕ) → u < t + 1 → Cmp u t → getD (set env t o) u 0 ≡ fixedIn constants os u
     given u m (below q) = getD-set-other env t u o 0 (omega arith) ∙ s .bound u q
-    given u m (equal q) = subst (λ (y : ℕ). getD (set env t o) y 0 ≡ fixedIn constants y) (sym q) (getD-set-same env t o 0 (omega (arith, s .places)) ∙ e)
+    given u m (equal q) = subst (λ (y : ℕ). getD (set env t o) y 0 ≡ fixedIn constants os y) (sym q) (getD-set-same env t o 0 (omega (arith, s .places)) ∙ e)
     given u m (above q) = absurd (omega arith)
 
-pub placing-end : {constants env₀ env : List ℕ} {t : ℕ} → Placing constants env₀ env t → t ≤ firstVariable → firstVariable ≤ t → Placing constants env₀ env firstVariable
-placing-end {constants} {env₀} {env} s l m = subst (Placing constants env₀ env) (omega arith) s
+pub placing-end : {constants os env₀ env : List ℕ} {t : ℕ} → Placing constants os env₀ env t → t ≤ firstVariable → firstVariable ≤ t
+    → Placing constants os env₀ env firstVariable
+placing-end {constants} {os} {env₀} {env} s l m = subst (Placing constants os env₀ env) (omega arith) s
 
 -- with no object for the variables
-pub started : {constants env : List ℕ} → Placing constants (replicate termEnd free) env firstVariable → Started constants env
+pub started : {constants os env : List ℕ} → Placing constants os (replicate termEnd free) env firstVariable → Started constants os env
 started p = record { places = p .places; bound = p .bound; unbound = λ t l m. p .others t l ∙ getD-replicate termEnd t free 0 m }
 
--- what a lent state is
-pub record Lendable (n : ℕ) (constants : List ℕ) : Type 0 where
+-- what a lent state and a tuple of its objects are
+pub record Lendable (n : ℕ) (constants os : List ℕ) : Type 0 where
   pub some : 0 < n
   pub placed : (c : ℕ) → c < constantCount → getD constants c 0 < n
+  pub tuple : (i : ℕ) → getD os i (getD constants 0 0) < n
 
-pub state-lendable : (ar : List ℕ) (n : ℕ) (constants facts : List ℕ) → isState ar n constants facts ≡ true → Lendable n constants
-unfolding isState constantsBelow
-state-lendable ar n constants facts e = record {
-  some = leb-true 1 n (and-left (leb 1 n) _ e);
-  placed = λ c h. ltb-true _ _ (below-every constantCount (λ c. ltb (getD constants c 0) n) c (and-left (constantsBelow n constants) _ (and-right (leb 1 n) _ e)) h);
-}
+module _ (ar : List ℕ) (n : ℕ) (constants facts os : List ℕ) (e : isState ar n constants facts ≡ true) (o : allBelow n os ≡ true) where
+  abbrev st : State
+  st = stateOf ar n constants facts
 
-module _ (ar : List ℕ) (n : ℕ) (constants facts : List ℕ) (f : Lendable n constants) where
-  lent-good : Good (stateOf ar n constants facts)
+  pub lent-bound : Bound (stateOf ar n constants facts) os
   unfolding stateOf
-  lent-good = record {
-    some = f .some;
-    placed = λ c. by-low (low constantCount c (getD constants c 0) 0 < n) constantCount c
-        (λ h. rw (low-lt constantCount c (getD constants c 0) 0 h) (f .placed c h))
-        (λ h. rw (low-ge constantCount c (getD constants c 0) 0 h) (f .some));
+  lent-bound = bound-below (lent-good ar n constants facts e) os o
+
+  pub state-lendable : Lendable n constants os
+  unfolding stateOf isState constantsBelow
+  state-lendable = record {
+    some = leb-true 1 n (and-left (leb 1 n) _ e);
+    placed = λ c h. ltb-true _ _ (below-every constantCount (λ c. ltb (getD constants c 0) n) c (and-left (constantsBelow n constants) _ (and-right (leb 1 n) _ e)) h);
+    tuple = lent-bound .each;
   }
 
-  lent-bound : Bound (stateOf ar n constants facts) []
-  unfolding stateOf
-  lent-bound = record { each = λ i. lent-good .placed 0 }
-
-  pub lent-fixed : (t : ℕ) → fixed (stateOf ar n constants facts) [] t ≡ fixedIn constants t
+  pub lent-fixed : (t : ℕ) → fixed (stateOf ar n constants facts) os t ≡ fixedIn constants os t
   unfolding stateOf fixed fixedIn
-  lent-fixed t = by-low (fixed (stateOf ar n constants facts) [] t ≡ fixedIn constants t) firstParameter t
-      (λ h. low-lt firstParameter t _ (getD constants 0 0) h ∙ low-lt constantCount t (getD constants t 0) 0 h ∙ sym (low-lt firstParameter t (getD constants t 0) (getD constants 0 0) h))
-      (λ h. low-ge firstParameter t (low constantCount t (getD constants t 0) 0) (getD constants 0 0) h ∙ sym (low-ge firstParameter t (getD constants t 0) (getD constants 0 0) h))
+  lent-fixed t = by-low (fixed st os t ≡ fixedIn constants os t) firstParameter t
+      (λ h. low-lt firstParameter t _ (getD os (t - firstParameter) (getD constants 0 0)) h ∙ low-lt constantCount t (getD constants t 0) 0 h
+      ∙ sym (low-lt firstParameter t (getD constants t 0) (getD os (t - firstParameter) (getD constants 0 0)) h))
+      (λ h. low-ge firstParameter t (low constantCount t (getD constants t 0) 0) (getD os (t - firstParameter) (getD constants 0 0)) h
+      ∙ sym (low-ge firstParameter t (getD constants t 0) (getD os (t - firstParameter) (getD constants 0 0)) h))
 
-  pub fixed-below : (t : ℕ) → fixedIn constants t < n
+  pub fixed-below : (t : ℕ) → fixedIn constants os t < n
   unfolding fixedIn
-  fixed-below t = by-low (fixedIn constants t < n) firstParameter t
-      (λ h. rw (low-lt firstParameter t (getD constants t 0) (getD constants 0 0) h) (f .placed t h))
-      (λ h. rw (low-ge firstParameter t (getD constants t 0) (getD constants 0 0) h) (f .placed 0 (omega arith)))
+  fixed-below t = by-low (fixedIn constants os t < n) firstParameter t
+      (λ h. rw (low-lt firstParameter t (getD constants t 0) (getD os (t - firstParameter) (getD constants 0 0)) h) (state-lendable .placed t h))
+      (λ h. rw (low-ge firstParameter t (getD constants t 0) (getD os (t - firstParameter) (getD constants 0 0)) h) (state-lendable .tuple (t - firstParameter)))
 
-  module _ (env : List ℕ) (s : Started constants env) (θ : ℕ → ℕ) where
-    fits-extends : Fits (stateOf ar n constants facts) [] θ → Extends n env θ
+  module _ (env : List ℕ) (s : Started constants os env) (θ : ℕ → ℕ) where
+    fits-extends : Fits (stateOf ar n constants facts) os θ → Extends n env θ
     unfolding stateOf
     fits-extends x = record {
       agrees = λ t l h. by-low (θ t ≡ getD env t 0) firstVariable t
@@ -200,13 +214,14 @@ module _ (ar : List ℕ) (n : ℕ) (constants facts : List ℕ) (f : Lendable n 
       range = x .range;
     }
 
-    extends-fits : n ≤ free → Extends n env θ → Fits (stateOf ar n constants facts) [] θ
+    extends-fits : n ≤ free → Extends n env θ → Fits (stateOf ar n constants facts) os θ
     unfolding stateOf
     extends-fits m x = record {
       low = λ t k. x .agrees t (omega arith) (λ z. omega (arith, s .bound t k, fixed-below t)) ∙ s .bound t k ∙ sym (lent-fixed t);
       range = x .range;
     }
 
+module _ (ar : List ℕ) (n : ℕ) (constants facts : List ℕ) where
   lent-truth : (p : ℕ) (os : List ℕ) → truth (stateOf ar n constants facts) p os ≡ lentTruth ar facts p os
   unfolding stateOf
   lent-truth zero os = refl
@@ -218,61 +233,72 @@ module _ (ar : List ℕ) (n : ℕ) (constants facts : List ℕ) (f : Lendable n 
   lent-value θ (branch l t g) = rw (lent-truth (predicateOf l) (map θ (termsOf ar (unpacked l))), lent-value θ t, lent-value θ g)
 
 pub topping-start : (ar ws : List ℕ) (m : ℕ) → isListing ar ws ≡ true → mostRows ≤ m → Topping ws (replicate m 0)
-topping-start ar ws m e h =
-    let v = listing-is-valid ar ws e in
-    record { arities = ar; valid = v; places = omega (arith, v .few, length-replicate {A = ℕ} m 0) }
+topping-start ar ws m e h = topping-room ar ws (replicate m 0) e (rw length-replicate h)
 
 pub listing-some : (ar ws : List ℕ) → isListing ar ws ≡ true → 1 ≤ rowCount ws
 listing-some ar ws e = listing-is-valid ar ws e .some
 
--- the search may begin
-pub start-ready : {ar ws high : List ℕ} {n : ℕ} {constants facts env index : List ℕ} → isListing ar ws ≡ true → isState ar n constants facts ≡ true → n ≤ free
-    → Started constants env → Tops ws high (rowCount ws) → length high ≡ length {A = ℕ} (replicate mostRows 0) → Indexed ar facts index (indexedCount facts)
-    → Ready ws high ar facts index env n
-start-ready {ar} {ws} {high} {n} {constants} {facts} {env} {index} a b m s t h i =
-    let v = listing-is-valid ar ws a in
-    let f = state-lendable ar n constants facts b in
-    record {
-      valid = v;
-      places = omega (arith, v .few, length-replicate {A = ℕ} mostRows 0);
-      tops = t;
-      indexed = i;
-      env-fits = record {
-        places = s .places;
-        some = f .some;
-        most = m;
-        range = λ t l z. by-low (getD env t 0 < n) firstVariable t
-            (λ k. rw (s .bound t k) (fixed-below ar n constants facts f t))
-            (λ k. absurd (z (s .unbound t k l)));
-      };
-    }
+-- the listing and the state are prepared
+pub start-prepared : {ar ws high : List ℕ} {n : ℕ} {constants facts index : List ℕ} → isListing ar ws ≡ true → isState ar n constants facts ≡ true
+    → Tops ws high (rowCount ws) → length high ≡ length {A = ℕ} (replicate mostRows 0) → Indexed ar facts index (indexedCount facts)
+    → Prepared ar ws high n constants facts index
+start-prepared {ar} {ws} {high} {n} {constants} {facts} {index} a b t h i =
+    prepared ar ws high n constants facts index a b (omega (arith, length-replicate {A = ℕ} mostRows 0)) t i
 
--- and its end is the value
-module _ {ar ws high : List ℕ} {n : ℕ} {constants facts env index : List ℕ} {b : ℕ} {env′ : List ℕ} (a : isListing ar ws ≡ true) (e : isState ar n constants facts ≡ true)
-    (s : Started constants env) (q : Ready ws high ar facts index env n) (t : Best ar facts ws env n (rowCount ws - 1) 0 b env′) where
-  pub found-some : 0 < b
-  found-some = let h = t .above (filled env) (filled-extends (q .env-fits)) in omega arith
+module _ {ar ws high : List ℕ} {n : ℕ} {constants facts index : List ℕ} (p : Prepared ar ws high n constants facts index) where
+  pub root-some : 1 ≤ rowCount ws
+  root-some = listing-some ar ws (p .listed)
+
+  pub root-read : rowCount ws - 1 < length high
+  root-read = omega (arith, root-some, p .places)
 
   leaf-value : (θ : ℕ → ℕ) → value (stateOf ar n constants facts) (meaning ar (diagramOf ws)) θ ≡ leafFrom ar facts ws θ (rowCount ws - 1)
   unfolding leafFrom
   leaf-value θ =
-      lent-value ar n constants facts (state-lendable ar n constants facts e) θ (diagramOf ws)
-      ∙ ap (eval (lentHolds ar facts θ)) (diagram-is ar ws (q .valid) ∙ ap (tree ws) (omega arith))
+      lent-value ar n constants facts θ (diagramOf ws)
+      ∙ ap (eval (lentHolds ar facts θ)) (diagram-is ar ws (listing-is-valid ar ws (p .listed)) ∙ ap (tree ws) (omega arith))
 
-  pub found-highest : b - 1 ≡ highest (stateOf ar n constants facts) [] (meaning ar (diagramOf ws))
-  found-highest = max-one (top (t .hit)) (highest-is st [] (lent-good ar n constants facts f) (lent-bound ar n constants facts f) (meaning ar (diagramOf ws)))
-    where
-      f : Lendable n constants
-      f = state-lendable ar n constants facts e
+  module _ (os : List ℕ) (o : allBelow n os ≡ true) where
+    best-is : Highest (stateOf ar n constants facts) os (meaning ar (diagramOf ws)) (boundHighest ar ws n constants facts os)
+    best-is = highest-is (stateOf ar n constants facts) os (lent-good ar n constants facts (p .lent)) (lent-bound ar n constants facts os (p .lent) o) (meaning ar (diagramOf ws))
 
-      st : State
-      st = stateOf ar n constants facts
+    -- no leaf below the root passes the best so far
+    pub root-cut : {best : ℕ} → getD high (rowCount ws - 1) 0 < best → best ≡ max best (suc (boundHighest ar ws n constants facts os))
+    unfolding leafFrom
+    root-cut {best} h =
+        let θ = best-is .point in
+        let v = best-is .value in
+        omega (arith, leaf-value θ, p .tops .bound (rowCount ws - 1) (omega (arith, root-some)) (lentHolds ar facts θ))
 
-      top : Hit ar facts ws env n (rowCount ws - 1) 0 b → Highest st [] (meaning ar (diagramOf ws)) (b - 1)
-      top (old z) = absurd (omega (arith, found-some))
-      top (new θ x z) = record {
-        point = θ;
-        inside = extends-fits ar n constants facts f env s θ (q .env-fits .most) x;
-        value = omega (arith, leaf-value θ);
-        bound = λ η y. omega (arith, leaf-value η, t .above η (fits-extends ar n constants facts f env s η y));
+    module _ {env : List ℕ} (s : Started constants os env) (m : n ≤ free) where
+      -- the search may begin
+      pub start-ready : Ready ws high ar facts index env n
+      start-ready = record {
+        valid = listing-is-valid ar ws (p .listed);
+        places = p .places;
+        tops = p .tops;
+        indexed = p .indexed;
+        env-fits = record {
+          places = s .places;
+          some = state-lendable ar n constants facts os (p .lent) o .some;
+          most = m;
+          range = λ t l z. by-low (getD env t 0 < n) firstVariable t
+              (λ k. rw (s .bound t k) (fixed-below ar n constants facts os (p .lent) o t))
+              (λ k. absurd (z (s .unbound t k l)));
+        };
       }
+
+      -- and its end is the higher of the best so far and the value
+      pub found-highest : {best b : ℕ} {env′ : List ℕ} → Best ar facts ws env n (rowCount ws - 1) best b env′ → b ≡ max best (suc (boundHighest ar ws n constants facts os))
+      found-highest {best} {b} t =
+          let θ = best-is .point in
+          let v = best-is .value in
+          let k = t .kept in
+          let l = t .above θ (fits-extends ar n constants facts os (p .lent) o env s θ (best-is .inside)) in
+          omega (arith, leaf-value θ, top (t .hit))
+        where
+          top : Hit ar facts ws env n (rowCount ws - 1) best b → b ≤ max best (suc (boundHighest ar ws n constants facts os))
+          top (old z) = omega arith
+          top (new θ x z) =
+              let f = best-is .bound θ (extends-fits ar n constants facts os (p .lent) o env s θ m x) in
+              omega (arith, leaf-value θ)

@@ -17,16 +17,16 @@ use Rattle.diagram.specs.Listing.{diagramOf}
 use Rattle.diagram.specs.Validity.{Valid}
 use Rattle.diagram.specs.ListingValid.{listing-is-valid}
 use Rattle.state.specs.declared.Valued.the-variants.{Value, Refused}
-use Rattle.state.specs.Max.{none}
 use Rattle.state.specs.State.{State, Good, Fits, meaning, fixed}
 use Rattle.state.specs.ValueLaws.{by-low}
-use Rattle.state.specs.Highest.{start, highest}
-use Rattle.state.specs.HighestLaws.{bound-tuple, start-fits}
-use Rattle.state.specs.Lent.{stateOf, isState}
+use Rattle.state.specs.Highest.{start, highest, Bound}
+use Rattle.state.specs.HighestLaws.{start-fits}
+use Rattle.state.specs.Lent.{allBelow, stateOf, isState}
 use Rattle.elimination.specs.Elimination.{rowTable, tables, rootTable, entriesTo, allEntries, mostEntries}
 use Rattle.elimination.specs.Tables.{leafTable}
 use Rattle.elimination.specs.RowLaws.{table-at}
-use Rattle.elimination.specs.AnswerLaws.{lent-good, lent-names, lent-value}
+use Rattle.elimination.specs.RootLaws.{root-names, root-value}
+use Rattle.elimination.specs.AnswerLaws.{lent-good}
 use Rattle.eliminate.specs.Masks.{namesOf, envOf, placeOf}
 use Rattle.eliminate.specs.MaskLaws.{of-zero}
 use Rattle.eliminate.specs.Calls.{setAt, startAt, Stored}
@@ -38,7 +38,7 @@ use Rattle.eliminate.specs.declared.Reached.the-variants.{At, Over}
 use Rattle.valuing.specs.Search.{fixedIn, Placing}
 use Rattle.valuing.specs.Tables.{tablesAnswer}
 use Rattle.valuing.proofs.FactLaws.{read-past}
-use Rattle.valuing.proofs.StartLaws.{Lendable, state-lendable, lent-fixed, fixed-below}
+use Rattle.valuing.proofs.StartLaws.{Lendable, state-lendable, lent-bound, lent-fixed, fixed-below}
 
 pub few-rows : (ar ws : List ℕ) → isListing ar ws ≡ true → rowCount ws ≤ mostRows
 few-rows ar ws e = listing-is-valid ar ws e .few
@@ -63,20 +63,24 @@ no-objects t = by-low (getD zeros t 0 ≡ 0) termEnd t
     (λ h. getD-replicate {A = ℕ} termEnd t 0 0 h)
     (λ h. sym (read-past zeros t (omega (arith, length-replicate {A = ℕ} termEnd 0))))
 
-module _ (ar ws : List ℕ) (n : ℕ) (constants facts : List ℕ) (listed : isListing ar ws ≡ true) (lent : isState ar n constants facts ≡ true) where
+module _ (ar ws : List ℕ) (n : ℕ) (constants facts os : List ℕ) (listed : isListing ar ws ≡ true) (lent : isState ar n constants facts ≡ true)
+    (below : allBelow n os ≡ true) where
   abbrev s : State
   s = stateOf ar n constants facts
 
-  lendable : Lendable n constants
-  lendable = state-lendable ar n constants facts lent
+  lendable : Lendable n constants os
+  lendable = state-lendable ar n constants facts os lent below
 
   good : Good (stateOf ar n constants facts)
   good = lent-good ar n constants facts lent
 
-  module _ {env : List ℕ} (p : Placing constants zeros env firstVariable) where
+  bound : Bound (stateOf ar n constants facts) os
+  bound = lent-bound ar n constants facts os lent below
+
+  module _ {env : List ℕ} (p : Placing constants os zeros env firstVariable) where
     in-range : (t : ℕ) → envOf env t < n
     in-range t = by-low (getD env t 0 < n) firstVariable t
-        (λ k. rw (p .bound t k) (fixed-below ar n constants facts lendable t))
+        (λ k. rw (p .bound t k) (fixed-below ar n constants facts os lent below t))
         (λ k. rw (p .others t k, no-objects t) (lendable .some))
 
     -- nothing is worked out yet
@@ -96,30 +100,30 @@ module _ (ar ws : List ℕ) (n : ℕ) (constants facts : List ℕ) (listed : isL
           ends = λ j h. absurd (omega arith);
         }
 
-    tables-begun : (heads space : List ℕ) → Tabled s ar facts ws heads space env n 0 0
+    tables-begun : (heads space : List ℕ) → Tabled s os ar facts ws heads space env n 0 0
     unfolding stateOf entriesTo
     tables-begun heads space = record {
       said = record {
         good = good;
         size-is = refl;
         facts-are = refl;
-        fits = record { low = λ t h. p .bound t h ∙ sym (lent-fixed ar n constants facts lendable t); range = in-range };
+        fits = record { low = λ t h. p .bound t h ∙ sym (lent-fixed ar n constants facts os lent below t); range = in-range };
       };
       holds = λ j h. absurd (omega arith);
       count = refl;
     }
 
     module _ {above heads space : List ℕ} {r : Reached} {heads′ space′ env′ : List ℕ} (f : Finished ar facts ws above heads space env n r heads′ space′ env′) where
-      pub tables-over : r ≡ Over → Refused Valuations ≡ tablesAnswer ar ws n constants facts
+      pub tables-over : r ≡ Over → Refused Valuations ≡ tablesAnswer ar ws n constants facts os
       unfolding tablesAnswer
-      tables-over e = rw (lt-ltb mostEntries (allEntries s [] ar ws) (f .over e s (tables-begun heads space)))
+      tables-over e = rw (lt-ltb mostEntries (allEntries s os ar ws) (f .over e s os (tables-begun heads space)))
 
       module _ {next used : ℕ} (e : r ≡ At next used) where
         ready : Ready ar ws above heads′ space′ env′ n (rowCount ws) next used
         ready = f .ready next used e
 
-        tabled : Tabled s ar facts ws heads′ space′ env′ n (rowCount ws) used
-        tabled = f .tabled next used e s (tables-begun heads space)
+        tabled : Tabled s os ar facts ws heads′ space′ env′ n (rowCount ws) used
+        tabled = f .tabled next used e s os (tables-begun heads space)
 
         abbrev root : ℕ
         root = rowCount ws - 1
@@ -133,11 +137,11 @@ module _ (ar ws : List ℕ) (n : ℕ) (constants facts : List ℕ) (listed : isL
             let z : pred (rowCount ws) ≡ root = omega arith in
             sym (ap (λ (i : ℕ). getD (tables s ar ws (rowCount ws)) i (leafTable 0)) z ∙ table-at s ar ws (rowCount ws) root last)
 
-        holds : Holds s heads′ space′ root (rootTable s ar ws)
-        holds = subst (Holds s heads′ space′ root) root-is (tabled .holds root last)
+        holds : Holds s os heads′ space′ root (rootTable s ar ws)
+        holds = subst (Holds s os heads′ space′ root) root-is (tabled .holds root last)
 
         no-names : namesOf (setAt heads′ root) ≡ []
-        no-names = holds .names-are ∙ lent-names ar ws n constants facts listed lent
+        no-names = holds .names-are ∙ root-names s os good bound ar ws listed
 
         stored : Stored heads′ space′ n root
         stored = ready .stored root last
@@ -152,19 +156,19 @@ module _ (ar ws : List ℕ) (n : ℕ) (constants facts : List ℕ) (listed : isL
             let w : startAt heads′ root + n ^ 0 ≤ length space′ = subst (λ (xs : List ℕ). startAt heads′ root + n ^ length xs ≤ length space′) no-names q in
             omega (arith, pow-zero n)
 
-        few-entries : allEntries s [] ar ws ≤ mostEntries
+        few-entries : allEntries s os ar ws ≤ mostEntries
         unfolding allEntries
         few-entries = subst (λ (x : ℕ). x ≤ mostEntries) (tabled .count) (ready .used-few)
 
-        pub tables-value : {a : ℕ} → a ≡ getD heads′ (root * 2 + 1) 0 → Value (getD space′ a 0) ≡ tablesAnswer ar ws n constants facts
+        pub tables-value : {a : ℕ} → a ≡ getD heads′ (root * 2 + 1) 0 → Value (getD space′ a 0) ≡ tablesAnswer ar ws n constants facts os
         unfolding tablesAnswer startAt placeOf
         tables-value {a} q =
-            let few : allEntries s [] ar ws ≤ mostEntries = few-entries in
-            let entry = holds .entry (start s []) (start-fits s [] good (bound-tuple good none)) in
-            let place : startAt heads′ root + placeOf (s .size) (rootTable s ar ws .names) (start s []) ≡ a =
-            ap (λ (xs : List ℕ). startAt heads′ root + placeOf (s .size) xs (start s [])) (lent-names ar ws n constants facts listed lent) ∙ here ∙ sym q in
-            rw (le-ltb mostEntries (allEntries s [] ar ws) few)
-            (ap Value (ap (λ (x : ℕ). getD space′ x 0) (sym place) ∙ entry ∙ lent-value ar ws n constants facts listed lent))
+            let few : allEntries s os ar ws ≤ mostEntries = few-entries in
+            let entry = holds .entry (start s os) (start-fits s os good bound) in
+            let place : startAt heads′ root + placeOf (s .size) (rootTable s ar ws .names) (start s os) ≡ a =
+            ap (λ (xs : List ℕ). startAt heads′ root + placeOf (s .size) xs (start s os)) (root-names s os good bound ar ws listed) ∙ here ∙ sym q in
+            rw (le-ltb mostEntries (allEntries s os ar ws) few)
+            (ap Value (ap (λ (x : ℕ). getD space′ x 0) (sym place) ∙ entry ∙ root-value s os good bound ar ws listed))
           where
             here : startAt heads′ root + 0 ≡ getD heads′ (root * 2 + 1) 0
             here = omega arith

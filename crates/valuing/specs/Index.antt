@@ -76,6 +76,11 @@ pub record Indexed (ar facts index : List ℕ) (n : ℕ) : Type 0 where
   pub head : (b : ℕ) → b < buckets → getD index b 0 ≡ prev (bucketAt ar facts) b n
   pub link : (i : ℕ) → i < n → getD index (buckets + i) 0 ≡ prev (bucketAt ar facts) (bucketAt ar facts i) i
 
+-- an index with no rows, of whatever facts: no bucket has a head
+pub record Clean (index : List ℕ) : Type 0 where
+  pub places : buckets + mostIndexed ≤ length index
+  pub heads : (b : ℕ) → b < buckets → getD index b 0 ≡ 0
+
 -- env has a word for each term, and the first k places of the label l are terms
 pub record Placed (env : List ℕ) (l k : ℕ) : Type 0 where
   pub words : length env ≡ termEnd

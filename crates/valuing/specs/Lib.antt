@@ -1,4 +1,7 @@
--- What the value call's parts keep and answer: its index of facts, its search, and its second way of working.
+-- What the value call's parts keep and answer: its index of facts, its search, its second way of working, and values with objects for the parameters.
 pub mod Index
 pub mod Search
 pub mod Tables
+pub mod Walks
+-- laws
+pub mod WalkLaws

@@ -2,7 +2,7 @@
 use mathlib.Core.Path.{_≡_}
 use mathlib.Core.Bool.{Bool, true, cond}
 use mathlib.Core.List.{List, [], _∷_, map}
-use Prim.Native.Nat.{ℕ, zero, suc, _+_, _≤_, _<_, max}
+use Prim.Native.Nat.{ℕ, zero, suc, _+_, _-_, _≤_, _<_, max}
 use lib.ListN.{length, getD}
 use lib.Dec.{eqb}
 use Rattle.label.specs.Limits.{termEnd, leafMark, firstParameter, firstVariable}
@@ -64,20 +64,20 @@ pub record Env (n : ℕ) (env : List ℕ) : Type 0 where
   pub most : n ≤ free
   pub range : (t : ℕ) → t < termEnd → (getD env t 0 ≡ free → ⊥) → getD env t 0 < n
 
--- what a term that is no variable has: a constant its object, a parameter that of constant 0
-unfoldable pub fixedIn : List ℕ → ℕ → ℕ
-fixedIn constants t = low firstParameter t (getD constants t 0) (getD constants 0 0)
+-- what a term that is no variable has: a constant its object, a parameter its object of os, and that of constant 0 where os has none
+unfoldable pub fixedIn : List ℕ → List ℕ → ℕ → ℕ
+fixedIn constants os t = low firstParameter t (getD constants t 0) (getD os (t - firstParameter) (getD constants 0 0))
 
 -- the first m terms have their objects, the others what they had before
-pub record Placing (constants env₀ env : List ℕ) (m : ℕ) : Type 0 where
+pub record Placing (constants os env₀ env : List ℕ) (m : ℕ) : Type 0 where
   pub places : length env ≡ termEnd
-  pub bound : (t : ℕ) → t < m → getD env t 0 ≡ fixedIn constants t
+  pub bound : (t : ℕ) → t < m → getD env t 0 ≡ fixedIn constants os t
   pub others : (t : ℕ) → m ≤ t → getD env t 0 ≡ getD env₀ t 0
 
 -- the terms that are no variables have their objects, the variables none
-pub record Started (constants env : List ℕ) : Type 0 where
+pub record Started (constants os env : List ℕ) : Type 0 where
   pub places : length env ≡ termEnd
-  pub bound : (t : ℕ) → t < firstVariable → getD env t 0 ≡ fixedIn constants t
+  pub bound : (t : ℕ) → t < firstVariable → getD env t 0 ≡ fixedIn constants os t
   pub unbound : (t : ℕ) → firstVariable ≤ t → t < termEnd → getD env t 0 ≡ free
 
 -- how many terms have no object yet

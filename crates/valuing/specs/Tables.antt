@@ -1,9 +1,11 @@
 -- What the second way of working answers where there are too many valuations (document 02, L6).
+use mathlib.Core.Path.{_≡_}
 use mathlib.Core.Bool.{cond}
-use mathlib.Core.List.{List, []}
-use Prim.Native.Nat.{ℕ}
+use mathlib.Core.List.{List}
+use Prim.Native.Nat.{ℕ, _≤_}
 use lib.Dec.{ltb}
 use Rattle.refusal.specs.declared.Refusal.the-variants.{Valuations}
+use Rattle.diagram.specs.Sizes.{highestValue}
 use Rattle.diagram.specs.Listing.{diagramOf}
 use Rattle.state.specs.declared.Valued.{Valued}
 use Rattle.state.specs.declared.Valued.the-variants.{Value, Refused}
@@ -12,8 +14,12 @@ use Rattle.state.specs.Highest.{highest}
 use Rattle.state.specs.Lent.{stateOf}
 use Rattle.elimination.specs.Elimination.{mostEntries, allEntries}
 
--- 15 where the tables have too many entries, else the highest leaf
-unfoldable pub tablesAnswer : List ℕ → List ℕ → ℕ → List ℕ → List ℕ → Valued
-tablesAnswer ar ws n constants facts =
-    cond (ltb mostEntries (allEntries (stateOf ar n constants facts) [] ar ws)) (Refused Valuations)
-    (Value (highest (stateOf ar n constants facts) [] (meaning ar (diagramOf ws))))
+-- 15 where the tables have too many entries, else the highest leaf, with the objects os for the parameters
+unfoldable pub tablesAnswer : List ℕ → List ℕ → ℕ → List ℕ → List ℕ → List ℕ → Valued
+tablesAnswer ar ws n constants facts os =
+    cond (ltb mostEntries (allEntries (stateOf ar n constants facts) os ar ws)) (Refused Valuations)
+    (Value (highest (stateOf ar n constants facts) os (meaning ar (diagramOf ws))))
+
+-- an answer that has room for one more
+pub record Liftable (r : Valued) : Type 0 where
+  pub few : (v : ℕ) → r ≡ Value v → v ≤ highestValue

@@ -1,21 +1,19 @@
-// The value call: an index of the facts, a pruned walk over the rows, and the checks before it.
+// The value call: an index of the facts, a pruned walk over the rows, and the checks before it; and the walk alone, with objects for the parameters, on what is prepared once.
 ghost use mathlib.Core.Path.{_≡_};
 ghost use mathlib.Core.Bool.{true, false, not, cond};
 ghost use mathlib.Core.List.{[]};
-ghost use Prim.Native.Nat.{_+_, _-_, _*_, _^_, _<_, _≤_};
+ghost use Prim.Native.Nat.{suc, _+_, _-_, _*_, _^_, _<_, _≤_, max};
 ghost use lib.ListN.{length, getD};
 ghost use lib.Dec.{eqb, ltb, leb};
 ghost use Rattle.label.specs.Limits.{mostPlaces, termEnd, firstParameter, parameterCount, firstVariable};
 ghost use Rattle.diagram.specs.Words.{highAt, lowAt, rowCount, isListing, everyBelow};
-ghost use Rattle.diagram.specs.Listing.{diagramOf};
 ghost use Rattle.listing.specs.Used.{setFrom};
-ghost use Rattle.state.specs.State.{meaning};
-ghost use Rattle.state.specs.Highest.{highest};
-ghost use Rattle.state.specs.Lent.{factWords, factCount, someBelow, namesBelow, constantsBelow, stateOf, isState};
+ghost use Rattle.state.specs.Lent.{factWords, factCount, someBelow, allBelow, namesBelow, constantsBelow, isState};
 ghost use Rattle.state.specs.ValueCall.{mostValuations};
 ghost use Rattle.elimination.specs.Answer.{valueAnswer};
-ghost use Rattle.valuing.specs.Index.{buckets, mostIndexed, indexedCount, placeCount, hashEnd, hashGap, hashStart, hashStep, bucketFor, bucketAt, says, Indexed, Placed, Asked, Sought};
-ghost use Rattle.valuing.specs.Tables.{tablesAnswer};
+ghost use Rattle.valuing.specs.Index.{buckets, mostIndexed, indexedCount, placeCount, hashEnd, hashGap, hashStart, hashStep, bucketFor, bucketAt, says, Indexed, Clean, Placed, Asked, Sought};
+ghost use Rattle.valuing.specs.Tables.{tablesAnswer, Liftable};
+ghost use Rattle.valuing.specs.Walks.{boundHighest, boundAnswer, climbed, isFew, Prepared};
 ghost use Rattle.valuing.specs.Search.{free, Topping, Tops, topAt, fixedIn, Placing, lentHolds, given, Labelled, LooksUp, Telling, Best, Ready};
 use eliminate::Reached;
 use label::Label;
@@ -37,6 +35,8 @@ const FREE: u64 = 18446744073709551615;
 const BUCKETS: usize = 2048;
 // Rows of facts in the index at most.
 const INDEXED: usize = 4096;
+// Words of the index of facts.
+pub const INDEX_WORDS: usize = BUCKETS + INDEXED;
 // Of a fact's number, and of an object, what is below this counts.
 const HASH_END: u64 = 4294967296;
 // The numbers of predicates stand so far apart.
@@ -95,9 +95,9 @@ fn row_bucket(arities: &[u64], facts: &[u64], i: usize) -> usize
     bucket(h)
 }
 
-// Makes the index of the facts.
-fn index_facts(arities: &[u64], facts: &[u64], index: &mut [u16])
-    requires { ⌜ Indexed (now arities) (now facts) (now index) 0 ⌝ }
+// Makes the index of the facts in a clean one.
+pub fn index_facts(arities: &[u64], facts: &[u64], index: &mut [u16])
+    requires { ⌜ Clean (now index) ⌝ }
     ensures { λ _. ⌜ Indexed (now (arities .entry)) (now (facts .entry)) (now (index .exit)) (indexedCount (now (facts .entry))) ⌝ }
 {
     let rows = facts.len() / FACT_WORDS;
@@ -110,6 +110,23 @@ fn index_facts(arities: &[u64], facts: &[u64], index: &mut [u16])
         index[BUCKETS + i] = index[h];
         index[h] = (i + 1) as u16;
         i += 1;
+    }
+}
+
+// Cleans the index of the facts: only their buckets are written.
+pub fn clear_index(arities: &[u64], facts: &[u64], index: &mut [u16])
+    requires { ⌜ Indexed (now arities) (now facts) (now index) (indexedCount (now facts)) ⌝ }
+    ensures { λ _. ⌜ Clean (now (index .exit)) ⌝ }
+{
+    let rows = facts.len() / FACT_WORDS;
+    let mut row = 0;
+    while row < rows {
+        if row == INDEXED {
+            return;
+        }
+        let h = row_bucket(arities, facts, row);
+        index[h] = 0;
+        row += 1;
     }
 }
 
@@ -320,7 +337,7 @@ fn top(words: &[u64], high: &[u64], i: usize) -> u64
 }
 
 // Each row's highest leaf.
-fn tops(words: &[u64], high: &mut [u64])
+pub fn tops(words: &[u64], high: &mut [u64])
     requires { ⌜ Topping (now words) (now high) ⌝ }
     ensures { λ _. ⌜ Tops (now (words .entry)) (now (high .exit)) (rowCount (now (words .entry))) ⌝ }
 {
@@ -343,43 +360,87 @@ fn constant(constants: &[u64], c: usize) -> u64
     0
 }
 
-// The object of the term t, which is no variable.
-fn fixed(constants: &[u64], t: usize) -> u64
-    ensures { λ r. ⌜ r ≡ fixedIn (now (constants .entry)) t ⌝ }
+// The object of the term t, which is no variable: a parameter that has no object has that of constant 0.
+fn fixed(constants: &[u64], objects: &[u64], t: usize) -> u64
+    ensures { λ r. ⌜ r ≡ fixedIn (now (constants .entry)) (now (objects .entry)) t ⌝ }
 {
-    if t < (Term::CONSTANTS as usize) {
+    if t < (Term::FIRST_PARAMETER as usize) {
         return constant(constants, t);
+    }
+    let k = t - (Term::FIRST_PARAMETER as usize);
+    if k < objects.len() {
+        return objects[k];
     }
     constant(constants, 0)
 }
 
 // Gives the terms that are no variables their objects.
-fn start(constants: &[u64], env: &mut [u64])
+fn start(constants: &[u64], objects: &[u64], env: &mut [u64])
     requires { ⌜ length (now env) ≡ termEnd ⌝ }
-    ensures { λ _. ⌜ Placing (now (constants .entry)) (now (env .entry)) (now (env .exit)) firstVariable ⌝ }
+    ensures { λ _. ⌜ Placing (now (constants .entry)) (now (objects .entry)) (now (env .entry)) (now (env .exit)) firstVariable ⌝ }
 {
     let mut t = 0;
     while t < (Term::FIRST_VARIABLE as usize) {
-        let o = fixed(constants, t);
+        let o = fixed(constants, objects, t);
         env[t] = o;
         t += 1;
     }
 }
 
-// The highest leaf of a listing over all valuations of a state.
-pub fn highest_leaf(arities: &[u64], words: &[u64], n: u64, constants: &[u64], facts: &[u64]) -> u64
+// The higher of best and one more than the highest leaf, by the walk over rows: it is abandoned where it cannot pass best.
+fn climb_rows(
+    arities: &[u64],
+    words: &[u64],
+    high: &[u64],
+    n: u64,
+    constants: &[u64],
+    facts: &[u64],
+    index: &[u16],
+    objects: &[u64],
+    best: u64,
+) -> u64
+    requires { ⌜ Prepared (now arities) (now words) (now high) n (now constants) (now facts) (now index) ⌝ }
+    requires { ⌜ allBelow n (now objects) ≡ true ⌝ }
+    ensures { λ r. ⌜ r ≡ max best (suc (boundHighest (now (arities .entry)) (now (words .entry)) n (now (constants .entry)) (now (facts .entry)) (now (objects .entry)))) ⌝ }
+{
+    let root = words.len() / 3 - 1;
+    if high[root] < best {
+        return best;
+    }
+    let mut env = [FREE; Term::END as usize];
+    start(constants, objects, &mut env);
+    go(words, high, arities, facts, index, &mut env, n, root, best)
+}
+
+// The highest leaf of a listing over all valuations of a state, with objects for the parameters.
+fn highest_leaf(
+    arities: &[u64],
+    words: &[u64],
+    n: u64,
+    constants: &[u64],
+    facts: &[u64],
+    objects: &[u64],
+) -> u64
     requires { ⌜ isListing (now arities) (now words) ≡ true ⌝ }
     requires { ⌜ isState (now arities) n (now constants) (now facts) ≡ true ⌝ }
-    ensures { λ r. ⌜ r ≡ highest (stateOf (now (arities .entry)) n (now (constants .entry)) (now (facts .entry))) [] (meaning (now (arities .entry)) (diagramOf (now (words .entry)))) ⌝ }
+    requires { ⌜ allBelow n (now objects) ≡ true ⌝ }
+    ensures { λ r. ⌜ r ≡ boundHighest (now (arities .entry)) (now (words .entry)) n (now (constants .entry)) (now (facts .entry)) (now (objects .entry)) ⌝ }
 {
     let mut high = [0u64; diagram::ROWS];
     tops(words, &mut high);
-    let mut env = [FREE; Term::END as usize];
-    start(constants, &mut env);
-    let mut index = [0u16; BUCKETS + INDEXED];
+    let mut index = [0u16; INDEX_WORDS];
     index_facts(arities, facts, &mut index);
-    let root = words.len() / 3 - 1;
-    let best = go(words, &high, arities, facts, &index, &mut env, n, root, 0);
+    let best = climb_rows(
+        arities,
+        words,
+        &high,
+        n,
+        constants,
+        facts,
+        &index,
+        objects,
+        0,
+    );
     best - 1
 }
 
@@ -480,15 +541,23 @@ pub fn state_fits(arities: &[u64], n: u64, constants: &[u64], facts: &[u64]) -> 
 }
 
 // The second way of working: by tables, unless these have too many entries.
-fn by_tables(arities: &[u64], words: &[u64], n: u64, constants: &[u64], facts: &[u64]) -> Valued
+fn by_tables(
+    arities: &[u64],
+    words: &[u64],
+    n: u64,
+    constants: &[u64],
+    facts: &[u64],
+    objects: &[u64],
+) -> Valued
     requires { ⌜ isListing (now arities) (now words) ≡ true ⌝ }
     requires { ⌜ isState (now arities) n (now constants) (now facts) ≡ true ⌝ }
-    ensures { λ r. ⌜ r ≡ tablesAnswer (now (arities .entry)) (now (words .entry)) n (now (constants .entry)) (now (facts .entry)) ⌝ }
+    requires { ⌜ allBelow n (now objects) ≡ true ⌝ }
+    ensures { λ r. ⌜ r ≡ tablesAnswer (now (arities .entry)) (now (words .entry)) n (now (constants .entry)) (now (facts .entry)) (now (objects .entry)) ⌝ }
 {
     let mut above = [0u64; diagram::ROWS];
     eliminate::find_above(arities, words, &mut above);
     let mut env = [0u64; Term::END as usize];
-    start(constants, &mut env);
+    start(constants, objects, &mut env);
     let mut heads = [0u64; diagram::ROWS * 2];
     let mut space = [0u64; eliminate::ENTRIES as usize];
     let Reached::At(next, used) = eliminate::work(
@@ -508,6 +577,106 @@ fn by_tables(arities: &[u64], words: &[u64], n: u64, constants: &[u64], facts: &
     Valued::Value(space[at])
 }
 
+// The best so far after the answer r.
+fn lifted(r: Valued, best: u64) -> Valued
+    requires { ⌜ Liftable r ⌝ }
+    ensures { λ x. ⌜ x ≡ climbed best r ⌝ }
+{
+    let Valued::Value(v) = r else {
+        return r;
+    };
+    if v < best {
+        return Valued::Value(best);
+    }
+    Valued::Value(v + 1)
+}
+
+// One value more, with objects for the parameters, on rows and facts prepared once: the higher of best and one more than the highest leaf. best is one more than the best
+// leaf so far, 0 for none; few says that the first way of working may be taken.
+pub fn climb(
+    arities: &[u64],
+    words: &[u64],
+    high: &[u64],
+    n: u64,
+    constants: &[u64],
+    facts: &[u64],
+    index: &[u16],
+    objects: &[u64],
+    few: bool,
+    best: u64,
+) -> Valued
+    requires { ⌜ Prepared (now arities) (now words) (now high) n (now constants) (now facts) (now index) ⌝ }
+    requires { ⌜ allBelow n (now objects) ≡ true ⌝ }
+    requires { ⌜ few ≡ isFew (now arities) n (now words) ⌝ }
+    ensures { λ r. ⌜ r ≡ climbed best (boundAnswer (now (arities .entry)) (now (words .entry)) n (now (constants .entry)) (now (facts .entry)) (now (objects .entry))) ⌝ }
+{
+    if few {
+        return Valued::Value(climb_rows(
+            arities,
+            words,
+            high,
+            n,
+            constants,
+            facts,
+            index,
+            objects,
+            best,
+        ));
+    }
+    lifted(
+        by_tables(arities, words, n, constants, facts, objects),
+        best,
+    )
+}
+
+// Whether the first way of working may be taken: few enough valuations.
+pub fn is_few(arities: &[u64], words: &[u64], n: u64) -> bool
+    requires { ⌜ isListing (now arities) (now words) ≡ true ⌝ }
+    requires { ⌜ 0 < n ⌝ }
+    ensures { λ r. ⌜ r ≡ isFew (now (arities .entry)) n (now (words .entry)) ⌝ }
+{
+    let mut marks = [0u64; Term::END as usize];
+    listing::used(arities, words, &mut marks);
+    few(n, listing::count_variables(&marks) as u64)
+}
+
+// The value of a listing in a state, by the way of working that the count of valuations says; parameters have the object of constant 0.
+fn value_by(
+    arities: &[u64],
+    words: &[u64],
+    n: u64,
+    constants: &[u64],
+    facts: &[u64],
+    few: bool,
+) -> Valued
+    requires { ⌜ isListing (now arities) (now words) ≡ true ⌝ }
+    requires { ⌜ isState (now arities) n (now constants) (now facts) ≡ true ⌝ }
+    requires { ⌜ few ≡ isFew (now arities) n (now words) ⌝ }
+    ensures { λ r. ⌜ r ≡ boundAnswer (now (arities .entry)) (now (words .entry)) n (now (constants .entry)) (now (facts .entry)) [] ⌝ }
+{
+    let objects = &constants[..0];
+    if few {
+        return Valued::Value(highest_leaf(arities, words, n, constants, facts, objects));
+    }
+    by_tables(arities, words, n, constants, facts, objects)
+}
+
+// The value of a listing in a state, both known to be such.
+pub fn value_listed(
+    arities: &[u64],
+    words: &[u64],
+    n: u64,
+    constants: &[u64],
+    facts: &[u64],
+) -> Valued
+    requires { ⌜ isListing (now arities) (now words) ≡ true ⌝ }
+    requires { ⌜ isState (now arities) n (now constants) (now facts) ≡ true ⌝ }
+    ensures { λ r. ⌜ r ≡ boundAnswer (now (arities .entry)) (now (words .entry)) n (now (constants .entry)) (now (facts .entry)) [] ⌝ }
+{
+    let small = is_few(arities, words, n);
+    value_by(arities, words, n, constants, facts, small)
+}
+
 // The value of a listing in a state that are lent with an arity list: the highest leaf over all valuations.
 pub fn value(arities: &[u64], words: &[u64], n: u64, constants: &[u64], facts: &[u64]) -> Valued
     ensures { λ r. ⌜ r ≡ valueAnswer (now (arities .entry)) (now (words .entry)) n (now (constants .entry)) (now (facts .entry)) ⌝ }
@@ -523,8 +692,6 @@ pub fn value(arities: &[u64], words: &[u64], n: u64, constants: &[u64], facts: &
     if has_parameter(&marks) {
         return Valued::Refused(Refusal::Unbound);
     }
-    if !few(n, listing::count_variables(&marks) as u64) {
-        return by_tables(arities, words, n, constants, facts);
-    }
-    Valued::Value(highest_leaf(arities, words, n, constants, facts))
+    let small = few(n, listing::count_variables(&marks) as u64);
+    value_by(arities, words, n, constants, facts, small)
 }

@@ -4,6 +4,7 @@ use Prim.Native.Nat.{_-_, _≤_}
 use native.Mathlib.Omega.{arith}
 use lib.ListN.{length, length-set}
 use Rattle.valuing.specs.Index.{Indexed}
+use Rattle.valuing.specs.WalkLaws.{clean-indexed}
 use Rattle.valuing.proofs.FactLaws.{index-on, index-full, index-done}
 use Rattle.valuing.proofs.index_facts.Statement.{statement}
 use Rattle.valuing.proofs.index_facts.Tie as tie
@@ -13,6 +14,9 @@ Inv-loop arities facts index₀ rows i₀ index i = (length index ≡ length ind
 
 abbrev μ-loop : tie.MeasureT-loop
 μ-loop arities facts index₀ rows i₀ index i = rows - i
+
+loop-holds : tie.Need-loop-holds Inv-loop μ-loop
+loop-holds c = (search needs, search needs, search clean-indexed)
 
 returns : tie.Need-returns Inv-loop μ-loop
 returns c = search index-full
@@ -29,6 +33,6 @@ returns-2 c = search index-done
 pub index-facts-spec : {M : Type 1} → statement M
 index-facts-spec =
     tie.close
-    (tie.spec Inv-loop μ-loop (λ c. search needs) (λ c. search needs) returns (λ c κs. search needs) (λ c. search needs) (λ c. search needs) (λ c. search needs)
+    (tie.spec Inv-loop μ-loop loop-holds (λ c. search needs) returns (λ c κs. search needs) (λ c. search needs) (λ c. search needs) (λ c. search needs)
     (λ c. search needs) (λ c. search needs) (λ c. search needs) (λ c. search needs) (λ c. search needs) slice-write-index-2 (λ c. search needs)
     (λ c. search needs) loop-again (λ c. search needs) returns-2)

@@ -9,10 +9,10 @@ use Rattle.valuing.proofs.start.Statement.{statement}
 use Rattle.valuing.proofs.start.Tie as tie
 
 abbrev Inv-loop : tie.InvT-loop
-Inv-loop constants env₀ t₀ env t = (length env ≡ length env₀) × (t ≤ firstVariable) × Placing constants env₀ env t
+Inv-loop constants objects env₀ t₀ env t = (length env ≡ length env₀) × (t ≤ firstVariable) × Placing constants objects env₀ env t
 
 abbrev μ-loop : tie.MeasureT-loop
-μ-loop constants env₀ t₀ env t = firstVariable - t
+μ-loop constants objects env₀ t₀ env t = firstVariable - t
 
 loop-again : tie.Need-loop-again Inv-loop μ-loop
 loop-again c = (simp length-set (search needs), search needs, search placing-on)

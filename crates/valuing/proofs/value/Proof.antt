@@ -2,7 +2,7 @@ use Prim.Native.Nat.{ℕ}
 use lib.ListN.{length-replicate}
 use Rattle.label.specs.Limits.{termEnd}
 use borrow.Author.Needs.{needs}
-use Rattle.valuing.proofs.CheckLaws.{value-1, value-2, value-3, value-4, value-5, state-some, fits-listing, fits-valid, fits-state}
+use Rattle.valuing.proofs.CheckLaws.{value-1, value-2, value-3, value-4, state-some, few-marks, fits-listing, fits-valid, fits-state}
 use Rattle.valuing.proofs.value.Statement.{statement}
 use Rattle.valuing.proofs.value.Tie as tie
 
@@ -21,28 +21,19 @@ returns-3 c = search value-3
 few-requires : tie.Need-few-requires
 few-requires c κs = let checked = c .before .before .before .before .before .before .before .before in state-some _ _ _ _ (checked .before .state-fits .ensures) (checked .if2 .left)
 
-by-tables-requires : tie.Need-by-tables-requires
-by-tables-requires c κs =
-    let checked = c .before .before .before .before .before .before .before .before .before .before in (
+value-by-requires : tie.Need-value-by-requires
+value-by-requires c κs =
+    let at-used = c .before .before .before .before .before .before .before in
+    let checked = at-used .before .before in (
       fits-listing _ _ (checked .before .before .before .check .ensures) (checked .before .before .if1 .left),
-      fits-state _ _ _ _ (checked .before .state-fits .ensures) (checked .if2 .left),
+      (fits-state _ _ _ _ (checked .before .state-fits .ensures) (checked .if2 .left), few-marks _ _ _ (at-used .used .ensures) (c .before .count-variables .ensures) (c .few .ensures)),
     )
 
 returns-4 : tie.Need-returns-4
 returns-4 c = search value-4
 
-highest-leaf-requires : tie.Need-highest-leaf-requires
-highest-leaf-requires c κs =
-    let checked = c .before .before .before .before .before .before .before .before .before .before in (
-      fits-listing _ _ (checked .before .before .before .check .ensures) (checked .before .before .if1 .left),
-      fits-state _ _ _ _ (checked .before .state-fits .ensures) (checked .if2 .left),
-    )
-
-returns-5 : tie.Need-returns-5
-returns-5 c = search value-5
-
 pub value-spec : {M : Type 1} → statement M
 value-spec =
     tie.close
     (tie.spec (λ c κs. search needs) returns (λ c κs. search needs) returns-2 (λ c. search needs) used-requires (λ c. search needs) (λ c κs. search needs)
-    returns-3 (λ c. search needs) (λ c κs. search needs) few-requires by-tables-requires returns-4 highest-leaf-requires returns-5)
+    returns-3 (λ c. search needs) (λ c κs. search needs) few-requires value-by-requires returns-4)
