@@ -1,11 +1,11 @@
 -- How many bytes an answer has at most, so that a buffer has room for it.
-use Prim.Native.Nat.{ℕ, zero, suc, _+_, _*_, _≤_}
+use Prim.Native.Nat.{ℕ, zero, suc, _+_, _*_, _/_, _%_, _≤_}
 use mathlib.Core.Path.{_≡_, refl}
 use mathlib.Core.Bool.{Bool, true, false, cond}
-use mathlib.Core.List.{List, [], _++_}
+use mathlib.Core.List.{List, [], _∷_, _++_}
 use native.Mathlib.Omega.{arith}
 use lib.Dec.{eqb}
-use lib.ListN.{length, getD, length-append}
+use lib.ListN.{length, getD, take, length-append}
 use Rattle.refusal.specs.declared.Refusal.{Refusal}
 use Rattle.refusal.specs.declared.Refusal.the-variants.{
   Form,
@@ -27,24 +27,60 @@ use Rattle.refusal.specs.declared.Refusal.the-variants.{
   Paths,
   Buffer,
   Length,
+  Missing,
+  Ground,
   Kinds,
   Runs,
   Combinations,
 }
 use Rattle.refusal.specs.Numbers.{numberOf}
+use Rattle.words.specs.declared.Key.{Key}
+use Rattle.words.specs.Keys.{bytesWithin, nameOf}
 use Rattle.label.specs.Limits.{leafMark}
+use Rattle.diagram.specs.Sizes.{mostRows}
 use Rattle.diagram.specs.Words.{labelAt, highAt, lowAt}
 use Rattle.cutting.specs.declared.Edge.{Edge}
 use Rattle.cutting.specs.declared.Edge.the-variants.{True, False}
 use Rattle.answers.specs.declared.Answer.{Answer}
-use Rattle.answers.specs.declared.Answer.the-variants.{Value, Backup, Cut, Reduce, Refused, Show, Text, Nothing}
-use Rattle.answers.specs.DigitLaws.{digits-short}
-use Rattle.answers.specs.Answers.{field, edgeField, leafField, lineEnd, valueHead, backupHead, cutHead, reduceHead, refusedHead, rowHead, answerLine, rowLine, rowLineAt, rowLines, answerBytes}
-use Rattle.answers.specs.Writing.{Plain, IsWord, OfWords, lineBytes, mostBytes}
+use Rattle.answers.specs.declared.Answer.the-variants.{Value, Backup, Cut, Reduce, Refused, Show, Text, Best, Count, Nothing}
+use Rattle.answers.specs.DigitLaws.{digits-short, digits-byte}
+use Rattle.answers.specs.Answers.{field, fields, nameField, edgeField, leafField, lineEnd, answerLine, rowLine, rowLineAt, rowLines, countLineAt, countLines, answerBytes}
+use Rattle.answers.specs.Answers.{valueHead, backupHead, cutHead, reduceHead, bestHead, countHead, refusedHead, rowHead}
+use Rattle.answers.specs.Writing.{Plain, IsWord, IsByte, OfWords, lineBytes, mostBytes}
 
 field-short : (v : ℕ) → IsWord v → length (field v) ≤ 21
 unfolding field
 field-short v h = omega (arith, digits-short v h)
+
+byte-short : (v : ℕ) → IsByte v → length (field v) ≤ 4
+unfolding field
+byte-short v h = omega (arith, digits-byte v h)
+
+-- a name has at most 15 bytes
+bytes-short : (left m : ℕ) → length (bytesWithin left m) ≤ left
+unfolding bytesWithin
+bytes-short zero m = omega arith
+bytes-short (suc left) m = go (eqb m 0) (bytes-short left (m / 256))
+  where
+    go : (t : Bool) → length (bytesWithin left (m / 256)) ≤ left → length (cond t [] (m % 256 ∷ bytesWithin left (m / 256))) ≤ suc left
+    go true ih = omega arith
+    go false ih = omega arith
+
+name-short : (k : Key) → length (nameField k) ≤ 16
+unfolding nameField nameOf
+name-short k = omega (arith, length-append (bytesWithin 8 (k .a)) (bytesWithin 7 (k .b)), bytes-short 8 (k .a), bytes-short 7 (k .b))
+
+-- objects that are bytes, as many as are there
+abbrev Bytes : List ℕ → Type 0
+Bytes [] = Unit {0}
+Bytes (v ∷ vs) = IsByte v × Bytes vs
+
+fields-short : (n : ℕ) (vs : List ℕ) → Bytes vs → length (fields (take n vs)) ≤ length vs * 4
+unfolding fields
+fields-short zero [] h = omega arith
+fields-short zero (v ∷ vs) h = omega arith
+fields-short (suc n) [] h = omega arith
+fields-short (suc n) (v ∷ vs) h = omega (arith, length-append (field v) (fields (take n vs)), byte-short v (h .0), fields-short n vs (h .1))
 
 edge-short : (e : Edge) → length (edgeField e) ≤ 6
 edge-short True = omega arith
@@ -70,6 +106,8 @@ number-word NothingToCut = omega arith
 number-word Paths = omega arith
 number-word Buffer = omega arith
 number-word Length = omega arith
+number-word Missing = omega arith
+number-word Ground = omega arith
 number-word Kinds = omega arith
 number-word Runs = omega arith
 number-word Combinations = omega arith
@@ -97,6 +135,14 @@ line-short (Refused r line) h =
     omega (arith, four-short refusedHead (field (numberOf r)) (field line) lineEnd, field-short (numberOf r) (number-word r), field-short line h)
 line-short (Show n) h = omega arith
 line-short (Text n) h = omega arith
+line-short (Best k n a b c d) h =
+    omega (
+      arith,
+      four-short bestHead (nameField k) (fields (take n (a ∷ b ∷ c ∷ d ∷ []))) lineEnd,
+      name-short k,
+      fields-short n (a ∷ b ∷ c ∷ d ∷ []) (h .0, (h .1, (h .2, (h .3, tt)))),
+    )
+line-short (Count n m) h = omega arith
 line-short Nothing h = omega arith
 
 -- and so has a row's line
@@ -128,26 +174,47 @@ rows-short ws (suc n) g h =
       row-short n (labelAt ws n) (highAt ws n) (lowAt ws n) (omega arith) (g (n * 3)) (g (n * 3 + 1)) (g (n * 3 + 2)),
     )
 
--- an answer that is no form has its bytes whatever the value's form is
-pub plain-bytes : (ws form : List ℕ) (a : Answer) → Plain a → answerBytes ws form a ≡ answerBytes ws [] a
-unfolding answerBytes
-plain-bytes ws form (Value v k s) p = refl
-plain-bytes ws form (Backup k n) p = refl
-plain-bytes ws form (Cut i e n) p = refl
-plain-bytes ws form (Reduce n) p = refl
-plain-bytes ws form (Refused r line) p = refl
-plain-bytes ws form (Show n) p = refl
-plain-bytes ws form (Text n) p = absurd p
-plain-bytes ws form Nothing p = refl
+-- and so has a spread's line
+count-short : (table : List ℕ) (k : ℕ) → ((i : ℕ) → IsWord (getD table i 0)) → length (countLineAt table k) ≤ lineBytes
+unfolding countLineAt
+count-short table k g =
+    let v = getD table (k * 2) 0 in
+    let s = getD table (k * 2 + 1) 0 in
+    omega (arith, four-short countHead (field v) (field s) lineEnd, field-short v (g (k * 2)), field-short s (g (k * 2 + 1)))
 
--- no answer but a form has more bytes than 1,024 rows may have
-pub answer-short : (ws form : List ℕ) (a : Answer) → ((i : ℕ) → IsWord (getD ws i 0)) → OfWords a → Plain a → length (answerBytes ws form a) ≤ mostBytes
+counts-within : (table : List ℕ) (n : ℕ) → ((i : ℕ) → IsWord (getD table i 0)) → length (countLines table n) ≤ n * lineBytes
+unfolding countLines
+counts-within table zero g = omega arith
+counts-within table (suc n) g = omega (arith, length-append (countLines table n) (countLineAt table n), counts-within table n g, count-short table n g)
+
+-- a spread of at most 1,024 lines has no more bytes than 1,024 rows may have
+pub counts-short : (table : List ℕ) (n : ℕ) → ((i : ℕ) → IsWord (getD table i 0)) → n ≤ mostRows → length (countLines table n) ≤ mostBytes
+counts-short table n g h = omega (arith, counts-within table n g)
+
+-- an answer that is no form and no spread has its bytes whatever these are
+pub plain-bytes : (ws form table : List ℕ) (a : Answer) → Plain a → answerBytes ws form table a ≡ answerBytes ws [] [] a
 unfolding answerBytes
-answer-short ws form (Value v k s) g h p = omega (arith, line-short (Value v k s) h)
-answer-short ws form (Backup k n) g h p = omega (arith, line-short (Backup k n) h)
-answer-short ws form (Cut i e n) g h p = omega (arith, line-short (Cut i e n) h)
-answer-short ws form (Reduce n) g h p = omega (arith, line-short (Reduce n) h)
-answer-short ws form (Refused r line) g h p = omega (arith, line-short (Refused r line) h)
-answer-short ws form (Show n) g h p = omega (arith, rows-short ws n g (omega arith))
-answer-short ws form (Text n) g h p = absurd p
-answer-short ws form Nothing g h p = omega arith
+plain-bytes ws form table (Value v k s) p = refl
+plain-bytes ws form table (Backup k n) p = refl
+plain-bytes ws form table (Cut i e n) p = refl
+plain-bytes ws form table (Reduce n) p = refl
+plain-bytes ws form table (Refused r line) p = refl
+plain-bytes ws form table (Show n) p = refl
+plain-bytes ws form table (Text n) p = absurd p
+plain-bytes ws form table (Best k n a b c d) p = refl
+plain-bytes ws form table (Count n m) p = absurd p
+plain-bytes ws form table Nothing p = refl
+
+-- no answer but a form or a spread has more bytes than 1,024 rows may have
+pub answer-short : (ws form table : List ℕ) (a : Answer) → ((i : ℕ) → IsWord (getD ws i 0)) → OfWords a → Plain a → length (answerBytes ws form table a) ≤ mostBytes
+unfolding answerBytes
+answer-short ws form table (Value v k s) g h p = omega (arith, line-short (Value v k s) h)
+answer-short ws form table (Backup k n) g h p = omega (arith, line-short (Backup k n) h)
+answer-short ws form table (Cut i e n) g h p = omega (arith, line-short (Cut i e n) h)
+answer-short ws form table (Reduce n) g h p = omega (arith, line-short (Reduce n) h)
+answer-short ws form table (Refused r line) g h p = omega (arith, line-short (Refused r line) h)
+answer-short ws form table (Show n) g h p = omega (arith, rows-short ws n g (omega arith))
+answer-short ws form table (Text n) g h p = absurd p
+answer-short ws form table (Best k n a b c d) g h p = omega (arith, line-short (Best k n a b c d) h)
+answer-short ws form table (Count n m) g h p = absurd p
+answer-short ws form table Nothing g h p = omega arith

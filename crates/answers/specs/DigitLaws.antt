@@ -133,3 +133,8 @@ short (suc n) v h = go (decLt 9 v) (short n (v / 10) (omega arith))
 pub digits-short : (v : ℕ) → v < 18446744073709551616 → length (digits v) ≤ 20
 unfolding power
 digits-short v h = short 19 v (omega arith)
+
+-- and a byte at most 3
+pub digits-byte : (v : ℕ) → v < 256 → length (digits v) ≤ 3
+unfolding power
+digits-byte v h = short 2 v (omega arith)

@@ -9,7 +9,7 @@ use Rattle.diagram.specs.Sizes.{mostRows}
 use Rattle.answers.specs.declared.Put.{Put}
 use Rattle.answers.specs.declared.Put.the-variants.{At, Full}
 use Rattle.answers.specs.declared.Answer.{Answer}
-use Rattle.answers.specs.declared.Answer.the-variants.{Value, Backup, Cut, Reduce, Refused, Show, Text, Nothing}
+use Rattle.answers.specs.declared.Answer.the-variants.{Value, Backup, Cut, Reduce, Refused, Show, Text, Best, Count, Nothing}
 
 -- the bytes of a line at most: a word, four numbers and the signs between them
 abbrev pub lineBytes : ℕ
@@ -40,9 +40,11 @@ Showable ws (Reduce n) = Unit {0}
 Showable ws (Refused r line) = Unit {0}
 Showable ws (Show n) = n * 3 ≤ length ws
 Showable ws (Text n) = Unit {0}
+Showable ws (Best k n a b c d) = Unit {0}
+Showable ws (Count n m) = Unit {0}
 Showable ws Nothing = Unit {0}
 
--- no form is to be printed
+-- no form and no spread is to be printed
 abbrev pub Plain : Answer → Type 0
 Plain (Value v k s) = Unit {0}
 Plain (Backup k n) = Unit {0}
@@ -51,13 +53,19 @@ Plain (Reduce n) = Unit {0}
 Plain (Refused r line) = Unit {0}
 Plain (Show n) = Unit {0}
 Plain (Text n) = ⊥
+Plain (Best k n a b c d) = Unit {0}
+Plain (Count n m) = ⊥
 Plain Nothing = Unit {0}
 
 -- a machine word
 abbrev pub IsWord : ℕ → Type 0
 IsWord v = v < 18446744073709551616
 
--- an answer of machine words, with at most 1,024 rows to show
+-- a byte
+abbrev pub IsByte : ℕ → Type 0
+IsByte v = v < 256
+
+-- an answer of machine words, with at most 1,024 rows to show and as many lines of a spread
 abbrev pub OfWords : Answer → Type 0
 OfWords (Value v k s) = IsWord v × IsWord k × IsWord s
 OfWords (Backup k n) = IsWord k × IsWord n
@@ -66,4 +74,6 @@ OfWords (Reduce n) = IsWord n
 OfWords (Refused r line) = IsWord line
 OfWords (Show n) = n ≤ mostRows
 OfWords (Text n) = Unit {0}
+OfWords (Best k n a b c d) = IsByte a × IsByte b × IsByte c × IsByte d
+OfWords (Count n m) = m ≤ mostRows
 OfWords Nothing = Unit {0}

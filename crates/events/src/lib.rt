@@ -62,6 +62,8 @@ pub fn first_word(kind: Kind) -> usize
         Kind::Show => 6,
         Kind::Reduce => 8,
         Kind::Text => 6,
+        Kind::Best => 6,
+        Kind::Count => 7,
         Kind::Bad => 2,
     }
 }

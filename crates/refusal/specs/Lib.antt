@@ -1,4 +1,4 @@
--- Refusals by trade word (document 01, section 'Refusals by trade word').
+-- Refusals by trade word (document 01, section 'Refusals by trade word'; document 02, the new numbers of its requests).
 --
 -- Definitions
 --   Refusal == a trade word (an enum of the code)

@@ -36,6 +36,8 @@ keyword-right K.Cut w = ((refl, refl, omega arith), refl)
 keyword-right K.Show w = ((refl, refl, omega arith), refl)
 keyword-right K.Reduce w = ((refl, refl, omega arith), refl)
 keyword-right K.Text w = ((refl, refl, omega arith), refl)
+keyword-right K.Best w = ((refl, refl, omega arith), refl)
+keyword-right K.Count w = ((refl, refl, omega arith), refl)
 keyword-right K.Bad w = absurd w
 
 pub keyword-name : (k : Kind) → Words k → IsName (keyword k)

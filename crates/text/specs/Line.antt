@@ -23,7 +23,7 @@ mostOpenBrackets = 64
 
 -- a kind of line: its key word, in bytes, and the shape of what stands behind it. (constant n), (predicate n arity), (total W),
 -- (discount G D), (reward DIAGRAM), (action n !p ..), (variant n WEIGHT), (becomes (p ?a ..) DIAGRAM), (start), (objects n),
--- (is c o), (true p o ..), (value), (backup), (cut), (show), (reduce), (text)
+-- (is c o), (true p o ..), (value), (backup), (cut), (show), (reduce), (text), (best), (count n)
 abbrev pub formOf : Kind → List ℕ × Shape
 formOf K.Constant = (99 ∷ 111 ∷ 110 ∷ 115 ∷ 116 ∷ 97 ∷ 110 ∷ 116 ∷ [], One Name)
 formOf K.Predicate = (112 ∷ 114 ∷ 101 ∷ 100 ∷ 105 ∷ 99 ∷ 97 ∷ 116 ∷ 101 ∷ [], Two Name Number)
@@ -43,13 +43,16 @@ formOf K.Cut = (99 ∷ 117 ∷ 116 ∷ [], Nothing)
 formOf K.Show = (115 ∷ 104 ∷ 111 ∷ 119 ∷ [], Nothing)
 formOf K.Reduce = (114 ∷ 101 ∷ 100 ∷ 117 ∷ 99 ∷ 101 ∷ [], Nothing)
 formOf K.Text = (116 ∷ 101 ∷ 120 ∷ 116 ∷ [], Nothing)
+formOf K.Best = (98 ∷ 101 ∷ 115 ∷ 116 ∷ [], Nothing)
+formOf K.Count = (99 ∷ 111 ∷ 117 ∷ 110 ∷ 116 ∷ [], One Number)
 formOf K.Bad = ([], Never)
 
 -- all of them but Bad
 abbrev pub kinds : List Kind
 kinds =
     K.Constant ∷ K.Predicate ∷ K.Total ∷ K.Discount ∷ K.Reward ∷ K.Action ∷ K.Variant ∷ K.Becomes ∷
-    K.Start ∷ K.Objects ∷ K.Is ∷ K.True ∷ K.Value ∷ K.Backup ∷ K.Cut ∷ K.Show ∷ K.Reduce ∷ K.Text ∷ []
+    K.Start ∷ K.Objects ∷ K.Is ∷ K.True ∷ K.Value ∷ K.Backup ∷ K.Cut ∷ K.Show ∷ K.Reduce ∷ K.Text ∷ K.Best ∷
+    K.Count ∷ []
 
 abbrev pub keyword : Kind → List ℕ
 keyword k = formOf k .0

@@ -29,6 +29,8 @@ pub enum Kind {
     Show,
     Reduce,
     Text,
+    Best,
+    Count,
     Bad,
 }
 
@@ -55,7 +57,7 @@ pub struct Keyword {
 // The most bytes that a line has.
 const LINE_BYTES: usize = 4095;
 
-const KINDS: usize = 18;
+const KINDS: usize = 20;
 
 // The key words of all kinds of lines.
 const KEYWORDS: [Keyword; KINDS] = [
@@ -196,6 +198,22 @@ const KEYWORDS: [Keyword; KINDS] = [
         },
         kind: Kind::Text,
         shape: Shape::Nothing,
+    },
+    Keyword {
+        key: Key {
+            a: 1953719650,
+            b: 0,
+        },
+        kind: Kind::Best,
+        shape: Shape::Nothing,
+    },
+    Keyword {
+        key: Key {
+            a: 500069396323,
+            b: 0,
+        },
+        kind: Kind::Count,
+        shape: Shape::One(Sort::Number),
     },
 ];
 
