@@ -49,6 +49,11 @@ pub record StepsBy (m : Model) (k : ℕ) (s : State) (x : Move) : Type 0 where
 abbrev pub sumCalls : Model → Diagram → Action → Outcome Diagram
 sumCalls m d a = variantsSum (m .arities) (m .numerator) d (leaf 0) (a .variants)
 
+-- they are all accepted
+pub record HasSum (m : Model) (d : Diagram) (a : Action) : Type 0 where
+  pub sum : Diagram
+  pub calls : sumCalls m d a ≡ ok sum
+
 -- an action passes: its calls are accepted, and no binding meets 15
 pub record Passes (m : Model) (s : State) (d : Diagram) (a : Action) : Type 0 where
   pub sum : Diagram

@@ -1,10 +1,11 @@
--- The choice without its refusals: the best of a row of moves whose sums are known.
+-- The choice without its refusals: the best of a row of moves whose sums are known. For proofs alone.
 use mathlib.Core.Path.{_≡_}
-use mathlib.Core.List.{List, [], _∷_, List·Memᴰ}
-use Prim.Native.Nat.{ℕ, _+_, _<_}
+use mathlib.Core.List.{List, [], _∷_, _++_, map, List·Memᴰ}
+use Prim.Native.Nat.{ℕ, suc, _+_, _<_}
 use lib.ListN.{length, getD}
+use Rattle.reduction.specs.Combinations.{tuples}
 use Rattle.mdp.specs.Model.{Action, Model}
-use Rattle.best.specs.Moves.{Move, actionAt}
+use Rattle.best.specs.Moves.{Move, move, actionAt}
 use Rattle.best.specs.Best.{Rated, rated, better}
 use Rattle.best.specs.Claims.{Earlier}
 
@@ -12,6 +13,12 @@ use Rattle.best.specs.Claims.{Earlier}
 pub record From (m : Model) (i : ℕ) (l : List Action) : Type 0 where
   pub count : i + length l ≡ length (m .actions)
   pub each : (j : ℕ) → j < length l → getD l j (record { count = 0; variants = [] }) ≡ actionAt m (i + j)
+
+-- the moves of the actions from number i on: action by action, lowest objects first, the first parameter changing slowest
+unfoldable pub movesFrom : ℕ → ℕ → List Action → List Move
+unfolding tuples
+movesFrom n i [] = []
+movesFrom n i (a ∷ l) = map (move i) (tuples n (a .count)) ++ movesFrom n (suc i) l
 
 -- of a row, begun with a best so far; f is the sum of a move
 unfoldable pub lead : (Move → ℕ) → Rated → List Move → Rated

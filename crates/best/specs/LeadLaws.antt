@@ -18,10 +18,10 @@ use Rattle.reduction.specs.Claims.{Sorted, Lower, differs, onwards}
 use Rattle.reduction.specs.CombinationLaws.{tuples-in, in-tuples}
 use Rattle.reduction.specs.OrderLaws.{sorted-append, sorted-map, tuples-order}
 use Rattle.mdp.specs.Model.{Action, Model}
-use Rattle.best.specs.Moves.{Move, move, actionAt, movesFrom, moves, firstMove}
+use Rattle.best.specs.Moves.{Move, move, actionAt, firstMove}
 use Rattle.best.specs.Best.{Rated, rated, better}
 use Rattle.best.specs.Claims.{IsMove, Earlier}
-use Rattle.best.specs.Lead.{From, lead, Won}
+use Rattle.best.specs.Lead.{From, movesFrom, lead, Won}
 
 -- ===== The order of moves =====
 

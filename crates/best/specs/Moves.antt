@@ -1,10 +1,9 @@
 -- Moves, and the sum that the Bellman step has for each (document 02, L9; document 01, section 'Backup').
-use mathlib.Core.List.{List, [], _∷_, _++_, map}
-use Prim.Native.Nat.{ℕ, zero, suc, _*_}
+use mathlib.Core.List.{List, []}
+use Prim.Native.Nat.{ℕ, _*_}
 use lib.ListN.{getD, replicate}
 use Rattle.state.specs.State.{State}
 use Rattle.state.specs.Max.{sumOf}
-use Rattle.reduction.specs.Combinations.{tuples}
 use Rattle.mdp.specs.Model.{Action, Model}
 use Rattle.mdp.specs.Bellman.{weightIn, stateAfter, bellman}
 
@@ -28,16 +27,6 @@ actionSum m k s a os = sumOf (a .variants) (λ v. m .numerator * weightIn (m .ar
 unfoldable pub moveSum : Model → ℕ → State → Move → ℕ
 unfolding actionAt actionSum
 moveSum m k s x = actionSum m k s (actionAt m (x .action)) (x .objects)
-
--- the moves of the actions from number i on: action by action, lowest objects first, the first parameter changing slowest
-unfoldable pub movesFrom : ℕ → ℕ → List Action → List Move
-unfolding tuples
-movesFrom n i [] = []
-movesFrom n i (a ∷ l) = map (move i) (tuples n (a .count)) ++ movesFrom n (suc i) l
-
-unfoldable pub moves : Model → State → List Move
-unfolding movesFrom
-moves m s = movesFrom (s .size) 0 (m .actions)
 
 -- the first move of all: the first action, with object 0 for each parameter
 unfoldable pub firstMove : Model → Move

@@ -1,27 +1,33 @@
--- What refuses (best), exactly: action by action the calls of its regressed sum, then 15 of a binding.
+-- What refuses (best), exactly: action by action the calls of its regressed sum, then 15 of a binding. Where the next backup is accepted, only 15 does.
 use mathlib.Core.Path.{_≡_, refl, sym, ap, _∙_, subst}
 use mathlib.Core.Logic.{_⊎_, inl, inr}
 use mathlib.Core.Bool.{Bool, true, false, cond}
 use mathlib.Core.List.{List, [], _∷_, List·Memᴰ, List·Memᴰ·head, List·Memᴰ·tail, List·Memᴰ·not-nil}
-use Prim.Native.Nat.{ℕ, suc}
+use Prim.Native.Nat.{ℕ, suc, _^_}
 use native.Mathlib.Omega.{arith}
 use Rattle.basics.specs.Tests.{Flag, isTrue, isFalse, flag}
 use Rattle.basics.specs.Members.{clash}
 use Rattle.refusal.specs.declared.Refusal.{Refusal}
-use Rattle.refusal.specs.declared.Refusal.the-variants.{Valuations}
-use Rattle.refusal.specs.Outcome.{Outcome, ok, refused, andThen}
-use Rattle.diagram.specs.Diagram.{Diagram}
+use Rattle.refusal.specs.declared.Refusal.the-variants.{Scale, Valuations}
+use Rattle.refusal.specs.Outcome.{Outcome, ok, refused, andThen, Accepted}
+use Rattle.refusal.specs.OutcomeLaws.{accepted-ok, accepted-then, accepted-next, accepted-cond, accepted-mono}
+use Rattle.diagram.specs.Diagram.{Diagram, leaf}
 use Rattle.diagram.specs.Listing.{listing}
+use Rattle.diagram.specs.Variables.{closed}
+use Rattle.apply.specs.declared.Operation.the-variants.{Max}
+use Rattle.apply.specs.declared.Names.the-variants.{Shared}
 use Rattle.state.specs.State.{meaning, State}
 use Rattle.state.specs.Max.{Tuple}
 use Rattle.state.specs.Highest.{highest}
 use Rattle.elimination.specs.Answer.{isTooLarge}
+use Rattle.regression.specs.RegressCall.{freedOutcome}
 use Rattle.reduction.specs.Combinations.{tuples}
 use Rattle.reduction.specs.CombinationLaws.{tuples-in, in-tuples}
-use Rattle.mdp.specs.Model.{Action, Model, Every}
+use Rattle.mdp.specs.Model.{Action, Model, scale, Every}
+use Rattle.mdp.specs.Backup.{combined, actionsBest, scaleEnds, rowOfCalls, backup}
 use Rattle.best.specs.Moves.{Move, move, firstMove}
 use Rattle.best.specs.Best.{Rated, rated, better, bindingValue, bindingsBest, movesBest, bestAnswer}
-use Rattle.best.specs.Claims.{sumCalls, Passes, Stops, in-calls, in-binding, Stopped, here, later}
+use Rattle.best.specs.Claims.{sumCalls, HasSum, Passes, Stops, in-calls, in-binding, Stopped, here, later}
 
 ok-refused : {A : Type 0} {B : Type 0} {o : Outcome A} {a : A} {r : Refusal} → o ≡ ok a → o ≡ refused r → B
 ok-refused e f = let z : _≡_ {A = ℕ} 0 1 = cc in absurd (omega arith)
@@ -177,3 +183,45 @@ module _ (m : Model) (s : State) (d : Diagram) where
           let f = stopped-refused (w .0) (w .1) in
           let z : w .0 ≡ r = cc in
           subst (Stopped m s d (m .actions)) z (w .1)
+
+-- ===== The next backup =====
+
+-- a step that may be refused, whatever it gives
+any : {A : Type 0} (o : Outcome A) → Accepted (λ a. Unit {0}) o
+any o = record { given = λ a e. tt }
+
+module _ (m : Model) (d : Diagram) where
+  -- a best over actions has made the calls of each one's sum
+  best-calls : (best : Diagram) (l : List Action) → Accepted (λ z. Every (HasSum m d) l) (actionsBest (m .arities) (m .numerator) d best l)
+  unfolding actionsBest
+  best-calls best [] = accepted-ok tt
+  best-calls best (a ∷ l) =
+      accepted-next (sumCalls m d a) _ (λ q e.
+      accepted-then (freedOutcome (m .arities) (a .count) q) (any (freedOutcome (m .arities) (a .count) q)) (λ f u.
+      accepted-then (joined f) (any (joined f)) (λ b v.
+      accepted-mono (best-calls b l) (λ z h. (record { sum = q; calls = e }, h)))))
+    where
+      joined : Diagram → Outcome Diagram
+      joined f = combined Max Shared (m .arities) best (closed (m .arities) f)
+
+  row-calls : (power : ℕ) → Accepted (λ z. Every (HasSum m d) (m .actions)) (rowOfCalls m power d)
+  unfolding rowOfCalls
+  row-calls power =
+      accepted-then (actionsBest (m .arities) (m .numerator) d (leaf 0) (m .actions)) (best-calls (leaf 0) (m .actions)) (λ b h. record { given = λ z p. h })
+
+  -- "It has their refusals": where the next backup is accepted, so are the calls of every action's sum
+  pub backup-calls : (k : ℕ) (d′ : Diagram) → backup m k d ≡ ok d′ → Every (HasSum m d) (m .actions)
+  unfolding backup
+  backup-calls k d′ e =
+      accepted-cond {P = λ (z : Diagram). Every (HasSum m d) (m .actions)} (scaleEnds m k) Scale (rowOfCalls m (scale m ^ suc k) d) (λ f.
+      row-calls (scale m ^ suc k)) .given d′ e
+
+  -- where the calls of every sum are accepted, 15 alone stops
+  stopped-large : (s : State) {l : List Action} {r : Refusal} → Stopped m s d l r → Every (HasSum m d) l → r ≡ Valuations
+  stopped-large s (here (in-calls e)) h = ok-refused (h .0 .calls) e
+  stopped-large s (here (in-binding e t f)) h = refl
+  stopped-large s (later p w) h = stopped-large s w (h .1)
+
+  -- so (best) is then refused by 15 or not at all
+  pub backup-large : (k : ℕ) (d′ : Diagram) → backup m k d ≡ ok d′ → (s : State) (r : Refusal) → bestAnswer m s d ≡ refused r → r ≡ Valuations
+  backup-large k d′ e s r f = stopped-large s (refused-stopped m s d r f) (backup-calls k d′ e)

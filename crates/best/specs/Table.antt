@@ -49,5 +49,7 @@ pub table-best : (bestAnswer runModel nothingTrue (runModel .reward) ≡ ok (mov
     × (bestAnswer runModel hubAtOne (run runModel (aBackup ∷ []) .diagram) ≡ ok (move 0 (1 ∷ [])))
     × (bestAnswer waitModel hubAtOne (waitModel .reward) ≡ ok (move 1 (1 ∷ [])))
     × (bestAnswer waitModel stockAtHub (waitModel .reward) ≡ ok (move 0 []))
-unfolding bestAnswer moveSum run highest meaning scale diagramAnswer combination rowsFormed formed ends pairs pairCount overflows apply backup truthAt variables closed after moved testOf equates renamed numbering freeing mapped placed packed unpacked predicateOf termsOf isVariable isConstant listing diagramOf valuations
+unfolding bestAnswer moveSum run highest meaning scale diagramAnswer combination rowsFormed formed ends pairs pairCount overflows apply
+    backup truthAt variables closed after moved testOf equates renamed numbering freeing
+    mapped placed packed unpacked predicateOf termsOf isVariable isConstant listing diagramOf valuations
 table-best = (refl, refl, refl, refl, refl, refl, refl)
