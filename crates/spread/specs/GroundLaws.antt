@@ -38,7 +38,7 @@ length-map : {A B : Type 0} (g : A → B) (xs : List A) → length (map g xs) �
 length-map g [] = refl
 length-map g (x ∷ xs) = ap suc (length-map g xs)
 
-length-joined : {A : Type 0} (n k : ℕ) (f : ℕ → List A) → ((i : ℕ) → length (f i) ≡ k) → length (joined n f) ≡ n * k
+pub length-joined : {A : Type 0} (n k : ℕ) (f : ℕ → List A) → ((i : ℕ) → length (f i) ≡ k) → length (joined n f) ≡ n * k
 unfolding joined
 length-joined zero k f h = omega arith
 length-joined (suc n) k f h =

@@ -9,6 +9,8 @@ use lib.Dec.{eqb, ltb, leb}
 use borrow.Author.Tests.{le-leb, lt-ltb, le-ltb}
 use Rattle.basics.specs.Tests.{and-left, and-right}
 use Rattle.basics.specs.Members.{mem}
+use Rattle.refusal.specs.declared.Refusal.the-variants.{Ground as TooManyGround, Valuations}
+use Rattle.refusal.specs.Outcome.{ok, refused}
 use Rattle.label.specs.Limits.{mostPlaces}
 use Rattle.diagram.specs.Words.{isListing, everyBelow}
 use Rattle.diagram.specs.WordLaws.{every-below}
@@ -19,7 +21,7 @@ use Rattle.state.specs.Lent.{factWords, factCount, predicateAt, objectsAt, allB
 use Rattle.elimination.specs.Answer.{isTooLarge}
 use Rattle.elimination.specs.AnswerLaws.{lent-good}
 use Rattle.spread.specs.Ground.{mostGround, Ground, ground, sameGround, groundFacts, isGround, groundCount, bits, chosen, rowOf, rowsOf, lentChoice, choiceState}
-use Rattle.spread.specs.Spread.{Entry, entries, valueIn, Spread, lines, tooMany, valuations, spread}
+use Rattle.spread.specs.Spread.{Entry, entries, valueIn, entriesOf, someTooLarge, spread}
 use Rattle.spread.specs.SpreadLaws.{entries-sum}
 use Rattle.spread.specs.GroundLaws.{ground-test, mem-ground}
 use Rattle.spread.specs.ChoiceLaws.{Shaped, AllShaped, FewPlaces, chosen-within, rows-count, row-objects, row-later, shaped}
@@ -74,27 +76,26 @@ module _ (ar : List ℕ) (count n : ℕ) (constants : List ℕ) (few : FewPlaces
   choice-good c = lent-good ar n constants (lentChoice ar count n c) (lent-choice c)
 
   -- at most 1,023 lines
-  pub lines-few : (ws : List ℕ) → isListing ar ws ≡ true
-      → length (entries (2 ^ groundCount ar count n) (valueIn ar count n constants ws)) < mostRows
+  pub lines-few : (ws : List ℕ) → isListing ar ws ≡ true → length (entriesOf ar count n constants ws) < mostRows
+  unfolding entriesOf
   lines-few ws listed = entries-few ar count n constants ws (2 ^ groundCount ar count n) listed choice-good
 
 -- ===== The answer by its cases =====
 module _ (ar : List ℕ) (count n : ℕ) (constants ws : List ℕ) where
-  pub spread-many : mostGround < groundCount ar count n → spread ar count n constants ws ≡ tooMany
+  pub spread-many : mostGround < groundCount ar count n → spread ar count n constants ws ≡ refused TooManyGround
   unfolding spread
   spread-many h = rw (lt-ltb mostGround (groundCount ar count n) h)
 
-  pub spread-large : groundCount ar count n ≤ mostGround
-      → someBelow (2 ^ groundCount ar count n) (λ c. isTooLarge ar (choiceState ar count n constants c) [] ws) ≡ true → spread ar count n constants ws ≡ valuations
+  pub spread-large : groundCount ar count n ≤ mostGround → someTooLarge ar count n constants ws ≡ true → spread ar count n constants ws ≡ refused Valuations
   unfolding spread
   spread-large h e = rw (le-ltb mostGround (groundCount ar count n) h, e)
 
-  pub spread-lines : groundCount ar count n ≤ mostGround
-      → someBelow (2 ^ groundCount ar count n) (λ c. isTooLarge ar (choiceState ar count n constants c) [] ws) ≡ false
-      → spread ar count n constants ws ≡ lines (entries (2 ^ groundCount ar count n) (valueIn ar count n constants ws))
+  pub spread-lines : groundCount ar count n ≤ mostGround → someTooLarge ar count n constants ws ≡ false
+      → spread ar count n constants ws ≡ ok (entriesOf ar count n constants ws)
   unfolding spread
   spread-lines h e = rw (le-ltb mostGround (groundCount ar count n) h, e)
 
   -- "The states add up to 2 to the power of the number of ground facts"
-  pub states-sum : sumOf (entries (2 ^ groundCount ar count n) (valueIn ar count n constants ws)) (λ e. e .states) ≡ 2 ^ groundCount ar count n
+  pub states-sum : sumOf (entriesOf ar count n constants ws) (λ e. e .states) ≡ 2 ^ groundCount ar count n
+  unfolding entriesOf
   states-sum = entries-sum (2 ^ groundCount ar count n) (valueIn ar count n constants ws)

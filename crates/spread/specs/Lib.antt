@@ -1,4 +1,4 @@
--- The spread: how many states of n objects have which value (document 02, L11). Its line and its code come later.
+-- The spread: how many states of n objects have which value (document 02, L11). Its line stands in session, its code in count_states.
 --
 -- Definitions: states
 --   mostGround == at most 16 ground facts, above it 24
@@ -11,10 +11,10 @@
 --   lentChoice, choiceState == the facts of choice c as they are lent; its state
 --
 -- Definitions: values
---   Entry == a value, and how many states have it
+--   Entry, entryWords == a value, and how many states have it; a list of them as words
 --   values, countOf, entries == the values that occur, lowest first; how many have one; both together
 --   valueIn == the value in the state of choice c
---   Spread, spread == the lines, 24 or 15; 24 before any state, then 15 if any state meets it
+--   entriesOf, someTooLarge, spread == the entries of all states; a state meets 15; 24 before any state, then 15, then the entries
 --
 -- Theorems
 --   length-ground, mem-ground, ground-nodup: the ground facts are as many as counted, are those that they should be, and none is repeated
@@ -25,6 +25,7 @@
 --   entries-sum, states-sum: the numbers add up, to 2^g
 --   highest-leaf, lines-few: a value is a leaf of the diagram, and there are at most 1,023 lines
 --   spread-many, spread-large, spread-lines: the answer by its cases
+--   table-spread, table-ground, table-many: small cases, by computation
 
 -- definitions
 pub mod Ground
@@ -35,3 +36,4 @@ pub mod GroundLaws
 pub mod ChoiceLaws
 pub mod LeafLaws
 pub mod LentChoiceLaws
+pub mod Table

@@ -44,7 +44,7 @@ unfolding values
 values-occur zero f v = refl
 values-occur (suc m) f v = mem-insert v (f m) (values m f) ∙ rw (values-occur m f v, eqb-swap v (f m)) (or-turn (eqb (f m) v) (someBelow m (λ c. eqb (f c) v)))
 
-count-none : (m : ℕ) (f : ℕ → ℕ) (v : ℕ) → someBelow m (λ c. eqb (f c) v) ≡ false → countOf m f v ≡ 0
+pub count-none : (m : ℕ) (f : ℕ → ℕ) (v : ℕ) → someBelow m (λ c. eqb (f c) v) ≡ false → countOf m f v ≡ 0
 unfolding countOf
 count-none zero f v e = refl
 count-none (suc m) f v e = go (flag (someBelow m (λ c. eqb (f c) v))) (flag (eqb (f m) v)) (count-none m f v)
