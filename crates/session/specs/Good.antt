@@ -15,6 +15,7 @@ use Rattle.regression.specs.Parameters.{Within}
 use Rattle.mdp.specs.Model.{Action, Model, Every, GoodAction, GoodModel, mostTotal, mostDenominator, mostActions, mostVariants}
 use Rattle.session.specs.declared.Part.the-variants.{Model as ModelPart, Run}
 use Rattle.session.specs.Session.{Names, Singles, Session}
+use Rattle.session.specs.Facts.{mostObjects}
 use Rattle.session.specs.Modelling.{mostModelRows}
 
 -- names within their limits; a predicate that is not declared has arity 0
@@ -54,8 +55,9 @@ pub record GoodParts (s : Singles) (m : Model) : Type 0 where
   pub reward : s .reward ≡ true → GoodValue (m .arities) (m .reward)
   pub actions : Every (GoodAction (m .arities)) (m .actions)
 
--- the run has begun: the model and the value diagram are good
+-- the run has begun: the model has an action, and it and the value diagram are good
 pub record Begun (σ : Session) : Type 0 where
+  pub some : 1 ≤ length (σ .model .actions)
   pub good : GoodModel (σ .model)
   pub value : GoodValue (σ .model .arities) (σ .held .diagram)
 
@@ -66,5 +68,6 @@ pub record GoodSession (σ : Session) : Type 0 where
   pub parts : GoodParts (σ .singles) (σ .model)
   pub few : σ .rows ≤ mostModelRows
   pub state : 1 ≤ σ .live .objects → isState (σ .model .arities) (σ .live .objects) (σ .live .constants) (σ .live .facts) ≡ true
+  pub most : σ .live .objects ≤ mostObjects
   pub quiet : σ .part ≡ ModelPart → σ .live .objects ≡ 0
   pub begun : σ .part ≡ Run → Begun σ

@@ -11,7 +11,7 @@
 --   Part, Rule, ruleOf == model or run; what each kind of line asks for in each part
 --   eachVaried, isWhole == a reward, an action, and a variant of each
 --   eachPlaced, hasObjects, isPlaced == an accepted (objects n), and every declared constant placed
---   unless, allowed == what a rule asks for is there, or 5
+--   unless, allowed == what a rule asks for is there, or 5, for (best) 20
 --
 -- Definitions: lines of the model
 --   isDeclared, constantLine == (constant n)
@@ -36,25 +36,27 @@
 --   cutTo, cutLine, cutSays == (cut)
 --   reduceLine == (reduce) (document 02, L13)
 --   tablesIn, formRead == (text): the names declared; how many bytes the value has as a form, or 19 (document 02, L2)
+--   bestRead, noKey, bestIs == (best): the move, or what refuses it; the action's name and its objects (document 02, L9)
+--   entriesIn, countRead == (count n): the entries of all states of n objects; 4, 24 and 15 before them (document 02, L11)
 --
 -- Definitions: replies
 --   Reply == the session behind a line, and what the line is answered
 --   withModel, withNames, withLive, withVocabulary, withTotal, withDiscount, withAction == a session with one part new
 --   refusal, silent, quietly == a refused line leaves the session as it was; nothing is printed; a line that prints nothing unless it is refused
---   valueSays, backupSays, reduceSays, textSays == value, k, S^k; k, rows; rows; the bytes of the form
+--   valueSays, backupSays, reduceSays, textSays, bestSays, countSays == value, k, S^k; k, rows; rows; the bytes of the form; action and objects; objects and values
 --   done == what each kind of line does and is answered, where it stands where it may
---   replyTo, wordsOf, reply == 1, 5, then the line's own checks; a line in bytes, of which one of none passes (document 02, L1)
+--   replyTo, wordsOf, reply == 1, 5 or 20, then the line's own checks; a line in bytes, of which one of none passes (document 02, L1)
 --
 -- Definitions: texts
 --   lineFeed, Lines, behindByte, linesOf == the lines of a text, and the bytes behind the last line feed
---   valueForm == the value diagram as one nested form (document 02, L2)
+--   valueForm, tableOf == the value diagram as one nested form (document 02, L2); the values of all states as words (L11)
 --   hasBytes, Progress, replyBytes, replied, afterLine, afterLines == how far a text is read, from line to line, numbered from 1, blank ones too
 --   afterRest, unfinished, closing == a last line without a line feed is 1; without an accepted (start) a last (refused 5 0), if a line with bytes was met
 --   beginning, textRead, textAnswers == all answers of a text
 --
 -- Definitions: what holds from line to line
 --   GoodTables, LastAction, Agreeing, GoodValue, GoodParts == names within limits, names and actions agree, what is read of a model is good
---   Begun, GoodSession == the run has begun with a good model and a good value diagram; what can be told of a good session from itself alone
+--   Begun, GoodSession == the run has begun with a good model that has an action, and a good value diagram; what can be told of a good session from itself alone
 --
 -- The theorems are in model_laws and session_laws.
 

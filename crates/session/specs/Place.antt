@@ -1,13 +1,16 @@
--- Which line may stand in which part of a text (document 01, section 'Text').
+-- Which line may stand in which part of a text (document 01, section 'Text'; document 02, L2, L9, L11 and L13).
 use Rattle.text.specs.declared.Kind.{Kind}
 use Rattle.text.specs.declared.Kind.the-variants.{Constant, Predicate, Total, Discount, Reward, Action, Variant, Becomes, Start, Objects, Is, True, Value, Backup, Cut, Show, Reduce, Text, Bad}
+use Rattle.text.specs.declared.Kind.the-variants.{Best, Count}
 use Rattle.session.specs.declared.Part.{Part}
 use Rattle.session.specs.declared.Part.the-variants.{Model, Run}
 use Rattle.session.specs.declared.Rule.{Rule}
-use Rattle.session.specs.declared.Rule.the-variants.{NoForm, Misplaced, Anywhere, OneTotal, OneDiscount, OneReward, AfterAction, AfterVariant, WholeModel, AfterObjects, WholeState}
+use Rattle.session.specs.declared.Rule.the-variants.{NoForm, Misplaced, Anywhere, OneTotal, OneDiscount, OneReward, AfterAction, AfterVariant, WholeModel}
+use Rattle.session.specs.declared.Rule.the-variants.{AfterObjects, WholeState, MoveState, Constants}
 
 -- lines of the model: single forms once; a variant is of the last action, (becomes) of the last variant; (start) ends the model. Lines of the run stand
--- after (start): (is), (true) and (value) need an accepted (objects n) before them, and (value) needs every declared constant placed.
+-- after (start): (is), (true) and (value) need an accepted (objects n) before them, and (value) needs every declared constant placed. (best) needs what (value) needs,
+-- (count n) needs the constants placed (document 02, L9 and L11).
 abbrev pub ruleOf : Kind → Part → Rule
 ruleOf Constant Model = Anywhere
 ruleOf Predicate Model = Anywhere
@@ -27,6 +30,8 @@ ruleOf Cut Model = Misplaced
 ruleOf Show Model = Misplaced
 ruleOf Reduce Model = Misplaced
 ruleOf Text Model = Misplaced
+ruleOf Best Model = Misplaced
+ruleOf Count Model = Misplaced
 ruleOf Bad Model = NoForm
 ruleOf Constant Run = Misplaced
 ruleOf Predicate Run = Misplaced
@@ -46,4 +51,6 @@ ruleOf Cut Run = Anywhere
 ruleOf Show Run = Anywhere
 ruleOf Reduce Run = Anywhere
 ruleOf Text Run = Anywhere
+ruleOf Best Run = MoveState
+ruleOf Count Run = Constants
 ruleOf Bad Run = NoForm

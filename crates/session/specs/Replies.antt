@@ -1,11 +1,12 @@
--- What a line is answered, and the session behind it (document 01, sections 'Text', 'Refusals by trade word' and 'A run, whole'; document 02, L1 and L13).
+-- What a line is answered, and the session behind it (document 01, sections 'Text', 'Refusals by trade word' and 'A run, whole'; document 02, L1, L2, L9, L11 and
+-- L13).
 use mathlib.Core.Bool.{Bool, true, false, not, _||_, _&&_}
 use mathlib.Core.List.{List, [], _∷_, _++_}
 use Prim.Native.Nat.{ℕ, zero, suc, _^_}
 use lib.ListN.{length, getD, drop}
 use lib.Dec.{leb, eqb}
 use Rattle.refusal.specs.declared.Refusal.{Refusal}
-use Rattle.refusal.specs.declared.Refusal.the-variants.{Form, Place}
+use Rattle.refusal.specs.declared.Refusal.the-variants.{Form, Place, Missing}
 use Rattle.diagram.specs.Rows.{rows}
 use Rattle.diagram.specs.Words.{everyBelow}
 use Rattle.refusal.specs.Outcome.{Outcome, ok, refused, andThen}
@@ -19,6 +20,8 @@ use Rattle.events.specs.declared.Event.{Event}
 use Rattle.events.specs.Events.{firstWord}
 use Rattle.events.specs.Front.{eventsOf}
 use Rattle.events.specs.Contents.{keyIn, numberIn, wordAt, keysIn, numbersIn}
+use Rattle.best.specs.Moves.{Move}
+use Rattle.spread.specs.Spread.{Entry}
 use Rattle.answers.specs.declared.Answer.{Answer}
 use Rattle.answers.specs.declared.Answer.the-variants as A
 use Rattle.session.specs.declared.Rule.{Rule}
@@ -28,14 +31,14 @@ use Rattle.session.specs.Session.{Names, Singles, Live, Session, refuseI
 use Rattle.session.specs.Declaring.{Vocabulary, constantLine, predicateLine, totalLine, discountLine, actionLine}
 use Rattle.session.specs.Facts.{objectsLine, isLine, trueLine}
 use Rattle.session.specs.Modelling.{rewardLine, variantLine, becomesLine}
-use Rattle.session.specs.Running.{withHeld, startLine, valueRead, backupLine, cutLine, cutSays, reduceLine, formRead}
+use Rattle.session.specs.Running.{withHeld, startLine, valueRead, backupLine, cutLine, cutSays, reduceLine, formRead, bestRead, bestIs, countRead}
 
 -- the session behind a line, and what the line is answered
 pub record Reply : Type 0 where
   pub session : Session
   pub answer : Answer
 
--- ===== Its place: 5, behind 1 =====
+-- ===== Its place: 5, for (best) also 20, behind 1 =====
 
 -- every action has a variant
 abbrev pub eachVaried : List Action → Bool
@@ -60,7 +63,7 @@ isPlaced σ = hasObjects σ && eachPlaced (σ .live .placed) (length (σ .names 
 abbrev pub unless : Bool → Outcome (Unit {0})
 unless b = refuseIf b Place (ok tt)
 
--- what a rule asks for is there
+-- what a rule asks for is there; '20, in place of 5 where a constant or the state is missing' (document 02, L9)
 unfoldable pub allowed : Session → Rule → Outcome (Unit {0})
 allowed σ R.NoForm = refused Form
 allowed σ R.Misplaced = refused Place
@@ -73,6 +76,8 @@ allowed σ R.AfterVariant = unless (not (leb 1 (length (σ .names .variants))))
 allowed σ R.WholeModel = unless (not (isWhole σ))
 allowed σ R.AfterObjects = unless (not (hasObjects σ))
 allowed σ R.WholeState = unless (not (isPlaced σ))
+allowed σ R.MoveState = refuseIf (not (isPlaced σ)) Missing (ok tt)
+allowed σ R.Constants = unless (not (eachPlaced (σ .live .placed) (length (σ .names .constants))))
 
 -- ===== What an accepted line does =====
 
@@ -188,9 +193,20 @@ abbrev pub textSays : Session → ℕ → Outcome ℕ → Reply
 textSays σ number (ok n) = record { session = σ; answer = A.Text n }
 textSays σ number (refused r) = refusal σ number r
 
+-- action and objects
+abbrev pub bestSays : Session → ℕ → Outcome Move → Reply
+bestSays σ number (ok x) = record { session = σ; answer = bestIs (σ .names) x }
+bestSays σ number (refused r) = refusal σ number r
+
+-- the objects of the states counted, and how many values occur
+abbrev pub countSays : Session → ℕ → ℕ → Outcome (List Entry) → Reply
+countSays σ number n (ok es) = record { session = σ; answer = A.Count n (length es) }
+countSays σ number n (refused r) = refusal σ number r
+
 -- the words es of a line of the kind that stands where it may
 unfoldable pub done : Session → ℕ → Kind → List Event → Reply
-unfolding constantLine predicateLine totalLine discountLine actionLine rewardLine variantLine becomesLine startLine objectsLine isLine trueLine withVocabulary withTotal withDiscount withAction valueRead backupLine cutLine diagramAnswer reduceLine formRead rows
+unfolding constantLine predicateLine totalLine discountLine actionLine rewardLine variantLine becomesLine startLine objectsLine isLine trueLine
+    withVocabulary withTotal withDiscount withAction valueRead backupLine cutLine diagramAnswer reduceLine formRead bestRead countRead rows
 done σ number K.Constant es = quietly σ number (withNames σ) (constantLine (σ .names) (keyIn (wordAt es 0)))
 done σ number K.Predicate es =
     quietly σ number (withVocabulary σ) (predicateLine (record { names = σ .names; arities = σ .model .arities }) (keyIn (wordAt es 0)) (numberIn (wordAt es 1)))
@@ -214,6 +230,9 @@ done σ number K.Cut es = record {
 done σ number K.Show es = record { session = σ; answer = A.Show (length (rows (σ .held .diagram))) }
 done σ number K.Reduce es = reduceSays σ number (reduceLine (σ .model .arities) (σ .held))
 done σ number K.Text es = textSays σ number (formRead (σ .model .arities) (σ .names) (σ .held .diagram))
+done σ number K.Best es = bestSays σ number (bestRead (σ .model) (σ .live) (σ .held .diagram))
+done σ number K.Count es =
+    countSays σ number (numberIn (wordAt es 0)) (countRead (σ .model) (σ .names) (σ .live) (σ .held .diagram) (numberIn (wordAt es 0)))
 done σ number K.Bad es = refusal σ number Form
 
 -- behind the place
@@ -221,7 +240,7 @@ abbrev pub placed : Session → ℕ → Outcome (Unit {0}) → Reply → Reply
 placed σ number (ok u) after = after
 placed σ number (refused r) after = refusal σ number r
 
--- line `number` of a text is of a kind and has the words es: 1, 5, then the line's own checks
+-- line `number` of a text is of a kind and has the words es: 1, 5 (for (best) also 20), then the line's own checks
 unfoldable pub replyTo : Session → ℕ → Kind → List Event → Reply
 unfolding allowed done
 replyTo σ number k es = placed σ number (allowed σ (ruleOf k (σ .part))) (done σ number k es)

@@ -1,16 +1,18 @@
--- (start) and the lines of the run: what their operations answer, and what an accepted one does (document 01, sections 'Text', 'Backup' and 'Cut'; document 02, L13).
-use mathlib.Core.Bool.{Bool, true, false}
-use mathlib.Core.List.{List, []}
+-- (start) and the lines of the run: what their operations answer, and what an accepted one does (document 01, sections 'Text', 'Backup' and 'Cut'; document 02, L2, L9,
+-- L11 and L13).
+use mathlib.Core.Bool.{Bool, true, false, not, _&&_}
+use mathlib.Core.List.{List, [], _∷_}
 use Prim.Native.Nat.{ℕ, suc, _^_}
-use lib.ListN.{length}
+use lib.ListN.{length, getD}
+use lib.Dec.{leb}
 use Rattle.refusal.specs.declared.Refusal.{Refusal}
-use Rattle.refusal.specs.declared.Refusal.the-variants.{Valuations, Length}
+use Rattle.refusal.specs.declared.Refusal.the-variants.{Range, Valuations, Length}
 use Rattle.diagram.specs.Diagram.{Diagram}
 use Rattle.diagram.specs.Rows.{rows}
 use Rattle.diagram.specs.Listing.{listing}
 use Rattle.state.specs.State.{State, meaning}
 use Rattle.state.specs.Highest.{highest}
-use Rattle.state.specs.Lent.{stateOf}
+use Rattle.state.specs.Lent.{stateOf, constantsBelow}
 use Rattle.elimination.specs.Answer.{isTooLarge}
 use Rattle.refusal.specs.Outcome.{Outcome, ok, andThen}
 use Rattle.cutting.specs.declared.Cut.{Cut}
@@ -20,12 +22,17 @@ use Rattle.reduction.specs.Reduction.{reduceAnswer}
 use Rattle.mdp.specs.Model.{Model, scale}
 use Rattle.mdp.specs.Backup.{backup}
 use Rattle.mdp.specs.Runs.{Held, begin}
+use Rattle.best.specs.Moves.{Move}
+use Rattle.best.specs.Best.{bestAnswer}
+use Rattle.spread.specs.Spread.{Entry, entriesOf, spread}
+use Rattle.words.specs.declared.Key.{Key}
 use Rattle.diagram_form.specs.Form.{Tables, tablesOf, formLength, isTooLong}
 use Rattle.answers.specs.declared.Answer.{Answer}
 use Rattle.answers.specs.declared.Answer.the-variants as A
 use Rattle.session.specs.declared.Part.{Part}
 use Rattle.session.specs.declared.Part.the-variants.{Run}
 use Rattle.session.specs.Session.{Names, Live, Session, refuseIf}
+use Rattle.session.specs.Facts.{mostObjects}
 use Rattle.session.specs.Modelling.{weighed}
 
 -- the session with another value diagram and another k, in a part of the text
@@ -103,3 +110,36 @@ tablesIn n = tablesOf (n .constants) (n .predicates)
 unfoldable pub formRead : List ℕ → Names → Diagram → Outcome ℕ
 unfolding isTooLong formLength tablesOf
 formRead ar n d = refuseIf (isTooLong ar (tablesIn n) d) Length (ok (formLength ar (tablesIn n) d))
+
+-- ===== (best) =====
+
+-- 'for the state in hand and k': the first action, then the lowest objects in order, whose weighted sum over variants is highest, or what refuses it (document 02,
+-- L9)
+unfoldable pub bestRead : Model → Live → Diagram → Outcome Move
+unfolding bestAnswer stateIn
+bestRead m l d = bestAnswer m (stateIn (m .arities) l) d
+
+-- the key of no name
+abbrev pub noKey : Key
+noKey = record { a = 0; b = 0 }
+
+-- '(best action object ..)': the action's name as declared, and its objects
+abbrev pub bestIs : Names → Move → Answer
+bestIs n x =
+    A.Best (getD (n .actions) (x .action) noKey) (length (x .objects))
+    (getD (x .objects) 0 0) (getD (x .objects) 1 0) (getD (x .objects) 2 0) (getD (x .objects) 3 0)
+
+-- ===== (count n) =====
+
+-- 'over all states of n objects, with the constants placed as they are now': how many declared predicates there are, and the value's listing
+abbrev pub entriesIn : Model → Names → Live → Diagram → ℕ → List Entry
+entriesIn m names l d n = entriesOf (m .arities) (length (names .predicates)) n (l .constants) (listing d)
+
+-- 'n from 1 to 64 or else 4'; 'a constant placed beyond n meets 4' (of the 16 words those that are not declared are 0: text_spreads `text-settled`); then 24 and 15
+-- (document 02, L11)
+unfoldable pub countRead : Model → Names → Live → Diagram → ℕ → Outcome (List Entry)
+unfolding constantsBelow spread
+countRead m names l d n =
+    refuseIf (not (leb 1 n && leb n mostObjects)) Range
+    (refuseIf (not (constantsBelow n (l .constants))) Range
+    (spread (m .arities) (length (names .predicates)) n (l .constants) (listing d)))

@@ -7,13 +7,14 @@ use lib.Dec.{eqb, ltb}
 use Rattle.refusal.specs.declared.Refusal.the-variants.{Form, Place}
 use Rattle.diagram.specs.Listing.{listing}
 use Rattle.diagram_form.specs.Form.{formBytes}
+use Rattle.spread.specs.Spread.{entryWords}
 use Rattle.answers.specs.declared.Answer.{Answer}
-use Rattle.answers.specs.declared.Answer.the-variants.{Refused}
+use Rattle.answers.specs.declared.Answer.the-variants as A
 use Rattle.answers.specs.Answers.{answerBytes, answerLine}
 use Rattle.session.specs.declared.Part.{Part}
 use Rattle.session.specs.declared.Part.the-variants.{Model, Run}
 use Rattle.session.specs.Session.{Session, opening}
-use Rattle.session.specs.Running.{tablesIn}
+use Rattle.session.specs.Running.{tablesIn, entriesIn}
 use Rattle.session.specs.Replies.{Reply, reply, refusal}
 
 -- 'line feed at the end'
@@ -53,10 +54,24 @@ pub record Progress : Type 0 where
 unfoldable pub valueForm : Session → List ℕ
 valueForm σ = formBytes (σ .model .arities) (tablesIn (σ .names)) (σ .held .diagram)
 
--- the bytes of a reply; (show) shows the value diagram's listing, (text) prints its form
+-- the values of all states of n objects and their numbers of states, as words, where the answer is that they were counted (document 02, L11)
+unfoldable pub tableOf : Session → Answer → List ℕ
+unfolding entryWords
+tableOf σ (A.Value v k s) = []
+tableOf σ (A.Backup k n) = []
+tableOf σ (A.Cut i e n) = []
+tableOf σ (A.Reduce n) = []
+tableOf σ (A.Refused r line) = []
+tableOf σ (A.Show n) = []
+tableOf σ (A.Text n) = []
+tableOf σ (A.Best k n a b c d) = []
+tableOf σ (A.Count n m) = entryWords (entriesIn (σ .model) (σ .names) (σ .live) (σ .held .diagram) n)
+tableOf σ A.Nothing = []
+
+-- the bytes of a reply; (show) shows the value diagram's listing, (text) prints its form, (count n) the values of all states of n objects
 unfoldable pub replyBytes : Reply → List ℕ
-unfolding answerBytes listing valueForm
-replyBytes r = answerBytes (listing (r .session .held .diagram)) (valueForm (r .session)) (r .answer)
+unfolding answerBytes listing valueForm tableOf
+replyBytes r = answerBytes (listing (r .session .held .diagram)) (valueForm (r .session)) (tableOf (r .session) (r .answer)) (r .answer)
 
 -- one reply more, to a line with bytes or to a blank one
 abbrev pub replied : Progress → Bool → Reply → Progress
@@ -87,7 +102,7 @@ unfinished Run met = false
 -- nothing' (document 02, L1)
 unfoldable pub closing : Part → Bool → List ℕ
 unfolding answerLine
-closing part met = cond (unfinished part met) (answerLine (Refused Place 0)) []
+closing part met = cond (unfinished part met) (answerLine (A.Refused Place 0)) []
 
 unfoldable pub beginning : Progress
 unfolding opening

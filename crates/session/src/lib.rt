@@ -29,6 +29,10 @@ pub enum Rule {
     // an accepted (objects n) before it, or that and every constant placed
     AfterObjects,
     WholeState,
+    // that too, for (best), which has a number of its own where it is missing
+    MoveState,
+    // every constant placed
+    Constants,
 }
 
 // One decision over the kind of line against the part of the text that it stands in.
@@ -55,6 +59,8 @@ pub fn rule_of(kind: Kind, part: Part) -> Rule
             Kind::Show => Rule::Misplaced,
             Kind::Reduce => Rule::Misplaced,
             Kind::Text => Rule::Misplaced,
+            Kind::Best => Rule::Misplaced,
+            Kind::Count => Rule::Misplaced,
             Kind::Bad => Rule::NoForm,
         },
         Part::Run => match kind {
@@ -76,6 +82,8 @@ pub fn rule_of(kind: Kind, part: Part) -> Rule
             Kind::Show => Rule::Anywhere,
             Kind::Reduce => Rule::Anywhere,
             Kind::Text => Rule::Anywhere,
+            Kind::Best => Rule::MoveState,
+            Kind::Count => Rule::Constants,
             Kind::Bad => Rule::NoForm,
         },
     }
