@@ -153,7 +153,7 @@ fn add_variant(
 }
 
 // The sum over the variants of an action, begun at leaf 0.
-fn variants_sum(
+pub fn variants_sum(
     arities: &[u64],
     listings: &[u64],
     table: &[u64],
