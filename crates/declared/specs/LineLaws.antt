@@ -369,6 +369,8 @@ module _ (σ : Session) (good : GoodSession σ) (h : DeclaredSession σ) where
     forReduce = λ x e t. reduce-line σ h good (run K.Reduce refl t) x e;
     forShow = λ t. h;
     forText = λ n e t. h;
+    forBest = λ x e t. h;
+    forCount = λ l e t. h;
   }
 
   -- the events of a line that stands where it may are those of its tree

@@ -16,7 +16,7 @@
 --   weightTree == (variant n WEIGHT): 2 at its name; words, row steps; last 9 for variants and model rows
 --   truthTree == (becomes (p ?a ..) DIAGRAM): 2, 3 at p, 2 at a repeated argument; words, row steps, 7; last 9 for model rows
 --   treeDone == what a line of each kind does and is answered, where it stands where it may
---   treeReply == the reply to a line: 5, then its own checks
+--   treeReply == the reply to a line: 5, for (best) also 20, then its own checks
 --
 -- Definitions: lines in bytes, and texts
 --   TreeAnswer == a blank line passes; what a well-formed tree writes is answered as the tree says; bytes that no tree writes are 1

@@ -150,6 +150,8 @@ keyword-unbroken K.Cut = refl
 keyword-unbroken K.Show = refl
 keyword-unbroken K.Reduce = refl
 keyword-unbroken K.Text = refl
+keyword-unbroken K.Best = refl
+keyword-unbroken K.Count = refl
 keyword-unbroken K.Bad = refl
 
 -- a line is one line, whatever stands behind its line feed

@@ -29,8 +29,9 @@ use Rattle.session.specs.Session.{Session, refuseIf}
 use Rattle.session.specs.Declaring.{constantLine, predicateLine, totalLine, discountLine, repeated, actionLine}
 use Rattle.session.specs.Facts.{predicateOf, objectsLine, isLine, trueLine}
 use Rattle.session.specs.Modelling.{mostModelRows, rowsWith, withReward, withVariant, truthsNow, isSome, withTruth}
-use Rattle.session.specs.Running.{withHeld, startLine, valueRead, backupLine, cutLine, cutSays, reduceLine, formRead}
-use Rattle.session.specs.Replies.{Reply, allowed, withNames, withLive, withVocabulary, withTotal, withDiscount, withAction, refusal, quietly, valueSays, backupSays, reduceSays, textSays, placed}
+use Rattle.session.specs.Running.{withHeld, startLine, valueRead, backupLine, cutLine, cutSays, reduceLine, formRead, bestRead, countRead}
+use Rattle.session.specs.Replies.{Reply, allowed, withNames, withLive, withVocabulary, withTotal, withDiscount, withAction}
+use Rattle.session.specs.Replies.{refusal, quietly, valueSays, backupSays, reduceSays, textSays, bestSays, countSays, placed}
 use Rattle.line_trees.specs.TreeReading.{rewardVariables, readTree}
 
 -- (reward DIAGRAM): no parameter, any variables, by ascending N where each is written so; its row steps, closed up; last 9 for model rows
@@ -68,7 +69,9 @@ truthTree σ k vs d =
 
 -- what a line of each kind does and is answered, where it stands where it may; no tree is of the last kind
 unfoldable pub treeDone : Session → ℕ → (k : Kind) → Words k → Reply
-unfolding keyOf valueOf constantLine predicateLine totalLine discountLine actionLine rewardTree withReward weightTree withVariant truthTree withTruth startLine objectsLine isLine trueLine withVocabulary withTotal withDiscount withAction valueRead backupLine cutLine diagramAnswer reduceLine formRead rows
+unfolding keyOf valueOf constantLine predicateLine totalLine discountLine actionLine rewardTree withReward weightTree withVariant truthTree withTruth
+    startLine objectsLine isLine trueLine withVocabulary withTotal withDiscount withAction valueRead backupLine cutLine diagramAnswer reduceLine formRead bestRead
+    countRead rows
 treeDone σ number K.Constant n = quietly σ number (withNames σ) (constantLine (σ .names) (keyOf n))
 treeDone σ number K.Predicate w =
     quietly σ number (withVocabulary σ) (predicateLine (record { names = σ .names; arities = σ .model .arities }) (keyOf (w .0)) (valueOf (w .1)))
@@ -93,9 +96,11 @@ treeDone σ number K.Cut w = record {
 treeDone σ number K.Show w = record { session = σ; answer = A.Show (length (rows (σ .held .diagram))) }
 treeDone σ number K.Reduce w = reduceSays σ number (reduceLine (σ .model .arities) (σ .held))
 treeDone σ number K.Text w = textSays σ number (formRead (σ .model .arities) (σ .names) (σ .held .diagram))
+treeDone σ number K.Best w = bestSays σ number (bestRead (σ .model) (σ .live) (σ .held .diagram))
+treeDone σ number K.Count n = countSays σ number (valueOf n) (countRead (σ .model) (σ .names) (σ .live) (σ .held .diagram) (valueOf n))
 treeDone σ number K.Bad w = refusal σ number Form
 
--- line `number` of a text: 5 for its place, then the line's own checks
+-- line `number` of a text: 5, for (best) also 20, for its place, then the line's own checks
 unfoldable pub treeReply : Session → ℕ → Line → Reply
 unfolding allowed treeDone
 treeReply σ number (line k w) = placed σ number (allowed σ (ruleOf k (σ .part))) (treeDone σ number k w)

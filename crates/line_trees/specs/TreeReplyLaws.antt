@@ -207,6 +207,8 @@ module _ (σ : Session) where
   done-tree number K.Show w g h = refl
   done-tree number K.Reduce w g h = refl
   done-tree number K.Text w g h = refl
+  done-tree number K.Best w g h = refl
+  done-tree number K.Count w g h = refl
   done-tree number K.Bad w g h = refl
 
 -- ===== A line in bytes =====
@@ -241,6 +243,8 @@ only-bad K.Cut h = absurd (h refl)
 only-bad K.Show h = absurd (h refl)
 only-bad K.Reduce h = absurd (h refl)
 only-bad K.Text h = absurd (h refl)
+only-bad K.Best h = absurd (h refl)
+only-bad K.Count h = absurd (h refl)
 only-bad K.Bad h = refl
 
 bad-reply : (σ : Session) (number : ℕ) (part : Part) (y : Reply) → placed σ number (allowed σ (ruleOf K.Bad part)) y ≡ refusal σ number Form

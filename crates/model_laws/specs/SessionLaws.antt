@@ -19,6 +19,7 @@ while-model σ part none tables agreeing parts few = record {
   parts = parts;
   few = few;
   state = λ some. absurd (omega arith);
+  most = omega arith;
   quiet = λ e. none;
   begun = λ run. absurd (let z : ModelPart ≡ Run = sym part ∙ run in let y : _≡_ {A = ℕ} 0 1 = cc in omega arith);
 }

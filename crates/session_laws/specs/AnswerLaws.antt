@@ -13,7 +13,7 @@ use Rattle.answers.specs.declared.Answer.the-variants as A
 use Rattle.session.specs.Place.{ruleOf}
 use Rattle.session.specs.Session.{Session}
 use Rattle.session.specs.Replies.{Reply, refusal, allowed, wordsOf, reply}
-use Rattle.session_laws.specs.LineAnswers.{Answered, quiet, valued, backed, cutting, reducing, showing, printing, OneAnswer, blank, refusing, accepted}
+use Rattle.session_laws.specs.LineAnswers.{Answered, quiet, valued, backed, cutting, reducing, showing, printing, moving, counting, OneAnswer, blank, refusing, accepted}
 use Rattle.session_laws.specs.CaseLaws.{Cases, done-by, reply-by}
 
 -- where a line of the kind k with the words es may stand, the reply is y
@@ -45,6 +45,8 @@ module _ (σ : Session) (number : ℕ) (es : List Event) where
     forReduce = λ h e. answered K.Reduce _ (reducing h refl e refl refl);
     forShow = answered K.Show _ (showing refl refl refl);
     forText = λ n e. answered K.Text _ (printing n refl e refl refl);
+    forBest = λ x e. answered K.Best _ (moving x refl e refl refl);
+    forCount = λ l e. answered K.Count _ (counting l refl e refl refl);
   }
 
 pub one-answer : (σ : Session) (number : ℕ) (s : List ℕ) → OneAnswer σ number s (lineKind s) (reply σ number s)
@@ -62,6 +64,8 @@ accepted-none σ es k y r n (cutting i d m p h t q) e = let z : _≡_ {A = ℕ} 
 accepted-none σ es k y r n (reducing h p i t q) e = let z : _≡_ {A = ℕ} 0 1 = cc in omega arith
 accepted-none σ es k y r n (showing p t q) e = let z : _≡_ {A = ℕ} 0 1 = cc in omega arith
 accepted-none σ es k y r n (printing m p h t q) e = let z : _≡_ {A = ℕ} 0 1 = cc in omega arith
+accepted-none σ es k y r n (moving x p h t q) e = let z : _≡_ {A = ℕ} 0 1 = cc in omega arith
+accepted-none σ es k y r n (counting l p h t q) e = let z : _≡_ {A = ℕ} 0 1 = cc in omega arith
 
 -- a refusal has the line's own number, and leaves the session as it was
 pub refused-reply : (σ : Session) (number : ℕ) (s : List ℕ) (r : Refusal) (n : ℕ) → reply σ number s .answer ≡ A.Refused r n

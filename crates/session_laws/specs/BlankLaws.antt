@@ -12,6 +12,8 @@ use Rattle.cutting.specs.declared.Cut.{Cut}
 use Rattle.cutting.specs.declared.Cut.the-variants as C
 use Rattle.cutting.specs.Cut.{diagramAnswer}
 use Rattle.mdp.specs.Runs.{Held}
+use Rattle.best.specs.Moves.{Move}
+use Rattle.spread.specs.Spread.{Entry}
 use Rattle.text.specs.declared.Kind.{Kind}
 use Rattle.text.specs.declared.Kind.the-variants as K
 use Rattle.text.specs.LineForm.{lineKind}
@@ -23,8 +25,8 @@ use Rattle.session.specs.Place.{ruleOf}
 use Rattle.session.specs.Declaring.{constantLine, predicateLine, totalLine, discountLine, actionLine}
 use Rattle.session.specs.Facts.{objectsLine, isLine, trueLine}
 use Rattle.session.specs.Modelling.{rewardLine, variantLine, becomesLine}
-use Rattle.session.specs.Running.{startLine, valueRead, backupLine, cutSays, reduceLine, formRead}
-use Rattle.session.specs.Replies.{Reply, silent, quietly, valueSays, backupSays, reduceSays, textSays, allowed, withNames, withLive, withVocabulary}
+use Rattle.session.specs.Running.{startLine, valueRead, backupLine, cutSays, reduceLine, formRead, bestRead, countRead}
+use Rattle.session.specs.Replies.{Reply, silent, quietly, valueSays, backupSays, reduceSays, textSays, bestSays, countSays, allowed, withNames, withLive, withVocabulary}
 use Rattle.session.specs.Replies.{withTotal, withDiscount, withAction, done, placed, replyTo, wordsOf, reply}
 use Rattle.session.specs.Texts.{lineFeed, Lines, behindByte, linesOf, hasBytes, Progress, replyBytes}
 use Rattle.session.specs.Texts.{afterLine, afterLines, afterRest, closing, beginning, textRead, textAnswers}
@@ -66,6 +68,14 @@ text-under : (σ : Session) (i j : ℕ) (o : Outcome ℕ) → replyUnder j (text
 text-under σ i j (ok n) = refl
 text-under σ i j (refused r) = refl
 
+best-under : (σ : Session) (i j : ℕ) (o : Outcome Move) → replyUnder j (bestSays σ i o) ≡ bestSays σ j o
+best-under σ i j (ok x) = refl
+best-under σ i j (refused r) = refl
+
+count-under : (σ : Session) (i j n : ℕ) (o : Outcome (List Entry)) → replyUnder j (countSays σ i n o) ≡ countSays σ j n o
+count-under σ i j n (ok l) = refl
+count-under σ i j n (refused r) = refl
+
 cut-under : (i j : ℕ) (c : Cut) → under j (cutSays i c) ≡ cutSays j c
 cut-under i j (C.Done row e n) = refl
 cut-under i j (C.Refused r) = refl
@@ -93,6 +103,10 @@ done-under σ i j K.Cut es =
 done-under σ i j K.Show es = refl
 done-under σ i j K.Reduce es = reduce-under σ i j (reduceLine (σ .model .arities) (σ .held))
 done-under σ i j K.Text es = text-under σ i j (formRead (σ .model .arities) (σ .names) (σ .held .diagram))
+done-under σ i j K.Best es = best-under σ i j (bestRead (σ .model) (σ .live) (σ .held .diagram))
+done-under σ i j K.Count es =
+    let n = numberIn (wordAt es 0) in
+    count-under σ i j n (countRead (σ .model) (σ .names) (σ .live) (σ .held .diagram) n)
 done-under σ i j K.Bad es = refl
 
 placed-under : (σ : Session) (i j : ℕ) (o : Outcome (Unit {0})) (x y : Reply) → replyUnder j x ≡ y → replyUnder j (placed σ i o x) ≡ placed σ j o y

@@ -13,6 +13,8 @@ use Rattle.cutting.specs.declared.Cut.the-variants as C
 use Rattle.cutting.specs.Cut.{diagramAnswer}
 use Rattle.mdp.specs.Model.{scale}
 use Rattle.mdp.specs.Runs.{Held}
+use Rattle.best.specs.Moves.{Move}
+use Rattle.spread.specs.Spread.{Entry}
 use Rattle.text.specs.declared.Kind.{Kind}
 use Rattle.text.specs.declared.Kind.the-variants as K
 use Rattle.text.specs.LineForm.{lineKind}
@@ -24,8 +26,8 @@ use Rattle.session.specs.Session.{Names, Live, Session}
 use Rattle.session.specs.Declaring.{Vocabulary, constantLine, predicateLine, totalLine, discountLine, actionLine}
 use Rattle.session.specs.Facts.{objectsLine, isLine, trueLine}
 use Rattle.session.specs.Modelling.{rewardLine, variantLine, becomesLine}
-use Rattle.session.specs.Running.{withHeld, startLine, valueRead, backupLine, cutLine, cutTo, cutSays, reduceLine, formRead}
-use Rattle.session.specs.Replies.{Reply, refusal, silent, quietly, valueSays, backupSays, reduceSays, textSays, allowed, withNames, withLive}
+use Rattle.session.specs.Running.{withHeld, startLine, valueRead, backupLine, cutLine, cutTo, cutSays, reduceLine, formRead, bestRead, bestIs, countRead}
+use Rattle.session.specs.Replies.{Reply, refusal, silent, quietly, valueSays, backupSays, reduceSays, textSays, bestSays, countSays, allowed, withNames, withLive}
 use Rattle.session.specs.Replies.{withVocabulary, withTotal, withDiscount, withAction, done, placed, replyTo, wordsOf, reply}
 
 abbrev pub vocabularyOf : Session → Vocabulary
@@ -56,6 +58,9 @@ pub record Cases (σ : Session) (number : ℕ) (es : List Event) (P : Kind → R
       → P K.Reduce (record { session = withHeld σ (σ .part) h; answer = A.Reduce (length (rows (h .diagram))) })
   pub forShow : P K.Show (record { session = σ; answer = A.Show (length (rows (σ .held .diagram))) })
   pub forText : (n : ℕ) → formRead (σ .model .arities) (σ .names) (σ .held .diagram) ≡ ok n → P K.Text (record { session = σ; answer = A.Text n })
+  pub forBest : (x : Move) → bestRead (σ .model) (σ .live) (σ .held .diagram) ≡ ok x → P K.Best (record { session = σ; answer = bestIs (σ .names) x })
+  pub forCount : (l : List Entry) → countRead (σ .model) (σ .names) (σ .live) (σ .held .diagram) (numberIn (wordAt es 0)) ≡ ok l
+      → P K.Count (record { session = σ; answer = A.Count (numberIn (wordAt es 0)) (length l) })
 
 -- ===== By the outcome of a line =====
 
@@ -91,6 +96,15 @@ module _ (σ : Session) (number : ℕ) (P : Reply → Type 0) (r : (t : Refusal)
   text-by : (o : Outcome ℕ) → ((n : ℕ) → o ≡ ok n → P (record { session = σ; answer = A.Text n })) → P (textSays σ number o)
   text-by (ok n) h = h n refl
   text-by (refused t) h = r t
+
+  best-by : (o : Outcome Move) → ((x : Move) → o ≡ ok x → P (record { session = σ; answer = bestIs (σ .names) x })) → P (bestSays σ number o)
+  best-by (ok x) h = h x refl
+  best-by (refused t) h = r t
+
+  count-by : (n : ℕ) (o : Outcome (List Entry)) → ((l : List Entry) → o ≡ ok l → P (record { session = σ; answer = A.Count n (length l) }))
+      → P (countSays σ number n o)
+  count-by n (ok l) h = h l refl
+  count-by n (refused t) h = r t
 
   pub placed-by : (o : Outcome (Unit {0})) (y : Reply) → (o ≡ ok tt → P y) → P (placed σ number o y)
   placed-by (ok u) y h = h refl
@@ -131,6 +145,10 @@ module _ (σ : Session) (number : ℕ) (es : List Event) (P : Kind → Reply →
   done-by K.Show = c .forShow
   done-by K.Reduce = reduce-by σ number (P K.Reduce) (c .refusing K.Reduce) (reduceLine (σ .model .arities) (σ .held)) (c .forReduce)
   done-by K.Text = text-by σ number (P K.Text) (c .refusing K.Text) (formRead (σ .model .arities) (σ .names) (σ .held .diagram)) (c .forText)
+  done-by K.Best = best-by σ number (P K.Best) (c .refusing K.Best) (bestRead (σ .model) (σ .live) (σ .held .diagram)) (c .forBest)
+  done-by K.Count =
+      let n = numberIn (wordAt es 0) in
+      count-by σ number (P K.Count) (c .refusing K.Count) n (countRead (σ .model) (σ .names) (σ .live) (σ .held .diagram) n) (c .forCount)
   done-by K.Bad = c .refusing K.Bad Form
 
 -- a line in bytes: blank, refused for its place, or done

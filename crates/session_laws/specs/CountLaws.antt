@@ -57,6 +57,8 @@ module _ (σ : Session) (g : GoodSession σ) (h : Counted σ) where
     forReduce = λ x e a. h;
     forShow = λ a. h;
     forText = λ n e a. h;
+    forBest = λ x e a. h;
+    forCount = λ l e a. h;
   }
 
   pub reply-counted : (number : ℕ) (s : List ℕ) → Counted (reply σ number s .session)

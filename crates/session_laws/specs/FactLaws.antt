@@ -122,7 +122,7 @@ fact-good : (σ : Session) → GoodSession σ → σ .part ≡ Run → WholeRows
 unfolding withFact
 fact-good σ g r w p os b =
     live-good σ g r (withFact (σ .live) (factRow p os))
-    (λ h. row-state (σ .live .facts) w p os (σ .model .arities) (σ .live .objects) (σ .live .constants) b (g .state h))
+    (λ h. row-state (σ .live .facts) w p os (σ .model .arities) (σ .live .objects) (σ .live .constants) b (g .state h)) (g .most)
 
 pub true-good : (σ : Session) → GoodSession σ → σ .part ≡ Run → WholeRows (σ .live .facts) → (k : Key) (os : List ℕ) (l : Live)
     → trueLine (σ .model .arities) (σ .names) (σ .live) k os ≡ ok l → GoodSession (withLive σ l)

@@ -1,10 +1,13 @@
--- What holds of every session from line to line, and demands 1 and 3 for texts (document 01, sections 'Text', 'Backup' and 'A run, whole'; document 02, L1, L2, L5, L6 and L13).
+-- What holds of every session from line to line, and demands 1 and 3 for texts (document 01, sections 'Text', 'Backup' and 'A run, whole'; document 02, L1, L2, L5, L6, L9, L11
+-- and L13).
 --
 -- Definitions: a line
 --   Makes, MovesTo == the session behind an accepted line that prints nothing, kind by kind: a line of the model, (start), (objects), (is), (true)
---   Answered == the reply to an accepted line is of its kind; (value), (show) and (text) leave the session
+--   Answered == the reply to an accepted line is of its kind; (value), (show), (text), (best) and (count n) leave the session
 --   OneAnswer == a line is blank, prints nothing and leaves the session; or is refused under its own number, the session left; or stands where it may and is Answered
 --   Shows, Prints == the reply to an accepted (show); to an accepted (text): the value's form and a line feed, at most 4,086 bytes and one, the session left
+--   PrintsMove == the reply to an accepted (best): a move with an object for each parameter; it prints the action's name and these objects, the session left
+--   entryLines, PrintsCounts == the lines of entries; the reply to an accepted (count n): a line for each entry, at most 1,023, of machine words, the session left
 --   IsValue == the run has begun; v is Mk of the state in hand, k that of the session, w is S^k
 --
 -- Definitions: lines and texts
@@ -24,7 +27,9 @@
 --   one-answer: every line has exactly one reply: none where it is blank, a refusal, or the answer of its kind; and the session behind it, by its kind
 --   refused-leaves: a refused line leaves the session as it was
 --   reply-prints: a line that is answered by a form is an accepted (text), and prints the value's form (document 02, L2); reply-shows: so for (show)
---   reply-short: a reply of machine words has at most 92,160 bytes, a form too
+--   reply-moves: so for (best), it prints the move (document 02, L9); reply-counts: so for (count n), it prints the entries (L11)
+--   reply-short: a reply of machine words has at most 92,160 bytes, a form or a spread too; best-words, count-words: those of (best) and (count n) are such
+--   done-bare, reply-bare: only (count n) shows a table
 --   text-bytes: a text's answers are those of its lines, one after another; read-then: a text that ends with a line feed, and one behind it, are read one after another
 --   blank-leaves: a blank line prints nothing and leaves the session as it was
 --   spacing: blank lines move the line numbers of refusals and change no other answer (document 02, L1)
@@ -42,6 +47,7 @@
 --   start-good: (start); backup-good: (backup); cut-good: (cut); reduce-good: (reduce)
 --   call-good: a backup, a cut or a reduction leaves a good value diagram
 --   reply-counted: every line keeps `rows` the sum of the rows of all model listings
+--   best-bound: a move answered has an object of the state for each parameter of its action; entries-few, entries-words: of the entries counted
 --   text-sound: so behind any lines a session is good, its facts are whole rows and `rows` is that sum
 --   kept-good: every line keeps a session good that is kept in lent words
 
@@ -60,6 +66,9 @@ pub mod WholeLaws
 pub mod CountLaws
 pub mod MemoryLaws
 pub mod AnswerLaws
+pub mod MoveLaws
+pub mod EntryLaws
+pub mod TableLaws
 pub mod ValueLaws
 pub mod PrintLaws
 pub mod ShortLaws

@@ -1,11 +1,12 @@
 -- What a line is answered, and the session behind it, kind by kind (document 01, sections 'Text' and 'A run, whole'; document 02, L2 and L13).
 use mathlib.Core.Path.{_≡_}
-use mathlib.Core.Bool.{false}
-use mathlib.Core.List.{List, [], _++_}
-use Prim.Native.Nat.{ℕ, _+_, _^_, _≤_}
-use lib.ListN.{length, drop}
+use mathlib.Core.Bool.{true, false}
+use mathlib.Core.List.{List, [], _∷_, _++_}
+use Prim.Native.Nat.{ℕ, _+_, _*_, _^_, _≤_, _<_}
+use lib.ListN.{length, getD, drop}
 use Rattle.refusal.specs.declared.Refusal.{Refusal}
 use Rattle.diagram.specs.Rows.{rows}
+use Rattle.diagram.specs.Sizes.{mostRows}
 use Rattle.refusal.specs.Outcome.{Outcome, ok}
 use Rattle.cutting.specs.declared.Edge.{Edge}
 use Rattle.cutting.specs.declared.Cut.the-variants as C
@@ -13,6 +14,9 @@ use Rattle.cutting.specs.Cut.{diagramAnswer}
 use Rattle.mdp.specs.Model.{scale}
 use Rattle.mdp.specs.Bellman.{bellman}
 use Rattle.mdp.specs.Runs.{Held}
+use Rattle.state.specs.Max.{Tuple}
+use Rattle.best.specs.Moves.{Move, actionAt}
+use Rattle.spread.specs.Spread.{Entry}
 use Rattle.text.specs.declared.Kind.{Kind}
 use Rattle.text.specs.declared.Kind.the-variants as K
 use Rattle.text.specs.Line.{mostLineBytes}
@@ -20,16 +24,17 @@ use Rattle.diagram_form.specs.Form.{isTooLong}
 use Rattle.events.specs.declared.Event.{Event}
 use Rattle.events.specs.Contents.{keyIn, numberIn, wordAt, keysIn, numbersIn}
 use Rattle.answers.specs.declared.Answer.the-variants as A
-use Rattle.answers.specs.Answers.{lineFeed}
+use Rattle.answers.specs.Answers.{field, fields, nameField, lineFeed, lineEnd, bestHead, countHead}
+use Rattle.answers.specs.Writing.{IsWord}
 use Rattle.session.specs.declared.Part.the-variants.{Run}
 use Rattle.session.specs.Place.{ruleOf}
 use Rattle.session.specs.Session.{Session}
 use Rattle.session.specs.Declaring.{constantLine, predicateLine, totalLine, discountLine, actionLine}
 use Rattle.session.specs.Facts.{objectsLine, isLine, trueLine}
 use Rattle.session.specs.Modelling.{rewardLine, variantLine, becomesLine}
-use Rattle.session.specs.Running.{withHeld, startLine, stateIn, valueRead, backupLine, cutLine, reduceLine, tablesIn, formRead}
-use Rattle.session.specs.Replies.{Reply, refusal, silent, allowed, withNames, withLive, withVocabulary, withTotal, withDiscount, withAction, wordsOf}
-use Rattle.session.specs.Texts.{valueForm, replyBytes}
+use Rattle.session.specs.Running.{withHeld, startLine, stateIn, valueRead, backupLine, cutLine, reduceLine, tablesIn, formRead, bestRead, noKey, bestIs, entriesIn, countRead}
+use Rattle.session.specs.Replies.{Reply, refusal, silent, isPlaced, allowed, withNames, withLive, withVocabulary, withTotal, withDiscount, withAction, wordsOf}
+use Rattle.session.specs.Texts.{valueForm, tableOf, replyBytes}
 
 -- the outcome is accepted, and the session is made of it
 abbrev pub Makes : {A : Type 0} → Outcome A → (A → Session) → Session → Type 0
@@ -56,9 +61,11 @@ MovesTo σ es K.Cut τ = ⊥
 MovesTo σ es K.Show τ = ⊥
 MovesTo σ es K.Reduce τ = ⊥
 MovesTo σ es K.Text τ = ⊥
+MovesTo σ es K.Best τ = ⊥
+MovesTo σ es K.Count τ = ⊥
 MovesTo σ es K.Bad τ = ⊥
 
--- the reply y to an accepted line of the kind k with the words es; (value), (show) and (text) leave the session as it was
+-- the reply y to an accepted line of the kind k with the words es; (value), (show), (text), (best) and (count n) leave the session as it was
 pub data Answered (σ : Session) (es : List Event) (k : Kind) (y : Reply) : Type 0 where
   quiet : MovesTo σ es k (y .session) → y .answer ≡ A.Nothing → Answered σ es k y
   valued : (v : ℕ) → k ≡ K.Value → valueRead (σ .model .arities) (σ .live) (σ .held .diagram) ≡ ok v
@@ -71,6 +78,10 @@ pub data Answered (σ : Session) (es : List Event) (k : Kind) (y : Reply) : Type
       → y .session ≡ withHeld σ (σ .part) h → y .answer ≡ A.Reduce (length (rows (h .diagram))) → Answered σ es k y
   showing : k ≡ K.Show → y .session ≡ σ → y .answer ≡ A.Show (length (rows (σ .held .diagram))) → Answered σ es k y
   printing : (n : ℕ) → k ≡ K.Text → formRead (σ .model .arities) (σ .names) (σ .held .diagram) ≡ ok n → y .session ≡ σ → y .answer ≡ A.Text n → Answered σ es k y
+  moving : (x : Move) → k ≡ K.Best → bestRead (σ .model) (σ .live) (σ .held .diagram) ≡ ok x
+      → y .session ≡ σ → y .answer ≡ bestIs (σ .names) x → Answered σ es k y
+  counting : (l : List Entry) → k ≡ K.Count → countRead (σ .model) (σ .names) (σ .live) (σ .held .diagram) (numberIn (wordAt es 0)) ≡ ok l
+      → y .session ≡ σ → y .answer ≡ A.Count (numberIn (wordAt es 0)) (length l) → Answered σ es k y
 
 -- the reply y to line `number`, which has the bytes s and is of the kind k: it is blank, prints nothing and leaves the session as it was; or it is
 -- refused under its own number and leaves the session as it was (which refusal: session Replies, and line_trees TreeReplies); or it stands where it may and is answered as its kind is
@@ -101,3 +112,32 @@ pub record Prints (σ : Session) (n : ℕ) (y : Reply) : Type 0 where
   pub count : n ≡ length (valueForm σ)
   pub short : 9 + n ≤ mostLineBytes
   pub fits : isTooLong (σ .model .arities) (tablesIn (σ .names)) (σ .held .diagram) ≡ false
+
+-- the reply y to an accepted (best): it stands in the run, with every constant placed, answers the move x, which has an object of the state in hand for each
+-- parameter of its action, prints `(best NAME o ..)`, the action's name as declared and these objects, and leaves the session as it was
+pub record PrintsMove (σ : Session) (x : Move) (y : Reply) : Type 0 where
+  pub run : σ .part ≡ Run
+  pub placed : isPlaced σ ≡ true
+  pub read : bestRead (σ .model) (σ .live) (σ .held .diagram) ≡ ok x
+  pub session : y .session ≡ σ
+  pub answer : y .answer ≡ bestIs (σ .names) x
+  pub objects : Tuple (σ .live .objects) (actionAt (σ .model) (x .action) .count) (x .objects)
+  pub bytes : replyBytes y ≡ bestHead ++ nameField (getD (σ .names .actions) (x .action) noKey) ++ fields (x .objects) ++ lineEnd
+
+-- the line of each entry, in order
+unfoldable pub entryLines : List Entry → List ℕ
+unfolding field
+entryLines [] = []
+entryLines (e ∷ es) = (countHead ++ field (e .value) ++ field (e .states) ++ lineEnd) ++ entryLines es
+
+-- the reply y to an accepted (count n): it stands in the run, prints `(count value states)` for each of the m entries, at most 1,023, and leaves the session as it
+-- was; the entries' words are machine words
+pub record PrintsCounts (σ : Session) (n m : ℕ) (y : Reply) : Type 0 where
+  pub run : σ .part ≡ Run
+  pub read : countRead (σ .model) (σ .names) (σ .live) (σ .held .diagram) n ≡ ok (entriesIn (σ .model) (σ .names) (σ .live) (σ .held .diagram) n)
+  pub session : y .session ≡ σ
+  pub bytes : replyBytes y ≡ entryLines (entriesIn (σ .model) (σ .names) (σ .live) (σ .held .diagram) n)
+  pub count : m ≡ length (entriesIn (σ .model) (σ .names) (σ .live) (σ .held .diagram) n)
+  pub few : m < mostRows
+  pub table : length (tableOf σ (A.Count n m)) ≡ m * 2
+  pub words : (i : ℕ) → IsWord (getD (tableOf σ (A.Count n m)) i 0)

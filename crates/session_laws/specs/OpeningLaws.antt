@@ -51,6 +51,7 @@ opening-good = record {
   parts = opening-parts;
   few = omega arith;
   state = λ h. absurd (omega arith);
+  most = omega arith;
   quiet = λ e. refl;
   begun = λ e. model-run e;
 }

@@ -7,15 +7,17 @@ use lib.ListN.{length}
 use lib.Dec.{leb}
 use borrow.Author.Tests.{leb-true}
 use Rattle.basics.specs.Tests.{and-left}
-use Rattle.refusal.specs.Outcome.{ok}
+use Rattle.refusal.specs.declared.Refusal.{Refusal}
+use Rattle.refusal.specs.declared.Refusal.the-variants.{Place, Missing}
+use Rattle.refusal.specs.Outcome.{Outcome, ok}
 use Rattle.text.specs.declared.Kind.the-variants as K
 use Rattle.session.specs.declared.Part.{Part}
 use Rattle.session.specs.declared.Part.the-variants.{Model, Run}
 use Rattle.session.specs.declared.Rule.{Rule}
 use Rattle.session.specs.declared.Rule.the-variants as R
 use Rattle.session.specs.Place.{ruleOf}
-use Rattle.session.specs.Session.{Session}
-use Rattle.session.specs.Replies.{isWhole, hasObjects, isPlaced, unless, allowed}
+use Rattle.session.specs.Session.{Session, refuseIf}
+use Rattle.session.specs.Replies.{isWhole, eachPlaced, hasObjects, isPlaced, unless, allowed}
 
 pub model-run : {A : Type 0} → Model ≡ Run → A
 model-run e = let z : _≡_ {A = ℕ} 0 1 = cc in absurd (omega arith)
@@ -32,9 +34,12 @@ module _ (σ : Session) (rule : Part → Rule) where
   in-run q Run a = refl
   in-run q Model a = let e = sym (ap (allowed σ) q) ∙ a in let z : _≡_ {A = ℕ} 0 1 = cc in absurd (omega arith)
 
+test-passed : (r : Refusal) (b : Bool) → _≡_ {A = Outcome (Unit {0})} (refuseIf (not b) r (ok tt)) (ok tt) → b ≡ true
+test-passed r true e = refl
+test-passed r false e = let z : _≡_ {A = ℕ} 0 1 = cc in absurd (omega arith)
+
 unless-passed : (b : Bool) → unless (not b) ≡ ok tt → b ≡ true
-unless-passed true e = refl
-unless-passed false e = let z : _≡_ {A = ℕ} 0 1 = cc in absurd (omega arith)
+unless-passed = test-passed Place
 
 unless-off : (b : Bool) → unless b ≡ ok tt → b ≡ false
 unless-off true e = let z : _≡_ {A = ℕ} 0 1 = cc in absurd (omega arith)
@@ -64,6 +69,23 @@ module _ (σ : Session) where
   pub value-allowed : σ .part ≡ Run → isPlaced σ ≡ true → allowed σ (ruleOf K.Value (σ .part)) ≡ ok tt
   unfolding allowed
   value-allowed p e = subst (λ q. allowed σ (ruleOf K.Value q) ≡ ok tt) (sym p) (ap (λ b. unless (not b)) e)
+
+  pub best-placed : σ .part ≡ Run → allowed σ (ruleOf K.Best (σ .part)) ≡ ok tt → isPlaced σ ≡ true
+  unfolding allowed
+  best-placed p a = test-passed Missing (isPlaced σ) (subst (λ q. allowed σ (ruleOf K.Best q) ≡ ok tt) p a)
+
+  pub best-allowed : σ .part ≡ Run → isPlaced σ ≡ true → allowed σ (ruleOf K.Best (σ .part)) ≡ ok tt
+  unfolding allowed
+  best-allowed p e = subst (λ q. allowed σ (ruleOf K.Best q) ≡ ok tt) (sym p) (ap (λ b. refuseIf (not b) Missing (ok tt)) e)
+
+  pub count-placed : σ .part ≡ Run → allowed σ (ruleOf K.Count (σ .part)) ≡ ok tt → eachPlaced (σ .live .placed) (length (σ .names .constants)) ≡ true
+  unfolding allowed
+  count-placed p a =
+      unless-passed (eachPlaced (σ .live .placed) (length (σ .names .constants))) (subst (λ q. allowed σ (ruleOf K.Count q) ≡ ok tt) p a)
+
+  pub count-allowed : σ .part ≡ Run → eachPlaced (σ .live .placed) (length (σ .names .constants)) ≡ true → allowed σ (ruleOf K.Count (σ .part)) ≡ ok tt
+  unfolding allowed
+  count-allowed p e = subst (λ q. allowed σ (ruleOf K.Count q) ≡ ok tt) (sym p) (ap (λ b. unless (not b)) e)
 
   pub placed-objects : isPlaced σ ≡ true → 1 ≤ σ .live .objects
   placed-objects e = leb-true 1 (σ .live .objects) (and-left (hasObjects σ) _ e)

@@ -91,6 +91,8 @@ module _ (σ : Session) (g : GoodSession σ) (whole : WholeRows (σ .live .facts
     forReduce = λ h e t. reduce-good σ g h e;
     forShow = λ t. g;
     forText = λ n e t. g;
+    forBest = λ x e t. g;
+    forCount = λ l e t. g;
   }
 
   pub done-good : (number : ℕ) (k : Kind) (es : List Event) → Standing σ k es → GoodSession (done σ number k es .session)

@@ -2,9 +2,11 @@
 use mathlib.Core.Path.{_≡_, refl, sym}
 use mathlib.Core.Bool.{true}
 use mathlib.Core.List.{List}
-use Prim.Native.Nat.{ℕ, suc}
+use Prim.Native.Nat.{ℕ, suc, _≤_}
 use native.Mathlib.Omega.{arith}
-use Rattle.basics.specs.Tests.{and-left}
+use lib.ListN.{length}
+use borrow.Author.Tests.{leb-true}
+use Rattle.basics.specs.Tests.{and-left, and-right}
 use Rattle.diagram.specs.Diagram.{Diagram}
 use Rattle.refusal.specs.Outcome.{Outcome, ok, refused, andThen}
 use Rattle.refusal.specs.OutcomeLaws.{accepted-ok, accepted-then}
@@ -45,6 +47,12 @@ model-good σ g w =
       actions = g .parts .actions;
     }
 
+-- a whole model has an action
+some-action : (σ : Session) → GoodSession σ → isWhole σ ≡ true → 1 ≤ length (σ .model .actions)
+some-action σ g w =
+    let n = leb-true 1 (length (σ .names .actions)) (and-left _ _ (and-right (σ .singles .reward) _ w)) in
+    omega (arith, g .agreeing .count)
+
 -- the value diagram starts as the reward
 reward-value : (m : Model) → GoodModel m → GoodValue (m .arities) (m .reward)
 reward-value m g = record { listed = g .reward-listed; is-closed = g .reward-closed; within = g .reward }
@@ -57,6 +65,7 @@ held-good σ g h b = record {
   parts = g .parts;
   few = g .few;
   state = g .state;
+  most = g .most;
   quiet = λ e. model-run (sym e);
   begun = λ e. b;
 }
@@ -70,9 +79,10 @@ pub start-good : (σ : Session) → GoodSession σ → σ .part ≡ ModelPart �
     → startLine σ ≡ ok τ → GoodSession τ
 unfolding startLine begin
 start-good σ g p a τ e =
-    let m = model-good σ g (start-model σ p a) in
+    let w = start-model σ p a in
+    let m = model-good σ g w in
     made-by GoodSession (weighed (σ .model .arities) (σ .model .total) (σ .model .actions)) (λ u. withHeld σ Run (begin (σ .model)))
-    (λ u. held-good σ g (begin (σ .model)) (record { good = m; value = reward-value (σ .model) m })) τ e
+    (λ u. held-good σ g (begin (σ .model)) (record { some = some-action σ g w; good = m; value = reward-value (σ .model) m })) τ e
 
 -- ===== (backup), (cut) and (reduce): one call more =====
 
@@ -84,8 +94,9 @@ called-good σ g c = record {
   parts = g .parts;
   few = g .few;
   state = g .state;
+  most = g .most;
   quiet = g .quiet;
-  begun = λ e. let b = g .begun e in record { good = b .good; value = call-good (σ .model) (b .good) c (σ .held) (b .value) };
+  begun = λ e. let b = g .begun e in record { some = b .some; good = b .good; value = call-good (σ .model) (b .good) c (σ .held) (b .value) };
 }
 
 made-taken : (h : Held) (k : ℕ) (o : Outcome Diagram) (h′ : Held) → andThen o (λ d. ok (record { diagram = d; steps = k })) ≡ ok h′ → taken h o k ≡ h′

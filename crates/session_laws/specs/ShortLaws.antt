@@ -1,5 +1,5 @@
--- No reply has more bytes than 1,024 rows shown, forms too (document 01, section 'A run, whole'; document 02, L2).
-use mathlib.Core.Path.{_≡_, refl, ap, ap₂}
+-- No reply has more bytes than 1,024 rows shown, forms and spreads too (document 01, section 'A run, whole'; document 02, L2, L9 and L11).
+use mathlib.Core.Path.{_≡_, refl, sym, ap, _∙_, subst}
 use mathlib.Core.List.{List, []}
 use Prim.Native.Nat.{ℕ, zero, suc, _+_, _*_, _-_, _/_, _≤_, _<_}
 use native.Mathlib.Omega.{arith}
@@ -12,16 +12,19 @@ use Rattle.diagram.specs.Words.{labelAt, highAt, lowAt, rowCount}
 use Rattle.diagram.specs.Listing.{Good, listing}
 use Rattle.diagram.specs.Validity.{ValidRow, a-leaf, a-branch}
 use Rattle.diagram.specs.ListingOfDiagram.{valid-listing}
+use Rattle.words.specs.declared.Key.{Key}
 use Rattle.answers.specs.declared.Answer.{Answer}
 use Rattle.answers.specs.declared.Answer.the-variants as A
 use Rattle.answers.specs.Answers.{answerBytes, lineFeed}
 use Rattle.answers.specs.Writing.{IsWord, OfWords, mostBytes}
-use Rattle.answers.specs.AnswerLaws.{answer-short}
+use Rattle.answers.specs.AnswerLaws.{counts-short, answer-short}
 use Rattle.session.specs.Session.{Session}
 use Rattle.session.specs.Replies.{Reply, reply}
-use Rattle.session.specs.Texts.{valueForm, replyBytes}
+use Rattle.session.specs.Texts.{valueForm, tableOf, replyBytes}
 use Rattle.session.specs.Good.{GoodSession}
-use Rattle.session_laws.specs.PrintLaws.{reply-shows, reply-prints}
+use Rattle.session_laws.specs.PlaceLaws.{placed-objects}
+use Rattle.session_laws.specs.MoveLaws.{tuple-below}
+use Rattle.session_laws.specs.PrintLaws.{reply-shows, reply-prints, reply-moves, reply-counts}
 
 -- ===== The words of a listing =====
 
@@ -64,29 +67,51 @@ module _ (ar : List ℕ) (d : Diagram) (g : Good ar d) where
 no-words : (i : ℕ) → IsWord (getD [] i 0)
 no-words i = omega arith
 
+-- an answer's bytes in a session
+abbrev bytesIn : Session → Answer → List ℕ
+bytesIn τ a = answerBytes (listing (τ .held .diagram)) (valueForm τ) (tableOf τ a) a
+
 module _ (σ : Session) (good : GoodSession σ) (number : ℕ) (s : List ℕ) where
   as-answered : (a : Answer) → reply σ number s .answer ≡ a
-      → length (replyBytes (reply σ number s)) ≡ length (answerBytes (listing (reply σ number s .session .held .diagram)) (valueForm (reply σ number s .session)) a)
+      → length (replyBytes (reply σ number s)) ≡ length (bytesIn (reply σ number s .session) a)
   unfolding replyBytes
-  as-answered a e = ap (λ (b : Answer). length (answerBytes (listing (reply σ number s .session .held .diagram)) (valueForm (reply σ number s .session)) b)) e
+  as-answered a e = ap (λ (b : Answer). length (bytesIn (reply σ number s .session) b)) e
 
   by-answer : (a : Answer) → reply σ number s .answer ≡ a → OfWords a → length (replyBytes (reply σ number s)) ≤ mostBytes
   unfolding answerBytes
-  by-answer (A.Value v k w) e h = omega (arith, as-answered (A.Value v k w) e, answer-short [] [] (A.Value v k w) no-words h tt)
-  by-answer (A.Backup k n) e h = omega (arith, as-answered (A.Backup k n) e, answer-short [] [] (A.Backup k n) no-words h tt)
-  by-answer (A.Cut i x n) e h = omega (arith, as-answered (A.Cut i x n) e, answer-short [] [] (A.Cut i x n) no-words h tt)
-  by-answer (A.Reduce n) e h = omega (arith, as-answered (A.Reduce n) e, answer-short [] [] (A.Reduce n) no-words h tt)
-  by-answer (A.Refused r l) e h = omega (arith, as-answered (A.Refused r l) e, answer-short [] [] (A.Refused r l) no-words h tt)
+  by-answer (A.Value v k w) e h = omega (arith, as-answered (A.Value v k w) e, answer-short [] [] [] (A.Value v k w) no-words h tt)
+  by-answer (A.Backup k n) e h = omega (arith, as-answered (A.Backup k n) e, answer-short [] [] [] (A.Backup k n) no-words h tt)
+  by-answer (A.Cut i x n) e h = omega (arith, as-answered (A.Cut i x n) e, answer-short [] [] [] (A.Cut i x n) no-words h tt)
+  by-answer (A.Reduce n) e h = omega (arith, as-answered (A.Reduce n) e, answer-short [] [] [] (A.Reduce n) no-words h tt)
+  by-answer (A.Refused r l) e h = omega (arith, as-answered (A.Refused r l) e, answer-short [] [] [] (A.Refused r l) no-words h tt)
   by-answer (A.Show n) e h =
       let p = reply-shows σ number s n e in
       let words = listing-words (σ .model .arities) (σ .held .diagram) (good .begun (p .run) .value .listed) in
-      let same = ap (λ (τ : Session). length (answerBytes (listing (τ .held .diagram)) (valueForm τ) (A.Show n))) (p .session) in
-      omega (arith, as-answered (A.Show n) e, same, answer-short (listing (σ .held .diagram)) (valueForm σ) (A.Show n) words h tt)
+      let same = ap (λ (τ : Session). length (bytesIn τ (A.Show n))) (p .session) in
+      omega (arith, as-answered (A.Show n) e, same, answer-short (listing (σ .held .diagram)) (valueForm σ) [] (A.Show n) words h tt)
   by-answer (A.Text n) e h =
       let p = reply-prints σ number s n e in
       omega (arith, ap length (p .bytes), length-append (valueForm σ) lineFeed, p .count, p .short)
+  by-answer (A.Best k n a b c d) e h = omega (arith, as-answered (A.Best k n a b c d) e, answer-short [] [] [] (A.Best k n a b c d) no-words h tt)
+  by-answer (A.Count n m) e h =
+      let p = reply-counts σ good number s n m e in
+      let same = ap (λ (τ : Session). length (bytesIn τ (A.Count n m))) (p .session) in
+      omega (arith, as-answered (A.Count n m) e, same, counts-short (tableOf σ (A.Count n m)) m (p .words) h)
   by-answer A.Nothing e h = omega (arith, as-answered A.Nothing e)
 
   -- the reply of a good session, where its numbers are machine words and a (show) has at most 1,024 rows
   pub reply-short : OfWords (reply σ number s .answer) → length (replyBytes (reply σ number s)) ≤ mostBytes
   reply-short = by-answer (reply σ number s .answer) refl
+
+  -- a move's objects are below 64
+  pub best-words : (k : Key) (n a b c d : ℕ) → reply σ number s .answer ≡ A.Best k n a b c d → OfWords (A.Best k n a b c d)
+  best-words k n a b c d e =
+      let v = reply-moves σ good number s k n a b c d e in
+      let x = v .0 in
+      let object : (i : ℕ) → getD (x .objects) i 0 < σ .live .objects = tuple-below (v .1 .objects) (placed-objects σ (v .1 .placed)) in
+      let most = good .most in
+      subst OfWords (sym (v .1 .answer) ∙ e) (omega (arith, object 0, object 1, object 2, object 3))
+
+  -- a spread has at most 1,023 lines
+  pub count-words : (n m : ℕ) → reply σ number s .answer ≡ A.Count n m → OfWords (A.Count n m)
+  count-words n m e = omega (arith, reply-counts σ good number s n m e .few)

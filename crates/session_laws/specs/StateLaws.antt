@@ -6,7 +6,7 @@ use Prim.Native.Nat.{ℕ, zero, suc, _≤_, _<_}
 use native.Mathlib.Omega.{arith}
 use lib.ListN.{getD, set, replicate, getD-replicate}
 use lib.Dec.{ltb, leb, eqb}
-use borrow.Author.Tests.{ltb-true, leb-true, leb-false, lt-ltb, le-leb}
+use borrow.Author.Tests.{ltb-true, leb-true, leb-false, lt-ltb, le-leb, not-false}
 use Rattle.basics.specs.Tests.{and-left, and-right}
 use Rattle.refusal.specs.declared.Refusal.the-variants.{Name, Range}
 use Rattle.label.specs.Limits.{constantCount}
@@ -51,15 +51,16 @@ state-made ar n constants facts d =
 
 -- another state in the run
 pub live-good : (σ : Session) → GoodSession σ → σ .part ≡ Run → (l : Live)
-    → (1 ≤ l .objects → isState (σ .model .arities) (l .objects) (l .constants) (l .facts) ≡ true) → GoodSession (withLive σ l)
-live-good σ g p l h = record {
+    → (1 ≤ l .objects → isState (σ .model .arities) (l .objects) (l .constants) (l .facts) ≡ true) → l .objects ≤ mostObjects → GoodSession (withLive σ l)
+live-good σ g p l h m = record {
   tables = g .tables;
   agreeing = g .agreeing;
   parts = g .parts;
   few = g .few;
   state = h;
+  most = m;
   quiet = λ e. model-run (sym e ∙ p);
-  begun = λ e. let b = g .begun e in record { good = b .good; value = b .value };
+  begun = λ e. let b = g .begun e in record { some = b .some; good = b .good; value = b .value };
 }
 
 -- ===== (objects n) =====
@@ -72,9 +73,11 @@ cleared-state ar n h = state-made ar n (replicate constantCount 0) [] (record {
   naming = λ i k. absurd (omega arith);
 })
 
-pub objects-kept : (P : Live → Type 0) (n : ℕ) → P (cleared n) → Accepted P (objectsLine n)
+pub objects-kept : (P : Live → Type 0) (n : ℕ) → (n ≤ mostObjects → P (cleared n)) → Accepted P (objectsLine n)
 unfolding objectsLine
-objects-kept P n h = accepted-cond (not (leb 1 n && leb n mostObjects)) Range (ok (cleared n)) (λ d. accepted-ok h)
+objects-kept P n h =
+    accepted-cond (not (leb 1 n && leb n mostObjects)) Range (ok (cleared n)) (λ d.
+    accepted-ok (h (leb-true n mostObjects (and-right (leb 1 n) _ (not-false (leb 1 n && leb n mostObjects) d)))))
 
 pub objects-good : (σ : Session) → GoodSession σ → σ .part ≡ Run → (n : ℕ) (l : Live) → objectsLine n ≡ ok l → GoodSession (withLive σ l)
 unfolding cleared
@@ -103,7 +106,7 @@ placed-state ar l c o h e =
 
 placed-good : (σ : Session) → GoodSession σ → σ .part ≡ Run → (c o : ℕ) → o < σ .live .objects → GoodSession (withLive σ (placed (σ .live) c o))
 unfolding placed
-placed-good σ g p c o h = live-good σ g p (placed (σ .live) c o) (λ k. placed-state (σ .model .arities) (σ .live) c o h (g .state k))
+placed-good σ g p c o h = live-good σ g p (placed (σ .live) c o) (λ k. placed-state (σ .model .arities) (σ .live) c o h (g .state k)) (g .most)
 
 pub is-kept : (P : Live → Type 0) (n : Names) (l : Live) (k : Key) (o : ℕ) → (o < l .objects → P (placed l (placeOf k (n .constants)) o))
     → Accepted P (isLine n l k o)

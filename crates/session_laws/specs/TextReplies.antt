@@ -55,6 +55,8 @@ under i (A.Cut r e n) = A.Cut r e n
 under i (A.Reduce n) = A.Reduce n
 under i (A.Show n) = A.Show n
 under i (A.Text n) = A.Text n
+under i (A.Best k n a b c d) = A.Best k n a b c d
+under i (A.Count n m) = A.Count n m
 under i (A.Refused r line) = A.Refused r i
 under i A.Nothing = A.Nothing
 

@@ -91,6 +91,8 @@ asks K.Cut = cuts refl
 asks K.Show = nothing refl
 asks K.Reduce = reduces refl
 asks K.Text = nothing refl
+asks K.Best = nothing refl
+asks K.Count = nothing refl
 asks K.Bad = nothing refl
 
 module _ (σ : Session) (p : σ .part ≡ Run) (number : ℕ) where
@@ -135,6 +137,8 @@ module _ (σ : Session) (p : σ .part ≡ Run) (number : ℕ) where
     forReduce = λ h e a c. called c;
     forShow = λ a c. no-call K.Show _ c refl refl refl;
     forText = λ n e a c. no-call K.Text _ c refl refl refl;
+    forBest = λ x e a c. no-call K.Best _ c refl refl refl;
+    forCount = λ l e a c. no-call K.Count _ c refl refl refl;
   }
 
   uncalled : (s : List ℕ) → callOf (lineKind s) ≡ none → OneCall σ (lineKind s) (reply σ number s)
@@ -278,6 +282,8 @@ module _ (σ : Session) (p : σ .part ≡ ModelPart) (number : ℕ) where
     forReduce = λ h e a. later K.Reduce refl a;
     forShow = λ a. later K.Show refl a;
     forText = λ n e a. later K.Text refl a;
+    forBest = λ x e a. later K.Best refl a;
+    forCount = λ l e a. later K.Count refl a;
   }
 
   line-model : (s : List ℕ) → Modelled σ (lineKind s) (reply σ number s)

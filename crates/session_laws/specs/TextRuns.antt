@@ -48,6 +48,8 @@ callOf K.Cut = some aCut
 callOf K.Show = none
 callOf K.Reduce = some aReduce
 callOf K.Text = none
+callOf K.Best = none
+callOf K.Count = none
 callOf K.Bad = none
 
 abbrev pub callThen : Option Call → List Call → List Call
@@ -69,6 +71,8 @@ isRefused (A.Cut r e n) = false
 isRefused (A.Reduce n) = false
 isRefused (A.Show n) = false
 isRefused (A.Text n) = false
+isRefused (A.Best k n a b c d) = false
+isRefused (A.Count n m) = false
 isRefused (A.Refused r line) = true
 isRefused A.Nothing = false
 

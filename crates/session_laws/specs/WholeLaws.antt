@@ -24,7 +24,7 @@ KeepsWhole k y = WholeRows (y .session .live .facts)
 
 objects-whole : (n : ℕ) (l : Live) → objectsLine n ≡ ok l → WholeRows (l .facts)
 unfolding cleared
-objects-whole n l e = objects-kept (λ m. WholeRows (m .facts)) n refl .given l e
+objects-whole n l e = objects-kept (λ m. WholeRows (m .facts)) n (λ h. refl) .given l e
 
 module _ (σ : Session) (w : WholeRows (σ .live .facts)) where
   is-whole : (k : Key) (o : ℕ) (l : Live) → isLine (σ .names) (σ .live) k o ≡ ok l → WholeRows (l .facts)
@@ -75,6 +75,8 @@ module _ (σ : Session) (w : WholeRows (σ .live .facts)) where
     forReduce = λ h e. w;
     forShow = w;
     forText = λ n e. w;
+    forBest = λ x e. w;
+    forCount = λ l e. w;
   }
 
   pub reply-whole : (number : ℕ) (s : List ℕ) → WholeRows (reply σ number s .session .live .facts)
