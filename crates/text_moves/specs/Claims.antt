@@ -1,0 +1,114 @@
+-- What the theorems on (best) in texts say, in types (document 02, L9).
+use mathlib.Core.Path.{_≡_}
+use mathlib.Core.Bool.{Bool, true, false}
+use mathlib.Core.List.{List, [], _∷_, _++_}
+use Prim.Native.Nat.{ℕ, _<_}
+use lib.ListN.{length, getD}
+use Rattle.refusal.specs.declared.Refusal.{Refusal}
+use Rattle.refusal.specs.declared.Refusal.the-variants.{Place, Missing}
+use Rattle.state.specs.State.{State}
+use Rattle.words.specs.declared.Key.{Key}
+use Rattle.best.specs.Moves.{Move}
+use Rattle.best.specs.Claims.{StepsBy, Stopped}
+use Rattle.text.specs.declared.Kind.{Kind}
+use Rattle.text.specs.declared.Kind.the-variants as K
+use Rattle.text.specs.LineForm.{lineKind}
+use Rattle.text.specs.Line.{Words, lineBytes, GoodLine}
+use Rattle.text.specs.Line.Line.{line}
+use Rattle.answers.specs.Answers.{bestHead, nameField, fields, lineEnd}
+use Rattle.session.specs.declared.Part.the-variants.{Model as ModelPart, Run}
+use Rattle.session.specs.Session.{Session, opening}
+use Rattle.session.specs.Running.{stateIn, noKey}
+use Rattle.session.specs.Replies.{Reply, isPlaced, refusal, reply}
+use Rattle.session.specs.Texts.{replyBytes}
+use Rattle.session_laws.specs.TextReplies.{replies}
+use Rattle.session_laws.specs.TextRuns.{isRefused}
+
+-- the lines (best), (backup) and (value), in bytes
+abbrev pub bestLine : List ℕ
+bestLine = lineBytes (line K.Best tt)
+
+abbrev pub backupLine : List ℕ
+backupLine = lineBytes (line K.Backup tt)
+
+abbrev pub valueLine : List ℕ
+valueLine = lineBytes (line K.Value tt)
+
+-- 'the state in hand'
+abbrev pub inHand : Session → State
+inHand σ = stateIn (σ .model .arities) (σ .live)
+
+-- the name declared of the action of a move
+abbrev pub nameIn : Session → Move → Key
+nameIn σ x = getD (σ .names .actions) (x .action) noKey
+
+-- ===== The move =====
+
+-- the reply y to (best) in the session σ is the move x: 'print (best action object ..)' with the name declared of its action and its objects; the session stays; x is the first
+-- move whose sum is highest, with k and the state in hand, and M(k+1) is S^(k+1) · M0 plus that sum
+pub record MovesBy (σ : Session) (x : Move) (y : Reply) : Type 0 where
+  pub run : σ .part ≡ Run
+  pub placed : isPlaced σ ≡ true
+  pub session : y .session ≡ σ
+  pub bytes : replyBytes y ≡ bestHead ++ nameField (nameIn σ x) ++ fields (x .objects) ++ lineEnd
+  pub declared : x .action < length (σ .names .actions)
+  pub steps : StepsBy (σ .model) (σ .held .steps) (inHand σ) x
+
+-- ===== What refuses it =====
+
+-- r is what refuses (best) in the session σ: 5 in the model part; 20 where (value) is answered 5; then as the first action that does not pass stops
+pub data RefusesBest (σ : Session) : Refusal → Type 0 where
+  in-model : σ .part ≡ ModelPart → RefusesBest σ Place
+  missing : σ .part ≡ Run → ((number : ℕ) → reply σ number valueLine ≡ refusal σ number Place) → RefusesBest σ Missing
+  stopping : {r : Refusal} → σ .part ≡ Run → isPlaced σ ≡ true → Stopped (σ .model) (inHand σ) (σ .held .diagram) (σ .model .actions) r → RefusesBest σ r
+
+-- ===== What lines leave as it was =====
+
+-- (objects n), (is c o) and (true p o ..) change the state in hand, and no other line does
+abbrev pub movesState : Kind → Bool
+movesState K.Constant = false
+movesState K.Predicate = false
+movesState K.Total = false
+movesState K.Discount = false
+movesState K.Reward = false
+movesState K.Action = false
+movesState K.Variant = false
+movesState K.Becomes = false
+movesState K.Start = false
+movesState K.Objects = true
+movesState K.Is = true
+movesState K.True = true
+movesState K.Value = false
+movesState K.Backup = false
+movesState K.Cut = false
+movesState K.Show = false
+movesState K.Reduce = false
+movesState K.Text = false
+movesState K.Best = false
+movesState K.Count = false
+movesState K.Bad = false
+
+-- none of the lines does
+abbrev pub NoStateLine : List (List ℕ) → Type 0
+NoStateLine [] = Unit {0}
+NoStateLine (s ∷ ls) = (movesState (lineKind s) ≡ false) × NoStateLine ls
+
+-- ===== The name declared =====
+
+-- ws are the accepted (action n !p ..) lines among the lines, with their replies, in order: the name and the parameters of each
+pub data Declares : List (List ℕ) → List Reply → List (Words K.Action) → Type 0 where
+  none : Declares [] [] []
+  action : {s : List ℕ} {ls : List (List ℕ)} {y : Reply} {ys : List Reply} {ws : List (Words K.Action)} (w : Words K.Action) → GoodLine (line K.Action w)
+      → s ≡ lineBytes (line K.Action w) → isRefused (y .answer) ≡ false → Declares ls ys ws → Declares (s ∷ ls) (y ∷ ys) (w ∷ ws)
+  other : {s : List ℕ} {ls : List (List ℕ)} {y : Reply} {ys : List Reply} {ws : List (Words K.Action)}
+      → ((w : Words K.Action) → GoodLine (line K.Action w) → s ≡ lineBytes (line K.Action w) → isRefused (y .answer) ≡ true)
+      → Declares ls ys ws → Declares (s ∷ ls) (y ∷ ys) ws
+
+-- the bytes bs name the move x, behind the lines ls: they are `(best NAME o ..)`, NAME the one written in the accepted (action ..) line with the number of its action, counted
+-- from 0, and its objects, as many as that line has parameters
+pub record NamesMove (ls : List (List ℕ)) (x : Move) (bs : List ℕ) : Type 0 where
+  pub lines : List (Words K.Action)
+  pub declared : Declares ls (replies opening 0 ls) lines
+  pub place : x .action < length lines
+  pub bytes : bs ≡ bestHead ++ (32 ∷ getD lines (x .action) ([], []) .0) ++ fields (x .objects) ++ lineEnd
+  pub objects : length (x .objects) ≡ length (getD lines (x .action) ([], []) .1)

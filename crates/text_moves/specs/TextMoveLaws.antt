@@ -1,0 +1,176 @@
+-- (best) in texts: after whatever lines, the move printed is the first whose sum is highest, and the next backup states its value (document 02, L9).
+use mathlib.Core.Path.{_≡_, refl, sym, ap, ap₂, _∙_, subst}
+use mathlib.Core.Logic.{_⊎_, inl, inr}
+use mathlib.Core.List.{List, [], _∷_, _++_}
+use Prim.Native.Nat.{ℕ, suc, _+_, _*_, _^_}
+use native.Mathlib.Omega.{arith}
+use native.Mathlib.Nat.{zero-add}
+use lib.ListN.{length}
+use Rattle.refusal.specs.declared.Refusal.{Refusal}
+use Rattle.refusal.specs.declared.Refusal.the-variants.{Missing, Valuations}
+use Rattle.refusal.specs.Outcome.{Outcome, ok, refused, andThen}
+use Rattle.refusal.specs.OutcomeLaws.{accepted-ok, accepted-then}
+use Rattle.diagram.specs.Diagram.{Diagram}
+use Rattle.mdp.specs.Model.{Model, scale}
+use Rattle.mdp.specs.Bellman.{rewardIn, bellman}
+use Rattle.mdp.specs.Backup.{backup}
+use Rattle.mdp.specs.Runs.{Held}
+use Rattle.best.specs.Moves.{Move, moveSum}
+use Rattle.best.specs.RefusalLaws.{stopped-refused, backup-large}
+use Rattle.words.specs.declared.Key.{Key}
+use Rattle.text.specs.declared.Kind.{Kind}
+use Rattle.text.specs.declared.Kind.the-variants as K
+use Rattle.text.specs.LineForm.{lineKind}
+use Rattle.answers.specs.declared.Answer.the-variants as A
+use Rattle.session.specs.declared.Part.the-variants.{Run}
+use Rattle.session.specs.Place.{ruleOf}
+use Rattle.session.specs.Session.{Live, Session}
+use Rattle.session.specs.Running.{withHeld, stateIn, backupLine as backupLineOf}
+use Rattle.session.specs.Replies.{Reply, allowed, wordsOf, reply}
+use Rattle.session.specs.Texts.{Progress, afterLine, afterLines, beginning}
+use Rattle.session_laws.specs.PlaceLaws.{model-run, in-run}
+use Rattle.session_laws.specs.LineAnswers.{Answered, quiet, valued, backed, cutting, reducing, showing, printing, moving, counting, OneAnswer, blank, refusing, accepted, IsValue}
+use Rattle.session_laws.specs.AnswerLaws.{one-answer}
+use Rattle.session_laws.specs.FoldLaws.{lines-count}
+use Rattle.session_laws.specs.TextRuns.{callsOf, RunOf}
+use Rattle.session_laws.specs.PrintLaws.{reply-moves}
+use Rattle.session_laws.specs.TextLaws.{Sound, text-sound, text-run, text-bellman}
+use Rattle.text_moves.specs.Claims.{bestLine, backupLine, valueLine, inHand, MovesBy, RefusesBest, in-model, missing, stopping, movesState, NoStateLine}
+use Rattle.text_moves.specs.LineLaws.{best-kind, backup-kind, best-refuses}
+use Rattle.text_moves.specs.MoveLaws.{answered-steps}
+use Rattle.text_moves.specs.KeepLaws.{lines-keep, lines-both}
+
+-- ===== Texts =====
+
+module _ (ls : List (List ℕ)) (σ : Session) (q : σ ≡ afterLines beginning ls .session) where
+  sound : Sound σ
+  sound = subst Sound (sym q) (text-sound ls)
+
+  run-is : σ .part ≡ Run → RunOf ls σ
+  run-is = subst (λ (τ : Session). τ .part ≡ Run → RunOf ls τ) (sym q) (text-run ls)
+
+  -- "print (best action object ..) for the first action, then the lowest objects in order, whose weighted sum over variants is highest": after whatever lines, refused ones
+  -- among them, and whatever line is answered by a move
+  pub text-moves : (number : ℕ) (s : List ℕ) (k : Key) (n a b c d : ℕ) → reply σ number s .answer ≡ A.Best k n a b c d → (x : Move) × MovesBy σ x (reply σ number s)
+  text-moves number s k n a b c d e =
+      let r = run-is (reply-moves σ (sound .good) number s k n a b c d e .1 .run) in
+      answered-steps σ (sound .good) (callsOf (r .behind)) (r .held) number s k n a b c d e
+
+-- "so a desk that follows it gets the value that the next backup, if accepted, states": behind the lines ls a move x is printed; lines ms later the state is the same, k is one
+-- more, so that one backup was accepted, and a value v is printed
+pub text-follows : (ls : List (List ℕ)) (σ : Session) → σ ≡ afterLines beginning ls .session → (x : Move) (y : Reply) → MovesBy σ x y
+    → (ms : List (List ℕ)) (τ : Session) → τ ≡ afterLines beginning (ls ++ ms) .session → τ .live ≡ σ .live
+    → (number : ℕ) (s : List ℕ) (v w : ℕ) → reply τ number s .answer ≡ A.Value v (suc (σ .held .steps)) w
+    → v ≡ scale (σ .model) ^ suc (σ .held .steps) * rewardIn (σ .model) (inHand σ) + moveSum (σ .model) (σ .held .steps) (inHand σ) x
+text-follows ls σ q x y h ms τ u live number s v w e =
+    let k = suc (σ .held .steps) in
+    let kept = lines-keep (afterLines beginning ls) (ap (λ (ρ : Session). ρ .part) (sym q) ∙ h .run) ms in
+    let there : τ ≡ afterLines (afterLines beginning ls) ms .session = u ∙ ap (λ (p : Progress). p .session) (lines-both beginning ls ms) in
+    let model : τ .model ≡ σ .model = ap (λ (ρ : Session). ρ .model) there ∙ kept .model ∙ ap (λ (ρ : Session). ρ .model) (sym q) in
+    let value = subst (λ (ρ : Session). reply ρ number s .answer ≡ A.Value v k w → IsValue ρ v k w) (sym u) (text-bellman (ls ++ ms) number s v k w) e in
+    value .value
+    ∙ ap (λ (m : Model). bellman m k (stateIn (m .arities) (τ .live))) model
+    ∙ ap (λ (l : Live). bellman (σ .model) k (stateIn (σ .model .arities) l)) live
+    ∙ h .steps .next
+
+-- the state is the same where no line between is an (objects n), an (is c o) or a (true p o ..)
+pub state-stays : (ls : List (List ℕ)) (σ : Session) → σ ≡ afterLines beginning ls .session → σ .part ≡ Run → (ms : List (List ℕ)) → NoStateLine ms
+    → (τ : Session) → τ ≡ afterLines beginning (ls ++ ms) .session → τ .live ≡ σ .live
+state-stays ls σ q p ms none τ u =
+    ap (λ (ρ : Session). ρ .live) (u ∙ ap (λ (r : Progress). r .session) (lines-both beginning ls ms))
+    ∙ lines-keep (afterLines beginning ls) (ap (λ (ρ : Session). ρ .part) (sym q) ∙ p) ms .live none
+    ∙ ap (λ (ρ : Session). ρ .live) (sym q)
+
+-- ===== (best), (backup), (value), one behind the other =====
+
+line-steps : (m : Model) (h h′ : Held) → backupLineOf m h ≡ ok h′ → h′ .steps ≡ suc (h .steps)
+unfolding backupLineOf
+line-steps m h h′ e =
+    accepted-then {P = λ d. Unit {0}} {Q = λ (z : Held). z .steps ≡ suc (h .steps)} (backup m (h .steps) (h .diagram)) (record { given = λ d q. tt }) (λ d u. accepted-ok refl) .given h′ e
+
+-- the reply y is that of an accepted backup
+record Backed (σ : Session) (y : Reply) : Type 0 where
+  run : σ .part ≡ Run
+  held : Held
+  read : backupLineOf (σ .model) (σ .held) ≡ ok held
+  session : y .session ≡ withHeld σ (σ .part) held
+
+backup-read : (σ : Session) (number : ℕ) (s : List ℕ) (k n : ℕ) → reply σ number s .answer ≡ A.Backup k n → Backed σ (reply σ number s)
+backup-read σ number s k n e = go (lineKind s) (reply σ number s) (one-answer σ number s) e
+  where
+    by-kind : (i : Kind) (y : Reply) → allowed σ (ruleOf i (σ .part)) ≡ ok tt → Answered σ (wordsOf i s) i y → y .answer ≡ A.Backup k n → Backed σ y
+    by-kind i y a (quiet p q) e = let z : _≡_ {A = ℕ} 0 1 = cc in absurd (omega arith)
+    by-kind i y a (valued x p h t q) e = let z : _≡_ {A = ℕ} 0 1 = cc in absurd (omega arith)
+    by-kind i y a (backed h p r t q) e = record {
+      run = in-run σ (ruleOf K.Backup) refl (σ .part) (subst (λ (j : Kind). allowed σ (ruleOf j (σ .part)) ≡ ok tt) p a);
+      held = h;
+      read = r;
+      session = t;
+    }
+    by-kind i y a (cutting j d m p r t q) e = let z : _≡_ {A = ℕ} 0 1 = cc in absurd (omega arith)
+    by-kind i y a (reducing h p r t q) e = let z : _≡_ {A = ℕ} 0 1 = cc in absurd (omega arith)
+    by-kind i y a (showing p t q) e = let z : _≡_ {A = ℕ} 0 1 = cc in absurd (omega arith)
+    by-kind i y a (printing m p r t q) e = let z : _≡_ {A = ℕ} 0 1 = cc in absurd (omega arith)
+    by-kind i y a (moving x p h t q) e = let z : _≡_ {A = ℕ} 0 1 = cc in absurd (omega arith)
+    by-kind i y a (counting l p h t q) e = let z : _≡_ {A = ℕ} 0 1 = cc in absurd (omega arith)
+
+    go : (i : Kind) (y : Reply) → OneAnswer σ number s i y → y .answer ≡ A.Backup k n → Backed σ y
+    go i y (blank q p) e = let d = sym (ap (λ (z : Reply). z .answer) p) ∙ e in let z : _≡_ {A = ℕ} 0 1 = cc in absurd (omega arith)
+    go i y (refusing r p) e = let d = sym (ap (λ (z : Reply). z .answer) p) ∙ e in let z : _≡_ {A = ℕ} 0 1 = cc in absurd (omega arith)
+    go i y (accepted a p) e = by-kind i y a p e
+
+-- an accepted backup adds 1 to k
+backup-steps : (σ : Session) (number : ℕ) (s : List ℕ) (k n : ℕ) → reply σ number s .answer ≡ A.Backup k n → reply σ number s .session .held .steps ≡ suc (σ .held .steps)
+backup-steps σ number s k n e =
+    let b = backup-read σ number s k n e in
+    ap (λ (τ : Session). τ .held .steps) (b .session) ∙ line-steps (σ .model) (σ .held) (b .held) (b .read)
+
+-- it gave a diagram
+line-given : (m : Model) (h h′ : Held) → backupLineOf m h ≡ ok h′ → (d : Diagram) × (backup m (h .steps) (h .diagram) ≡ ok d)
+unfolding backupLineOf
+line-given m h h′ e = go (backup m (h .steps) (h .diagram)) refl e
+  where
+    go : (o : Outcome Diagram) → backup m (h .steps) (h .diagram) ≡ o → andThen o (λ d. ok (record { diagram = d; steps = suc (h .steps) })) ≡ ok h′
+        → (d : Diagram) × (backup m (h .steps) (h .diagram) ≡ ok d)
+    go (ok d) p q = (d, p)
+    go (refused r) p q = let z : _≡_ {A = ℕ} 0 1 = cc in absurd (omega arith)
+
+-- "It has their refusals": where (backup) is accepted, (best) is refused by 20 or 15 or not at all
+pub backup-best : (σ : Session) (i j : ℕ) (k rows : ℕ) → reply σ i backupLine .answer ≡ A.Backup k rows
+    → (r : Refusal) (n : ℕ) → reply σ j bestLine .answer ≡ A.Refused r n → (r ≡ Missing) ⊎ (r ≡ Valuations)
+backup-best σ i j k rows e r n f = go r (best-refuses σ j r n f)
+  where
+    b : Backed σ (reply σ i backupLine)
+    b = backup-read σ i backupLine k rows e
+
+    go : (r : Refusal) → RefusesBest σ r → (r ≡ Missing) ⊎ (r ≡ Valuations)
+    go r (in-model p) = model-run (sym p ∙ b .run)
+    go r (missing p v) = inl refl
+    go r (stopping p q h) =
+        let d = line-given (σ .model) (σ .held) (b .held) (b .read) in
+        inr (backup-large (σ .model) (σ .held .diagram) (σ .held .steps) (d .0) (d .1) (inHand σ) _ (stopped-refused (σ .model) (inHand σ) (σ .held .diagram) _ h))
+
+-- the session behind two lines more
+two-lines : (ls : List (List ℕ)) (σ : Session) → σ ≡ afterLines beginning ls .session → (s t : List ℕ) → reply σ (suc (length ls)) s .session ≡ σ
+    → reply σ (suc (suc (length ls))) t .session ≡ afterLines beginning (ls ++ (s ∷ t ∷ [])) .session
+unfolding afterLines afterLine beginning
+two-lines ls σ q s t stays =
+    let n : afterLines beginning ls .lines ≡ length ls = lines-count beginning ls ∙ zero-add (length ls) in
+    ap (λ (τ : Session). reply τ (suc (suc (length ls))) t .session) (sym stays)
+    ∙ ap₂ (λ (τ : Session) (i : ℕ). reply (reply τ (suc i) s .session) (suc (suc i)) t .session) q (sym n)
+    ∙ ap (λ (p : Progress). p .session) (sym (lines-both beginning ls (s ∷ t ∷ [])))
+
+-- the three lines behind the lines ls: a move is printed, the backup is accepted, and a value is printed
+pub best-backup-value : (ls : List (List ℕ)) (σ τ : Session) → σ ≡ afterLines beginning ls .session → τ ≡ reply σ (suc (suc (length ls))) backupLine .session
+    → (x : Move) → MovesBy σ x (reply σ (suc (length ls)) bestLine) → (k rows : ℕ) → reply σ (suc (suc (length ls))) backupLine .answer ≡ A.Backup k rows
+    → (v i w : ℕ) → reply τ (suc (suc (suc (length ls)))) valueLine .answer ≡ A.Value v i w
+    → v ≡ scale (σ .model) ^ suc (σ .held .steps) * rewardIn (σ .model) (inHand σ) + moveSum (σ .model) (σ .held .steps) (inHand σ) x
+best-backup-value ls σ τ q u x h k rows b v i w e =
+    let ms = bestLine ∷ backupLine ∷ [] in
+    let there : τ ≡ afterLines beginning (ls ++ ms) .session = u ∙ two-lines ls σ q bestLine backupLine (h .session) in
+    let none : NoStateLine ms = (ap movesState best-kind, (ap movesState backup-kind, tt)) in
+    let value = subst (λ (ρ : Session). reply ρ (suc (suc (suc (length ls)))) valueLine .answer ≡ A.Value v i w → IsValue ρ v i w) (sym there)
+    (text-bellman (ls ++ ms) (suc (suc (suc (length ls)))) valueLine v i w) e in
+    let one : i ≡ suc (σ .held .steps) = value .steps ∙ ap (λ (ρ : Session). ρ .held .steps) u ∙ backup-steps σ (suc (suc (length ls))) backupLine k rows b in
+    text-follows ls σ q x (reply σ (suc (length ls)) bestLine) h ms τ there (state-stays ls σ q (h .run) ms none τ there)
+    (suc (suc (suc (length ls)))) valueLine v w (e ∙ ap (λ j. A.Value v j w) one)

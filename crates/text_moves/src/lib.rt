@@ -1,0 +1,1 @@
+// Which move (best) prints, of every text. It stands in specs/.
