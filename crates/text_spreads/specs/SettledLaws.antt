@@ -1,0 +1,173 @@
+-- From line to line: a constant that is not declared has object 0. (is c o) places declared ones alone, (objects n) places none.
+use mathlib.Core.Path.{_≡_, refl, sym, _∙_}
+use mathlib.Core.Bool.{Bool, true, false, not, _||_, cond}
+use mathlib.Core.List.{List, [], _∷_, _++_}
+use Prim.Native.Nat.{ℕ, zero, suc, _≤_}
+use native.Mathlib.Omega.{arith}
+use lib.ListN.{length, getD, replicate, length-append}
+use lib.Seq.{getD-set-other}
+use lib.Dec.{ltb, leb, eqb}
+use borrow.Author.Tests.{ltb-true}
+use Rattle.refusal.specs.declared.Refusal.the-variants.{Name, Arity, Range, Space}
+use Rattle.refusal.specs.Outcome.{ok, Accepted}
+use Rattle.refusal.specs.OutcomeLaws.{accepted-ok, accepted-cond}
+use Rattle.label.specs.Limits.{constantCount, predicateCount, parameterCount, mostPlaces}
+use Rattle.state.specs.Lent.{factCount, allBelow}
+use Rattle.mdp.specs.Model.{mostActions}
+use Rattle.words.specs.declared.Key.{Key}
+use Rattle.names.specs.Keys.{placeOf, isAmong}
+use Rattle.mdp.specs.Runs.{begin}
+use Rattle.text.specs.declared.Kind.{Kind}
+use Rattle.text.specs.LineForm.{lineKind}
+use Rattle.events.specs.declared.Event.{Event}
+use Rattle.session.specs.declared.Part.the-variants.{Run}
+use Rattle.session.specs.Session.{Names, Live, Session, refuseIf, opening}
+use Rattle.session.specs.Declaring.{isDeclared, Vocabulary, constantLine, predicateLine, repeated, actionLine}
+use Rattle.session.specs.Facts.{mostFacts, cleared, objectsLine, placed, isLine, isFact, factLine, factRow, withFact, predicateOf, trueLine}
+use Rattle.session.specs.Modelling.{withReward, rewardRead, rewardLine, withVariant, weightRead, variantLine, truthsNow, withTruth, truthRead, becomesLine, weighed}
+use Rattle.session.specs.Running.{withHeld, startLine}
+use Rattle.session.specs.Replies.{Reply, withVocabulary, withTotal, withDiscount, withAction, wordsOf, reply}
+use Rattle.session.specs.Texts.{hasBytes, Progress, replied, afterLine, afterLines, beginning}
+use Rattle.session_laws.specs.StateLaws.{objects-kept}
+use Rattle.session_laws.specs.RunLaws.{made-by}
+use Rattle.session_laws.specs.CaseLaws.{Cases, vocabularyOf, done-by, reply-by}
+use Rattle.text_spreads.specs.LineLaws.{Settled}
+
+abbrev Rest : Names → Live → Type 0
+Rest n l = (c : ℕ) → length (n .constants) ≤ c → getD (l .constants) c 0 ≡ 0
+
+abbrev KeepsRest : Kind → Reply → Type 0
+KeepsRest k y = Rest (y .session .names) (y .session .live)
+
+-- ===== Lines that declare =====
+
+-- one constant more
+more-rest : (n : Names) (l : Live) → Rest n l → (k : Key) (c : ℕ) → length (n .constants ++ (k ∷ [])) ≤ c → getD (l .constants) c 0 ≡ 0
+more-rest n l h k c i = h c (omega (arith, length-append (n .constants) (k ∷ [])))
+
+constant-rest : (n : Names) (l : Live) → Rest n l → (k : Key) (m : Names) → constantLine n k ≡ ok m → Rest m l
+unfolding constantLine
+constant-rest n l h k m e =
+    accepted-cond {P = λ (z : Names). Rest z l} (isDeclared n k) Name _ (λ a.
+    accepted-cond (leb constantCount (length (n .constants))) Space _ (λ b.
+    accepted-ok (more-rest n l h k))) .given m e
+
+predicate-rest : (v : Vocabulary) (l : Live) → Rest (v .names) l → (k : Key) (a : ℕ) (w : Vocabulary) → predicateLine v k a ≡ ok w → Rest (w .names) l
+unfolding predicateLine
+predicate-rest v l h k a w e =
+    accepted-cond {P = λ (z : Vocabulary). Rest (z .names) l} (isDeclared (v .names) k) Name _ (λ b.
+    accepted-cond (ltb mostPlaces a) Range _ (λ c.
+    accepted-cond (leb predicateCount (suc (length (v .names .predicates)))) Space _ (λ d.
+    accepted-ok h))) .given w e
+
+action-rest : (n : Names) (l : Live) → Rest n l → (k : Key) (ps : List Key) (m : Names) → actionLine n k ps ≡ ok m → Rest m l
+unfolding actionLine
+action-rest n l h k ps m e =
+    accepted-cond {P = λ (z : Names). Rest z l} (isAmong k (n .actions) || repeated [] ps) Name _ (λ a.
+    accepted-cond (ltb parameterCount (length ps) || leb mostActions (length (n .actions))) Space _ (λ b.
+    accepted-ok h)) .given m e
+
+-- ===== Lines of the state =====
+
+zeros : (n c : ℕ) → _≡_ {A = ℕ} (getD (replicate n 0) c 0) 0
+zeros zero c = refl
+zeros (suc n) zero = refl
+zeros (suc n) (suc c) = zeros n c
+
+or-left : (a b : Bool) → (not a || b) ≡ false → a ≡ true
+or-left true b e = refl
+or-left false b e = sym e
+
+is-rest : (n : Names) (l : Live) → Rest n l → (k : Key) (o : ℕ) (m : Live) → isLine n l k o ≡ ok m → Rest n m
+unfolding isLine placed isAmong
+is-rest n l h k o m e =
+    accepted-cond {P = λ (z : Live). Rest n z} (not (isAmong k (n .constants)) || eqb (getD (l .placed) (placeOf k (n .constants)) 0) 1) Name _ (λ a.
+    accepted-cond (leb (l .objects) o) Range _ (λ b.
+    accepted-ok (λ c i.
+    let there = ltb-true (placeOf k (n .constants)) (length (n .constants)) (or-left (isAmong k (n .constants)) _ a) in
+    getD-set-other (l .constants) (placeOf k (n .constants)) c o 0 (omega arith) ∙ h c i))) .given m e
+
+fact-rest : (n : Names) (l : Live) → Rest n l → (row : List ℕ) → Accepted (λ (z : Live). Rest n z) (factLine l row)
+unfolding factLine withFact
+fact-rest n l h row = go (isFact (l .facts) row)
+  where
+    go : (b : Bool) → Accepted (λ (z : Live). Rest n z) (cond b (ok l) (refuseIf (leb mostFacts (factCount (l .facts))) Space (ok (withFact l row))))
+    go true = accepted-ok h
+    go false = accepted-cond (leb mostFacts (factCount (l .facts))) Space (ok (withFact l row)) (λ a. accepted-ok h)
+
+true-rest : (ar : List ℕ) (n : Names) (l : Live) → Rest n l → (k : Key) (os : List ℕ) (m : Live) → trueLine ar n l k os ≡ ok m → Rest n m
+unfolding trueLine
+true-rest ar n l h k os m e =
+    accepted-cond {P = λ (z : Live). Rest n z} (not (isAmong k (n .predicates))) Name _ (λ a.
+    accepted-cond (not (eqb (length os) (getD ar (predicateOf n k) 0))) Arity _ (λ b.
+    accepted-cond (not (allBelow (l .objects) os)) Range _ (λ c.
+    fact-rest n l h (factRow (predicateOf n k) os)))) .given m e
+
+-- ===== Every line =====
+
+module _ (σ : Session) (w : Rest (σ .names) (σ .live)) where
+  reward-rest : (es : List Event) (τ : Session) → rewardLine σ es ≡ ok τ → Rest (τ .names) (τ .live)
+  unfolding rewardLine withReward
+  reward-rest es τ e =
+      made-by (λ ρ. Rest (ρ .names) (ρ .live)) (rewardRead (σ .names) (σ .model .arities) (σ .rows) es) (withReward σ) (λ d. w) τ e
+
+  variant-rest : (k : Key) (es : List Event) (τ : Session) → variantLine σ k es ≡ ok τ → Rest (τ .names) (τ .live)
+  unfolding variantLine withVariant
+  variant-rest k es τ e =
+      made-by (λ ρ. Rest (ρ .names) (ρ .live)) (weightRead (σ .names) (σ .model .arities) (σ .rows) k es) (withVariant σ k) (λ d. w) τ e
+
+  becomes-rest : (es : List Event) (τ : Session) → becomesLine σ es ≡ ok τ → Rest (τ .names) (τ .live)
+  unfolding becomesLine withTruth
+  becomes-rest es τ e =
+      made-by (λ ρ. Rest (ρ .names) (ρ .live)) (truthRead (σ .names) (σ .model .arities) (truthsNow (σ .model .actions)) (σ .rows) es)
+      (λ t. withTruth σ (t .0) (t .1)) (λ t. w) τ e
+
+  start-rest : (τ : Session) → startLine σ ≡ ok τ → Rest (τ .names) (τ .live)
+  unfolding startLine
+  start-rest τ e =
+      made-by (λ ρ. Rest (ρ .names) (ρ .live)) (weighed (σ .model .arities) (σ .model .total) (σ .model .actions)) (λ u. withHeld σ Run (begin (σ .model))) (λ u. w) τ e
+
+  objects-rest : (n : ℕ) (l : Live) → objectsLine n ≡ ok l → Rest (σ .names) l
+  unfolding cleared
+  objects-rest n l e = objects-kept (λ m. Rest (σ .names) m) n (λ h c i. zeros constantCount c) .given l e
+
+  cases : (number : ℕ) (es : List Event) → Cases σ number es KeepsRest
+  unfolding withVocabulary withTotal withDiscount withAction
+  cases number es = record {
+    refusing = λ k r. w;
+    forConstant = constant-rest (σ .names) (σ .live) w _;
+    forPredicate = predicate-rest (vocabularyOf σ) (σ .live) w _ _;
+    forTotal = λ x e. w;
+    forDiscount = λ q e. w;
+    forReward = reward-rest es;
+    forAction = action-rest (σ .names) (σ .live) w _ _;
+    forVariant = variant-rest _ _;
+    forBecomes = becomes-rest es;
+    forStart = start-rest;
+    forObjects = objects-rest _;
+    forIs = is-rest (σ .names) (σ .live) w _ _;
+    forTrue = true-rest (σ .model .arities) (σ .names) (σ .live) w _ _;
+    forValue = λ v e. w;
+    forBackup = λ h e. w;
+    forCut = λ row e n q. w;
+    forReduce = λ h e. w;
+    forShow = w;
+    forText = λ n e. w;
+    forBest = λ x e. w;
+    forCount = λ l e. w;
+  }
+
+  reply-rest : (number : ℕ) (s : List ℕ) → Rest (reply σ number s .session .names) (reply σ number s .session .live)
+  reply-rest number s =
+      let es = wordsOf (lineKind s) s in
+      reply-by σ number s KeepsRest (λ e. w) (λ r. w) (λ a. done-by σ number es KeepsRest (cases number es) (lineKind s))
+
+lines-rest : (p : Progress) → Rest (p .session .names) (p .session .live) → (ls : List (List ℕ)) → Rest (afterLines p ls .session .names) (afterLines p ls .session .live)
+unfolding afterLines afterLine
+lines-rest p h [] = h
+lines-rest p h (s ∷ ls) = lines-rest (replied p (hasBytes s) (reply (p .session) (suc (p .lines)) s)) (reply-rest (p .session) h (suc (p .lines)) s) ls
+
+-- behind whatever lines
+pub text-settled : (ls : List (List ℕ)) → Settled (afterLines beginning ls .session)
+unfolding beginning opening
+text-settled ls = record { rest = lines-rest beginning (λ c i. zeros constantCount c) ls }

@@ -1,0 +1,1 @@
+// What (count n) prints, of every text. It stands in specs/.
