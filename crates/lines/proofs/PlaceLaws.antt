@@ -14,9 +14,11 @@ use Rattle.valuing.proofs.PassedLaws.{Passed, passed-start, passed-on, passed-n
 use Rattle.mdp.specs.Model.{Action}
 use Rattle.names.specs.Layout.{actionsAt, variantsAt}
 use Rattle.names.specs.KeyLaws.{length-keys}
-use Rattle.refusal.specs.declared.Refusal.the-variants.{Form, Place}
+use Rattle.refusal.specs.declared.Refusal.the-variants.{Form, Place, Missing}
+use Rattle.refusal.specs.Outcome.{ok}
 use Rattle.session.specs.declared.Rule.{Rule}
 use Rattle.session.specs.declared.Rule.the-variants as R
+use Rattle.session.specs.Session.{refuseIf}
 use Rattle.session.specs.Replies.{eachVaried, eachPlaced, unless, allowed}
 use Rattle.declare.specs.Tables.{namesOf}
 use Rattle.facts.specs.Words.{part, placedBase, liveOf}
@@ -182,3 +184,15 @@ module _ (n : Numbers) (table state : List ℕ) {rule : Rule} where
       place-placed e w = record {
         is = λ names arities listings value. rw (e, ← w .is names arities listings table value) u;
       }
+
+      pub place-constants : rule ≡ R.Constants → b ≡ eachPlaced (part state placedBase constantCount) (n .counts .constants) → Placing rule n table state r
+      unfolding allowed sessionOf liveOf namesOf
+      place-constants e q = record {
+        is = λ names arities listings value. rw (e, length-keys names 0 (n .counts .constants), ← q) u;
+      }
+
+    pub place-move : {b : Bool} → r ≡ placedAs (refuseIf (not b) Missing (ok tt)) → rule ≡ R.MoveState → AllPlaced n state b → Placing rule n table state r
+    unfolding allowed
+    place-move u e w = record {
+      is = λ names arities listings value. rw (e, ← w .is names arities listings table value) u;
+    }

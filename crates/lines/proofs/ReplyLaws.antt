@@ -18,15 +18,17 @@ use Rattle.session.specs.declared.Rule.{Rule}
 use Rattle.session.specs.Session.{Session}
 use Rattle.session.specs.Place.{ruleOf}
 use Rattle.session.specs.Replies.{Reply, allowed, done, replyTo, reply, wordsOf}
+use Rattle.session.specs.Texts.{tableOf}
 use Rattle.session.specs.Good.{GoodSession}
 use Rattle.session_laws.specs.CaseLaws.{reply-line}
 use Rattle.session_laws.specs.BlankLaws.{blank-leaves}
 use Rattle.session_laws.specs.MemoryLaws.{kept-good}
 use Rattle.memory.specs.declared.Numbers.{Numbers}
 use Rattle.memory.specs.declared.Said.{Said}
-use Rattle.memory.specs.Memory.{Memory, sessionOf, Ready, Answers, Kept, Replied}
+use Rattle.memory.specs.Memory.{Memory, sessionOf, Ready, Shown, Kept, Replied}
 use Rattle.lines.specs.declared.Placed.{Placed}
 use Rattle.lines.specs.declared.Placed.the-variants.{Done, Refused}
+use Rattle.lines.specs.Lines.{Performed}
 use Rattle.lines.specs.Placing.{placedAs, Counted, Placing}
 
 -- ===== The place =====
@@ -65,6 +67,8 @@ some-kind σ K.Cut p e = refl
 some-kind σ K.Show p e = refl
 some-kind σ K.Reduce p e = refl
 some-kind σ K.Text p e = refl
+some-kind σ K.Best p e = refl
+some-kind σ K.Count p e = refl
 some-kind σ K.Bad p e = absurd (bad-nowhere σ p e)
 
 -- ===== The answer =====
@@ -90,10 +94,17 @@ module _ (σ : Session) (number : ℕ) (s : List ℕ) (b : length s ≡ 0 → �
   reply-refused r e = reply-line σ number s b ∙ rw e
 
 -- a blank line
-pub answer-blank : {n : Numbers} {w : Memory} → Kept n w → (s : List ℕ) (number : ℕ) → length s ≡ 0 → Replied s number n w (record { numbers = n; answer = A.Nothing }) w
-answer-blank {n} {w} h [] number e =
+pub answer-blank : {n : Numbers} {w : Memory} → Kept n w → (s : List ℕ) (number : ℕ) → length s ≡ 0 → {work : List ℕ}
+    → Replied s number n w (record { numbers = n; answer = A.Nothing }) w work
+unfolding tableOf
+answer-blank {n} {w} h [] number e {work} =
     let y = sym (blank-leaves (sessionOf n w) number) in
-    record { answer = ap (λ (t : Reply). t .answer) y; session = ap (λ (t : Reply). t .session) y; kept = h }
+    record {
+      answer = ap (λ (t : Reply). t .answer) y;
+      session = ap (λ (t : Reply). t .session) y;
+      kept = h;
+      shown = subst (λ (t : Reply). Shown t work) y refl;
+    }
 answer-blank h (b ∷ s) number e = absurd (omega arith)
 
 place-told : (σ : Session) (k : Kind) (q : Part) {rule : Rule} {p : Placed} → rule ≡ ruleOf k q → p ≡ placedAs (allowed σ rule) → p ≡ placedAs (allowed σ (ruleOf k q))
@@ -110,18 +121,19 @@ module _ {n : Numbers} {w : Memory} {k : Kind} {rule : Rule} {p : Placed} (h : K
       record { line = record { words = t .0; good = t .1; bytes = t .2 }; stored = h .stored; good = h .good; place = x }
 
   pub answer-refused : (s : List ℕ) (number : ℕ) {r : Refusal} → (length s ≡ 0 → ⊥) → k ≡ lineKind s → p ≡ Refused r
-      → Replied s number n w (record { numbers = n; answer = A.Refused r number }) w
-  unfolding sessionOf
-  answer-refused s number {r} o a e =
+      → {work : List ℕ} → Replied s number n w (record { numbers = n; answer = A.Refused r number }) w work
+  unfolding sessionOf tableOf
+  answer-refused s number {r} o a e {work} =
       let σ = sessionOf n w in
       let x = placed-refused (allowed σ (ruleOf k (n .part))) r (sym e ∙ place-told σ k (n .part) b (c .is (w .names) (w .arities) (w .listings) (w .value))) in
       let y = sym (reply-refused σ number s o r (subst (λ (z : Kind). allowed σ (ruleOf z (n .part)) ≡ refused r) a x)) in
-      record { answer = ap (λ t. t .answer) y; session = ap (λ t. t .session) y; kept = h }
+      record { answer = ap (λ t. t .answer) y; session = ap (λ t. t .session) y; kept = h; shown = subst (λ (t : Reply). Shown t work) y refl }
 
-  pub answer-done : {s : List ℕ} {number : ℕ} {r : Said} {w′ : Memory} → (length s ≡ 0 → ⊥) → k ≡ lineKind s → p ≡ Done → Answers k s number n w r w′
-      → Replied s number n w r w′
+  pub answer-done : {s : List ℕ} {number : ℕ} {r : Said} {w′ : Memory} {work′ : List ℕ} → (length s ≡ 0 → ⊥) → k ≡ lineKind s → p ≡ Done
+      → Performed k s number n w r w′ work′ → Replied s number n w r w′ work′
   unfolding sessionOf
-  answer-done {s} {number} {r} {w′} o a e d =
+  answer-done {s} {number} {r} {w′} {work′} o a e f =
+      let d = f .answers in
       let σ = sessionOf n w in
       let x = place-ok σ k (n .part) b (c .is (w .names) (w .arities) (w .listings) (w .value)) e in
       let y = sym (reply-done σ number s o (subst (λ (z : Kind). allowed σ (ruleOf z (n .part)) ≡ ok tt) a x)) in
@@ -131,4 +143,5 @@ module _ {n : Numbers} {w : Memory} {k : Kind} {rule : Rule} {p : Placed} (h : K
         answer = d .answer ∙ ap (λ t. t .answer) z;
         session = m;
         kept = record { stored = d .stored; good = subst GoodSession (sym m) (kept-good n w h number s) };
+        shown = subst (λ (t : Reply). Shown t work′) z (f .shown);
       }

@@ -11,12 +11,14 @@ ghost use Prim.Native.Nat.{_≤_};
 ghost use lib.ListN.{length};
 ghost use Rattle.label.specs.Limits.{constantCount, predicateCount};
 ghost use Rattle.mdp.specs.Model.{mostActions};
-ghost use Rattle.session.specs.Session.{opening};
+ghost use Rattle.refusal.specs.declared.Refusal.the-variants.{Missing};
+ghost use Rattle.refusal.specs.Outcome.{ok};
+ghost use Rattle.session.specs.Session.{opening, refuseIf};
 ghost use Rattle.session.specs.Replies.{eachPlaced, unless};
 ghost use Rattle.facts.specs.Words.{part, placedBase, stateWords};
 ghost use Rattle.model.specs.Layout.{tableWords};
-ghost use Rattle.memory.specs.Memory.{memoryOf, Ready, Answers, Kept, Replied, workWords};
-ghost use Rattle.lines.specs.Lines.{Opened};
+ghost use Rattle.memory.specs.Memory.{memoryOf, Ready, Kept, Replied, workWords};
+ghost use Rattle.lines.specs.Lines.{Opened, Performed};
 ghost use Rattle.lines.specs.Placing.{placedAs, Counted, Varied, Whole, AllPlaced, Placing};
 
 // The arity list before the first line: equality has its arity, every other predicate 0.
@@ -118,6 +120,16 @@ fn unless(b: bool) -> Placed
     Placed::Done
 }
 
+// Refused with 20 if b.
+fn missing(b: bool) -> Placed
+    ensures { λ r. ⌜ r ≡ placedAs (refuseIf b Missing (ok tt)) ⌝ }
+{
+    if b {
+        return Placed::Refused(Refusal::Missing);
+    }
+    Placed::Done
+}
+
 // Whether what the rule asks for is there.
 fn allowed(rule: Rule, n: Numbers, table: &[u64], state: &[u64]) -> Placed
     requires { ⌜ Counted n (now table) (now state) ⌝ }
@@ -135,6 +147,8 @@ fn allowed(rule: Rule, n: Numbers, table: &[u64], state: &[u64]) -> Placed
         Rule::WholeModel => unless(!is_whole(n, table)),
         Rule::AfterObjects => unless(n.live.objects == 0),
         Rule::WholeState => unless(!is_placed(n, state)),
+        Rule::MoveState => missing(!is_placed(n, state)),
+        Rule::Constants => unless(!each_placed(state, n.counts.constants)),
     }
 }
 
@@ -154,7 +168,10 @@ fn perform(
 ) -> Said
     requires { ⌜ Ready kind (now line) n (memoryOf (now names) (now arities) (now listings) (now table) (now state) (now value)) ⌝ }
     requires { ⌜ workWords ≤ length (now work) ⌝ }
-    ensures { λ r. ⌜ Answers kind (now (line .entry)) number n (memoryOf (now (names .entry)) (now (arities .entry)) (now (listings .entry)) (now (table .entry)) (now (state .entry)) (now (value .entry))) r (memoryOf (now (names .exit)) (now (arities .exit)) (now (listings .exit)) (now (table .exit)) (now (state .exit)) (now (value .exit))) ⌝ }
+    ensures { λ r. ⌜ Performed kind (now (line .entry)) number n
+        (memoryOf (now (names .entry)) (now (arities .entry)) (now (listings .entry)) (now (table .entry)) (now (state .entry)) (now (value .entry))) r
+        (memoryOf (now (names .exit)) (now (arities .exit)) (now (listings .exit)) (now (table .exit)) (now (state .exit)) (now (value .exit)))
+        (now (work .exit)) ⌝ }
 {
     match kind {
         Kind::Constant => declaration_lines::constant(line, number, n, names),
@@ -193,6 +210,18 @@ fn perform(
         Kind::Show => run_lines::show(n),
         Kind::Reduce => run_lines::reduce(number, n, arities, value, work),
         Kind::Text => run_lines::text(number, n, names, arities, value),
+        Kind::Best => desk_lines::best(
+            number,
+            n,
+            names,
+            arities,
+            listings,
+            table,
+            state,
+            value,
+            work,
+        ),
+        Kind::Count => desk_lines::count(line, number, n, arities, state, value, work),
         Kind::Bad => Said {
             numbers: n,
             answer: Answer::Refused(Refusal::Form, number),
@@ -215,7 +244,10 @@ pub fn answer(
 ) -> Said
     requires { ⌜ Kept n (memoryOf (now names) (now arities) (now listings) (now table) (now state) (now value)) ⌝ }
     requires { ⌜ workWords ≤ length (now work) ⌝ }
-    ensures { λ r. ⌜ Replied (now (line .entry)) number n (memoryOf (now (names .entry)) (now (arities .entry)) (now (listings .entry)) (now (table .entry)) (now (state .entry)) (now (value .entry))) r (memoryOf (now (names .exit)) (now (arities .exit)) (now (listings .exit)) (now (table .exit)) (now (state .exit)) (now (value .exit))) ⌝ }
+    ensures { λ r. ⌜ Replied (now (line .entry)) number n
+        (memoryOf (now (names .entry)) (now (arities .entry)) (now (listings .entry)) (now (table .entry)) (now (state .entry)) (now (value .entry))) r
+        (memoryOf (now (names .exit)) (now (arities .exit)) (now (listings .exit)) (now (table .exit)) (now (state .exit)) (now (value .exit)))
+        (now (work .exit)) ⌝ }
 {
     if line.len() == 0 {
         return Said {

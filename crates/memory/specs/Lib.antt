@@ -5,4 +5,5 @@ pub mod Saving
 pub mod WordLaws
 pub mod QuietLaws
 pub mod StoredLaws
+pub mod RunLaws
 pub mod SavingLaws

@@ -18,7 +18,8 @@ use Rattle.text.specs.Line.Line.{line}
 use Rattle.session.specs.declared.Part.the-variants.{Model, Run}
 use Rattle.session.specs.Session.{Session, defaultTotal, defaultNumerator, defaultDenominator}
 use Rattle.session.specs.Place.{ruleOf}
-use Rattle.session.specs.Replies.{allowed, done, wordsOf, reply}
+use Rattle.session.specs.Replies.{Reply, allowed, done, wordsOf, reply}
+use Rattle.session.specs.Texts.{tableOf}
 use Rattle.session.specs.Good.{GoodSession}
 use Rattle.declare.specs.Tables.{namesOf, GoodVocabulary}
 use Rattle.facts.specs.Words.{stateWords, liveOf, GoodLive}
@@ -103,11 +104,17 @@ pub record Kept (n : Numbers) (w : Memory) : Type 0 where
   pub stored : Stored n w
   pub good : GoodSession (sessionOf n w)
 
--- what the function of any line promises
-pub record Replied (s : List ℕ) (number : ℕ) (n : Numbers) (w : Memory) (r : Said) (w′ : Memory) : Type 0 where
+-- the words that the answer of a reply shows stand in front of the working space: those of a spread for (count n), none for every other line
+-- (document 02, L11)
+abbrev pub Shown : Reply → List ℕ → Type 0
+Shown r work = take (length (tableOf (r .session) (r .answer))) work ≡ tableOf (r .session) (r .answer)
+
+-- what the function of any line promises; `work′` is the working space behind the line
+pub record Replied (s : List ℕ) (number : ℕ) (n : Numbers) (w : Memory) (r : Said) (w′ : Memory) (work′ : List ℕ) : Type 0 where
   pub answer : r .answer ≡ reply (sessionOf n w) number s .answer
   pub session : sessionOf (r .numbers) w′ ≡ reply (sessionOf n w) number s .session
   pub kept : Kept (r .numbers) w′
+  pub shown : Shown (reply (sessionOf n w) number s) work′
 
 -- working space of a session: the rows that a call forms, or two words for each parameter of a line
 abbrev pub workWords : ℕ

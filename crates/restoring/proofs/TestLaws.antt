@@ -269,9 +269,14 @@ module _ (n : Numbers) (ar value : List ℕ) where
   unfolding partFits
   part-unrewarded e f = stops _ (not-true (n .reward) f) ∙ sym (ap (partFits n ar value) e)
 
-  pub part-rest : {r : Bool} → n .part ≡ Run → not (n .reward) ≡ false → r ≡ runFits ar value (n .head) (n .held) → r ≡ partFits n ar value (n .part)
+  pub part-idle : n .part ≡ Run → not (n .reward) ≡ false → n .head .actions < 1 → false ≡ partFits n ar value (n .part)
   unfolding partFits
-  part-rest e f q = goes (not-false (n .reward) f) q ∙ sym (ap (partFits n ar value) e)
+  part-idle e f l = goes (not-false (n .reward) f) (stops _ (lt-leb 1 (n .head .actions) l)) ∙ sym (ap (partFits n ar value) e)
+
+  pub part-rest : {r : Bool} → n .part ≡ Run → not (n .reward) ≡ false → 1 ≤ n .head .actions → r ≡ runFits ar value (n .head) (n .held)
+      → r ≡ partFits n ar value (n .part)
+  unfolding partFits
+  part-rest e f l q = goes (not-false (n .reward) f) (goes (le-leb 1 (n .head .actions) l) q) ∙ sym (ap (partFits n ar value) e)
 
 pub rows-are : (rows words : ℕ) → leb rows (words / 3) ≡ leb (rows * 3) words
 rows-are rows words = go (flag (leb rows (words / 3)))

@@ -256,10 +256,12 @@ module _ (n : Numbers) (w : Memory) where
         };
         few = omega (arith, h .words);
         state = f .state .state;
+        most = f .state .objects;
         quiet = f .part-fits .quiet;
         begun = λ e.
             let r = v (f .model .reward .value (f .part-fits .rewarded e)) in
             record {
+              some = omega (arith, f .part-fits .acting e, length-many (actionAt (w .listings) (w .table)) (n .head .actions));
               good = record {
                 arities = f .model .arities .arities;
                 total-some = h .total-some;
@@ -340,6 +342,7 @@ module _ (n : Numbers) (w : Memory) where
       record {
         quiet = g .quiet;
         rewarded = λ e. s .reward ∙ ap not (ne-eqb (n .head .«reward_words») 0 (s .holding e .reward));
+        acting = λ e. omega (arith, g .begun e .some, length-many (actionAt (w .listings) (w .table)) (n .head .actions));
         run = λ e. record {
           diagram = record { listing = s .holding e .listing; is-closed = g .begun e .value .is-closed; within = g .begun e .value .within };
           steps = s .holding e .steps;

@@ -1,5 +1,6 @@
 -- Whether numbers and words are a session's, as every line keeps them: a test that computes. What opening or any line leaves passes; words that pass need not
--- have come from lines, and then (value) is the value of the diagram in hand and not Mk, and (text) prints the bytes that the keys hold, be they names or not.
+-- have come from lines, and then (value) is the value of the diagram in hand and not Mk, and (text) and (best) print the bytes that the keys hold, be they names or not;
+-- (best)'s move is then that of the diagram in hand. (count n) judges all 16 words of constants, those too that are not declared.
 --
 -- Definitions
 --   roomsFit == every table has its room

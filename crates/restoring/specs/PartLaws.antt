@@ -223,19 +223,22 @@ run-is ar value h v =
 pub record PartFit (n : Numbers) (ar value : List ℕ) (p : Part) : Type 0 where
   pub quiet : p ≡ Model → n .live .objects ≡ 0
   pub rewarded : p ≡ Run → n .reward ≡ true
+  pub acting : p ≡ Run → 1 ≤ n .head .actions
   pub run : p ≡ Run → RunFit ar value (n .head) (n .held)
 
 pub part-is : (n : Numbers) (ar value : List ℕ) (p : Part) → Decides (partFits n ar value p) (PartFit n ar value p)
 unfolding partFits
 part-is n ar value Model =
-    on (equal (n .live .objects) 0) (λ z. record { quiet = λ e. z; rewarded = λ e. absurd (apart e); run = λ e. absurd (apart e) }) (λ r. r .quiet refl)
+    on (equal (n .live .objects) 0)
+    (λ z. record { quiet = λ e. z; rewarded = λ e. absurd (apart e); acting = λ e. absurd (apart e); run = λ e. absurd (apart e) })
+    (λ r. r .quiet refl)
   where
     apart : Model ≡ Run → ⊥
     apart e = let z : _≡_ {A = ℕ} 0 1 = cc in omega arith
 part-is n ar value Run =
-    on (both (is-true (n .reward)) (λ e. run-is ar value (n .head) (n .held)))
-    (λ x. record { quiet = λ e. absurd (apart e); rewarded = λ e. x .0; run = λ e. x .1 })
-    (λ r. (r .rewarded refl, r .run refl))
+    on (both (is-true (n .reward)) (λ e. both (at-most 1 (n .head .actions)) (λ f. run-is ar value (n .head) (n .held))))
+    (λ x. record { quiet = λ e. absurd (apart e); rewarded = λ e. x .0; acting = λ e. x .1 .0; run = λ e. x .1 .1 })
+    (λ r. (r .rewarded refl, (r .acting refl, r .run refl)))
   where
     apart : Run ≡ Model → ⊥
     apart e = let z : _≡_ {A = ℕ} 0 1 = cc in omega arith

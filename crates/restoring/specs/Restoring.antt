@@ -103,11 +103,11 @@ unfolding isValue
 runFits ar value h v =
     isValue ar (take (v .rows * 3) value) && (leb (v .steps) mostSteps && eqb (v .power) ((h .total * h .denominator) ^ v .steps))
 
--- in the model no state is given; the run has a reward and a value diagram
+-- in the model no state is given; the run has a reward, an action and a value diagram
 unfoldable pub partFits : Numbers → List ℕ → List ℕ → Part → Bool
 unfolding runFits
 partFits n ar value Model = eqb (n .live .objects) 0
-partFits n ar value Run = n .reward && runFits ar value (n .head) (n .held)
+partFits n ar value Run = n .reward && (leb 1 (n .head .actions) && runFits ar value (n .head) (n .held))
 
 -- numbers and words are a session's
 unfoldable pub isSession : Numbers → Memory → Bool

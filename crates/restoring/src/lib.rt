@@ -272,13 +272,17 @@ fn part_fits(n: Numbers, arities: &[u64], value: &[u64]) -> bool
 {
     let part = n.part;
     let live = n.live;
+    let head = n.head;
     match part {
         Part::Model => live.objects == 0,
         Part::Run => {
             if !n.reward {
                 return false;
             }
-            run_fits(arities, value, n.head, n.held)
+            if head.actions < 1 {
+                return false;
+            }
+            run_fits(arities, value, head, n.held)
         }
     }
 }

@@ -30,8 +30,8 @@ use Rattle.planner.specs.Run.{heldIn}
 use Rattle.planner.proofs.HeldLaws.{backup-holds}
 use Rattle.memory.specs.declared.Numbers.{Numbers}
 use Rattle.memory.specs.Memory.{Memory, sessionOf, Ready, Answers}
+use Rattle.memory.specs.RunLaws.{in-run, run-holding}
 use Rattle.run_lines.specs.Lines.{runningWith, BackupTask, BackupAnswered}
-use Rattle.run_lines.specs.ReadyLaws.{in-run, run-holding}
 use Rattle.run_lines.proofs.HoldLaws.{withValue, running-stored}
 
 -- ===== What the line is answered, by what a backup gives =====

@@ -18,8 +18,8 @@ use Rattle.planner.specs.declared.Held.{Held}
 use Rattle.planner.specs.Run.{heldIn, Replaced}
 use Rattle.memory.specs.declared.Numbers.{Numbers}
 use Rattle.memory.specs.Memory.{Memory, sessionOf, Ready, Answers}
+use Rattle.memory.specs.RunLaws.{in-run}
 use Rattle.run_lines.specs.Lines.{runningWith, CutAnswered}
-use Rattle.run_lines.specs.ReadyLaws.{in-run}
 use Rattle.run_lines.proofs.HoldLaws.{withValue, replaced-stored}
 
 -- a cut of a run is that of the line

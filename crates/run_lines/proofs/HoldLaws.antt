@@ -16,8 +16,8 @@ use Rattle.planner.specs.declared.Held.{Held}
 use Rattle.planner.specs.Run.{Replaced}
 use Rattle.memory.specs.declared.Numbers.{Numbers}
 use Rattle.memory.specs.Memory.{Memory, Holding, Stored, Ready}
+use Rattle.memory.specs.RunLaws.{run-holding}
 use Rattle.run_lines.specs.Lines.{runningWith}
-use Rattle.run_lines.specs.ReadyLaws.{run-holding}
 
 -- the words with another value
 abbrev pub withValue : Memory → List ℕ → Memory

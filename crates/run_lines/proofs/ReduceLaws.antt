@@ -31,8 +31,8 @@ use Rattle.planner.specs.Run.{heldIn, ReplaceTask, Replaced}
 use Rattle.planner.proofs.HeldLaws.{replace-stays}
 use Rattle.memory.specs.declared.Numbers.{Numbers}
 use Rattle.memory.specs.Memory.{Memory, sessionOf, Ready, Answers}
+use Rattle.memory.specs.RunLaws.{in-run}
 use Rattle.run_lines.specs.Lines.{runningWith, ReduceAnswered}
-use Rattle.run_lines.specs.ReadyLaws.{in-run}
 use Rattle.run_lines.proofs.HoldLaws.{withValue, replaced-stored}
 
 -- ===== The call =====

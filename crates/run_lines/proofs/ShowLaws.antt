@@ -12,8 +12,8 @@ use Rattle.steps.specs.Steps.{Result}
 use Rattle.steps.specs.GivenLaws.{result-count}
 use Rattle.memory.specs.declared.Numbers.{Numbers}
 use Rattle.memory.specs.Memory.{Memory, sessionOf, Ready, Answers}
+use Rattle.memory.specs.RunLaws.{run-holding}
 use Rattle.run_lines.specs.Lines.{ShowAnswered}
-use Rattle.run_lines.specs.ReadyLaws.{run-holding}
 
 show-answers : {s : List ℕ} (number : ℕ) {n : Numbers} {w : Memory} → Ready K.Show s n w → Answers K.Show s number n w (record { numbers = n; answer = A.Show (n .held .rows) }) w
 unfolding sessionOf done

@@ -102,8 +102,8 @@ module _ {s : List ℕ} (number : ℕ) {n : Numbers} {w : Memory} (r : Ready K.S
 
 module _ {number : ℕ} {n : Numbers} {ar listings table value work : List ℕ} (t : StartTask n ar listings table value work) {q : Weighed}
     (a : q ≡ weighedAs (weighed ar (n .head .total) (modelOf ar listings table (n .head) .actions))) where
-  pub start-begins : q ≡ Done → {m : ℕ} {value′ : List ℕ} → Taken listings (n .head) m value′ → length value′ ≡ length value → {n′ : Numbers} → n′ ≡ runningWith n (first m)
-      → StartAnswered number n ar listings table value (record { numbers = n′; answer = A.Nothing }) value′
+  pub start-begins : q ≡ Done → {m : ℕ} {value′ : List ℕ} → Taken listings (n .head) m value′ → length value′ ≡ length value → {n′ : Numbers}
+      → n′ ≡ runningWith n (first m) → StartAnswered number n ar listings table value (record { numbers = n′; answer = A.Nothing }) value′
   start-begins e {m} {value′} k l {n′} u = subst
       (λ (x : Numbers). StartAnswered number n ar listings table value (record { numbers = x; answer = A.Nothing }) value′) (sym u)
       (record { says = λ s names state r. begins-answers number r t a e k l })

@@ -14,7 +14,8 @@ use state::Valued;
 use weights::Weighed;
 ghost use mathlib.Core.Path.{_≡_};
 ghost use Rattle.planner.specs.Run.{ReplaceTask};
-ghost use Rattle.run_lines.specs.Lines.{runningWith, StartTask, ValueTask, BackupTask, TextTask, StartAnswered, ValueAnswered, BackupAnswered, CutAnswered, ReduceAnswered, ShowAnswered, TextAnswered};
+ghost use Rattle.run_lines.specs.Lines.{runningWith, StartTask, ValueTask, BackupTask, TextTask};
+ghost use Rattle.run_lines.specs.Lines.{StartAnswered, ValueAnswered, BackupAnswered, CutAnswered, ReduceAnswered, ShowAnswered, TextAnswered};
 
 // The numbers once the run holds `held`.
 fn running(n: Numbers, held: Held) -> Numbers
@@ -72,14 +73,14 @@ pub fn start(
 
 // (value): the value in the state, k and S^k, or the refusal.
 pub fn value(number: u64, n: Numbers, arities: &[u64], state: &[u64], value: &[u64]) -> Said
-    requires { ⌜ ValueTask n (now state) (now value) ⌝ }
+    requires { ⌜ ValueTask n (now arities) (now state) (now value) ⌝ }
     ensures { λ r. ⌜ ValueAnswered number n (now (arities .entry)) (now (state .entry)) (now (value .entry)) r ⌝ }
 {
     let held = n.held;
     let live = n.live;
     let rows = held.rows;
     let end = facts::FACTS_BASE + live.facts * facts::FACT_WORDS;
-    let v = valuing::value(
+    let v = valuing::value_listed(
         arities,
         &value[..rows * 3],
         live.objects,

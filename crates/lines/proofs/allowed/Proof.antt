@@ -1,4 +1,5 @@
-use Rattle.lines.proofs.PlaceLaws.{place-no-form, place-misplaced, place-anywhere, place-total, place-discount, place-reward, place-action, place-variant, place-whole, place-objects, place-placed}
+use Rattle.lines.proofs.PlaceLaws.{place-no-form, place-misplaced, place-anywhere, place-total, place-discount, place-reward}
+use Rattle.lines.proofs.PlaceLaws.{place-action, place-variant, place-whole, place-objects, place-placed, place-move, place-constants}
 use borrow.Author.Needs.{needs}
 use Rattle.lines.proofs.allowed.Statement.{statement}
 use Rattle.lines.proofs.allowed.Tie as tie
@@ -36,7 +37,19 @@ returns-10 c = search place-objects
 returns-11 : tie.Need-returns-11
 returns-11 c = search place-placed
 
+returns-12 : tie.Need-returns-12
+returns-12 c = search place-move
+
+returns-13 : tie.Need-returns-13
+returns-13 c = search place-constants
+
 pub allowed-spec : {M : Type 1} → statement M
 allowed-spec =
     tie.close
-    (tie.spec (λ c. search needs) (λ c. search needs) (λ c. search needs) (λ c. search needs) (λ c κs. search needs) (λ c. search needs) (λ c κs. search needs) (λ c. search needs) (λ c κs. search needs) (λ c. search needs) (λ c κs. search needs) (λ c. search needs) (λ c κs. search needs) (λ c. search needs) (λ c κs. search needs) (λ c κs. search needs) (λ c. search needs) (λ c κs. search needs) (λ c. search needs) (λ c κs. search needs) (λ c κs. search needs) returns returns-2 returns-3 returns-4 returns-5 returns-6 returns-7 returns-8 returns-9 returns-10 returns-11)
+    (tie.spec
+    (λ c. search needs) (λ c. search needs) (λ c. search needs) (λ c. search needs) (λ c κs. search needs) (λ c. search needs) (λ c κs. search needs)
+    (λ c. search needs) (λ c κs. search needs) (λ c. search needs) (λ c κs. search needs) (λ c. search needs) (λ c κs. search needs)
+    (λ c. search needs) (λ c κs. search needs) (λ c κs. search needs) (λ c. search needs) (λ c κs. search needs) (λ c. search needs)
+    (λ c κs. search needs) (λ c κs. search needs) (λ c. search needs) (λ c κs. search needs) (λ c κs. search needs) (λ c. search needs)
+    (λ c κs. search needs) (λ c κs. search needs) returns returns-2 returns-3 returns-4 returns-5 returns-6 returns-7 returns-8 returns-9 returns-10
+    returns-11 returns-12 returns-13)

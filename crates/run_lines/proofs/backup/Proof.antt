@@ -12,10 +12,13 @@ backup-requires c κs =
 returns : tie.Need-returns
 returns c =
     let b = c .before .before .before .before .before .before .before .before .backup in
-    backup-made (c .before .before .before .before .before .before .before .before .before .before .before .before .before .before .before .before .before .before .pre) (b .ensures) (c .before .before .r .given .1) (b .kept .1 .1 .1 .1 .1 .1 .0) (c .running .ensures)
+    let s = c .before .before .before .before .before .before .before .before .before .before .before .before .before .before .before .before .before .before in
+    backup-made (s .pre) (b .ensures) (c .before .before .r .given .1) (b .kept .1 .1 .1 .1 .1 .1 .0) (c .running .ensures)
 
 returns-2 : tie.Need-returns-2
-returns-2 c = backup-stops (c .before .before .before .before .before .before .before .before .before .before .before .before .before .before .before .before .before .pre) (c .before .before .before .before .before .before .before .backup .ensures) (c .before .r2 .given .1)
+returns-2 c =
+    let b = c .before .before .before .before .before .before .before in
+    backup-stops (b .before .before .before .before .before .before .before .before .before .before .pre) (b .backup .ensures) (c .before .r2 .given .1)
 
 pub backup-spec : {M : Type 1} → statement M
 backup-spec =

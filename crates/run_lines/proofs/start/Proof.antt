@@ -12,10 +12,14 @@ take-reward-requires c κs = start-takeable (c .before .before .before .before .
 returns : tie.Need-returns
 returns c =
     let u = c .before .before .before .take-reward in
-    start-begins (c .before .before .before .before .before .before .before .before .before .before .before .before .before .before .before .before .before .pre) (c .before .before .before .before .before .before .before .before .before .weigh .ensures) (c .before .before .before .before .before .enum-told .given .1) (u .ensures) (u .kept .1 .1 .0) (c .running .ensures)
+    let w = c .before .before .before .before .before .before .before .before .before in
+    start-begins (w .before .before .before .before .before .before .before .before .pre) (w .weigh .ensures)
+    (c .before .before .before .before .before .enum-told .given .1) (u .ensures) (u .kept .1 .1 .0) (c .running .ensures)
 
 returns-2 : tie.Need-returns-2
-returns-2 c = start-fails (c .before .before .before .before .before .before .before .before .before .before .before .before .before .pre) (c .before .before .before .before .before .weigh .ensures) (c .before .w .given .1)
+returns-2 c =
+    let w = c .before .before .before .before .before in
+    start-fails (w .before .before .before .before .before .before .before .before .pre) (w .weigh .ensures) (c .before .w .given .1)
 
 pub start-spec : {M : Type 1} → statement M
 start-spec =

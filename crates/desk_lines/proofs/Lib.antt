@@ -1,0 +1,4 @@
+-- Laws that the functions' proofs use.
+pub mod BestLaws
+pub mod SpreadLaws
+pub mod CountLaws

@@ -1,0 +1,52 @@
+use Prim.Native.Nat.{_*_}
+use borrow.Author.Needs.{needs}
+use Rattle.state.specs.Lent.{factWords}
+use Rattle.facts.specs.Words.{factsBase}
+use Rattle.model.proofs.CheckLaws.{part-words}
+use Rattle.desk_lines.proofs.BestLaws.{best-rows-long, best-constants-long, best-lent, best-moved, best-refused}
+use Rattle.desk_lines.proofs.best.Statement.{statement}
+use Rattle.desk_lines.proofs.best.Tie as tie
+
+slice-aggregate-best-move : tie.Need-slice-aggregate-best-move
+slice-aggregate-best-move c = best-constants-long (c .before .before .before .before .before .before .before .before .before .before .before .before .pre)
+
+slice-aggregate-best-move-2 : tie.Need-slice-aggregate-best-move-2
+slice-aggregate-best-move-2 c = best-rows-long (c .before .before .before .before .before .before .before .before .before .before .before .before .before .before .pre)
+
+best-move-requires : tie.Need-best-move-requires
+best-move-requires c κs =
+    let s = c .before .before .before .before .before .before .before .before .before .before .before .before .before .before .before in
+    best-lent (s .pre) (part-words (s .args .state .now) factsBase (s .args .n .live .facts * factWords))
+
+returns : tie.Need-returns
+returns c =
+    let did = c .before .before .before .before .before .before in
+    let a = did .before .before .before .before .before .before .before .before .before .before .before .before .before .before .before .before .args in
+    best-moved _ _ _ _ _ _ _ (part-words (a .state .now) factsBase (a .n .live .facts * factWords)) (did .best-move .ensures) (c .before .before .m .given .1) (c .action-key .ensures)
+
+returns-2 : tie.Need-returns-2
+returns-2 c =
+    let did = c .before .before .before .before .before in
+    let a = did .before .before .before .before .before .before .before .before .before .before .before .before .before .before .before .before .args in
+    best-refused _ _ _ _ _ _ _ (part-words (a .state .now) factsBase (a .n .live .facts * factWords)) (did .best-move .ensures) (c .before .m2 .given .1)
+
+pub best-spec : {M : Type 1} → statement M
+best-spec =
+    tie.close
+    (tie.spec
+    (λ c. search needs)
+    (λ c. search needs)
+    slice-aggregate-best-move
+    (λ c. search needs)
+    (λ c. search needs)
+    (λ c. search needs)
+    (λ c. search needs)
+    slice-aggregate-best-move-2
+    best-move-requires
+    (λ c. search needs)
+    (λ c κs. search needs)
+    (λ c. search needs)
+    (λ c. search needs)
+    returns
+    (λ c. search needs)
+    returns-2)
