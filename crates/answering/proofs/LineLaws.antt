@@ -1,29 +1,28 @@
 -- Laws of the lines of answers and of rows.
-use Prim.Native.Nat.{ℕ, zero, suc, _+_, _*_, _-_, _≤_, _<_}
-use mathlib.Core.Path.{_≡_, refl, sym, ap, subst, _∙_}
-use mathlib.Core.Bool.{Bool, true, false, cond}
-use mathlib.Core.List.{List, [], _++_}
+use Prim.Native.Nat.{ℕ, _+_, _*_, _-_, _≤_, _<_}
+use mathlib.Core.Path.{_≡_, sym, subst}
+use mathlib.Core.List.{List, [], _∷_, _++_}
 use native.Mathlib.Omega.{arith}
-use native.Mathlib.Numerals.{add-one}
-use borrow.Author.Tests.{eq-eqb, ne-eqb, le-leb, lt-leb, leb-true, leb-false}
-use lib.Dec.{leb}
-use lib.ListN.{length, getD, take, drop, length-append}
+use borrow.Author.Tests.{eq-eqb, ne-eqb, le-leb, lt-leb}
+use lib.ListN.{length, getD, take, drop}
 use lib.Seq.{take-at, length-take-le}
+use Rattle.words.specs.declared.Key.{Key}
+use Rattle.words.specs.Keys.{nameOf}
 use Rattle.refusal.specs.declared.Refusal.{Refusal}
 use Rattle.refusal.specs.Numbers.{numberOf}
 use Rattle.label.specs.Limits.{leafMark}
-use Rattle.diagram.specs.Sizes.{mostRows}
 use Rattle.diagram.specs.Words.{labelAt, highAt, lowAt}
 use Rattle.cutting.specs.declared.Edge.{Edge}
 use Rattle.answers.specs.declared.Answer.{Answer}
-use Rattle.answers.specs.declared.Answer.the-variants.{Value, Backup, Cut, Reduce, Refused, Show, Text, Nothing}
+use Rattle.answers.specs.declared.Answer.the-variants.{Value, Backup, Cut, Reduce, Refused, Show, Text, Best, Count, Nothing}
 use Rattle.answers.specs.declared.Put.{Put}
 use Rattle.answers.specs.declared.Put.the-variants.{At, Full}
-use Rattle.answers.specs.Answers.{field, edgeField, leafField, lineEnd, valueHead, backupHead, cutHead, reduceHead, refusedHead, rowHead, answerLine, rowLine, rowLineAt, rowLines, answerBytes}
-use Rattle.answers.specs.Writing.{IsWord, lineBytes, mostBytes, putAnswer, putResult, Placed, Showable, Plain}
-use Rattle.answers.specs.AnswerLaws.{answer-short}
+use Rattle.answers.specs.Answers.{field, fields, nameField, edgeField, leafField, lineEnd, answerLine, rowLine, rowLineAt, countLineAt}
+use Rattle.answers.specs.Answers.{valueHead, backupHead, cutHead, reduceHead, bestHead, countHead, refusedHead, rowHead}
+use Rattle.answers.specs.Writing.{lineBytes, putAnswer, putResult, Placed}
 use Rattle.answering.specs.Wrote.{Wrote, WroteWithin}
-use Rattle.answering.proofs.WriteLaws.{wrote-nothing, wrote-then, one-field, three-fields, four-fields, of-word, wider}
+use Rattle.answering.proofs.WriteLaws.{wrote-nothing, one-field, three-fields, four-fields, of-word, wider, wrote-more}
+use Rattle.answering.proofs.KeyLaws.{name-short}
 
 -- the line of three parts
 pub reduce-parts : {s s₁ s₂ s′ a : List ℕ} {i j r : ℕ} → lineBytes ≤ length s → Wrote s 0 reduceHead i s₁ → WroteWithin s₁ i a 21 j s₂ → Wrote s₂ j lineEnd r s′
@@ -49,6 +48,28 @@ module _ {s s₁ s₂ s₃ s₄ s′ a c : List ℕ} {i j k l r : ℕ} (room : l
       → WroteWithin s 0 (rowHead ++ a ++ leafField ++ c ++ lineEnd) lineBytes r s′
   leaf-parts h x y z e = three-fields room (omega arith) h x (of-word 21 (omega arith) y) z e
 
+-- the line of a move: behind its head and a space the name, then the objects
+abbrev moveHead : List ℕ
+moveHead = bestHead ++ (32 ∷ [])
+
+module _ {s s₁ : List ℕ} {i : ℕ} (k : Key) (room : lineBytes ≤ length s) (h : Wrote s 0 moveHead i s₁) where
+  pub name-room : length s₁ ≡ length s → i + length (nameOf k) ≤ length s₁
+  name-room e = omega (arith, h .behind, name-short k)
+
+  module _ {s₂ : List ℕ} {j : ℕ} (x : Wrote s₁ i (nameOf k) j s₂) where
+    pub objects-room : length s₁ ≡ length s → length s₂ ≡ length s₁ → j + 16 + 21 ≤ length s₂
+    objects-room e g = omega (arith, h .behind, x .behind, name-short k)
+
+    pub end-room : {s₃ w : List ℕ} {l : ℕ} → length s₁ ≡ length s → length s₂ ≡ length s₁ → length s₃ ≡ length s₂ → WroteWithin s₂ j w 16 l s₃ → l + 2 ≤ length s₃
+    end-room e g m y = omega (arith, h .behind, x .behind, name-short k, y .wrote .behind, y .within)
+
+    pub move-parts : {s₃ s′ w : List ℕ} {l r : ℕ} → WroteWithin s₂ j w 16 l s₃ → Wrote s₃ l lineEnd r s′
+        → WroteWithin s 0 (bestHead ++ nameField k ++ w ++ lineEnd) lineBytes r s′
+    unfolding nameField
+    move-parts y e =
+        let n = wrote-more (omega arith) (of-word 6 (omega arith) h) (of-word 15 (name-short k) x) in
+        wider lineBytes (omega arith) (wrote-more (omega arith) (wrote-more (omega arith) n y) (of-word 2 (omega arith) e))
+
 -- the line of a row
 module _ {s s′ : List ℕ} {r : ℕ} (ws : List ℕ) (k : ℕ) where
   pub row-leaf : getD ws (k * 3) 0 ≡ leafMark → WroteWithin s 0 (rowHead ++ field k ++ leafField ++ field (getD ws (k * 3 + 1) 0) ++ lineEnd) lineBytes r s′
@@ -61,6 +82,13 @@ module _ {s s′ : List ℕ} {r : ℕ} (ws : List ℕ) (k : ℕ) where
       → WroteWithin s 0 (rowLineAt ws k) lineBytes r s′
   unfolding rowLineAt rowLine labelAt highAt lowAt
   row-branch e w = rw (ne-eqb (getD ws (k * 3) 0) leafMark e) w
+
+-- a line of a spread
+pub count-pair : {s s′ : List ℕ} {r : ℕ} (ws : List ℕ) (k : ℕ)
+    → WroteWithin s 0 (countHead ++ field (getD ws (k * 2) 0) ++ field (getD ws (k * 2 + 1) 0) ++ lineEnd) lineBytes r s′
+    → WroteWithin s 0 (countLineAt ws k) lineBytes r s′
+unfolding countLineAt
+count-pair ws k w = w
 
 -- the line of an answer
 module _ {s s′ : List ℕ} {r : ℕ} {answer : Answer} where
@@ -88,6 +116,11 @@ module _ {s s′ : List ℕ} {r : ℕ} {answer : Answer} where
   unfolding answerLine
   line-refused e p w = rw (e, ← p) w
 
+pub line-best : {s s′ : List ℕ} {r : ℕ} {answer : Answer} {k : Key} {n a b c d : ℕ} → answer ≡ Best k n a b c d
+    → WroteWithin s 0 (bestHead ++ nameField k ++ fields (take n (a ∷ b ∷ c ∷ d ∷ [])) ++ lineEnd) lineBytes r s′ → WroteWithin s 0 (answerLine answer) lineBytes r s′
+unfolding answerLine
+line-best e w = rw e w
+
 pub line-show : (s : List ℕ) {answer : Answer} {n : ℕ} → answer ≡ Show n → WroteWithin s 0 (answerLine answer) lineBytes 0 s
 unfolding answerLine
 line-show s e = rw e (record { wrote = wrote-nothing s 0; within = omega arith })
@@ -95,6 +128,10 @@ line-show s e = rw e (record { wrote = wrote-nothing s 0; within = omega arith }
 pub line-text : (s : List ℕ) {answer : Answer} {n : ℕ} → answer ≡ Text n → WroteWithin s 0 (answerLine answer) lineBytes 0 s
 unfolding answerLine
 line-text s e = rw e (record { wrote = wrote-nothing s 0; within = omega arith })
+
+pub line-count : (s : List ℕ) {answer : Answer} {n m : ℕ} → answer ≡ Count n m → WroteWithin s 0 (answerLine answer) lineBytes 0 s
+unfolding answerLine
+line-count s e = rw e (record { wrote = wrote-nothing s 0; within = omega arith })
 
 pub line-none : (s : List ℕ) {answer : Answer} → answer ≡ Nothing → WroteWithin s 0 (answerLine answer) lineBytes 0 s
 unfolding answerLine
@@ -124,7 +161,7 @@ placed-at {s} {w} {s′} {place} {r} h l p =
     }
 
 -- a line of its own, then put
-line-bytes : {s w s′ : List ℕ} {n : ℕ} → WroteWithin s 0 w lineBytes n s′ → take n s′ ≡ w
+pub line-bytes : {s w s′ : List ℕ} {n : ℕ} → WroteWithin s 0 w lineBytes n s′ → take n s′ ≡ w
 line-bytes {s} {w} {s′} {n} p = rw (p .wrote .bytes) (take-at w (drop n s) n (omega (arith, p .wrote .behind)))
 
 pub line-room : {s w s′ : List ℕ} {n : ℕ} → length s′ ≡ lineBytes → WroteWithin s 0 w lineBytes n s′ → n ≤ length s′
@@ -135,168 +172,3 @@ line-taken {s} {w} {s′} {n} e p = sym (length-take-le n s′ (line-room e p))
 
 pub placed-line : {s s′ line line′ : List ℕ} (w : List ℕ) {place n : ℕ} {r : Put} → WroteWithin line 0 w lineBytes n line′ → Placed s place (take n line′) r s′ → Placed s place w r s′
 placed-line {s} {s′} w {place} {n} {r} p y = subst (λ (x : List ℕ). Placed s place x r s′) (line-bytes p) y
-
--- the lines of rows
-lines-more : (ws : List ℕ) (k : ℕ) → rowLines ws (k + 1) ≡ rowLines ws k ++ rowLineAt ws k
-unfolding rowLines
-lines-more ws k = rw (add-one k)
-
-lines-length : (ws : List ℕ) (k : ℕ) → length (rowLines ws (k + 1)) ≡ length (rowLines ws k) + length (rowLineAt ws k)
-lines-length ws k = ap length (lines-more ws k) ∙ length-append (rowLines ws k) (rowLineAt ws k)
-
-lines-grow : (ws : List ℕ) (k d : ℕ) → length (rowLines ws k) ≤ length (rowLines ws (k + d))
-lines-grow ws k zero = let e : k + zero ≡ k = omega arith in rw e (omega arith)
-lines-grow ws k (suc d) =
-    let e : k + suc d ≡ k + d + 1 = omega arith in
-    rw e (omega (arith, lines-grow ws k d, lines-length ws (k + d)))
-
--- the place behind the first k of n rows
-pub record RowsPlace (ws : List ℕ) (n place limit k end : ℕ) : Type 0 where
-  pub within : k ≤ n
-  pub here : end ≡ place + length (rowLines ws k)
-  pub room : end ≤ limit
-
-pub end-start : (ws : List ℕ) (n : ℕ) {place limit : ℕ} → place ≤ limit → RowsPlace ws n place limit 0 place
-unfolding rowLines
-end-start ws n h = record { within = omega arith; here = omega arith; room = h }
-
-put-full : (limit place : ℕ) (w : List ℕ) → limit < place + length w → Full ≡ putAnswer limit place w
-unfolding putAnswer
-put-full limit place w h = rw (lt-leb (place + length w) limit h)
-
-pub end-past : (ws : List ℕ) (n : ℕ) {place limit : ℕ} → limit < place → Full ≡ putAnswer limit place (rowLines ws n)
-end-past ws n {place} {limit} h = put-full limit place (rowLines ws n) (omega arith)
-
-module _ {ws line line′ : List ℕ} {n place limit k end m : ℕ} (x : RowsPlace ws n place limit k end) (h : k < n) (w : WroteWithin line 0 (rowLineAt ws k) lineBytes m line′) where
-  pub end-full : limit - end < m → Full ≡ putAnswer limit place (rowLines ws n)
-  end-full l =
-      let e : k + 1 + (n - (k + 1)) ≡ n = omega arith in
-      let g : length (rowLines ws (k + 1)) ≤ length (rowLines ws n) = subst (λ (j : ℕ). length (rowLines ws (k + 1)) ≤ length (rowLines ws j)) e (lines-grow ws (k + 1) (n - (k + 1))) in
-      put-full limit place (rowLines ws n) (omega (arith, x .here, x .room, w .wrote .behind, lines-length ws k))
-
-  pub end-more : m ≤ limit - end → RowsPlace ws n place limit (k + 1) (end + m)
-  end-more l =
-      record { within = omega arith; here = omega (arith, x .here, w .wrote .behind, lines-length ws k); room = omega (arith, x .room) }
-
-pub end-done : {ws : List ℕ} {n place limit k end : ℕ} → RowsPlace ws n place limit k end → n ≤ k → At end ≡ putAnswer limit place (rowLines ws n)
-unfolding putAnswer
-end-done {ws} {n} {place} {limit} {k} {end} x h =
-    let e : k ≡ n = omega (arith, x .within) in
-    let g : end ≡ place + length (rowLines ws n) = rw (← e) (x .here) in
-    rw (← g, le-leb end limit (x .room))
-
--- the first k of n rows written
-pub record RowsWritten (s ws : List ℕ) (n place k end : ℕ) (s₁ : List ℕ) : Type 0 where
-  pub within : k ≤ n
-  pub wrote : Wrote s place (rowLines ws k) end s₁
-  pub same : length s₁ ≡ length s
-
-pub rows-start : (s ws : List ℕ) (n place : ℕ) → RowsWritten s ws n place 0 place s
-unfolding rowLines
-rows-start s ws n place = record { within = omega arith; wrote = wrote-nothing s place; same = refl }
-
-module _ {s ws s₁ line line′ : List ℕ} {n place k end m : ℕ} (room : place + length (rowLines ws n) ≤ length s) (x : RowsWritten s ws n place k end s₁)
-    (h : k < n) (w : WroteWithin line 0 (rowLineAt ws k) lineBytes m line′) where
-  rows-below : end + length (rowLineAt ws k) ≤ length s
-  rows-below =
-      let e : k + 1 + (n - (k + 1)) ≡ n = omega arith in
-      let g : length (rowLines ws (k + 1)) ≤ length (rowLines ws n) = subst (λ (j : ℕ). length (rowLines ws (k + 1)) ≤ length (rowLines ws j)) e (lines-grow ws (k + 1) (n - (k + 1))) in
-      omega (arith, x .wrote .behind, lines-length ws k)
-
-  pub rows-room : end + length (take m line′) ≤ length s₁
-  rows-room = rw (line-bytes w, x .same) rows-below
-
-  pub rows-more : {s₂ : List ℕ} {r : ℕ} → length s₂ ≡ length s₁ → Wrote s₁ end (take m line′) r s₂ → RowsWritten s ws n place (k + 1) r s₂
-  rows-more {s₂} {r} e p =
-      let q : Wrote s₁ end (rowLineAt ws k) r s₂ = subst (λ (y : List ℕ). Wrote s₁ end y r s₂) (line-bytes w) p in
-      record {
-        within = omega arith;
-        wrote = rw (lines-more ws k) (wrote-then (omega (arith, rows-below)) (x .wrote) q);
-        same = e ∙ x .same;
-      }
-
-pub rows-done : {s ws s₁ : List ℕ} {n place k end : ℕ} → RowsWritten s ws n place k end s₁ → n ≤ k → Wrote s place (rowLines ws n) end s₁
-rows-done {s} {ws} {s₁} {n} {place} {k} {end} x h =
-    let e : k ≡ n = omega (arith, x .within) in
-    rw (← e) (x .wrote)
-
-full-at : {n : ℕ} → Full ≡ At n → ⊥
-full-at e = let z : _≡_ {A = ℕ} 0 1 = cc in omega arith
-
--- rows measured, then put
-module _ (s w : List ℕ) (place : ℕ) {x : Put} (p : x ≡ putAnswer (length s) place w) where
-  pub measured-full : x ≡ Full → Placed s place w Full s
-  unfolding putResult putAnswer
-  measured-full e = go (leb (place + length w) (length s)) refl
-    where
-      go : (b : Bool) → leb (place + length w) (length s) ≡ b → Placed s place w Full s
-      go true q = absurd (full-at (sym e ∙ p ∙ ap (λ (b : Bool). cond b (At (place + length w)) Full) q))
-      go false q = placed-full s w place (leb-false (place + length w) (length s) q)
-
-  pub measured-room : {n : ℕ} → x ≡ At n → place + length w ≤ length s
-  unfolding putAnswer
-  measured-room {n} e = go (leb (place + length w) (length s)) refl
-    where
-      go : (b : Bool) → leb (place + length w) (length s) ≡ b → place + length w ≤ length s
-      go true q = leb-true (place + length w) (length s) q
-      go false q = absurd (full-at (sym (sym e ∙ p ∙ ap (λ (b : Bool). cond b (At (place + length w)) Full) q)))
-
-  pub measured-at : {s′ : List ℕ} {n r : ℕ} → x ≡ At n → Wrote s place w r s′ → Placed s place w (At r) s′
-  measured-at e q = let g = measured-room e in placed-at (omega arith) (omega arith) q
-
--- the rows of a listing, in bytes
-pub rows-short : (ws : List ℕ) (n : ℕ) → ((i : ℕ) → IsWord (getD ws i 0)) → n ≤ mostRows → length (rowLines ws n) ≤ mostBytes
-unfolding answerBytes
-rows-short ws n g h = answer-short ws [] (Show n) g h tt
-
--- an answer's bytes are put, and are at most as many as any answer's
-abbrev pub PutShort : List ℕ → ℕ → List ℕ → Answer → Put → List ℕ → Type 0
-PutShort s place ws answer r s′ =
-    Placed s place (answerBytes ws [] answer) r s′ × (((n : ℕ) → answer ≡ Show n → n ≤ mostRows) → length (answerBytes ws [] answer) ≤ mostBytes)
-
-abbrev LineShort : List ℕ → ℕ → Answer → Put → List ℕ → Type 0
-LineShort s place answer r s′ = Placed s place (answerLine answer) r s′ × (length (answerLine answer) ≤ lineBytes)
-
--- one line: its bytes are the answer's
-as-line : {s s′ : List ℕ} (ws : List ℕ) {place : ℕ} (answer : Answer) {r : Put} → answerBytes ws [] answer ≡ answerLine answer → LineShort s place answer r s′ → PutShort s place ws answer r s′
-as-line {s} {s′} ws {place} answer {r} e p =
-    (subst (λ (w : List ℕ). Placed s place w r s′) (sym e) (p .0), λ few. omega (arith, p .1, ap length e))
-
-module _ {s s′ : List ℕ} (ws : List ℕ) {place : ℕ} {answer : Answer} {r : Put} where
-  pub put-value : {v k n : ℕ} → answer ≡ Value v k n → LineShort s place answer r s′ → PutShort s place ws answer r s′
-  unfolding answerBytes
-  put-value e p = as-line ws answer (ap (answerBytes ws []) e ∙ sym (ap answerLine e)) p
-
-  pub put-backup : {k n : ℕ} → answer ≡ Backup k n → LineShort s place answer r s′ → PutShort s place ws answer r s′
-  unfolding answerBytes
-  put-backup e p = as-line ws answer (ap (answerBytes ws []) e ∙ sym (ap answerLine e)) p
-
-  pub put-cut : {i n : ℕ} {g : Edge} → answer ≡ Cut i g n → LineShort s place answer r s′ → PutShort s place ws answer r s′
-  unfolding answerBytes
-  put-cut e p = as-line ws answer (ap (answerBytes ws []) e ∙ sym (ap answerLine e)) p
-
-  pub put-reduce : {n : ℕ} → answer ≡ Reduce n → LineShort s place answer r s′ → PutShort s place ws answer r s′
-  unfolding answerBytes
-  put-reduce e p = as-line ws answer (ap (answerBytes ws []) e ∙ sym (ap answerLine e)) p
-
-  pub put-refused : {w : Refusal} {n : ℕ} → answer ≡ Refused w n → LineShort s place answer r s′ → PutShort s place ws answer r s′
-  unfolding answerBytes
-  put-refused e p = as-line ws answer (ap (answerBytes ws []) e ∙ sym (ap answerLine e)) p
-
-  pub put-none : answer ≡ Nothing → LineShort s place answer r s′ → PutShort s place ws answer r s′
-  unfolding answerBytes answerLine
-  put-none e p = as-line ws answer (ap (answerBytes ws []) e ∙ sym (ap answerLine e)) p
-
-  -- the rows of a listing
-  pub put-show : {n : ℕ} → answer ≡ Show n → Placed s place (rowLines ws n) r s′ × (n ≤ mostRows → length (rowLines ws n) ≤ mostBytes) → PutShort s place ws answer r s′
-  unfolding answerBytes
-  put-show {n} e p =
-      let b : answerBytes ws [] answer ≡ rowLines ws n = ap (answerBytes ws []) e in
-      (subst (λ (w : List ℕ). Placed s place w r s′) (sym b) (p .0), λ few. omega (arith, p .1 (few n e), ap length b))
-
--- a form is put elsewhere
-pub put-form : {s s′ : List ℕ} (ws : List ℕ) {place : ℕ} {answer : Answer} {r : Put} {n : ℕ} → answer ≡ Text n → Plain answer → PutShort s place ws answer r s′
-put-form ws e p = absurd (subst Plain e p)
-
-pub shown-there : (ws : List ℕ) {answer : Answer} {n : ℕ} → Showable ws answer → answer ≡ Show n → n * 3 ≤ length ws
-shown-there ws p e = subst (Showable ws) e p

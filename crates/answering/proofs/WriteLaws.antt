@@ -118,7 +118,7 @@ pub edge-false : {s s′ : List ℕ} {place r : ℕ} {e : Edge} → e ≡ False 
 edge-false q p = rw q (record { wrote = p; within = omega arith })
 
 -- one word of a line more, where the line has room
-wrote-more : {s v s₁ w s₂ : List ℕ} {m n q r : ℕ} → m + n ≤ length s → WroteWithin s 0 v m q s₁ → WroteWithin s₁ q w n r s₂ → WroteWithin s 0 (v ++ w) (m + n) r s₂
+pub wrote-more : {s v s₁ w s₂ : List ℕ} {m n q r : ℕ} → m + n ≤ length s → WroteWithin s 0 v m q s₁ → WroteWithin s₁ q w n r s₂ → WroteWithin s 0 (v ++ w) (m + n) r s₂
 wrote-more {s} {v} {s₁} {w} h x y =
     record {
       wrote = wrote-then (omega (arith, x .wrote .behind, x .within)) (x .wrote) (y .wrote);

@@ -1,2 +1,4 @@
 -- Answers written into a lent buffer.
 pub mod Wrote
+pub mod Tables
+pub mod Printing

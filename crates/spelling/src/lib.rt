@@ -1,10 +1,10 @@
 // A listing as one nested form (document 02, L2): its bytes measured, and written into a lent buffer.
 use answering::put_bytes;
+use answering::put_key;
 use answering::put_number;
 use answers::Put;
 use label::Label;
 use label::Term;
-use words::Key;
 ghost use mathlib.Core.Path.{_≡_};
 ghost use mathlib.Core.Bool.{true};
 ghost use Prim.Native.Nat.{_+_, _*_, _<_, _≤_, max};
@@ -15,7 +15,6 @@ ghost use Rattle.diagram.specs.Words.{isListing, rowCount};
 ghost use Rattle.diagram.specs.Listing.{diagramOf};
 ghost use Rattle.diagram.specs.Validity.{tree};
 ghost use Rattle.diagram.specs.Shown.{Shown};
-ghost use Rattle.words.specs.Keys.{bytesWithin, nameOf};
 ghost use Rattle.names.specs.Layout.{constantsAt, declaredAt};
 ghost use Rattle.answers.specs.Writing.{Placed};
 ghost use Rattle.answering.specs.Wrote.{Wrote};
@@ -36,30 +35,6 @@ const FORM_BRACKETS: u64 = 63;
 
 // The bytes of a test at most: a name, and six terms with a space before each.
 const TEST_BYTES: usize = 160;
-
-// Writes the bytes that a number is made of, the lowest first; at most `left`.
-fn put_little(out: &mut [u8], at: usize, left: usize, m: u64) -> usize
-    requires { ⌜ at + length (bytesWithin left m) ≤ length (now out) ⌝ }
-    ensures { λ r. ⌜ Wrote (now (out .entry)) at (bytesWithin left m) r (now (out .exit)) ⌝ }
-{
-    if left == 0 {
-        return at;
-    }
-    if m == 0 {
-        return at;
-    }
-    out[at] = (m % 256) as u8;
-    put_little(out, at + 1, left - 1, m / 256)
-}
-
-// Writes the name of a key.
-fn put_key(out: &mut [u8], at: usize, key: Key) -> usize
-    requires { ⌜ at + length (nameOf key) ≤ length (now out) ⌝ }
-    ensures { λ r. ⌜ Wrote (now (out .entry)) at (nameOf key) r (now (out .exit)) ⌝ }
-{
-    let end = put_little(out, at, 8, key.a);
-    put_little(out, end, 7, key.b)
-}
 
 // Writes name i of the n keys from base on; past them it is empty.
 fn put_name(out: &mut [u8], at: usize, names: &[u64], base: usize, n: usize, i: usize) -> usize

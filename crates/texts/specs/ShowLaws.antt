@@ -1,11 +1,12 @@
--- What a shown listing is: the rows of the value diagram, which begin the words that hold it.
-use mathlib.Core.Path.{_≡_, refl, ap}
+-- What a shown listing is: the rows of the value diagram, which begin the words that hold it; and the lines of a spread, whose words begin others.
+use mathlib.Core.Path.{_≡_, refl, sym, ap, _∙_}
 use mathlib.Core.Bool.{true}
 use mathlib.Core.List.{List}
-use Prim.Native.Nat.{ℕ, zero, suc, _+_, _*_, _≤_}
+use Prim.Native.Nat.{ℕ, zero, suc, _+_, _*_, _≤_, _<_}
 use native.Mathlib.Omega.{arith}
+use native.Mathlib.Decide.{decLt}
 use lib.ListN.{length, take}
-use lib.Seq.{getD-take, length-take-le}
+use lib.Seq.{getD-take, take-all, length-take-le}
 use Rattle.diagram.specs.Rows.{rows}
 use Rattle.diagram.specs.Words.{labelAt, highAt, lowAt, isListing}
 use Rattle.diagram.specs.Listing.{diagramOf}
@@ -13,8 +14,7 @@ use Rattle.diagram.specs.ListingLaws.{length-listing}
 use Rattle.diagram.specs.Listings.{is-listing-diagram}
 use Rattle.answers.specs.declared.Answer.{Answer}
 use Rattle.answers.specs.declared.Answer.the-variants as A
-use Rattle.answers.specs.Answers.{rowLineAt, rowLines, answerBytes}
-use Rattle.answers.specs.Writing.{Showable}
+use Rattle.answers.specs.Answers.{rowLineAt, rowLines, countLineAt, countLines, answerBytes}
 
 -- ===== The bytes of an answer =====
 
@@ -30,27 +30,35 @@ rows-begin m ws (suc n) h =
       getD-take m ws (n * 3 + 2) 0 (omega arith),
     )
 
--- only a shown listing reads the words
-pub answers-same : (vs ws form : List ℕ) (a : Answer) → ((n : ℕ) → a ≡ A.Show n → rowLines vs n ≡ rowLines ws n) → answerBytes vs form a ≡ answerBytes ws form a
-unfolding answerBytes
-answers-same vs ws form (A.Value v k s) h = refl
-answers-same vs ws form (A.Backup k n) h = refl
-answers-same vs ws form (A.Cut i e n) h = refl
-answers-same vs ws form (A.Reduce n) h = refl
-answers-same vs ws form (A.Refused r line) h = refl
-answers-same vs ws form (A.Show n) h = h n refl
-answers-same vs ws form (A.Text n) h = refl
-answers-same vs ws form A.Nothing h = refl
+-- and so are the lines of a spread
+pub counts-begin : (m : ℕ) (ws : List ℕ) (n : ℕ) → n * 2 ≤ m → countLines (take m ws) n ≡ countLines ws n
+unfolding countLines countLineAt
+counts-begin m ws zero h = refl
+counts-begin m ws (suc n) h =
+    rw (counts-begin m ws n (omega arith), getD-take m ws (n * 2) 0 (omega arith), getD-take m ws (n * 2 + 1) 0 (omega arith))
 
-pub showable : (ws : List ℕ) (a : Answer) → ((n : ℕ) → a ≡ A.Show n → n * 3 ≤ length ws) → Showable ws a
-showable ws (A.Value v k s) h = tt
-showable ws (A.Backup k n) h = tt
-showable ws (A.Cut i e n) h = tt
-showable ws (A.Reduce n) h = tt
-showable ws (A.Refused r line) h = tt
-showable ws (A.Show n) h = h n refl
-showable ws (A.Text n) h = tt
-showable ws A.Nothing h = tt
+-- only a shown listing reads the words, only a spread its table
+pub answers-same : (vs ws form us ts : List ℕ) (a : Answer) → ((n : ℕ) → a ≡ A.Show n → rowLines vs n ≡ rowLines ws n)
+    → ((k m : ℕ) → a ≡ A.Count k m → countLines us m ≡ countLines ts m) → answerBytes vs form us a ≡ answerBytes ws form ts a
+unfolding answerBytes
+answers-same vs ws form us ts (A.Value v k s) h t = refl
+answers-same vs ws form us ts (A.Backup k n) h t = refl
+answers-same vs ws form us ts (A.Cut i e n) h t = refl
+answers-same vs ws form us ts (A.Reduce n) h t = refl
+answers-same vs ws form us ts (A.Refused r line) h t = refl
+answers-same vs ws form us ts (A.Show n) h t = h n refl
+answers-same vs ws form us ts (A.Text n) h t = refl
+answers-same vs ws form us ts (A.Best k n a b c d) h t = refl
+answers-same vs ws form us ts (A.Count k m) h t = t k m refl
+answers-same vs ws form us ts A.Nothing h t = refl
+
+-- words that begin others are not more
+pub begins : (ws t : List ℕ) → take (length t) ws ≡ t → length t ≤ length ws
+begins ws t e = go (decLt (length ws) (length t))
+  where
+    go : Dec (length ws < length t) → length t ≤ length ws
+    go (yes h) = let p : length ws ≡ length t = ap length (sym (take-all (length t) ws (omega arith)) ∙ e) in omega arith
+    go (no h) = omega arith
 
 -- ===== The words that hold it =====
 

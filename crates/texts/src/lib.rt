@@ -1,4 +1,5 @@
 // Whole texts: answered in a lent buffer, or while they are read. What their answers are stands in crate session and in specs/.
+use answering::Printed;
 use answers::Answer;
 use answers::Put;
 use label::Label;
@@ -20,7 +21,8 @@ ghost use Rattle.facts.specs.Words.{stateWords};
 ghost use Rattle.texts.specs.Ends.{lineLength};
 ghost use Rattle.texts.specs.Running.{fillClosing, fillRest, filledBehind, filled, Fills};
 ghost use Rattle.texts.specs.Streaming.{restBy, Keeps};
-ghost use Rattle.texts.specs.Putting.{printedBy, answerIn, Puttable};
+ghost use Rattle.spelling.specs.Spelling.{formLine};
+ghost use Rattle.texts.specs.Putting.{tablesIn, valueIn, answerIn, Form, Puttable};
 ghost use Rattle.texts.specs.Sending.{Sends, mostLines, progressOf, Going, Starts};
 ghost use Rattle.texts.specs.Whole.{Answerable, Reaches, wholeOf, nextEnd, behindReply, Steps, Ending};
 
@@ -34,12 +36,6 @@ pub const LINE_ROOM: usize = 4096;
 pub enum Ran {
     Done(usize),
     Full(usize, u64),
-}
-
-// What an answer prints: the value as a form of so many bytes, or lines of its own, if any.
-pub enum Printed {
-    Form(usize),
-    Lines,
 }
 
 // The numbers behind a line, and the place behind its answer, if that has room.
@@ -83,39 +79,19 @@ fn line_end(text: &[u8], at: usize) -> usize
     i
 }
 
-// Whether an answer prints a form.
-fn printed_by(answer: Answer) -> Printed
-    ensures { λ r. ⌜ r ≡ printedBy answer ⌝ }
-{
-    match answer {
-        Answer::Value(_, _, _) => Printed::Lines,
-        Answer::Backup(_, _) => Printed::Lines,
-        Answer::Cut(_, _, _) => Printed::Lines,
-        Answer::Reduce(_) => Printed::Lines,
-        Answer::Refused(_, _) => Printed::Lines,
-        Answer::Show(_) => Printed::Lines,
-        Answer::Text(bytes) => Printed::Form(bytes),
-        Answer::Nothing => Printed::Lines,
-    }
-}
-
-// Puts an answer's bytes at a place, if there is room; names, arities and value are the session's, for rows and forms.
-fn put_reply(
+// Puts the value as a form of so many bytes, and a line feed behind it, if there is room.
+fn put_value(
     out: &mut [u8],
     at: usize,
-    answer: Answer,
+    bytes: usize,
     n: Numbers,
     names: &[u64],
     arities: &[u64],
     value: &[u64],
 ) -> Put
-    requires { ⌜ Puttable answer n (now names) (now arities) (now value) ⌝ }
-    ensures { λ r. ⌜ Placed (now (out .entry)) at (answerIn answer n (now (names .entry)) (now (arities .entry)) (now (value .entry))) r (now (out .exit)) ⌝ }
-    ensures { λ r. ⌜ length (answerIn answer n (now (names .entry)) (now (arities .entry)) (now (value .entry))) ≤ mostBytes ⌝ }
+    requires { ⌜ Form bytes n (now names) (now arities) (now value) ⌝ }
+    ensures { λ r. ⌜ Placed (now (out .entry)) at (formLine (now (arities .entry)) (tablesIn n (now (names .entry))) (valueIn n (now (value .entry)))) r (now (out .exit)) ⌝ }
 {
-    let Printed::Form(bytes) = printed_by(answer) else {
-        return answering::put_answer(out, at, value, answer);
-    };
     let counts = n.counts;
     let held = n.held;
     let rows = held.rows;
@@ -129,6 +105,30 @@ fn put_reply(
         &value[..rows * 3],
         bytes,
     )
+}
+
+// Puts an answer's bytes at a place, if there is room; names, arities and value are the session's, for rows and forms, and a spread begins the working space.
+fn put_reply(
+    out: &mut [u8],
+    at: usize,
+    answer: Answer,
+    n: Numbers,
+    names: &[u64],
+    arities: &[u64],
+    value: &[u64],
+    work: &[u64],
+) -> Put
+    requires { ⌜ Puttable answer n (now names) (now arities) (now value) (now work) ⌝ }
+    ensures { λ r. ⌜ Placed (now (out .entry)) at (answerIn answer n (now (names .entry)) (now (arities .entry)) (now (value .entry)) (now (work .entry))) r (now (out .exit)) ⌝ }
+    ensures { λ r. ⌜ length (answerIn answer n (now (names .entry)) (now (arities .entry)) (now (value .entry)) (now (work .entry))) ≤ mostBytes ⌝ }
+{
+    let printed = answering::printed_by(answer);
+    match printed {
+        Printed::Rows(rows) => answering::put_rows(out, at, value, rows),
+        Printed::Form(bytes) => put_value(out, at, bytes, n, names, arities, value),
+        Printed::Counts(lines) => answering::put_counts(out, at, work, lines),
+        Printed::Line => answering::put_answer(out, at, answer),
+    }
 }
 
 // Answers a line, and puts the answer's bytes at a place, if there is room.
@@ -164,7 +164,7 @@ pub fn reply_line(
     );
     let answer = said.answer;
     let numbers = said.numbers;
-    let put = put_reply(out, at, answer, numbers, names, arities, value);
+    let put = put_reply(out, at, answer, numbers, names, arities, value, work);
     Sent {
         numbers: numbers,
         put: put,
@@ -317,8 +317,7 @@ pub fn answer_whole(
 fn put_refusal(out: &mut [u8], at: usize, why: Refusal, number: u64) -> Put
     ensures { λ r. ⌜ Placed (now (out .entry)) at (answerLine (Refused why number)) r (now (out .exit)) ⌝ }
 {
-    let none = [0u64; 1];
-    answering::put_answer(out, at, &none, Answer::Refused(why, number))
+    answering::put_answer(out, at, Answer::Refused(why, number))
 }
 
 // Whether a text that ends is refused: no (start) was accepted, and a line with bytes was met.
