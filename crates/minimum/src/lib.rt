@@ -1,0 +1,1 @@
+// A diagram's number with minimum variables. What it is stands in specs/.
