@@ -1,0 +1,6 @@
+pub mod RowLaws
+pub mod StartLaws
+pub mod MarkLaws
+pub mod PutLaws
+pub mod FillLaws
+pub mod CallLaws
