@@ -14,4 +14,5 @@ returns c = search part-built
 
 pub build-spec : {M : Type 1} → statement M
 build-spec =
-    tie.close (tie.spec (λ c. search needs) slice-aggregate-build-words build-words-requires (λ c. search needs) (λ c. search needs) returns)
+    tie.close (tie.spec (λ c. search needs) slice-aggregate-build-words build-words-requires
+    (λ c. c .before .before .before .before .build-words .kept .1 .0) (λ c. c .before .before .before .before .build-words .kept .1 .1 .0) returns)

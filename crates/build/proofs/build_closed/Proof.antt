@@ -15,4 +15,6 @@ returns c = search part-closed
 pub build-closed-spec : {M : Type 1} → statement M
 build-closed-spec =
     tie.close
-    (tie.spec (λ c. search needs) slice-aggregate-build-closed-words build-closed-words-requires (λ c. search needs) (λ c. search needs) returns)
+    (tie.spec (λ c. search needs) slice-aggregate-build-closed-words build-closed-words-requires
+    (λ c. c .before .before .before .before .build-closed-words .kept .1 .1 .0)
+    (λ c. c .before .before .before .before .build-closed-words .kept .1 .1 .1 .0) returns)

@@ -11,4 +11,6 @@ returns-2 c = search closed-refused
 
 pub write-closed-spec : {M : Type 1} → statement M
 write-closed-spec =
-    tie.close (tie.spec (λ c κs. search needs) (λ c. search needs) (λ c. search needs) (λ c. search needs) returns (λ c. search needs) returns-2)
+    tie.close (tie.spec (λ c κs. search needs) (λ c. search needs) (λ c. search needs)
+    (λ c. c .before .before .before .before .before .write-result .kept .1 .1 .1 .1 .1 .0) returns
+    (λ c. c .before .before .before .before .before .write-result .kept .1 .1 .1 .1 .1 .0) returns-2)

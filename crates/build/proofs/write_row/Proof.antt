@@ -16,4 +16,6 @@ returns-2 c = search row-few
 pub write-row-spec : {M : Type 1} → statement M
 write-row-spec =
     tie.close
-    (tie.spec (λ c. search needs) (λ c. search needs) write-requires (λ c. search needs) (λ c. search needs) (λ c. search needs) returns (λ c. search needs) returns-2)
+    (tie.spec (λ c. search needs) (λ c. search needs) write-requires (λ c. search needs) (λ c. search needs)
+    (λ c. c .before .before .before .before .before .before .write .kept .1 .1 .1 .1 .1 .0) returns
+    (λ c. c .before .before .before .before .before .before .before .write .kept .1 .1 .1 .1 .1 .0) returns-2)

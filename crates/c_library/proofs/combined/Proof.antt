@@ -12,4 +12,8 @@ returns-2 c = combined-refused _ _ (c .before .before .before .before .before .b
 pub combined-spec : {M : Type 1} → statement M
 combined-spec =
     tie.close
-    (tie.spec (λ c κs. search needs) (λ c. search needs) (λ c. search needs) (λ c κs. search needs) (λ c. search needs) (λ c. search needs) returns (λ c. search needs) (λ c. search needs) returns-2)
+    (tie.spec (λ c κs. search needs) (λ c. search needs) (λ c. search needs) (λ c κs. search needs)
+    (λ c. c .before .before .before .before .before .before .before .combine .kept .1 .1 .1 .1 .1 .0)
+    (λ c. c .before .before .before .before .before .before .before .combine .kept .1 .1 .1 .1 .1 .1 .0) returns
+    (λ c. c .before .before .before .before .before .before .before .before .combine .kept .1 .1 .1 .1 .1 .0)
+    (λ c. c .before .before .before .before .before .before .before .before .combine .kept .1 .1 .1 .1 .1 .1 .0) returns-2)

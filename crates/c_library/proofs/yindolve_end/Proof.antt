@@ -43,4 +43,5 @@ pub yindolve-end-spec : {M : Type 1} → statement M
 yindolve-end-spec =
     tie.close
     (tie.spec (λ c κs. search needs) (λ c κs. search needs) returns (λ c κs. search needs) returns-2 load-requires met-of-requires end-requires
-    (λ c. search needs) (λ c. search needs) (λ c κs. search needs) (λ c. search needs) returns-3 (λ c. search needs) returns-4)
+    (λ c. search needs) (λ c. search needs) (λ c κs. search needs) (λ c. c .before .before .before .before .before .«end» .kept .1 .1 .0) returns-3
+    (λ c. c .before .before .before .before .before .«end» .kept .1 .1 .0) returns-4)

@@ -14,4 +14,6 @@ returns-2 c =
 pub yindolve-free-parameters-spec : {M : Type 1} → statement M
 yindolve-free-parameters-spec =
     tie.close
-    (tie.spec (λ c κs. search needs) (λ c. search needs) (λ c. search needs) (λ c κs. search needs) (λ c. search needs) returns (λ c. search needs) returns-2)
+    (tie.spec (λ c κs. search needs) (λ c. search needs) (λ c. search needs) (λ c κs. search needs)
+    (λ c. c .before .before .before .before .before .free .kept .1 .1 .1 .0) returns
+    (λ c. c .before .before .before .before .before .before .free .kept .1 .1 .1 .0) returns-2)

@@ -1,3 +1,4 @@
+use mathlib.Core.Path.{refl}
 use Rattle.c_library.proofs.SessionLaws.{given, line-refused, line-kept, line-few, line-done}
 use Rattle.memory.specs.Memory.{memoryOf}
 use native.Mathlib.Omega.{arith}
@@ -109,7 +110,6 @@ same-length-18 c =
 pub yindolve-line-spec : {M : Type 1} → statement M
 yindolve-line-spec =
     tie.close
-    (tie.spec (λ c κs. search needs) (λ c. search needs) (λ c. search needs) (λ c. search needs) (λ c. search needs) (λ c. search needs)
-    (λ c. search needs) (λ c. search needs) (λ c. search needs) (λ c. search needs) returns position-requires add-number (λ c κs. search needs)
-    reply-line-requires store-requires (λ c κs. search needs) same-length-10 same-length-11 same-length-12 same-length-13 same-length-14
-    same-length-15 same-length-16 same-length-17 same-length-18 returns-2)
+    (tie.spec (λ c κs. search needs) (λ c. refl) (λ c. refl) (λ c. refl) (λ c. refl) (λ c. refl) (λ c. refl) (λ c. refl) (λ c. refl) (λ c. refl)
+    returns position-requires add-number (λ c κs. search needs) reply-line-requires store-requires (λ c κs. search needs) same-length-10
+    same-length-11 same-length-12 same-length-13 same-length-14 same-length-15 same-length-16 same-length-17 same-length-18 returns-2)

@@ -28,4 +28,6 @@ returns-2 c =
 pub yindolve-open-spec : {M : Type 1} → statement M
 yindolve-open-spec =
     tie.close
-    (tie.spec (λ c κs. search needs) (λ c κs. search needs) returns open-requires store-requires (λ c. search needs) (λ c. search needs) (λ c. search needs) returns-2)
+    (tie.spec (λ c κs. search needs) (λ c κs. search needs) returns open-requires store-requires (λ c. c .before .before .store .kept .0)
+    (λ c. c .before .before .before .before .before .before .before .before .«open» .kept .0)
+    (λ c. c .before .before .before .before .before .before .before .before .«open» .kept .1 .0) returns-2)

@@ -12,4 +12,8 @@ returns-2 c = reduced-refused _ (c .before .before .before .before .before .befo
 pub yindolve-reduce-spec : {M : Type 1} → statement M
 yindolve-reduce-spec =
     tie.close
-    (tie.spec (λ c κs. search needs) (λ c. search needs) (λ c. search needs) (λ c κs. search needs) (λ c. search needs) (λ c. search needs) returns (λ c. search needs) (λ c. search needs) returns-2)
+    (tie.spec (λ c κs. search needs) (λ c. search needs) (λ c. search needs) (λ c κs. search needs)
+    (λ c. c .before .before .before .before .before .before .before .reduce .kept .1 .1 .0)
+    (λ c. c .before .before .before .before .before .before .before .reduce .kept .1 .1 .1 .0) returns
+    (λ c. c .before .before .before .before .before .before .before .before .reduce .kept .1 .1 .0)
+    (λ c. c .before .before .before .before .before .before .before .before .reduce .kept .1 .1 .1 .0) returns-2)

@@ -12,4 +12,5 @@ returns-2 c = ran-full _ _ (c .before .before .before .before .before .run .ensu
 pub yindolve-run-spec : {M : Type 1} → statement M
 yindolve-run-spec =
     tie.close
-    (tie.spec (λ c κs. search needs) (λ c. search needs) (λ c. search needs) (λ c. search needs) returns (λ c. search needs) returns-2)
+    (tie.spec (λ c κs. search needs) (λ c. search needs) (λ c. search needs) (λ c. c .before .before .before .before .before .run .kept .1 .0) returns
+    (λ c. c .before .before .before .before .before .run .kept .1 .0) returns-2)

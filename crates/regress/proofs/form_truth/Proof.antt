@@ -45,5 +45,10 @@ returns-2 c =
 pub form-truth-spec : {M : Type 1} → statement M
 form-truth-spec =
     tie.close
-    (tie.spec (λ c κs. search needs) has-truth-requires truth-words-requires replace-arguments-requires (λ c. search needs) (λ c. search needs) (λ c. search needs)
-    (λ c. search needs) (λ c. search needs) returns form-test-requires (λ c κs. search needs) (λ c. search needs) (λ c. search needs) (λ c. search needs) returns-2)
+    (tie.spec (λ c κs. search needs) has-truth-requires truth-words-requires replace-arguments-requires
+    (λ c. c .before .before .before .before .before .before .before .before .before .before .replace-arguments .kept .1 .1 .1 .0)
+    (λ c. c .before .before .before .before .before .before .before .before .before .before .replace-arguments .kept .1 .1 .1 .1 .0)
+    (λ c. c .before .before .before .before .before .before .before .before .before .before .replace-arguments .kept .1 .1 .1 .1 .1 .0)
+    (λ c. c .before .before .before .before .before .before .before .before .before .before .replace-arguments .kept .1 .1 .1 .1 .1 .1 .0)
+    (λ c. c .before .before .before .before .before .before .before .before .before .before .replace-arguments .kept .1 .1 .1 .1 .1 .1 .1 .0) returns
+    form-test-requires (λ c κs. search needs) (λ c. search needs) (λ c. search needs) (λ c. search needs) returns-2)

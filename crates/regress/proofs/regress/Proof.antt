@@ -79,5 +79,6 @@ returns-6 c =
 pub regress-spec : {M : Type 1} → statement M
 regress-spec =
     tie.close
-    (tie.spec (λ c κs. search needs) returns (λ c κs. search needs) returns-2 returns-3 returns-4 judge-all-requires (λ c. search needs) regress-checked-requires (λ c. search needs)
-    (λ c. search needs) (λ c. search needs) returns-5 returns-6)
+    (tie.spec (λ c κs. search needs) returns (λ c κs. search needs) returns-2 returns-3 returns-4 judge-all-requires (λ c. search needs)
+    regress-checked-requires (λ c. search needs) (λ c. c .before .before .before .before .regress-checked .kept .1 .1 .1 .1 .0)
+    (λ c. c .before .before .before .before .regress-checked .kept .1 .1 .1 .1 .1 .0) returns-5 returns-6)

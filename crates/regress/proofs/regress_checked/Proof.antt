@@ -32,5 +32,7 @@ returns-2 c =
 pub regress-checked-spec : {M : Type 1} → statement M
 regress-checked-spec =
     tie.close
-    (tie.spec (λ c. search needs) (λ c. search needs) (λ c. search needs) (λ c. search needs) regress-rows-requires (λ c. search needs) list-result-requires (λ c. search needs)
-    (λ c. search needs) (λ c. search needs) returns (λ c. search needs) returns-2)
+    (tie.spec (λ c. search needs) (λ c. search needs) (λ c. search needs) (λ c. search needs) regress-rows-requires (λ c. search needs)
+    list-result-requires (λ c. search needs) (λ c. c .before .before .list-result .kept .1 .1 .1 .0) (λ c. c .before .before .before .before .before
+    .before .before .before .before .before .before .before .before .before .regress-rows .kept .1 .1 .1 .1 .1 .1 .0) returns
+    (λ c. c .before .before .before .before .before .before .before .before .before .regress-rows .kept .1 .1 .1 .1 .1 .1 .0) returns-2)

@@ -1,3 +1,4 @@
+use mathlib.Core.Path.{_∙_}
 use Rattle.regress.proofs.KeptLaws.{row-leaf-kept, row-asking, row-stop, row-ready, row-three, row-done}
 use borrow.Author.Needs.{needs}
 use Rattle.regress.proofs.regressed_row.Statement.{statement}
@@ -46,6 +47,28 @@ returns-3 c =
 pub regressed-row-spec : {M : Type 1} → statement M
 regressed-row-spec =
     tie.close
-    (tie.spec (λ c. search needs) (λ c κs. search needs) (λ c κs. search needs) (λ c. search needs) kept-truth-requires (λ c. search needs) (λ c. search needs) (λ c. search needs)
-    (λ c. search needs) (λ c. search needs) (λ c. search needs) (λ c. search needs) (λ c. search needs) returns row-step-requires (λ c. search needs) (λ c. search needs)
-    (λ c. search needs) returns-2 (λ c. search needs) (λ c. search needs) (λ c. search needs) (λ c. search needs) (λ c. search needs) (λ c. search needs) returns-3)
+    (tie.spec (λ c. search needs) (λ c κs. search needs) (λ c κs. search needs) (λ c. search needs) kept-truth-requires (λ c. search needs)
+    (λ c. search needs) (λ c. c .before .before .before .before .before .before .before .before .before .before .before .before .before .before
+    .kept-truth .kept .1 .1 .1 .1 .0) (λ c. c .before .before .before .before .before .before .before .before .before .before .before .before .before
+    .before .kept-truth .kept .1 .1 .1 .1 .1 .0) (λ c. c .before .before .before .before .before .before .before .before .before .before .before
+    .before .before .before .kept-truth .kept .1 .1 .1 .1 .1 .1 .0) (λ c. c .before .before .before .before .before .before .before .before .before
+    .before .before .before .before .before .kept-truth .kept .1 .1 .1 .1 .1 .1 .1 .0) (λ c. c .before .before .before .before .before .before .before
+    .before .before .before .before .before .before .before .kept-truth .kept .1 .1 .1 .1 .1 .1 .1 .1 .0) (λ c. c .before .before .before .before
+    .before .before .before .before .before .before .before .before .before .before .kept-truth .kept .1 .1 .1 .1 .1 .1 .1 .1 .1 .0) returns
+    row-step-requires (λ c. search needs) (λ c. search needs) (λ c. search needs) returns-2 (λ c. c .before .before .before .before .before .before
+    .before .before .before .before .before .before .before .before .before .before .before .before .before .before .before .before .before .before
+    .before .before .before .before .before .before .before .kept-truth .kept .1 .1 .1 .1 .0) (λ c. c .before .before .before .before .before .before
+    .before .before .before .before .row-step .kept .0 ∙ c .before .before .before .before .before .before .before .before .before .before .before
+    .before .before .before .before .before .before .before .before .before .before .before .before .before .before .before .before .before .before
+    .before .before .kept-truth .kept .1 .1 .1 .1 .1 .0) (λ c. c .before .before .before .before .before .before .before .before .before .before
+    .row-step .kept .1 .0 ∙ c .before .before .before .before .before .before .before .before .before .before .before .before .before .before .before
+    .before .before .before .before .before .before .before .before .before .before .before .before .before .before .before .before .kept-truth .kept
+    .1 .1 .1 .1 .1 .1 .0) (λ c. c .before .before .before .before .before .before .before .before .before .before .row-step .kept .1 .1 .0 ∙ c .before
+    .before .before .before .before .before .before .before .before .before .before .before .before .before .before .before .before .before .before
+    .before .before .before .before .before .before .before .before .before .before .before .before .kept-truth .kept .1 .1 .1 .1 .1 .1 .1 .0) (λ c. c
+    .before .before .before .before .before .before .before .before .before .before .row-step .kept .1 .1 .1 .0 ∙ c .before .before .before .before
+    .before .before .before .before .before .before .before .before .before .before .before .before .before .before .before .before .before .before
+    .before .before .before .before .before .before .before .before .before .kept-truth .kept .1 .1 .1 .1 .1 .1 .1 .1 .0) (λ c. c .before .before
+    .before .before .before .before .before .before .before .before .row-step .kept .1 .1 .1 .1 .0 ∙ c .before .before .before .before .before .before
+    .before .before .before .before .before .before .before .before .before .before .before .before .before .before .before .before .before .before
+    .before .before .before .before .before .before .before .kept-truth .kept .1 .1 .1 .1 .1 .1 .1 .1 .1 .0) returns-3)

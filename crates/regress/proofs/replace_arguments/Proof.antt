@@ -23,5 +23,9 @@ returns c =
 pub replace-arguments-spec : {M : Type 1} → statement M
 replace-arguments-spec =
     tie.close
-    (tie.spec (λ c. search needs) argument-map-requires (λ c. search needs) replace-requires (λ c. search needs) (λ c. search needs) (λ c. search needs) (λ c. search needs)
-    (λ c. search needs) returns)
+    (tie.spec (λ c. search needs) argument-map-requires (λ c. search needs) replace-requires
+    (λ c. c .before .before .before .before .before .before .before .before .before .before .replace .kept .1 .1 .1 .0)
+    (λ c. c .before .before .before .before .before .before .before .before .before .before .replace .kept .1 .1 .1 .1 .0)
+    (λ c. c .before .before .before .before .before .before .before .before .before .before .replace .kept .1 .1 .1 .1 .1 .0)
+    (λ c. c .before .before .before .before .before .before .before .before .before .before .replace .kept .1 .1 .1 .1 .1 .1 .0)
+    (λ c. c .before .before .before .before .before .before .before .before .before .before .replace .kept .1 .1 .1 .1 .1 .1 .1 .0) returns)
