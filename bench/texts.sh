@@ -1,6 +1,6 @@
 #!/usr/bin/env bash
-# texts.sh [PROGRAM]: the program's processor time, input by a pipe, least of five: document 01's run, as a hundredth of 100 processes, and lines of each kind, many
-# times over in one text; a line's time is the difference to the same text without them.
+# texts.sh [PROGRAM]: the program's processor time, input by a pipe, least of five: document 01's run, as a hundredth of 100 processes, and lines of each kind, moves, spreads,
+# reductions and forms among them, many times over in one text; a line's time is the difference to the same text without them.
 set -euo pipefail
 program=$(realpath "${1:-target/bin/yindolve}")
 cd "$(dirname "$0")/.."
@@ -54,3 +54,31 @@ line 'a (becomes ..) line that is refused at its head (2)' 100000 "$open" '(beco
 line 'a (reward ..) line that is refused at its last name (2)' 100000 "$open" '(reward (if (stock hub) 10 (if (stock hub) 5 (if (stuck hub) 1 0))))'
 line 'a (becomes ..) line with a leaf, refused by 7: read and built' 30000 "$open" '(becomes (stock ?s) 2)'
 line 'the same with two row steps' 30000 "$open" '(becomes (stock ?s) (if (= !d ?s) 2 (if (stock ?s) 1 0)))'
+
+# moves, spreads, reductions and forms (document 02, L9, L11, L13, L2)
+parts=$(sed '/(start)/q' examples/liftparts.txt)
+cuts=$(many 13 '(cut)')
+pair='(predicate near 2)
+(predicate stock 1)
+(predicate met 0)
+(total 4)
+(reward (if (met) 12 0))
+(action pass !a !c)
+(variant done 3)
+(becomes (met) (if (met) 1 (if (stock !a) (if (near !a !c) 1 0) 0)))
+(variant broken 1)
+(start)'
+line '(best) of liftparts after one backup and its cuts, 3 objects' 2000 "$parts"$'\n(backup)\n'"$cuts"$'\n(objects 3)\n(true wanted 0)\n(true aboard 0 2)' '(best)'
+line '(best), 64 objects, two parameters, the last binding alone' 20 "$pair"$'\n(objects 64)\n(true stock 63)\n(true near 63 63)' '(best)'
+line '(best), the same with 64 places in stock and 960 near' 20 "$pair"$'\n(objects 64)\n'"$(seq -f '(true stock %g)' 0 63; for a in $(seq 0 14); do seq -f "(true near $a %g)" 0 63; done)" '(best)'
+states='(reward (if (stock ?x) (if (stock ?y) (if (= ?x ?y) 2 3) 1) 0))
+(action wait)
+(variant only 100)
+(start)'
+line '(count 16): 16 facts of one place, 65,536 states' 3 $'(predicate stock 1)\n'"$states" '(count 16)'
+line '(count 1): 16 propositions, 65,536 states' 3 "$(seq -f '(predicate p%g 0)' 1 16)"$'\n(reward (if (p1) (if (p2) 3 2) (if (p16) 1 0)))\n(action wait)\n(variant only 100)\n(start)' '(count 1)'
+relay=$(sed '/(start)/q' examples/relay.txt)
+line "(reduce) of relay's diagram, 7 rows and two variables" 2000 "$relay"$'\n(backup)\n(reduce)' '(reduce)'
+line '(reduce) that forms 100,000 combinations' 5 "$(sed '/(start)/q' host/corpus/combinations-at-100000.txt)" '(reduce)'
+line '(text) of 19 rows, a form of 364 bytes' 20000 "$parts"$'\n(backup)\n'"$cuts" '(text)'
+line '(text) of 540 rows, refused (19)' 5000 "$parts"$'\n(backup)\n'"$cuts"$'\n(backup)' '(text)'

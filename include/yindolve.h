@@ -78,9 +78,9 @@ extern "C" {
 #define YINDOLVE_STATE_WORDS 7200        /* the state, exactly */
 #define YINDOLVE_VALUE_WORDS 3072        /* the value's listing, exactly */
 #define YINDOLVE_SESSION_WORK_WORDS 6144 /* a session's working space, at least */
-#define YINDOLVE_ANSWER_BYTES 92160      /* the answer of a line: 90 bytes for each of 1,024 rows */
+#define YINDOLVE_ANSWER_BYTES 92160      /* the answer of a line: 90 bytes for each of 1,024 rows; (count n) has at most 1,023 lines, shorter ones */
 
-/* The refusals. Calls on diagrams answer 4, 6 to 11, 14 to 18 and 26 to 28; lines of a text 1 to 13, 15 to 17 and 26 to 28. Later versions add numbers from 20 to 25. */
+/* The refusals. Calls on diagrams answer 4, 6 to 11, 14 to 18 and 26 to 28; lines of a text 1 to 13, 15 to 17, 19, 20, 24 and 26 to 28. Later versions add 21 to 23 and 25. */
 enum {
     YINDOLVE_FORM = 1,         /* a line that is not of the grammar */
     YINDOLVE_NAME = 2,         /* a name that is not declared, or given twice */
@@ -101,6 +101,8 @@ enum {
     YINDOLVE_PATHS = 17,       /* more than 256 paths: of a diagram to cut or to reduce, or at (start) of an action's summed weights */
     YINDOLVE_BUFFER = 18,      /* a result buffer or a working space that is too small: nothing is done */
     YINDOLVE_LENGTH = 19,      /* (text): the value diagram as a form is too long for a (reward ..) line, more than 4,095 bytes or 64 open brackets */
+    YINDOLVE_MISSING = 20,     /* (best): there is no state, or a constant is not placed */
+    YINDOLVE_GROUND = 24,      /* (count n): the states of n objects have more than 16 ground facts */
     YINDOLVE_KINDS = 26,       /* an equality or a constant in a diagram to reduce */
     YINDOLVE_RUNS = 27,        /* more than 512 valuations times paths of a diagram to reduce */
     YINDOLVE_COMBINATIONS = 28 /* more than 100,000 combinations of paths in a reduction */
@@ -132,6 +134,8 @@ static inline const char *yindolve_refusal_word(uint64_t refusal) {
     case YINDOLVE_PATHS: return "paths";
     case YINDOLVE_BUFFER: return "buffer";
     case YINDOLVE_LENGTH: return "length";
+    case YINDOLVE_MISSING: return "missing";
+    case YINDOLVE_GROUND: return "ground";
     case YINDOLVE_KINDS: return "kinds";
     case YINDOLVE_RUNS: return "runs";
     case YINDOLVE_COMBINATIONS: return "combinations";
@@ -162,6 +166,8 @@ static inline const char *yindolve_refusal_meaning(uint64_t refusal) {
     case YINDOLVE_PATHS: return "more than 256 paths, in the diagram to cut or to reduce or in an action's summed weights";
     case YINDOLVE_BUFFER: return "a result buffer or a working space that is too small";
     case YINDOLVE_LENGTH: return "the value diagram, written as a form, is too long for a (reward ..) line: more than 4,095 bytes or 64 open brackets";
+    case YINDOLVE_MISSING: return "a move is asked for, and there is no state or a constant is not placed";
+    case YINDOLVE_GROUND: return "more than 16 ground facts, so that there are too many states to count";
     case YINDOLVE_KINDS: return "an equality or a constant in the diagram to reduce";
     case YINDOLVE_RUNS: return "more than 512 valuations times paths of the diagram to reduce";
     case YINDOLVE_COMBINATIONS: return "more than 100,000 combinations of paths in a reduction";
@@ -300,6 +306,8 @@ typedef enum {
     YINDOLVE_ANSWER_REDUCE,  /* (reduce rows): rows */
     YINDOLVE_ANSWER_ROWS,    /* (row ..) lines: rows; yindolve_read_rows reads them */
     YINDOLVE_ANSWER_TEXT,    /* the form that (text) prints: the answer's bytes but for the line feed, at most 4,086 */
+    YINDOLVE_ANSWER_BEST,    /* (best action object ..): action, objects, parameters (how many objects) */
+    YINDOLVE_ANSWER_COUNTS,  /* (count value states) lines, lowest value first: rows (how many lines); yindolve_read_counts reads them */
     YINDOLVE_ANSWER_REFUSED, /* (refused number line): refusal, line; line 0 in a closing answer */
     YINDOLVE_ANSWER_UNKNOWN  /* bytes that are no answer of this version; none where no line was answered */
 } yindolve_answer_kind;
@@ -310,6 +318,8 @@ typedef struct {
     uint64_t row, edge, rows;
     uint64_t refusal, line;
     uint64_t bytes;
+    char action[16]; /* a name, 0 behind it */
+    uint64_t objects[4], parameters;
 } yindolve_answer;
 
 /* What a label tests: its predicate, and the term at a place from 0 to YINDOLVE_PLACES - 1. */
@@ -364,6 +374,37 @@ static inline int yindolve_take_form(const uint8_t *bytes, size_t count, size_t 
     return bytes[*at - 1] == ')' && yindolve_take_word(bytes, count, at, "\n");
 }
 
+/* Reads a count line at *at into two words, the value and its number of states: steps over it and answers 1 if one stands there. */
+static inline int yindolve_take_count(const uint8_t *bytes, size_t count, size_t *at, uint64_t entry[2]) {
+    return yindolve_take_word(bytes, count, at, "(count ") && yindolve_take_number(bytes, count, at, &entry[0]) && yindolve_take_word(bytes, count, at, " ") &&
+        yindolve_take_number(bytes, count, at, &entry[1]) && yindolve_take_word(bytes, count, at, ")\n");
+}
+
+/* Reads what stands behind "(best " at *at: an action's name, up to 15 letters or digits, and up to 4 objects. For the functions below. */
+static inline int yindolve_take_move(const uint8_t *bytes, size_t count, size_t *at, yindolve_answer *a) {
+    size_t letters = 0;
+    for (; *at < count && letters < 15 && (('a' <= bytes[*at] && bytes[*at] <= 'z') || ('0' <= bytes[*at] && bytes[*at] <= '9')); ++*at)
+        a->action[letters++] = (char)bytes[*at];
+    while (a->parameters < 4 && yindolve_take_word(bytes, count, at, " ")) {
+        if (!yindolve_take_number(bytes, count, at, &a->objects[a->parameters++])) return 0;
+    }
+    return letters > 0 && yindolve_take_word(bytes, count, at, ")\n");
+}
+
+/* Reads the count lines of an answer into words, two for a line, their lines to *lines: 0; BUFFER where they do not fit; LISTING where the bytes are no such lines. */
+static inline uint64_t yindolve_read_counts(const uint8_t *bytes, size_t count, uint64_t *words, size_t words_count, uint64_t *lines) {
+    size_t at = 0, n = 0;
+    uint64_t entry[2];
+    if ((!bytes && count) || (!words && words_count)) return YINDOLVE_BUFFER;
+    for (; at < count; ++n) {
+        if (!yindolve_take_count(bytes, count, &at, entry)) return YINDOLVE_LISTING;
+        if (words_count / 2 <= n) return YINDOLVE_BUFFER;
+        memcpy(words + n * 2, entry, sizeof entry);
+    }
+    *lines = n;
+    return n ? 0 : YINDOLVE_LISTING;
+}
+
 /* Reads the row lines of an answer into the words of a listing, their rows to *rows: 0; BUFFER where they do not fit; LISTING where the bytes are no rows. */
 static inline uint64_t yindolve_read_rows(const uint8_t *bytes, size_t count, uint64_t *words, size_t words_count, uint64_t *rows) {
     size_t at = 0, n = 0;
@@ -382,7 +423,7 @@ static inline uint64_t yindolve_read_rows(const uint8_t *bytes, size_t count, ui
 static inline yindolve_answer yindolve_read_answer(const uint8_t *bytes, size_t count) {
     yindolve_answer a;
     size_t at = 0;
-    uint64_t row[YINDOLVE_ROW_WORDS];
+    uint64_t row[YINDOLVE_ROW_WORDS], entry[2];
     int whole = 0;
     memset(&a, 0, sizeof a);
     if (count == 0) return a;
@@ -409,6 +450,12 @@ static inline yindolve_answer yindolve_read_answer(const uint8_t *bytes, size_t 
     } else if (yindolve_take_word(bytes, count, &at, "(reduce ")) {
         a.kind = YINDOLVE_ANSWER_REDUCE;
         whole = yindolve_take_number(bytes, count, &at, &a.rows) && yindolve_take_word(bytes, count, &at, ")\n");
+    } else if (yindolve_take_word(bytes, count, &at, "(best ")) {
+        a.kind = YINDOLVE_ANSWER_BEST;
+        whole = yindolve_take_move(bytes, count, &at, &a);
+    } else if (yindolve_take_count(bytes, count, &at, entry)) {
+        a.kind = YINDOLVE_ANSWER_COUNTS;
+        for (a.rows = 1, whole = 1; whole && at < count; ++a.rows) whole = yindolve_take_count(bytes, count, &at, entry);
     } else if (yindolve_take_word(bytes, count, &at, "(refused ")) {
         a.kind = YINDOLVE_ANSWER_REFUSED;
         whole = yindolve_take_number(bytes, count, &at, &a.refusal) && yindolve_take_word(bytes, count, &at, " ") &&

@@ -1,4 +1,5 @@
-/* What include/yindolve.h adds to the library's functions: refusals in words, answers as structs, null pointers, the end of a text, saved sessions; and a reduction. Prints nothing if all is well. */
+/* What include/yindolve.h adds to the library's functions: refusals in words, answers as structs, null pointers, the end of a text, saved sessions; and a reduction.
+ * Prints nothing if all is well. */
 #include <stdio.h>
 #include <stdlib.h>
 #include "yindolve.h"
@@ -25,7 +26,11 @@ static yindolve_answer read_text(const char *text) {
 static void refusals(void) {
     uint64_t number;
     EXPECT(strcmp(yindolve_refusal_word(0), "accepted") == 0);
-    for (number = 1; number <= YINDOLVE_COMBINATIONS; number += number == YINDOLVE_LENGTH ? YINDOLVE_KINDS - YINDOLVE_LENGTH : 1) {
+    for (number = 1; number <= YINDOLVE_COMBINATIONS; ++number) {
+        if ((number > YINDOLVE_MISSING && number < YINDOLVE_GROUND) || number == YINDOLVE_GROUND + 1) { /* those of later versions */
+            EXPECT(strcmp(yindolve_refusal_word(number), "unknown") == 0);
+            continue;
+        }
         EXPECT(strcmp(yindolve_refusal_word(number), "unknown") != 0);
         EXPECT(strlen(yindolve_refusal_meaning(number)) > 20);
     }
@@ -33,6 +38,7 @@ static void refusals(void) {
     EXPECT(strcmp(yindolve_refusal_word(99), "unknown") == 0);
     EXPECT(strcmp(yindolve_refusal_word(YINDOLVE_FULL), "unknown") == 0); /* no refusal */
     EXPECT(YINDOLVE_FORM == 1 && YINDOLVE_WEIGHTS == 13 && YINDOLVE_BUFFER == 18 && YINDOLVE_LENGTH == 19);
+    EXPECT(YINDOLVE_MISSING == 20 && YINDOLVE_GROUND == 24 && strcmp(yindolve_refusal_word(20), "missing") == 0 && strcmp(yindolve_refusal_word(24), "ground") == 0);
     EXPECT(YINDOLVE_KINDS == 26 && YINDOLVE_RUNS == 27 && YINDOLVE_COMBINATIONS == 28);
 }
 
@@ -59,15 +65,25 @@ static void read_answers(void) {
     EXPECT(a.kind == YINDOLVE_ANSWER_TEXT && a.value == 0 && a.bytes == 20);
     a = read_text("(refused 19 9)\n");
     EXPECT(a.kind == YINDOLVE_ANSWER_REFUSED && a.refusal == YINDOLVE_LENGTH && a.line == 9);
+    a = read_text("(best wait)\n");
+    EXPECT(a.kind == YINDOLVE_ANSWER_BEST && strcmp(a.action, "wait") == 0 && a.parameters == 0 && a.bytes == 12);
+    a = read_text("(best abcdefghijklmn1 63 0 10 9)\n");
+    EXPECT(a.kind == YINDOLVE_ANSWER_BEST && strcmp(a.action, "abcdefghijklmn1") == 0 && a.parameters == 4 && a.objects[0] == 63 && a.objects[1] == 0 && a.objects[3] == 9);
+    a = read_text("(count 0 1)\n(count 1000000000000000000 65535)\n");
+    EXPECT(a.kind == YINDOLVE_ANSWER_COUNTS && a.rows == 2 && a.value == 0 && a.parameters == 0);
+    a = read_text("(refused 20 3)\n");
+    EXPECT(a.kind == YINDOLVE_ANSWER_REFUSED && a.refusal == YINDOLVE_MISSING && a.line == 3);
     EXPECT(read_text("").kind == YINDOLVE_ANSWER_NOTHING);
     EXPECT(yindolve_read_answer(NULL, 0).kind == YINDOLVE_ANSWER_NOTHING);
     EXPECT(yindolve_read_answer(NULL, 1).kind == YINDOLVE_ANSWER_UNKNOWN);
-    static const char *const wrong[] = {"(", "(value", "(value 1 2)\n", "(value 1 2 3)", "(value 1 2 3)\nx", "(value 99999999999999999999 1 1)\n", "(cut 5 maybe 4)\n", "(reduce)\n", "(reduce 5 4)\n",
-        "(row 0 leaf)\n", "(row)\n", "(refused x 1)\n", "\n", "(value  1 2 3)\n", "7", "7\n7\n", "(if (p) 1 0)", "(if (p) 1 0\n", "(if (p) 1 0)\n\n", "(if "};
+    static const char *const wrong[] = {"(", "(value", "(value 1 2)\n", "(value 1 2 3)", "(value 1 2 3)\nx", "(value 99999999999999999999 1 1)\n", "(cut 5 maybe 4)\n",
+        "(reduce)\n", "(reduce 5 4)\n",
+        "(best)\n", "(best )\n", "(best wait )\n", "(best wait x)\n", "(best wait 0", "(best wait 0)\n(best wait 0)\n", "(best go 1 2 3 4 5)\n", "(best abcdefghijklmnop)\n", "(best Go)\n",
+        "(count 1)\n", "(count 1 2)", "(count 1 2)\n(count 3)\n", "(count 1 2)\n(value 1 2 3)\n", "(row 0 leaf)\n", "(row)\n", "(refused x 1)\n", "\n", "(value  1 2 3)\n", "7", "7\n7\n", "(if (p) 1 0)", "(if (p) 1 0\n", "(if (p) 1 0)\n\n", "(if "};
     size_t i;
     for (i = 0; i < sizeof wrong / sizeof wrong[0]; ++i) {
         a = read_text(wrong[i]);
-        EXPECT(a.kind == YINDOLVE_ANSWER_UNKNOWN && a.bytes == strlen(wrong[i]) && a.value == 0 && a.rows == 0);
+        EXPECT(a.kind == YINDOLVE_ANSWER_UNKNOWN && a.bytes == strlen(wrong[i]) && a.value == 0 && a.rows == 0 && a.parameters == 0 && a.action[0] == 0);
     }
 }
 
@@ -190,6 +206,7 @@ static void sessions(void) {
     static const char form[] = "(if (= hub ?v0) (if (stock hub) 120 30) (if (stock hub) 120 0))\n";
     size_t i;
     uint64_t rows = 0, bytes = 0;
+    yindolve_answer a;
     EXPECT(yindolve_session_open(&session) == 0);
     for (i = 0; i < sizeof model / sizeof model[0]; ++i) EXPECT(yindolve_session_ask(&session, model[i]).kind == YINDOLVE_ANSWER_NOTHING);
     EXPECT(yindolve_session_ask(&session, "(backup)").rows == 6);
@@ -202,6 +219,18 @@ static void sessions(void) {
     EXPECT(yindolve_session_ask(&session, "(reduce)").refusal == YINDOLVE_KINDS);
     EXPECT(yindolve_session_ask(&session, "(text)").kind == YINDOLVE_ANSWER_TEXT);
     EXPECT(memcmp(session.answer, form, sizeof form - 1) == 0);
+    a = yindolve_session_ask(&session, "(best)");
+    EXPECT(a.kind == YINDOLVE_ANSWER_BEST && strcmp(a.action, "fill") == 0 && a.parameters == 1 && a.objects[0] == 0);
+    EXPECT(yindolve_session_ask(&session, "(count 5)").rows == 2);
+    EXPECT(yindolve_session_line(&session, (const uint8_t *)"(count 5)", 9, &bytes) == 0);
+    EXPECT(yindolve_read_counts(session.answer, bytes, listing, 3, &rows) == YINDOLVE_BUFFER);
+    EXPECT(yindolve_read_counts(session.answer, bytes - 1, listing, YINDOLVE_RESULT_WORDS, &rows) == YINDOLVE_LISTING);
+    EXPECT(yindolve_read_counts(session.answer, bytes, listing, YINDOLVE_RESULT_WORDS, &rows) == 0 && rows == 2);
+    EXPECT(listing[0] == 30 && listing[1] == 16 && listing[2] == 120 && listing[3] == 16);
+    EXPECT(yindolve_session_ask(&session, "(count 17)").refusal == YINDOLVE_GROUND);
+    EXPECT(yindolve_session_ask(&session, "(objects 2)").kind == YINDOLVE_ANSWER_NOTHING);
+    EXPECT(yindolve_session_ask(&session, "(best)").refusal == YINDOLVE_MISSING && yindolve_session_ask(&session, "(count 2)").refusal == YINDOLVE_PLACE);
+    EXPECT(yindolve_session_ask(&session, "(is hub 0)").kind == YINDOLVE_ANSWER_NOTHING);
     EXPECT(closes_with(&session, ""));
 
     EXPECT(yindolve_session_save(&session, words, YINDOLVE_SAVED_WORDS - 1) == YINDOLVE_BUFFER);
@@ -221,7 +250,8 @@ static void sessions(void) {
     EXPECT(yindolve_session_ask(&other, "(value)").kind == YINDOLVE_ANSWER_UNKNOWN);
     EXPECT(yindolve_session_save(&session, words, YINDOLVE_SAVED_WORDS) == 0);
     EXPECT(yindolve_session_load(&other, words, YINDOLVE_SAVED_WORDS) == 0);
-    yindolve_answer a = yindolve_session_ask(&other, "(value)"), b = yindolve_session_ask(&session, "(value)");
+    yindolve_answer b = yindolve_session_ask(&session, "(value)");
+    a = yindolve_session_ask(&other, "(value)");
     EXPECT(a.kind == YINDOLVE_ANSWER_VALUE && b.kind == a.kind && a.value == b.value && a.steps == b.steps && a.scale == b.scale);
     EXPECT(yindolve_session_ask(&other, "(backup)").steps == 2 && yindolve_session_ask(&session, "(value)").steps == 1);
 }

@@ -15,12 +15,13 @@ const fn known(long: &'static str, short: &'static str, takes_word: bool, comman
     Known { long, short, takes_word, commands }
 }
 
-const KNOWN: [Known; 9] = [
+const KNOWN: [Known; 10] = [
     known("--help", "-h", false, &[]),
     known("--version", "-V", false, &[]),
     known("--strict", "", false, &["run"]),
     known("--steps", "", true, &["plan", "report"]),
     known("--step", "", true, &["picture"]),
+    known("--objects", "", true, &["count"]),
     known("--output", "-o", true, &["plan", "next", "picture", "report"]),
     known("--format", "", true, &["picture"]),
     known("--uncut", "", false, &["plan", "picture", "report"]),

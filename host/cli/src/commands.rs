@@ -1,5 +1,7 @@
 //! One module for each command.
 
+pub mod best;
+pub mod count;
 pub mod explain;
 pub mod next;
 pub mod picture;

@@ -8,6 +8,8 @@ The value engine for people. The numbers come from the proved library.
   run [FILE]                    the answers to a text, as the program gives them
   plan MODEL --steps K -o FILE  look K steps ahead, and save the value diagram
   value FILE STATE ..           the number of each state
+  best FILE STATE ..            the move to make in each state
+  count FILE --objects N        how many states have which value
   next FILE [MODEL]             the value diagram as the next model's reward
   explain TEXT                  why lines are refused, and what to do
   picture MODEL [FILE]          the value diagram, drawn
@@ -58,6 +60,35 @@ state that is refused is told by file, line and column, and the others are still
 done.
 
 Exit status: 0 all accepted, 1 a state was refused, 2 input or output failed.
+";
+
+pub const BEST: &str = "\
+use: yindolve-desk best FILE STATE ..
+
+Prints the move to make in each state: the first action, then the lowest
+objects in order, whose weighted sum over outcomes is highest. FILE is what plan
+saved, k steps ahead, or a model's text (then k is 0). The move is the first of
+k + 1 steps: who makes it gets the value that the next step of plan, if it is
+accepted, states. A STATE file has (objects n), (is c o) and (true p o ..)
+lines. A state that is refused is told by file, line and column, and the others
+are still done.
+
+Exit status: 0 all accepted, 1 a state was refused, 2 input or output failed.
+";
+
+pub const COUNT: &str = "\
+use: yindolve-desk count FILE --objects N [STATE]
+
+Prints how many states of N objects have which value, the lowest first: V, the
+value V / S^k as a fraction and as a decimal number, the states and their share.
+A state is one choice of true or false for each fact over the N objects, of
+every declared predicate; there may be 16 such facts. FILE is what plan saved,
+or a model's text (then k is 0). A model with constants needs a STATE file that
+places them: (objects n) and (is c o) lines.
+
+  --objects N   how many objects the states have, 1 to 64
+
+Exit status: 0 counted, 1 a line was refused, 2 input or output failed.
 ";
 
 pub const NEXT: &str = "\

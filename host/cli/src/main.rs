@@ -10,6 +10,7 @@ mod model;
 mod output;
 mod planning;
 mod samples;
+mod state;
 mod table;
 mod trouble;
 mod twin;
@@ -22,10 +23,12 @@ use trouble::{message, Outcome, Trouble, Verdict};
 
 type Command = fn(&Arguments, &mut Out) -> Outcome;
 
-const COMMANDS: [(&str, Command, &str); 7] = [
+const COMMANDS: [(&str, Command, &str); 9] = [
     ("run", commands::run::run, help::RUN),
     ("plan", commands::plan::plan, help::PLAN),
     ("value", commands::value::value, help::VALUE),
+    ("best", commands::best::best, help::BEST),
+    ("count", commands::count::count, help::COUNT),
     ("next", commands::next::next, help::NEXT),
     ("explain", commands::explain::explain, help::EXPLAIN),
     ("picture", commands::picture::picture, help::PICTURE),

@@ -81,6 +81,18 @@ impl<'a> Bellman<'a> {
         value
     }
 
+    /// Every move, action by action and lowest objects first, with its sum inside the step from k to k + 1.
+    pub fn moves(&mut self, k: u64, state: &State) -> Vec<((usize, Vec<u64>), u128)> {
+        let model = self.model;
+        let tuples = |action: &PlainAction| tuples(state.objects, action.parameters);
+        let moves = model
+            .actions
+            .iter()
+            .enumerate()
+            .flat_map(|(number, action)| tuples(action).into_iter().map(move |tuple| (number, action, tuple)));
+        moves.map(|(number, action, tuple)| ((number, tuple.clone()), self.expected(k + 1, state, action, &tuple))).collect()
+    }
+
     /// The highest, over actions and object tuples, of the sum over variants of G · weight · M(k-1)(next state).
     fn best(&mut self, k: u64, state: &State) -> u128 {
         let mut best = 0;

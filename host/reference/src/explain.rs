@@ -5,6 +5,7 @@ mod backup;
 mod form;
 mod measure;
 mod place;
+mod questions;
 mod sizes;
 mod words;
 

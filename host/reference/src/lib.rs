@@ -1,6 +1,7 @@
-//! An independent implementation of document 01, and of document 02 as far as it is done (L1, L2, L4 to L8, L13), for tests: plain and slow, one module for each of its sections.
+//! An independent implementation of document 01, and of document 02 as far as it is done (L1, L2, L4 to L9, L11, L13), for tests: plain and slow, one module for each of its sections.
 
 pub mod bellman;
+pub mod best;
 pub mod calls;
 pub mod combine;
 pub mod cut;
@@ -16,6 +17,7 @@ pub mod refusal;
 pub mod regress;
 pub mod session;
 pub mod slips;
+pub mod spread;
 pub mod state;
 pub mod tables;
 pub mod terms;

@@ -60,8 +60,8 @@ pub fn next_scale(model: &Model, k: u64) -> Result<u64, Refusal> {
     power(model.scale(), k + 1).ok_or(Refusal::Scale)
 }
 
-/// The sum over an action's variants of G · weight · the value regressed.
-fn expected(model: &Model, action: &Action, value: &Diagram, sums: Names, slips: Slips) -> Result<Diagram, Refusal> {
+/// The sum over an action's variants of G · weight · the value regressed, its parameters not freed.
+pub fn expected(model: &Model, action: &Action, value: &Diagram, sums: Names, slips: Slips) -> Result<Diagram, Refusal> {
     let mut sum = Diagram::leaf(0);
     for variant in &action.variants {
         let regressed = regress(value, &variant.truths, slips)?;

@@ -21,6 +21,8 @@ pub enum Refusal {
     Paths,
     Buffer,
     Length,
+    Missing,
+    Ground = 24,
     Kinds = 26,
     Runs,
     Combinations,
@@ -28,7 +30,7 @@ pub enum Refusal {
 
 impl Refusal {
     /// All of them, by number.
-    pub const ALL: [Refusal; 22] = {
+    pub const ALL: [Refusal; 24] = {
         use Refusal::*;
         [
             Form,
@@ -50,6 +52,8 @@ impl Refusal {
             Paths,
             Buffer,
             Length,
+            Missing,
+            Ground,
             Kinds,
             Runs,
             Combinations,

@@ -1,5 +1,6 @@
 //! A text from its first line to its last: the checks of each line in document 01's order, and the answers as bytes.
 
+use crate::best::best;
 use crate::cut::cut;
 use crate::declarations::{Declarations, DeclaredAction, DeclaredVariant, Lookup, Variables, DEFAULT_DISCOUNT, DEFAULT_TOTAL};
 use crate::diagram::{Diagram, Row};
@@ -8,6 +9,7 @@ use crate::mdp::{backup, power, Action, Model, Variant};
 use crate::reduce::reduce;
 use crate::refusal::{require, Refusal};
 use crate::slips::Slips;
+use crate::spread::spread;
 use crate::state::{value, State};
 use crate::terms::{Arities, CONSTANTS, LARGEST_ARITY, PARAMETERS, PREDICATES, VARIABLES};
 use crate::text::{lines, read_line, Line, WrittenDiagram};
@@ -30,6 +32,8 @@ pub enum Answer {
     Cut { row: usize, edge: bool, rows: usize },
     Reduce { rows: usize },
     Text { form: String },
+    Best { action: String, objects: Vec<u64> },
+    Count { value: u64, states: u64 },
     Refused { refusal: Refusal, line: usize },
 }
 
@@ -44,6 +48,11 @@ impl Answer {
             Answer::Cut { row, edge, rows } => format!("(cut {row} {edge} {rows})\n"),
             Answer::Reduce { rows } => format!("(reduce {rows})\n"),
             Answer::Text { form } => format!("{form}\n"),
+            Answer::Best { action, objects } => {
+                let objects: String = objects.iter().map(|object| format!(" {object}")).collect();
+                format!("(best {action}{objects})\n")
+            }
+            Answer::Count { value, states } => format!("(count {value} {states})\n"),
             Answer::Refused { refusal, line } => format!("(refused {} {line})\n", refusal.number()),
         }
     }
@@ -262,6 +271,8 @@ impl Run {
             Line::Cut => self.cut(slips),
             Line::Reduce => self.reduce(slips),
             Line::Text => self.text(declarations),
+            Line::Best => self.best(declarations, slips),
+            Line::Count(objects) => self.count(*objects, declarations, slips),
             _ => Ok(self.show()),
         }
     }
@@ -321,6 +332,30 @@ impl Run {
 
     fn text(&self, declarations: &Declarations) -> Taken {
         Ok(vec![Answer::Text { form: form(&self.value, declarations)? }])
+    }
+
+    /// 20 in place of 5 where a constant or the state is missing.
+    fn best(&self, declarations: &Declarations, slips: Slips) -> Taken {
+        let state = self.placed.as_ref().and_then(Placed::state).ok_or(Refusal::Missing)?;
+        let best = best(&self.model, &self.arities, &self.value, &state, slips)?;
+        Ok(vec![Answer::Best { action: declarations.actions[best.action].name.clone(), objects: best.objects }])
+    }
+
+    /// "With the constants placed as they are now": no state is needed where there is none.
+    fn constants_placed(&self, declarations: &Declarations) -> Option<Vec<u64>> {
+        match &self.placed {
+            Some(placed) => placed.constants.iter().copied().collect(),
+            None => declarations.constants.is_empty().then(Vec::new),
+        }
+    }
+
+    fn count(&self, objects: u64, declarations: &Declarations, slips: Slips) -> Taken {
+        let constants = self.constants_placed(declarations).ok_or(Refusal::Place)?;
+        require((1..=OBJECTS).contains(&objects), Refusal::Range)?;
+        require(constants.iter().all(|object| *object < objects), Refusal::Range)?;
+        let predicates = declarations.predicates.len() as u64;
+        let states = spread(&self.value, &self.arities, predicates, objects, &constants, slips)?;
+        Ok(states.into_iter().map(|(value, states)| Answer::Count { value, states }).collect())
     }
 
     fn show(&self) -> Vec<Answer> {

@@ -12,9 +12,20 @@ pub struct Slips {
     pub one_object_fewer: bool,
     /// A reward whose variables are all written ?vN numbered by first occurrence all the same.
     pub first_occurrence: bool,
+    /// Of moves with equal sums the last one.
+    pub later_move: bool,
+    /// States counted by the facts of those predicates alone that the value diagram tests.
+    pub tested_facts_only: bool,
 }
 
 impl Slips {
-    pub const NONE: Slips =
-        Slips { sums_shared: false, arguments_in_turn: false, cover_through_edge: false, one_object_fewer: false, first_occurrence: false };
+    pub const NONE: Slips = Slips {
+        sums_shared: false,
+        arguments_in_turn: false,
+        cover_through_edge: false,
+        one_object_fewer: false,
+        first_occurrence: false,
+        later_move: false,
+        tested_facts_only: false,
+    };
 }

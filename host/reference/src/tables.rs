@@ -90,6 +90,8 @@ pub struct Worked {
 struct Work<'a> {
     arities: &'a Arities,
     state: &'a State,
+    /// The objects of parameters; a test without variables has one case.
+    bound: &'a Valuation,
     most: u64,
     entries: u64,
 }
@@ -108,7 +110,10 @@ impl Work<'_> {
     /// The label's true or its false cases, joined with the table of the row there.
     fn join(&mut self, label: Label, truth: bool, child: &Table) -> Result<Table, Refusal> {
         let terms = &label.places()[..self.arities[label.predicate() as usize] as usize];
-        let holds = |choice: &Valuation| self.state.holds(label.predicate(), terms, choice) == truth;
+        let holds = |choice: &Valuation| {
+            let objects = choice.iter().chain(self.bound).map(|(term, object)| (*term, *object)).collect();
+            self.state.holds(label.predicate(), terms, &objects) == truth
+        };
         let names = &tested(label) | &child.names;
         self.counted(Table::of(names, self.state.objects, |choice| if holds(choice) { child.entry(choice) } else { None }))
     }
@@ -135,8 +140,13 @@ impl Work<'_> {
 
 /// The value by tables, each row worked once in listing order, or 15 above so many entries.
 pub fn worked(diagram: &Diagram, arities: &Arities, state: &State, most: u64) -> Result<Worked, Refusal> {
+    worked_with(diagram, arities, state, &Valuation::new(), most)
+}
+
+/// The same with objects for parameters.
+pub fn worked_with(diagram: &Diagram, arities: &Arities, state: &State, bound: &Valuation, most: u64) -> Result<Worked, Refusal> {
     let above = tested_above(diagram);
-    let mut work = Work { arities, state, most, entries: 0 };
+    let mut work = Work { arities, state, bound, most, entries: 0 };
     let mut tables: Vec<Table> = Vec::new();
     for (row, above) in diagram.rows().iter().zip(&above) {
         let table = match *row {

@@ -86,13 +86,15 @@ pub enum Line {
     Reduce,
     Show,
     Text,
+    Best,
+    Count(u64),
 }
 
 impl Line {
     /// Whether it belongs behind (start).
     pub fn is_of_the_run(&self) -> bool {
         use Line::*;
-        matches!(self, Objects(_) | Is(..) | True(..) | Value | Backup | Cut | Reduce | Show | Text)
+        matches!(self, Objects(_) | Is(..) | True(..) | Value | Backup | Cut | Reduce | Show | Text | Best | Count(_))
     }
 }
 
@@ -213,6 +215,8 @@ pub fn line_of(words: &[Word]) -> Option<Line> {
         ("reduce", []) => Line::Reduce,
         ("show", []) => Line::Show,
         ("text", []) => Line::Text,
+        ("best", []) => Line::Best,
+        ("count", [Kind::Number(objects)]) => Line::Count(*objects),
         _ => return None,
     })
 }

@@ -45,7 +45,8 @@ fn damaged_texts() {
         random = random.wrapping_mul(6_364_136_223_846_793_005).wrapping_add(1_442_695_040_888_963_407);
         (random >> 33) as usize % bound
     };
-    let short = |(name, text): &(String, Vec<u8>)| text.len() < 1_500 && !name.contains("/combinations-");
+    let long = ["/combinations-", "/ground-", "/count-", "/valuations-of-"];
+    let short = |(name, text): &(String, Vec<u8>)| text.len() < 1_500 && !long.iter().any(|long| name.contains(long));
     for (name, text) in texts().into_iter().filter(short) {
         println!("{name}");
         for _ in 0..20 {
@@ -140,6 +141,33 @@ fn a_form_that_is_too_long() {
         what,
         "after step 1: the value diagram of 66 rows, written out as a form, makes a reward line of 3,422 bytes with 65 brackets open together; at most 4,095 and 64"
     );
+}
+
+/// What (best) and (count n) miss or meet: the state, a constant, the call or the move, the ground facts, a state.
+#[test]
+fn moves_and_spreads_refused() {
+    let model = "(constant hub)\n(predicate near 2)\n(total 2)\n(discount 1 1)\n(reward (if (near hub ?x) 500000000000000001 0))\n(action go !a)\n(variant only 2)\n(start)\n";
+    let told = |lines: &str| {
+        let (line, column, what, advice) = only_fault(&format!("{model}{lines}"));
+        assert_eq!(line, 8 + lines.lines().count());
+        (column, what, advice)
+    };
+    assert_eq!(told("(best)\n"), (1, "no (objects n) was accepted before it".into(), "begin the state with (objects n)".into()));
+    assert_eq!(told("(objects 2)\n(best)\n").1, "not placed in this state: hub");
+    assert_eq!(told("(count 2)\n").1, "not placed in this state: hub");
+    let placed = "(objects 5)\n(is hub 3)\n";
+    assert_eq!(
+        told(&format!("{placed}(best)\n")).1,
+        "the move of step 1: action go, variant only, the regressed value times the weight (3 rows and 1 row): a leaf of 1,000,000,000,000,000,002; at most 1,000,000,000,000,000,000"
+    );
+    assert_eq!(told(&format!("{placed}(count 3)\n")).0, 8);
+    assert_eq!(told(&format!("{placed}(count 3)\n")).1, "\"hub\" is placed on object 3, and states of 3 objects have none");
+    assert_eq!(told(&format!("{placed}(count 65)\n")).1, "the count of objects is 65; it is from 1 to 64");
+    assert_eq!(told(&format!("{placed}(count 5)\n")).1, "states of 5 objects have 25 ground facts (near 25); at most 16");
+    let stored = |name: &str| std::fs::read(format!("{}/../corpus/{name}.txt", env!("CARGO_MANIFEST_DIR"))).expect(name);
+    let tables = "5^9 = 1,953,125 valuations, 5 objects and 9 variables, are more than 1,000,000, and the tables in their place have more than 8,192 entries";
+    assert_eq!(faults(&stored("valuations-of-one-move"))[0].1.what, format!("the move of step 1: (relate 2): {tables}"));
+    assert_eq!(faults(&stored("valuations-of-the-last-state"))[0].1.what, format!("in some of the states {tables}"));
 }
 
 #[test]

@@ -1,4 +1,4 @@
-//! The guide's lines about reductions are those of examples/relay.txt and of its answers.
+//! The guide's lines about reductions, moves and spreads are those of examples/relay.txt, errand.txt and counted.txt and of their answers.
 
 use reference::session::Session;
 use reference::slips::Slips;
@@ -48,4 +48,33 @@ fn fewer_variables_to_copy() {
     };
     assert_eq!(rows(&["(backup)", "(cut)", "(reduce)", "(backup)"]), 39);
     assert_eq!(rows(&["(backup)", "(cut)", "(backup)"]), 49);
+}
+
+/// Each line of a section's block, with its answers behind it and then what is said of them, stands among those of an example, in this order.
+fn block_is_of(section: &str, example: &str, lines: usize) {
+    let guide = read("docs/GUIDE.md");
+    let section = guide.split(&format!("### {section}\n")).nth(1).expect("the section");
+    let block = section.split("```\n").nth(1).expect("a block");
+    let form = |line: &str| {
+        let mut words = line.split("  ").map(str::trim).filter(|word| !word.is_empty()).map(str::to_string);
+        let form = words.next().expect("a form");
+        (form, words.take_while(|word| word.starts_with('(')).map(|answer| answer + "\n").collect::<String>())
+    };
+    let block: Vec<(String, String)> = block.lines().map(form).collect();
+    let mut session = Session::new(Slips::NONE);
+    let mut left = block.iter().peekable();
+    for (number, line) in read(example).lines().enumerate() {
+        let printed: String = match session.take(line.as_bytes()) {
+            Ok(answers) => answers.iter().map(|answer| answer.print()).collect(),
+            Err(refusal) => format!("(refused {} {})\n", refusal.number(), number + 1),
+        };
+        left.next_if(|(form, answers)| form == line && *answers == printed);
+    }
+    assert_eq!((left.next(), block.len()), (None, lines));
+}
+
+#[test]
+fn moves_and_spreads() {
+    block_is_of("What to do: best", "examples/errand.txt", 8);
+    block_is_of("Before rules go out: count", "examples/counted.txt", 7);
 }

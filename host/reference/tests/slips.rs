@@ -46,3 +46,16 @@ fn a_form_numbered_by_first_occurrence() {
     assert!(caught("text-read-back-in-another-order", slips));
     assert!(caught("numbering-ascending", slips));
 }
+
+#[test]
+fn the_last_of_moves_with_equal_sums() {
+    let slips = Slips { later_move: true, ..Slips::NONE };
+    assert!(caught("best-lowest-objects-on-a-tie", slips));
+    assert!(caught("best-earlier-action-on-a-tie", slips));
+    assert!(caught("best-sums-apart", Slips { sums_shared: true, ..Slips::NONE }));
+}
+
+#[test]
+fn states_by_tested_facts_alone() {
+    assert!(caught("count-facts-that-nothing-tests", Slips { tested_facts_only: true, ..Slips::NONE }));
+}

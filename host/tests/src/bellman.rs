@@ -1,12 +1,15 @@
-//! Values after backups, cuts and reductions, by the reference and by a program, against the Bellman equation worked out from state to state.
+//! Values after backups, cuts and reductions, by the reference and by a program, against the Bellman equation worked out from state to state; a program's moves and spreads too.
 
-use crate::models::{model, state, write_model, write_state, Size};
+use crate::models::{ground_facts, model, state, write_model, write_state, Signature, Size};
+use crate::moves::first_highest;
 use crate::program::printed;
 use crate::random::Random;
+use crate::spread;
 use crate::tally::Tally;
 use reference::bellman::Bellman;
 use reference::session::{Answer, Session};
 use reference::slips::Slips;
+use reference::state::State;
 use std::path::Path;
 
 /// Backups, cuts and reductions, in any order.
@@ -57,43 +60,89 @@ pub fn check(seed: u64, slips: Slips, tally: &mut Tally) -> Result<(), String> {
     Ok(())
 }
 
-/// One random model with backups, cuts and reductions as a text for a program: how many values it printed, all of them those of the equation.
+/// What a line of a text for a program asks, and the state in hand.
+struct Question {
+    line: usize,
+    asks: Asks,
+    state: State,
+}
+
+enum Asks {
+    Value,
+    Best,
+    Count(u64),
+}
+
+/// States of so many ground facts are counted by brute force.
+const COUNTED_FACTS: usize = 9;
+
+/// The lines of a state and of what is asked about it.
+fn ask(random: &mut Random, signature: &Signature, state: State, lines: &mut Vec<String>) -> Vec<Question> {
+    lines.extend(write_state(&state));
+    let placed = state.constants.iter().max().map_or(1, |object| object + 1);
+    let few = (placed..=4).rev().find(|objects| ground_facts(signature, *objects).len() <= COUNTED_FACTS);
+    let asked = [(Asks::Value, 1), (Asks::Best, 2)].into_iter().chain(few.map(|objects| (Asks::Count(objects), 3)));
+    let mut questions = Vec::new();
+    for (asks, seldom) in asked {
+        if random.once_in(seldom) {
+            lines.push(match asks {
+                Asks::Value => "(value)".to_string(),
+                Asks::Best => "(best)".to_string(),
+                Asks::Count(objects) => format!("(count {objects})"),
+            });
+            questions.push(Question { line: lines.len(), asks, state: state.clone() });
+        }
+    }
+    questions
+}
+
+/// The lines that answer a question, by the equation.
+fn right_lines(bellman: &mut Bellman, signature: &Signature, scale: u128, k: u64, question: &Question) -> Vec<String> {
+    let state = &question.state;
+    let text = match question.asks {
+        Asks::Value => format!("(value {} {k} {})\n", bellman.value(k, state), scale.pow(k as u32)),
+        Asks::Best => first_highest(bellman, k, state).line,
+        Asks::Count(objects) => spread::lines(bellman, k, spread::states(signature, objects, &state.constants)),
+    };
+    text.lines().map(str::to_string).collect()
+}
+
+/// One random model with backups, cuts and reductions as a text for a program: how many values, moves and spreads it printed, all of them those of the equation.
 pub fn check_program(program: &Path, seed: u64) -> Result<u64, String> {
     let random = &mut Random::new(seed);
     let size = *random.pick(&SIZES);
     let (signature, plain) = model(random, size);
     let mut lines = write_model(&signature, &plain);
     let model_lines = lines.len();
-    // the state at each (value) line, in their order
-    let mut states = Vec::new();
+    // what is asked, in the order of the lines
+    let mut questions = Vec::new();
     for _ in 0..6 {
         lines.push(random.pick(&OPERATIONS).to_string());
         let objects = random.between(1, size.objects);
         let state = state(random, &signature, objects);
-        lines.extend(write_state(&state));
-        lines.push("(value)".to_string());
-        states.push((lines.len(), state));
+        questions.extend(ask(random, &signature, state, &mut lines));
     }
     let text: String = lines.iter().flat_map(|line| [line.as_str(), "\n"]).collect();
     let answers = String::from_utf8(printed(program, text.as_bytes())?).map_err(|error| error.to_string())?;
     let scale = u128::from(plain.total) * u128::from(plain.discount.1);
     let mut bellman = Bellman::new(&plain);
-    let (mut k, mut values) = (0, 0);
-    let mut states = states.iter();
-    for answer in answers.lines() {
+    let (mut k, mut answered) = (0, 0);
+    let (mut questions, mut answers) = (questions.iter(), answers.lines());
+    while let Some(answer) = answers.next() {
         let wrong = |why: &str| format!("{answer}: {why}, in\n{text}");
         let words: Vec<&str> = answer.trim_matches(['(', ')']).split(' ').collect();
         let number = |place: usize| words.get(place).and_then(|word| word.parse::<u128>().ok()).ok_or_else(|| wrong("a number is due"));
         match words[0] {
             "backup" if number(1)? == u128::from(k) + 1 => k += 1,
             "cut" | "reduce" => {}
-            "value" => {
-                let (_, state) = states.next().ok_or_else(|| wrong("one too many"))?;
-                let right = (bellman.value(k, state), u128::from(k), scale.pow(k as u32));
-                if (number(1)?, number(2)?, number(3)?) != right {
-                    return Err(wrong(&format!("{right:?} is right in {state:?}")));
+            "value" | "best" | "count" => {
+                let question = questions.next().ok_or_else(|| wrong("one too many"))?;
+                let right = right_lines(&mut bellman, &signature, scale, k, question);
+                let printed: Vec<&str> = [answer].into_iter().chain(answers.by_ref().take(right.len() - 1)).collect();
+                if printed != right {
+                    return Err(wrong(&format!("{right:?} is right at line {}", question.line)));
                 }
-                values += 1;
+                answered += 1;
             }
             "refused" => {
                 let line = number(2)? as usize;
@@ -102,15 +151,15 @@ pub fn check_program(program: &Path, seed: u64) -> Result<u64, String> {
                 }
                 match lines[line - 1].as_str() {
                     "(backup)" | "(cut)" | "(reduce)" => {}
-                    "(value)" if states.next().is_some_and(|(at, _)| *at == line) => {}
+                    _ if questions.next().is_some_and(|question| question.line == line) => {}
                     line => return Err(wrong(line)),
                 }
             }
             _ => return Err(wrong("not known")),
         }
     }
-    match states.next() {
-        Some((line, _)) => Err(format!("no answer to line {line} of\n{text}")),
-        None => Ok(values),
+    match questions.next() {
+        Some(question) => Err(format!("no answer to line {} of\n{text}", question.line)),
+        None => Ok(answered),
     }
 }

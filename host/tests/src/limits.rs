@@ -5,7 +5,7 @@ use reference::terms::{LARGEST_ARITY, PARAMETERS, PLACES, VARIABLES};
 
 /// The lines of a text about one limit.
 pub fn lines(random: &mut Random) -> Vec<String> {
-    match random.below(18) {
+    match random.below(21) {
         0 => declarations(random),
         1 => variables(random),
         2 => brackets(random),
@@ -29,6 +29,9 @@ pub fn lines(random: &mut Random) -> Vec<String> {
             let bytes = about(random, 4_095);
             long_form(random, bytes)
         }
+        17 => ground_facts(random),
+        18 => growing_states(random),
+        19 => growing_bindings(random),
         _ => variants_apart(random),
     }
 }
@@ -114,7 +117,7 @@ fn scale(random: &mut Random) -> Vec<String> {
         "(start)".to_string(),
     ]);
     lines.extend(vec!["(backup)".to_string(); 20]);
-    lines.extend(["(objects 1)", "(value)"].map(str::to_string));
+    lines.extend(["(objects 1)", "(value)", "(best)"].map(str::to_string));
     lines
 }
 
@@ -195,7 +198,7 @@ fn variants_apart(random: &mut Random) -> Vec<String> {
     let mut lines = vec!["(predicate p 1)".to_string(), format!("(total {variants})"), format!("(reward {})", conjunction(variables))];
     lines.push(format!("(action go{parameters})"));
     lines.extend(numbered(variants, |i| format!("(variant v{i} 1)")));
-    lines.extend(["(start)", "(backup)", "(cut)", "(backup)"].map(str::to_string));
+    lines.extend(["(start)", "(objects 1)", "(best)", "(backup)", "(cut)", "(best)", "(backup)"].map(str::to_string));
     lines
 }
 
@@ -226,7 +229,7 @@ fn freed(random: &mut Random) -> Vec<String> {
         lines.extend([format!("(variant v{i} {weight})"), format!("(becomes (p ?x) (if (q !x{i} ?x) 1 0))")]);
         lines.extend(["(becomes (q ?x ?y) 0)", "(becomes (a) 1)", "(becomes (b) 1)", "(becomes (c) 1)"].map(str::to_string));
     }
-    lines.extend(["(start)", "(backup)", "(backup)", "(objects 1)", "(value)"].map(str::to_string));
+    lines.extend(["(start)", "(backup)", "(objects 1)", "(best)", "(backup)", "(value)"].map(str::to_string));
     lines
 }
 
@@ -320,6 +323,67 @@ pub fn long_form(random: &mut Random, bytes: u64) -> Vec<String> {
     };
     let reward = (0..38).rev().fold(format!("(if (r {}) {leaf} 0)", "z".repeat(rest)), test);
     printed_as_form(declarations, reward, "(becomes (q ?a ?b ?c ?d ?e ?f) (if (q ?a ?b ?c ?d ?e ?f) 1 0))")
+}
+
+/// About 16 ground facts, of predicates that the reward tests and of one that it does not.
+fn ground_facts(random: &mut Random) -> Vec<String> {
+    let (arities, objects) =
+        *random.pick(&[(&[0; 13][..], 3), (&[1], 13), (&[1, 1], 6), (&[2], 3), (&[2, 1, 1], 2), (&[3, 2, 0], 2), (&[0; 13], 64)]);
+    let facts: u64 = arities.iter().map(|arity| u64::pow(objects, *arity)).sum();
+    let mut lines: Vec<String> = arities.iter().enumerate().map(|(p, arity)| format!("(predicate p{p} {arity})")).collect();
+    lines.extend(numbered((about(random, 16)).saturating_sub(facts), |g| format!("(predicate g{g} 0)")));
+    let atom = |p: usize| format!("(p{p}{})", " ?x".repeat(arities[p] as usize));
+    let last = arities.len() - 1;
+    let reward = format!("(if {} (if {} 3 {}) {})", atom(0), atom(last), random.below(5), random.below(5));
+    let mut lines = model(lines, reward);
+    lines.extend([format!("(count {objects})"), format!("(objects {objects})"), "(best)".to_string(), format!("(count {})", objects + 1)]);
+    lines
+}
+
+/// A test of p that four variables stay named below, since equalities above test them, and some tests of variables of their own: over five objects each fact of p brings 624
+/// entries more, and with four or five of them 15 is met.
+fn growing(name: &str, below: u64) -> String {
+    let test = |v: u64, inner: String, leaf: u64| format!("(if ({name} ?v{v}) {inner} {leaf})");
+    let end = (5..5 + below).rev().fold("9".to_string(), |inner, v| test(v, inner, 0));
+    let chain = (1..5).rev().fold(end, |inner, v| test(v, inner, v));
+    format!("(if (= ?v1 ?v2) (if (= ?v3 ?v4) {} 0) 0)", test(0, chain, 6))
+}
+
+/// States of five objects of which some meet 15, and of four, of which none does.
+fn growing_states(random: &mut Random) -> Vec<String> {
+    let below = random.between(2, 45);
+    let mut lines = model(vec!["(predicate p 1)".to_string()], growing("p", below));
+    lines.extend(["(count 5)", "(count 4)", "(objects 5)", "(count 5)"].map(str::to_string));
+    for object in 0..5 {
+        lines.extend([format!("(true p {object})"), "(value)".to_string(), "(best)".to_string()]);
+    }
+    lines
+}
+
+/// Moves of which some meet 15: an action makes p of all that r relates to its object. The actions behind it may meet 11, or need more variables than there are.
+fn growing_bindings(random: &mut Random) -> Vec<String> {
+    let below = random.between(2, 45);
+    let mut lines: Vec<String> = ["(predicate big 0)", "(predicate p 1)", "(predicate r 2)", "(total 2)"].map(str::to_string).to_vec();
+    lines.push(format!("(reward (if (big) 1000000000000000000 {}))", growing("p", below)));
+    lines.extend(["(action relate !a)", "(variant only 2)", "(becomes (big) 0)"].map(str::to_string));
+    lines.push("(becomes (p ?x) (if (r !a ?x) 1 0))".to_string());
+    let others = [["(action keep)", "(variant only 2)"], ["(action rest)", "(variant some 1)"]];
+    let other = random.below(3) as usize;
+    lines.extend(others[..other.min(1)].iter().flatten().map(|line| line.to_string()));
+    if other == 2 {
+        lines.extend(others[1].map(str::to_string));
+        lines.push("(variant others 1)".to_string());
+    }
+    lines.extend(["(start)", "(objects 5)"].map(str::to_string));
+    for _ in 0..random.between(4, 12) {
+        let (from, to) = (random.below(5), random.below(5));
+        lines.push(format!("(true r {from} {to})"));
+    }
+    lines.push("(best)".to_string());
+    let full = random.below(5);
+    lines.extend(numbered(5, |to| format!("(true r {full} {to})")));
+    lines.extend(["(best)", "(value)"].map(str::to_string));
+    lines
 }
 
 /// Two weights, one above the other, of about 4,096 pairs: 8 leaves over 511 rows are 4,095.

@@ -10,8 +10,9 @@
 //!
 //! `self` holds the reference against brute force, the weight rule over all states that matter, compares ground listings by their values, sees that blank
 //! lines change nothing but line numbers, that listings of the old kind meet 14 and that both ways to a value agree, works reductions out from states alone, sends value diagrams round
-//! (printed by (text), read as the next model's reward, with the same rows), counts the refusals met, and sees that each slip is caught.
-//! `program` feeds random texts to a program and to the reference. `bellman` holds the values that a program prints against brute force,
+//! (printed by (text), read as the next model's reward, with the same rows), holds moves and spreads against brute force over next states and over all
+//! states, counts the refusals met, and sees that each slip is caught.
+//! `program` feeds random texts to a program and to the reference. `bellman` holds the values, moves and spreads that a program prints against brute force,
 //! without the reference's diagrams. `round` sends value diagrams round through a program. `library` (feature `library`) makes random calls of the static
 //! library and of the reference, whole texts too, and sees that each call gave each of its answers.
 //! `stored` runs each NAME.txt of a folder and compares with NAME.out, by the reference or by the program at PATH. `text` prints
@@ -31,6 +32,7 @@ mod limits;
 mod listings;
 mod meaning;
 mod models;
+mod moves;
 mod old;
 mod order;
 mod program;
@@ -38,6 +40,7 @@ mod random;
 mod reductions;
 #[cfg(feature = "library")]
 mod shapes;
+mod spread;
 mod tables;
 mod tally;
 mod texts;
@@ -115,6 +118,8 @@ fn values_and_meanings(seed: u64, slips: Slips, tally: &mut Tally) -> Result<(),
     meaning::check_cut(seed, slips, tally).map_err(failed("cut"))?;
     reductions::check(seed, slips, tally).map_err(failed("reduction"))?;
     forms::check(seed, slips, tally).map_err(failed("form"))?;
+    moves::check(seed, slips, tally).map_err(failed("move"))?;
+    spread::check(seed, slips, tally).map_err(failed("spread"))?;
     bellman::check(seed, slips, tally).map_err(failed("value"))
 }
 
@@ -139,6 +144,8 @@ fn self_tests(bound: &Bound) -> Result<(), String> {
     }
     println!("{} pass; weights with impossible paths were accepted {by_equality} times", bound.told(done, SEEDS));
     slips_are_caught()?;
+    spread::check_limits(bound.first.unwrap_or(bound.fresh))?;
+    println!("states of exactly 16 ground facts are counted, 17 are too many, and one state that meets 15 refuses all");
     tally.print();
     match tally.missing() {
         missing if missing.is_empty() => Ok(()),
@@ -154,6 +161,8 @@ fn slips_are_caught() -> Result<(), String> {
         ("a better path through the cut edge", Slips { cover_through_edge: true, ..Slips::NONE }),
         ("a reduction over one object fewer", Slips { one_object_fewer: true, ..Slips::NONE }),
         ("a form numbered by first occurrence", Slips { first_occurrence: true, ..Slips::NONE }),
+        ("the last of moves with equal sums", Slips { later_move: true, ..Slips::NONE }),
+        ("states by tested facts alone", Slips { tested_facts_only: true, ..Slips::NONE }),
     ];
     for (name, slips) in slips {
         let caught = |seed: u64| values_and_meanings(seed, slips, &mut Tally::default()).err();
@@ -184,7 +193,7 @@ fn program_values(program: &Path, bound: &Bound) -> Result<(), String> {
         values += bellman::check_program(program, seed).map_err(|message| format!("seed {seed}: {message}"))?;
         done += 1;
     }
-    println!("{values} values of {} are those of the equation", bound.told(done, SEEDS / 4));
+    println!("{values} values, moves and spreads of {} are those of the equation", bound.told(done, SEEDS / 4));
     Ok(())
 }
 

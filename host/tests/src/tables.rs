@@ -1,14 +1,14 @@
 //! The second way to a value (document 02, L6), forced where the first is possible: its number is the highest leaf, and its entries are those of a count
-//! that forms no table.
+//! that forms no table. Both ways, and the search that looks at fewer valuations, with objects for parameters too.
 
 use crate::meaning::diagram;
 use crate::models::{sparse_state, state, terms, Signature, Size};
 use crate::random::Random;
 use reference::diagram::{Diagram, Row};
 use reference::refusal::Refusal;
-use reference::state::{by_valuations, highest, valuations, State, Valuation, VALUATIONS};
-use reference::tables::{worked, Worked, ENTRIES};
-use reference::terms::{is_variable, Arities, Label, Term};
+use reference::state::{by_valuations_with, highest, highest_leaf, valuations, State, Valuation, VALUATIONS};
+use reference::tables::{worked_with, Worked, ENTRIES};
+use reference::terms::{is_variable, Arities, Label, Term, FIRST_PARAMETER};
 use std::collections::BTreeSet;
 
 fn names_of(label: Label) -> BTreeSet<Term> {
@@ -24,18 +24,18 @@ fn leads(diagram: &Diagram, from: usize, to: usize) -> bool {
 }
 
 /// The choices of objects for a label's variables under which it is true.
-fn true_cases(label: Label, arities: &Arities, state: &State) -> u128 {
+fn true_cases(label: Label, arities: &Arities, state: &State, bound: &Valuation) -> u128 {
     let variables: Vec<Term> = names_of(label).into_iter().collect();
     let terms = &label.places()[..arities[label.predicate() as usize] as usize];
     let mut cases = 0;
-    highest(state.objects, &variables, &mut Valuation::new(), &mut |choice| {
+    highest(state.objects, &variables, &mut bound.clone(), &mut |choice| {
         cases += u128::from(state.holds(label.predicate(), terms, choice));
     });
     cases
 }
 
-/// The entries by names alone: a case of the label is joined with each choice for the child's other names, and a union has every choice for its names.
-pub fn entries(diagram: &Diagram, arities: &Arities, state: &State) -> u128 {
+/// The entries by names alone, parameters having these objects: a case of the label is joined with each choice for the child's other names, and a union has every choice for its names.
+pub fn entries(diagram: &Diagram, arities: &Arities, state: &State, bound: &Valuation) -> u128 {
     let power = |count: usize| u128::from(state.objects).pow(count as u32);
     let rows = diagram.rows();
     let mut names: Vec<BTreeSet<Term>> = Vec::new();
@@ -47,7 +47,7 @@ pub fn entries(diagram: &Diagram, arities: &Arities, state: &State) -> u128 {
             continue;
         };
         let own = names_of(label);
-        let holds = true_cases(label, arities, state);
+        let holds = true_cases(label, arities, state, bound);
         entries += holds * power((&names[yes] - &own).len()) + (power(own.len()) - holds) * power((&names[no] - &own).len());
         let mut left: BTreeSet<Term> = &(&own | &names[yes]) | &names[no];
         entries += power(left.len());
@@ -73,16 +73,22 @@ pub fn check(seed: u64) -> Result<(), String> {
     let signature = Signature::random(random, size);
     let variables = random.between(1, 4);
     let depth = random.between(1, 5);
-    let valued = diagram(random, &signature, &terms(&signature, 0, variables), depth);
+    let parameters = random.below(3);
+    let valued = diagram(random, &signature, &terms(&signature, parameters, variables), depth);
     let objects = random.between(1, if size.arity > 2 { 2 } else { 6 });
     let state = if random.once_in(2) { state(random, &signature, objects) } else { sparse_state(random, &signature, objects) };
     if valuations(&valued, &state) > VALUATIONS {
         return Ok(());
     }
-    let (arities, right) = (&signature.arities, by_valuations(&valued, &signature.arities, &state));
-    let counted = entries(&valued, arities, &state);
+    let bound = (0..parameters).map(|place| (FIRST_PARAMETER + place, random.below(objects))).collect();
+    let (arities, right) = (&signature.arities, by_valuations_with(&valued, &signature.arities, &state, &bound));
+    let searched = highest_leaf(&valued, arities, &state, &bound);
+    if searched != right {
+        return Err(format!("{searched}, not {right}, is the highest leaf of {valued:?} in {state:?}"));
+    }
+    let counted = entries(&valued, arities, &state, &bound);
     for most in [ENTRIES.into(), counted, counted - 1] {
-        let answer = worked(&valued, arities, &state, most as u64);
+        let answer = worked_with(&valued, arities, &state, &bound, most as u64);
         let expected = if counted <= most { Ok(Worked { value: right, entries: counted as u64 }) } else { Err(Refusal::Valuations) };
         if answer != expected {
             return Err(format!("by tables of at most {most} entries {answer:?}, not {expected:?}, for {valued:?} in {state:?}"));

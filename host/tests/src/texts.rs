@@ -2,7 +2,7 @@
 
 use crate::forms::renamed;
 use crate::limits;
-use crate::models::{model, sparse_state, write_model, write_state, Size};
+use crate::models::{model, sparse_state, write_model, write_state, Signature, Size};
 use crate::random::Random;
 
 /// The text of a seed: a whole one, one about weights, a small one damaged, one about a limit, or once in a while plain bytes or next to nothing. Some are spaced out by
@@ -73,15 +73,44 @@ fn whole(random: &mut Random, size: Size) -> Vec<String> {
     for line in lines.iter_mut().filter(|line| line.starts_with("(reward ")) {
         *line = renamed(random, line);
     }
+    if random.once_in(8) {
+        let (at, question) = (random.below(lines.len() as u64) as usize, question(random, &signature));
+        lines.insert(at, question);
+    }
     for _ in 0..random.between(1, 3) {
         for _ in 0..random.below(4) {
             lines.push(random.pick(&["(backup)", "(cut)", "(cut)", "(reduce)", "(show)", "(text)"]).to_string());
         }
+        if random.once_in(3) {
+            // before the first state, or in the one before
+            lines.push(question(random, &signature));
+        }
         let objects = random.between(1, size.objects);
-        lines.extend(write_state(&sparse_state(random, &signature, objects)));
+        let mut state = write_state(&sparse_state(random, &signature, objects));
+        if random.once_in(4) {
+            // before a constant is placed, if there is one
+            state.insert(1, question(random, &signature));
+        }
+        lines.extend(state);
         lines.push("(value)".to_string());
+        if random.once_in(2) {
+            lines.push(question(random, &signature));
+        }
     }
     lines
+}
+
+/// (best), or (count n): of few states, or with a number that is refused.
+fn question(random: &mut Random, signature: &Signature) -> String {
+    let facts = |objects: u64| -> u64 {
+        let arities = &signature.arities[1..=signature.predicates as usize];
+        arities.iter().map(|arity| objects.saturating_pow(*arity as u32)).fold(0, u64::saturating_add)
+    };
+    let objects = *random.pick(&[0, 1, 1, 2, 2, 3, 3, 4, 5, 7, 64, 65]);
+    match facts(objects) {
+        facts if random.once_in(2) && (facts <= 8 || facts > 16) => format!("(count {objects})"),
+        _ => "(best)".to_string(),
+    }
 }
 
 const NUMBERS: [&str; 14] = [
@@ -101,7 +130,7 @@ const NUMBERS: [&str; 14] = [
     "x",
 ];
 
-const LINES: [&str; 27] = [
+const LINES: [&str; 30] = [
     "",
     "()",
     "(start)",
@@ -111,6 +140,9 @@ const LINES: [&str; 27] = [
     "(reduce)",
     "(show)",
     "(text)",
+    "(best)",
+    "(count 1)",
+    "(count 2)",
     "(objects 2)",
     "(objects 0)",
     "(is c0 1)",

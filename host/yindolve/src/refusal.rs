@@ -22,7 +22,7 @@ pub enum Refusal {
     Arity = 3,
     /// A number outside its range; a state without objects or with an object beyond them; more than 4 parameters.
     Range = 4,
-    /// A line in the wrong part of the text, a missing part, a second single form, or a constant that is not placed.
+    /// A line in the wrong part of the text, a missing part, a second single form, or a constant that is not placed (for `(best)` [`Missing`](Refusal::Missing)).
     Place = 5,
     /// A variable or a parameter that is not allowed here.
     Unbound = 6,
@@ -52,6 +52,10 @@ pub enum Refusal {
     Buffer = 18,
     /// The value diagram, written as a form by `(text)`, is too long for a `(reward ..)` line: more than 4,095 bytes or 64 open brackets.
     Length = 19,
+    /// `(best)` where there is no state, or a constant is not placed.
+    Missing = 20,
+    /// More than 16 ground facts of the states that `(count n)` is to count.
+    Ground = 24,
     /// An equality or a constant in a diagram to reduce.
     Kinds = 26,
     /// More than 512 valuations times paths of a diagram to reduce.
@@ -82,6 +86,8 @@ impl Refusal {
         Refusal::Paths,
         Refusal::Buffer,
         Refusal::Length,
+        Refusal::Missing,
+        Refusal::Ground,
         Refusal::Kinds,
         Refusal::Runs,
         Refusal::Combinations,
@@ -119,6 +125,8 @@ impl Refusal {
             Refusal::Paths => "paths",
             Refusal::Buffer => "buffer",
             Refusal::Length => "length",
+            Refusal::Missing => "missing",
+            Refusal::Ground => "ground",
             Refusal::Kinds => "kinds",
             Refusal::Runs => "runs",
             Refusal::Combinations => "combinations",
@@ -147,6 +155,8 @@ impl Refusal {
             Refusal::Paths => "more than 256 paths, in the diagram to cut or to reduce or in an action's summed weights",
             Refusal::Buffer => "a result buffer or a working space that is too small",
             Refusal::Length => "the value diagram, written as a form, is too long for a (reward ..) line: more than 4,095 bytes or 64 open brackets",
+            Refusal::Missing => "a move is asked for, and there is no state or a constant is not placed",
+            Refusal::Ground => "more than 16 ground facts, so that there are too many states to count",
             Refusal::Kinds => "an equality or a constant in the diagram to reduce",
             Refusal::Runs => "more than 512 valuations times paths of the diagram to reduce",
             Refusal::Combinations => "more than 100,000 combinations of paths in a reduction",

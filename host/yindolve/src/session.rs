@@ -4,7 +4,7 @@ use crate::memory::{Memory, ANSWER_BYTES};
 use crate::refusal::Refusal;
 use crate::saved::{self, Damaged, Parts};
 use crate::state::{State, StateBuilder};
-use crate::text::{Answer, BackupDone, CutDone, ReduceDone};
+use crate::text::{Answer, BackupDone, Count, CutDone, Move, ReduceDone};
 use crate::value::Value;
 use crate::vocabulary::Vocabulary;
 use std::fmt;
@@ -273,7 +273,7 @@ impl Session {
     }
 
     /// How many lines were answered; each of the calls [`backup`](Session::backup), [`cut`](Session::cut), [`reduce`](Session::reduce),
-    /// [`text`](Session::text) and [`value_in_hand`](Session::value_in_hand) counts as one.
+    /// [`text`](Session::text), [`value_in_hand`](Session::value_in_hand), [`best`](Session::best) and [`count`](Session::count) counts as one.
     pub fn lines(&self) -> u64 {
         self.memory.lines()
     }
@@ -457,6 +457,56 @@ impl Session {
             Answer::Value(value) => Ok(value),
             Answer::Refused { refusal, .. } => Err(refusal),
             other => unreachable!("{other:?} for (value)"),
+        }
+    }
+
+    /// Which move to make in the state in hand: the first action, then the lowest objects in order, whose weighted sum over variants is
+    /// highest, the one inside the step from k to k + 1. Who makes it gets the value that the next [`backup`](Session::backup), if it is
+    /// accepted, states. Nothing changes by it. How long it takes grows with the objects to the power of an action's parameters.
+    ///
+    /// # Refusals
+    /// `Place` before a `(start)`; `Missing` (no state, or a constant that is not placed); then action by action the first of
+    /// `Variables`, `Pairs`, `Value`, `Space` that its calls meet, and `Valuations` of a choice of its objects.
+    ///
+    /// ```
+    /// use yindolve::Session;
+    /// let mut session = Session::load(include_str!("../../../examples/liftparts.txt"))?;
+    /// session.backup()?;
+    /// session.cut_all()?;
+    /// session.tell("(objects 3)\n(true wanted 0)\n(true aboard 0 2)\n")?;
+    /// assert_eq!(session.best()?.to_string(), "call 2");
+    /// session.backup()?;
+    /// assert_eq!(session.value_in_hand()?.fraction().to_string(), "243/64");
+    /// # Ok::<(), Box<dyn std::error::Error>>(())
+    /// ```
+    pub fn best(&mut self) -> Result<Move, Refusal> {
+        match self.line("(best)") {
+            Answer::Best(best) => Ok(best),
+            Answer::Refused { refusal, .. } => Err(refusal),
+            other => unreachable!("{other:?} for (best)"),
+        }
+    }
+
+    /// How many states of so many objects have which value, lowest first, with the constants placed as they are in the state in hand. A
+    /// state is one choice of true or false for each ground fact of every declared predicate, so that the numbers of states add up to 2 to
+    /// the power of the number of ground facts. Nothing changes by it.
+    ///
+    /// # Refusals
+    /// `Place` (before a `(start)`, or a constant that is not placed); `Range` (not 1 to 64 objects, or a constant is placed beyond them);
+    /// `Ground` (more than 16 ground facts); `Valuations` (met by one of the states).
+    ///
+    /// ```
+    /// use yindolve::Session;
+    /// let mut session = Session::load("(predicate stock 1)\n(reward (if (stock ?s) 10 0))\n(action wait)\n(variant only 100)\n(start)\n")?;
+    /// let counts: Vec<(u64, u64)> = session.count(4)?.iter().map(|count| (count.value, count.states)).collect();
+    /// assert_eq!(counts, [(0, 1), (10, 15)]);
+    /// # Ok::<(), Box<dyn std::error::Error>>(())
+    /// ```
+    pub fn count(&mut self, objects: u64) -> Result<Vec<Count>, Refusal> {
+        match self.line(format!("(count {objects})")) {
+            Answer::Counts(counts) => Ok(counts),
+            Answer::Refused { refusal, .. } => Err(refusal),
+            other => unreachable!("{other:?} for (count n)"),
         }
     }
 

@@ -89,6 +89,33 @@ pub struct ReduceDone {
     pub rows: usize,
 }
 
+/// What an accepted `(best)` names: something to do.
+#[non_exhaustive]
+#[derive(Clone, Debug, PartialEq, Eq)]
+pub struct Move {
+    /// The action's name.
+    pub action: String,
+    /// An object for each of its parameters.
+    pub objects: Vec<u64>,
+}
+
+impl std::fmt::Display for Move {
+    fn fmt(&self, f: &mut std::fmt::Formatter) -> std::fmt::Result {
+        write!(f, "{}", self.action)?;
+        self.objects.iter().try_for_each(|object| write!(f, " {object}"))
+    }
+}
+
+/// One line of an accepted `(count n)`: a value that occurs.
+#[non_exhaustive]
+#[derive(Clone, Copy, Debug, PartialEq, Eq)]
+pub struct Count {
+    /// V, the number that `(value)` prints: S^k times the value; [`Session::scale`](crate::Session::scale) is S^k.
+    pub value: u64,
+    /// How many states have it.
+    pub states: u64,
+}
+
 /// What a session answers to a line.
 #[non_exhaustive]
 #[derive(Clone, Debug, PartialEq, Eq)]
@@ -107,6 +134,10 @@ pub enum Answer {
     Rows(Vec<Row>),
     /// To `(text)`: the value diagram as one nested form, as a `(reward ..)` line takes it.
     Text(String),
+    /// To `(best)`.
+    Best(Move),
+    /// To `(count n)`: each value that occurs, lowest first.
+    Counts(Vec<Count>),
     /// The line is refused and changed nothing.
     Refused {
         /// Why.
@@ -142,6 +173,11 @@ impl Answer {
             Some(&["cut", row, edge, rows]) => Answer::Cut(CutDone { row: place(row)?, edge: edge.parse().ok()?, rows: place(rows)? }),
             Some(&["reduce", rows]) => Answer::Reduce(ReduceDone { rows: place(rows)? }),
             Some(&["refused", refusal, line]) => Answer::Refused { refusal: Refusal::from_number(number(refusal)?)?, line: number(line)? },
+            Some(&["best", action, ref objects @ ..]) => {
+                let objects = objects.iter().map(|object| number(object)).collect::<Option<_>>()?;
+                Answer::Best(Move { action: action.to_string(), objects })
+            }
+            Some(&["count", ..]) => Answer::Counts(forms.iter().map(|form| read_count(form)).collect::<Option<_>>()?),
             Some(_) => Answer::Rows(forms.iter().map(|form| read_row(form)).collect::<Option<_>>()?),
         })
     }
@@ -160,6 +196,13 @@ fn read_row(form: &[&str]) -> Option<Row> {
         ["row", _, label, yes, no] => {
             Some(Row::Branch { label: Label::from_word(label.parse().ok()?), yes: yes.parse().ok()?, no: no.parse().ok()? })
         }
+        _ => None,
+    }
+}
+
+fn read_count(form: &[&str]) -> Option<Count> {
+    match *form {
+        ["count", value, states] => Some(Count { value: value.parse().ok()?, states: states.parse().ok()? }),
         _ => None,
     }
 }
@@ -185,6 +228,17 @@ mod tests {
         assert_eq!(read("7\n"), Some(Answer::Text("7".to_string())));
         assert_eq!(read("(if (stock ?v0) 5 0)\n"), Some(Answer::Text("(if (stock ?v0) 5 0)".to_string())));
         assert_eq!(read("7\n7\n"), None);
+        let best = |action: &str, objects: &[u64]| Some(Answer::Best(Move { action: action.to_string(), objects: objects.to_vec() }));
+        assert_eq!(read("(best wait)\n"), best("wait", &[]));
+        assert_eq!(read("(best carry 11 0 10 9)\n"), best("carry", &[11, 0, 10, 9]));
+        assert_eq!(Move { action: "carry".to_string(), objects: vec![11, 0] }.to_string(), "carry 11 0");
+        assert_eq!(read("(best)\n"), None);
+        assert_eq!(read("(best carry x)\n"), None);
+        let counts = [(30, 2), (120, 65_534)].map(|(value, states)| Count { value, states });
+        assert_eq!(read("(count 30 2)\n(count 120 65534)\n"), Some(Answer::Counts(counts.to_vec())));
+        assert_eq!(read("(count 30 2)\n(value 30 1 8)\n"), None);
+        assert_eq!(read("(count 30)\n"), None);
+        assert_eq!(read("(refused 24 9)\n"), Some(Answer::Refused { refusal: Refusal::Ground, line: 9 }));
         assert_eq!(read("(refused 99 1)\n"), None);
         assert_eq!(read("(row 0 leaf 30)\nrow\n"), None);
     }

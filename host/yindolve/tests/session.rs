@@ -179,6 +179,29 @@ fn the_state_in_hand() {
     assert_eq!(session.state_lines(), ["(objects 2)", "(is hub 0)"]);
 }
 
+/// The move and the spread: refused with the numbers of what is missing, and the same in a session that was restored.
+#[test]
+fn moves_and_spreads() {
+    let mut session = Session::load(SAMPLE).unwrap();
+    assert_eq!(session.best(), Err(Refusal::Missing));
+    assert_eq!(session.count(2), Err(Refusal::Place));
+    session.tell("(objects 3)\n(is hub 1)\n").unwrap();
+    session.backup().unwrap();
+    let mut restored = Session::restore(&session.save()).unwrap();
+    for session in [&mut session, &mut restored] {
+        let best = session.best().unwrap();
+        assert_eq!((best.action.as_str(), best.objects.as_slice()), ("fill", &[1][..]));
+        assert_eq!(session.answer_bytes(), b"(best fill 1)\n");
+        let counts: Vec<(u64, u64)> = session.count(2).unwrap().iter().map(|count| (count.value, count.states)).collect();
+        assert_eq!(counts, [(30, 2), (120, 2)]);
+        assert_eq!(session.answer_bytes(), b"(count 30 2)\n(count 120 2)\n");
+        assert_eq!(session.count(1), Err(Refusal::Range));
+        assert_eq!(session.count(65), Err(Refusal::Range));
+        assert_eq!(session.count(17), Err(Refusal::Ground));
+        assert_eq!(session.count(16).unwrap().iter().map(|count| count.states).sum::<u64>(), 65_536);
+    }
+}
+
 /// Blank lines count and are no part of the model; what closes a text is known of a restored session too.
 #[test]
 fn blank_lines_and_the_end_of_a_text() {

@@ -1,14 +1,12 @@
 //! value: the number of each branch's state.
 
 use crate::arguments::Arguments;
-use crate::input::{Line, Lines, Text};
+use crate::input::{Lines, Text};
 use crate::model::{load, Loaded};
 use crate::output::Out;
+use crate::state::Reader;
 use crate::table::Table;
-use crate::trouble::{message, remark, Outcome, Trouble, Verdict};
-use crate::twin::{answer, told, Twin};
-use reference::explain::explain;
-use reference::text::{line_of, read_words, Line as Form};
+use crate::trouble::{message, Outcome, Trouble, Verdict};
 use std::ffi::OsString;
 use yindolve::{Answer, Value};
 
@@ -26,16 +24,26 @@ pub fn value(arguments: &Arguments, out: &mut Out) -> Outcome {
     if !model.was_saved {
         message(&format!("{} is a model's text, so no step is looked ahead (k = 0); yindolve-desk plan does so", model.name));
     }
-    let mut table = table("state");
+    for_each(states, table("state"), "a value", out, |state| Ok(one(&model, state)?.map(|value| cells(&state.to_string_lossy(), value))))
+}
+
+/// A row of a table for each state file, where it has one; what is refused was told, and the other states are still done.
+pub fn for_each(
+    states: &[OsString],
+    mut table: Table,
+    what: &str,
+    out: &mut Out,
+    row: impl Fn(&OsString) -> Result<Option<Vec<String>>, Trouble>,
+) -> Outcome {
     let mut trouble = None;
     let mut refused = 0;
     for state in states {
-        match one(&model, state) {
-            Ok(Some(value)) => table.row(cells(&state.to_string_lossy(), value)),
+        match row(state) {
+            Ok(Some(cells)) => table.row(cells),
             Ok(None) => refused += 1,
-            Err(Trouble(what)) => {
-                message(&what);
-                trouble = Some(Trouble(format!("not every state was read; {} of {} have a value", table.rows(), states.len())));
+            Err(Trouble(why)) => {
+                message(&why);
+                trouble = Some(Trouble(format!("not every state was read; {} of {} have {what}", table.rows(), states.len())));
             }
         }
     }
@@ -68,71 +76,9 @@ fn one(model: &Loaded, file: &OsString) -> Result<Option<Value>, Trouble> {
 }
 
 /// The value of a state's lines; none where one is refused, which was told.
-pub fn value_of(model: &Loaded, mut lines: Lines<&[u8]>) -> Result<Option<Value>, Trouble> {
-    let twin = Twin { engine: model.twin.engine.clone(), known: model.twin.known.clone() };
-    let mut reader = Reader { name: lines.name().to_string(), twin, begun: false, accepted: true, last: 0 };
-    while let Some(line) = lines.next()? {
-        reader.take(&line)?;
-    }
-    reader.value()
-}
-
-/// A state while it is read.
-struct Reader {
-    name: String,
-    twin: Twin,
-    /// Whether an (objects n) was there.
-    begun: bool,
-    accepted: bool,
-    /// The number of the last line.
-    last: u64,
-}
-
-impl Reader {
-    fn take(&mut self, line: &Line) -> Result<(), Trouble> {
-        self.last = line.number;
-        match read_words(&line.bytes).ok().and_then(|words| line_of(&words)) {
-            Some(Form::Objects(_)) => self.begin(line.number),
-            Some(Form::Is(..) | Form::True(..)) | None => {}
-            Some(_) => {
-                self.accepted = false;
-                let lines = "a state has (objects n), (is c o) and (true p o ..) lines";
-                remark(&format!("{}:{}:1: this is no line of a state; {lines}", self.name, line.number));
-                return Ok(());
-            }
-        }
-        if let Answer::Refused { .. } = answer(&mut self.twin.engine, line) {
-            return self.tell_refused(&line.bytes, line.ended);
-        }
-        // what the engine took is kept for the reason of a later line
-        let _ = self.twin.known.take(&line.bytes);
-        Ok(())
-    }
-
-    fn begin(&mut self, number: u64) {
-        if self.begun {
-            message(&format!("{}:{number}: a second (objects n) begins the state anew; what stands before it does not count", self.name));
-        }
-        self.begun = true;
-    }
-
-    fn tell_refused(&mut self, line: &[u8], ended: bool) -> Result<(), Trouble> {
-        self.accepted = false;
-        let fault = explain(&self.twin.known, line, ended).ok_or_else(|| {
-            let place = format!("{}:{}", self.name, self.last);
-            Trouble(format!("{place}: the proved library refuses the line, and the independent implementation does not"))
-        })?;
-        remark(&told(&self.name, self.last, &fault));
-        Ok(())
-    }
-
-    fn value(mut self) -> Result<Option<Value>, Trouble> {
-        if !self.accepted {
-            return Ok(None);
-        }
-        match self.twin.engine.value_in_hand() {
-            Ok(value) => Ok(Some(value)),
-            Err(_) => self.tell_refused(b"(value)", true).map(|()| None),
-        }
+pub fn value_of(model: &Loaded, lines: Lines<&[u8]>) -> Result<Option<Value>, Trouble> {
+    match Reader::read(model, lines)?.ask("(value)")? {
+        Some(Answer::Value(value)) => Ok(Some(value)),
+        _ => Ok(None),
     }
 }

@@ -6,6 +6,7 @@ mod explain;
 mod next;
 mod picture;
 mod plan_and_value;
+mod questions;
 mod report;
 mod run;
 mod troubles;

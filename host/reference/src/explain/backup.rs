@@ -1,4 +1,4 @@
-//! A refused backup: which of its calls, and what it met.
+//! A refused backup, and the calls that a refused (best) shares with it: which of them, and what it met.
 
 use super::{counted, grouped, measure, Fault};
 use crate::combine::{combine, Names, Operator};
@@ -12,7 +12,7 @@ use crate::slips::Slips;
 use crate::text::Span;
 
 /// A call that was refused: its refusal, and the call and what it met in words.
-type Called<T> = Result<T, (Refusal, String)>;
+pub type Called<T> = Result<T, (Refusal, String)>;
 
 /// The reason why the next backup would be refused; none where it would be taken.
 pub fn refused_backup(run: &Run, declared: &Declarations, span: Span) -> Option<Fault> {
@@ -22,7 +22,7 @@ pub fn refused_backup(run: &Run, declared: &Declarations, span: Span) -> Option<
 }
 
 /// What the guide says about a refused backup.
-fn advice(refusal: Refusal) -> &'static str {
+pub fn advice(refusal: Refusal) -> &'static str {
     match refusal {
         Refusal::Variables => {
             "cut until 16 where that is left to do; take fewer variants and fewer parameters, since each variant brings a copy of the \
@@ -60,7 +60,7 @@ fn scale_met(run: &Run) -> String {
 }
 
 /// The sum over an action's variants, call by call.
-fn expected(run: &Run, action: &Action, named: &DeclaredAction) -> Called<Diagram> {
+pub fn expected(run: &Run, action: &Action, named: &DeclaredAction) -> Called<Diagram> {
     let mut sum = Diagram::leaf(0);
     for (variant, outcome) in action.variants.iter().zip(&named.variants) {
         sum = with_variant(run, variant, &sum, &step_of(named, outcome))?;

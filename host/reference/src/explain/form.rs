@@ -138,7 +138,7 @@ const fn form(name: &'static str, written: &'static str, shapes: &'static [Shape
     Form { name, written, shapes }
 }
 
-const FORMS: [Form; 18] = [
+const FORMS: [Form; 20] = [
     form("constant", "(constant NAME)", &[Shape::Name]),
     form("predicate", "(predicate NAME ARITY)", &[Shape::Name, Shape::Number]),
     form("total", "(total W)", &[Shape::Number]),
@@ -157,6 +157,8 @@ const FORMS: [Form; 18] = [
     form("reduce", "(reduce)", &[]),
     form("show", "(show)", &[]),
     form("text", "(text)", &[]),
+    form("best", "(best)", &[]),
+    form("count", "(count N)", &[Shape::Number]),
 ];
 
 /// The fault of words that are no line.

@@ -1,4 +1,4 @@
-//! Refusal 5: a line in the wrong part, a part that is missing, a second single form, a constant that is not placed.
+//! Refusal 5: a line in the wrong part, a part that is missing, a second single form, a constant that is not placed; and 20, which (best) has where its state is not whole.
 
 use super::{Checked, Fault};
 use crate::declarations::Declarations;
@@ -15,7 +15,10 @@ pub fn check(session: &Session, line: &Line, span: Span) -> Checked {
         )),
         (Some(_), false) => Err(place("this form belongs to the model, which (start) has closed".into(), "move it before (start)")),
         (None, false) => in_model(session.declarations(), line).map_err(|(what, advice)| place(what, advice)),
-        (Some(run), true) => in_run(run, session.declarations(), line).map_err(|(what, advice)| place(what, advice)),
+        (Some(run), true) => in_run(run, session.declarations(), line).map_err(|(what, advice)| match line {
+            Line::Best => Fault::new(Refusal::Missing, span, what, advice),
+            _ => place(what, advice),
+        }),
     }
 }
 
@@ -68,16 +71,21 @@ fn at_start(declared: &Declarations) -> Found {
 }
 
 fn in_run(run: &Run, declared: &Declarations, line: &Line) -> Found {
-    let needs_state = matches!(line, Line::Is(..) | Line::True(..) | Line::Value);
+    let whole_state = matches!(line, Line::Value | Line::Best);
+    let needs_state = whole_state || matches!(line, Line::Is(..) | Line::True(..));
     found(run.placed.is_some() || !needs_state, || "no (objects n) was accepted before it".into(), "begin the state with (objects n)")?;
-    let (Line::Value, Some(placed)) = (line, &run.placed) else {
+    if !whole_state && !matches!(line, Line::Count(_)) {
         return Ok(());
-    };
-    let unplaced = declared.constants.iter().zip(&placed.constants).filter(|(_, object)| object.is_none());
-    let unplaced: Vec<&str> = unplaced.map(|(name, _)| name.as_str()).collect();
+    }
+    let object = |constant: usize| run.placed.as_ref().and_then(|placed| placed.constants[constant]);
+    let unplaced = declared.constants.iter().enumerate().filter(|(constant, _)| object(*constant).is_none());
+    let unplaced: Vec<&str> = unplaced.map(|(_, name)| name.as_str()).collect();
     found(
         unplaced.is_empty(),
         || format!("not placed in this state: {}", unplaced.join(", ")),
-        "say for each constant which object it is: (is CONSTANT OBJECT)",
+        match run.placed {
+            Some(_) => "say for each constant which object it is: (is CONSTANT OBJECT)",
+            None => "begin a state with (objects n), and say for each constant which object it is: (is CONSTANT OBJECT)",
+        },
     )
 }

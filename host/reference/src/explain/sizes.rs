@@ -1,7 +1,7 @@
 //! What a line's own operation refuses: a diagram's 8, 10, 9, 7, full declarations (9), the sums of weights at (start), and what a run
 //! form does.
 
-use super::{backup, counted, grouped, measure, unless_fault, Checked, Fault};
+use super::{backup, counted, grouped, measure, questions, unless_fault, Checked, Fault};
 use crate::combine::{combine, Names, Operator};
 use crate::cut::{cut, Path, PATHS};
 use crate::declarations::{Declarations, DeclaredAction, Lookup, Variables, DEFAULT_TOTAL};
@@ -13,8 +13,7 @@ use crate::refusal::Refusal;
 use crate::regress::row_step;
 use crate::session::{Run, Session, ACTIONS, FACTS, MODEL_ROWS, VARIANTS};
 use crate::slips::Slips;
-use crate::state::{value, VALUATIONS};
-use crate::tables::ENTRIES;
+use crate::state::Valuation;
 use crate::terms::{Test, CONSTANTS, PARAMETERS, PREDICATES, VARIABLES};
 use crate::text::{Kind, Line, Span, Word, WrittenDiagram, LINE_BYTES, OPEN_BRACKETS};
 use crate::tree::Tree;
@@ -226,6 +225,8 @@ pub fn check_run(run: &Run, declared: &Declarations, line: &Line, span: Span) ->
         Line::Cut => cuts(run, span),
         Line::Reduce => reductions(run, declared, span),
         Line::Text => length(run, declared, span),
+        Line::Best => questions::moves(run, declared, span),
+        Line::Count(objects) => questions::states(run, declared, *objects, span),
         _ => Ok(()),
     }
 }
@@ -244,22 +245,11 @@ fn facts(run: &Run, declared: &Declarations, name: &str, objects: &[u64], span: 
 
 fn valuations(run: &Run, span: Span) -> Checked {
     let Some(state) = run.placed.as_ref().and_then(|placed| placed.state()) else { return Ok(()) };
-    let variables = run.value.variables().len();
-    value(&run.value, &run.arities, &state).map(|_| ()).map_err(|refusal| {
-        let power =
-            u128::from(state.objects).checked_pow(variables as u32).map(|power| format!(" = {}", grouped(power))).unwrap_or_default();
-        let what = format!(
-            "{}^{variables}{power} valuations, {} and {}, are more than {}, and the tables in their place have more than {} entries",
-            state.objects,
-            counted(state.objects as usize, "object"),
-            counted(variables, "variable"),
-            grouped(VALUATIONS.into()),
-            grouped(ENTRIES.into())
-        );
+    questions::valued(&run.value, run, &state, &Valuation::new()).map_err(|(refusal, met)| {
         Fault::new(
             refusal,
             span,
-            what,
+            met,
             "put fewer objects into the state (those that matter), or cut the diagram until 16 so that it has fewer variables",
         )
     })

@@ -23,6 +23,7 @@ pub fn check(session: &Session, words: &[Word]) -> Checked {
         ("objects", [_, objects]) => in_range(objects, 1, OBJECTS, "the count of objects"),
         ("is", [_, name, object]) => is(session, name, object),
         ("true", [_, name, objects @ ..]) => fact(session, name, objects),
+        ("count", [_, objects]) => count(session, objects),
         _ => Ok(()),
     }
 }
@@ -162,6 +163,22 @@ fn fact(session: &Session, name: &Word, objects: &[Word]) -> Checked {
     right_count(name, objects, arity)?;
     let Some(placed) = placed(session) else { return Ok(()) };
     objects.iter().try_for_each(|object| known_object(placed, object))
+}
+
+/// As many objects as a state may have, and every constant among them.
+fn count(session: &Session, objects: &Word) -> Checked {
+    in_range(objects, 1, OBJECTS, "the count of objects")?;
+    let constants = placed(session).map_or(&[][..], |placed| &placed.constants);
+    let beyond =
+        constants.iter().zip(&session.declarations().constants).find(|(object, _)| object.is_some_and(|o| o >= number_of(objects)));
+    match beyond {
+        Some((object, name)) => Err(range_fault(
+            objects.span,
+            format!("\"{name}\" is placed on object {}, and states of {} objects have none", object.unwrap_or(0), number_of(objects)),
+            "count states of more objects, or place the constants among the first ones",
+        )),
+        None => Ok(()),
+    }
 }
 
 fn placed(session: &Session) -> Option<&Placed> {
