@@ -14,11 +14,11 @@ use Rattle.label.specs.Limits.{leafMark}
 use Rattle.diagram.specs.Words.{labelAt, highAt, lowAt}
 use Rattle.cutting.specs.declared.Edge.{Edge}
 use Rattle.answers.specs.declared.Answer.{Answer}
-use Rattle.answers.specs.declared.Answer.the-variants.{Value, Backup, Cut, Reduce, Refused, Show, Text, Best, Count, Nothing}
+use Rattle.answers.specs.declared.Answer.the-variants.{Value, Backup, Cut, Reduce, Refused, Show, Text, Best, Count, Did, Nothing}
 use Rattle.answers.specs.declared.Put.{Put}
 use Rattle.answers.specs.declared.Put.the-variants.{At, Full}
 use Rattle.answers.specs.Answers.{field, fields, nameField, edgeField, leafField, lineEnd, answerLine, rowLine, rowLineAt, countLineAt}
-use Rattle.answers.specs.Answers.{valueHead, backupHead, cutHead, reduceHead, bestHead, countHead, refusedHead, rowHead}
+use Rattle.answers.specs.Answers.{valueHead, backupHead, cutHead, reduceHead, bestHead, countHead, didHead, refusedHead, rowHead}
 use Rattle.answers.specs.Writing.{lineBytes, putAnswer, putResult, Placed}
 use Rattle.answering.specs.Wrote.{Wrote, WroteWithin}
 use Rattle.answering.proofs.WriteLaws.{wrote-nothing, one-field, three-fields, four-fields, of-word, wider, wrote-more}
@@ -115,6 +115,10 @@ module _ {s s′ : List ℕ} {r : ℕ} {answer : Answer} where
       → WroteWithin s 0 (answerLine answer) lineBytes r s′
   unfolding answerLine
   line-refused e p w = rw (e, ← p) w
+
+  pub line-did : {n t : ℕ} → answer ≡ Did n t → WroteWithin s 0 (didHead ++ field n ++ field t ++ lineEnd) lineBytes r s′ → WroteWithin s 0 (answerLine answer) lineBytes r s′
+  unfolding answerLine
+  line-did e w = rw e w
 
 pub line-best : {s s′ : List ℕ} {r : ℕ} {answer : Answer} {k : Key} {n a b c d : ℕ} → answer ≡ Best k n a b c d
     → WroteWithin s 0 (bestHead ++ nameField k ++ fields (take n (a ∷ b ∷ c ∷ d ∷ [])) ++ lineEnd) lineBytes r s′ → WroteWithin s 0 (answerLine answer) lineBytes r s′

@@ -14,4 +14,5 @@ printedBy (A.Show n) = P.Rows n
 printedBy (A.Text n) = P.Form n
 printedBy (A.Best k n a b c d) = P.Line
 printedBy (A.Count n m) = P.Counts m
+printedBy (A.Did n t) = P.Line
 printedBy A.Nothing = P.Line

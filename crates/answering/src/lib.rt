@@ -259,6 +259,7 @@ fn answer_line(line: &mut [u8], answer: Answer) -> usize
         Answer::Text(_) => 0,
         Answer::Best(action, n, a, b, c, d) => best_line(line, action, n, a, b, c, d),
         Answer::Count(_, _) => 0,
+        Answer::Did(count, total) => pair_line(line, b"(did", count, total),
         Answer::Nothing => 0,
     }
 }
@@ -370,6 +371,7 @@ pub fn printed_by(answer: Answer) -> Printed
         Answer::Text(bytes) => Printed::Form(bytes),
         Answer::Best(_, _, _, _, _, _) => Printed::Line,
         Answer::Count(_, lines) => Printed::Counts(lines),
+        Answer::Did(_, _) => Printed::Line,
         Answer::Nothing => Printed::Line,
     }
 }

@@ -28,6 +28,9 @@ use Rattle.refusal.specs.declared.Refusal.the-variants.{
   Buffer,
   Length,
   Missing,
+  Weightless,
+  Crowded,
+  Tally,
   Ground,
   Kinds,
   Runs,
@@ -42,10 +45,10 @@ use Rattle.diagram.specs.Words.{labelAt, highAt, lowAt}
 use Rattle.cutting.specs.declared.Edge.{Edge}
 use Rattle.cutting.specs.declared.Edge.the-variants.{True, False}
 use Rattle.answers.specs.declared.Answer.{Answer}
-use Rattle.answers.specs.declared.Answer.the-variants.{Value, Backup, Cut, Reduce, Refused, Show, Text, Best, Count, Nothing}
+use Rattle.answers.specs.declared.Answer.the-variants.{Value, Backup, Cut, Reduce, Refused, Show, Text, Best, Count, Did, Nothing}
 use Rattle.answers.specs.DigitLaws.{digits-short, digits-byte}
 use Rattle.answers.specs.Answers.{field, fields, nameField, edgeField, leafField, lineEnd, answerLine, rowLine, rowLineAt, rowLines, countLineAt, countLines, answerBytes}
-use Rattle.answers.specs.Answers.{valueHead, backupHead, cutHead, reduceHead, bestHead, countHead, refusedHead, rowHead}
+use Rattle.answers.specs.Answers.{valueHead, backupHead, cutHead, reduceHead, bestHead, countHead, didHead, refusedHead, rowHead}
 use Rattle.answers.specs.Writing.{Plain, IsWord, IsByte, OfWords, lineBytes, mostBytes}
 
 field-short : (v : ℕ) → IsWord v → length (field v) ≤ 21
@@ -107,6 +110,9 @@ number-word Paths = omega arith
 number-word Buffer = omega arith
 number-word Length = omega arith
 number-word Missing = omega arith
+number-word Weightless = omega arith
+number-word Crowded = omega arith
+number-word Tally = omega arith
 number-word Ground = omega arith
 number-word Kinds = omega arith
 number-word Runs = omega arith
@@ -143,6 +149,7 @@ line-short (Best k n a b c d) h =
       fields-short n (a ∷ b ∷ c ∷ d ∷ []) (h .0, (h .1, (h .2, (h .3, tt)))),
     )
 line-short (Count n m) h = omega arith
+line-short (Did n t) h = omega (arith, four-short didHead (field n) (field t) lineEnd, field-short n (h .0), field-short t (h .1))
 line-short Nothing h = omega arith
 
 -- and so has a row's line
@@ -203,6 +210,7 @@ plain-bytes ws form table (Show n) p = refl
 plain-bytes ws form table (Text n) p = absurd p
 plain-bytes ws form table (Best k n a b c d) p = refl
 plain-bytes ws form table (Count n m) p = absurd p
+plain-bytes ws form table (Did n t) p = refl
 plain-bytes ws form table Nothing p = refl
 
 -- no answer but a form or a spread has more bytes than 1,024 rows may have
@@ -217,4 +225,5 @@ answer-short ws form table (Show n) g h p = omega (arith, rows-short ws n g (ome
 answer-short ws form table (Text n) g h p = absurd p
 answer-short ws form table (Best k n a b c d) g h p = omega (arith, line-short (Best k n a b c d) h)
 answer-short ws form table (Count n m) g h p = absurd p
+answer-short ws form table (Did n t) g h p = omega (arith, line-short (Did n t) h)
 answer-short ws form table Nothing g h p = omega arith

@@ -13,7 +13,7 @@ use Rattle.diagram.specs.Words.{labelAt, highAt, lowAt}
 use Rattle.cutting.specs.declared.Edge.{Edge}
 use Rattle.cutting.specs.declared.Edge.the-variants.{True, False}
 use Rattle.answers.specs.declared.Answer.{Answer}
-use Rattle.answers.specs.declared.Answer.the-variants.{Value, Backup, Cut, Reduce, Refused, Show, Text, Best, Count, Nothing}
+use Rattle.answers.specs.declared.Answer.the-variants.{Value, Backup, Cut, Reduce, Refused, Show, Text, Best, Count, Did, Nothing}
 use Rattle.answers.specs.Digits.{digits}
 
 -- a number, a space before it
@@ -41,7 +41,7 @@ unfolding field
 fields [] = []
 fields (v ∷ vs) = field v ++ fields vs
 
--- `(value`, `(backup`, `(cut`, `(reduce`, `(best`, `(count` (document 02, L13, L9, L11), `(refused`, `(row`
+-- `(value`, `(backup`, `(cut`, `(reduce`, `(best`, `(count`, `(did` (document 02, L13, L9, L11, L10), `(refused`, `(row`
 abbrev pub valueHead : List ℕ
 valueHead = 40 ∷ 118 ∷ 97 ∷ 108 ∷ 117 ∷ 101 ∷ []
 
@@ -60,6 +60,9 @@ bestHead = 40 ∷ 98 ∷ 101 ∷ 115 ∷ 116 ∷ []
 abbrev pub countHead : List ℕ
 countHead = 40 ∷ 99 ∷ 111 ∷ 117 ∷ 110 ∷ 116 ∷ []
 
+abbrev pub didHead : List ℕ
+didHead = 40 ∷ 100 ∷ 105 ∷ 100 ∷ []
+
 abbrev pub refusedHead : List ℕ
 refusedHead = 40 ∷ 114 ∷ 101 ∷ 102 ∷ 117 ∷ 115 ∷ 101 ∷ 100 ∷ []
 
@@ -73,8 +76,8 @@ lineFeed = 10 ∷ []
 abbrev pub lineEnd : List ℕ
 lineEnd = 41 ∷ 10 ∷ []
 
--- the line of an answer. Fields: value, k, S^k; k, rows; cut row, edge, rows left; rows left; number, line; an action's name and the first n objects. Other lines
--- print nothing.
+-- the line of an answer. Fields: value, k, S^k; k, rows; cut row, edge, rows left; rows left; number, line; an action's name and the first n objects; count,
+-- total (document 02, L10). Other lines print nothing.
 unfoldable pub answerLine : Answer → List ℕ
 unfolding field nameField fields
 answerLine (Value v k s) = valueHead ++ field v ++ field k ++ field s ++ lineEnd
@@ -86,6 +89,7 @@ answerLine (Show n) = []
 answerLine (Text n) = []
 answerLine (Best k n a b c d) = bestHead ++ nameField k ++ fields (take n (a ∷ b ∷ c ∷ d ∷ [])) ++ lineEnd
 answerLine (Count n m) = []
+answerLine (Did n t) = didHead ++ field n ++ field t ++ lineEnd
 answerLine Nothing = []
 
 -- the line of row k, whose words are l, h and w. Fields: row number, label, true, false; a leaf's value behind `leaf`.
@@ -131,4 +135,5 @@ answerBytes ws form table (Show n) = rowLines ws n
 answerBytes ws form table (Text n) = form ++ lineFeed
 answerBytes ws form table (Best k n a b c d) = answerLine (Best k n a b c d)
 answerBytes ws form table (Count n m) = countLines table m
+answerBytes ws form table (Did n t) = answerLine (Did n t)
 answerBytes ws form table Nothing = []

@@ -2,10 +2,10 @@
 --
 -- Definitions
 --   Answer == value, k, S^k; k, rows; row, edge, rows left; rows left; rows shown; the bytes of a form; action and objects; objects
---       and lines of a spread; refusal and line; or nothing (an enum of the code)
+--       and lines of a spread; moves done and the total of their rewards; refusal and line; or nothing (an enum of the code)
 --   digitsWithin, digits == the decimal digits of a number
 --   field, fields, nameField, edgeField, leafField == a number, numbers, a name, ` true` or ` false`, ` leaf`, a space before each
---   valueHead, backupHead, cutHead, reduceHead, bestHead, countHead, refusedHead, rowHead, lineEnd == the words of answers, and the end of a line
+--   valueHead, backupHead, cutHead, reduceHead, bestHead, countHead, didHead, refusedHead, rowHead, lineEnd == the words of answers, and the end of a line
 --   answerLine == the line of an answer
 --   rowLine, rowLineAt, rowLines == the line of a row; of row k of a listing; of the first n rows
 --   countLineAt, countLines == line k of a spread, the first n lines (document 02, L11)

@@ -1,5 +1,5 @@
 -- Bytes written into a lent buffer at a place: an answer that has no room is not written (document 01, section 'A run, whole').
-use Prim.Native.Nat.{ℕ, _+_, _*_, _≤_, _<_}
+use Prim.Native.Nat.{ℕ, _+_, _≤_, _<_}
 use mathlib.Core.Path.{_≡_}
 use mathlib.Core.Bool.{cond}
 use mathlib.Core.List.{List, _++_}
@@ -9,7 +9,7 @@ use Rattle.diagram.specs.Sizes.{mostRows}
 use Rattle.answers.specs.declared.Put.{Put}
 use Rattle.answers.specs.declared.Put.the-variants.{At, Full}
 use Rattle.answers.specs.declared.Answer.{Answer}
-use Rattle.answers.specs.declared.Answer.the-variants.{Value, Backup, Cut, Reduce, Refused, Show, Text, Best, Count, Nothing}
+use Rattle.answers.specs.declared.Answer.the-variants.{Value, Backup, Cut, Reduce, Refused, Show, Text, Best, Count, Did, Nothing}
 
 -- the bytes of a line at most: a word, four numbers and the signs between them
 abbrev pub lineBytes : ℕ
@@ -31,19 +31,6 @@ pub record Placed (s : List ℕ) (place : ℕ) (w : List ℕ) (r : Put) (s′ : 
   pub answer : r ≡ putAnswer (length s) place w
   pub result : s′ ≡ putResult s place w
 
--- the rows that are to be shown are there
-abbrev pub Showable : List ℕ → Answer → Type 0
-Showable ws (Value v k s) = Unit {0}
-Showable ws (Backup k n) = Unit {0}
-Showable ws (Cut i e n) = Unit {0}
-Showable ws (Reduce n) = Unit {0}
-Showable ws (Refused r line) = Unit {0}
-Showable ws (Show n) = n * 3 ≤ length ws
-Showable ws (Text n) = Unit {0}
-Showable ws (Best k n a b c d) = Unit {0}
-Showable ws (Count n m) = Unit {0}
-Showable ws Nothing = Unit {0}
-
 -- no form and no spread is to be printed
 abbrev pub Plain : Answer → Type 0
 Plain (Value v k s) = Unit {0}
@@ -55,6 +42,7 @@ Plain (Show n) = Unit {0}
 Plain (Text n) = ⊥
 Plain (Best k n a b c d) = Unit {0}
 Plain (Count n m) = ⊥
+Plain (Did n t) = Unit {0}
 Plain Nothing = Unit {0}
 
 -- a machine word
@@ -76,4 +64,5 @@ OfWords (Show n) = n ≤ mostRows
 OfWords (Text n) = Unit {0}
 OfWords (Best k n a b c d) = IsByte a × IsByte b × IsByte c × IsByte d
 OfWords (Count n m) = m ≤ mostRows
+OfWords (Did n t) = IsWord n × IsWord t
 OfWords Nothing = Unit {0}

@@ -14,7 +14,7 @@ use Rattle.forms.specs.declared.Sort.{Sort}
 use Rattle.forms.specs.declared.Sort.the-variants as S
 use Rattle.text.specs.declared.Kind.{Kind}
 use Rattle.text.specs.declared.Shape.{Shape}
-use Rattle.text.specs.declared.Shape.the-variants.{Nothing, One, Two, Listed, Drawn, Named, Headed, Never}
+use Rattle.text.specs.declared.Shape.the-variants.{Nothing, One, Two, Listed, Paired, Drawn, Named, Headed, Never}
 use Rattle.text.specs.Line.{keyword, shapeOf, Item, ShapeWords, Words}
 use Rattle.events.specs.declared.Event.{Event}
 use Rattle.events.specs.declared.Event.the-variants.{Name, Variable, Parameter, Number, Equal, Holds, Step}
@@ -63,6 +63,7 @@ shapeEvents Nothing w = []
 shapeEvents (One k) x = itemEvent k x ∷ []
 shapeEvents (Two k l) w = itemEvent k (w .0) ∷ itemEvent l (w .1) ∷ []
 shapeEvents (Listed k) w = nameEvent (w .0) ∷ map (itemEvent k) (w .1)
+shapeEvents (Paired k) w = nameEvent (w .0) ∷ nameEvent (w .1) ∷ map (itemEvent k) (w .2)
 shapeEvents Drawn d = diagramEvents d
 shapeEvents Named w = nameEvent (w .0) ∷ diagramEvents (w .1)
 shapeEvents Headed w = Holds (keyOf (w .0)) (length (w .1)) ∷ (map variableEvent (w .1) ++ diagramEvents (w .2))

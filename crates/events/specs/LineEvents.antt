@@ -20,7 +20,7 @@ use Rattle.forms.specs.declared.Sort.{Sort}
 use Rattle.forms.specs.declared.Sort.the-variants as S
 use Rattle.text.specs.declared.Kind.{Kind}
 use Rattle.text.specs.declared.Shape.{Shape}
-use Rattle.text.specs.declared.Shape.the-variants.{Nothing, One, Two, Listed, Drawn, Named, Headed, Never}
+use Rattle.text.specs.declared.Shape.the-variants.{Nothing, One, Two, Listed, Paired, Drawn, Named, Headed, Never}
 use Rattle.text.specs.Line.{keyword, shapeOf, variableBytes, Item, itemBytes, GoodItem, ShapeWords, shapeBytes, GoodShape, Words, wordsBytes, GoodWords, lineBytes}
 use Rattle.text.specs.Line.Line.{line}
 use Rattle.events.specs.declared.Event.{Event}
@@ -173,6 +173,8 @@ shape-events Nothing w g = none
 shape-events (One k) x g = item-last k x g
 shape-events (Two k l) w g = item-then k (w .0) (itemBytes l (w .1)) (g .0) ∙ ap (λ es. itemEvent k (w .0) ∷ es) (item-last l (w .1) (g .1))
 shape-events (Listed k) w g = listed-events k (w .0) (w .1) (g .0) (g .1)
+shape-events (Paired k) w g =
+    item-then S.Name (w .0) (w .1 ++ manyBytes (itemBytes k) (w .2)) (g .0) ∙ ap (λ es. nameEvent (w .0) ∷ es) (listed-events k (w .1) (w .2) (g .1) (g .2))
 shape-events Drawn d g = diagram-last d g
 shape-events Named w g = item-then S.Name (w .0) (diagramBytes (w .1)) (g .0) ∙ ap (λ es. nameEvent (w .0) ∷ es) (diagram-last (w .1) (g .1))
 shape-events Headed w g = headed-events (w .0) (w .1) (w .2) (g .0) (g .1) (g .2)

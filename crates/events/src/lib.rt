@@ -64,6 +64,7 @@ pub fn first_word(kind: Kind) -> usize
         Kind::Text => 6,
         Kind::Best => 6,
         Kind::Count => 7,
+        Kind::Did => 5,
         Kind::Bad => 2,
     }
 }

@@ -1,8 +1,9 @@
 -- The number of each trade word (document 01, table 'Refusals by trade word'; document 02, the new numbers of its requests).
 use Prim.Native.Nat.{ℕ}
 use Rattle.refusal.specs.declared.Refusal.{Refusal}
-use Rattle.refusal.specs.declared.Refusal.the-variants.{Form, Name, Arity, Range, Place, Unbound, Truth, Variables, Space, Pairs, Value, Scale, Weights, Listing, Valuations, Nothing, Paths, Buffer}
-use Rattle.refusal.specs.declared.Refusal.the-variants.{Length, Missing, Ground, Kinds, Runs, Combinations}
+use Rattle.refusal.specs.declared.Refusal.the-variants.{Form, Name, Arity, Range, Place, Unbound, Truth, Variables, Space}
+use Rattle.refusal.specs.declared.Refusal.the-variants.{Pairs, Value, Scale, Weights, Listing, Valuations, Nothing, Paths, Buffer}
+use Rattle.refusal.specs.declared.Refusal.the-variants.{Length, Missing, Weightless, Crowded, Tally, Ground, Kinds, Runs, Combinations}
 
 abbrev pub numberOf : Refusal → ℕ
 numberOf Form = 1
@@ -23,9 +24,12 @@ numberOf Valuations = 15
 numberOf Nothing = 16
 numberOf Paths = 17
 numberOf Buffer = 18
--- document 02, L2, L9, L11 and L13
+-- document 02, L2, L9, L10, L11 and L13
 numberOf Length = 19
 numberOf Missing = 20
+numberOf Weightless = 21
+numberOf Crowded = 22
+numberOf Tally = 23
 numberOf Ground = 24
 numberOf Kinds = 26
 numberOf Runs = 27

@@ -4,6 +4,8 @@ use mathlib.Core.Bool.{true, false}
 use mathlib.Core.List.{List, [], _∷_}
 use Prim.Native.Nat.{ℕ, _<_}
 use lib.ListN.{length, getD}
+use Rattle.refusal.specs.declared.Refusal.the-variants.{Weightless, Crowded, Valuations, Tally}
+use Rattle.refusal.specs.Outcome.{Outcome, ok, refused}
 use Rattle.label.specs.Limits.{predicateCount}
 use Rattle.state.specs.State.{State}
 use Rattle.state.specs.Max.{Tuple, sumOf}
@@ -11,7 +13,7 @@ use Rattle.state.specs.Lent.{factCount}
 use Rattle.mdp.specs.Model.{Model}
 use Rattle.mdp.specs.Bellman.{weightIn, rewardIn}
 use Rattle.replay.specs.Replay.{mostFacts, Did, actionOf, variantOf, stateNext, Replay, inHand, movedBy, counted}
-use Rattle.replay.specs.Replay.{Answer, accepted, stopped, weightless, manyFacts, valuations, tooHigh, hasNoWeight, hasManyFacts, hasValuations, isTooHigh}
+use Rattle.replay.specs.Replay.{hasNoWeight, hasManyFacts, hasValuations, isTooHigh}
 
 -- the states s0, s1, .. that the lines lead through: each by the truth diagrams of the next line
 unfoldable pub states : Model → State → List Did → List State
@@ -51,10 +53,10 @@ pub record Comes (m : Model) (s : State) (done : List Did) (r : Replay) : Type 0
   pub none : length done ≡ 0 → r .total ≡ 0
 
 -- each answer exactly under its condition, in the order 21, 22, 15, 23
-pub data Verdict (m : Model) (r : Replay) (d : Did) : Answer → Type 0 where
-  on21 : weightIn (m .arities) (inHand (m .arities) r) (d .objects) (variantOf m d) ≡ 0 → Verdict m r d (stopped weightless)
-  on22 : hasNoWeight m r d ≡ false → mostFacts < factCount (movedBy m r d .facts) → Verdict m r d (stopped manyFacts)
-  on15 : hasNoWeight m r d ≡ false → hasManyFacts m r d ≡ false → hasValuations m r d ≡ true → Verdict m r d (stopped valuations)
-  on23 : hasNoWeight m r d ≡ false → hasManyFacts m r d ≡ false → hasValuations m r d ≡ false → isTooHigh m r d ≡ true → Verdict m r d (stopped tooHigh)
+pub data Verdict (m : Model) (r : Replay) (d : Did) : Outcome Replay → Type 0 where
+  on21 : weightIn (m .arities) (inHand (m .arities) r) (d .objects) (variantOf m d) ≡ 0 → Verdict m r d (refused Weightless)
+  on22 : hasNoWeight m r d ≡ false → mostFacts < factCount (movedBy m r d .facts) → Verdict m r d (refused Crowded)
+  on15 : hasNoWeight m r d ≡ false → hasManyFacts m r d ≡ false → hasValuations m r d ≡ true → Verdict m r d (refused Valuations)
+  on23 : hasNoWeight m r d ≡ false → hasManyFacts m r d ≡ false → hasValuations m r d ≡ false → isTooHigh m r d ≡ true → Verdict m r d (refused Tally)
   allowed : hasNoWeight m r d ≡ false → hasManyFacts m r d ≡ false → hasValuations m r d ≡ false → isTooHigh m r d ≡ false
-      → Verdict m r d (accepted (counted m r d))
+      → Verdict m r d (ok (counted m r d))

@@ -1,4 +1,4 @@
--- Replay of logged lines (document 02, L10). Its line and its code are to come.
+-- Replay of logged lines (document 02, L10). The line and its code are in session and desk_lines.
 --
 -- Definitions: one line
 --   mostFacts == 1,024 facts
@@ -8,7 +8,6 @@
 --   stateNext, movedBy == the state that the variant's truth diagrams give; it, in hand
 --   rewardHere, isFirst, rewardMet == the reward in hand; no line was accepted yet; reward before and after on the first line, later the reward after
 --   rewardEnds, counted == 15 of the reward, here; the state moved, one more, the rewards met
---   Stop, numberOf, Answer == 21, 22, 15, 23 and their numbers; a line accepted or refused
 --   hasNoWeight, hasManyFacts, hasValuations, isTooHigh == the conditions of 21, 22, 15, 23
 --   did == one line: its checks in order, then it is counted
 --   behind, replay, ifAccepted, acceptedOf == what is in hand behind an answer, behind a list of lines; the lines that were accepted

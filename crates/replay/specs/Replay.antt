@@ -5,6 +5,8 @@ use mathlib.Core.Option.{none}
 use Prim.Native.Nat.{ℕ, suc, pred, _+_}
 use lib.ListN.{getD, take, replicate}
 use lib.Dec.{eqb, ltb}
+use Rattle.refusal.specs.declared.Refusal.the-variants.{Weightless, Crowded, Valuations, Tally}
+use Rattle.refusal.specs.Outcome.{Outcome, ok, refused}
 use Rattle.label.specs.Limits.{predicateCount, mostPlaces}
 use Rattle.diagram.specs.Sizes.{highestValue}
 use Rattle.diagram.specs.Diagram.{leaf}
@@ -127,23 +129,6 @@ counted m r d = record {
   total = r .total + rewardMet m r d;
 }
 
--- why a line is refused, behind its names and counts
-pub data Stop : Type 0 where
-  weightless : Stop
-  manyFacts : Stop
-  valuations : Stop
-  tooHigh : Stop
-
-abbrev pub numberOf : Stop → ℕ
-numberOf weightless = 21
-numberOf manyFacts = 22
-numberOf valuations = 15
-numberOf tooHigh = 23
-
-pub data Answer : Type 0 where
-  accepted : Replay → Answer
-  stopped : Stop → Answer
-
 -- "21, the variant's weight is 0 in the state"
 unfoldable pub hasNoWeight : Model → Replay → Did → Bool
 unfolding weightIn inHand
@@ -165,21 +150,21 @@ unfolding counted
 isTooHigh m r d = ltb highestValue (counted m r d .count) || ltb highestValue (counted m r d .total)
 
 -- "checked after names and counts; .. checked next and before 15; .. checked last"
-unfoldable pub did : Model → Replay → Did → Answer
+unfoldable pub did : Model → Replay → Did → Outcome Replay
 unfolding hasNoWeight hasManyFacts hasValuations isTooHigh counted
 did m r d =
-    cond (hasNoWeight m r d) (stopped weightless)
-    (cond (hasManyFacts m r d) (stopped manyFacts)
-    (cond (hasValuations m r d) (stopped valuations)
-    (cond (isTooHigh m r d) (stopped tooHigh)
-    (accepted (counted m r d)))))
+    cond (hasNoWeight m r d) (refused Weightless)
+    (cond (hasManyFacts m r d) (refused Crowded)
+    (cond (hasValuations m r d) (refused Valuations)
+    (cond (isTooHigh m r d) (refused Tally)
+    (ok (counted m r d)))))
 
 -- ===== Lists of lines =====
 
 -- what is in hand behind an answer: a refused line leaves all as it was
-abbrev pub behind : Replay → Answer → Replay
-behind r (accepted r′) = r′
-behind r (stopped e) = r
+abbrev pub behind : Replay → Outcome Replay → Replay
+behind r (ok r′) = r′
+behind r (refused e) = r
 
 unfoldable pub replay : Model → Replay → List Did → Replay
 unfolding did
@@ -187,9 +172,9 @@ replay m r [] = r
 replay m r (d ∷ l) = replay m (behind r (did m r d)) l
 
 -- the line stands before others if it was accepted
-abbrev pub ifAccepted : Answer → Did → List Did → List Did
-ifAccepted (accepted r) d l = d ∷ l
-ifAccepted (stopped e) d l = l
+abbrev pub ifAccepted : Outcome Replay → Did → List Did → List Did
+ifAccepted (ok r) d l = d ∷ l
+ifAccepted (refused e) d l = l
 
 -- those of the lines that were accepted, in their order
 unfoldable pub acceptedOf : Model → Replay → List Did → List Did

@@ -8,6 +8,8 @@ use native.Mathlib.Nat.{zero-add}
 use lib.ListN.{length, getD, length-append}
 use lib.Dec.{eqb}
 use borrow.Author.Tests.{eqb-true, eq-eqb, ne-eqb, ltb-true}
+use Rattle.refusal.specs.declared.Refusal.the-variants.{Weightless, Crowded, Valuations, Tally}
+use Rattle.refusal.specs.Outcome.{Outcome, ok, refused}
 use Rattle.state.specs.State.{State, Good}
 use Rattle.state.specs.Max.{Tuple, sumOf}
 use Rattle.state.specs.Lent.{factCount, stateOf}
@@ -15,7 +17,7 @@ use Rattle.state.specs.HighestLaws.{bound-tuple}
 use Rattle.mdp.specs.Model.{Variant, Action, Model, Every, GoodVariant, GoodAction, GoodModel}
 use Rattle.mdp.specs.Bellman.{weightIn, stateAfter, rewardIn}
 use Rattle.replay.specs.Replay.{mostFacts, Did, noVariant, noAction, actionOf, variantOf, Replay, inHand, begun, factsOf, stateNext, movedBy, rewardHere, isFirst, rewardMet, counted}
-use Rattle.replay.specs.Replay.{Answer, accepted, stopped, weightless, manyFacts, valuations, tooHigh, hasNoWeight, hasManyFacts, hasValuations, isTooHigh}
+use Rattle.replay.specs.Replay.{hasNoWeight, hasManyFacts, hasValuations, isTooHigh}
 use Rattle.replay.specs.Replay.{did, behind, replay, ifAccepted, acceptedOf}
 use Rattle.replay.specs.Along.{states, stateBehind, rewardsAlong, Alike, Checked, Comes, Verdict, on21, on22, on15, on23, allowed}
 use Rattle.replay.specs.AlikeLaws.{alike-same, alike-then, next-alike, reward-alike}
@@ -29,7 +31,7 @@ unfolding did hasNoWeight hasManyFacts
 verdict m r d = go (hasNoWeight m r d) (hasManyFacts m r d) (hasValuations m r d) (isTooHigh m r d) refl refl refl refl
   where
     go : (a b c e : Bool) → hasNoWeight m r d ≡ a → hasManyFacts m r d ≡ b → hasValuations m r d ≡ c → isTooHigh m r d ≡ e
-        → Verdict m r d (cond a (stopped weightless) (cond b (stopped manyFacts) (cond c (stopped valuations) (cond e (stopped tooHigh) (accepted (counted m r d))))))
+        → Verdict m r d (cond a (refused Weightless) (cond b (refused Crowded) (cond c (refused Valuations) (cond e (refused Tally) (ok (counted m r d))))))
     go true b c e p q u w = on21 (eqb-true _ 0 p)
     go false true c e p q u w = on22 p (ltb-true mostFacts _ q)
     go false false true e p q u w = on15 p q u
@@ -37,12 +39,12 @@ verdict m r d = go (hasNoWeight m r d) (hasManyFacts m r d) (hasValuations m r d
     go false false false false p q u w = allowed p q u w
 
 -- an accepted line is counted
-accepted-is : (m : Model) (r : Replay) (d : Did) (a : Answer) → Verdict m r d a → (r′ : Replay) → a ≡ accepted r′ → r′ ≡ counted m r d
-accepted-is m r d (stopped weightless) (on21 p) r′ e = let z : _≡_ {A = ℕ} 0 1 = cc in absurd (omega arith)
-accepted-is m r d (stopped manyFacts) (on22 p q) r′ e = let z : _≡_ {A = ℕ} 0 1 = cc in absurd (omega arith)
-accepted-is m r d (stopped valuations) (on15 p q u) r′ e = let z : _≡_ {A = ℕ} 0 1 = cc in absurd (omega arith)
-accepted-is m r d (stopped tooHigh) (on23 p q u w) r′ e = let z : _≡_ {A = ℕ} 0 1 = cc in absurd (omega arith)
-accepted-is m r d (accepted x) (allowed p q u w) r′ e = let h : counted m r d ≡ r′ = cc in sym h
+accepted-is : (m : Model) (r : Replay) (d : Did) (a : Outcome Replay) → Verdict m r d a → (r′ : Replay) → a ≡ ok r′ → r′ ≡ counted m r d
+accepted-is m r d (refused Weightless) (on21 p) r′ e = let z : _≡_ {A = ℕ} 0 1 = cc in absurd (omega arith)
+accepted-is m r d (refused Crowded) (on22 p q) r′ e = let z : _≡_ {A = ℕ} 0 1 = cc in absurd (omega arith)
+accepted-is m r d (refused Valuations) (on15 p q u) r′ e = let z : _≡_ {A = ℕ} 0 1 = cc in absurd (omega arith)
+accepted-is m r d (refused Tally) (on23 p q u w) r′ e = let z : _≡_ {A = ℕ} 0 1 = cc in absurd (omega arith)
+accepted-is m r d (ok x) (allowed p q u w) r′ e = let h : counted m r d ≡ r′ = cc in sym h
 
 -- ===== States and rewards along one line more =====
 
@@ -148,11 +150,11 @@ module _ (m : Model) (good : GoodModel m) where
   from s n [] w done r c g k = subst (λ (x : List Did). Comes m s x r) (sym (append-nil done)) c
   from s n (d ∷ l) w done r c g k = go (did m r d) refl (from s n l (w .1))
     where
-      go : (a : Answer) → did m r d ≡ a
+      go : (a : Outcome Replay) → did m r d ≡ a
           → ((done : List Did) (r : Replay) → Comes m s done r → Good (inHand (m .arities) r) → r .size ≡ n → Comes m s (done ++ acceptedOf m r l) (replay m r l))
           → Comes m s (done ++ ifAccepted a d (acceptedOf m (behind r a) l)) (replay m (behind r a) l)
-      go (stopped e) p ih = ih done r c g k
-      go (accepted r′) p ih =
+      go (refused e) p ih = ih done r c g k
+      go (ok r′) p ih =
           let q : r′ ≡ counted m r d = accepted-is m r d (did m r d) (verdict m r d) r′ p in
           let h = step-comes s done r c g d (subst (λ (x : ℕ). Checked m x d) (sym k) (w .0)) in
           subst (λ (x : List Did). Comes m s x (replay m r′ l)) (append-assoc done (d ∷ []) (acceptedOf m r′ l))

@@ -38,6 +38,7 @@ keyword-right K.Reduce w = ((refl, refl, omega arith), refl)
 keyword-right K.Text w = ((refl, refl, omega arith), refl)
 keyword-right K.Best w = ((refl, refl, omega arith), refl)
 keyword-right K.Count w = ((refl, refl, omega arith), refl)
+keyword-right K.Did w = ((refl, refl, omega arith), refl)
 keyword-right K.Bad w = absurd w
 
 pub keyword-name : (k : Kind) → Words k → IsName (keyword k)

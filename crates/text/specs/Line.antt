@@ -10,7 +10,7 @@ use Rattle.forms.specs.Tree.{Term, Diagram, manyBytes, termBytes, diagramBytes,
 use Rattle.forms.specs.declared.Sort.{Sort}
 use Rattle.forms.specs.declared.Sort.the-variants.{Name, Variable, Parameter, Any, Number}
 use Rattle.text.specs.declared.Shape.{Shape}
-use Rattle.text.specs.declared.Shape.the-variants.{Nothing, One, Two, Listed, Drawn, Named, Headed, Never}
+use Rattle.text.specs.declared.Shape.the-variants.{Nothing, One, Two, Listed, Paired, Drawn, Named, Headed, Never}
 use Rattle.text.specs.declared.Kind.{Kind}
 use Rattle.text.specs.declared.Kind.the-variants as K
 
@@ -23,7 +23,8 @@ mostOpenBrackets = 64
 
 -- a kind of line: its key word, in bytes, and the shape of what stands behind it. (constant n), (predicate n arity), (total W),
 -- (discount G D), (reward DIAGRAM), (action n !p ..), (variant n WEIGHT), (becomes (p ?a ..) DIAGRAM), (start), (objects n),
--- (is c o), (true p o ..), (value), (backup), (cut), (show), (reduce), (text), (best), (count n)
+-- (is c o), (true p o ..), (value), (backup), (cut), (show), (reduce), (text), (best), (count n),
+-- (did action variant object ..)
 abbrev pub formOf : Kind → List ℕ × Shape
 formOf K.Constant = (99 ∷ 111 ∷ 110 ∷ 115 ∷ 116 ∷ 97 ∷ 110 ∷ 116 ∷ [], One Name)
 formOf K.Predicate = (112 ∷ 114 ∷ 101 ∷ 100 ∷ 105 ∷ 99 ∷ 97 ∷ 116 ∷ 101 ∷ [], Two Name Number)
@@ -45,6 +46,7 @@ formOf K.Reduce = (114 ∷ 101 ∷ 100 ∷ 117 ∷ 99 ∷ 101 ∷ [], Nothing)
 formOf K.Text = (116 ∷ 101 ∷ 120 ∷ 116 ∷ [], Nothing)
 formOf K.Best = (98 ∷ 101 ∷ 115 ∷ 116 ∷ [], Nothing)
 formOf K.Count = (99 ∷ 111 ∷ 117 ∷ 110 ∷ 116 ∷ [], One Number)
+formOf K.Did = (100 ∷ 105 ∷ 100 ∷ [], Paired Number)
 formOf K.Bad = ([], Never)
 
 -- all of them but Bad
@@ -52,7 +54,7 @@ abbrev pub kinds : List Kind
 kinds =
     K.Constant ∷ K.Predicate ∷ K.Total ∷ K.Discount ∷ K.Reward ∷ K.Action ∷ K.Variant ∷ K.Becomes ∷
     K.Start ∷ K.Objects ∷ K.Is ∷ K.True ∷ K.Value ∷ K.Backup ∷ K.Cut ∷ K.Show ∷ K.Reduce ∷ K.Text ∷ K.Best ∷
-    K.Count ∷ []
+    K.Count ∷ K.Did ∷ []
 
 abbrev pub keyword : Kind → List ℕ
 keyword k = formOf k .0
@@ -66,6 +68,7 @@ isNever Nothing = false
 isNever (One k) = false
 isNever (Two k l) = false
 isNever (Listed k) = false
+isNever (Paired k) = false
 isNever Drawn = false
 isNever Named = false
 isNever Headed = false
@@ -107,13 +110,14 @@ GoodItem Parameter = IsName
 GoodItem Any = GoodTerm
 GoodItem Number = IsNumber
 
--- what stands in each shape: nothing, a word, two words, a name and words, a diagram, a name and a diagram, (p ?a ..) and a
--- diagram
+-- what stands in each shape: nothing, a word, two words, a name and words, two names and words, a diagram, a name and a
+-- diagram, (p ?a ..) and a diagram
 abbrev pub ShapeWords : Shape → Type 0
 ShapeWords Nothing = Unit {0}
 ShapeWords (One k) = Item k
 ShapeWords (Two k l) = Item k × Item l
 ShapeWords (Listed k) = List ℕ × List (Item k)
+ShapeWords (Paired k) = List ℕ × List ℕ × List (Item k)
 ShapeWords Drawn = Diagram
 ShapeWords Named = List ℕ × Diagram
 ShapeWords Headed = List ℕ × List (List ℕ) × Diagram
@@ -125,6 +129,7 @@ shapeBytes Nothing w = []
 shapeBytes (One k) x = 32 ∷ itemBytes k x
 shapeBytes (Two k l) w = 32 ∷ (itemBytes k (w .0) ++ 32 ∷ itemBytes l (w .1))
 shapeBytes (Listed k) w = 32 ∷ (w .0 ++ manyBytes (itemBytes k) (w .1))
+shapeBytes (Paired k) w = 32 ∷ (w .0 ++ 32 ∷ (w .1 ++ manyBytes (itemBytes k) (w .2)))
 shapeBytes Drawn d = 32 ∷ diagramBytes d
 shapeBytes Named w = 32 ∷ (w .0 ++ 32 ∷ diagramBytes (w .1))
 shapeBytes Headed w = 32 ∷ 40 ∷ (w .0 ++ (manyBytes variableBytes (w .1) ++ 41 ∷ 32 ∷ diagramBytes (w .2)))
@@ -135,6 +140,7 @@ GoodShape Nothing w = Unit {0}
 GoodShape (One k) x = GoodItem k x
 GoodShape (Two k l) w = GoodItem k (w .0) × GoodItem l (w .1)
 GoodShape (Listed k) w = IsName (w .0) × All (GoodItem k) (w .1)
+GoodShape (Paired k) w = IsName (w .0) × IsName (w .1) × All (GoodItem k) (w .2)
 GoodShape Drawn d = GoodDiagram d
 GoodShape Named w = IsName (w .0) × GoodDiagram (w .1)
 GoodShape Headed w = IsName (w .0) × All IsName (w .1) × GoodDiagram (w .2)
@@ -146,6 +152,7 @@ shapeBrackets Nothing w = 1
 shapeBrackets (One k) x = 1
 shapeBrackets (Two k l) w = 1
 shapeBrackets (Listed k) w = 1
+shapeBrackets (Paired k) w = 1
 shapeBrackets Drawn d = suc (brackets d)
 shapeBrackets Named w = suc (brackets (w .1))
 shapeBrackets Headed w = suc (max 1 (brackets (w .2)))

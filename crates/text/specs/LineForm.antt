@@ -13,7 +13,7 @@ use Rattle.forms.specs.declared.Sort.{Sort}
 use Rattle.forms.specs.declared.Sort.the-variants.{Name, Variable}
 use Rattle.forms.specs.Form.{_▹_, byte, form, itemForm, plainForm, diagramForm}
 use Rattle.text.specs.declared.Shape.{Shape}
-use Rattle.text.specs.declared.Shape.the-variants.{Nothing, One, Two, Listed, Drawn, Named, Headed, Never}
+use Rattle.text.specs.declared.Shape.the-variants.{Nothing, One, Two, Listed, Paired, Drawn, Named, Headed, Never}
 use Rattle.text.specs.declared.Kind.{Kind}
 use Rattle.text.specs.declared.Kind.the-variants.{Bad}
 use Rattle.text.specs.declared.Keyword.{Keyword}
@@ -52,6 +52,10 @@ twoForm k l s = Bytes 0 ▹ byte s 32 ▹ form s (itemForm k) ▹ byte s 32 ▹ 
 unfoldable pub listedForm : Sort → List ℕ → Took
 listedForm k s = Bytes 0 ▹ byte s 32 ▹ form s (plainForm k)
 
+-- two names and words
+unfoldable pub pairedForm : Sort → List ℕ → Took
+pairedForm k s = Bytes 0 ▹ byte s 32 ▹ form s (itemForm Name) ▹ byte s 32 ▹ form s (plainForm k)
+
 -- a diagram, inside one bracket
 unfoldable pub drawnForm : List ℕ → Took
 drawnForm s = Bytes 0 ▹ byte s 32 ▹ form s (diagramForm (length s + 1) 1) ▹ byte s 41
@@ -71,6 +75,7 @@ shapeForm Nothing s = endForm s
 shapeForm (One k) s = oneForm k s
 shapeForm (Two k l) s = twoForm k l s
 shapeForm (Listed k) s = listedForm k s
+shapeForm (Paired k) s = pairedForm k s
 shapeForm Drawn s = drawnForm s
 shapeForm Named s = namedForm s
 shapeForm Headed s = headedForm s

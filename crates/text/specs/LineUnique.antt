@@ -9,11 +9,11 @@ use Rattle.words.specs.Words.{IsName}
 use Rattle.forms.specs.declared.Sort.{Sort}
 use Rattle.forms.specs.declared.Sort.the-variants.{Name, Variable, Parameter, Any, Number}
 use Rattle.forms.specs.Form.{itemForm}
-use Rattle.forms.specs.Tree.{Diagram, manyBytes, diagramBytes, GoodDiagram, brackets}
+use Rattle.forms.specs.Tree.{Diagram, manyBytes, diagramBytes, All, GoodDiagram, brackets}
 use Rattle.forms.specs.Complete.{space-stops, close-stops}
 use Rattle.forms.specs.Unique.{UniqueFor, split, cons-tail, term-unique, plain-unique, diagram-unique}
 use Rattle.text.specs.declared.Shape.{Shape}
-use Rattle.text.specs.declared.Shape.the-variants.{Nothing, One, Two, Listed, Drawn, Named, Headed, Never}
+use Rattle.text.specs.declared.Shape.the-variants.{Nothing, One, Two, Listed, Paired, Drawn, Named, Headed, Never}
 use Rattle.text.specs.declared.Kind.{Kind}
 use Rattle.text.specs.Line.{mostOpenBrackets, keyword, shapeOf, variableBytes, Item, itemBytes, GoodItem, ShapeWords, shapeBytes, GoodShape, shapeBrackets, Words, wordsBytes, Line, lineBytes, GoodLine, IsLine}
 use Rattle.text.specs.Line.Line.{line}
@@ -51,6 +51,14 @@ first-unique k x y u v g h e =
     (item-complete k x (32 ∷ (u ++ 41 ∷ [])) g space-stops) (item-complete k y (32 ∷ (v ++ 41 ∷ [])) h space-stops) in
     (item-unique k x y g h (s .0), cons-tail 32 _ _ (s .1))
 
+-- a name and words up to the closing bracket
+listed-unique : (k : Sort) (x y : List ℕ) (xs ys : List (Item k)) → IsName x → IsName y → All (GoodItem k) xs → All (GoodItem k) ys
+    → (x ++ manyBytes (itemBytes k) xs) ++ 41 ∷ [] ≡ (y ++ manyBytes (itemBytes k) ys) ++ 41 ∷ [] → (x ≡ y) × (xs ≡ ys)
+listed-unique k x y xs ys g h i j e =
+    let z = sym (append-assoc x (manyBytes (itemBytes k) xs) (41 ∷ [])) ∙ e ∙ append-assoc y (manyBytes (itemBytes k) ys) (41 ∷ []) in
+    let s = plain-unique (itemBytes k) (GoodItem k) (itemForm k) (item-complete k) (item-unique k) x y xs ys [] [] g h i j z in
+    (s .0, s .1)
+
 drawn-unique : (d e : Diagram) → GoodDiagram d → GoodDiagram e → brackets d ≤ 63 → brackets e ≤ 63
     → diagramBytes d ++ 41 ∷ [] ≡ diagramBytes e ++ 41 ∷ [] → d ≡ e
 drawn-unique d e g h k l z = diagram-unique d e (41 ∷ []) (41 ∷ []) g h (omega arith) (omega arith) close-stops close-stops z
@@ -68,13 +76,17 @@ shape-unique (Two i j) v w g h k l e =
     let y : v .1 ≡ w .1 = one-unique j (v .1) (w .1) (g .1) (h .1) (ap (λ l. 32 ∷ l) (s .1)) in
     λ i. (x i, y i)
 shape-unique (Listed j) v w g h k l e =
-    let z = sym (append-assoc (v .0) (manyBytes (itemBytes j) (v .1)) (41 ∷ []))
-    ∙ cons-tail 32 _ _ e
-    ∙ append-assoc (w .0) (manyBytes (itemBytes j) (w .1)) (41 ∷ []) in
-    let s = plain-unique (itemBytes j) (GoodItem j) (itemForm j) (item-complete j) (item-unique j) (v .0) (w .0) (v .1) (w .1) [] [] (g .0) (h .0) (g .1) (h .1) z in
+    let s = listed-unique j (v .0) (w .0) (v .1) (w .1) (g .0) (h .0) (g .1) (h .1) (cons-tail 32 _ _ e) in
     let x : v .0 ≡ w .0 = s .0 in
     let y : v .1 ≡ w .1 = s .1 in
     λ i. (x i, y i)
+shape-unique (Paired j) v w g h k l e =
+    let s = first-unique Name (v .0) (w .0) (v .1 ++ manyBytes (itemBytes j) (v .2)) (w .1 ++ manyBytes (itemBytes j) (w .2)) (g .0) (h .0) e in
+    let t = listed-unique j (v .1) (w .1) (v .2) (w .2) (g .1) (h .1) (g .2) (h .2) (s .1) in
+    let x : v .0 ≡ w .0 = s .0 in
+    let y : v .1 ≡ w .1 = t .0 in
+    let z : v .2 ≡ w .2 = t .1 in
+    λ i. (x i, y i, z i)
 shape-unique Drawn v w g h k l e = drawn-unique v w g h (omega arith) (omega arith) (cons-tail 32 _ _ e)
 shape-unique Named v w g h k l e =
     let s = first-unique Name (v .0) (w .0) (diagramBytes (v .1)) (diagramBytes (w .1)) (g .0) (h .0) e in

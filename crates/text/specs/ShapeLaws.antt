@@ -1,6 +1,6 @@
 -- The reader of each shape accepts exactly what words of that shape write, the line's closing bracket behind them.
 use mathlib.Core.Path.{_≡_, refl, sym, ap, _∙_, subst}
-use mathlib.Core.List.{List, [], _∷_, _++_, append-assoc}
+use mathlib.Core.List.{List, [], _∷_, _++_, append-assoc, append-nil}
 use mathlib.Core.Bool.{false}
 use Prim.Native.Nat.{ℕ, _+_, _≤_}
 use native.Mathlib.Omega.{arith}
@@ -16,11 +16,11 @@ use Rattle.forms.specs.declared.Sort.the-variants.{Name, Variable, Parameter, A
 use Rattle.forms.specs.Form.{_▹_, byte, form, itemForm, plainForm, diagramForm}
 use Rattle.forms.specs.Tree.{Diagram, manyBytes, diagramBytes, All, GoodDiagram, brackets}
 use Rattle.forms.specs.Sound.{SoundFor, seq-byte, seq-form, start, name-sounds, number-sounds, variable-sounds, parameter-sounds, term-sounds, plain-sound, diagram-sound}
-use Rattle.forms.specs.Complete.{CompleteFor, at-start, at-byte, at-form, space-stops, close-stops, name-completes, number-completes, variable-completes, parameter-completes, term-completes, plain-complete, diagram-complete}
+use Rattle.forms.specs.Complete.{CompleteFor, At, at-start, at-byte, at-form, space-stops, close-stops, name-completes, number-completes, variable-completes, parameter-completes, term-completes, plain-complete, diagram-complete}
 use Rattle.text.specs.declared.Shape.{Shape}
-use Rattle.text.specs.declared.Shape.the-variants.{Nothing, One, Two, Listed, Drawn, Named, Headed, Never}
+use Rattle.text.specs.declared.Shape.the-variants.{Nothing, One, Two, Listed, Paired, Drawn, Named, Headed, Never}
 use Rattle.text.specs.Line.{mostOpenBrackets, variableBytes, Item, itemBytes, GoodItem, ShapeWords, shapeBytes, GoodShape, shapeBrackets}
-use Rattle.text.specs.LineForm.{endForm, oneForm, twoForm, listedForm, drawnForm, namedForm, headedForm, shapeForm}
+use Rattle.text.specs.LineForm.{endForm, oneForm, twoForm, listedForm, pairedForm, drawnForm, namedForm, headedForm, shapeForm}
 
 -- from the reader to the words
 
@@ -82,6 +82,23 @@ listed-sound k s n e =
     let x = plain-sound (itemBytes k) (GoodItem k) k (item-sound k) (drop (p2 .0) s) (p2 .2) (p2 .3) in
     (x .0, x .1, x .2, x .3, cc (append-assoc (x .0) (manyBytes (itemBytes k) (x .1)) (41 ∷ [])))
 
+paired-shape : (a b v : List ℕ) → ((([] ++ (32 ∷ [])) ++ a) ++ (32 ∷ [])) ++ (b ++ (v ++ 41 ∷ [])) ≡ 32 ∷ ((a ++ 32 ∷ (b ++ v)) ++ 41 ∷ [])
+paired-shape a b v = simp append-assoc
+
+paired-sound : (k : Sort) (s : List ℕ) (n : ℕ) → pairedForm k s ≡ Bytes n
+    → (x y : List ℕ) × (xs : List (Item k)) × IsName x × IsName y × All (GoodItem k) xs
+    × (take n s ≡ 32 ∷ ((x ++ 32 ∷ (y ++ manyBytes (itemBytes k) xs)) ++ 41 ∷ []))
+unfolding pairedForm
+paired-sound k s n e =
+    let p4 = seq-form s _ (plainForm k) e in
+    let p3 = seq-byte s _ 32 (omega arith) (p4 .1) in
+    let p2 = seq-form s _ (itemForm Name) (p3 .1) in
+    let p1 = seq-byte s (Bytes 0) 32 (omega arith) (p2 .1) in
+    let p0 = start s (p1 .1) in
+    let x = name-sounds (drop (p2 .0) s) (p2 .2) (p2 .3) in
+    let y = plain-sound (itemBytes k) (GoodItem k) k (item-sound k) (drop (p4 .0) s) (p4 .2) (p4 .3) in
+    (x .0, y .0, y .1, x .1, y .2, y .3, cc (paired-shape (x .0) (y .0) (manyBytes (itemBytes k) (y .1))))
+
 drawn-sound : (s : List ℕ) (n : ℕ) → drawnForm s ≡ Bytes n
     → (d : Diagram) × GoodDiagram d × (brackets d ≤ 63) × (take n s ≡ 32 ∷ (diagramBytes d ++ 41 ∷ []))
 unfolding drawnForm
@@ -133,6 +150,7 @@ shape-sound Nothing s n e = (tt, tt, omega arith, end-sound s n e)
 shape-sound (One k) s n e = let x = one-sound k s n e in (x .0, x .1, omega arith, x .2)
 shape-sound (Two k l) s n e = let x = two-sound k l s n e in ((x .0, x .1), (x .2, x .3), omega arith, x .4)
 shape-sound (Listed k) s n e = let x = listed-sound k s n e in ((x .0, x .1), (x .2, x .3), omega arith, x .4)
+shape-sound (Paired k) s n e = let x = paired-sound k s n e in ((x .0, x .1, x .2), (x .3, x .4, x .5), omega arith, x .6)
 shape-sound Drawn s n e = let x = drawn-sound s n e in (x .0, x .1, omega (arith, x .2), x .3)
 shape-sound Named s n e = let x = named-sound s n e in ((x .0, x .1), (x .2, x .3), omega (arith, x .4), x .5)
 shape-sound Headed s n e = let x = headed-sound s n e in ((x .0, x .1, x .2), (x .3, x .4, x .5), omega (arith, x .6), x .7)
@@ -207,6 +225,31 @@ listed-complete k x xs g h =
     subst (λ l. Takes (listedForm k) (32 ∷ l)) (sym (append-assoc x W (41 ∷ [])))
     (listed-raw k (x ++ (W ++ 41 ∷ [])) (plain-complete (itemBytes k) (GoodItem k) k (item-complete k) x xs [] g h))
 
+paired-back : (x w : List ℕ) → ((32 ∷ x) ++ (32 ∷ [])) ++ w ≡ 32 ∷ (x ++ 32 ∷ w)
+paired-back x w = append-assoc (32 ∷ x) (32 ∷ []) w
+
+-- two forms, nothing behind them
+paired-raw : (p q : List ℕ → Took) (x w : List ℕ) → p (x ++ 32 ∷ w) ≡ Bytes (length x) → Takes q w
+    → let s : List ℕ = 32 ∷ (x ++ 32 ∷ w) in Bytes 0 ▹ byte s 32 ▹ form s p ▹ byte s 32 ▹ form s q ≡ Bytes (length s)
+paired-raw p q x w c d =
+    let s : List ℕ = 32 ∷ (x ++ 32 ∷ w) in
+    let a3 = at-byte (at-form p x (32 ∷ w) (at-byte (at-start s)) c) in
+    let b3 : At s (Bytes 0 ▹ byte s 32 ▹ form s p ▹ byte s 32) ((32 ∷ x) ++ (32 ∷ [])) (w ++ []) =
+    record { bytes = a3 .bytes ∙ ap (λ l. ((32 ∷ x) ++ (32 ∷ [])) ++ l) (sym (append-nil w)); took = a3 .took } in
+    at-form q w [] b3 (ap q (append-nil w) ∙ d) .took ∙ ap (λ l. Bytes (length l)) (paired-back x w)
+
+paired-assoc : (x y v : List ℕ) → 32 ∷ (x ++ 32 ∷ (y ++ (v ++ 41 ∷ []))) ≡ 32 ∷ ((x ++ 32 ∷ (y ++ v)) ++ 41 ∷ [])
+paired-assoc x y v = simp append-assoc
+
+paired-complete : (k : Sort) (x y : List ℕ) (xs : List (Item k)) → IsName x → IsName y → All (GoodItem k) xs
+    → Takes (pairedForm k) (32 ∷ ((x ++ 32 ∷ (y ++ manyBytes (itemBytes k) xs)) ++ 41 ∷ []))
+unfolding pairedForm
+paired-complete k x y xs g h i =
+    let W = manyBytes (itemBytes k) xs in
+    let Y : List ℕ = y ++ (W ++ 41 ∷ []) in
+    subst (Takes (pairedForm k)) (paired-assoc x y W)
+    (paired-raw (itemForm Name) (plainForm k) x Y (name-completes x (32 ∷ Y) g space-stops) (plain-complete (itemBytes k) (GoodItem k) k (item-complete k) y xs [] h i))
+
 drawn-complete : (d : Diagram) → GoodDiagram d → brackets d ≤ 63 → Takes drawnForm (32 ∷ (diagramBytes d ++ 41 ∷ []))
 unfolding drawnForm
 drawn-complete d g h =
@@ -256,6 +299,7 @@ shape-complete Nothing w g h = end-complete
 shape-complete (One k) x g h = one-complete k x g
 shape-complete (Two k l) w g h = two-complete k l (w .0) (w .1) (g .0) (g .1)
 shape-complete (Listed k) w g h = listed-complete k (w .0) (w .1) (g .0) (g .1)
+shape-complete (Paired k) w g h = paired-complete k (w .0) (w .1) (w .2) (g .0) (g .1) (g .2)
 shape-complete Drawn d g h = drawn-complete d g (omega arith)
 shape-complete Named w g h = named-complete (w .0) (w .1) (g .0) (g .1) (omega arith)
 shape-complete Headed w g h = headed-complete (w .0) (w .1) (w .2) (g .0) (g .1) (g .2) (omega arith)
@@ -267,6 +311,7 @@ shape-stop Nothing w = close-stops
 shape-stop (One k) w = space-stops
 shape-stop (Two k l) w = space-stops
 shape-stop (Listed k) w = space-stops
+shape-stop (Paired k) w = space-stops
 shape-stop Drawn w = space-stops
 shape-stop Named w = space-stops
 shape-stop Headed w = space-stops

@@ -7,7 +7,7 @@ ghost use Prim.Native.Nat.{ℕ, _+_, _≤_, _<_};
 ghost use lib.ListN.{length};
 ghost use Rattle.forms.specs.Form.{_▹_, byte, form, plainForm, diagramForm};
 ghost use Rattle.text.specs.Line.{IsLine};
-ghost use Rattle.text.specs.LineForm.{isKey, kindOf, rowOf, endForm, oneForm, twoForm, listedForm, drawnForm, namedForm, headedForm, shapeForm, formKind, lineKind};
+ghost use Rattle.text.specs.LineForm.{isKey, kindOf, rowOf, endForm, oneForm, twoForm, listedForm, pairedForm, drawnForm, namedForm, headedForm, shapeForm, formKind, lineKind};
 
 // The kinds of lines, and a line that is none.
 pub enum Kind {
@@ -31,16 +31,18 @@ pub enum Kind {
     Text,
     Best,
     Count,
+    Did,
     Bad,
 }
 
-// The shapes of what stands behind a key word: nothing, one word, two words, a name and words, a diagram, a name and a
-// diagram, (p ?a ..) and a diagram; and the shape of no line.
+// The shapes of what stands behind a key word: nothing, one word, two words, a name and words, two names and words,
+// a diagram, a name and a diagram, (p ?a ..) and a diagram; and the shape of no line.
 pub enum Shape {
     Nothing,
     One(Sort),
     Two(Sort, Sort),
     Listed(Sort),
+    Paired(Sort),
     Drawn,
     Named,
     Headed,
@@ -57,7 +59,7 @@ pub struct Keyword {
 // The most bytes that a line has.
 const LINE_BYTES: usize = 4095;
 
-const KINDS: usize = 20;
+const KINDS: usize = 21;
 
 // The key words of all kinds of lines.
 const KEYWORDS: [Keyword; KINDS] = [
@@ -215,6 +217,11 @@ const KEYWORDS: [Keyword; KINDS] = [
         kind: Kind::Count,
         shape: Shape::One(Sort::Number),
     },
+    Keyword {
+        key: Key { a: 6580580, b: 0 },
+        kind: Kind::Did,
+        shape: Shape::Paired(Sort::Number),
+    },
 ];
 
 // Whether the two keys are one.
@@ -309,6 +316,15 @@ fn read_listed(s: &[u8], sort: Sort) -> Took
     plain_after(s, Took::Bytes(0), b' ', sort)
 }
 
+// NAME NAME WORD .. )
+fn read_paired(s: &[u8], sort: Sort) -> Took
+    ensures { λ r. ⌜ r ≡ pairedForm sort (now (s .entry)) ⌝ }
+{
+    let a = forms::byte_after(s, Took::Bytes(0), b' ');
+    let b = forms::item_after(s, a, Sort::Name);
+    plain_after(s, b, b' ', sort)
+}
+
 // DIAGRAM )
 fn read_drawn(s: &[u8]) -> Took
     ensures { λ r. ⌜ r ≡ drawnForm (now (s .entry)) ⌝ }
@@ -346,6 +362,7 @@ fn read_shape(shape: Shape, s: &[u8]) -> Took
         Shape::One(sort) => read_one(s, sort),
         Shape::Two(first, second) => read_two(s, first, second),
         Shape::Listed(sort) => read_listed(s, sort),
+        Shape::Paired(sort) => read_paired(s, sort),
         Shape::Drawn => read_drawn(s),
         Shape::Named => read_named(s),
         Shape::Headed => read_headed(s),

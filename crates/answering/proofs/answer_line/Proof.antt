@@ -1,4 +1,4 @@
-use Rattle.answering.proofs.LineLaws.{line-value, line-backup, line-cut, line-reduce, line-refused, line-show, line-text, line-best, line-count, line-none}
+use Rattle.answering.proofs.LineLaws.{line-value, line-backup, line-cut, line-reduce, line-refused, line-show, line-text, line-best, line-count, line-did, line-none}
 use borrow.Author.Needs.{needs}
 use Rattle.answering.proofs.answer_line.Statement.{statement}
 use Rattle.answering.proofs.answer_line.Tie as tie
@@ -31,12 +31,17 @@ returns-9 : tie.Need-returns-9
 returns-9 c = search line-count
 
 returns-10 : tie.Need-returns-10
-returns-10 c = search line-none
+returns-10 c = search line-did
+
+returns-11 : tie.Need-returns-11
+returns-11 c = search line-none
 
 pub answer-line-spec : {M : Type 1} → statement M
 answer-line-spec =
     tie.close
-    (tie.spec (λ c. search needs) (λ c κs. search needs) (λ c. search needs) (λ c. search needs) (λ c κs. search needs) (λ c. search needs) (λ c κs. search needs)
-    (λ c. search needs) (λ c κs. search needs) (λ c. search needs) (λ c. search needs) (λ c κs. search needs) (λ c κs. search needs) (λ c. search needs) (λ c. search needs)
-    (λ c. search needs) (λ c κs. search needs) (λ c. search needs) (λ c. search needs) (λ c. search needs) returns (λ c. search needs) returns-2 (λ c. search needs) returns-3
-    (λ c. search needs) returns-4 (λ c. search needs) returns-5 returns-6 returns-7 (λ c. search needs) returns-8 returns-9 returns-10)
+    (tie.spec (λ c. search needs) (λ c κs. search needs) (λ c. search needs) (λ c. search needs) (λ c κs. search needs) (λ c. search needs)
+    (λ c κs. search needs) (λ c. search needs) (λ c κs. search needs) (λ c. search needs) (λ c. search needs) (λ c κs. search needs)
+    (λ c κs. search needs) (λ c. search needs) (λ c. search needs) (λ c. search needs) (λ c κs. search needs) (λ c. search needs) (λ c. search needs)
+    (λ c. search needs) (λ c κs. search needs) (λ c. search needs) (λ c. search needs) returns (λ c. search needs) returns-2 (λ c. search needs)
+    returns-3 (λ c. search needs) returns-4 (λ c. search needs) returns-5 returns-6 returns-7 (λ c. search needs) returns-8 returns-9
+    (λ c. search needs) returns-10 returns-11)

@@ -16,4 +16,5 @@ printed-by-spec =
     tie.close
     (tie.spec (λ c. search needs) (λ c. search needs) (λ c. search needs) (λ c. search needs) (λ c. search needs) (λ c. search needs)
     (λ c. search needs) (λ c. search needs) (λ c. search needs) (λ c. search needs) (λ c. search needs) (λ c. search needs) (λ c. search needs)
-    (λ c. search needs) (λ c. search needs) returns-6 returns-7 (λ c. search needs) returns-9 (λ c. search needs))
+    (λ c. search needs) (λ c. search needs) (λ c. search needs) returns-6 returns-7 (λ c. search needs) returns-9 (λ c. search needs)
+    (λ c. search needs))
