@@ -2,15 +2,15 @@
 use mathlib.Core.Path.{_≡_, refl, sym, ap, ap₂, subst, _∙_}
 use mathlib.Core.Bool.{Bool, true, false}
 use mathlib.Core.List.{List, [], _∷_, _++_, append-nil, append-assoc}
-use Prim.Native.Nat.{ℕ, _+_, _*_, _-_, _<_, _≤_}
+use Prim.Native.Nat.{ℕ, zero, suc, _+_, _*_, _-_, _<_, _≤_}
 use native.Mathlib.Omega.{arith}
 use borrow.Author.Tests.{lt-ltb, le-ltb, le-leb, lt-leb}
-use lib.ListN.{length, drop, length-drop, length-append, length-map}
+use lib.ListN.{length, getD, drop, length-drop, length-append, length-map}
 use Rattle.label.specs.Limits.{parameterCount}
 use Rattle.words.specs.declared.Key.{Key}
 use Rattle.names.specs.Keys.{keyAt, keysAt, placeOf, isAmong, putKey}
 use Rattle.names.specs.Layout.{constantsAt, declaredAt, actionsAt, parametersAt, variantsAt, nameWords}
-use Rattle.names.specs.KeyLaws.{among-at, among-none, length-keys, keys-same, length-put, put-before, keys-more}
+use Rattle.names.specs.KeyLaws.{key-ext, among-at, among-none, length-keys, keys-same, length-put, put-before, put-behind, keys-more}
 use Rattle.names.specs.Many.{many}
 use Rattle.names.specs.ManyLaws.{many-more}
 use Rattle.events.specs.declared.Event.{Event}
@@ -22,6 +22,7 @@ use Rattle.refusal.specs.declared.Refusal.the-variants.{Name, Space}
 use Rattle.refusal.specs.Outcome.{ok}
 use Rattle.mdp.specs.Model.{mostActions}
 use Rattle.session.specs.Declaring.{repeated, actionLine}
+use Rattle.session.specs.Good.{mostVariantNames}
 use Rattle.declare.specs.declared.Counts.{Counts}
 use Rattle.declare.specs.declared.Declared.the-variants.{Done, Refused}
 use Rattle.declare.specs.declared.Parameters.{Parameters}
@@ -150,7 +151,7 @@ module _ (line : List ℕ) (start : ℕ) where
 
 pub copy-start : (ks s : List ℕ) → Copied ks s s 0
 unfolding keysAt many
-copy-start ks s = record { size = refl; keys = refl; before = record { word = λ i h k. refl } }
+copy-start ks s = record { size = refl; keys = refl; before = record { word = λ i h k. refl }; behind = record { word = λ i h k. refl } }
 
 pub copy-on : (ks s t : List ℕ) (i n : ℕ) {k : Key} {u : List ℕ} → i < n → n ≤ parameterCount → nameWords ≤ length s → Copied ks s t i → k ≡ keyAt ks 0 i → u ≡ putKey t (parametersAt + i * 2) k → Copied ks s u (i + 1)
 unfolding keysAt
@@ -161,6 +162,9 @@ copy-on ks s t i n {k} {u} h f r c e z =
       keys = keys-more t parametersAt i (keyAt ks 0 i) (omega arith) ∙ ap (λ (vs : List Key). vs ++ (keyAt ks 0 i ∷ [])) (c .keys)
           ∙ sym (many-more (keyAt ks 0) (keyAt ks 0) i (keyAt ks 0 i) (λ j l. refl) refl);
       before = record { word = λ j a b. put-before t (parametersAt + i * 2) (keyAt ks 0 i) 0 parametersAt (omega arith) .word j a b ∙ c .before .word j a b };
+      behind = record {
+        word = λ j a b. put-behind t (parametersAt + i * 2) (keyAt ks 0 i) variantsAt (mostVariantNames * 2) (omega arith) .word j a b ∙ c .behind .word j a b;
+      };
     })
 
 pub put-size : (s t u : List ℕ) (i : ℕ) (k : Key) → length t ≡ length s → u ≡ putKey t i k → length u ≡ length s
@@ -177,6 +181,26 @@ copy-end ks s t i n c h k = let e : i ≡ n = omega arith in subst (Copied ks s 
 no-variants : (s : List ℕ) (base : ℕ) → keysAt s base 0 ≡ []
 unfolding keysAt many
 no-variants s base = refl
+
+key-behind : (s : List ℕ) (base e i : ℕ) → keyAt s base (e + i) ≡ keyAt s (base + e * 2) i
+unfolding keyAt
+key-behind s base e i =
+    key-ext _ _ (ap (λ (x : ℕ). getD s x 0) (omega arith)) (ap (λ (x : ℕ). getD s x 0) (omega arith))
+
+add-zero : (e : ℕ) → e + 0 ≡ e
+add-zero e = omega arith
+
+add-suc : (e v : ℕ) → e + suc v ≡ suc (e + v)
+add-suc e v = omega arith
+
+-- keys, and those that stand behind them
+keys-behind : (s : List ℕ) (base e v : ℕ) → keysAt s base (e + v) ≡ keysAt s base e ++ keysAt s (base + e * 2) v
+unfolding keysAt many
+keys-behind s base e zero = ap (λ (x : ℕ). many (keyAt s base) x) (add-zero e) ∙ sym (append-nil (many (keyAt s base) e))
+keys-behind s base e (suc v) =
+    ap (λ (x : ℕ). many (keyAt s base) x) (add-suc e v)
+    ∙ ap₂ (λ (l : List Key) (x : Key). l ++ (x ∷ [])) (keys-behind s base e v) (key-behind s base e v)
+    ∙ append-assoc (many (keyAt s base) e) (many (keyAt s (base + e * 2)) v) (keyAt s (base + e * 2) v ∷ [])
 
 module _ (s : List ℕ) (n : Counts) (k : Key) (ps : List Key) where
   pub action-name : {i : ℕ} → i ≡ placeOf k (keysAt s actionsAt (n .actions)) → i < n .actions → Naming (actionLine (namesOf s n) k ps) s (Refused Name) s
@@ -211,7 +235,7 @@ module _ (s : List ℕ) (n : Counts) (k : Key) (ps : List Key) where
 
       pub action-done : {t u : List ℕ} → GoodNames s n → c ≤ parameterCount → n .actions < mostActions → t ≡ putKey s (actionsAt + n .actions * 2) k → Copied ks t u c
           → Naming (actionLine (namesOf s n) k ps) s
-          (Done (record { constants = n .constants; predicates = n .predicates; actions = n .actions + 1; parameters = c; variants = 0 })) u
+          (Done (record { constants = n .constants; predicates = n .predicates; actions = n .actions + 1; parameters = c; variants = 0; earlier = n .earlier + n .variants })) u
       unfolding actionLine namesOf
       action-done {t} {u} g l m z y =
           record {
@@ -222,7 +246,8 @@ module _ (s : List ℕ) (n : Counts) (k : Key) (ps : List Key) where
                   (sym (early declaredAt (n .predicates) (let a = g .predicates in omega arith) ∙ kept declaredAt (n .predicates) (let a = g .predicates in omega arith)))
                   (sym (early actionsAt (n .actions + 1) (omega arith) ∙ ap (λ (x : List ℕ). keysAt x actionsAt (n .actions + 1)) z ∙ keys-more s actionsAt (n .actions) k (let r = g .room in omega arith)))
                   (sym (y .keys ∙ distinct .1))
-                  (sym (no-variants u variantsAt)))),
+                  (sym (no-variants u (variantsAt + (n .earlier + n .variants) * 2)))
+                  (sym (late (n .earlier + n .variants) (g .earlier) ∙ keys-behind s variantsAt (n .earlier) (n .variants))))),
               record {
                 room = rw (y .size, z, length-put) (g .room);
                 constants = g .constants;
@@ -230,6 +255,7 @@ module _ (s : List ℕ) (n : Counts) (k : Key) (ps : List Key) where
                 actions = omega arith;
                 parameters = l;
                 variants = omega arith;
+                earlier = omega (arith, g .earlier);
               },
             );
           }
@@ -237,9 +263,18 @@ module _ (s : List ℕ) (n : Counts) (k : Key) (ps : List Key) where
           early : (base w : ℕ) → base + w * 2 ≤ parametersAt → keysAt u base w ≡ keysAt t base w
           early base w r = keys-same t u base w (record { word = λ j a b. y .before .word j (omega arith) (omega arith) })
 
+          late : (w : ℕ) → w ≤ mostVariantNames → keysAt u variantsAt w ≡ keysAt s variantsAt w
+          late w r =
+              keys-same t u variantsAt w (record { word = λ j a b. y .behind .word j (omega arith) (omega arith) })
+              ∙ ap (λ (x : List ℕ). keysAt x variantsAt w) z
+              ∙ keys-same s (putKey s (actionsAt + n .actions * 2) k) variantsAt w (put-behind s (actionsAt + n .actions * 2) k variantsAt (w * 2) (omega arith))
+
           kept : (base w : ℕ) → base + w * 2 ≤ actionsAt → keysAt t base w ≡ keysAt s base w
           kept base w r = ap (λ (x : List ℕ). keysAt x base w) z
               ∙ keys-same s (putKey s (actionsAt + n .actions * 2) k) base w (put-before s (actionsAt + n .actions * 2) k base (w * 2) (omega arith))
 
 pub put-room : (s t : List ℕ) (n : Counts) (i : ℕ) (k : Key) → GoodNames s n → t ≡ putKey s i k → nameWords ≤ length t
 put-room s t n i k g z = let r = g .room in rw (z, length-put) r
+
+pub names-sum : {s : List ℕ} {n : Counts} → GoodNames s n → n .earlier + n .variants < 18446744073709551616
+names-sum g = omega (arith, g .earlier)

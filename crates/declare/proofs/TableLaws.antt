@@ -25,8 +25,8 @@ use Rattle.declare.specs.declared.Declared.the-variants.{Done, Refused}
 use Rattle.declare.specs.Tables.{namesOf, GoodNames, Naming, vocabularyOf, GoodVocabulary, Wording}
 
 pub names-ext : (x y : Names) → x .constants ≡ y .constants → x .predicates ≡ y .predicates → x .actions ≡ y .actions → x .parameters ≡ y .parameters
-    → x .variants ≡ y .variants → x ≡ y
-names-ext x y a b c d e = λ i. record { constants = a i; predicates = b i; actions = c i; parameters = d i; variants = e i }
+    → x .variants ≡ y .variants → x .earlier ≡ y .earlier → x ≡ y
+names-ext x y a b c d e f = λ i. record { constants = a i; predicates = b i; actions = c i; parameters = d i; variants = e i; earlier = f i }
 
 module _ (s : List ℕ) (n : Counts) (k : Key) {i : ℕ} (p : i ≡ placeOf k (keysAt s constantsAt (n .constants))) where
   pub declared-constant : i < n .constants → true ≡ isDeclared (namesOf s n) k
@@ -45,13 +45,14 @@ module _ (s : List ℕ) (n : Counts) (k : Key) {i : ℕ} (p : i ≡ placeOf k (k
 -- ===== (constant n) =====
 
 constant-put : (s : List ℕ) (n : Counts) (k : Key) → GoodNames s n → n .constants < constantCount
-    → namesOf (putKey s (constantsAt + n .constants * 2) k) (record { constants = n .constants + 1; predicates = n .predicates; actions = n .actions; parameters = n .parameters; variants = n .variants })
+    → namesOf (putKey s (constantsAt + n .constants * 2) k) (record { constants = n .constants + 1; predicates = n .predicates; actions = n .actions; parameters = n .parameters; variants = n .variants; earlier = n .earlier })
     ≡ record {
       constants = keysAt s constantsAt (n .constants) ++ (k ∷ []);
       predicates = namesOf s n .predicates;
       actions = namesOf s n .actions;
       parameters = namesOf s n .parameters;
       variants = namesOf s n .variants;
+      earlier = namesOf s n .earlier;
     }
 unfolding namesOf
 constant-put s n k g h =
@@ -62,7 +63,8 @@ constant-put s n k g h =
     (kept declaredAt (n .predicates) (omega arith))
     (kept actionsAt (n .actions) (omega arith))
     (kept parametersAt (n .parameters) (omega arith))
-    (kept variantsAt (n .variants) (omega arith))
+    (kept (variantsAt + n .earlier * 2) (n .variants) (omega arith))
+    (kept variantsAt (n .earlier) (omega arith))
   where
     kept : (base m : ℕ) → constantsAt + n .constants * 2 + 2 ≤ base → keysAt (putKey s (constantsAt + n .constants * 2) k) base m ≡ keysAt s base m
     kept base m l = keys-same s (putKey s (constantsAt + n .constants * 2) k) base m (put-behind s (constantsAt + n .constants * 2) k base (m * 2) l)
@@ -79,12 +81,12 @@ module _ (s : List ℕ) (n : Counts) (k : Key) where
 
     pub constant-done : {t : List ℕ} → GoodNames s n → n .constants < constantCount → t ≡ putKey s (constantsAt + n .constants * 2) k
         → Naming (constantLine (namesOf s n) k) s
-        (Done (record { constants = n .constants + 1; predicates = n .predicates; actions = n .actions; parameters = n .parameters; variants = n .variants })) t
+        (Done (record { constants = n .constants + 1; predicates = n .predicates; actions = n .actions; parameters = n .parameters; variants = n .variants; earlier = n .earlier })) t
     unfolding constantLine namesOf
     constant-done g h q = rw q (record { named = (rw (← p, e, length-keys, lt-leb constantCount (n .constants) h) (ap ok (sym (constant-put s n k g h))), good) })
       where
-        good : GoodNames (putKey s (constantsAt + n .constants * 2) k) (record { constants = n .constants + 1; predicates = n .predicates; actions = n .actions; parameters = n .parameters; variants = n .variants })
-        good = record { room = rw (length-put) (g .room); constants = omega arith; predicates = g .predicates; actions = g .actions; parameters = g .parameters; variants = g .variants }
+        good : GoodNames (putKey s (constantsAt + n .constants * 2) k) (record { constants = n .constants + 1; predicates = n .predicates; actions = n .actions; parameters = n .parameters; variants = n .variants; earlier = n .earlier })
+        good = record { room = rw (length-put) (g .room); constants = omega arith; predicates = g .predicates; actions = g .actions; parameters = g .parameters; variants = g .variants; earlier = g .earlier }
 
 -- ===== (predicate n arity) =====
 
@@ -108,13 +110,14 @@ arities-set ar i a h p f =
     (and-both (eqb (getD (set ar i a) equality 0) equalityArity) _ (rw (getD-set-other ar i equality a 0 (λ e. omega arith)) w) (at-most-set ar i a x f))
 
 predicate-put : (s : List ℕ) (n : Counts) (k : Key) → GoodNames s n → n .predicates + 1 < predicateCount
-    → namesOf (putKey s (declaredAt + n .predicates * 2) k) (record { constants = n .constants; predicates = n .predicates + 1; actions = n .actions; parameters = n .parameters; variants = n .variants })
+    → namesOf (putKey s (declaredAt + n .predicates * 2) k) (record { constants = n .constants; predicates = n .predicates + 1; actions = n .actions; parameters = n .parameters; variants = n .variants; earlier = n .earlier })
     ≡ record {
       constants = namesOf s n .constants;
       predicates = keysAt s declaredAt (n .predicates) ++ (k ∷ []);
       actions = namesOf s n .actions;
       parameters = namesOf s n .parameters;
       variants = namesOf s n .variants;
+      earlier = namesOf s n .earlier;
     }
 unfolding namesOf
 predicate-put s n k g h =
@@ -126,7 +129,8 @@ predicate-put s n k g h =
     (keys-more s declaredAt (n .predicates) k (omega arith))
     (kept actionsAt (n .actions) (omega arith))
     (kept parametersAt (n .parameters) (omega arith))
-    (kept variantsAt (n .variants) (omega arith))
+    (kept (variantsAt + n .earlier * 2) (n .variants) (omega arith))
+    (kept variantsAt (n .earlier) (omega arith))
   where
     kept : (base m : ℕ) → declaredAt + n .predicates * 2 + 2 ≤ base → keysAt (putKey s (declaredAt + n .predicates * 2) k) base m ≡ keysAt s base m
     kept base m l = keys-same s (putKey s (declaredAt + n .predicates * 2) k) base m (put-behind s (declaredAt + n .predicates * 2) k base (m * 2) l)
@@ -151,11 +155,11 @@ module _ (s ar : List ℕ) (n : Counts) (k : Key) (a : ℕ) where
     pub predicate-done : {t br : List ℕ} → GoodVocabulary s ar n → a ≤ mostPlaces → n .predicates + 1 < predicateCount → t ≡ putKey s (declaredAt + n .predicates * 2) k
         → br ≡ set ar (n .predicates + 1) a
         → Wording (predicateLine (vocabularyOf s ar n) k a) s ar
-        (Done (record { constants = n .constants; predicates = n .predicates + 1; actions = n .actions; parameters = n .parameters; variants = n .variants })) t br
+        (Done (record { constants = n .constants; predicates = n .predicates + 1; actions = n .actions; parameters = n .parameters; variants = n .variants; earlier = n .earlier })) t br
     unfolding predicateLine vocabularyOf namesOf
     predicate-done g f h q u = rw (q, u) (record { worded = (rw (← p, e, le-ltb mostPlaces a f, length-keys, lt-leb predicateCount (suc (n .predicates)) (omega arith)) (ap ok (sym same)), good) })
       where
-        same : vocabularyOf (putKey s (declaredAt + n .predicates * 2) k) (set ar (n .predicates + 1) a) (record { constants = n .constants; predicates = n .predicates + 1; actions = n .actions; parameters = n .parameters; variants = n .variants })
+        same : vocabularyOf (putKey s (declaredAt + n .predicates * 2) k) (set ar (n .predicates + 1) a) (record { constants = n .constants; predicates = n .predicates + 1; actions = n .actions; parameters = n .parameters; variants = n .variants; earlier = n .earlier })
             ≡ record {
               names = record {
                 constants = namesOf s n .constants;
@@ -163,14 +167,15 @@ module _ (s ar : List ℕ) (n : Counts) (k : Key) (a : ℕ) where
                 actions = namesOf s n .actions;
                 parameters = namesOf s n .parameters;
                 variants = namesOf s n .variants;
+                earlier = namesOf s n .earlier;
               };
               arities = set ar (suc (n .predicates)) a;
             }
         same = vocabulary-ext _ _ (predicate-put s n k (g .names) h) (ap (λ (i : ℕ). set ar i a) (omega arith))
 
-        good : GoodVocabulary (putKey s (declaredAt + n .predicates * 2) k) (set ar (n .predicates + 1) a) (record { constants = n .constants; predicates = n .predicates + 1; actions = n .actions; parameters = n .parameters; variants = n .variants })
+        good : GoodVocabulary (putKey s (declaredAt + n .predicates * 2) k) (set ar (n .predicates + 1) a) (record { constants = n .constants; predicates = n .predicates + 1; actions = n .actions; parameters = n .parameters; variants = n .variants; earlier = n .earlier })
         good = record {
-          names = record { room = rw (length-put) (g .names .room); constants = g .names .constants; predicates = h; actions = g .names .actions; parameters = g .names .parameters; variants = g .names .variants };
+          names = record { room = rw (length-put) (g .names .room); constants = g .names .constants; predicates = h; actions = g .names .actions; parameters = g .names .parameters; variants = g .names .variants; earlier = g .names .earlier };
           arities = arities-set ar (n .predicates + 1) a (g .arities) (omega arith) f;
         }
 

@@ -2,7 +2,7 @@
 use mathlib.Core.Path.{_≡_}
 use mathlib.Core.Bool.{true, false}
 use mathlib.Core.List.{List, []}
-use Prim.Native.Nat.{ℕ, _*_, _<_, _≤_}
+use Prim.Native.Nat.{ℕ, _+_, _*_, _<_, _≤_}
 use lib.ListN.{length}
 use Rattle.label.specs.Limits.{constantCount, predicateCount, parameterCount}
 use Rattle.label.specs.Labels.{areArities}
@@ -14,6 +14,7 @@ use Rattle.refusal.specs.Outcome.{Outcome, ok, refused}
 use Rattle.mdp.specs.Model.{mostActions, mostVariants}
 use Rattle.session.specs.Session.{Names}
 use Rattle.session.specs.Declaring.{Vocabulary, repeated}
+use Rattle.session.specs.Good.{mostVariantNames}
 use Rattle.declare.specs.declared.Counts.{Counts}
 use Rattle.declare.specs.declared.Parameters.{Parameters}
 use Rattle.declare.specs.declared.Parameters.the-variants.{Distinct, Twice}
@@ -26,7 +27,8 @@ namesOf s n = record {
   predicates = keysAt s declaredAt (n .predicates);
   actions = keysAt s actionsAt (n .actions);
   parameters = keysAt s parametersAt (n .parameters);
-  variants = keysAt s variantsAt (n .variants);
+  variants = keysAt s (variantsAt + n .earlier * 2) (n .variants);
+  earlier = keysAt s variantsAt (n .earlier);
 }
 
 pub record GoodNames (s : List ℕ) (n : Counts) : Type 0 where
@@ -36,6 +38,7 @@ pub record GoodNames (s : List ℕ) (n : Counts) : Type 0 where
   pub actions : n .actions ≤ mostActions
   pub parameters : n .parameters ≤ parameterCount
   pub variants : n .variants ≤ mostVariants
+  pub earlier : n .earlier + n .variants ≤ mostVariantNames
 
 -- the names behind an accepted line; a refused one leaves the words as they were
 abbrev pub Named : Outcome Names → List ℕ → Declared → List ℕ → Type 0
@@ -74,3 +77,4 @@ pub record Copied (ks s t : List ℕ) (n : ℕ) : Type 0 where
   pub size : length t ≡ length s
   pub keys : keysAt t parametersAt n ≡ keysAt ks 0 n
   pub before : Same s t 0 parametersAt
+  pub behind : Same s t variantsAt (mostVariantNames * 2)

@@ -13,13 +13,14 @@ ghost use Rattle.events.specs.Contents.{keysIn};
 ghost use Rattle.session.specs.Declaring.{isDeclared, constantLine, predicateLine, isTotal, isDiscount, actionLine};
 ghost use Rattle.declare.specs.Tables.{namesOf, GoodNames, Naming, vocabularyOf, GoodVocabulary, Wording, ParametersOf, Copied};
 
-// How many names there are of each sort; parameters and variants are those of the last action.
+// How many names there are of each sort; parameters and variants are those of the last action, `earlier` the variants of those before it.
 pub struct Counts {
     pub constants: usize,
     pub predicates: usize,
     pub actions: usize,
     pub parameters: usize,
     pub variants: usize,
+    pub earlier: usize,
 }
 
 // What a declaration answers: how many names there are then, or why it is refused.
@@ -62,6 +63,7 @@ pub fn constant(table: &mut [u64], n: Counts, key: Key) -> Declared
         actions: n.actions,
         parameters: n.parameters,
         variants: n.variants,
+        earlier: n.earlier,
     })
 }
 
@@ -93,6 +95,7 @@ pub fn predicate(
         actions: n.actions,
         parameters: n.parameters,
         variants: n.variants,
+        earlier: n.earlier,
     })
 }
 
@@ -176,6 +179,7 @@ pub fn action(
         actions: n.actions + 1,
         parameters: count,
         variants: 0,
+        earlier: n.earlier + n.variants,
     })
 }
 

@@ -36,6 +36,7 @@ use Rattle.build.specs.declared.Built.the-variants.{Done, Refused}
 use Rattle.build.specs.Machine.{built}
 use Rattle.answers.specs.declared.Answer.the-variants as A
 use Rattle.session.specs.Session.{Names}
+use Rattle.session.specs.Good.{mostVariantNames}
 use Rattle.session.specs.Modelling.{mostModelRows, namesFor, outcomeOf, addVariant, weightRead, withVariant, variantLine}
 use Rattle.session.specs.Replies.{done, quietly, wordsOf}
 use Rattle.declare.specs.declared.Counts.{Counts}
@@ -103,11 +104,8 @@ module _ {s : List ℕ} {n : Numbers} {names ar work : List ℕ} (x : Lent Varia
     work-room = x .work-room;
   }
 
-  pub weight-table : variantsAt + n .counts .variants * 2 ≤ length names
-  weight-table = omega (arith, x .vocabulary .names .room, x .vocabulary .names .variants)
-
   -- `read_weight`
-  module _ (at : ℕ) (k : Key) {i : ℕ} (p : i ≡ placeOf k (keysAt names variantsAt (n .counts .variants))) where
+  module _ (at : ℕ) (k : Key) {i : ℕ} (p : i ≡ placeOf k (keysAt names (variantsAt + n .counts .earlier * 2) (n .counts .variants))) where
     abbrev read : Outcome Diagram
     read = weightRead (namesOf names (n .counts)) ar (n .head .words / 3) k (eventsOf (drop at s))
 
@@ -117,7 +115,7 @@ module _ {s : List ℕ} {n : Numbers} {names ar work : List ℕ} (x : Lent Varia
         draws-none (weight-drawn (namesOf names (n .counts)) ar (n .head .words / 3) k (eventsOf (drop at s))
         ∙ ap (λ (b : Bool). cond b (refused Name) (roomed (leb mostVariants (length (namesOf names (n .counts) .variants))) (n .head .words / 3)
         (drawn (namesFor (namesOf names (n .counts)) ar None (namesOf names (n .counts) .parameters)) (eventsOf (drop at s)) [])))
-        (among-at names variantsAt (n .counts .variants) k p h))
+        (among-at names (variantsAt + n .counts .earlier * 2) (n .counts .variants) k p h))
 
     pub weight-reads : (vs : List ℕ) {out : List ℕ} {b r : Built} → n .counts .variants ≤ i
         → Draws ar (drawn (tableNames names ar (actionScope n None)) (eventsOf (drop at s)) (keysAt vs 0 0)) b out
@@ -129,8 +127,8 @@ module _ {s : List ℕ} {n : Numbers} {names ar work : List ℕ} (x : Lent Varia
         let y : read ≡ roomed (leb mostVariants (n .counts .variants)) (n .head .words / 3) (o [])
         = weight-drawn σ ar (n .head .words / 3) k (eventsOf (drop at s))
         ∙ ap (λ (c : Bool). cond c (refused Name) (roomed (leb mostVariants (length (σ .variants))) (n .head .words / 3) (o [])))
-        (among-none names variantsAt (n .counts .variants) k p h)
-        ∙ ap (λ (v : ℕ). roomed (leb mostVariants v) (n .head .words / 3) (o [])) (length-keys names variantsAt (n .counts .variants)) in
+        (among-none names (variantsAt + n .counts .earlier * 2) (n .counts .variants) k p h)
+        ∙ ap (λ (v : ℕ). roomed (leb mostVariants v) (n .head .words / 3) (o [])) (length-keys names (variantsAt + n .counts .earlier * 2) (n .counts .variants)) in
         subst (λ (z : Outcome Diagram). Draws ar z r out) (sym y)
         (draws-room (leb mostVariants (n .counts .variants)) (n .head .words / 3) (subst (λ (z : Outcome Diagram). Draws ar z b out) (ap o (no-keys vs 0)) d) e)
 
@@ -158,10 +156,15 @@ withName n k = record {
   actions = n .actions;
   parameters = n .parameters;
   variants = n .variants ++ (k ∷ []);
+  earlier = n .earlier;
 }
 
-module _ (s : List ℕ) (n : Counts) (k : Key) (g : GoodNames s n) (h : n .variants < mostVariants) where
-  variant-put : namesOf (putKey s (variantsAt + n .variants * 2) k) (moreVariants n) ≡ withName (namesOf s n) k
+-- where the next variant's name goes
+abbrev nextName : Counts → ℕ
+nextName n = variantsAt + (n .earlier + n .variants) * 2
+
+module _ (s : List ℕ) (n : Counts) (k : Key) (g : GoodNames s n) (h : n .variants < mostVariants) (r : n .earlier + n .variants < mostVariantNames) where
+  variant-put : namesOf (putKey s (nextName n) k) (moreVariants n) ≡ withName (namesOf s n) k
   unfolding namesOf
   variant-put =
       names-ext _ _
@@ -169,22 +172,28 @@ module _ (s : List ℕ) (n : Counts) (k : Key) (g : GoodNames s n) (h : n .varia
       (kept declaredAt (n .predicates) (omega (arith, g .predicates)))
       (kept actionsAt (n .actions) (omega (arith, g .actions)))
       (kept parametersAt (n .parameters) (omega (arith, g .parameters)))
-      (keys-more s variantsAt (n .variants) k (omega (arith, g .room)))
+      (ap (λ (i : ℕ). keysAt (putKey s i k) (variantsAt + n .earlier * 2) (n .variants + 1)) behind
+      ∙ keys-more s (variantsAt + n .earlier * 2) (n .variants) k (omega (arith, g .room)))
+      (kept variantsAt (n .earlier) (omega arith))
     where
-      kept : (base m : ℕ) → base + m * 2 ≤ variantsAt + n .variants * 2 → keysAt (putKey s (variantsAt + n .variants * 2) k) base m ≡ keysAt s base m
-      kept base m l = keys-same s (putKey s (variantsAt + n .variants * 2) k) base m (put-before s (variantsAt + n .variants * 2) k base (m * 2) l)
+      kept : (base m : ℕ) → base + m * 2 ≤ nextName n → keysAt (putKey s (nextName n) k) base m ≡ keysAt s base m
+      kept base m l = keys-same s (putKey s (nextName n) k) base m (put-before s (nextName n) k base (m * 2) l)
 
-  names-good : GoodNames (putKey s (variantsAt + n .variants * 2) k) (moreVariants n)
+      behind : nextName n ≡ variantsAt + n .earlier * 2 + n .variants * 2
+      behind = omega arith
+
+  names-good : GoodNames (putKey s (nextName n) k) (moreVariants n)
   names-good = record {
-    room = omega (arith, g .room, length-put s (variantsAt + n .variants * 2) k);
+    room = omega (arith, g .room, length-put s (nextName n) k);
     constants = g .constants;
     predicates = g .predicates;
     actions = g .actions;
     parameters = g .parameters;
     variants = omega arith;
+    earlier = omega arith;
   }
 
-named-good : {s t : List ℕ} {n c : Counts} {k : Key} → VariantNamed s n k c t → GoodNames (putKey s (variantsAt + n .variants * 2) k) (moreVariants n) → GoodNames t c
+named-good : {s t : List ℕ} {n c : Counts} {k : Key} → VariantNamed s n k c t → GoodNames (putKey s (nextName n) k) (moreVariants n) → GoodNames t c
 named-good {s} {t} {n} {c} p g = subst (λ (z : List ℕ). GoodNames z c) (sym (p .words)) (subst (GoodNames _) (sym (p .counts)) g)
 
 -- ===== Answered =====
@@ -227,7 +236,7 @@ module _ (s : List ℕ) (n : Numbers) (names ar listings table : List ℕ) {k : 
 
       pub variant-few : n .counts .variants < mostVariants
       unfolding namesOf
-      variant-few = omega (arith, fits .variant, length-keys names variantsAt (n .counts .variants))
+      variant-few = omega (arith, fits .variant, length-keys names (variantsAt + n .counts .earlier * 2) (n .counts .variants))
 
       pub variant-room : RowsRoom listings (n .head) out m
       variant-room = record { words = y .listed .room; result = drew-room D; room = omega (arith, fits .room, D .count, y .listed .whole) }
@@ -235,8 +244,11 @@ module _ (s : List ℕ) (n : Numbers) (names ar listings table : List ℕ) {k : 
       pub variant-place : VariantRoom table (n .head)
       variant-place = record { spanned = y .last .spanned; some = y .last .some; more = omega (arith, variant-few, y .last .variants) }
 
-      pub variant-words : variantsAt + n .counts .variants * 2 + 2 ≤ length names
-      variant-words = omega (arith, variant-few, y .lent .vocabulary .names .room)
+      variant-more : n .counts .earlier + n .counts .variants < mostVariantNames
+      variant-more = y .room variant-few
+
+      pub variant-words : variantsAt + (n .counts .earlier + n .counts .variants) * 2 + 2 ≤ length names
+      variant-words = omega (arith, variant-more, y .lent .vocabulary .names .room)
 
       module _ {names′ listings′ table′ : List ℕ} {h : Head} {c : Counts} (a : VariantAdded listings table (n .head) out m listings′ table′ h)
           (l : length listings′ ≡ length listings) (p : VariantNamed names (n .counts) k c names′) where
@@ -251,7 +263,7 @@ module _ (s : List ℕ) (n : Numbers) (names ar listings table : List ℕ) {k : 
           After = memoryOf names′ ar listings′ table′ state value
 
           names-are : namesOf names′ c ≡ withName (namesOf names (n .counts)) k
-          names-are = ap₂ namesOf (p .words) (p .counts) ∙ variant-put names (n .counts) k (y .lent .vocabulary .names) variant-few
+          names-are = ap₂ namesOf (p .words) (p .counts) ∙ variant-put names (n .counts) k (y .lent .vocabulary .names) variant-few variant-more
 
           model-is : modelOf ar listings′ table′ h
               ≡ withActions (modelOf ar listings table (n .head)) (addVariant (modelOf ar listings table (n .head) .actions) (newVariant (D .diagram)))
@@ -276,7 +288,10 @@ module _ (s : List ℕ) (n : Numbers) (names ar listings table : List ℕ) {k : 
 
           grown : Grown n ar listings names′ listings′ table′ (n .reward) c h m
           grown = record {
-            vocabulary = record { names = named-good p (names-good names (n .counts) k (y .lent .vocabulary .names) variant-few); arities = y .lent .vocabulary .arities };
+            vocabulary = record {
+              names = named-good p (names-good names (n .counts) k (y .lent .vocabulary .names) variant-few variant-more);
+              arities = y .lent .vocabulary .arities;
+            };
             building = a .building (q .stored .building) (drew-canonical D);
             size = l;
             words = used-are;

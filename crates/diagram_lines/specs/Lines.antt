@@ -12,6 +12,7 @@ use Rattle.diagram.specs.Diagram.{Diagram}
 use Rattle.diagram.specs.Listing.{diagramOf}
 use Rattle.diagram.specs.Validity.{Valid}
 use Rattle.refusal.specs.Outcome.{Outcome, ok, andThen}
+use Rattle.mdp.specs.Model.{mostVariants}
 use Rattle.regression.specs.Regression.{Truths}
 use Rattle.regression.specs.RegressCall.{leafAbove}
 use Rattle.words.specs.declared.Key.{Key}
@@ -29,6 +30,7 @@ use Rattle.reading.specs.Callers.{judgedPredicate, PredicateWithin}
 use Rattle.build.specs.declared.Built.{Built}
 use Rattle.build.specs.declared.Built.the-variants.{Done, Refused}
 use Rattle.session.specs.Session.{Names, refuseIf}
+use Rattle.session.specs.Good.{mostVariantNames}
 use Rattle.session.specs.Modelling.{mostModelRows, outcomeOf, namesFor, rowsWith, isSome, truthsNow}
 use Rattle.declare.specs.declared.Counts.{Counts}
 use Rattle.declare.specs.Tables.{namesOf, GoodVocabulary}
@@ -132,16 +134,18 @@ moreVariants n = record {
   actions = n .actions;
   parameters = n .parameters;
   variants = n .variants + 1;
+  earlier = n .earlier;
 }
 
 pub record VariantNamed (names : List ℕ) (n : Counts) (k : Key) (r : Counts) (names′ : List ℕ) : Type 0 where
   pub counts : r ≡ moreVariants n
-  pub words : names′ ≡ putKey names (variantsAt + n .variants * 2) k
+  pub words : names′ ≡ putKey names (variantsAt + (n .earlier + n .variants) * 2) k
 
 pub record VariantReady (s : List ℕ) (n : Numbers) (names ar listings table work : List ℕ) : Type 0 where
   pub lent : Lent Variant s n names ar work
   pub listed : Listings n listings
   pub last : LastOf table n
+  pub room : n .counts .variants < mostVariants → n .counts .earlier + n .counts .variants < mostVariantNames
 
 pub record VariantSays (s : List ℕ) (number : ℕ) (n : Numbers) (names ar listings table : List ℕ) (r : Said) (names′ listings′ table′ : List ℕ) : Type 0 where
   pub says : (state value : List ℕ) → Ready Variant s n (memoryOf names ar listings table state value)

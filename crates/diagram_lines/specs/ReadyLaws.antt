@@ -1,14 +1,14 @@
 -- What the lines' functions require, from what the function of any line may rely on.
-use mathlib.Core.Path.{_≡_, refl, sym, ap, subst, _∙_}
+use mathlib.Core.Path.{_≡_, refl, sym, ap, ap₂, subst, _∙_}
 use mathlib.Core.Bool.{Bool, true, false, not}
 use mathlib.Core.List.{List, [], _∷_, _++_}
-use Prim.Native.Nat.{ℕ, zero, suc, _-_, _≤_, _<_}
+use Prim.Native.Nat.{ℕ, zero, suc, _+_, _*_, _-_, _≤_, _<_}
 use native.Mathlib.Omega.{arith}
 use borrow.Author.Tests.{leb-true}
 use lib.ListN.{length}
 use lib.Dec.{leb}
 use Rattle.refusal.specs.Outcome.{ok}
-use Rattle.mdp.specs.Model.{Action}
+use Rattle.mdp.specs.Model.{Action, mostVariants}
 use Rattle.text.specs.declared.Kind.{Kind}
 use Rattle.text.specs.declared.Kind.the-variants.{Reward, Variant, Becomes}
 use Rattle.names.specs.Layout.{actionsAt, variantsAt}
@@ -18,11 +18,14 @@ use Rattle.session.specs.declared.Part.the-variants.{Model, Run}
 use Rattle.session.specs.Session.{Session}
 use Rattle.session.specs.Place.{ruleOf}
 use Rattle.session.specs.Replies.{allowed, unless}
-use Rattle.session.specs.Good.{LastAction}
+use Rattle.session.specs.Good.{LastAction, mostVariantNames}
 use Rattle.declare.specs.Tables.{namesOf}
 use Rattle.names.specs.Many.{many}
 use Rattle.names.specs.ManyLaws.{length-many}
-use Rattle.model.specs.Layout.{variantPlace, variantAt, variantsOf, actionAt, modelOf}
+use Rattle.model.specs.declared.Head.{Head}
+use Rattle.model.specs.Layout.{variantsOf, actionAt, modelOf}
+use Rattle.modelling.specs.Building.{Spanned, variantsBefore}
+use Rattle.modelling.specs.NameLaws.{variants-are, variants-before, spanned-few, before-few}
 use Rattle.memory.specs.declared.Numbers.{Numbers}
 use Rattle.memory.specs.Memory.{memoryOf, sessionOf, Ready, workWords}
 use Rattle.diagram_lines.specs.Lines.{Lent, Listings, LastOf, RewardReady, VariantReady, BecomesReady}
@@ -58,10 +61,6 @@ last-snoc [] a c v h = h .1
 last-snoc (x ∷ []) a c v h = h .1
 last-snoc (x ∷ y ∷ l) a c v h = last-snoc (y ∷ l) a c v h
 
-variants-are : (listings table : List ℕ) (a : ℕ) → length (actionAt listings table a .variants) ≡ variantsOf table a
-unfolding actionAt
-variants-are listings table a = length-many (λ v. variantAt listings table (variantPlace a v)) (variantsOf table a)
-
 last-many : (listings table : List ℕ) (n c v : ℕ) → 0 < n → LastAction (many (actionAt listings table) n) c v → variantsOf table (n - 1) ≡ v
 unfolding many
 last-many listings table zero c v h e = absurd (omega arith)
@@ -74,6 +73,14 @@ last-some : (listings table : List ℕ) (n c v : ℕ) → 0 < v → LastAction (
 unfolding many
 last-some listings table zero c v h e = absurd (omega (arith, e))
 last-some listings table (suc n) c v h e = omega arith
+
+-- where the last action has room for one variant more, so have the names of all variants
+names-room : {table : List ℕ} {h : Head} {c v : ℕ} → Spanned table h → 0 < h .actions → variantsOf table (h .actions - 1) ≡ v → c ≡ variantsBefore table (h .actions)
+    → v < mostVariants → c < mostVariantNames
+names-room {table} {h} {c} {v} s some last all few =
+    let k : h .actions ≡ suc (h .actions - 1) = omega arith in
+    let e : c ≡ variantsBefore table (suc (h .actions - 1)) = all ∙ ap (variantsBefore table) k in
+    omega (arith, e, last, s .few, before-few {n = h .actions} (spanned-few s (omega arith)) (h .actions - 1) (omega arith))
 
 -- ===== What is required =====
 
@@ -97,8 +104,16 @@ module _ {k : Kind} {s : List ℕ} {n : Numbers} {names ar listings table state 
   last-is : LastAction (many (actionAt listings table) (n .head .actions)) (length (namesOf names (n .counts) .parameters)) (n .counts .variants)
   unfolding sessionOf namesOf modelOf
   last-is =
-      subst (LastAction (many (actionAt listings table) (n .head .actions)) (length (namesOf names (n .counts) .parameters))) (length-keys names variantsAt (n .counts .variants))
-      (q .good .agreeing .last)
+      subst (LastAction (many (actionAt listings table) (n .head .actions)) (length (namesOf names (n .counts) .parameters)))
+      (length-keys names (variantsAt + n .counts .earlier * 2) (n .counts .variants)) (q .good .agreeing .last)
+
+  -- the names count as many variants as the table has
+  all-are : n .counts .earlier + n .counts .variants ≡ variantsBefore table (n .head .actions)
+  unfolding sessionOf namesOf modelOf
+  all-are =
+      ap₂ _+_ (sym (length-keys names variantsAt (n .counts .earlier))) (sym (length-keys names (variantsAt + n .counts .earlier * 2) (n .counts .variants)))
+      ∙ q .good .agreeing .all
+      ∙ sym (variants-before listings table (n .head .actions))
 
   last-of : 0 < n .head .actions → LastOf table n
   last-of h = record {
@@ -115,16 +130,18 @@ module _ {s : List ℕ} {n : Numbers} {names ar listings table state value : Lis
   unfolding sessionOf namesOf
   variant-ready q l =
       let h = after-action (sessionOf n (memoryOf names ar listings table state value)) (n .part) (q .place) in
+      let last = last-of q (omega (arith, h, length-keys names actionsAt (n .counts .actions), actions-are q)) in
       record {
         lent = lent-of q l;
         listed = listed-of q;
-        last = last-of q (omega (arith, h, length-keys names actionsAt (n .counts .actions), actions-are q));
+        last = last;
+        room = names-room (last .spanned) (last .some) (last .variants) (all-are q);
       }
 
   pub becomes-ready : {work : List ℕ} → Ready Becomes s n (memoryOf names ar listings table state value) → workWords ≤ length work → BecomesReady s n names ar listings table work
   unfolding sessionOf namesOf
   becomes-ready q l =
       let h = after-variant (sessionOf n (memoryOf names ar listings table state value)) (n .part) (q .place) in
-      let v : 0 < n .counts .variants = omega (arith, h, length-keys names variantsAt (n .counts .variants)) in
+      let v : 0 < n .counts .variants = omega (arith, h, length-keys names (variantsAt + n .counts .earlier * 2) (n .counts .variants)) in
       let a = last-some listings table (n .head .actions) (length (namesOf names (n .counts) .parameters)) (n .counts .variants) v (last-is q) in
       record { lent = lent-of q l; listed = listed-of q; opened = record { last = last-of q a; has = v } }

@@ -134,8 +134,10 @@ fn read_weight(
     requires { ⌜ resultWords ≤ length (now out) ⌝ }
     ensures { λ r. ⌜ Draws (now (arities .entry)) (weightRead (namesOf (now (names .entry)) (n .counts)) (now (arities .entry)) (n .head .words / 3) key (eventsOf (drop at (now (line .entry))))) r (now (out .exit)) ⌝ }
 {
-    let count = n.counts.variants;
-    if names::find(names, names::VARIANTS, count, key) < count {
+    let counts = n.counts;
+    let count = counts.variants;
+    let base = names::VARIANTS + counts.earlier * 2;
+    if names::find(names, base, count, key) < count {
         return Built::Refused(Refusal::Name);
     }
     let mut variables = [0u64; VARIABLE_WORDS];
@@ -161,11 +163,11 @@ fn read_weight(
 
 // One variant more of the last action, by its name.
 fn name_variant(names: &mut [u64], n: Counts, key: Key) -> Counts
-    requires { ⌜ variantsAt + n .variants * 2 + 2 ≤ length (now names) ⌝ }
+    requires { ⌜ variantsAt + (n .earlier + n .variants) * 2 + 2 ≤ length (now names) ⌝ }
     ensures { λ r. ⌜ VariantNamed (now (names .entry)) n key r (now (names .exit)) ⌝ }
 {
     let count = n.variants;
-    names::put(names, names::VARIANTS + count * 2, key);
+    names::put(names, names::VARIANTS + (n.earlier + count) * 2, key);
     let mut next = n;
     next.variants = count + 1;
     next

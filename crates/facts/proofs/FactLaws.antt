@@ -12,7 +12,8 @@ use Rattle.basics.specs.Tests.{Flag, isTrue, isFalse, flag, and-left}
 use Rattle.state.specs.Lent.{factCount, someBelow, allBelow, factWords}
 use Rattle.session.specs.Session.{refuseIf}
 use Rattle.diagram.specs.WordLaws.{every-below, below-every}
-use Rattle.session.specs.Facts.{sameWord, rowIs, isFact, withFact, factLine, factRow, trueLine, mostFacts}
+use Rattle.replay.specs.Replay.{mostFacts, factRow}
+use Rattle.session.specs.Facts.{sameWord, rowIs, isFact, withFact, begunAgain, factLine, trueLine}
 use Rattle.facts.specs.declared.Live.{Live}
 use Rattle.facts.specs.declared.Told.{Told}
 use Rattle.facts.specs.declared.Told.the-variants.{Done, Refused}
@@ -165,7 +166,9 @@ put-done {s} {row} {t} l {j} g h e k w =
           (part-same s t 0 constantCount (omega arith) (w .size) (λ m q. w .before m (omega arith)))
           (ap (λ (n : ℕ). part t factsBase n) (more (l .facts)) ∙ take-add (l .facts * factWords) factWords (drop factsBase t)
           ∙ ap₂ _++_ (part-same s t factsBase (l .facts * factWords) (omega arith) (w .size) (λ m q. w .before m q))
-          (ap (take factWords) (drop-drop (l .facts * factWords) factsBase t) ∙ written-row (put-base s l g h) e k w));
+          (ap (take factWords) (drop-drop (l .facts * factWords) factsBase t) ∙ written-row (put-base s l g h) e k w))
+          refl
+          refl;
       good = record { room = rw (w .size) r; objects = g .objects; facts = omega arith };
     }
   where
@@ -209,16 +212,16 @@ module _ (s : List ℕ) (l : Live) (row : List ℕ) {b : Bool} (q : b ≡ isFact
   lent-facts : b ≡ isFact (part s factsBase (l .facts * factWords)) row
   lent-facts = let e : factsBase + l .facts * factWords - factsBase ≡ l .facts * factWords = omega arith in q ∙ ap (λ (n : ℕ). isFact (take n (drop factsBase s)) row) e
 
-  pub note-again : GoodLive s l → b ≡ true → Living (factLine (liveOf s l) row) s (Done l) s
-  unfolding factLine liveOf
-  note-again g e = record { lives = (rw (← lent-facts, e), g) }
+  pub note-again : GoodLive s l → b ≡ true → Living (factLine (liveOf s l) row) s (Done (record { objects = l .objects; facts = l .facts; count = 0; total = 0 })) s
+  unfolding factLine begunAgain liveOf
+  note-again g e = record { lives = (rw (← lent-facts, e), record { room = g .room; objects = g .objects; facts = g .facts }) }
 
   module _ (g : GoodLive s l) (e : b ≡ false) where
     pub note-space : mostFacts ≤ l .facts → Living (factLine (liveOf s l) row) s (Refused Space) s
     unfolding factLine liveOf
     note-space h = record { lives = (rw (← lent-facts, e, fact-count s l g, le-leb mostFacts (l .facts) h), refl) }
 
-    pub note-done : {t : List ℕ} → l .facts < mostFacts → Putting s l row t → Living (factLine (liveOf s l) row) s (Done (record { objects = l .objects; facts = l .facts + 1 })) t
+    pub note-done : {t : List ℕ} → l .facts < mostFacts → Putting s l row t → Living (factLine (liveOf s l) row) s (Done (record { objects = l .objects; facts = l .facts + 1; count = 0; total = 0 })) t
     unfolding factLine liveOf
     note-done h u = record { lives = (rw (← lent-facts, e, fact-count s l g, lt-leb mostFacts (l .facts) h) (ap ok (sym (u .live))), u .good) }
 

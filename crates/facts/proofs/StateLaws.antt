@@ -24,8 +24,9 @@ use Rattle.facts.specs.declared.Live.{Live}
 use Rattle.facts.specs.declared.Told.the-variants.{Done, Refused}
 use Rattle.facts.specs.Words.{part, liveOf, GoodLive, Living, Cleared, placedBase, factsBase, stateWords}
 
-pub live-ext : (x y : SessionLive) → x .objects ≡ y .objects → x .placed ≡ y .placed → x .constants ≡ y .constants → x .facts ≡ y .facts → x ≡ y
-live-ext x y a b c d = λ i. record { objects = a i; placed = b i; constants = c i; facts = d i }
+pub live-ext : (x y : SessionLive) → x .objects ≡ y .objects → x .placed ≡ y .placed → x .constants ≡ y .constants → x .facts ≡ y .facts
+    → x .count ≡ y .count → x .total ≡ y .total → x ≡ y
+live-ext x y a b c d e f = λ i. record { objects = a i; placed = b i; constants = c i; facts = d i; count = e i; total = f i }
 
 -- ===== (objects n) =====
 
@@ -65,14 +66,14 @@ module _ (s : List ℕ) (n : ℕ) where
   unfolding objectsLine
   objects-many z h = record { lives = (rw (le-leb 1 n (omega arith), lt-leb n mostObjects h), refl) }
 
-  pub objects-done : {t : List ℕ} → (n ≡ 0 → ⊥) → n ≤ mostObjects → stateWords ≤ length s → Cleared s t factsBase → Living (objectsLine n) s (Done (record { objects = n; facts = 0 })) t
+  pub objects-done : {t : List ℕ} → (n ≡ 0 → ⊥) → n ≤ mostObjects → stateWords ≤ length s → Cleared s t factsBase → Living (objectsLine n) s (Done (record { objects = n; facts = 0; count = 0; total = 0 })) t
   unfolding objectsLine cleared liveOf
   objects-done {t} z h r c =
       let w = c .size in
       record {
         lives = (
           rw (le-leb 1 n (omega (arith, z)), le-leb n mostObjects h)
-              (ap ok (live-ext _ _ refl (sym (zero-part t placedBase (omega arith) (λ j l. c .zeros j (omega arith)))) (sym (zero-part t 0 (omega arith) (λ j l. c .zeros j (omega arith)))) refl)),
+              (ap ok (live-ext _ _ refl (sym (zero-part t placedBase (omega arith) (λ j l. c .zeros j (omega arith)))) (sym (zero-part t 0 (omega arith) (λ j l. c .zeros j (omega arith)))) refl refl refl)),
           record { room = omega arith; objects = h; facts = omega arith },
         );
       }
@@ -113,7 +114,9 @@ module _ (table s : List ℕ) (n : Counts) (l : Live) (k : Key) (o : ℕ) {c : �
                   (ap ok (live-ext _ _ refl
                   (sym (ap (take constantCount) (drop-set-lt placedBase u c o m ∙ drop-set-add placedBase s c 1) ∙ take-set-lt constantCount (drop placedBase s) c 1 m))
                   (sym (take-set-lt constantCount u c o m ∙ ap (λ (x : List ℕ). set x c o) (take-set-le constantCount s (placedBase + c) 1 (omega arith))))
-                  (sym (ap (take (l .facts * factWords)) (drop-set-lt factsBase u c o (omega arith) ∙ drop-set-lt factsBase s (placedBase + c) 1 (omega arith)))))),
+                  (sym (ap (take (l .facts * factWords)) (drop-set-lt factsBase u c o (omega arith) ∙ drop-set-lt factsBase s (placedBase + c) 1 (omega arith))))
+                  refl
+                  refl)),
               record { room = rw (length-set, length-set) (v .room); objects = v .objects; facts = v .facts },
             );
           }

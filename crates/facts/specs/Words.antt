@@ -9,7 +9,8 @@ use Rattle.label.specs.Limits.{constantCount, mostPlaces}
 use Rattle.refusal.specs.Outcome.{Outcome, ok, refused}
 use Rattle.state.specs.Lent.{factWords, allBelow}
 use Rattle.session.specs.Session.{Live as SessionLive}
-use Rattle.session.specs.Facts.{mostObjects, mostFacts, withFact, trueLine}
+use Rattle.replay.specs.Replay.{mostFacts}
+use Rattle.session.specs.Facts.{mostObjects, withFact, trueLine}
 use Rattle.words.specs.declared.Key.{Key}
 use Rattle.declare.specs.declared.Counts.{Counts}
 use Rattle.declare.specs.Tables.{namesOf}
@@ -40,6 +41,8 @@ liveOf s l = record {
   placed = part s placedBase constantCount;
   constants = part s 0 constantCount;
   facts = part s factsBase (l .facts * factWords);
+  count = l .count;
+  total = l .total;
 }
 
 pub record GoodLive (s : List ℕ) (l : Live) : Type 0 where
@@ -62,8 +65,8 @@ pub record Cleared (s t : List ℕ) (n : ℕ) : Type 0 where
 
 -- one fact more
 pub record Putting (s : List ℕ) (l : Live) (row t : List ℕ) : Type 0 where
-  pub live : liveOf t (record { objects = l .objects; facts = l .facts + 1 }) ≡ withFact (liveOf s l) row
-  pub good : GoodLive t (record { objects = l .objects; facts = l .facts + 1 })
+  pub live : liveOf t (record { objects = l .objects; facts = l .facts + 1; count = 0; total = 0 }) ≡ withFact (liveOf s l) row
+  pub good : GoodLive t (record { objects = l .objects; facts = l .facts + 1; count = 0; total = 0 })
 
 -- a row of a fact with no object yet
 pub record EmptyRow (row : List ℕ) : Type 0 where

@@ -8,7 +8,8 @@ ghost use mathlib.Core.Path.{_≡_};
 ghost use Prim.Native.Nat.{_+_, _*_, _<_, _≤_};
 ghost use lib.ListN.{length, drop};
 ghost use Rattle.state.specs.Lent.{factWords};
-ghost use Rattle.session.specs.Facts.{mostFacts, objectsLine, isLine, rowIs, isFact, factLine};
+ghost use Rattle.replay.specs.Replay.{mostFacts};
+ghost use Rattle.session.specs.Facts.{objectsLine, isLine, rowIs, isFact, factLine};
 ghost use Rattle.declare.specs.Tables.{namesOf, GoodNames, GoodVocabulary};
 ghost use Rattle.facts.specs.Words.{factsBase, stateWords, mostBytes, liveOf, GoodLive, Living, Cleared, Putting, EmptyRow, kept, tupleMore, TupleOf, Telling};
 ghost use mathlib.Core.Bool.{_&&_};
@@ -16,10 +17,13 @@ ghost use lib.Dec.{ltb};
 ghost use Rattle.events.specs.Front.{eventsOf};
 ghost use Rattle.events.specs.Contents.{numbersIn};
 
-// How many objects there are, 0 before an accepted (objects n), and how many facts.
+// How many objects there are, 0 before an accepted (objects n), and how many facts; how many (did ..) lines were accepted since they began, and the total of the
+// rewards met.
 pub struct Live {
     pub objects: u64,
     pub facts: usize,
+    pub count: u64,
+    pub total: u64,
 }
 
 // What a line of the state answers: the numbers then, or why it is refused.
@@ -70,6 +74,8 @@ pub fn objects(state: &mut [u64], n: u64) -> Told
     Told::Done(Live {
         objects: n,
         facts: 0,
+        count: 0,
+        total: 0,
     })
 }
 
@@ -147,7 +153,7 @@ fn put(state: &mut [u64], live: Live, row: &[u64])
     }
 }
 
-// Adds the row unless it is there.
+// Adds the row unless it is there; count and total begin again.
 fn note(state: &mut [u64], live: Live, row: &[u64]) -> Told
     requires { ⌜ GoodLive (now state) live ⌝ }
     requires { ⌜ length (now row) ≡ factWords ⌝ }
@@ -155,7 +161,12 @@ fn note(state: &mut [u64], live: Live, row: &[u64]) -> Told
 {
     let end = FACTS_BASE + live.facts * FACT_WORDS;
     if is_fact(&state[FACTS_BASE..end], row) {
-        return Told::Done(live);
+        return Told::Done(Live {
+            objects: live.objects,
+            facts: live.facts,
+            count: 0,
+            total: 0,
+        });
     }
     if live.facts >= FACTS {
         return Told::Refused(Refusal::Space);
@@ -164,6 +175,8 @@ fn note(state: &mut [u64], live: Live, row: &[u64]) -> Told
     Told::Done(Live {
         objects: live.objects,
         facts: live.facts + 1,
+        count: 0,
+        total: 0,
     })
 }
 

@@ -136,7 +136,7 @@ openingNumbers = record {
   total = false;
   discount = false;
   reward = false;
-  counts = record { constants = 0; predicates = 0; actions = 0; parameters = 0; variants = 0 };
+  counts = record { constants = 0; predicates = 0; actions = 0; parameters = 0; variants = 0; earlier = 0 };
   head = record {
     total = defaultTotal;
     numerator = defaultNumerator;
@@ -146,6 +146,6 @@ openingNumbers = record {
     actions = 0;
     words = 0;
   };
-  live = record { objects = 0; facts = 0 };
+  live = record { objects = 0; facts = 0; count = 0; total = 0 };
   held = record { rows = 0; steps = 0; power = 1 };
 }

@@ -10,7 +10,7 @@ use Rattle.memory.specs.declared.Numbers.{Numbers}
 
 -- how many words they are
 abbrev pub numberWords : ℕ
-numberWords = 23
+numberWords = 26
 
 -- 0 for the model, 1 for the run
 abbrev pub partWord : Part → ℕ
@@ -27,7 +27,7 @@ flagWord false = 0
 abbrev pub flagOf : ℕ → Bool
 flagOf v = eqb v 1
 
--- the words in their order: part, single forms (both given), counts of names, head of the model, state, value, lines answered, whether one had bytes
+-- the words in their order: part, single forms (both given), counts of names, head of the model, state with count and total of (did ..) lines, value, lines answered, whether one had bytes
 abbrev pub savedBehind : ℕ → ℕ → ℕ → ℕ → Numbers → ℕ → ℕ → List ℕ
 savedBehind part total discount reward n lines met =
     part
@@ -39,6 +39,7 @@ savedBehind part total discount reward n lines met =
     ∷ n .counts .actions
     ∷ n .counts .parameters
     ∷ n .counts .variants
+    ∷ n .counts .earlier
     ∷ n .head .total
     ∷ n .head .numerator
     ∷ n .head .denominator
@@ -48,6 +49,8 @@ savedBehind part total discount reward n lines met =
     ∷ n .head .words
     ∷ n .live .objects
     ∷ n .live .facts
+    ∷ n .live .count
+    ∷ n .live .total
     ∷ n .held .rows
     ∷ n .held .steps
     ∷ n .held .power
@@ -66,25 +69,25 @@ numbersIn part s = record {
   total = flagOf (getD s 1 0);
   discount = flagOf (getD s 2 0);
   reward = flagOf (getD s 3 0);
-  counts = record { constants = getD s 4 0; predicates = getD s 5 0; actions = getD s 6 0; parameters = getD s 7 0; variants = getD s 8 0 };
+  counts = record { constants = getD s 4 0; predicates = getD s 5 0; actions = getD s 6 0; parameters = getD s 7 0; variants = getD s 8 0; earlier = getD s 9 0 };
   head = record {
-    total = getD s 9 0;
-    numerator = getD s 10 0;
-    denominator = getD s 11 0;
-    «reward_start» = getD s 12 0;
-    «reward_words» = getD s 13 0;
-    actions = getD s 14 0;
-    words = getD s 15 0;
+    total = getD s 10 0;
+    numerator = getD s 11 0;
+    denominator = getD s 12 0;
+    «reward_start» = getD s 13 0;
+    «reward_words» = getD s 14 0;
+    actions = getD s 15 0;
+    words = getD s 16 0;
   };
-  live = record { objects = getD s 16 0; facts = getD s 17 0 };
-  held = record { rows = getD s 18 0; steps = getD s 19 0; power = getD s 20 0 };
+  live = record { objects = getD s 17 0; facts = getD s 18 0; count = getD s 19 0; total = getD s 20 0 };
+  held = record { rows = getD s 21 0; steps = getD s 22 0; power = getD s 23 0 };
 }
 
 unfoldable pub numbersAt : List ℕ → Numbers
 numbersAt s = numbersIn (partOf (getD s 0 0)) s
 
 abbrev pub linesAt : List ℕ → ℕ
-linesAt s = getD s 21 0
+linesAt s = getD s 24 0
 
 abbrev pub metAt : List ℕ → Bool
-metAt s = flagOf (getD s 22 0)
+metAt s = flagOf (getD s 25 0)

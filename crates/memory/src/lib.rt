@@ -53,6 +53,7 @@ pub fn opening() -> Numbers
             actions: 0,
             parameters: 0,
             variants: 0,
+            earlier: 0,
         },
         head: Head {
             total: TOTAL,
@@ -66,6 +67,8 @@ pub fn opening() -> Numbers
         live: Live {
             objects: 0,
             facts: 0,
+            count: 0,
+            total: 0,
         },
         held: Held {
             rows: 0,
@@ -76,7 +79,7 @@ pub fn opening() -> Numbers
 }
 
 // The words that a session's numbers, its answered lines and whether one of them had bytes take.
-pub const NUMBER_WORDS: usize = 23;
+pub const NUMBER_WORDS: usize = 26;
 
 // The part of the text as a word: 0 for the model, 1 for the run.
 fn part_word(part: Part) -> u64
@@ -145,6 +148,7 @@ pub fn store(words: &mut [u64], n: Numbers, lines: u64, met: bool)
         counts.actions as u64,
         counts.parameters as u64,
         counts.variants as u64,
+        counts.earlier as u64,
         head.total,
         head.numerator,
         head.denominator,
@@ -154,6 +158,8 @@ pub fn store(words: &mut [u64], n: Numbers, lines: u64, met: bool)
         head.words as u64,
         live.objects,
         live.facts as u64,
+        live.count,
+        live.total,
         held.rows as u64,
         held.steps,
         held.power,
@@ -179,24 +185,27 @@ pub fn load(words: &[u64]) -> Numbers
             actions: words[6] as usize,
             parameters: words[7] as usize,
             variants: words[8] as usize,
+            earlier: words[9] as usize,
         },
         head: Head {
-            total: words[9],
-            numerator: words[10],
-            denominator: words[11],
-            reward_start: words[12] as usize,
-            reward_words: words[13] as usize,
-            actions: words[14] as usize,
-            words: words[15] as usize,
+            total: words[10],
+            numerator: words[11],
+            denominator: words[12],
+            reward_start: words[13] as usize,
+            reward_words: words[14] as usize,
+            actions: words[15] as usize,
+            words: words[16] as usize,
         },
         live: Live {
-            objects: words[16],
-            facts: words[17] as usize,
+            objects: words[17],
+            facts: words[18] as usize,
+            count: words[19],
+            total: words[20],
         },
         held: Held {
-            rows: words[18] as usize,
-            steps: words[19],
-            power: words[20],
+            rows: words[21] as usize,
+            steps: words[22],
+            power: words[23],
         },
     }
 }
@@ -206,7 +215,7 @@ pub fn lines_of(words: &[u64]) -> u64
     requires { ⌜ numberWords ≤ length (now words) ⌝ }
     ensures { λ r. ⌜ r ≡ linesAt (now (words .entry)) ⌝ }
 {
-    words[21]
+    words[24]
 }
 
 // Whether a line with bytes was met, as it was stored.
@@ -214,5 +223,5 @@ pub fn met_of(words: &[u64]) -> bool
     requires { ⌜ numberWords ≤ length (now words) ⌝ }
     ensures { λ r. ⌜ r ≡ metAt (now (words .entry)) ⌝ }
 {
-    words[22] == 1
+    words[25] == 1
 }

@@ -1,13 +1,14 @@
 -- The list of actions: with one more, with a variant more in the last of them, and with other truth diagrams in its last variant.
 use mathlib.Core.Path.{_≡_, refl, sym, subst, _∙_}
 use mathlib.Core.List.{List, [], _∷_, _++_}
-use Prim.Native.Nat.{ℕ, suc, _≤_, _<_}
+use Prim.Native.Nat.{ℕ, suc, _+_, _*_, _≤_, _<_}
 use native.Mathlib.Omega.{arith}
 use lib.ListN.{length, length-append}
+use Rattle.state.specs.Max.{sumOf}
 use Rattle.regression.specs.Regression.{Truths}
 use Rattle.mdp.specs.Model.{Variant, Action, Every, GoodVariant, GoodAction, mostVariants}
 use Rattle.session.specs.Modelling.{addVariant, lastTruths, lastVariant}
-use Rattle.session.specs.Good.{LastAction}
+use Rattle.session.specs.Good.{LastAction, variantCount}
 
 -- ===== Lists =====
 
@@ -22,12 +23,27 @@ pub every-mono : {A : Type 0} (P Q : A → Type 0) → ((a : A) → P a → Q a)
 every-mono P Q f [] h = tt
 every-mono P Q f (a ∷ l) h = (f a (h .0), every-mono P Q f l (h .1))
 
+pub sum-more : {A : Type 0} (f : A → ℕ) (l : List A) (a : A) → sumOf (l ++ (a ∷ [])) f ≡ sumOf l f + f a
+unfolding sumOf
+sum-more f [] a = omega arith
+sum-more f (b ∷ l) a = omega (arith, sum-more f l a)
+
 -- ===== One action more =====
 
 pub last-more : (l : List Action) (a : Action) → LastAction (l ++ (a ∷ [])) (a .count) (length (a .variants))
 last-more [] a = (refl, refl)
 last-more (b ∷ []) a = (refl, refl)
 last-more (b ∷ c ∷ l) a = last-more (c ∷ l) a
+
+pub variants-more : (l : List Action) (a : Action) → variantCount (l ++ (a ∷ [])) ≡ variantCount l + length (a .variants)
+unfolding variantCount
+variants-more l a = sum-more (λ b. length (b .variants)) l a
+
+-- at most 8 for each action
+pub variants-most : (ar : List ℕ) (l : List Action) → Every (GoodAction ar) l → variantCount l ≤ length l * mostVariants
+unfolding variantCount sumOf
+variants-most ar [] e = omega arith
+variants-most ar (a ∷ l) e = omega (arith, e .0 .variants-few, variants-most ar l (e .1))
 
 -- ===== A variant more in the last action =====
 
@@ -55,6 +71,12 @@ module _ (v : Variant) where
     tt,
   )
   every-added ar c n room g (a ∷ b ∷ l) h e = (e .0, every-added ar c n room g (b ∷ l) h (e .1))
+
+  pub variants-added : (l : List Action) → 1 ≤ length l → variantCount (addVariant l v) ≡ suc (variantCount l)
+  unfolding variantCount sumOf
+  variants-added [] some = absurd (omega arith)
+  variants-added (a ∷ []) some = omega (arith, length-more (a .variants) v)
+  variants-added (a ∷ b ∷ l) some = omega (arith, variants-added (b ∷ l) (omega arith))
 
 -- ===== Other truth diagrams in the last variant =====
 
@@ -96,3 +118,9 @@ module _ (f : Truths → Truths) where
     tt,
   )
   every-last ar c n g (a ∷ b ∷ l) h e = (e .0, every-last ar c n g (b ∷ l) h (e .1))
+
+  pub variants-kept : (l : List Action) → variantCount (lastVariant l f) ≡ variantCount l
+  unfolding variantCount sumOf
+  variants-kept [] = refl
+  variants-kept (a ∷ []) = omega (arith, length-truths (a .variants))
+  variants-kept (a ∷ b ∷ l) = omega (arith, variants-kept (b ∷ l))

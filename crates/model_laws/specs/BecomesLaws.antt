@@ -1,5 +1,5 @@
 -- (becomes (p ?a ..) DIAGRAM): an accepted one keeps a session good.
-use mathlib.Core.Path.{_≡_, sym, subst}
+use mathlib.Core.Path.{_≡_, sym, subst, _∙_}
 use mathlib.Core.Bool.{false}
 use mathlib.Core.List.{List}
 use mathlib.Core.Option.{some}
@@ -37,7 +37,7 @@ use Rattle.session.specs.Modelling.{mostModelRows, namesFor, rowsWith, pickOpti
 use Rattle.session.specs.Good.{GoodTables, GoodSession}
 use Rattle.model_laws.specs.OutcomeLaws.{accepted-read}
 use Rattle.model_laws.specs.SessionLaws.{while-model, parts-with}
-use Rattle.model_laws.specs.ActionLaws.{withTruths, length-last, last-kept, every-last}
+use Rattle.model_laws.specs.ActionLaws.{withTruths, length-last, last-kept, every-last, variants-kept}
 use Rattle.model_laws.specs.DrawnLaws.{Read, read-within}
 use Rattle.model_laws.specs.ReadLaws.{line-read}
 use Rattle.model_laws.specs.HeadLaws.{head-headed}
@@ -117,8 +117,8 @@ module _ (σ : Session) (good : GoodSession σ) (part : σ .part ≡ ModelPart) 
           (became (σ .names) ar (good .tables) (truthsNow l) (σ .rows) p vs w shallow) (λ t x.
           let f : Truths → Truths = λ truths. withTruthAt truths (t .0) (t .1) in
           accepted-ok
-          (while-model _ part (good .quiet part) (good .tables)
-          (record { count = omega (arith, good .agreeing .count, length-last f l); last = last-kept f c n l (good .agreeing .last) })
+          (while-model _ part (good .quiet part) (good .log) (good .tables)
+          (record { count = omega (arith, good .agreeing .count, length-last f l); last = last-kept f c n l (good .agreeing .last); all = good .agreeing .all ∙ sym (variants-kept f l) })
           (parts-with _ (σ .singles) (σ .model) ar (σ .model .reward) (lastVariant l f) (good .parts) (good .parts .reward)
           (every-last f ar c n (truth-put ar c (t .0) (t .1) (x .good)) l (good .agreeing .last) (good .parts .actions)))
           (x .few)))

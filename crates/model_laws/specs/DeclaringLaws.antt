@@ -4,7 +4,7 @@ use mathlib.Core.Bool.{not, _||_}
 use mathlib.Core.List.{List, [], _∷_, _++_}
 use Prim.Native.Nat.{ℕ}
 use native.Mathlib.Omega.{arith}
-use lib.ListN.{length}
+use lib.ListN.{length, length-append}
 use lib.Dec.{ltb, leb}
 use borrow.Author.Tests.{leb-true, leb-false, ltb-false, not-false}
 use Rattle.basics.specs.Tests.{and-left, and-right}
@@ -22,7 +22,7 @@ use Rattle.session.specs.Replies.{withNames, withTotal, withDiscount, withActio
 use Rattle.session.specs.Good.{GoodTables, GoodParts, GoodSession}
 use Rattle.model_laws.specs.OutcomeLaws.{neither}
 use Rattle.model_laws.specs.SessionLaws.{while-model, parts-with}
-use Rattle.model_laws.specs.ActionLaws.{length-more, every-more, last-more}
+use Rattle.model_laws.specs.ActionLaws.{length-more, every-more, last-more, variants-more}
 
 module _ (σ : Session) (good : GoodSession σ) (part : σ .part ≡ ModelPart) where
   tables : GoodTables (σ .names) (σ .model .arities)
@@ -40,17 +40,18 @@ module _ (σ : Session) (good : GoodSession σ) (part : σ .part ≡ ModelPart) 
           accepted-cond (isDeclared (σ .names) k) Name _ (λ new.
           accepted-cond (leb constantCount (length (σ .names .constants))) Space _ (λ room.
           accepted-ok
-          (while-model _ part (good .quiet part)
+          (while-model _ part (good .quiet part) (good .log)
           (record {
             constants = omega (arith, length-more (σ .names .constants) k, leb-false constantCount (length (σ .names .constants)) room);
             predicates = tables .predicates;
             actions = tables .actions;
             parameters = tables .parameters;
             variants = tables .variants;
+            earlier = tables .earlier;
             arities = tables .arities;
             undeclared = tables .undeclared;
           })
-          (record { count = good .agreeing .count; last = good .agreeing .last })
+          (record { count = good .agreeing .count; last = good .agreeing .last; all = good .agreeing .all })
           parts
           (good .few))))
 
@@ -63,7 +64,7 @@ module _ (σ : Session) (good : GoodSession σ) (part : σ .part ≡ ModelPart) 
           accepted-cond (not (isTotal w)) Range _ (λ e.
           let q = not-false (isTotal w) e in
           accepted-ok
-          (while-model _ part (good .quiet part) tables (good .agreeing)
+          (while-model _ part (good .quiet part) (good .log) tables (good .agreeing)
           (record {
             total-some = leb-true 1 w (and-left (leb 1 w) _ q);
             total-few = leb-true w mostTotal (and-right (leb 1 w) _ q);
@@ -85,7 +86,7 @@ module _ (σ : Session) (good : GoodSession σ) (part : σ .part ≡ ModelPart) 
           let q = not-false (isDiscount g d) e in
           let r = and-right (leb 1 d) _ q in
           accepted-ok
-          (while-model _ part (good .quiet part) tables (good .agreeing)
+          (while-model _ part (good .quiet part) (good .log) tables (good .agreeing)
           (record {
             total-some = parts .total-some;
             total-few = parts .total-few;
@@ -111,19 +112,21 @@ module _ (σ : Session) (good : GoodSession σ) (part : σ .part ≡ ModelPart) 
           let q = neither (ltb parameterCount (length ps)) _ e in
           let few = ltb-false parameterCount (length ps) (q .0) in
           accepted-ok
-          (while-model _ part (good .quiet part)
+          (while-model _ part (good .quiet part) (good .log)
           (record {
             constants = tables .constants;
             predicates = tables .predicates;
             actions = omega (arith, length-more (σ .names .actions) k, leb-false mostActions (length (σ .names .actions)) (q .1));
             parameters = few;
             variants = omega arith;
+            earlier = omega (arith, tables .earlier, length-append (σ .names .earlier) (σ .names .variants));
             arities = tables .arities;
             undeclared = tables .undeclared;
           })
           (record {
             count = omega (arith, length-more (σ .names .actions) k, length-more (σ .model .actions) a, good .agreeing .count);
             last = last-more (σ .model .actions) a;
+            all = omega (arith, good .agreeing .all, length-append (σ .names .earlier) (σ .names .variants), variants-more (σ .model .actions) a);
           })
           (parts-with _ (σ .singles) (σ .model) (σ .model .arities) (σ .model .reward) (σ .model .actions ++ (a ∷ [])) parts (parts .reward)
           (every-more (GoodAction (σ .model .arities)) (σ .model .actions) a (parts .actions) (record { few = few; variants-few = omega arith; variants = tt })))

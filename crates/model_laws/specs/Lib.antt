@@ -1,4 +1,5 @@
--- Every line of the model keeps a session good, and the count of the model's rows right (document 01, section 'Text'); weights that pass add up.
+-- Every line of the model keeps a session good, the names of all variants among them (document 02, L10), and the count of the model's rows right (document 01,
+-- section 'Text'); weights that pass add up.
 --
 -- Definitions
 --   rowsIn, truthRows, variantRows, actionRows, modelRows == the rows of all model listings: the reward's, the weights' and the truth diagrams'
@@ -20,6 +21,7 @@
 --   weighed-exactly: (start) accepts and refuses the weights so (IsWeighed)
 --   weighed-adds-up: where (start) accepts the weights, those of each action add up to W in every state, for every tuple (document 02, L5)
 --   adds-up-leads: and an action whose weights add up to W in every state, for every tuple, is not refused 13
+--   variants-more, variants-added, variants-kept: the variants of all actions behind one action, one variant or one truth diagram more; variants-most: at most 8 for each action
 --   built-read: what a good reading builds is a good diagram, with the terms that the reading names
 
 pub mod ModelRows

@@ -49,17 +49,18 @@ module _ (σ : Session) (good : GoodSession σ) (part : σ .part ≡ ModelPart) 
           let g = grown (ltb-false mostPlaces a e) in
           let l = length-more (σ .names .predicates) k in
           accepted-ok
-          (while-model _ part (good .quiet part)
+          (while-model _ part (good .quiet part) (good .log)
           (record {
             constants = tables .constants;
             predicates = omega (arith, l, leb-false predicateCount p room);
             actions = tables .actions;
             parameters = tables .parameters;
             variants = tables .variants;
+            earlier = tables .earlier;
             arities = g .arities;
             undeclared = λ q h. getD-set-other ar p q a 0 (λ z. omega arith) ∙ tables .undeclared q (omega arith);
           })
-          (record { count = good .agreeing .count; last = good .agreeing .last })
+          (record { count = good .agreeing .count; last = good .agreeing .last; all = good .agreeing .all })
           (parts-with _ (σ .singles) (σ .model) (set ar p a) (σ .model .reward) (σ .model .actions) (good .parts)
           (λ s. reward-grown ar (set ar p a) g (σ .model .reward) (good .parts .reward s)) (actions-grown ar (set ar p a) g (σ .model .actions) (good .parts .actions)))
           (good .few)))))

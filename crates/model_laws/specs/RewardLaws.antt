@@ -48,5 +48,5 @@ module _ (σ : Session) (good : GoodSession σ) (part : σ .part ≡ ModelPart) 
           accepted-then (rewardRead (σ .names) (σ .model .arities) (σ .rows) (diagramEvents w))
           (rewarded (σ .names) (σ .model .arities) (good .tables) (σ .rows) w shallow) (λ d x.
           accepted-ok
-          (while-model _ part (good .quiet part) (good .tables) (good .agreeing)
+          (while-model _ part (good .quiet part) (good .log) (good .tables) (good .agreeing)
           (parts-with _ _ (σ .model) (σ .model .arities) d (σ .model .actions) (good .parts) (λ s. x .good) (good .parts .actions)) (x .few)))

@@ -1,7 +1,7 @@
 -- `rows` of a session counts the rows of all model listings: every line of the model keeps that (document 01, section 'Text').
 use mathlib.Core.Path.{_≡_, refl, sym, ap, _∙_}
 use mathlib.Core.Bool.{Bool, false, cond}
-use mathlib.Core.List.{List, [], _∷_, _++_}
+use mathlib.Core.List.{List, [], _∷_}
 use mathlib.Core.Option.{Option, some, none}
 use Prim.Native.Nat.{ℕ, zero, suc, _+_, _≤_, _<_}
 use native.Mathlib.Omega.{arith}
@@ -36,6 +36,7 @@ use Rattle.session.specs.Replies.{withAction}
 use Rattle.session.specs.Good.{LastAction, GoodSession}
 use Rattle.model_laws.specs.ModelRows.{rowsIn, truthRows, variantRows, actionRows, modelRows, Counted}
 use Rattle.model_laws.specs.OutcomeLaws.{accepted-read}
+use Rattle.model_laws.specs.ActionLaws.{sum-more}
 
 -- ===== A truth diagram more =====
 
@@ -88,11 +89,6 @@ module _ (p : ℕ) (d : Diagram) (few : p < predicateCount) where
   last-rows c n [] h one free = absurd (omega arith)
   last-rows c n (a ∷ []) h one free = omega (arith, truths-rows (a .variants) (omega (arith, h .1)) free)
   last-rows c n (a ∷ b ∷ l) h one free = omega (arith, last-rows c n (b ∷ l) h one free)
-
-sum-more : {A : Type 0} (f : A → ℕ) (l : List A) (a : A) → sumOf (l ++ (a ∷ [])) f ≡ sumOf l f + f a
-unfolding sumOf
-sum-more f [] a = omega arith
-sum-more f (b ∷ l) a = omega (arith, sum-more f l a)
 
 added-rows : (v : Variant) (l : List Action) → 1 ≤ length l → sumOf (addVariant l v) actionRows ≡ sumOf l actionRows + variantRows v
 unfolding sumOf actionRows

@@ -9,17 +9,18 @@ use Rattle.mdp.specs.Model.{Action, Model, Every, GoodAction}
 use Rattle.session.specs.declared.Part.the-variants.{Model as ModelPart, Run}
 use Rattle.session.specs.Session.{Singles, Session}
 use Rattle.session.specs.Modelling.{mostModelRows}
-use Rattle.session.specs.Good.{GoodTables, Agreeing, GoodValue, GoodParts, GoodSession}
+use Rattle.session.specs.Good.{GoodTables, Agreeing, GoodValue, GoodParts, GoodLog, GoodSession}
 
-pub while-model : (σ : Session) → σ .part ≡ ModelPart → σ .live .objects ≡ 0 → GoodTables (σ .names) (σ .model .arities)
+pub while-model : (σ : Session) → σ .part ≡ ModelPart → σ .live .objects ≡ 0 → GoodLog (σ .live) → GoodTables (σ .names) (σ .model .arities)
     → Agreeing (σ .names) (σ .model .actions) → GoodParts (σ .singles) (σ .model) → σ .rows ≤ mostModelRows → GoodSession σ
-while-model σ part none tables agreeing parts few = record {
+while-model σ part none log tables agreeing parts few = record {
   tables = tables;
   agreeing = agreeing;
   parts = parts;
   few = few;
   state = λ some. absurd (omega arith);
   most = omega arith;
+  log = log;
   quiet = λ e. none;
   begun = λ run. absurd (let z : ModelPart ≡ Run = sym part ∙ run in let y : _≡_ {A = ℕ} 0 1 = cc in omega arith);
 }

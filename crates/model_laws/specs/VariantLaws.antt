@@ -32,7 +32,7 @@ use Rattle.session.specs.Modelling.{mostModelRows, namesFor, rowsWith, addVaria
 use Rattle.session.specs.Good.{GoodTables, LastAction, GoodSession}
 use Rattle.model_laws.specs.OutcomeLaws.{accepted-read, neither}
 use Rattle.model_laws.specs.SessionLaws.{while-model, parts-with}
-use Rattle.model_laws.specs.ActionLaws.{length-more, length-added, last-added, every-added}
+use Rattle.model_laws.specs.ActionLaws.{length-more, length-added, last-added, every-added, variants-added, variants-most}
 use Rattle.model_laws.specs.DrawnLaws.{Read}
 use Rattle.model_laws.specs.ReadLaws.{line-read}
 
@@ -102,26 +102,32 @@ module _ (σ : Session) (good : GoodSession σ) (part : σ .part ≡ ModelPart) 
       n : ℕ
       n = length (σ .names .variants)
 
+      some-action : 1 ≤ length l
+      some-action = omega (arith, good .agreeing .count)
+
       accepted : Accepted GoodSession (variantLine σ k (diagramEvents w))
       accepted =
           accepted-then (weightRead (σ .names) ar (σ .rows) k (diagramEvents w)) (weighed (σ .names) ar tables (σ .rows) k w shallow) (λ d x.
           let v : Variant = weighted d in
           let m = length-more (σ .names .variants) k in
+          let q = variants-added v l some-action in
+          let e = every-added v ar c n (x .room) (x .good) l (good .agreeing .last) (good .parts .actions) in
           accepted-ok
-          (while-model _ part (good .quiet part)
+          (while-model _ part (good .quiet part) (good .log)
           (record {
             constants = tables .constants;
             predicates = tables .predicates;
             actions = tables .actions;
             parameters = tables .parameters;
             variants = omega (arith, m, x .room);
+            earlier = omega (arith, m, good .agreeing .all, good .agreeing .count, tables .actions, length-added v l, q, variants-most ar (addVariant l v) e);
             arities = tables .arities;
             undeclared = tables .undeclared;
           })
           (record {
             count = omega (arith, good .agreeing .count, length-added v l);
-            last = subst (LastAction (addVariant l v) c) (sym m) (last-added v c n l (omega (arith, good .agreeing .count)) (good .agreeing .last));
+            last = subst (LastAction (addVariant l v) c) (sym m) (last-added v c n l some-action (good .agreeing .last));
+            all = omega (arith, m, good .agreeing .all, q);
           })
-          (parts-with _ (σ .singles) (σ .model) ar (σ .model .reward) (addVariant l v) (good .parts) (good .parts .reward)
-          (every-added v ar c n (x .room) (x .good) l (good .agreeing .last) (good .parts .actions)))
+          (parts-with _ (σ .singles) (σ .model) ar (σ .model .reward) (addVariant l v) (good .parts) (good .parts .reward) e)
           (x .few)))

@@ -1,4 +1,5 @@
 -- Laws that the functions' proofs use.
+pub mod CountLaws
 pub mod AddLaws
 pub mod VariantLaws
 pub mod TruthLaws

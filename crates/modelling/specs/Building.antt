@@ -2,7 +2,7 @@
 use mathlib.Core.Path.{_≡_}
 use mathlib.Core.Bool.{Bool}
 use mathlib.Core.List.{List, [], _∷_, _++_}
-use Prim.Native.Nat.{ℕ, _+_, _*_, _-_, _≤_, _<_}
+use Prim.Native.Nat.{ℕ, zero, suc, _+_, _*_, _-_, _≤_, _<_}
 use lib.ListN.{length, getD, take}
 use Rattle.label.specs.Limits.{predicateCount}
 use Rattle.diagram.specs.Diagram.{Diagram}
@@ -70,6 +70,17 @@ pub record SpannedVariant (table : List ℕ) (words i : ℕ) : Type 0 where
 pub record SpannedAction (table : List ℕ) (words a : ℕ) : Type 0 where
   pub few : variantsOf table a ≤ mostVariants
   pub variants : (v : ℕ) → v < variantsOf table a → SpannedVariant table words (variantPlace a v)
+
+-- the variants of the first a actions in the table
+abbrev pub variantsBefore : List ℕ → ℕ → ℕ
+variantsBefore table zero = 0
+variantsBefore table (suc a) = variantsBefore table a + variantsOf table a
+
+-- the first a actions in the table have few variants each
+pub record FewVariants (table : List ℕ) (a : ℕ) : Type 0 where
+  pub room : tableWords ≤ length table
+  pub few : a ≤ mostActions
+  pub each : (i : ℕ) → i < a → variantsOf table i ≤ mostVariants
 
 -- counts within their limits, and every listing within the words in use
 pub record Spanned (table : List ℕ) (h : Head) : Type 0 where

@@ -2,3 +2,4 @@
 pub mod Building
 pub mod WordLaws
 pub mod BuildingLaws
+pub mod NameLaws

@@ -6,7 +6,7 @@ ghost use lib.ListN.{length};
 ghost use lib.Seq.{paste};
 ghost use Rattle.mdp.specs.Model.{mostVariants};
 ghost use Rattle.model.specs.Layout.{spanWords, actionWords, variantsOf};
-ghost use Rattle.modelling.specs.Building.{ActionRoom, ActionAdded, RowsRoom, RewardAdded, Cleared, Opened, VariantRoom, VariantAdded, TruthRoom, TruthPlaced, HasTruth, TruthAdded};
+ghost use Rattle.modelling.specs.Building.{variantsBefore, FewVariants, ActionRoom, ActionAdded, RowsRoom, RewardAdded, Cleared, Opened, VariantRoom, VariantAdded, TruthRoom, TruthPlaced, HasTruth, TruthAdded};
 
 // Words of a variant in the table for its truth diagrams: two for each predicate.
 const SPAN_WORDS: usize = 64;
@@ -23,6 +23,20 @@ fn append(listings: &mut [u64], start: usize, out: &[u64], rows: usize)
         listings[start + i] = out[i];
         i += 1;
     }
+}
+
+// The variants of the first a actions.
+pub fn variants_before(table: &[u64], a: usize) -> usize
+    requires { ⌜ FewVariants (now table) a ⌝ }
+    ensures { λ r. ⌜ r ≡ variantsBefore (now (table .entry)) a ⌝ }
+{
+    let mut n = 0;
+    let mut i = 0;
+    while i < a {
+        n += table[i * model::ACTION_WORDS + 1] as usize;
+        i += 1;
+    }
+    n
 }
 
 // (action n !p ..): one action more, of `count` parameters and with no variant.

@@ -17,7 +17,7 @@ declaredAt = 34
 abbrev pub actionsAt : ℕ
 actionsAt = 96
 
--- the keys of the last action's parameters, 4 at most, and of its variants, 8 at most
+-- the keys of the last action's parameters, 4 at most; those of the variants of all actions, 64 at most, one action's behind another's
 abbrev pub parametersAt : ℕ
 parametersAt = 112
 
@@ -25,4 +25,4 @@ abbrev pub variantsAt : ℕ
 variantsAt = 120
 
 abbrev pub nameWords : ℕ
-nameWords = 136
+nameWords = 248

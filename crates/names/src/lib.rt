@@ -6,8 +6,8 @@ ghost use lib.ListN.{length};
 ghost use Rattle.names.specs.Keys.{sameKey, keyAt, keysAt, placeOf, putKey};
 
 // Where the tables of a session's names begin: the constants' keys; the predicates' keys by number, that of equality unused, and so
-// the first declared predicate's; the actions' keys; the keys of the last action's parameters and of its variants. WORDS is what they
-// take together.
+// the first declared predicate's; the actions' keys; the keys of the last action's parameters; those of the variants of all
+// actions, one action's behind another's. WORDS is what they take together.
 pub const CONSTANTS: usize = 0;
 
 pub const PREDICATES: usize = 32;
@@ -20,7 +20,7 @@ pub const PARAMETERS: usize = 112;
 
 pub const VARIANTS: usize = 120;
 
-pub const WORDS: usize = 136;
+pub const WORDS: usize = 248;
 
 // Whether two keys are equal.
 pub fn same(x: Key, y: Key) -> bool

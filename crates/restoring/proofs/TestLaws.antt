@@ -11,7 +11,7 @@ use borrow.Author.Tests.{le-leb, lt-leb, leb-true, leb-false, lt-ltb, eq-eqb, ne
 use Rattle.basics.specs.Tests.{Flag, isTrue, isFalse, flag}
 use Rattle.label.specs.Limits.{constantCount, predicateCount}
 use Rattle.label.specs.Labels.{areArities}
-use Rattle.diagram.specs.Sizes.{resultWords}
+use Rattle.diagram.specs.Sizes.{resultWords, highestValue}
 use Rattle.diagram.specs.Words.{everyBelow}
 use Rattle.diagram.specs.Listings.{is-listing-good}
 use Rattle.listing.specs.Check.{Decides}
@@ -21,21 +21,25 @@ use Rattle.mdp.specs.Backup.{mostSteps}
 use Rattle.names.specs.Layout.{nameWords}
 use Rattle.session.specs.declared.Part.{Part}
 use Rattle.session.specs.declared.Part.the-variants.{Model, Run}
-use Rattle.session.specs.Facts.{mostObjects, mostFacts}
+use Rattle.replay.specs.Replay.{mostFacts}
+use Rattle.session.specs.Facts.{mostObjects}
+use Rattle.session.specs.Good.{mostVariantNames}
 use Rattle.declare.specs.declared.Counts.{Counts}
 use Rattle.facts.specs.declared.Live.{Live}
 use Rattle.facts.specs.Words.{part, factsBase, stateWords}
 use Rattle.model.specs.declared.Head.{Head}
 use Rattle.model.specs.Layout.{listingWords, tableWords, actionWords, variantsOf, rewardWords}
+use Rattle.modelling.specs.Building.{variantsBefore, FewVariants}
 use Rattle.planner.specs.declared.Held.{Held}
 use Rattle.memory.specs.declared.Numbers.{Numbers}
 use Rattle.memory.specs.Memory.{Memory, memoryOf, Rooms}
 use Rattle.checking.specs.Fitting.{isValue, actionsFit}
 use Rattle.checking.specs.Lent.{Lent}
 use Rattle.checking.proofs.TestLaws.{stops, goes, refused, passed}
-use Rattle.restoring.specs.Restoring.{roomsFit, countsFit, aritiesFit, headFits, rewardFits, lastFits, modelFits, stateFits, runFits, partFits, isSession}
-use Rattle.restoring.specs.PartLaws.{head-is, reward-is, state-is, arities-are, rooms-are, model-is}
+use Rattle.restoring.specs.Restoring.{roomsFit, countsFit, aritiesFit, headFits, rewardFits, lastNamed, lastFits, modelFits, logFits, stateFits, runFits, partFits, isSession}
+use Rattle.restoring.specs.PartLaws.{head-is, reward-is, log-is, state-is, counts-are, arities-are, rooms-are, model-is}
 use Rattle.checking.specs.DecisionLaws.{decided}
+use Rattle.checking.specs.FittingLaws.{actions-are}
 
 -- a test that is decided otherwise too
 pub says-no : {b : Bool} {P : Type 0} → Decides b P → (P → ⊥) → false ≡ b
@@ -97,10 +101,12 @@ module _ (names arities listings table state value : ℕ) where
 
 -- ===== The model =====
 
-pub counts-rest : (n : Counts) → n .constants ≤ 16 → n .predicates < 32 → n .actions ≤ 8 → n .parameters ≤ 4 → leb (n .variants) 8 ≡ countsFit n
+pub counts-rest : (n : Counts) → n .constants ≤ 16 → n .predicates < 32 → n .actions ≤ 8 → n .parameters ≤ 4 → n .variants ≤ 8
+    → leb (n .earlier + n .variants) 64 ≡ countsFit n
 unfolding countsFit
-counts-rest n a b c d =
-    goes (le-leb (n .constants) 16 a) (goes (lt-ltb (n .predicates) 32 b) (goes (le-leb (n .actions) 8 c) (goes (le-leb (n .parameters) 4 d) refl)))
+counts-rest n a b c d e =
+    goes (le-leb (n .constants) 16 a) (goes (lt-ltb (n .predicates) 32 b) (goes (le-leb (n .actions) 8 c) (goes (le-leb (n .parameters) 4 d)
+    (goes (le-leb (n .variants) 8 e) refl))))
 
 pub arity-declared : (p n a : ℕ) → p ≤ n → true ≡ (leb p n || eqb a 0)
 arity-declared p n a h = sym (ap (λ (b : Bool). b || eqb a 0) (le-leb p n h))
@@ -150,25 +156,37 @@ module _ (table : List ℕ) (n : Counts) (k : ℕ) where
   abbrev rest : Bool
   rest = eqb (getD table ((k - 1) * actionWords) 0) (n .parameters) && eqb (variantsOf table (k - 1)) (n .variants)
 
+  pub named-none : k ≡ 0 → eqb (n .variants) 0 ≡ lastNamed table n k
+  unfolding lastNamed
+  named-none z = sym (ap (λ (b : Bool). cond b (eqb (n .variants) 0) rest) (eq-eqb k 0 z))
+
+  module _ (f : k ≡ 0 → ⊥) where
+    acted : {r : Bool} → r ≡ rest → r ≡ lastNamed table n k
+    unfolding lastNamed
+    acted q = q ∙ sym (ap (λ (b : Bool). cond b (eqb (n .variants) 0) rest) (ne-eqb k 0 f))
+
+    pub named-parameters : (getD table ((k - 1) * actionWords) 0 ≡ n .parameters → ⊥) → false ≡ lastNamed table n k
+    named-parameters g = acted (stops _ (ne-eqb (getD table ((k - 1) * actionWords) 0) (n .parameters) g))
+
+    pub named-rest : getD table ((k - 1) * actionWords) 0 ≡ n .parameters → eqb (variantsOf table (k - 1)) (n .variants) ≡ lastNamed table n k
+    named-rest g = acted (goes (eq-eqb (getD table ((k - 1) * actionWords) 0) (n .parameters) g) refl)
+
   pub last-other : (n .actions ≡ k → ⊥) → false ≡ lastFits table n k
   unfolding lastFits
   last-other f = stops _ (ne-eqb (n .actions) k f)
 
-  module _ (e : n .actions ≡ k) where
-    pub last-none : k ≡ 0 → eqb (n .variants) 0 ≡ lastFits table n k
+  module _ (e : n .actions ≡ k) {b : Bool} (eb : b ≡ lastNamed table n k) where
+    pub last-unnamed : not b ≡ true → false ≡ lastFits table n k
     unfolding lastFits
-    last-none z = goes (eq-eqb (n .actions) k e) (sym (ap (λ (b : Bool). cond b (eqb (n .variants) 0) rest) (eq-eqb k 0 z)))
+    last-unnamed f = goes (eq-eqb (n .actions) k e) (first _ eb f)
 
-    module _ (f : k ≡ 0 → ⊥) where
-      acted : {r : Bool} → r ≡ rest → r ≡ lastFits table n k
-      unfolding lastFits
-      acted q = goes (eq-eqb (n .actions) k e) (q ∙ sym (ap (λ (b : Bool). cond b (eqb (n .variants) 0) rest) (ne-eqb k 0 f)))
+    pub last-rest : {v : ℕ} → not b ≡ false → v ≡ variantsBefore table k → eqb (n .earlier + n .variants) v ≡ lastFits table n k
+    unfolding lastFits
+    last-rest f q = goes (eq-eqb (n .actions) k e) (next eb f (ap (λ (x : ℕ). eqb (n .earlier + n .variants) x) q))
 
-      pub last-parameters : (getD table ((k - 1) * actionWords) 0 ≡ n .parameters → ⊥) → false ≡ lastFits table n k
-      last-parameters g = acted (stops _ (ne-eqb (getD table ((k - 1) * actionWords) 0) (n .parameters) g))
-
-      pub last-rest : getD table ((k - 1) * actionWords) 0 ≡ n .parameters → eqb (variantsOf table (k - 1)) (n .variants) ≡ lastFits table n k
-      last-rest g = acted (goes (eq-eqb (getD table ((k - 1) * actionWords) 0) (n .parameters) g) refl)
+-- counts that passed are few
+pub names-few : (n : Counts) → countsFit n ≡ true → n .earlier + n .variants ≤ mostVariantNames
+names-few n e = counts-are n .yes e .earlier
 
 -- the reward is within the listings
 pub reward-within : (h : Head) (room : ℕ) {b : Bool} → b ≡ headFits h → not b ≡ false → listingWords ≤ room → h .«reward_start» + h .«reward_words» ≤ room
@@ -183,6 +201,14 @@ actions-lent ar listings n h p q e f l = record {
   arities = arities-are ar n .yes (passed p q) .arities;
   room = let x = head-is h .yes (passed e f) in omega (arith, x .words);
   parameters = omega arith;
+}
+
+pub variants-few : (ar listings table : List ℕ) (h : Head) {a b : Bool} → a ≡ headFits h → not a ≡ false
+    → b ≡ actionsFit ar listings table (h .words) (h .actions) → not b ≡ false → tableWords ≤ length table → FewVariants table (h .actions)
+variants-few ar listings table h e f p q r = record {
+  room = r;
+  few = actions-few h e f;
+  each = λ i l. actions-are ar listings table (h .words) (h .actions) .yes (passed p q) i l .few;
 }
 
 -- the tests of a model, one after another
@@ -224,22 +250,49 @@ module _ (n : Numbers) (ar listings table : List ℕ) {a : Bool} (ea : a ≡ cou
 
 -- ===== The state and the run =====
 
+module _ (l : Live) where
+  pub log-count : highestValue < l .count → false ≡ logFits l
+  unfolding logFits
+  log-count h = stops _ (lt-leb (l .count) highestValue h)
+
+  module _ (a : l .count ≤ highestValue) where
+    pub log-total : highestValue < l .total → false ≡ logFits l
+    unfolding logFits
+    log-total h = goes (le-leb (l .count) highestValue a) (stops _ (lt-leb (l .total) highestValue h))
+
+    module _ (b : l .total ≤ highestValue) where
+      log-last : {r : Bool} → r ≡ (not (eqb (l .count) 0) || eqb (l .total) 0) → r ≡ logFits l
+      unfolding logFits
+      log-last q = goes (le-leb (l .count) highestValue a) (goes (le-leb (l .total) highestValue b) q)
+
+      pub log-some : (l .count ≡ 0 → ⊥) → true ≡ logFits l
+      log-some f = log-last (sym (ap (λ (x : Bool). not x || eqb (l .total) 0) (ne-eqb (l .count) 0 f)))
+
+      pub log-none : l .count ≡ 0 → eqb (l .total) 0 ≡ logFits l
+      log-none z = log-last (sym (ap (λ (x : Bool). not x || eqb (l .total) 0) (eq-eqb (l .count) 0 z)))
+
 pub state-many : (ar s : List ℕ) (l : Live) → mostObjects < l .objects → false ≡ stateFits ar s l
 state-many ar s l h = says-no (state-is ar s l) (λ f. omega (arith, h, f .objects))
 
 pub state-long : (ar s : List ℕ) (l : Live) → mostFacts < l .facts → false ≡ stateFits ar s l
 state-long ar s l h = says-no (state-is ar s l) (λ f. omega (arith, h, f .facts))
 
-pub state-none : (ar s : List ℕ) (l : Live) → l .facts ≤ mostFacts → l .objects ≡ 0 → true ≡ stateFits ar s l
-state-none ar s l h z = says-yes (state-is ar s l) (record { objects = omega arith; facts = h; state = λ k. absurd (omega (arith, k, z)) })
+module _ (ar s : List ℕ) (l : Live) {b : Bool} (e : b ≡ logFits l) where
+  pub state-log : not b ≡ true → false ≡ stateFits ar s l
+  state-log f = says-no (state-is ar s l) (λ g. log-is s l .no (refused e f) (g .log))
 
-pub state-rest : (ar s : List ℕ) (l : Live) {r : Bool} → l .objects ≤ mostObjects → l .facts ≤ mostFacts → (l .objects ≡ 0 → ⊥)
-    → r ≡ isState ar (l .objects) (take constantCount s) (take (factsBase + l .facts * factWords - factsBase) (drop factsBase s)) → r ≡ stateFits ar s l
-unfolding stateFits
-state-rest ar s l a b c q =
-    goes (le-leb (l .objects) mostObjects a) (goes (le-leb (l .facts) mostFacts b)
-    (q ∙ ap (isState ar (l .objects) (take constantCount s)) (part-words s factsBase (l .facts * factWords))
-    ∙ sym (ap (λ (x : Bool). x || isState ar (l .objects) (part s 0 constantCount) (part s factsBase (l .facts * factWords))) (ne-eqb (l .objects) 0 c))))
+  module _ (f : not b ≡ false) where
+    pub state-none : l .facts ≤ mostFacts → l .objects ≡ 0 → true ≡ stateFits ar s l
+    state-none h z =
+        says-yes (state-is ar s l) (record { objects = omega arith; facts = h; log = log-is s l .yes (passed e f); state = λ k. absurd (omega (arith, k, z)) })
+
+    pub state-rest : {r : Bool} → l .objects ≤ mostObjects → l .facts ≤ mostFacts → (l .objects ≡ 0 → ⊥)
+        → r ≡ isState ar (l .objects) (take constantCount s) (take (factsBase + l .facts * factWords - factsBase) (drop factsBase s)) → r ≡ stateFits ar s l
+    unfolding stateFits
+    state-rest a d c q =
+        goes (le-leb (l .objects) mostObjects a) (goes (le-leb (l .facts) mostFacts d) (next e f
+        (q ∙ ap (isState ar (l .objects) (take constantCount s)) (part-words s factsBase (l .facts * factWords))
+        ∙ sym (ap (λ (x : Bool). x || isState ar (l .objects) (part s 0 constantCount) (part s factsBase (l .facts * factWords))) (ne-eqb (l .objects) 0 c)))))
 
 pub scale-some : (h : Head) → headFits h ≡ true → 1 ≤ h .total * h .denominator
 scale-some h e = let x = head-is h .yes e in let m : 1 * 1 ≤ h .total * h .denominator = mul-le-mul (x .total-some) (x .denominator-some) in omega arith

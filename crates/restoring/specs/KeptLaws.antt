@@ -168,6 +168,15 @@ good-value : (ar ws : List ℕ) → IsValue ar ws → GoodValue ar (diagramOf ws
 good-value ar ws v = record { listed = is-listing-good ar ws (v .listing); is-closed = v .is-closed; within = v .within }
 
 module _ (n : Numbers) (w : Memory) where
+  -- the names of variants: the last action's, and those before
+  length-variants : length (namesOf (w .names) (n .counts) .variants) ≡ n .counts .variants
+  unfolding namesOf
+  length-variants = length-keys (w .names) (variantsAt + n .counts .earlier * 2) (n .counts .variants)
+
+  length-earlier : length (namesOf (w .names) (n .counts) .earlier) ≡ n .counts .earlier
+  unfolding namesOf
+  length-earlier = length-keys (w .names) variantsAt (n .counts .earlier)
+
   fits-building : Fits n w → Building (w .listings) (w .table) (n .head)
   fits-building f = record {
     spanned = record {
@@ -198,6 +207,7 @@ module _ (n : Numbers) (w : Memory) where
         actions = f .model .counts .actions;
         parameters = f .model .counts .parameters;
         variants = f .model .counts .variants;
+        earlier = f .model .counts .earlier;
       };
       arities = f .model .arities .arities;
     };
@@ -233,7 +243,8 @@ module _ (n : Numbers) (w : Memory) where
           predicates = omega (arith, c .predicates, length-keys (w .names) declaredAt (n .counts .predicates));
           actions = omega (arith, c .actions, length-keys (w .names) actionsAt (n .counts .actions));
           parameters = omega (arith, c .parameters, length-keys (w .names) parametersAt (n .counts .parameters));
-          variants = omega (arith, c .variants, length-keys (w .names) variantsAt (n .counts .variants));
+          variants = omega (arith, c .variants, length-variants);
+          earlier = omega (arith, c .earlier, length-earlier, length-variants);
           arities = f .model .arities .arities;
           undeclared = λ p l. f .model .arities .undeclared p (omega (arith, l, length-keys (w .names) declaredAt (n .counts .predicates)));
         };
@@ -243,7 +254,8 @@ module _ (n : Numbers) (w : Memory) where
               subst (λ (k : ℕ). LastAction (many (actionAt (w .listings) (w .table)) (n .head .actions)) k (length (namesOf (w .names) (n .counts) .variants)))
               (sym (length-keys (w .names) parametersAt (n .counts .parameters)))
               (subst (LastAction (many (actionAt (w .listings) (w .table)) (n .head .actions)) (n .counts .parameters))
-              (sym (length-keys (w .names) variantsAt (n .counts .variants))) (f .model .last .last));
+              (sym length-variants) (f .model .last .last));
+          all = ap₂ _+_ length-earlier length-variants ∙ f .model .last .all;
         };
         parts = record {
           total-some = h .total-some;
@@ -257,6 +269,7 @@ module _ (n : Numbers) (w : Memory) where
         few = omega (arith, h .words);
         state = f .state .state;
         most = f .state .objects;
+        log = f .state .log;
         quiet = f .part-fits .quiet;
         begun = λ e.
             let r = v (f .model .reward .value (f .part-fits .rewarded e)) in
@@ -298,7 +311,7 @@ module _ (n : Numbers) (w : Memory) where
       let p = g .parts in
       let c = s .vocabulary .names in
       record {
-        counts = record { constants = c .constants; predicates = c .predicates; actions = c .actions; parameters = c .parameters; variants = c .variants };
+        counts = record { constants = c .constants; predicates = c .predicates; actions = c .actions; parameters = c .parameters; variants = c .variants; earlier = c .earlier };
         arities = record {
           arities = s .vocabulary .arities;
           undeclared = λ q l. g .tables .undeclared q (omega (arith, l, length-keys (w .names) declaredAt (n .counts .predicates)));
@@ -328,9 +341,10 @@ module _ (n : Numbers) (w : Memory) where
         last = record {
           count = sym (length-keys (w .names) actionsAt (n .counts .actions)) ∙ g .agreeing .count ∙ length-many (actionAt (w .listings) (w .table)) (n .head .actions);
           last =
-              subst (LastAction (many (actionAt (w .listings) (w .table)) (n .head .actions)) (n .counts .parameters)) (length-keys (w .names) variantsAt (n .counts .variants))
+              subst (LastAction (many (actionAt (w .listings) (w .table)) (n .head .actions)) (n .counts .parameters)) length-variants
               (subst (λ (k : ℕ). LastAction (many (actionAt (w .listings) (w .table)) (n .head .actions)) k (length (namesOf (w .names) (n .counts) .variants)))
               (length-keys (w .names) parametersAt (n .counts .parameters)) (g .agreeing .last));
+          all = sym (ap₂ _+_ length-earlier length-variants) ∙ g .agreeing .all;
         };
       }
 
@@ -355,7 +369,7 @@ module _ (n : Numbers) (w : Memory) where
   kept-fits k = record {
     rooms = kept-rooms (k .stored);
     model = kept-model k;
-    state = record { objects = k .stored .live .objects; facts = k .stored .live .facts; state = k .good .state };
+    state = record { objects = k .stored .live .objects; facts = k .stored .live .facts; log = k .good .log; state = k .good .state };
     rows = k .stored .value-rows;
     part-fits = kept-part k;
   }

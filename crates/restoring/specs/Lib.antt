@@ -1,11 +1,14 @@
 -- Whether numbers and words are a session's, as every line keeps them: a test that computes. What opening or any line leaves passes; words that pass need not
 -- have come from lines, and then (value) is the value of the diagram in hand and not Mk, and (text) and (best) print the bytes that the keys hold, be they names or not;
--- (best)'s move is then that of the diagram in hand. (count n) judges all 16 words of constants, those too that are not declared.
+-- (best)'s move is then that of the diagram in hand, and (did ..) goes on from the count and total that they hold. Of their facts 9 counts every row: one that stands twice, or
+-- of equality or a predicate past 31, which are gone behind (did ..), and one of a predicate that is not declared, which it keeps and 22 counts too. A count above 0 may stand
+-- beside no objects, or a constant that is not placed. (count n) judges all 16 words of constants, those too that are not declared.
 --
 -- Definitions
 --   roomsFit == every table has its room
---   countsFit, aritiesFit, headFits, rewardFits, lastFits, modelFits == names and arities; the model's numbers; its reward; its last action; all of the model
---   stateFits, runFits, partFits == the state; the value diagram, k and S^k; what the part of the text asks
+--   countsFit, aritiesFit, headFits, rewardFits == names and arities; the model's numbers; its reward
+--   lastNamed, lastFits, modelFits == its last action is that of the names; so are all actions and variants; all of the model
+--   logFits, stateFits, runFits, partFits == count and total; the state; the value diagram, k and S^k; what the part of the text asks
 --   isSession == all of it
 --
 -- Theorem, in KeptLaws

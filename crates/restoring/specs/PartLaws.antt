@@ -11,7 +11,7 @@ use Rattle.basics.specs.Tests.{Flag, isTrue, isFalse, flag, and-left}
 use Rattle.basics.specs.Members.{clash}
 use Rattle.label.specs.Limits.{constantCount, predicateCount, parameterCount}
 use Rattle.label.specs.Labels.{areArities}
-use Rattle.diagram.specs.Sizes.{resultWords}
+use Rattle.diagram.specs.Sizes.{resultWords, highestValue}
 use Rattle.listing.specs.Check.{Decides}
 use Rattle.state.specs.Lent.{factWords, isState}
 use Rattle.names.specs.Many.{many}
@@ -21,20 +21,23 @@ use Rattle.mdp.specs.Backup.{mostSteps}
 use Rattle.names.specs.Layout.{nameWords}
 use Rattle.session.specs.declared.Part.{Part}
 use Rattle.session.specs.declared.Part.the-variants.{Model, Run}
-use Rattle.session.specs.Facts.{mostObjects, mostFacts}
-use Rattle.session.specs.Good.{LastAction}
+use Rattle.replay.specs.Replay.{mostFacts}
+use Rattle.session.specs.Facts.{mostObjects}
+use Rattle.session.specs.Good.{mostVariantNames, LastAction, variantCount, GoodLog}
 use Rattle.declare.specs.declared.Counts.{Counts}
 use Rattle.facts.specs.declared.Live.{Live}
-use Rattle.facts.specs.Words.{part, factsBase, stateWords}
+use Rattle.facts.specs.Words.{part, factsBase, stateWords, liveOf}
 use Rattle.model.specs.declared.Head.{Head}
 use Rattle.model.specs.Layout.{listingWords, tableWords, actionWords, variantPlace, variantAt, variantsOf, actionAt, rewardWords}
+use Rattle.modelling.specs.Building.{variantsBefore}
+use Rattle.modelling.specs.NameLaws.{variants-before}
 use Rattle.planner.specs.declared.Held.{Held}
 use Rattle.memory.specs.declared.Numbers.{Numbers}
 use Rattle.memory.specs.Memory.{Memory, Rooms}
 use Rattle.checking.specs.Fitting.{isValue}
 use Rattle.checking.specs.DecisionLaws.{decide, decided, on, both, unless, at-most, less, equal, is-true, every}
 use Rattle.checking.specs.FittingLaws.{IsValue, value-is, FitAction, actions-are}
-use Rattle.restoring.specs.Restoring.{roomsFit, countsFit, aritiesFit, headFits, rewardFits, lastFits, modelFits, stateFits, runFits, partFits}
+use Rattle.restoring.specs.Restoring.{roomsFit, countsFit, aritiesFit, headFits, rewardFits, lastFits, modelFits, logFits, stateFits, runFits, partFits}
 
 pub rooms-are : (w : Memory)
     → Decides (roomsFit (length (w .names)) (length (w .arities)) (length (w .listings)) (length (w .table)) (length (w .state)) (length (w .value))) (Rooms w)
@@ -57,6 +60,7 @@ pub record CountsFit (n : Counts) : Type 0 where
   pub actions : n .actions ≤ mostActions
   pub parameters : n .parameters ≤ parameterCount
   pub variants : n .variants ≤ mostVariants
+  pub earlier : n .earlier + n .variants ≤ mostVariantNames
 
 pub counts-are : (n : Counts) → Decides (countsFit n) (CountsFit n)
 unfolding countsFit
@@ -65,9 +69,10 @@ counts-are n =
     (λ a. both (less (n .predicates) predicateCount)
     (λ b. both (at-most (n .actions) mostActions)
     (λ c. both (at-most (n .parameters) parameterCount)
-    (λ d. at-most (n .variants) mostVariants)))))
-    (λ x. record { constants = x .0; predicates = x .1 .0; actions = x .1 .1 .0; parameters = x .1 .1 .1 .0; variants = x .1 .1 .1 .1 })
-    (λ r. (r .constants, (r .predicates, (r .actions, (r .parameters, r .variants)))))
+    (λ d. both (at-most (n .variants) mostVariants)
+    (λ e. at-most (n .earlier + n .variants) mostVariantNames))))))
+    (λ x. record { constants = x .0; predicates = x .1 .0; actions = x .1 .1 .0; parameters = x .1 .1 .1 .0; variants = x .1 .1 .1 .1 .0; earlier = x .1 .1 .1 .1 .1 })
+    (λ r. (r .constants, (r .predicates, (r .actions, (r .parameters, (r .variants, r .earlier))))))
 
 pub record AritiesFit (ar : List ℕ) (n : ℕ) : Type 0 where
   pub arities : areArities ar ≡ true
@@ -161,6 +166,7 @@ more-last (x ∷ y ∷ l) a c v h = more-last (y ∷ l) a c v h
 pub record LastFit (listings table : List ℕ) (n : Counts) (actions : ℕ) : Type 0 where
   pub count : n .actions ≡ actions
   pub last : LastAction (many (actionAt listings table) actions) (n .parameters) (n .variants)
+  pub all : n .earlier + n .variants ≡ variantCount (many (actionAt listings table) actions)
 
 last-at : (listings table : List ℕ) (k c v : ℕ)
     → Decides (eqb (getD table (k * actionWords) 0) c && eqb (variantsOf table k) v) (LastAction (many (actionAt listings table) k ++ (actionAt listings table k ∷ [])) c v)
@@ -188,15 +194,28 @@ last-acted listings table c v (suc k) =
 last-is : (listings table : List ℕ) (n : Counts) (actions : ℕ) → Decides (lastFits table n actions) (LastFit listings table n actions)
 unfolding lastFits
 last-is listings table n actions =
-    on (both (equal (n .actions) actions) (λ e. last-acted listings table (n .parameters) (n .variants) actions))
-    (λ x. record { count = x .0; last = x .1 })
-    (λ l. (l .count, l .last))
+    let m = variants-before listings table actions in
+    on (both (equal (n .actions) actions)
+    (λ e. both (last-acted listings table (n .parameters) (n .variants) actions)
+    (λ f. equal (n .earlier + n .variants) (variantsBefore table actions))))
+    (λ x. record { count = x .0; last = x .1 .0; all = x .1 .1 ∙ m })
+    (λ l. (l .count, (l .last, l .all ∙ sym m)))
 
 -- ===== The state and the run =====
+
+pub log-is : (s : List ℕ) (l : Live) → Decides (logFits l) (GoodLog (liveOf s l))
+unfolding logFits liveOf
+log-is s l =
+    on (both (at-most (l .count) highestValue)
+    (λ a. both (at-most (l .total) highestValue)
+    (λ b. unless (not (eqb (l .count) 0)) (equal (l .total) 0))))
+    (λ x. record { count = x .0; total = x .1 .0; none = λ z. x .1 .1 (ap not (eq-eqb (l .count) 0 z)) })
+    (λ r. (r .count, (r .total, λ f. r .none (eqb-true (l .count) 0 (not-false (eqb (l .count) 0) f)))))
 
 pub record StateFit (ar s : List ℕ) (l : Live) : Type 0 where
   pub objects : l .objects ≤ mostObjects
   pub facts : l .facts ≤ mostFacts
+  pub log : GoodLog (liveOf s l)
   pub state : 1 ≤ l .objects → isState ar (l .objects) (part s 0 constantCount) (part s factsBase (l .facts * factWords)) ≡ true
 
 pub state-is : (ar s : List ℕ) (l : Live) → Decides (stateFits ar s l) (StateFit ar s l)
@@ -204,9 +223,10 @@ unfolding stateFits
 state-is ar s l =
     on (both (at-most (l .objects) mostObjects)
     (λ a. both (at-most (l .facts) mostFacts)
-    (λ b. unless (eqb (l .objects) 0) (is-true (isState ar (l .objects) (part s 0 constantCount) (part s factsBase (l .facts * factWords)))))))
-    (λ x. record { objects = x .0; facts = x .1 .0; state = λ h. x .1 .1 (ne-eqb (l .objects) 0 (λ z. omega (arith, h, z))) })
-    (λ r. (r .objects, (r .facts, λ f. r .state (let z = eqb-false (l .objects) 0 f in omega arith))))
+    (λ b. both (log-is s l)
+    (λ c. unless (eqb (l .objects) 0) (is-true (isState ar (l .objects) (part s 0 constantCount) (part s factsBase (l .facts * factWords))))))))
+    (λ x. record { objects = x .0; facts = x .1 .0; log = x .1 .1 .0; state = λ h. x .1 .1 .1 (ne-eqb (l .objects) 0 (λ z. omega (arith, h, z))) })
+    (λ r. (r .objects, (r .facts, (r .log, λ f. r .state (let z = eqb-false (l .objects) 0 f in omega arith)))))
 
 pub record RunFit (ar value : List ℕ) (h : Head) (v : Held) : Type 0 where
   pub diagram : IsValue ar (take (v .rows * 3) value)

@@ -6,7 +6,7 @@ use lib.ListN.{length, getD, take}
 use lib.Dec.{eqb, ltb, leb}
 use Rattle.label.specs.Limits.{constantCount, predicateCount, parameterCount}
 use Rattle.label.specs.Labels.{areArities}
-use Rattle.diagram.specs.Sizes.{resultWords}
+use Rattle.diagram.specs.Sizes.{resultWords, highestValue}
 use Rattle.diagram.specs.Words.{everyBelow}
 use Rattle.state.specs.Lent.{factWords, isState}
 use Rattle.mdp.specs.Model.{mostTotal, mostDenominator, mostActions, mostVariants}
@@ -14,7 +14,10 @@ use Rattle.mdp.specs.Backup.{mostSteps}
 use Rattle.names.specs.Layout.{nameWords}
 use Rattle.session.specs.declared.Part.{Part}
 use Rattle.session.specs.declared.Part.the-variants.{Model, Run}
-use Rattle.session.specs.Facts.{mostObjects, mostFacts}
+use Rattle.replay.specs.Replay.{mostFacts}
+use Rattle.session.specs.Facts.{mostObjects}
+use Rattle.session.specs.Good.{mostVariantNames}
+use Rattle.modelling.specs.Building.{variantsBefore}
 use Rattle.declare.specs.declared.Counts.{Counts}
 use Rattle.facts.specs.declared.Live.{Live}
 use Rattle.facts.specs.Words.{part, factsBase, stateWords}
@@ -44,7 +47,8 @@ countsFit n =
     && (ltb (n .predicates) predicateCount
     && (leb (n .actions) mostActions
     && (leb (n .parameters) parameterCount
-    && leb (n .variants) mostVariants)))
+    && (leb (n .variants) mostVariants
+    && leb (n .earlier + n .variants) mostVariantNames))))
 
 -- an arity list, where n predicates are declared: a predicate that is not has arity 0
 unfoldable pub aritiesFit : List ℕ → ℕ → Bool
@@ -70,12 +74,16 @@ unfolding isValue
 rewardFits ar listings h accepted =
     cond accepted (not (eqb (h .«reward_words») 0) && isValue ar (rewardWords listings h)) (eqb (h .«reward_words») 0)
 
--- as many actions as names of them; the last one has the parameters and the variants whose names are kept
-unfoldable pub lastFits : List ℕ → Counts → ℕ → Bool
-lastFits table n actions =
-    eqb (n .actions) actions
-    && cond (eqb actions 0) (eqb (n .variants) 0)
+-- the last action has the parameters and the variants whose names are kept; without one there are none of a variant
+unfoldable pub lastNamed : List ℕ → Counts → ℕ → Bool
+lastNamed table n actions =
+    cond (eqb actions 0) (eqb (n .variants) 0)
     (eqb (getD table ((actions - 1) * actionWords) 0) (n .parameters) && eqb (variantsOf table (actions - 1)) (n .variants))
+
+-- as many actions as names of them, the last one is that of the names, and as many variants of all actions as names of them (document 02, L10)
+unfoldable pub lastFits : List ℕ → Counts → ℕ → Bool
+unfolding lastNamed
+lastFits table n actions = eqb (n .actions) actions && (lastNamed table n actions && eqb (n .earlier + n .variants) (variantsBefore table actions))
 
 unfoldable pub modelFits : Numbers → List ℕ → List ℕ → List ℕ → Bool
 unfolding countsFit aritiesFit headFits rewardFits lastFits
@@ -89,13 +97,18 @@ modelFits n ar listings table =
 
 -- ===== The state and the run =====
 
+-- count and total of (did ..) lines at most 10^18; no total before the first (document 02, L10)
+unfoldable pub logFits : Live → Bool
+logFits l = leb (l .count) highestValue && (leb (l .total) highestValue && (not (eqb (l .count) 0) || eqb (l .total) 0))
+
 -- a state that is given is one
 unfoldable pub stateFits : List ℕ → List ℕ → Live → Bool
-unfolding isState
+unfolding isState logFits
 stateFits ar s l =
     leb (l .objects) mostObjects
     && (leb (l .facts) mostFacts
-    && (eqb (l .objects) 0 || isState ar (l .objects) (part s 0 constantCount) (part s factsBase (l .facts * factWords))))
+    && (logFits l
+    && (eqb (l .objects) 0 || isState ar (l .objects) (part s 0 constantCount) (part s factsBase (l .facts * factWords)))))
 
 -- the value diagram, k, and S^k
 unfoldable pub runFits : List ℕ → List ℕ → Head → Held → Bool

@@ -17,11 +17,15 @@ ghost use Rattle.diagram.specs.Words.{everyBelow};
 ghost use Rattle.mdp.specs.Model.{mostActions};
 ghost use Rattle.facts.specs.Words.{stateWords};
 ghost use Rattle.model.specs.Layout.{listingWords, tableWords};
+ghost use Rattle.modelling.specs.Building.{FewVariants};
 ghost use Rattle.memory.specs.Memory.{memoryOf};
-ghost use Rattle.restoring.specs.Restoring.{roomsFit, countsFit, aritiesFit, headFits, rewardFits, lastFits, modelFits, stateFits, runFits, partFits, isSession};
+ghost use Rattle.restoring.specs.Restoring.{roomsFit, countsFit, aritiesFit, headFits, rewardFits, lastNamed, lastFits, modelFits, logFits, stateFits, runFits, partFits, isSession};
 
 // k, at most.
 const STEPS: u64 = 1000000000000000000;
+
+// Names of variants, of all actions together.
+const VARIANT_NAMES: usize = model::ACTIONS * model::VARIANTS;
 
 // Whether tables of these lengths have their room.
 pub fn rooms_fit(
@@ -68,7 +72,13 @@ fn counts_fit(n: Counts) -> bool
     if n.parameters > (Term::PARAMETERS as usize) {
         return false;
     }
-    n.variants <= model::VARIANTS
+    if n.variants > model::VARIANTS {
+        return false;
+    }
+    if n.earlier > VARIANT_NAMES {
+        return false;
+    }
+    n.earlier + n.variants <= VARIANT_NAMES
 }
 
 // Whether the predicate p is one of the first n, or has arity 0.
@@ -153,16 +163,13 @@ fn reward_fits(arities: &[u64], listings: &[u64], h: Head, accepted: bool) -> bo
 }
 
 // Whether the last of the actions is the one whose names are kept.
-fn last_fits(table: &[u64], n: Counts, actions: usize) -> bool
+fn last_named(table: &[u64], n: Counts, actions: usize) -> bool
     requires { ⌜ tableWords ≤ length (now table) ⌝ }
     requires { ⌜ actions ≤ mostActions ⌝ }
-    ensures { λ r. ⌜ r ≡ lastFits (now (table .entry)) n actions ⌝ }
+    ensures { λ r. ⌜ r ≡ lastNamed (now (table .entry)) n actions ⌝ }
 {
     let parameters = n.parameters;
     let variants = n.variants;
-    if n.actions != actions {
-        return false;
-    }
     if actions == 0 {
         return variants == 0;
     }
@@ -170,6 +177,21 @@ fn last_fits(table: &[u64], n: Counts, actions: usize) -> bool
         return false;
     }
     (table[(actions - 1) * model::ACTION_WORDS + 1] as usize) == variants
+}
+
+// Whether names and actions agree: as many of them, the last one, and the variants of all.
+fn last_fits(table: &[u64], n: Counts, actions: usize) -> bool
+    requires { ⌜ countsFit n ≡ true ⌝ }
+    requires { ⌜ FewVariants (now table) actions ⌝ }
+    ensures { λ r. ⌜ r ≡ lastFits (now (table .entry)) n actions ⌝ }
+{
+    if n.actions != actions {
+        return false;
+    }
+    if !last_named(table, n, actions) {
+        return false;
+    }
+    n.earlier + n.variants == modelling::variants_before(table, actions)
 }
 
 // Whether words are a model while its lines are read, and all of it in the run.
@@ -199,23 +221,42 @@ fn model_fits(n: Numbers, arities: &[u64], listings: &[u64], table: &[u64]) -> b
     last_fits(table, counts, actions)
 }
 
+// Whether count and total of (did ..) lines are at most 10^18, with no total before the first.
+fn log_fits(live: Live) -> bool
+    ensures { λ r. ⌜ r ≡ logFits live ⌝ }
+{
+    if live.count > diagram::VALUE {
+        return false;
+    }
+    if live.total > diagram::VALUE {
+        return false;
+    }
+    if live.count != 0 {
+        return true;
+    }
+    live.total == 0
+}
+
 // Whether words are a state, if one is given.
 fn state_fits(arities: &[u64], state: &[u64], live: Live) -> bool
     requires { ⌜ stateWords ≤ length (now state) ⌝ }
     ensures { λ r. ⌜ r ≡ stateFits (now (arities .entry)) (now (state .entry)) live ⌝ }
 {
     let objects = live.objects;
-    let count = live.facts;
+    let rows = live.facts;
     if objects > facts::OBJECTS {
         return false;
     }
-    if count > facts::FACTS {
+    if rows > facts::FACTS {
+        return false;
+    }
+    if !log_fits(live) {
         return false;
     }
     if objects == 0 {
         return true;
     }
-    let end = facts::FACTS_BASE + count * facts::FACT_WORDS;
+    let end = facts::FACTS_BASE + rows * facts::FACT_WORDS;
     valuing::state_fits(
         arities,
         objects,

@@ -29,6 +29,7 @@ constantLine n k =
       actions = n .actions;
       parameters = n .parameters;
       variants = n .variants;
+      earlier = n .earlier;
     })))
 
 -- the names and the arity list
@@ -50,6 +51,7 @@ predicateLine v k a =
         actions = v .names .actions;
         parameters = v .names .parameters;
         variants = v .names .variants;
+        earlier = v .names .earlier;
       };
       arities = set (v .arities) (suc (length (v .names .predicates))) a;
     }))))
@@ -88,4 +90,5 @@ actionLine n k ps =
       actions = n .actions ++ (k ∷ []);
       parameters = ps;
       variants = [];
+      earlier = n .earlier ++ n .variants;
     })))

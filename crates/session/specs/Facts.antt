@@ -2,27 +2,25 @@
 use mathlib.Core.Bool.{Bool, true, false, not, _||_, _&&_, cond}
 use mathlib.Core.List.{List, [], _∷_, _++_}
 use Prim.Native.Nat.{ℕ, suc, _+_, _*_}
-use lib.ListN.{length, set, getD, replicate, take}
+use lib.ListN.{length, set, getD, replicate}
 use lib.Dec.{ltb, leb, eqb}
 use Rattle.refusal.specs.declared.Refusal.the-variants.{Name, Arity, Range, Space}
-use Rattle.label.specs.Limits.{constantCount, mostPlaces}
+use Rattle.label.specs.Limits.{constantCount}
 use Rattle.words.specs.declared.Key.{Key}
 use Rattle.names.specs.Keys.{placeOf, isAmong}
 use Rattle.refusal.specs.Outcome.{Outcome, ok}
 use Rattle.diagram.specs.Words.{everyBelow}
 use Rattle.state.specs.Lent.{factWords, factCount, someBelow, allBelow}
+use Rattle.replay.specs.Replay.{mostFacts, factRow}
 use Rattle.session.specs.Session.{Names, Live, refuseIf}
 
--- state texts have at most 64 objects and 1,024 facts
+-- state texts have at most 64 objects, and 1,024 facts (replay, `mostFacts`)
 abbrev pub mostObjects : ℕ
 mostObjects = 64
 
-abbrev pub mostFacts : ℕ
-mostFacts = 1024
-
 -- (objects n) clears the state: no constant is placed, no fact is true
 unfoldable pub cleared : ℕ → Live
-cleared n = record { objects = n; placed = replicate constantCount 0; constants = replicate constantCount 0; facts = [] }
+cleared n = record { objects = n; placed = replicate constantCount 0; constants = replicate constantCount 0; facts = []; count = 0; total = 0 }
 
 unfoldable pub objectsLine : ℕ → Outcome Live
 unfolding cleared
@@ -30,7 +28,7 @@ objectsLine n = refuseIf (not (leb 1 n && leb n mostObjects)) Range (ok (cleared
 
 -- constant c has the object o
 unfoldable pub placed : Live → ℕ → ℕ → Live
-placed l c o = record { objects = l .objects; placed = set (l .placed) c 1; constants = set (l .constants) c o; facts = l .facts }
+placed l c o = record { objects = l .objects; placed = set (l .placed) c 1; constants = set (l .constants) c o; facts = l .facts; count = l .count; total = l .total }
 
 -- (is c o): at c 2 if it is no constant or is placed already; at o 4 if it is no object
 unfoldable pub isLine : Names → Live → Key → ℕ → Outcome Live
@@ -40,12 +38,9 @@ isLine n l k o =
     (refuseIf (leb (l .objects) o) Range
     (ok (placed l (placeOf k (n .constants)) o)))
 
--- a row of facts: the predicate and its objects, 0 in unused places
-abbrev pub factRow : ℕ → List ℕ → List ℕ
-factRow p os = p ∷ take mostPlaces (os ++ replicate mostPlaces 0)
-
+-- one fact more; count and total begin again
 unfoldable pub withFact : Live → List ℕ → Live
-withFact l row = record { objects = l .objects; placed = l .placed; constants = l .constants; facts = l .facts ++ row }
+withFact l row = record { objects = l .objects; placed = l .placed; constants = l .constants; facts = l .facts ++ row; count = 0; total = 0 }
 
 -- word j of row i of the facts is that of the row
 abbrev pub sameWord : List ℕ → List ℕ → ℕ → ℕ → Bool
@@ -59,11 +54,15 @@ rowIs facts row i = everyBelow factWords (sameWord facts row i)
 unfoldable pub isFact : List ℕ → List ℕ → Bool
 isFact facts row = someBelow (factCount facts) (rowIs facts row)
 
--- a fact that is there may be repeated without effect; last 9
+-- 'An accepted (objects n) or (true) begins again with count and total 0' (document 02, L10), a repeated one too
+unfoldable pub begunAgain : Live → Live
+begunAgain l = record { objects = l .objects; placed = l .placed; constants = l .constants; facts = l .facts; count = 0; total = 0 }
+
+-- a fact that is there may be repeated without effect on the state; last 9
 unfoldable pub factLine : Live → List ℕ → Outcome Live
-unfolding withFact isFact
+unfolding withFact begunAgain isFact
 factLine l row =
-    cond (isFact (l .facts) row) (ok l)
+    cond (isFact (l .facts) row) (ok (begunAgain l))
     (refuseIf (leb mostFacts (factCount (l .facts))) Space
     (ok (withFact l row)))
 

@@ -1,8 +1,8 @@
 -- Sessions: what a text's lines declare and ask for (document 01, sections 'Text' and 'A run, whole').
 --
 -- Definitions: a session
---   Names == the names declared: constants, predicates, actions; parameters and variants of the last action
---   Singles, Live == which single forms were accepted; the state as it is lent: objects, constants placed, facts
+--   Names == the names declared: constants, predicates, actions; parameters and variants of the last action, variants of those before it
+--   Singles, Live == which single forms were accepted; the state as it is lent: objects, constants placed, facts; count and total of (did ..) lines
 --   Session, opening == part, names, single forms, model, model rows, state, value diagram and k; before the first line
 --   defaultTotal, defaultNumerator, defaultDenominator == W is 100 and the discount 19 20 where no line gives them (document 02, L7)
 --   refuseIf == refused if true, else what follows
@@ -30,20 +30,22 @@
 -- Definitions: lines of the run
 --   mostObjects, cleared, objectsLine == (objects n)
 --   placed, isLine == (is c o): a constant's object. In Replies placed is what follows once a line's place is judged
---   mostFacts, factRow, withFact, sameWord, rowIs, isFact, factLine, predicateOf, trueLine == (true p o ..)
+--   withFact, begunAgain, sameWord, rowIs, isFact, factLine, predicateOf, trueLine == (true p o ..)
 --   stateIn, valueRead == (value): the state in hand, and its highest leaf, or 15
 --   withHeld, backupLine == (backup)
 --   cutTo, cutLine, cutSays == (cut)
 --   reduceLine == (reduce) (document 02, L13)
 --   tablesIn, formRead == (text): the names declared; how many bytes the value has as a form, or 19 (document 02, L2)
 --   bestRead, noKey, bestIs == (best): the move, or what refuses it; the action's name and its objects (document 02, L9)
+--   variantNamesFrom, variantNames, didOf, replayIn, replayed, didLine == (did action variant object ..): names found, 2, 3, 2, 4, then what replay says (document 02, L10)
 --   entriesIn, countRead == (count n): the entries of all states of n objects; 4, 24 and 15 before them (document 02, L11)
 --
 -- Definitions: replies
 --   Reply == the session behind a line, and what the line is answered
 --   withModel, withNames, withLive, withVocabulary, withTotal, withDiscount, withAction == a session with one part new
 --   refusal, silent, quietly == a refused line leaves the session as it was; nothing is printed; a line that prints nothing unless it is refused
---   valueSays, backupSays, reduceSays, textSays, bestSays, countSays == value, k, S^k; k, rows; rows; the bytes of the form; action and objects; objects and values
+--   valueSays, backupSays, reduceSays, textSays, bestSays, countSays, didSays == value, k, S^k; k, rows; rows; the bytes of the form; action and
+--       objects; objects and values; count and total
 --   done == what each kind of line does and is answered, where it stands where it may
 --   replyTo, wordsOf, reply == 1, 5 or 20, then the line's own checks; a line in bytes, of which one of none passes (document 02, L1)
 --
@@ -55,7 +57,8 @@
 --   beginning, textRead, textAnswers == all answers of a text
 --
 -- Definitions: what holds from line to line
---   GoodTables, LastAction, Agreeing, GoodValue, GoodParts == names within limits, names and actions agree, what is read of a model is good
+--   mostVariantNames, GoodTables, LastAction, variantCount, Agreeing, GoodValue, GoodParts, GoodLog == names within limits, names and actions agree, what is read of a model is good, count and
+--       total are at most 10^18
 --   Begun, GoodSession == the run has begun with a good model that has an action, and a good value diagram; what can be told of a good session from itself alone
 --
 -- The theorems are in model_laws and session_laws.
@@ -66,6 +69,7 @@ pub mod Declaring
 pub mod Facts
 pub mod Modelling
 pub mod Running
+pub mod Replaying
 pub mod Replies
 pub mod Texts
 pub mod Good

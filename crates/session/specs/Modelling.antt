@@ -109,6 +109,7 @@ withVariant σ k d = record {
     actions = σ .names .actions;
     parameters = σ .names .parameters;
     variants = σ .names .variants ++ (k ∷ []);
+    earlier = σ .names .earlier;
   };
   singles = σ .singles;
   model = record {

@@ -1,5 +1,5 @@
--- What a line is answered, and the session behind it (document 01, sections 'Text', 'Refusals by trade word' and 'A run, whole'; document 02, L1, L2, L9, L11 and
--- L13).
+-- What a line is answered, and the session behind it (document 01, sections 'Text', 'Refusals by trade word' and 'A run, whole'; document 02, L1, L2, L9, L10,
+-- L11 and L13).
 use mathlib.Core.Bool.{Bool, true, false, not, _||_, _&&_}
 use mathlib.Core.List.{List, [], _∷_, _++_}
 use Prim.Native.Nat.{ℕ, zero, suc, _^_}
@@ -31,6 +31,7 @@ use Rattle.session.specs.Session.{Names, Singles, Live, Session, refuseI
 use Rattle.session.specs.Declaring.{Vocabulary, constantLine, predicateLine, totalLine, discountLine, actionLine}
 use Rattle.session.specs.Facts.{objectsLine, isLine, trueLine}
 use Rattle.session.specs.Modelling.{rewardLine, variantLine, becomesLine}
+use Rattle.session.specs.Replaying.{didLine}
 use Rattle.session.specs.Running.{withHeld, startLine, valueRead, backupLine, cutLine, cutSays, reduceLine, formRead, bestRead, bestIs, countRead}
 
 -- the session behind a line, and what the line is answered
@@ -203,10 +204,15 @@ abbrev pub countSays : Session → ℕ → ℕ → Outcome (List Entry) → Repl
 countSays σ number n (ok es) = record { session = σ; answer = A.Count n (length es) }
 countSays σ number n (refused r) = refusal σ number r
 
+-- count and total
+abbrev pub didSays : Session → ℕ → Outcome Live → Reply
+didSays σ number (ok l) = record { session = withLive σ l; answer = A.Did (l .count) (l .total) }
+didSays σ number (refused r) = refusal σ number r
+
 -- the words es of a line of the kind that stands where it may
 unfoldable pub done : Session → ℕ → Kind → List Event → Reply
 unfolding constantLine predicateLine totalLine discountLine actionLine rewardLine variantLine becomesLine startLine objectsLine isLine trueLine
-    withVocabulary withTotal withDiscount withAction valueRead backupLine cutLine diagramAnswer reduceLine formRead bestRead countRead rows
+    withVocabulary withTotal withDiscount withAction valueRead backupLine cutLine diagramAnswer reduceLine formRead bestRead countRead didLine rows
 done σ number K.Constant es = quietly σ number (withNames σ) (constantLine (σ .names) (keyIn (wordAt es 0)))
 done σ number K.Predicate es =
     quietly σ number (withVocabulary σ) (predicateLine (record { names = σ .names; arities = σ .model .arities }) (keyIn (wordAt es 0)) (numberIn (wordAt es 1)))
@@ -233,6 +239,8 @@ done σ number K.Text es = textSays σ number (formRead (σ .model .arities) (σ
 done σ number K.Best es = bestSays σ number (bestRead (σ .model) (σ .live) (σ .held .diagram))
 done σ number K.Count es =
     countSays σ number (numberIn (wordAt es 0)) (countRead (σ .model) (σ .names) (σ .live) (σ .held .diagram) (numberIn (wordAt es 0)))
+done σ number K.Did es =
+    didSays σ number (didLine (σ .model) (σ .names) (σ .live) (keyIn (wordAt es 0)) (keyIn (wordAt es 1)) (numbersIn (drop 2 es)))
 done σ number K.Bad es = refusal σ number Form
 
 -- behind the place

@@ -13,13 +13,15 @@ use Rattle.mdp.specs.Runs.{Held}
 use Rattle.session.specs.declared.Part.{Part}
 use Rattle.session.specs.declared.Part.the-variants.{Model as ModelPart}
 
--- names in the order of their lines: constants from 0, predicates from 1; the parameters and variants are those of the last action
+-- names in the order of their lines: constants from 0, predicates from 1; the parameters and variants are those of the last action, `earlier` the variants of the
+-- actions before it, one action's behind another's (document 02, L10)
 pub record Names : Type 0 where
   pub constants : List Key
   pub predicates : List Key
   pub actions : List Key
   pub parameters : List Key
   pub variants : List Key
+  pub earlier : List Key
 
 -- which single forms were accepted
 pub record Singles : Type 0 where
@@ -28,12 +30,14 @@ pub record Singles : Type 0 where
   pub reward : Bool
 
 -- a state as it is lent to the value operation: how many objects, 0 before an accepted (objects n); for each constant 1 where it is placed, and its
--- object; the facts as rows of words
+-- object; the facts as rows of words; how many (did ..) lines were accepted since they began, and the total of the rewards met (document 02, L10)
 pub record Live : Type 0 where
   pub objects : ℕ
   pub placed : List ℕ
   pub constants : List ℕ
   pub facts : List ℕ
+  pub count : ℕ
+  pub total : ℕ
 
 -- `rows` counts the rows of all model listings
 pub record Session : Type 0 where
@@ -60,11 +64,11 @@ defaultDenominator = 20
 unfoldable pub opening : Session
 opening = record {
   part = ModelPart;
-  names = record { constants = []; predicates = []; actions = []; parameters = []; variants = [] };
+  names = record { constants = []; predicates = []; actions = []; parameters = []; variants = []; earlier = [] };
   singles = record { total = false; discount = false; reward = false };
   model = record { arities = equalityArity ∷ replicate (predicateCount - 1) 0; total = defaultTotal; numerator = defaultNumerator; denominator = defaultDenominator; reward = leaf 0; actions = [] };
   rows = 0;
-  live = record { objects = 0; placed = replicate constantCount 0; constants = replicate constantCount 0; facts = [] };
+  live = record { objects = 0; placed = replicate constantCount 0; constants = replicate constantCount 0; facts = []; count = 0; total = 0 };
   held = record { diagram = leaf 0; steps = 0 };
 }
 

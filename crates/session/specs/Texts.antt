@@ -65,6 +65,7 @@ tableOf σ (A.Refused r line) = []
 tableOf σ (A.Show n) = []
 tableOf σ (A.Text n) = []
 tableOf σ (A.Best k n a b c d) = []
+tableOf σ (A.Did count total) = []
 tableOf σ (A.Count n m) = entryWords (entriesIn (σ .model) (σ .names) (σ .live) (σ .held .diagram) n)
 tableOf σ A.Nothing = []
 

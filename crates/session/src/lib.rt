@@ -61,6 +61,7 @@ pub fn rule_of(kind: Kind, part: Part) -> Rule
             Kind::Text => Rule::Misplaced,
             Kind::Best => Rule::Misplaced,
             Kind::Count => Rule::Misplaced,
+            Kind::Did => Rule::Misplaced,
             Kind::Bad => Rule::NoForm,
         },
         Part::Run => match kind {
@@ -84,6 +85,7 @@ pub fn rule_of(kind: Kind, part: Part) -> Rule
             Kind::Text => Rule::Anywhere,
             Kind::Best => Rule::MoveState,
             Kind::Count => Rule::Constants,
+            Kind::Did => Rule::WholeState,
             Kind::Bad => Rule::NoForm,
         },
     }

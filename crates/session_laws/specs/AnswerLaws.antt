@@ -13,7 +13,7 @@ use Rattle.answers.specs.declared.Answer.the-variants as A
 use Rattle.session.specs.Place.{ruleOf}
 use Rattle.session.specs.Session.{Session}
 use Rattle.session.specs.Replies.{Reply, refusal, allowed, wordsOf, reply}
-use Rattle.session_laws.specs.LineAnswers.{Answered, quiet, valued, backed, cutting, reducing, showing, printing, moving, counting, OneAnswer, blank, refusing, accepted}
+use Rattle.session_laws.specs.LineAnswers.{Answered, quiet, valued, backed, cutting, reducing, showing, printing, moving, counting, replaying, OneAnswer, blank, refusing, accepted}
 use Rattle.session_laws.specs.CaseLaws.{Cases, done-by, reply-by}
 
 -- where a line of the kind k with the words es may stand, the reply is y
@@ -47,6 +47,7 @@ module _ (σ : Session) (number : ℕ) (es : List Event) where
     forText = λ n e. answered K.Text _ (printing n refl e refl refl);
     forBest = λ x e. answered K.Best _ (moving x refl e refl refl);
     forCount = λ l e. answered K.Count _ (counting l refl e refl refl);
+    forDid = λ l e. answered K.Did _ (replaying l refl e refl refl);
   }
 
 pub one-answer : (σ : Session) (number : ℕ) (s : List ℕ) → OneAnswer σ number s (lineKind s) (reply σ number s)
@@ -66,6 +67,7 @@ accepted-none σ es k y r n (showing p t q) e = let z : _≡_ {A = ℕ} 0 1 = cc
 accepted-none σ es k y r n (printing m p h t q) e = let z : _≡_ {A = ℕ} 0 1 = cc in omega arith
 accepted-none σ es k y r n (moving x p h t q) e = let z : _≡_ {A = ℕ} 0 1 = cc in omega arith
 accepted-none σ es k y r n (counting l p h t q) e = let z : _≡_ {A = ℕ} 0 1 = cc in omega arith
+accepted-none σ es k y r n (replaying l p h t q) e = let z : _≡_ {A = ℕ} 0 1 = cc in omega arith
 
 -- a refusal has the line's own number, and leaves the session as it was
 pub refused-reply : (σ : Session) (number : ℕ) (s : List ℕ) (r : Refusal) (n : ℕ) → reply σ number s .answer ≡ A.Refused r n

@@ -20,16 +20,17 @@ use Rattle.text.specs.LineForm.{lineKind}
 use Rattle.events.specs.declared.Event.{Event}
 use Rattle.events.specs.Contents.{keyIn, numberIn, wordAt, keysIn, numbersIn}
 use Rattle.answers.specs.Answers.{answerBytes}
-use Rattle.session.specs.Session.{Session, opening}
+use Rattle.session.specs.Session.{Live, Session, opening}
 use Rattle.session.specs.Place.{ruleOf}
 use Rattle.session.specs.Declaring.{constantLine, predicateLine, totalLine, discountLine, actionLine}
 use Rattle.session.specs.Facts.{objectsLine, isLine, trueLine}
 use Rattle.session.specs.Modelling.{rewardLine, variantLine, becomesLine}
 use Rattle.session.specs.Running.{startLine, valueRead, backupLine, cutSays, reduceLine, formRead, bestRead, countRead}
-use Rattle.session.specs.Replies.{Reply, silent, quietly, valueSays, backupSays, reduceSays, textSays, bestSays, countSays, allowed, withNames, withLive, withVocabulary}
+use Rattle.session.specs.Replies.{Reply, silent, quietly, valueSays, backupSays, reduceSays, textSays, bestSays, countSays, didSays, allowed, withNames, withLive, withVocabulary}
 use Rattle.session.specs.Replies.{withTotal, withDiscount, withAction, done, placed, replyTo, wordsOf, reply}
 use Rattle.session.specs.Texts.{lineFeed, Lines, behindByte, linesOf, hasBytes, Progress, replyBytes}
 use Rattle.session.specs.Texts.{afterLine, afterLines, afterRest, closing, beginning, textRead, textAnswers}
+use Rattle.session_laws.specs.LineAnswers.{didRead}
 use Rattle.session_laws.specs.CaseLaws.{vocabularyOf}
 use Rattle.session_laws.specs.TextReplies.{replies, repliesBytes, restBytes, unspaced, squeezed, numbersFrom, under, replyUnder, renumbered, Spacing}
 use Rattle.session_laws.specs.FoldLaws.{text-bytes}
@@ -76,6 +77,10 @@ count-under : (σ : Session) (i j n : ℕ) (o : Outcome (List Entry)) → replyU
 count-under σ i j n (ok l) = refl
 count-under σ i j n (refused r) = refl
 
+did-under : (σ : Session) (i j : ℕ) (o : Outcome Live) → replyUnder j (didSays σ i o) ≡ didSays σ j o
+did-under σ i j (ok l) = refl
+did-under σ i j (refused r) = refl
+
 cut-under : (i j : ℕ) (c : Cut) → under j (cutSays i c) ≡ cutSays j c
 cut-under i j (C.Done row e n) = refl
 cut-under i j (C.Refused r) = refl
@@ -107,6 +112,7 @@ done-under σ i j K.Best es = best-under σ i j (bestRead (σ .model) (σ .live)
 done-under σ i j K.Count es =
     let n = numberIn (wordAt es 0) in
     count-under σ i j n (countRead (σ .model) (σ .names) (σ .live) (σ .held .diagram) n)
+done-under σ i j K.Did es = did-under σ i j (didRead σ es)
 done-under σ i j K.Bad es = refl
 
 placed-under : (σ : Session) (i j : ℕ) (o : Outcome (Unit {0})) (x y : Reply) → replyUnder j x ≡ y → replyUnder j (placed σ i o x) ≡ placed σ j o y

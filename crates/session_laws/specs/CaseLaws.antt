@@ -27,8 +27,9 @@ use Rattle.session.specs.Declaring.{Vocabulary, constantLine, predicateLine, to
 use Rattle.session.specs.Facts.{objectsLine, isLine, trueLine}
 use Rattle.session.specs.Modelling.{rewardLine, variantLine, becomesLine}
 use Rattle.session.specs.Running.{withHeld, startLine, valueRead, backupLine, cutLine, cutTo, cutSays, reduceLine, formRead, bestRead, bestIs, countRead}
-use Rattle.session.specs.Replies.{Reply, refusal, silent, quietly, valueSays, backupSays, reduceSays, textSays, bestSays, countSays, allowed, withNames, withLive}
+use Rattle.session.specs.Replies.{Reply, refusal, silent, quietly, valueSays, backupSays, reduceSays, textSays, bestSays, countSays, didSays, allowed, withNames, withLive}
 use Rattle.session.specs.Replies.{withVocabulary, withTotal, withDiscount, withAction, done, placed, replyTo, wordsOf, reply}
+use Rattle.session_laws.specs.LineAnswers.{didRead}
 
 abbrev pub vocabularyOf : Session → Vocabulary
 vocabularyOf σ = record { names = σ .names; arities = σ .model .arities }
@@ -61,6 +62,7 @@ pub record Cases (σ : Session) (number : ℕ) (es : List Event) (P : Kind → R
   pub forBest : (x : Move) → bestRead (σ .model) (σ .live) (σ .held .diagram) ≡ ok x → P K.Best (record { session = σ; answer = bestIs (σ .names) x })
   pub forCount : (l : List Entry) → countRead (σ .model) (σ .names) (σ .live) (σ .held .diagram) (numberIn (wordAt es 0)) ≡ ok l
       → P K.Count (record { session = σ; answer = A.Count (numberIn (wordAt es 0)) (length l) })
+  pub forDid : (l : Live) → didRead σ es ≡ ok l → P K.Did (record { session = withLive σ l; answer = A.Did (l .count) (l .total) })
 
 -- ===== By the outcome of a line =====
 
@@ -106,6 +108,10 @@ module _ (σ : Session) (number : ℕ) (P : Reply → Type 0) (r : (t : Refusal)
   count-by n (ok l) h = h l refl
   count-by n (refused t) h = r t
 
+  did-by : (o : Outcome Live) → ((l : Live) → o ≡ ok l → P (record { session = withLive σ l; answer = A.Did (l .count) (l .total) })) → P (didSays σ number o)
+  did-by (ok l) h = h l refl
+  did-by (refused t) h = r t
+
   pub placed-by : (o : Outcome (Unit {0})) (y : Reply) → (o ≡ ok tt → P y) → P (placed σ number o y)
   placed-by (ok u) y h = h refl
   placed-by (refused t) y h = r t
@@ -149,6 +155,7 @@ module _ (σ : Session) (number : ℕ) (es : List Event) (P : Kind → Reply →
   done-by K.Count =
       let n = numberIn (wordAt es 0) in
       count-by σ number (P K.Count) (c .refusing K.Count) n (countRead (σ .model) (σ .names) (σ .live) (σ .held .diagram) n) (c .forCount)
+  done-by K.Did = did-by σ number (P K.Did) (c .refusing K.Did) (didRead σ es) (c .forDid)
   done-by K.Bad = c .refusing K.Bad Form
 
 -- a line in bytes: blank, refused for its place, or done

@@ -59,6 +59,7 @@ module _ (σ : Session) (g : GoodSession σ) (h : Counted σ) where
     forText = λ n e a. h;
     forBest = λ x e a. h;
     forCount = λ l e a. h;
+    forDid = λ l e a. h;
   }
 
   pub reply-counted : (number : ℕ) (s : List ℕ) → Counted (reply σ number s .session)

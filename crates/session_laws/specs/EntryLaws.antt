@@ -1,10 +1,9 @@
 -- The entries that (count n) counts: at most 1,023, of machine words, and a line for each (document 02, L11).
-use mathlib.Core.Path.{_≡_, refl, sym, ap, ap₂, _∙_, subst}
-use mathlib.Core.Bool.{Bool, true, false, not, cond, _&&_, _||_}
+use mathlib.Core.Path.{_≡_, refl, sym, ap, ap₂, _∙_}
+use mathlib.Core.Bool.{Bool, true, false, not, cond, _&&_}
 use mathlib.Core.List.{List, [], _∷_, _++_, map, append-nil, append-assoc}
 use Prim.Native.Nat.{ℕ, zero, suc, _+_, _*_, _^_, _≤_, _<_}
 use native.Mathlib.Omega.{arith}
-use native.Mathlib.Nat.{le-trans}
 use lib.ListN.{length, getD}
 use lib.Pow.{pow-mono}
 use lib.Dec.{eqb, leb, ltb}
@@ -12,9 +11,8 @@ use borrow.Author.Tests.{leb-true, ltb-false, eqb-true, eq-eqb, not-false}
 use Rattle.basics.specs.Tests.{and-left, and-right, Either, one, other, either, or-one, or-other}
 use Rattle.basics.specs.Members.{mem}
 use Rattle.refusal.specs.declared.Refusal.the-variants.{Range, Ground, Valuations}
-use Rattle.refusal.specs.Outcome.{Outcome, ok, Accepted}
+use Rattle.refusal.specs.Outcome.{ok, Accepted}
 use Rattle.refusal.specs.OutcomeLaws.{accepted-ok, accepted-cond}
-use Rattle.label.specs.Labels.{areArities}
 use Rattle.diagram.specs.Sizes.{mostRows}
 use Rattle.diagram.specs.Diagram.{Diagram, leaf, branch}
 use Rattle.diagram.specs.Words.{isListing}

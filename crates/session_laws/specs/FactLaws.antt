@@ -19,10 +19,11 @@ use Rattle.refusal.specs.Outcome.{ok, Accepted}
 use Rattle.refusal.specs.OutcomeLaws.{accepted-ok, accepted-cond}
 use Rattle.session.specs.declared.Part.the-variants.{Run}
 use Rattle.session.specs.Session.{Live, Session}
-use Rattle.session.specs.Facts.{mostFacts, factRow, withFact, isFact, factLine, predicateOf, trueLine}
+use Rattle.replay.specs.Replay.{mostFacts, factRow}
+use Rattle.session.specs.Facts.{withFact, begunAgain, isFact, factLine, predicateOf, trueLine}
 use Rattle.session.specs.Replies.{withLive}
 use Rattle.session.specs.Good.{GoodSession}
-use Rattle.session_laws.specs.StateLaws.{Described, described, state-made, live-good}
+use Rattle.session_laws.specs.StateLaws.{Described, described, state-made, live-good, log-none}
 
 -- the facts are whole rows
 abbrev pub WholeRows : List ℕ → Type 0
@@ -50,7 +51,7 @@ module _ (facts : List ℕ) (whole : WholeRows facts) (p : ℕ) (os : List ℕ) 
   row-count : factCount (facts ++ factRow p os) ≡ suc (factCount facts)
   row-count = omega (arith, length-append facts (factRow p os), row-length p os, whole)
 
-  row-whole : WholeRows (facts ++ factRow p os)
+  pub row-whole : WholeRows (facts ++ factRow p os)
   row-whole = omega (arith, length-append facts (factRow p os), row-length p os, whole)
 
   old-predicate : (i : ℕ) → i < factCount facts → predicateAt (facts ++ factRow p os) i ≡ predicateAt facts i
@@ -81,7 +82,7 @@ module _ (facts : List ℕ) (whole : WholeRows facts) (p : ℕ) (os : List ℕ) 
       take-below n (getD ar (predicateAt (facts ++ factRow p os) (factCount facts)) 0) (objectsAt (facts ++ factRow p os) (factCount facts))
       (ap (allBelow n) new-objects ∙ take-below n mostPlaces (os ++ replicate mostPlaces 0) (padded-below n mostPlaces os h e))
 
-  row-state : (ar : List ℕ) (n : ℕ) (constants : List ℕ) → allBelow n os ≡ true → isState ar n constants facts ≡ true
+  pub row-state : (ar : List ℕ) (n : ℕ) (constants : List ℕ) → allBelow n os ≡ true → isState ar n constants facts ≡ true
       → isState ar n constants (facts ++ factRow p os) ≡ true
   row-state ar n constants b e = state-made ar n constants (facts ++ factRow p os) (record {
     some = d .some;
@@ -99,7 +100,7 @@ module _ (facts : List ℕ) (whole : WholeRows facts) (p : ℕ) (os : List ℕ) 
 
 -- ===== The line =====
 
-fact-kept : (P : Live → Type 0) (l : Live) (row : List ℕ) → P l → P (withFact l row) → Accepted P (factLine l row)
+fact-kept : (P : Live → Type 0) (l : Live) (row : List ℕ) → P (begunAgain l) → P (withFact l row) → Accepted P (factLine l row)
 unfolding factLine
 fact-kept P l row old new = go (flag (isFact (l .facts) row))
   where
@@ -123,13 +124,19 @@ unfolding withFact
 fact-good σ g r w p os b =
     live-good σ g r (withFact (σ .live) (factRow p os))
     (λ h. row-state (σ .live .facts) w p os (σ .model .arities) (σ .live .objects) (σ .live .constants) b (g .state h)) (g .most)
+    (log-none (withFact (σ .live) (factRow p os)) refl refl)
+
+-- a repeated fact
+again-good : (σ : Session) → GoodSession σ → σ .part ≡ Run → GoodSession (withLive σ (begunAgain (σ .live)))
+unfolding begunAgain
+again-good σ g r = live-good σ g r (begunAgain (σ .live)) (g .state) (g .most) (log-none (begunAgain (σ .live)) refl refl)
 
 pub true-good : (σ : Session) → GoodSession σ → σ .part ≡ Run → WholeRows (σ .live .facts) → (k : Key) (os : List ℕ) (l : Live)
     → trueLine (σ .model .arities) (σ .names) (σ .live) k os ≡ ok l → GoodSession (withLive σ l)
 true-good σ g r w k os l e =
     let p = predicateOf (σ .names) k in
     true-kept (λ m. GoodSession (withLive σ m)) σ k os (λ b.
-    fact-kept (λ m. GoodSession (withLive σ m)) (σ .live) (factRow p os) g (fact-good σ g r w p os b)) .given l e
+    fact-kept (λ m. GoodSession (withLive σ m)) (σ .live) (factRow p os) (again-good σ g r) (fact-good σ g r w p os b)) .given l e
 
 fact-whole : (l : Live) → WholeRows (l .facts) → (p : ℕ) (os : List ℕ) → WholeRows (withFact l (factRow p os) .facts)
 unfolding withFact
@@ -137,6 +144,7 @@ fact-whole l w p os = row-whole (l .facts) w p os
 
 pub true-whole : (σ : Session) → WholeRows (σ .live .facts) → (k : Key) (os : List ℕ) (l : Live)
     → trueLine (σ .model .arities) (σ .names) (σ .live) k os ≡ ok l → WholeRows (l .facts)
+unfolding begunAgain
 true-whole σ w k os l e =
     let p = predicateOf (σ .names) k in
     true-kept (λ m. WholeRows (m .facts)) σ k os (λ b.

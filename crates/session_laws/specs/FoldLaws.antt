@@ -10,7 +10,7 @@ use lib.ListN.{length}
 use lib.Dec.{eqb}
 use Rattle.answers.specs.Answers.{answerBytes}
 use Rattle.session.specs.Session.{Session, opening}
-use Rattle.session.specs.Replies.{Reply, reply}
+use Rattle.session.specs.Replies.{reply}
 use Rattle.session.specs.Texts.{lineFeed, Lines, behindByte, linesOf, hasBytes, Progress, replyBytes, replied, afterLine, afterLines, afterRest, beginning, textRead}
 use Rattle.session_laws.specs.TextReplies.{replies, repliesBytes, restBytes}
 

@@ -1,13 +1,15 @@
--- What holds of every session from line to line, and demands 1 and 3 for texts (document 01, sections 'Text', 'Backup' and 'A run, whole'; document 02, L1, L2, L5, L6, L9, L11
+-- What holds of every session from line to line, and demands 1 and 3 for texts (document 01, sections 'Text', 'Backup' and 'A run, whole'; document 02, L1, L2, L5, L6, L9 to L11
 -- and L13).
 --
 -- Definitions: a line
 --   Makes, MovesTo == the session behind an accepted line that prints nothing, kind by kind: a line of the model, (start), (objects), (is), (true)
---   Answered == the reply to an accepted line is of its kind; (value), (show), (text), (best) and (count n) leave the session
+--   didRead, Answered == the state in hand behind a (did ..); the reply to an accepted line is of its kind; (value), (show), (text), (best) and (count n) leave the
+--       session, (did ..) moves the state in hand alone
 --   OneAnswer == a line is blank, prints nothing and leaves the session; or is refused under its own number, the session left; or stands where it may and is Answered
 --   Shows, Prints == the reply to an accepted (show); to an accepted (text): the value's form and a line feed, at most 4,086 bytes and one, the session left
 --   PrintsMove == the reply to an accepted (best): a move with an object for each parameter; it prints the action's name and these objects, the session left
 --   entryLines, PrintsCounts == the lines of entries; the reply to an accepted (count n): a line for each entry, at most 1,023, of machine words, the session left
+--   PrintsReplay == the reply to an accepted (did ..): it prints count and total of the state in hand behind it, machine words, all else of the session left
 --   IsValue == the run has begun; v is Mk of the state in hand, k that of the session, w is S^k
 --
 -- Definitions: lines and texts
@@ -27,8 +29,10 @@
 --   one-answer: every line has exactly one reply: none where it is blank, a refusal, or the answer of its kind; and the session behind it, by its kind
 --   refused-leaves: a refused line leaves the session as it was
 --   reply-prints: a line that is answered by a form is an accepted (text), and prints the value's form (document 02, L2); reply-shows: so for (show)
---   reply-moves: so for (best), it prints the move (document 02, L9); reply-counts: so for (count n), it prints the entries (L11)
---   reply-short: a reply of machine words has at most 92,160 bytes, a form or a spread too; best-words, count-words: those of (best) and (count n) are such
+--   reply-moves: so for (best), it prints the move (document 02, L9); reply-counts: so for (count n), it prints the entries (L11); reply-replays: so for
+--       (did ..), it prints count and total (L10)
+--   reply-short: a reply of machine words has at most 92,160 bytes, a form or a spread too; best-words, count-words, did-words: those of (best),
+--       (count n) and (did ..) are such
 --   done-bare, reply-bare: only (count n) shows a table
 --   text-bytes: a text's answers are those of its lines, one after another; read-then: a text that ends with a line feed, and one behind it, are read one after another
 --   blank-leaves: a blank line prints nothing and leaves the session as it was
@@ -44,6 +48,7 @@
 --   opening-good: the session before the first line is good
 --   reply-good: every line keeps a session good
 --   objects-good: (objects n); is-good: (is c o); true-good: (true p o ..)
+--   did-good: (did action variant object ..): its next state can be lent, count and total are at most 10^18; did-read: what an accepted one has passed (document 02, L10)
 --   start-good: (start); backup-good: (backup); cut-good: (cut); reduce-good: (reduce)
 --   call-good: a backup, a cut or a reduction leaves a good value diagram
 --   reply-counted: every line keeps `rows` the sum of the rows of all model listings
@@ -58,6 +63,7 @@ pub mod PlaceLaws
 pub mod OpeningLaws
 pub mod StateLaws
 pub mod FactLaws
+pub mod ReplayLaws
 pub mod HeldLaws
 pub mod RunLaws
 pub mod CaseLaws

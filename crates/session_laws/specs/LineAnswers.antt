@@ -1,4 +1,4 @@
--- What a line is answered, and the session behind it, kind by kind (document 01, sections 'Text' and 'A run, whole'; document 02, L2 and L13).
+-- What a line is answered, and the session behind it, kind by kind (document 01, sections 'Text' and 'A run, whole'; document 02, L2, L9, L10, L11 and L13).
 use mathlib.Core.Path.{_≡_}
 use mathlib.Core.Bool.{true, false}
 use mathlib.Core.List.{List, [], _∷_, _++_}
@@ -24,14 +24,15 @@ use Rattle.diagram_form.specs.Form.{isTooLong}
 use Rattle.events.specs.declared.Event.{Event}
 use Rattle.events.specs.Contents.{keyIn, numberIn, wordAt, keysIn, numbersIn}
 use Rattle.answers.specs.declared.Answer.the-variants as A
-use Rattle.answers.specs.Answers.{field, fields, nameField, lineFeed, lineEnd, bestHead, countHead}
+use Rattle.answers.specs.Answers.{field, fields, nameField, lineFeed, lineEnd, bestHead, countHead, didHead}
 use Rattle.answers.specs.Writing.{IsWord}
 use Rattle.session.specs.declared.Part.the-variants.{Run}
 use Rattle.session.specs.Place.{ruleOf}
-use Rattle.session.specs.Session.{Session}
+use Rattle.session.specs.Session.{Live, Session}
 use Rattle.session.specs.Declaring.{constantLine, predicateLine, totalLine, discountLine, actionLine}
 use Rattle.session.specs.Facts.{objectsLine, isLine, trueLine}
 use Rattle.session.specs.Modelling.{rewardLine, variantLine, becomesLine}
+use Rattle.session.specs.Replaying.{didLine}
 use Rattle.session.specs.Running.{withHeld, startLine, stateIn, valueRead, backupLine, cutLine, reduceLine, tablesIn, formRead, bestRead, noKey, bestIs, entriesIn, countRead}
 use Rattle.session.specs.Replies.{Reply, refusal, silent, isPlaced, allowed, withNames, withLive, withVocabulary, withTotal, withDiscount, withAction, wordsOf}
 use Rattle.session.specs.Texts.{valueForm, tableOf, replyBytes}
@@ -63,9 +64,15 @@ MovesTo σ es K.Reduce τ = ⊥
 MovesTo σ es K.Text τ = ⊥
 MovesTo σ es K.Best τ = ⊥
 MovesTo σ es K.Count τ = ⊥
+MovesTo σ es K.Did τ = ⊥
 MovesTo σ es K.Bad τ = ⊥
 
--- the reply y to an accepted line of the kind k with the words es; (value), (show), (text), (best) and (count n) leave the session as it was
+-- the state in hand behind an accepted (did ..) with the words es
+abbrev pub didRead : Session → List Event → Outcome Live
+didRead σ es = didLine (σ .model) (σ .names) (σ .live) (keyIn (wordAt es 0)) (keyIn (wordAt es 1)) (numbersIn (drop 2 es))
+
+-- the reply y to an accepted line of the kind k with the words es; (value), (show), (text), (best) and (count n) leave the session as it was, (did ..) moves the state
+-- in hand alone
 pub data Answered (σ : Session) (es : List Event) (k : Kind) (y : Reply) : Type 0 where
   quiet : MovesTo σ es k (y .session) → y .answer ≡ A.Nothing → Answered σ es k y
   valued : (v : ℕ) → k ≡ K.Value → valueRead (σ .model .arities) (σ .live) (σ .held .diagram) ≡ ok v
@@ -82,6 +89,8 @@ pub data Answered (σ : Session) (es : List Event) (k : Kind) (y : Reply) : Type
       → y .session ≡ σ → y .answer ≡ bestIs (σ .names) x → Answered σ es k y
   counting : (l : List Entry) → k ≡ K.Count → countRead (σ .model) (σ .names) (σ .live) (σ .held .diagram) (numberIn (wordAt es 0)) ≡ ok l
       → y .session ≡ σ → y .answer ≡ A.Count (numberIn (wordAt es 0)) (length l) → Answered σ es k y
+  replaying : (l : Live) → k ≡ K.Did → didRead σ es ≡ ok l
+      → y .session ≡ withLive σ l → y .answer ≡ A.Did (l .count) (l .total) → Answered σ es k y
 
 -- the reply y to line `number`, which has the bytes s and is of the kind k: it is blank, prints nothing and leaves the session as it was; or it is
 -- refused under its own number and leaves the session as it was (which refusal: session Replies, and line_trees TreeReplies); or it stands where it may and is answered as its kind is
@@ -141,3 +150,14 @@ pub record PrintsCounts (σ : Session) (n m : ℕ) (y : Reply) : Type 0 where
   pub few : m < mostRows
   pub table : length (tableOf σ (A.Count n m)) ≡ m * 2
   pub words : (i : ℕ) → IsWord (getD (tableOf σ (A.Count n m)) i 0)
+
+-- the reply y to an accepted (did ..) with the words es: it stands in the run, with every constant placed, moves the state in hand to l and leaves all else of the
+-- session as it was, and prints `(did count total)` of l, two machine words
+pub record PrintsReplay (σ : Session) (es : List Event) (l : Live) (y : Reply) : Type 0 where
+  pub run : σ .part ≡ Run
+  pub placed : isPlaced σ ≡ true
+  pub read : didRead σ es ≡ ok l
+  pub session : y .session ≡ withLive σ l
+  pub answer : y .answer ≡ A.Did (l .count) (l .total)
+  pub bytes : replyBytes y ≡ didHead ++ field (l .count) ++ field (l .total) ++ lineEnd
+  pub words : IsWord (l .count) × IsWord (l .total)

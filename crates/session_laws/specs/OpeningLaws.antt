@@ -5,8 +5,9 @@ use native.Mathlib.Omega.{arith}
 use lib.ListN.{getD, replicate}
 use Rattle.label.specs.Limits.{predicateCount}
 use Rattle.label.specs.Labels.{areArities}
+use Rattle.state.specs.Max.{sumOf}
 use Rattle.session.specs.Session.{opening}
-use Rattle.session.specs.Good.{GoodTables, GoodParts, GoodSession}
+use Rattle.session.specs.Good.{GoodTables, variantCount, GoodParts, GoodSession}
 use Rattle.session_laws.specs.PlaceLaws.{model-run}
 
 zeros : (n i : ℕ) → getD {A = ℕ} (replicate n 0) i 0 ≡ 0
@@ -27,6 +28,7 @@ opening-tables = record {
   actions = omega arith;
   parameters = omega arith;
   variants = omega arith;
+  earlier = omega arith;
   arities = refl;
   undeclared = no-arity;
 }
@@ -44,14 +46,15 @@ opening-parts = record {
 }
 
 pub opening-good : GoodSession opening
-unfolding opening
+unfolding opening variantCount sumOf
 opening-good = record {
   tables = opening-tables;
-  agreeing = record { count = refl; last = refl };
+  agreeing = record { count = refl; last = refl; all = refl };
   parts = opening-parts;
   few = omega arith;
   state = λ h. absurd (omega arith);
   most = omega arith;
+  log = record { count = omega arith; total = omega arith; none = λ e. refl };
   quiet = λ e. refl;
   begun = λ e. model-run e;
 }

@@ -87,5 +87,13 @@ module _ (σ : Session) where
   unfolding allowed
   count-allowed p e = subst (λ q. allowed σ (ruleOf K.Count q) ≡ ok tt) (sym p) (ap (λ b. unless (not b)) e)
 
+  pub did-placed : σ .part ≡ Run → allowed σ (ruleOf K.Did (σ .part)) ≡ ok tt → isPlaced σ ≡ true
+  unfolding allowed
+  did-placed p a = unless-passed (isPlaced σ) (subst (λ q. allowed σ (ruleOf K.Did q) ≡ ok tt) p a)
+
+  pub did-allowed : σ .part ≡ Run → isPlaced σ ≡ true → allowed σ (ruleOf K.Did (σ .part)) ≡ ok tt
+  unfolding allowed
+  did-allowed p e = subst (λ q. allowed σ (ruleOf K.Did q) ≡ ok tt) (sym p) (ap (λ b. unless (not b)) e)
+
   pub placed-objects : isPlaced σ ≡ true → 1 ≤ σ .live .objects
   placed-objects e = leb-true 1 (σ .live .objects) (and-left (hasObjects σ) _ e)

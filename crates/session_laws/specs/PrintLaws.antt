@@ -1,5 +1,5 @@
--- Which line shows the value diagram, prints it as a form, or answers a move or a spread, and what is printed (document 01, section 'A run, whole'; document 02, L2,
--- L9 and L11).
+-- Which line shows the value diagram, prints it as a form, or answers a move, a spread or a replay, and what is printed (document 01, section 'A run, whole';
+-- document 02, L2, L9, L10 and L11).
 use mathlib.Core.Path.{_≡_, refl, sym, ap, ap₂, _∙_, subst}
 use mathlib.Core.Bool.{Bool, true, false}
 use mathlib.Core.List.{List, _++_}
@@ -20,21 +20,23 @@ use Rattle.words.specs.declared.Key.{Key}
 use Rattle.text.specs.declared.Kind.{Kind}
 use Rattle.text.specs.declared.Kind.the-variants as K
 use Rattle.text.specs.LineForm.{lineKind}
+use Rattle.events.specs.declared.Event.{Event}
 use Rattle.events.specs.Contents.{numberIn, wordAt}
 use Rattle.answers.specs.declared.Answer.{Answer}
 use Rattle.answers.specs.declared.Answer.the-variants as A
 use Rattle.answers.specs.Answers.{fields, nameField, lineEnd, bestHead, answerLine, countLines, answerBytes}
 use Rattle.session.specs.Place.{ruleOf}
-use Rattle.session.specs.Session.{Names, Session, refuseIf}
+use Rattle.session.specs.Session.{Names, Live, Session, refuseIf}
 use Rattle.session.specs.Running.{stateIn, tablesIn, formRead, bestRead, noKey, bestIs, entriesIn, countRead}
-use Rattle.session.specs.Replies.{Reply, allowed, wordsOf, reply}
+use Rattle.session.specs.Replies.{Reply, allowed, withLive, wordsOf, reply}
 use Rattle.session.specs.Texts.{valueForm, tableOf, replyBytes}
 use Rattle.session.specs.Good.{GoodSession}
-use Rattle.session_laws.specs.PlaceLaws.{in-run, best-placed, placed-objects}
-use Rattle.session_laws.specs.LineAnswers.{Answered, quiet, valued, backed, cutting, reducing, showing, printing, moving, counting}
-use Rattle.session_laws.specs.LineAnswers.{OneAnswer, blank, refusing, accepted, Shows, Prints, PrintsMove, PrintsCounts}
+use Rattle.session_laws.specs.PlaceLaws.{in-run, best-placed, did-placed, placed-objects}
+use Rattle.session_laws.specs.LineAnswers.{Answered, quiet, valued, backed, cutting, reducing, showing, printing, moving, counting, replaying}
+use Rattle.session_laws.specs.LineAnswers.{OneAnswer, blank, refusing, accepted, didRead, Shows, Prints, PrintsMove, PrintsCounts, PrintsReplay}
 use Rattle.session_laws.specs.MoveLaws.{best-bound, action-few, tuple-length, four-taken}
 use Rattle.session_laws.specs.EntryLaws.{count-read, entry-count, entries-few, entries-words, entries-lines}
+use Rattle.session_laws.specs.ReplayLaws.{did-log}
 use Rattle.session_laws.specs.AnswerLaws.{one-answer}
 
 -- ===== (show) =====
@@ -54,6 +56,7 @@ reply-shows σ number s n e = go (lineKind s) (reply σ number s) (one-answer σ
     shown k y a (printing m p h t q) e = let z : _≡_ {A = ℕ} 0 1 = cc in absurd (omega arith)
     shown k y a (moving x p h t q) e = let z : _≡_ {A = ℕ} 0 1 = cc in absurd (omega arith)
     shown k y a (counting l p h t q) e = let z : _≡_ {A = ℕ} 0 1 = cc in absurd (omega arith)
+    shown k y a (replaying l p h t q) e = let z : _≡_ {A = ℕ} 0 1 = cc in absurd (omega arith)
 
     go : (k : Kind) (y : Reply) → OneAnswer σ number s k y → y .answer ≡ A.Show n → Shows σ n y
     go k y (blank q p) e = let d = sym (ap (λ (z : Reply). z .answer) p) ∙ e in let z : _≡_ {A = ℕ} 0 1 = cc in absurd (omega arith)
@@ -107,6 +110,7 @@ reply-prints σ number s n e = go (lineKind s) (reply σ number s) (one-answer �
         printed σ n y (subst (λ j. allowed σ (ruleOf j (σ .part)) ≡ ok tt) p a) (h ∙ ap ok c) t e
     by-kind k y a (moving x p h t q) e = let z : _≡_ {A = ℕ} 0 1 = cc in absurd (omega arith)
     by-kind k y a (counting l p h t q) e = let z : _≡_ {A = ℕ} 0 1 = cc in absurd (omega arith)
+    by-kind k y a (replaying l p h t q) e = let z : _≡_ {A = ℕ} 0 1 = cc in absurd (omega arith)
 
     go : (k : Kind) (y : Reply) → OneAnswer σ number s k y → y .answer ≡ A.Text n → Prints σ n y
     go k y (blank q p) e = let d = sym (ap (λ (z : Reply). z .answer) p) ∙ e in let z : _≡_ {A = ℕ} 0 1 = cc in absurd (omega arith)
@@ -151,6 +155,7 @@ reply-moves σ good number s i n a b c d e = go (lineKind s) (reply σ number s)
     by-kind k y w (printing m p h t q) e = let z : _≡_ {A = ℕ} 0 1 = cc in absurd (omega arith)
     by-kind k y w (moving x p h t q) e = (x, moved σ good x y (subst (λ j. allowed σ (ruleOf j (σ .part)) ≡ ok tt) p w) h t q)
     by-kind k y w (counting l p h t q) e = let z : _≡_ {A = ℕ} 0 1 = cc in absurd (omega arith)
+    by-kind k y w (replaying l p h t q) e = let z : _≡_ {A = ℕ} 0 1 = cc in absurd (omega arith)
 
     go : (k : Kind) (y : Reply) → OneAnswer σ number s k y → y .answer ≡ A.Best i n a b c d → (x : Move) × PrintsMove σ x y
     go k y (blank q p) e = let d = sym (ap (λ (z : Reply). z .answer) p) ∙ e in let z : _≡_ {A = ℕ} 0 1 = cc in absurd (omega arith)
@@ -199,8 +204,54 @@ reply-counts σ good number s n m e = go (lineKind s) (reply σ number s) (one-a
         let c : length l ≡ m = cc in
         counted σ good n m l y (subst (λ j. allowed σ (ruleOf j (σ .part)) ≡ ok tt) p w)
         (subst (λ j. countRead (σ .model) (σ .names) (σ .live) (σ .held .diagram) j ≡ ok l) i h) c t e
+    by-kind k y w (replaying l p h t q) e = let z : _≡_ {A = ℕ} 0 1 = cc in absurd (omega arith)
 
     go : (k : Kind) (y : Reply) → OneAnswer σ number s k y → y .answer ≡ A.Count n m → PrintsCounts σ n m y
+    go k y (blank q p) e = let d = sym (ap (λ (z : Reply). z .answer) p) ∙ e in let z : _≡_ {A = ℕ} 0 1 = cc in absurd (omega arith)
+    go k y (refusing r p) e = let d = sym (ap (λ (z : Reply). z .answer) p) ∙ e in let z : _≡_ {A = ℕ} 0 1 = cc in absurd (omega arith)
+    go k y (accepted w p) e = by-kind k y w p e
+
+-- ===== (did ..) =====
+
+replayed : (σ : Session) (es : List Event) (l : Live) (y : Reply) → allowed σ (ruleOf K.Did (σ .part)) ≡ ok tt → didRead σ es ≡ ok l
+    → y .session ≡ withLive σ l → y .answer ≡ A.Did (l .count) (l .total) → PrintsReplay σ es l y
+unfolding replyBytes answerBytes answerLine
+replayed σ es l y a h t q =
+    let p = in-run σ (ruleOf K.Did) refl (σ .part) a in
+    let log = did-log (σ .model) (σ .names) (σ .live) _ _ _ l h in
+    record {
+      run = p;
+      placed = did-placed σ p a;
+      read = h;
+      session = t;
+      answer = q;
+      bytes = ap (λ (b : Answer). answerBytes (listing (y .session .held .diagram)) (valueForm (y .session)) (tableOf (y .session) b) b) q;
+      words = omega (arith, log .count, log .total);
+    }
+
+-- a line that is answered so is an accepted (did ..), and what it prints are count and total of the state in hand behind it
+pub reply-replays : (σ : Session) (number : ℕ) (s : List ℕ) (n m : ℕ) → reply σ number s .answer ≡ A.Did n m
+    → (l : Live) × PrintsReplay σ (wordsOf K.Did s) l (reply σ number s)
+reply-replays σ number s n m e = go (lineKind s) (reply σ number s) (one-answer σ number s) e
+  where
+    by-kind : (k : Kind) (y : Reply) → allowed σ (ruleOf k (σ .part)) ≡ ok tt → Answered σ (wordsOf k s) k y → y .answer ≡ A.Did n m
+        → (l : Live) × PrintsReplay σ (wordsOf K.Did s) l y
+    by-kind k y w (quiet p q) e = let z : _≡_ {A = ℕ} 0 1 = cc in absurd (omega arith)
+    by-kind k y w (valued v p h t q) e = let z : _≡_ {A = ℕ} 0 1 = cc in absurd (omega arith)
+    by-kind k y w (backed h p r t q) e = let z : _≡_ {A = ℕ} 0 1 = cc in absurd (omega arith)
+    by-kind k y w (cutting j f i p h t q) e = let z : _≡_ {A = ℕ} 0 1 = cc in absurd (omega arith)
+    by-kind k y w (reducing h p r t q) e = let z : _≡_ {A = ℕ} 0 1 = cc in absurd (omega arith)
+    by-kind k y w (showing p t q) e = let z : _≡_ {A = ℕ} 0 1 = cc in absurd (omega arith)
+    by-kind k y w (printing i p h t q) e = let z : _≡_ {A = ℕ} 0 1 = cc in absurd (omega arith)
+    by-kind k y w (moving x p h t q) e = let z : _≡_ {A = ℕ} 0 1 = cc in absurd (omega arith)
+    by-kind k y w (counting l p h t q) e = let z : _≡_ {A = ℕ} 0 1 = cc in absurd (omega arith)
+    by-kind k y w (replaying l p h t q) e = (
+      l,
+      replayed σ (wordsOf K.Did s) l y (subst (λ j. allowed σ (ruleOf j (σ .part)) ≡ ok tt) p w)
+          (subst (λ j. didRead σ (wordsOf j s) ≡ ok l) p h) t q,
+    )
+
+    go : (k : Kind) (y : Reply) → OneAnswer σ number s k y → y .answer ≡ A.Did n m → (l : Live) × PrintsReplay σ (wordsOf K.Did s) l y
     go k y (blank q p) e = let d = sym (ap (λ (z : Reply). z .answer) p) ∙ e in let z : _≡_ {A = ℕ} 0 1 = cc in absurd (omega arith)
     go k y (refusing r p) e = let d = sym (ap (λ (z : Reply). z .answer) p) ∙ e in let z : _≡_ {A = ℕ} 0 1 = cc in absurd (omega arith)
     go k y (accepted w p) e = by-kind k y w p e

@@ -31,6 +31,7 @@ use Rattle.model_laws.specs.VariantLaws.{variant-good}
 use Rattle.model_laws.specs.BecomesLaws.{becomes-good}
 use Rattle.session_laws.specs.StateLaws.{objects-good, is-good}
 use Rattle.session_laws.specs.FactLaws.{WholeRows, true-good}
+use Rattle.session_laws.specs.ReplayLaws.{did-good}
 use Rattle.session_laws.specs.PlaceLaws.{in-model, in-run, variant-action}
 use Rattle.session_laws.specs.RunLaws.{start-good, backup-good, cut-good, reduce-good}
 use Rattle.session_laws.specs.CaseLaws.{Cases, done-by, reply-by}
@@ -93,6 +94,7 @@ module _ (σ : Session) (g : GoodSession σ) (whole : WholeRows (σ .live .facts
     forText = λ n e t. g;
     forBest = λ x e t. g;
     forCount = λ l e t. g;
+    forDid = λ l e t. did-good σ g (run K.Did refl t) _ _ _ l e;
   }
 
   pub done-good : (number : ℕ) (k : Kind) (es : List Event) → Standing σ k es → GoodSession (done σ number k es .session)

@@ -66,6 +66,7 @@ held-good σ g h b = record {
   few = g .few;
   state = g .state;
   most = g .most;
+  log = g .log;
   quiet = λ e. model-run (sym e);
   begun = λ e. b;
 }
@@ -95,6 +96,7 @@ called-good σ g c = record {
   few = g .few;
   state = g .state;
   most = g .most;
+  log = g .log;
   quiet = g .quiet;
   begun = λ e. let b = g .begun e in record { some = b .some; good = b .good; value = call-good (σ .model) (b .good) c (σ .held) (b .value) };
 }

@@ -1,11 +1,10 @@
--- No reply has more bytes than 1,024 rows shown, forms and spreads too (document 01, section 'A run, whole'; document 02, L2, L9 and L11).
+-- No reply has more bytes than 1,024 rows shown, forms and spreads too (document 01, section 'A run, whole'; document 02, L2, L9, L10 and L11).
 use mathlib.Core.Path.{_≡_, refl, sym, ap, _∙_, subst}
 use mathlib.Core.List.{List, []}
 use Prim.Native.Nat.{ℕ, zero, suc, _+_, _*_, _-_, _/_, _≤_, _<_}
 use native.Mathlib.Omega.{arith}
 use native.Mathlib.Decide.{decLt}
 use lib.ListN.{length, getD, length-append, List·getD-eq-default}
-use Rattle.label.specs.Limits.{leafMark}
 use Rattle.label.specs.LabelLaws.{label-below}
 use Rattle.diagram.specs.Diagram.{Diagram}
 use Rattle.diagram.specs.Words.{labelAt, highAt, lowAt, rowCount}
@@ -19,12 +18,12 @@ use Rattle.answers.specs.Answers.{answerBytes, lineFeed}
 use Rattle.answers.specs.Writing.{IsWord, OfWords, mostBytes}
 use Rattle.answers.specs.AnswerLaws.{counts-short, answer-short}
 use Rattle.session.specs.Session.{Session}
-use Rattle.session.specs.Replies.{Reply, reply}
+use Rattle.session.specs.Replies.{reply}
 use Rattle.session.specs.Texts.{valueForm, tableOf, replyBytes}
 use Rattle.session.specs.Good.{GoodSession}
 use Rattle.session_laws.specs.PlaceLaws.{placed-objects}
 use Rattle.session_laws.specs.MoveLaws.{tuple-below}
-use Rattle.session_laws.specs.PrintLaws.{reply-shows, reply-prints, reply-moves, reply-counts}
+use Rattle.session_laws.specs.PrintLaws.{reply-shows, reply-prints, reply-moves, reply-counts, reply-replays}
 
 -- ===== The words of a listing =====
 
@@ -97,6 +96,7 @@ module _ (σ : Session) (good : GoodSession σ) (number : ℕ) (s : List ℕ) wh
       let p = reply-counts σ good number s n m e in
       let same = ap (λ (τ : Session). length (bytesIn τ (A.Count n m))) (p .session) in
       omega (arith, as-answered (A.Count n m) e, same, counts-short (tableOf σ (A.Count n m)) m (p .words) h)
+  by-answer (A.Did n t) e h = omega (arith, as-answered (A.Did n t) e, answer-short [] [] [] (A.Did n t) no-words h tt)
   by-answer A.Nothing e h = omega (arith, as-answered A.Nothing e)
 
   -- the reply of a good session, where its numbers are machine words and a (show) has at most 1,024 rows
@@ -115,3 +115,7 @@ module _ (σ : Session) (good : GoodSession σ) (number : ℕ) (s : List ℕ) wh
   -- a spread has at most 1,023 lines
   pub count-words : (n m : ℕ) → reply σ number s .answer ≡ A.Count n m → OfWords (A.Count n m)
   count-words n m e = omega (arith, reply-counts σ good number s n m e .few)
+
+  -- count and total are at most 10^18
+  pub did-words : (n t : ℕ) → reply σ number s .answer ≡ A.Did n t → OfWords (A.Did n t)
+  did-words n t e = let v = reply-replays σ number s n t e in subst OfWords (sym (v .1 .answer) ∙ e) (v .1 .words)

@@ -1,5 +1,5 @@
 -- (objects n) and (is c o) keep a session good (document 01, section 'States and value').
-use mathlib.Core.Path.{_≡_, sym, _∙_}
+use mathlib.Core.Path.{_≡_, refl, sym, _∙_}
 use mathlib.Core.Bool.{true, not, _&&_, _||_}
 use mathlib.Core.List.{List, [], _∷_}
 use Prim.Native.Nat.{ℕ, zero, suc, _≤_, _<_}
@@ -20,7 +20,7 @@ use Rattle.session.specs.declared.Part.the-variants.{Run}
 use Rattle.session.specs.Session.{Names, Live, Session}
 use Rattle.session.specs.Facts.{mostObjects, cleared, objectsLine, placed, isLine}
 use Rattle.session.specs.Replies.{withLive}
-use Rattle.session.specs.Good.{GoodSession}
+use Rattle.session.specs.Good.{GoodLog, GoodSession}
 use Rattle.session_laws.specs.PlaceLaws.{model-run}
 
 -- ===== States, taken apart and made =====
@@ -51,19 +51,24 @@ state-made ar n constants facts d =
 
 -- another state in the run
 pub live-good : (σ : Session) → GoodSession σ → σ .part ≡ Run → (l : Live)
-    → (1 ≤ l .objects → isState (σ .model .arities) (l .objects) (l .constants) (l .facts) ≡ true) → l .objects ≤ mostObjects → GoodSession (withLive σ l)
-live-good σ g p l h m = record {
+    → (1 ≤ l .objects → isState (σ .model .arities) (l .objects) (l .constants) (l .facts) ≡ true) → l .objects ≤ mostObjects → GoodLog l → GoodSession (withLive σ l)
+live-good σ g p l h m log = record {
   tables = g .tables;
   agreeing = g .agreeing;
   parts = g .parts;
   few = g .few;
   state = h;
   most = m;
+  log = log;
   quiet = λ e. model-run (sym e ∙ p);
   begun = λ e. let b = g .begun e in record { some = b .some; good = b .good; value = b .value };
 }
 
 -- ===== (objects n) =====
+
+-- count and total begin at 0
+pub log-none : (l : Live) → l .count ≡ 0 → l .total ≡ 0 → GoodLog l
+log-none l c t = record { count = omega arith; total = omega arith; none = λ e. t }
 
 cleared-state : (ar : List ℕ) (n : ℕ) → 1 ≤ n → isState ar n (cleared n .constants) (cleared n .facts) ≡ true
 unfolding cleared
@@ -82,7 +87,7 @@ objects-kept P n h =
 pub objects-good : (σ : Session) → GoodSession σ → σ .part ≡ Run → (n : ℕ) (l : Live) → objectsLine n ≡ ok l → GoodSession (withLive σ l)
 unfolding cleared
 objects-good σ g p n l e =
-    objects-kept (λ m. GoodSession (withLive σ m)) n (live-good σ g p (cleared n) (cleared-state (σ .model .arities) n)) .given l e
+    objects-kept (λ m. GoodSession (withLive σ m)) n (λ m. live-good σ g p (cleared n) (cleared-state (σ .model .arities) n) m (log-none (cleared n) refl refl)) .given l e
 
 -- ===== (is c o) =====
 
@@ -106,7 +111,9 @@ placed-state ar l c o h e =
 
 placed-good : (σ : Session) → GoodSession σ → σ .part ≡ Run → (c o : ℕ) → o < σ .live .objects → GoodSession (withLive σ (placed (σ .live) c o))
 unfolding placed
-placed-good σ g p c o h = live-good σ g p (placed (σ .live) c o) (λ k. placed-state (σ .model .arities) (σ .live) c o h (g .state k)) (g .most)
+placed-good σ g p c o h =
+    live-good σ g p (placed (σ .live) c o) (λ k. placed-state (σ .model .arities) (σ .live) c o h (g .state k)) (g .most)
+    (record { count = g .log .count; total = g .log .total; none = g .log .none })
 
 pub is-kept : (P : Live → Type 0) (n : Names) (l : Live) (k : Key) (o : ℕ) → (o < l .objects → P (placed l (placeOf k (n .constants)) o))
     → Accepted P (isLine n l k o)

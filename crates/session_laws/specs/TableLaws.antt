@@ -40,6 +40,7 @@ bare-cases σ number es = record {
   forText = λ n e h τ. refl;
   forBest = λ x e h τ. refl;
   forCount = λ l e h τ. absurd (h refl);
+  forDid = λ l e h τ. refl;
 }
 
 pub done-bare : (σ : Session) (number : ℕ) (k : Kind) (es : List Event) → k ≢ K.Count → (τ : Session) → tableOf τ (done σ number k es .answer) ≡ []

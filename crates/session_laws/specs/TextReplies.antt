@@ -57,6 +57,7 @@ under i (A.Show n) = A.Show n
 under i (A.Text n) = A.Text n
 under i (A.Best k n a b c d) = A.Best k n a b c d
 under i (A.Count n m) = A.Count n m
+under i (A.Did n t) = A.Did n t
 under i (A.Refused r line) = A.Refused r i
 under i A.Nothing = A.Nothing
 

@@ -20,7 +20,7 @@ use Rattle.state.specs.Highest.{highest}
 use Rattle.mdp.specs.Model.{Model, GoodModel}
 use Rattle.mdp.specs.Bellman.{bellman}
 use Rattle.mdp.specs.Backup.{backup}
-use Rattle.mdp.specs.Runs.{Call, aBackup, aCut, aReduce, Held, leaves, cutOutcome, taken, call, runFrom, begin, run}
+use Rattle.mdp.specs.Runs.{Call, Held, leaves, cutOutcome, taken, call, runFrom, begin, run}
 use Rattle.mdp.specs.RunLaws.{demand-3}
 use Rattle.words.specs.declared.Key.{Key}
 use Rattle.text.specs.declared.Kind.{Kind}
@@ -93,6 +93,7 @@ asks K.Reduce = reduces refl
 asks K.Text = nothing refl
 asks K.Best = nothing refl
 asks K.Count = nothing refl
+asks K.Did = nothing refl
 asks K.Bad = nothing refl
 
 module _ (σ : Session) (p : σ .part ≡ Run) (number : ℕ) where
@@ -139,6 +140,7 @@ module _ (σ : Session) (p : σ .part ≡ Run) (number : ℕ) where
     forText = λ n e a c. no-call K.Text _ c refl refl refl;
     forBest = λ x e a c. no-call K.Best _ c refl refl refl;
     forCount = λ l e a c. no-call K.Count _ c refl refl refl;
+    forDid = λ l e a c. no-call K.Did _ c refl refl refl;
   }
 
   uncalled : (s : List ℕ) → callOf (lineKind s) ≡ none → OneCall σ (lineKind s) (reply σ number s)
@@ -284,6 +286,7 @@ module _ (σ : Session) (p : σ .part ≡ ModelPart) (number : ℕ) where
     forText = λ n e a. later K.Text refl a;
     forBest = λ x e a. later K.Best refl a;
     forCount = λ l e a. later K.Count refl a;
+    forDid = λ l e a. later K.Did refl a;
   }
 
   line-model : (s : List ℕ) → Modelled σ (lineKind s) (reply σ number s)

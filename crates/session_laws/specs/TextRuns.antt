@@ -50,6 +50,7 @@ callOf K.Reduce = some aReduce
 callOf K.Text = none
 callOf K.Best = none
 callOf K.Count = none
+callOf K.Did = none
 callOf K.Bad = none
 
 abbrev pub callThen : Option Call → List Call → List Call
@@ -73,6 +74,7 @@ isRefused (A.Show n) = false
 isRefused (A.Text n) = false
 isRefused (A.Best k n a b c d) = false
 isRefused (A.Count n m) = false
+isRefused (A.Did n t) = false
 isRefused (A.Refused r line) = true
 isRefused A.Nothing = false
 

@@ -32,7 +32,7 @@ use Rattle.session.specs.Replies.{Reply, isPlaced, allowed, valueSays, done, pl
 use Rattle.session.specs.Good.{GoodSession}
 use Rattle.session_laws.specs.TextRuns.{HoldsValues, tooLarge}
 use Rattle.session_laws.specs.PlaceLaws.{in-run, value-placed, value-allowed, placed-objects}
-use Rattle.session_laws.specs.LineAnswers.{Answered, quiet, valued, backed, cutting, reducing, showing, printing, moving, counting}
+use Rattle.session_laws.specs.LineAnswers.{Answered, quiet, valued, backed, cutting, reducing, showing, printing, moving, counting, replaying}
 use Rattle.session_laws.specs.LineAnswers.{OneAnswer, blank, refusing, accepted, IsValue}
 use Rattle.session_laws.specs.AnswerLaws.{one-answer}
 use Rattle.session_laws.specs.StateLaws.{Described, described}
@@ -98,6 +98,7 @@ value-bellman σ g holds number s v k w e = go (lineKind s) (reply σ number s) 
     valued-is i y a (printing n p r t q) e = let z : _≡_ {A = ℕ} 0 1 = cc in absurd (omega arith)
     valued-is i y a (moving x p r t q) e = let z : _≡_ {A = ℕ} 0 1 = cc in absurd (omega arith)
     valued-is i y a (counting l p r t q) e = let z : _≡_ {A = ℕ} 0 1 = cc in absurd (omega arith)
+    valued-is i y a (replaying l p r t q) e = let z : _≡_ {A = ℕ} 0 1 = cc in absurd (omega arith)
 
     go : (i : Kind) (y : Reply) → OneAnswer σ number s i y → y .answer ≡ A.Value v k w → IsValue σ v k w
     go i y (blank q p) e = let d = sym (ap (λ (z : Reply). z .answer) p) ∙ e in let z : _≡_ {A = ℕ} 0 1 = cc in absurd (omega arith)

@@ -1,4 +1,4 @@
--- Every line leaves the facts whole rows: (true p o ..) adds a row, (objects n) leaves none, no other line touches them.
+-- Every line leaves the facts whole rows: (true p o ..) adds a row, (objects n) leaves none, (did ..) lists those of the next state, no other line touches them.
 use mathlib.Core.Path.{_≡_, refl}
 use mathlib.Core.List.{List}
 use Prim.Native.Nat.{ℕ}
@@ -16,6 +16,7 @@ use Rattle.session.specs.Running.{withHeld, startLine}
 use Rattle.session.specs.Replies.{Reply, withVocabulary, withTotal, withDiscount, withAction, wordsOf, reply}
 use Rattle.session_laws.specs.StateLaws.{objects-kept, is-kept}
 use Rattle.session_laws.specs.FactLaws.{WholeRows, true-whole}
+use Rattle.session_laws.specs.ReplayLaws.{did-whole}
 use Rattle.session_laws.specs.RunLaws.{made-by}
 use Rattle.session_laws.specs.CaseLaws.{Cases, done-by, reply-by}
 
@@ -77,6 +78,7 @@ module _ (σ : Session) (w : WholeRows (σ .live .facts)) where
     forText = λ n e. w;
     forBest = λ x e. w;
     forCount = λ l e. w;
+    forDid = λ l e. did-whole (σ .model) (σ .names) (σ .live) _ _ _ l e;
   }
 
   pub reply-whole : (number : ℕ) (s : List ℕ) → WholeRows (reply σ number s .session .live .facts)

@@ -7,15 +7,24 @@ use Rattle.diagram_lines.proofs.read_weight.Statement.{statement}
 use Rattle.diagram_lines.proofs.read_weight.Tie as tie
 
 returns : tie.Need-returns
-returns c = weight-known (c .before .before .before .before .before .before .before .pre .0) (c .before .before .before .before .before .before .before .args .at) (c .before .before .before .before .before .before .before .args .key) (c .before .find .ensures) (c .if1 .taken)
+returns c =
+    let f = c .before .before .before .before .before .before .before .before .before in
+    weight-known (f .pre .0) (f .args .at) (f .args .key) (c .before .find .ensures) (c .if1 .taken)
 
 draw-requires : tie.Need-draw-requires
-draw-requires c κs = weight-drawable (c .before .before .before .before .before .before .before .before .before .before .pre .0) ((variableCount + 1) * 2) (lit≤ tt) (c .before .before .before .before .before .before .before .before .before .before .pre .1 .0) (c .before .before .before .before .before .before .before .before .before .before .pre .1 .1)
+draw-requires c κs =
+    let f = c .before .before .before .before .before .before .before .before .before .before .before .before in
+    weight-drawable (f .pre .0) ((variableCount + 1) * 2) (lit≤ tt) (f .pre .1 .0) (f .pre .1 .1)
 
 returns-2 : tie.Need-returns-2
-returns-2 c = weight-reads (c .before .before .before .before .before .before .before .before .before .before .before .before .before .before .before .before .before .pre .0) (c .before .before .before .before .before .before .before .before .before .before .before .before .before .before .before .before .before .args .at) (c .before .before .before .before .before .before .before .before .before .before .before .before .before .before .before .before .before .args .key) (c .before .before .before .before .before .before .before .before .before .before .before .find .ensures) _ (c .before .before .before .before .before .before .before .before .before .before .if1 .left) (c .before .before .before .before .before .before .draw .ensures) (c .room .ensures)
+returns-2 c =
+    let d = c .before .before .before .before .before .before in
+    let i = d .before .before .before .before in
+    let f = i .before .before .before .before .before .before .before .before .before in
+    weight-reads (f .pre .0) (f .args .at) (f .args .key) (i .before .find .ensures) _ (i .if1 .left) (d .draw .ensures) (c .room .ensures)
 
 pub read-weight-spec : {M : Type 1} → statement M
 read-weight-spec =
     tie.close
-    (tie.spec (λ c κs. search needs) returns (λ c. search needs) draw-requires (λ c κs. search needs) (λ c. search needs) (λ c. search needs) returns-2)
+    (tie.spec (λ c. search needs) (λ c. search needs) (λ c κs. search needs) returns (λ c. search needs) draw-requires (λ c κs. search needs) (λ c. search needs) (λ c. search needs)
+    returns-2)

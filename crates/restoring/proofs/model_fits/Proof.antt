@@ -1,4 +1,5 @@
-use Rattle.restoring.proofs.TestLaws.{model-counts, model-arities, model-head, model-reward, model-actions, model-rest, reward-within, actions-few, actions-lent}
+use Rattle.restoring.proofs.TestLaws.{model-counts, model-arities, model-head, model-reward, model-actions, model-rest, reward-within, actions-few, actions-lent, variants-few}
+use Rattle.checking.proofs.TestLaws.{passed}
 use borrow.Author.Needs.{needs}
 use Rattle.restoring.proofs.model_fits.Statement.{statement}
 use Rattle.restoring.proofs.model_fits.Tie as tie
@@ -44,11 +45,12 @@ returns-5 c =
     (c .before .before .before .reward-fits .ensures) (c .before .before .if4 .left) (c .before .actions-fit .ensures) (c .if5 .taken)
 
 last-fits-requires : tie.Need-last-fits-requires
-last-fits-requires c κs = (
-  c .before .before .before .before .before .before .before .before .before .before .before .before .before .before .before .pre .1,
-  actions-few _
-      (c .before .before .before .before .before .head-fits .ensures) (c .before .before .before .before .if3 .left),
-)
+last-fits-requires c κs =
+    let t = c .before .before .before .before .before in (
+      passed (t .before .before .before .before .counts-fit .ensures) (t .before .before .before .if1 .left),
+      variants-few _ _ _ _ (t .head-fits .ensures) (c .before .before .before .before .if3 .left) (c .before .actions-fit .ensures) (c .if5 .left)
+          (t .before .before .before .before .before .before .before .before .before .before .pre .1),
+    )
 
 returns-6 : tie.Need-returns-6
 returns-6 c =

@@ -66,67 +66,73 @@ returns-21 : tie.Need-returns-21
 returns-21 c = rw (c .enum-told22 .given .1, c .before .before .enum-told .given .1)
 
 returns-22 : tie.Need-returns-22
-returns-22 c = rw (c .enum-told24 .given .1, c .before .before .enum-told23 .given .1)
+returns-22 c = rw (c .enum-told23 .given .1, c .before .before .enum-told .given .1)
 
 returns-23 : tie.Need-returns-23
-returns-23 c = rw (c .enum-told25 .given .1, c .before .before .enum-told23 .given .1)
+returns-23 c = rw (c .enum-told25 .given .1, c .before .before .enum-told24 .given .1)
 
 returns-24 : tie.Need-returns-24
-returns-24 c = rw (c .enum-told26 .given .1, c .before .before .enum-told23 .given .1)
+returns-24 c = rw (c .enum-told26 .given .1, c .before .before .enum-told24 .given .1)
 
 returns-25 : tie.Need-returns-25
-returns-25 c = rw (c .enum-told27 .given .1, c .before .before .enum-told23 .given .1)
+returns-25 c = rw (c .enum-told27 .given .1, c .before .before .enum-told24 .given .1)
 
 returns-26 : tie.Need-returns-26
-returns-26 c = rw (c .enum-told28 .given .1, c .before .before .enum-told23 .given .1)
+returns-26 c = rw (c .enum-told28 .given .1, c .before .before .enum-told24 .given .1)
 
 returns-27 : tie.Need-returns-27
-returns-27 c = rw (c .enum-told29 .given .1, c .before .before .enum-told23 .given .1)
+returns-27 c = rw (c .enum-told29 .given .1, c .before .before .enum-told24 .given .1)
 
 returns-28 : tie.Need-returns-28
-returns-28 c = rw (c .enum-told30 .given .1, c .before .before .enum-told23 .given .1)
+returns-28 c = rw (c .enum-told30 .given .1, c .before .before .enum-told24 .given .1)
 
 returns-29 : tie.Need-returns-29
-returns-29 c = rw (c .enum-told31 .given .1, c .before .before .enum-told23 .given .1)
+returns-29 c = rw (c .enum-told31 .given .1, c .before .before .enum-told24 .given .1)
 
 returns-30 : tie.Need-returns-30
-returns-30 c = rw (c .enum-told32 .given .1, c .before .before .enum-told23 .given .1)
+returns-30 c = rw (c .enum-told32 .given .1, c .before .before .enum-told24 .given .1)
 
 returns-31 : tie.Need-returns-31
-returns-31 c = rw (c .enum-told33 .given .1, c .before .before .enum-told23 .given .1)
+returns-31 c = rw (c .enum-told33 .given .1, c .before .before .enum-told24 .given .1)
 
 returns-32 : tie.Need-returns-32
-returns-32 c = rw (c .enum-told34 .given .1, c .before .before .enum-told23 .given .1)
+returns-32 c = rw (c .enum-told34 .given .1, c .before .before .enum-told24 .given .1)
 
 returns-33 : tie.Need-returns-33
-returns-33 c = rw (c .enum-told35 .given .1, c .before .before .enum-told23 .given .1)
+returns-33 c = rw (c .enum-told35 .given .1, c .before .before .enum-told24 .given .1)
 
 returns-34 : tie.Need-returns-34
-returns-34 c = rw (c .enum-told36 .given .1, c .before .before .enum-told23 .given .1)
+returns-34 c = rw (c .enum-told36 .given .1, c .before .before .enum-told24 .given .1)
 
 returns-35 : tie.Need-returns-35
-returns-35 c = rw (c .enum-told37 .given .1, c .before .before .enum-told23 .given .1)
+returns-35 c = rw (c .enum-told37 .given .1, c .before .before .enum-told24 .given .1)
 
 returns-36 : tie.Need-returns-36
-returns-36 c = rw (c .enum-told38 .given .1, c .before .before .enum-told23 .given .1)
+returns-36 c = rw (c .enum-told38 .given .1, c .before .before .enum-told24 .given .1)
 
 returns-37 : tie.Need-returns-37
-returns-37 c = rw (c .enum-told39 .given .1, c .before .before .enum-told23 .given .1)
+returns-37 c = rw (c .enum-told39 .given .1, c .before .before .enum-told24 .given .1)
 
 returns-38 : tie.Need-returns-38
-returns-38 c = rw (c .enum-told40 .given .1, c .before .before .enum-told23 .given .1)
+returns-38 c = rw (c .enum-told40 .given .1, c .before .before .enum-told24 .given .1)
 
 returns-39 : tie.Need-returns-39
-returns-39 c = rw (c .enum-told41 .given .1, c .before .before .enum-told23 .given .1)
+returns-39 c = rw (c .enum-told41 .given .1, c .before .before .enum-told24 .given .1)
 
 returns-40 : tie.Need-returns-40
-returns-40 c = rw (c .enum-told42 .given .1, c .before .before .enum-told23 .given .1)
+returns-40 c = rw (c .enum-told42 .given .1, c .before .before .enum-told24 .given .1)
 
 returns-41 : tie.Need-returns-41
-returns-41 c = rw (c .enum-told43 .given .1, c .before .before .enum-told23 .given .1)
+returns-41 c = rw (c .enum-told43 .given .1, c .before .before .enum-told24 .given .1)
 
 returns-42 : tie.Need-returns-42
-returns-42 c = rw (c .enum-told44 .given .1, c .before .before .enum-told23 .given .1)
+returns-42 c = rw (c .enum-told44 .given .1, c .before .before .enum-told24 .given .1)
+
+returns-43 : tie.Need-returns-43
+returns-43 c = rw (c .enum-told45 .given .1, c .before .before .enum-told24 .given .1)
+
+returns-44 : tie.Need-returns-44
+returns-44 c = rw (c .enum-told46 .given .1, c .before .before .enum-told24 .given .1)
 
 pub rule-of-spec : {M : Type 1} → statement M
 rule-of-spec =
@@ -137,7 +143,8 @@ rule-of-spec =
     (λ c. search needs) (λ c. search needs) (λ c. search needs) (λ c. search needs) (λ c. search needs) (λ c. search needs) (λ c. search needs)
     (λ c. search needs) (λ c. search needs) (λ c. search needs) (λ c. search needs) (λ c. search needs) (λ c. search needs) (λ c. search needs)
     (λ c. search needs) (λ c. search needs) (λ c. search needs) (λ c. search needs) (λ c. search needs) (λ c. search needs) (λ c. search needs)
-    (λ c. search needs) (λ c. search needs) (λ c. search needs) returns returns-2 returns-3 returns-4 returns-5 returns-6 returns-7 returns-8
-    returns-9 returns-10 returns-11 returns-12 returns-13 returns-14 returns-15 returns-16 returns-17 returns-18 returns-19 returns-20 returns-21
-    returns-22 returns-23 returns-24 returns-25 returns-26 returns-27 returns-28 returns-29 returns-30 returns-31 returns-32 returns-33 returns-34
-    returns-35 returns-36 returns-37 returns-38 returns-39 returns-40 returns-41 returns-42)
+    (λ c. search needs) (λ c. search needs) (λ c. search needs) (λ c. search needs) (λ c. search needs) returns returns-2 returns-3 returns-4
+    returns-5 returns-6 returns-7 returns-8 returns-9 returns-10 returns-11 returns-12 returns-13 returns-14 returns-15 returns-16 returns-17
+    returns-18 returns-19 returns-20 returns-21 returns-22 returns-23 returns-24 returns-25 returns-26 returns-27 returns-28 returns-29
+    returns-30 returns-31 returns-32 returns-33 returns-34 returns-35 returns-36 returns-37 returns-38 returns-39 returns-40 returns-41
+    returns-42 returns-43 returns-44)
