@@ -30,7 +30,8 @@ use Rattle.elimination.specs.Answer.{valueAnswer}
 use Rattle.texts.specs.declared.Ran.{Ran}
 use Rattle.texts.specs.declared.Ran.the-variants.{Done as RanDone, Full}
 use Rattle.texts.specs.Running.{filled, Fills}
-use Rattle.c_library.specs.Answers.{combinedNumber, combinedRows, combinedPairs, regressedNumber, regressedRows, freedNumber, freedRows, cutNumber, cutRow, edgeNumber, cutEdge, cutRows, reducedNumber, reducedRows, valuedNumber, valuedValue, listingNumber, fullNumber, ranNumber, ranBytes, ranLines}
+use Rattle.c_library.specs.Answers.{combinedNumber, combinedRows, combinedPairs, regressedNumber, regressedRows, freedNumber, freedRows, cutNumber, cutRow, edgeNumber, cutEdge}
+use Rattle.c_library.specs.Answers.{cutRows, reducedNumber, reducedRows, valuedNumber, valuedValue, listingNumber, fullNumber, ranNumber, ranBytes, ranLines}
 use Rattle.c_library.specs.Calls.{Combines, Regresses, Frees, Cuts, Reduces, Values, Runs}
 
 module _ {op : Operation} {names : Names} {ar x y out work : List ℕ} (rows pairs : ℕ) {a : Combined} {out′ : List ℕ}

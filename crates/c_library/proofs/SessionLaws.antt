@@ -45,7 +45,8 @@ use Rattle.restoring.specs.KeptLaws.{session-is}
 use Rattle.checking.specs.DecisionLaws.{decided}
 use Rattle.checking.proofs.TestLaws.{stops, goes, refused, passed}
 use Rattle.c_library.specs.Answers.{roomNumber, entryNumber}
-use Rattle.c_library.specs.Sessions.{hasRoom, OpenOrLeft, Opens, hasRooms, isPlain, canAnswer, isOpen, progressAt, positionAt, putEnd, IsAnswered, IsUntouched, DoneOrLeft, Replies, answeredLines, AreAnswered, AreUntouched, RepliesAll, canClose, closingAt, IsClosed, IsUnclosed, Closes}
+use Rattle.c_library.specs.Sessions.{hasRoom, OpenOrLeft, Opens, hasRooms, isPlain, canAnswer, isOpen, progressAt, positionAt, putEnd, IsAnswered, IsUntouched, DoneOrLeft, Replies}
+use Rattle.c_library.specs.Sessions.{answeredLines, AreAnswered, AreUntouched, RepliesAll, canClose, closingAt, IsClosed, IsUnclosed, Closes}
 
 -- ===== Room =====
 
@@ -176,7 +177,7 @@ module _ (s : List ℕ) where
         plain-reward h =
             goes (le-leb (getD s 0 0) 1 a) (goes (le-leb (getD s 1 0) 1 b) (goes (le-leb (getD s 2 0) 1 c) (stops _ (lt-leb (getD s 3 0) 1 h))))
 
-        pub plain-met : getD s 3 0 ≤ 1 → leb (getD s 22 0) 1 ≡ isPlain s
+        pub plain-met : getD s 3 0 ≤ 1 → leb (getD s 25 0) 1 ≡ isPlain s
         plain-met d =
             goes (le-leb (getD s 0 0) 1 a) (goes (le-leb (getD s 1 0) 1 b) (goes (le-leb (getD s 2 0) 1 c) (goes (le-leb (getD s 3 0) 1 d) refl)))
 

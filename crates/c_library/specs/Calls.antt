@@ -11,7 +11,8 @@ use Rattle.cutting.specs.Cut.{cutAnswer, cutBuffer}
 use Rattle.reduction.specs.Reduction.{reduceCall, answerOf, bufferOf}
 use Rattle.elimination.specs.Answer.{valueAnswer}
 use Rattle.texts.specs.Running.{filled, inFront}
-use Rattle.c_library.specs.Answers.{combinedNumber, combinedRows, combinedPairs, regressedNumber, regressedRows, freedNumber, freedRows, cutNumber, cutRow, cutEdge, cutRows, reducedNumber, reducedRows, valuedNumber, valuedValue, ranNumber, ranBytes, ranLines}
+use Rattle.c_library.specs.Answers.{combinedNumber, combinedRows, combinedPairs, regressedNumber, regressedRows, freedNumber, freedRows, cutNumber, cutRow, cutEdge, cutRows}
+use Rattle.c_library.specs.Answers.{reducedNumber, reducedRows, valuedNumber, valuedValue, ranNumber, ranBytes, ranLines}
 
 -- a combination of x and y; r is the answer, and a dash marks what is lent after the call
 pub record Combines (op : Operation) (names : Names) (ar x y out work : List ℕ) (rows pairs r : ℕ) (out′ : List ℕ) (rows′ pairs′ : ℕ) : Type 0 where

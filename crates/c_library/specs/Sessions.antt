@@ -69,7 +69,7 @@ hasRooms numbers names arities listings table state value =
 abbrev pub isPlain : List ℕ → Bool
 isPlain numbers =
     leb (getD numbers 0 0) 1
-    && (leb (getD numbers 1 0) 1 && (leb (getD numbers 2 0) 1 && (leb (getD numbers 3 0) 1 && leb (getD numbers 22 0) 1)))
+    && (leb (getD numbers 1 0) 1 && (leb (getD numbers 2 0) 1 && (leb (getD numbers 3 0) 1 && leb (getD numbers 25 0) 1)))
 
 -- the words are a session's, which can count so many lines more
 abbrev pub isOpen : List ℕ → Memory → ℕ → Bool

@@ -459,7 +459,7 @@ fn is_plain(numbers: &[u64]) -> bool
     if numbers[3] > 1 {
         return false;
     }
-    numbers[22] <= 1
+    numbers[25] <= 1
 }
 
 // Whether words are a session's, which can count so many lines more.

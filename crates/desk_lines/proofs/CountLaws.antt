@@ -1,8 +1,8 @@
 -- Laws of (count n).
 use mathlib.Core.Path.{_≡_, refl, sym, ap, ap₂, subst, _∙_}
 use mathlib.Core.Bool.{Bool, true, false, not, _&&_, cond}
-use mathlib.Core.List.{List, []}
-use Prim.Native.Nat.{ℕ, _*_, _^_, _≤_}
+use mathlib.Core.List.{List}
+use Prim.Native.Nat.{ℕ, _*_}
 use native.Mathlib.Omega.{arith}
 use lib.ListN.{length, take}
 use lib.Seq.{length-take-le}
@@ -14,15 +14,14 @@ use Rattle.label.specs.Limits.{constantCount}
 use Rattle.diagram.specs.Listing.{diagramOf, listing}
 use Rattle.diagram.specs.Listings.{is-listing-diagram}
 use Rattle.state.specs.Lent.{constantsBelow}
-use Rattle.names.specs.Keys.{keysAt}
 use Rattle.names.specs.KeyLaws.{length-keys}
 use Rattle.names.specs.Layout.{declaredAt}
 use Rattle.spread.specs.Ground.{mostGround, groundCount}
-use Rattle.spread.specs.Spread.{Entry, entryWords, entriesOf, someTooLarge, spread}
+use Rattle.spread.specs.Spread.{Entry, entryWords, someTooLarge, spread}
 use Rattle.events.specs.declared.Next.{Next}
 use Rattle.events.specs.Events.{firstWord}
 use Rattle.events.specs.Front.{nextAt}
-use Rattle.events.specs.Contents.{numberIn, wordAt}
+use Rattle.events.specs.Contents.{numberIn}
 use Rattle.answers.specs.declared.Answer.the-variants as A
 use Rattle.text.specs.declared.Kind.the-variants as K
 use Rattle.session.specs.Session.{Session, refuseIf}
@@ -35,9 +34,9 @@ use Rattle.facts.specs.Words.{liveOf}
 use Rattle.model.specs.Layout.{modelOf}
 use Rattle.count_states.specs.declared.Counted.{Counted}
 use Rattle.count_states.specs.declared.Counted.the-variants.{Lines, Refused}
-use Rattle.count_states.specs.Counted.{countedAs, tableWords, Counts}
+use Rattle.count_states.specs.Counted.{countedAs, Counts}
 use Rattle.memory.specs.declared.Numbers.{Numbers}
-use Rattle.memory.specs.Memory.{Memory, memoryOf, sessionOf, Ready, Answers, Shown, workWords}
+use Rattle.memory.specs.Memory.{Memory, memoryOf, sessionOf, Ready, Answers, Shown}
 use Rattle.memory.specs.WordLaws.{first-is}
 use Rattle.memory.specs.RunLaws.{run-holding}
 use Rattle.desk_lines.specs.Lines.{CountTask, CountAnswered}

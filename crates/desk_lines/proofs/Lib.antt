@@ -2,3 +2,6 @@
 pub mod BestLaws
 pub mod SpreadLaws
 pub mod CountLaws
+pub mod LineLaws
+pub mod FindLaws
+pub mod DidLaws

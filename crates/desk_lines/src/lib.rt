@@ -1,35 +1,36 @@
-// (best) and (count n): from a line that stands where it may to its answer; both leave the session as it was. What they are stands in crate session, specs/Running
-// and specs/Replies.
+// (best), (count n) and (did ..): from a line that stands where it may to its answer; the first two leave the session as it was, the third moves its state. What they
+// are stands in crate session, specs/Running, specs/Replaying and specs/Replies.
 use answers::Answer;
 use best_move::Chosen;
 use count_states::Counted;
+use declare::Counts;
+use facts::Live;
+use facts::Told;
+use facts::Tuple;
 use memory::Numbers;
 use memory::Said;
+use model::Head;
 use refusal::Refusal;
+use replay_step::Stepped;
 use text::Kind;
 use words::Key;
 ghost use mathlib.Core.Path.{_≡_};
-ghost use Prim.Native.Nat.{_≤_};
-ghost use lib.ListN.{length, getD};
-ghost use Rattle.mdp.specs.Model.{mostActions};
-ghost use Rattle.names.specs.Keys.{keysAt};
-ghost use Rattle.names.specs.Layout.{actionsAt, nameWords};
-ghost use Rattle.session.specs.Running.{noKey};
-ghost use Rattle.count_states.specs.Counted.{Counts};
-ghost use Rattle.desk_lines.specs.Lines.{MoveTask, CountTask, BestAnswered, CountAnswered};
+ghost use Prim.Native.Nat.{_+_, _*_, _<_, _≤_};
+ghost use lib.ListN.{length, drop};
+ghost use lib.Seq.{paste};
+ghost use Rattle.state.specs.Lent.{factWords};
+ghost use Rattle.replay.specs.Replay.{mostFacts};
+ghost use Rattle.names.specs.Keys.{placeOf};
+ghost use Rattle.events.specs.Front.{eventsOf};
+ghost use Rattle.events.specs.Contents.{numbersIn};
+ghost use Rattle.session.specs.Replaying.{didLine};
+ghost use Rattle.declare.specs.Tables.{namesOf};
+ghost use Rattle.facts.specs.Words.{factsBase, mostBytes, liveOf, Living};
+ghost use Rattle.model.specs.Layout.{modelOf};
+ghost use Rattle.count_states.specs.Counted.{Counts as CountedAs};
+ghost use Rattle.desk_lines.specs.Lines.{MoveTask, CountTask, LogTask, DidTask, BestAnswered, CountAnswered, DidAnswered};
 ghost use Rattle.desk_lines.specs.Counting.{spreadRead, Spreadable};
-
-// The key of an action's name: that of no name where there are not so many.
-fn action_key(names: &[u64], actions: usize, i: usize) -> Key
-    requires { ⌜ nameWords ≤ length (now names) ⌝ }
-    requires { ⌜ actions ≤ mostActions ⌝ }
-    ensures { λ r. ⌜ r ≡ getD (keysAt (now (names .entry)) actionsAt actions) i noKey ⌝ }
-{
-    if i >= actions {
-        return Key { a: 0, b: 0 };
-    }
-    names::key_at(names, names::ACTIONS, i)
-}
+ghost use Rattle.desk_lines.specs.Doing.{variantKeys, doing, moved, Findable, Finding, Movable, StepsIn};
 
 // (best): the name of the action and its objects, or the refusal.
 pub fn best(
@@ -65,7 +66,7 @@ pub fn best(
     match m {
         Chosen::Move(i, count, a, b, c, d) => Said {
             numbers: n,
-            answer: Answer::Best(action_key(names, n.counts.actions, i), count, a, b, c, d),
+            answer: Answer::Best(names::key_at(names, names::ACTIONS, i), count, a, b, c, d),
         },
         Chosen::Refused(why) => Said {
             numbers: n,
@@ -84,7 +85,7 @@ fn spread(
     table: &mut [u64],
 ) -> Counted
     requires { ⌜ Spreadable (now arities) predicates (now words) (now table) ⌝ }
-    ensures { λ r. ⌜ Counts (spreadRead (now (arities .entry)) predicates n (now (constants .entry)) (now (words .entry))) r (now (table .exit)) ⌝ }
+    ensures { λ r. ⌜ CountedAs (spreadRead (now (arities .entry)) predicates n (now (constants .entry)) (now (words .entry))) r (now (table .exit)) ⌝ }
 {
     if n > facts::OBJECTS {
         return Counted::Refused(Refusal::Range);
@@ -129,6 +130,241 @@ pub fn count(
             answer: Answer::Count(objects, m),
         },
         Counted::Refused(why) => Said {
+            numbers: n,
+            answer: Answer::Refused(why, number),
+        },
+    }
+}
+
+// What the words of a (did ..) line say: its action and the action's variant, or why it is refused.
+enum Found {
+    At(usize, usize),
+    Refused(Refusal),
+}
+
+// The place of the key among the names of the variants of the action a, or how many these are.
+fn find_variant(names: &[u64], table: &[u64], actions: usize, a: usize, key: Key) -> usize
+    requires { ⌜ Findable (now names) (now table) actions ⌝ }
+    requires { ⌜ a < actions ⌝ }
+    ensures { λ r. ⌜ r ≡ placeOf key (variantKeys (now (names .entry)) (now (table .entry)) a) ⌝ }
+{
+    let before = modelling::variants_before(table, a);
+    let count = table[a * model::ACTION_WORDS + 1] as usize;
+    names::find(names, names::VARIANTS + before * 2, count, key)
+}
+
+// Finds the action and its variant: 2 and 3 at the action's word, 2 at the variant's, 4 at an object.
+fn find(names: &[u64], n: Counts, table: &[u64], action: Key, variant: Key, objects: Tuple) -> Found
+    requires { ⌜ Findable (now names) (now table) (n .actions) ⌝ }
+    ensures { λ r. ⌜ Finding (now (names .entry)) (now (table .entry)) n action variant objects r ⌝ }
+{
+    let actions = n.actions;
+    let a = names::find(names, names::ACTIONS, actions, action);
+    if a >= actions {
+        return Found::Refused(Refusal::Name);
+    }
+    if objects.count != table[a * model::ACTION_WORDS] {
+        return Found::Refused(Refusal::Arity);
+    }
+    let v = find_variant(names, table, actions, a, variant);
+    if v >= table[a * model::ACTION_WORDS + 1] as usize {
+        return Found::Refused(Refusal::Name);
+    }
+    if objects.within {
+        return Found::At(a, v);
+    }
+    Found::Refused(Refusal::Range)
+}
+
+// Copies the first words of the rows to where the facts stand.
+fn copy_facts(state: &mut [u64], rows: &[u64], words: usize)
+    requires { ⌜ words ≤ length (now rows) ⌝ }
+    requires { ⌜ factsBase + words ≤ length (now state) ⌝ }
+    ensures { λ _. ⌜ now (state .exit) ≡ paste (now (state .entry)) factsBase (now (rows .entry)) words ⌝ }
+{
+    let mut i = 0;
+    while i < words {
+        state[facts::FACTS_BASE + i] = rows[i];
+        i += 1;
+    }
+}
+
+// What variant v of the action a does in the state in hand: the next facts go to the rows.
+fn step_in(
+    arities: &[u64],
+    listings: &[u64],
+    table: &[u64],
+    head: Head,
+    a: usize,
+    v: usize,
+    objects: &[u64],
+    state: &[u64],
+    live: Live,
+    rows: &mut [u64],
+) -> Stepped
+    requires { ⌜ Movable (now arities) (now listings) (now table) head a v (now objects) (now state) live ⌝ }
+    requires { ⌜ mostFacts * factWords ≤ length (now rows) ⌝ }
+    ensures { λ r. ⌜ StepsIn (now (arities .entry)) (now (listings .entry)) (now (table .entry)) head a v (now (objects .entry)) (now (state .entry)) live r (now (rows .exit)) ⌝ }
+{
+    let end = facts::FACTS_BASE + live.facts * facts::FACT_WORDS;
+    replay_step::step(
+        arities,
+        listings,
+        table,
+        head,
+        a,
+        v,
+        live.objects,
+        &state[..facts::PLACED],
+        &state[facts::FACTS_BASE..end],
+        live.count,
+        live.total,
+        objects,
+        rows,
+    )
+}
+
+// Moves the state in hand by variant v of the action a, and counts the rewards met: 21, 22, 15 or 23.
+fn replay(
+    arities: &[u64],
+    listings: &[u64],
+    table: &[u64],
+    head: Head,
+    a: usize,
+    v: usize,
+    objects: &[u64],
+    state: &mut [u64],
+    live: Live,
+) -> Told
+    requires { ⌜ Movable (now arities) (now listings) (now table) head a v (now objects) (now state) live ⌝ }
+    ensures { λ r. ⌜ Living (doing (modelOf (now (arities .entry)) (now (listings .entry)) (now (table .entry)) head) (liveOf (now (state .entry)) live)
+        (record { action = a; variant = v; objects = now (objects .entry) })) (now (state .entry)) r (now (state .exit)) ⌝ }
+{
+    let mut rows = [0u64; facts::FACTS * facts::FACT_WORDS];
+    match step_in(
+        arities,
+        listings,
+        table,
+        head,
+        a,
+        v,
+        objects,
+        state,
+        live,
+        &mut rows,
+    ) {
+        Stepped::Done(m, count, total) => {
+            copy_facts(state, &rows, m * facts::FACT_WORDS);
+            Told::Done(Live {
+                objects: live.objects,
+                facts: m,
+                count: count,
+                total: total,
+            })
+        }
+        Stepped::Refused(why) => Told::Refused(why),
+    }
+}
+
+// What a line does whose action and variant have these keys, and whose objects stand from the place `at` on.
+fn carry_out(
+    line: &[u8],
+    at: usize,
+    action: Key,
+    variant: Key,
+    n: Numbers,
+    names: &[u64],
+    arities: &[u64],
+    listings: &[u64],
+    table: &[u64],
+    state: &mut [u64],
+) -> Told
+    requires { ⌜ at ≤ length (now line) ⌝ }
+    requires { ⌜ length (now line) ≤ mostBytes ⌝ }
+    requires { ⌜ LogTask n (now names) (now arities) (now listings) (now table) (now state) ⌝ }
+    ensures { λ r. ⌜ Living (didLine (modelOf (now (arities .entry)) (now (listings .entry)) (now (table .entry)) (n .head)) (namesOf (now (names .entry)) (n .counts))
+        (liveOf (now (state .entry)) (n .live)) action variant (numbersIn (eventsOf (drop at (now (line .entry)))))) (now (state .entry)) r (now (state .exit)) ⌝ }
+{
+    let live = n.live;
+    let mut row = [0u64; facts::FACT_WORDS];
+    let objects = facts::read_tuple(line, at, live.objects, &mut row);
+    match find(names, n.counts, table, action, variant, objects) {
+        Found::At(a, v) => {
+            let end = 1 + (objects.count as usize);
+            replay(
+                arities,
+                listings,
+                table,
+                n.head,
+                a,
+                v,
+                &row[1..end],
+                state,
+                live,
+            )
+        }
+        Found::Refused(why) => Told::Refused(why),
+    }
+}
+
+// The numbers with another state, whose count and total are answered.
+fn moved(n: Numbers, live: Live) -> Said
+    ensures { λ r. ⌜ r ≡ moved n live ⌝ }
+{
+    let part = n.part;
+    let counts = n.counts;
+    let head = n.head;
+    let held = n.held;
+    Said {
+        numbers: Numbers {
+            part: part,
+            total: n.total,
+            discount: n.discount,
+            reward: n.reward,
+            counts: counts,
+            head: head,
+            live: live,
+            held: held,
+        },
+        answer: Answer::Did(live.count, live.total),
+    }
+}
+
+// (did action variant object ..): the state moves by that variant, and count and total are answered, or the refusal.
+pub fn did(
+    line: &[u8],
+    number: u64,
+    n: Numbers,
+    names: &[u64],
+    arities: &[u64],
+    listings: &[u64],
+    table: &[u64],
+    state: &mut [u64],
+) -> Said
+    requires { ⌜ DidTask (now line) n (now names) (now arities) (now listings) (now table) (now state) ⌝ }
+    ensures { λ r. ⌜ DidAnswered (now (line .entry)) number n (now (names .entry)) (now (arities .entry)) (now (listings .entry)) (now (table .entry)) (now (state .entry)) r
+        (now (state .exit)) ⌝ }
+{
+    let first = events::next_event(line, events::first_word(Kind::Did));
+    let name = first.event;
+    let action = events::key_in(name);
+    let second = events::next_event(line, first.place);
+    let word = second.event;
+    let variant = events::key_in(word);
+    match carry_out(
+        line,
+        second.place,
+        action,
+        variant,
+        n,
+        names,
+        arities,
+        listings,
+        table,
+        state,
+    ) {
+        Told::Done(live) => moved(n, live),
+        Told::Refused(why) => Said {
             numbers: n,
             answer: Answer::Refused(why, number),
         },

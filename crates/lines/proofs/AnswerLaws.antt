@@ -14,7 +14,7 @@ use Rattle.memory.specs.declared.Numbers.{Numbers}
 use Rattle.memory.specs.declared.Said.{Said}
 use Rattle.memory.specs.Memory.{Memory, memoryOf, sessionOf, Ready, Answers}
 use Rattle.declaration_lines.specs.Lines.{ConstantSays, PredicateSays, TotalSays, DiscountSays, ActionSays}
-use Rattle.desk_lines.specs.Lines.{BestAnswered, CountAnswered}
+use Rattle.desk_lines.specs.Lines.{BestAnswered, CountAnswered, DidAnswered}
 use Rattle.diagram_lines.specs.Lines.{RewardSays, VariantSays, BecomesSays}
 use Rattle.run_lines.specs.Lines.{StartAnswered, ValueAnswered, BackupAnswered, CutAnswered, ReduceAnswered, ShowAnswered, TextAnswered}
 use Rattle.state_lines.specs.Lines.{ObjectsSays, IsSays, TrueSays}
@@ -45,6 +45,7 @@ isCount K.Reduce = false
 isCount K.Text = false
 isCount K.Best = false
 isCount K.Count = true
+isCount K.Did = false
 isCount K.Bad = false
 
 performed : {k l : Kind} {s : List ℕ} {number : ℕ} {n : Numbers} {w : Memory} {r : Said} {w′ : Memory} {work′ : List ℕ} → k ≡ l → isCount l ≡ false
@@ -138,6 +139,10 @@ module _ {k : Kind} {s : List ℕ} (number : ℕ) {n : Numbers} {names arities l
   count-answers e c =
       let q = ready-as e h in
       record { answers = rw e (c .says names listings table q); shown = rw e (c .shows names listings table q) }
+
+  pub did-answers : {r : Said} {state′ : List ℕ} → k ≡ K.Did → DidAnswered s number n names arities listings table state r state′
+      → Performed k s number n (memoryOf names arities listings table state value) r (memoryOf names arities listings table state′ value) work′
+  did-answers e c = performed e refl (rw e (c .says value (ready-as e h)))
 
   pub bad-answers : k ≡ K.Bad
       → Performed k s number n (memoryOf names arities listings table state value) (record { numbers = n; answer = A.Refused Form number })

@@ -78,7 +78,7 @@ unfolding objectsLine cleared liveOf opening
 live-opening {s} {t} r c =
     let l = objects-done s 1 {t = t} (λ e. omega arith) (omega arith) r c in
     let e = sym (ok-is (l .lives .0)) in
-    λ i. record { objects = 0; placed = e i .placed; constants = e i .constants; facts = [] }
+    λ i. record { objects = 0; placed = e i .placed; constants = e i .constants; facts = []; count = 0; total = 0 }
 
 module _ {ar s t : List ℕ} (e : ar ≡ opening .model .arities) (r : stateWords ≤ length s) (c : Cleared s t factsBase) where
   session-opening : (names listings table value : List ℕ) → sessionOf openingNumbers (memoryOf names ar listings table t value) ≡ opening
@@ -93,7 +93,7 @@ module _ {ar s t : List ℕ} (e : ar ≡ opening .model .arities) (r : stateWord
       → Stored openingNumbers (memoryOf names ar listings table t value)
   stored-opening w = record {
     vocabulary = record {
-      names = record { room = w .names; constants = omega arith; predicates = omega arith; actions = omega arith; parameters = omega arith; variants = omega arith };
+      names = record { room = w .names; constants = omega arith; predicates = omega arith; actions = omega arith; parameters = omega arith; variants = omega arith; earlier = omega arith };
       arities = rw e (opening-good .tables .arities);
     };
     building = begun (w .table) refl refl refl refl;

@@ -165,7 +165,7 @@ module _ (n : Numbers) (table state : List ℕ) {rule : Rule} where
     pub place-variant : rule ≡ R.AfterVariant → r ≡ placedAs (unless (eqb (n .counts .variants) 0)) → Placing rule n table state r
     unfolding allowed sessionOf namesOf
     place-variant e u = record {
-      is = λ names arities listings value. rw (e, length-keys names variantsAt (n .counts .variants), ← none-or-some (n .counts .variants)) u;
+      is = λ names arities listings value. rw (e, length-keys names (variantsAt + n .counts .earlier * 2) (n .counts .variants), ← none-or-some (n .counts .variants)) u;
     }
 
     pub place-objects : rule ≡ R.AfterObjects → r ≡ placedAs (unless (eqb (n .live .objects) 0)) → Placing rule n table state r

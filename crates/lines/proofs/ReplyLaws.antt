@@ -69,6 +69,7 @@ some-kind σ K.Reduce p e = refl
 some-kind σ K.Text p e = refl
 some-kind σ K.Best p e = refl
 some-kind σ K.Count p e = refl
+some-kind σ K.Did p e = refl
 some-kind σ K.Bad p e = absurd (bad-nowhere σ p e)
 
 -- ===== The answer =====

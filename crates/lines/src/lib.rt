@@ -222,6 +222,7 @@ fn perform(
             work,
         ),
         Kind::Count => desk_lines::count(line, number, n, arities, state, value, work),
+        Kind::Did => desk_lines::did(line, number, n, names, arities, listings, table, state),
         Kind::Bad => Said {
             numbers: n,
             answer: Answer::Refused(Refusal::Form, number),

@@ -1,8 +1,8 @@
 -- Laws of the rows of one predicate after the other, in the words of the code.
-use mathlib.Core.Path.{_≡_, refl, sym, ap, ap₂, subst, _∙_}
+use mathlib.Core.Path.{_≡_, refl, sym, ap, subst, _∙_}
 use mathlib.Core.Bool.{Bool, true, false, not, cond}
-use mathlib.Core.List.{List, [], _∷_, _++_, map}
-use Prim.Native.Nat.{ℕ, zero, suc, pred, _+_, _-_, _*_, _≤_, _<_}
+use mathlib.Core.List.{List, [], _∷_, map}
+use Prim.Native.Nat.{ℕ, pred, _+_, _-_, _≤_, _<_}
 use native.Mathlib.Omega.{arith}
 use lib.ListN.{length, getD, take, drop, replicate, length-map, length-replicate}
 use lib.Seq.{ext-getD}
@@ -19,18 +19,17 @@ use Rattle.diagram.specs.Words.{upTo}
 use Rattle.diagram.specs.WordLaws.{getD-map, getD-upTo, length-upTo}
 use Rattle.diagram.specs.ListingValid.{listing-is-valid}
 use Rattle.diagram.specs.Validity.{Valid}
-use Rattle.regression.specs.RegressCall.{truthCount, truthWords, areListings}
+use Rattle.regression.specs.RegressCall.{truthWords, areListings}
 use Rattle.regression.specs.RegressCallLaws.{listings-at}
-use Rattle.reduction.specs.Combinations.{gather}
 use Rattle.truths.specs.TruthChecks.{hasTruth}
 use Rattle.model.specs.Layout.{spansAt, variantWords}
 use Rattle.replay.specs.Replay.{factsOf}
 use Rattle.next_facts.specs.declared.Facts.{Facts}
 use Rattle.next_facts.specs.declared.Facts.the-variants.{Rows, Many}
 use Rattle.next_facts.specs.Reach.{free}
-use Rattle.next_facts.specs.Filling.{firstWord, firstEnv, Begun, ownTerms, ownPlace, ownLabel, ownWords, under, rowsBy, wordsAt, allRows, Filled, FilledBy, Room, Fillable, Walkable, Askable}
+use Rattle.next_facts.specs.Filling.{firstWord, firstEnv, Begun, ownTerms, ownPlace, ownLabel, ownWords, under, rowsBy, wordsAt, allRows, Filled, FilledBy, Fillable, Walkable, Askable}
 use Rattle.next_facts.specs.FillingLaws.{gather-upTo, gather-most, filled-none, filled-few, filled-then, filled-more}
-use Rattle.next_facts.specs.OwnLaws.{own-term, own-past, own-places, own-valid}
+use Rattle.next_facts.specs.OwnLaws.{own-term, own-past, own-valid}
 use Rattle.next_facts.specs.NextCall.{afterAt, Moving, NextFacts}
 use Rattle.next_facts.specs.NextLaws.{next-end}
 

@@ -1,13 +1,13 @@
 -- Laws of rows filled place by place, in the words of the code.
-use mathlib.Core.Path.{_≡_, refl, sym, ap, ap₂, subst, _∙_}
-use mathlib.Core.Bool.{Bool, true, false, not, cond}
+use mathlib.Core.Path.{_≡_, refl, sym, ap, subst, _∙_}
+use mathlib.Core.Bool.{Bool, true, false, not}
 use mathlib.Core.List.{List, [], _∷_, _++_}
 use Prim.Native.Nat.{ℕ, zero, suc, _+_, _-_, _*_, _≤_, _<_}
 use native.Mathlib.Omega.{arith}
 use borrow.Author.Tests.{not-true, not-false}
 use lib.ListN.{length, getD, set, length-set}
 use lib.Seq.{set-getD, set-set}
-use Rattle.label.specs.Limits.{firstVariable, termEnd, mostPlaces}
+use Rattle.label.specs.Limits.{firstVariable, mostPlaces}
 use Rattle.diagram.specs.Words.{upTo}
 use Rattle.state.specs.Lent.{factWords}
 use Rattle.reduction.specs.Combinations.{gather}
@@ -15,7 +15,7 @@ use Rattle.replay.specs.Replay.{mostFacts, factRow}
 use Rattle.next_facts.specs.declared.Facts.{Facts}
 use Rattle.next_facts.specs.declared.Facts.the-variants.{Rows, Many}
 use Rattle.next_facts.specs.Reach.{reached, Reaching}
-use Rattle.next_facts.specs.Filling.{argumentsIn, under, spread, Filled, FilledBy, Room, Fillable}
+use Rattle.next_facts.specs.Filling.{argumentsIn, under, spread, Filled, FilledBy, Fillable}
 use Rattle.next_facts.specs.FillingLaws.{gather-upTo, gather-most, filled-none, filled-few, filled-then, filled-more}
 
 -- the rows of a prefix, by what the diagram can come to

@@ -1,6 +1,6 @@
 -- Laws of the leaves that rows come to, one by one.
-use mathlib.Core.Path.{_≡_, refl, sym, ap, ap₂, subst, _∙_}
-use mathlib.Core.Bool.{Bool, true, false, not, _||_}
+use mathlib.Core.Path.{_≡_, sym, ap, ap₂, subst, _∙_}
+use mathlib.Core.Bool.{Bool, not, _||_}
 use mathlib.Core.List.{List}
 use Prim.Native.Nat.{ℕ, pred, _+_, _-_, _*_, _≤_, _<_}
 use native.Mathlib.Omega.{arith}
@@ -8,11 +8,10 @@ use lib.ListN.{length, getD, set, length-set}
 use lib.Seq.{getD-set-same, getD-set-other}
 use lib.Dec.{eqb}
 use Rattle.basics.specs.Tests.{Cmp, below, equal, above, cmp}
-use Rattle.label.specs.Limits.{leafMark, predicateCount, mostPlaces, termEnd}
-use Rattle.label.specs.Labels.{isLabel, predicateOf, unpacked}
+use Rattle.label.specs.Limits.{leafMark, predicateCount}
+use Rattle.label.specs.Labels.{predicateOf, unpacked}
 use Rattle.label.specs.LabelLaws.{label-fits, place-end}
 use Rattle.label.specs.ArityLaws.{arity-most, arity-words}
-use Rattle.diagram.specs.Diagram.{leaf, branch}
 use Rattle.diagram.specs.Words.{labelAt, highAt, lowAt, rowCount}
 use Rattle.diagram.specs.Validity.{BranchRow, tree}
 use Rattle.diagram.specs.RowDiagrams.{branch-row}

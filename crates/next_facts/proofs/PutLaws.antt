@@ -1,18 +1,16 @@
 -- Laws of one row written.
-use mathlib.Core.Path.{_≡_, refl, sym, ap, ap₂, subst, _∙_}
-use mathlib.Core.Bool.{Bool, true, false, cond}
+use mathlib.Core.Path.{_≡_, refl, sym, ap, _∙_}
+use mathlib.Core.Bool.{cond}
 use mathlib.Core.List.{List, [], _∷_, _++_, append-nil, append-assoc}
 use Prim.Native.Nat.{ℕ, zero, suc, _+_, _-_, _*_, _≤_, _<_}
 use native.Mathlib.Omega.{arith}
-use lib.ListN.{length, getD, set, take, drop, replicate, length-set, length-drop, length-append, length-replicate, getD-replicate, List·getD-append}
+use lib.ListN.{length, getD, set, take, drop, replicate, length-set, length-drop, length-append, getD-replicate, List·getD-append}
 use lib.Seq.{length-take-le, take-all, take-suc, take-suc-set, getD-take, getD-drop, getD-append-add}
-use lib.Dec.{leb}
 use borrow.Author.Tests.{le-leb, lt-leb}
 use Rattle.basics.specs.Tests.{Cmp, below, equal, above, cmp}
 use Rattle.label.specs.Limits.{firstVariable, termEnd, mostPlaces}
 use Rattle.state.specs.Lent.{factWords}
-use Rattle.replay.specs.Replay.{mostFacts, factRow, flat}
-use Rattle.next_facts.specs.declared.Facts.{Facts}
+use Rattle.replay.specs.Replay.{mostFacts, factRow}
 use Rattle.next_facts.specs.declared.Facts.the-variants.{Rows, Many}
 use Rattle.next_facts.specs.Filling.{argumentsIn, rowWord, rowsCounted, Filled, Room}
 use Rattle.next_facts.proofs.StartLaws.{word-first, word-behind, word-object}

@@ -1,15 +1,15 @@
 -- Laws of open places and of the facts that agree with a label, in the words of the code.
-use mathlib.Core.Path.{_≡_, refl, sym, ap, ap₂, subst, _∙_}
+use mathlib.Core.Path.{_≡_, refl, sym, ap, ap₂, _∙_}
 use mathlib.Core.Bool.{Bool, true, false, not, _&&_, _||_, cond}
 use mathlib.Core.List.{List}
-use Prim.Native.Nat.{ℕ, _+_, _*_, _/_, _≤_, _<_}
+use Prim.Native.Nat.{ℕ, _+_, _*_, _≤_, _<_}
 use native.Mathlib.Omega.{arith}
 use lib.ListN.{length, getD}
 use lib.Dec.{eqb}
 use borrow.Author.Tests.{eqb-true, eq-eqb, ne-eqb}
 use borrow.Author.Count.{below-more}
 use Rattle.basics.specs.Members.{clash}
-use Rattle.label.specs.Limits.{equality, termEnd, mostPlaces}
+use Rattle.label.specs.Limits.{equality, mostPlaces}
 use Rattle.label.specs.Labels.{predicateOf, placeAt}
 use Rattle.state.specs.Lent.{factWords, factCount, predicateAt, someBelow}
 use Rattle.state.specs.LentLaws.{some-made, some-none}
@@ -123,9 +123,6 @@ pub seeking-start : (facts env : List ℕ) (l k : ℕ) → Seeking facts env l k
 seeking-start facts env l k = record { most = omega arith; none = λ m h. absurd (omega arith) }
 
 module _ {facts env : List ℕ} {l k i : ℕ} (s : Seeking facts env l k i) (h : i < factCount facts) where
-  pub seeking-row : i * factWords + factWords ≤ length facts
-  seeking-row = omega arith
-
   module _ {b : Bool} (q : b ≡ fits facts env l k i) where
     pub seeking-hit : b ≡ true → true ≡ someBelow (factCount facts) (fits facts env l k)
     seeking-hit z = sym (some-made (factCount facts) (fits facts env l k) i h (sym q ∙ z))

@@ -1,5 +1,5 @@
 -- Laws of the words that terms begin with, and of the words of a row.
-use mathlib.Core.Path.{_≡_, refl, sym, ap, subst, _∙_}
+use mathlib.Core.Path.{_≡_, refl, sym, subst, _∙_}
 use mathlib.Core.List.{List, [], _∷_}
 use Prim.Native.Nat.{ℕ, zero, suc, _+_, _-_, _≤_, _<_}
 use native.Mathlib.Omega.{arith}
@@ -7,9 +7,9 @@ use lib.ListN.{length, getD, set, length-set, List·getD-eq-default}
 use lib.Seq.{getD-set-same, getD-set-other}
 use borrow.Author.Tests.{lt-ltb, le-ltb, eq-eqb, ne-eqb, le-leb, lt-leb}
 use Rattle.basics.specs.Tests.{Cmp, below, equal, above, cmp}
-use Rattle.label.specs.Limits.{firstParameter, firstVariable, termEnd, mostPlaces}
+use Rattle.label.specs.Limits.{firstParameter, firstVariable, termEnd}
 use Rattle.next_facts.specs.Reach.{free}
-use Rattle.next_facts.specs.Filling.{parameterWord, firstWord, Begun, ownPlace, rowWord}
+use Rattle.next_facts.specs.Filling.{parameterWord, firstWord, Begun, rowWord}
 
 -- `parameter`
 any-default : (xs : List ℕ) (i d e : ℕ) → i < length xs → getD xs i d ≡ getD xs i e

@@ -38,4 +38,4 @@ factsAnswer F = cond (ltb mostFacts (factCount F)) Many (Rows (factCount F))
 -- the facts F are answered and written: behind them, and where they are too many, words are free
 pub record NextFacts (F : List ℕ) (r : Facts) (out′ : List ℕ) : Type 0 where
   pub answer : r ≡ factsAnswer F
-  pub written : (m : ℕ) → r ≡ Rows m → take (length F) out′ ≡ F
+  pub written : (m : ℕ) → r ≡ Rows m → take (m * factWords) out′ ≡ F

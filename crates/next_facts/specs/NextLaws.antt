@@ -3,43 +3,39 @@ use mathlib.Core.Path.{_≡_, refl, sym, ap, ap₂, subst, _∙_}
 use mathlib.Core.Bool.{Bool, true, false, not, _&&_, cond}
 use mathlib.Core.List.{List, [], _∷_, _++_, map, List·Memᴰ, List·Memᴰ·head, List·Memᴰ·tail}
 use mathlib.Core.Option.{Option, some, none, Option·map}
-use Prim.Native.Nat.{ℕ, zero, suc, pred, _+_, _-_, _*_, _≤_, _<_}
+use Prim.Native.Nat.{ℕ, zero, suc, pred, _+_, _-_, _≤_, _<_}
 use native.Mathlib.Omega.{arith}
-use lib.ListN.{length, getD, take}
+use lib.ListN.{length, getD}
 use lib.Dec.{eqb, ltb, leb}
-use borrow.Author.Tests.{eqb-true, eqb-false, eq-eqb, ne-eqb, not-true, not-false, ltb-true, lt-ltb, le-ltb, le-leb, lt-leb}
+use borrow.Author.Tests.{eqb-true, eqb-false, ne-eqb, not-true, not-false, ltb-true, lt-ltb, le-ltb, le-leb, lt-leb}
 use Rattle.basics.specs.Tests.{Flag, isTrue, isFalse, flag, and-left, and-right, Cmp, below, equal, above, cmp}
-use Rattle.label.specs.Limits.{equality, mostPlaces, predicateCount}
-use Rattle.label.specs.Labels.{areArities}
+use Rattle.label.specs.Limits.{equality, predicateCount}
 use Rattle.label.specs.ArityLaws.{arity-most}
-use Rattle.diagram.specs.Diagram.{Diagram, leaf, branch}
-use Rattle.diagram.specs.Words.{upTo, isListing}
+use Rattle.diagram.specs.Diagram.{Diagram}
+use Rattle.diagram.specs.Words.{upTo}
 use Rattle.diagram.specs.Listing.{diagramOf}
 use Rattle.diagram.specs.ListingValid.{listing-is-valid}
 use Rattle.diagram.specs.Validity.{Valid}
 use Rattle.state.specs.State.{State, Good, meaning, value}
-use Rattle.state.specs.Max.{Tuple}
 use Rattle.state.specs.Highest.{Bound}
-use Rattle.state.specs.Lent.{factWords, factCount, saidBy, stateOf, isState, allBelow}
-use Rattle.state.specs.LentLaws.{all-at}
+use Rattle.state.specs.Lent.{factCount, stateOf, allBelow}
 use Rattle.elimination.specs.AnswerLaws.{lent-good}
 use Rattle.regression.specs.Result.{AtMost}
-use Rattle.regression.specs.RegressCall.{truthCount, truthWords, truthsOf, areListings}
+use Rattle.regression.specs.RegressCall.{truthCount, truthWords}
 use Rattle.regression.specs.RegressCallLaws.{truths-none, truths-some, listings-at}
-use Rattle.regression.specs.Next.{inner, factAfter, next, meanings}
-use Rattle.reduction.specs.Combinations.{gather, those, tuples}
+use Rattle.regression.specs.Next.{inner, factAfter, next}
+use Rattle.reduction.specs.Combinations.{gather, tuples}
 use Rattle.reduction.specs.ListLaws.{in-upTo}
 use Rattle.reduction.specs.CombinationLaws.{in-tuples}
-use Rattle.mdp.specs.Model.{Variant, GoodVariant}
 use Rattle.mdp.specs.Bellman.{stateAfter}
 use Rattle.truths.specs.TruthChecks.{hasTruth}
-use Rattle.model.specs.Layout.{spansAt, variantAt, LaidVariant}
-use Rattle.replay.specs.Replay.{factRow, rowsAt, factRows, factsOf, mostFacts, flat}
+use Rattle.model.specs.Layout.{spansAt, variantAt}
+use Rattle.replay.specs.Replay.{factRow, rowsAt, factRows, factsOf, mostFacts}
 use Rattle.replay.specs.FactLaws.{facts-count}
 use Rattle.next_facts.specs.Reach.{free}
 use Rattle.next_facts.specs.declared.Facts.{Facts}
 use Rattle.next_facts.specs.declared.Facts.the-variants.{Rows, Many}
-use Rattle.next_facts.specs.Filling.{firstEnv, ownWords, under, rowsBy, wordsAt, allRows, rowsCounted, Filled}
+use Rattle.next_facts.specs.Filling.{ownWords, rowsBy, wordsAt, allRows, rowsCounted, Filled}
 use Rattle.next_facts.specs.UnderLaws.{those-same, tuple-size, isOne, rows-are}
 use Rattle.next_facts.specs.OwnLaws.{own-valid, own-diagram, own-says}
 use Rattle.next_facts.specs.NextCall.{afterAt, Moving, NextFacts}
@@ -47,11 +43,6 @@ use Rattle.next_facts.specs.NextCall.{afterAt, Moving, NextFacts}
 gather-same : {B : Type 0} (f g : ℕ → List B) (xs : List ℕ) → ((a : ℕ) → List·Memᴰ a xs → f a ≡ g a) → gather f xs ≡ gather g xs
 gather-same f g [] h = refl
 gather-same f g (x ∷ xs) h = ap₂ _++_ (h x (List·Memᴰ·head refl)) (gather-same f g xs (λ a i. h a (List·Memᴰ·tail i)))
-
-take-front : (j : ℕ) (l : List ℕ) → take (length (take j l)) l ≡ take j l
-take-front zero l = refl
-take-front (suc j) [] = refl
-take-front (suc j) (x ∷ l) = ap (λ (r : List ℕ). x ∷ r) (take-front j l)
 
 counted-answer : (c : ℕ) → rowsCounted c ≡ cond (ltb mostFacts c) Many (Rows c)
 unfolding rowsCounted
@@ -163,7 +154,5 @@ module _ (ar listings table : List ℕ) (place n : ℕ) (constants facts os out 
         answer =
             let e : 0 + length (factRows ar a) ≡ factCount (factsOf ar a) = omega (arith, facts-count ar (m .arities) (afterAt ar listings table place n constants facts os)) in
             g .answer ∙ ap rowsCounted e ∙ counted-answer (factCount (factsOf ar a));
-        written = λ c e.
-            let w : take (c * factWords) out′ ≡ flat (factRows ar a) = g .written c e in
-            ap (λ (x : List ℕ). take (length x) out′) (sym w) ∙ take-front (c * factWords) out′ ∙ w;
+        written = g .written;
       }

@@ -1,6 +1,6 @@
 -- The diagram of a predicate that stays: a listing, and 1 exactly where the predicate holds.
-use mathlib.Core.Path.{_≡_, refl, sym, ap, ap₂, subst, _∙_}
-use mathlib.Core.Bool.{Bool, true, false, not, cond}
+use mathlib.Core.Path.{_≡_, refl, sym, ap, subst, _∙_}
+use mathlib.Core.Bool.{Bool, true, false, cond}
 use mathlib.Core.List.{List, [], _∷_, map, List·Memᴰ}
 use Prim.Native.Nat.{ℕ, zero, suc, _+_, _-_, _≤_, _<_}
 use native.Mathlib.Omega.{arith}
@@ -9,14 +9,12 @@ use lib.Seq.{ext-getD}
 use lib.Dec.{eqb, ltb}
 use borrow.Author.Tests.{ne-eqb, lt-ltb, le-ltb, eq-eqb}
 use Rattle.basics.specs.Tests.{Cmp, below, equal, above, cmp}
-use Rattle.basics.specs.Members.{mem}
-use Rattle.label.specs.Limits.{firstVariable, equality, mostPlaces, predicateCount, leafMark, termBase}
+use Rattle.label.specs.Limits.{firstVariable, equality, mostPlaces, predicateCount, termBase}
 use Rattle.label.specs.Terms.{isConstant, isParameter, isVariable, isTerm}
-use Rattle.label.specs.Labels.{areArities, isLabel, isAtom, inOrder, packed, unpacked, predicateOf, atomFrom, placeIn, placeFits, termsOf}
-use Rattle.label.specs.LabelLaws.{each-place, place-from, PlacesFit, Fitting, fits-atom, label-packed, unpacked-packed, predicate-of}
+use Rattle.label.specs.Labels.{areArities, isLabel, inOrder, unpacked, predicateOf, atomFrom, placeIn, placeFits, termsOf}
+use Rattle.label.specs.LabelLaws.{each-place, place-from, fits-atom, label-packed, unpacked-packed, predicate-of}
 use Rattle.label.specs.ArityLaws.{arity-most, atom-terms, from-places}
 use Rattle.label.specs.Callers.{Places}
-use Rattle.diagram.specs.Sizes.{mostRows, highestValue}
 use Rattle.diagram.specs.Diagram.{Diagram, leaf, branch, same, eval, relabel}
 use Rattle.diagram.specs.Rows.{onto, rows}
 use Rattle.diagram.specs.Words.{upTo}
@@ -25,11 +23,11 @@ use Rattle.diagram.specs.Listing.{index, encode, listing, diagramOf, Good}
 use Rattle.diagram.specs.Validity.{Valid}
 use Rattle.diagram.specs.ListingOfDiagram.{valid-listing, diagram-listing}
 use Rattle.paths.specs.PathLaws.{mem-unmap}
-use Rattle.state.specs.State.{State, truth, holds, atomOf, meaning, value}
+use Rattle.state.specs.State.{truth, holds, atomOf, meaning, value}
 use Rattle.state.specs.Lent.{saidBy, stateOf}
 use Rattle.regression.specs.Next.{inner}
 use Rattle.reduction.specs.ListLaws.{in-upTo}
-use Rattle.next_facts.specs.Filling.{ownTerms, ownPlace, ownLabel, ownWords}
+use Rattle.next_facts.specs.Filling.{ownTerms, ownLabel, ownWords}
 use Rattle.next_facts.specs.UnderLaws.{inner-high}
 
 -- ===== Its terms =====

@@ -1,14 +1,14 @@
 -- What a diagram can come to while some terms have no object yet: a leaf other than 0, or only 0.
 use mathlib.Core.Path.{_≡_}
-use mathlib.Core.Bool.{Bool, true, not, _&&_, _||_, cond}
-use mathlib.Core.List.{List, [], _∷_}
-use Prim.Native.Nat.{ℕ, zero, suc, pred, _+_, _-_, _*_, _≤_, _<_}
-use lib.ListN.{length, getD, set, take, drop}
+use mathlib.Core.Bool.{Bool, not, _&&_, _||_, cond}
+use mathlib.Core.List.{List}
+use Prim.Native.Nat.{ℕ, pred, _+_, _*_, _≤_, _<_}
+use lib.ListN.{length, getD}
 use lib.Dec.{eqb}
-use Rattle.label.specs.Limits.{equality, termEnd, mostPlaces, leafMark}
-use Rattle.label.specs.Labels.{areArities, isLabel, predicateOf, placeAt}
+use Rattle.label.specs.Limits.{equality, termEnd, mostPlaces}
+use Rattle.label.specs.Labels.{predicateOf, placeAt}
 use Rattle.diagram.specs.Diagram.{Diagram, leaf, branch}
-use Rattle.diagram.specs.Words.{labelAt, highAt, lowAt, rowCount}
+use Rattle.diagram.specs.Words.{rowCount}
 use Rattle.diagram.specs.Validity.{Valid, tree}
 use Rattle.state.specs.Lent.{factWords, factCount, predicateAt, someBelow}
 

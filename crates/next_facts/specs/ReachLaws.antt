@@ -1,5 +1,5 @@
 -- What a diagram can come to is sound for every completion of env, and exact where no term is open.
-use mathlib.Core.Path.{_≡_, refl, sym, ap, ap₂, subst, _∙_}
+use mathlib.Core.Path.{_≡_, refl, sym, ap, ap₂, _∙_}
 use mathlib.Core.Bool.{Bool, true, false, not, _&&_, _||_, cond}
 use mathlib.Core.List.{List, [], _∷_, map}
 use Prim.Native.Nat.{ℕ, zero, suc, _+_, _*_, _≤_, _<_}
@@ -15,7 +15,6 @@ use Rattle.label.specs.Labels.{areArities, isLabel, predicateOf, placeAt, unpac
 use Rattle.label.specs.LabelLaws.{place-of, place-end}
 use Rattle.label.specs.ArityLaws.{arity-most, arity-two, terms-length}
 use Rattle.diagram.specs.Diagram.{Diagram, leaf, branch, eval}
-use Rattle.diagram.specs.Words.{equalLists}
 use Rattle.diagram.specs.WordLaws.{getD-map, lists-equal, equal-lists}
 use Rattle.diagram.specs.RowLaws.{same-tests}
 use Rattle.diagram.specs.Listing.{Fine}

@@ -1,27 +1,24 @@
 -- The rows found place by place are those of the tuples for which the diagram gives 1.
 use mathlib.Core.Path.{_≡_, refl, sym, ap, ap₂, subst, _∙_}
-use mathlib.Core.Bool.{Bool, true, false, not, cond}
-use mathlib.Core.List.{List, [], _∷_, _++_, map, map-map, append-nil, append-assoc, List·Memᴰ, List·Memᴰ·head, List·Memᴰ·tail}
-use Prim.Native.Nat.{ℕ, zero, suc, pred, _+_, _-_, _*_, _≤_, _<_}
+use mathlib.Core.Bool.{Bool, true, false, cond}
+use mathlib.Core.List.{List, [], _∷_, _++_, map, append-nil, append-assoc, List·Memᴰ, List·Memᴰ·head, List·Memᴰ·tail}
+use Prim.Native.Nat.{ℕ, zero, suc, pred, _+_, _-_, _≤_, _<_}
 use native.Mathlib.Omega.{arith}
 use lib.ListN.{length, getD, set, take, drop, length-set, length-append, length-map, length-drop, List·getD-append, List·getD-eq-default}
 use lib.Seq.{length-take-le, getD-take, getD-drop, getD-set-same, getD-set-other, ext-getD, getD-append-seam}
 use lib.Dec.{eqb, ltb}
 use borrow.Author.Tests.{eqb-true, eqb-false, eq-eqb, ne-eqb, lt-ltb, le-ltb, not-true, not-false}
 use Rattle.basics.specs.Tests.{Flag, isTrue, isFalse, flag, Cmp, below, equal, above, cmp}
-use Rattle.basics.specs.Members.{clash}
 use Rattle.label.specs.Limits.{firstParameter, firstVariable, constantCount, termEnd, mostPlaces}
-use Rattle.label.specs.Labels.{areArities}
-use Rattle.diagram.specs.Diagram.{Diagram}
 use Rattle.diagram.specs.Words.{rowCount, upTo}
 use Rattle.diagram.specs.WordLaws.{getD-map, getD-upTo, length-upTo}
 use Rattle.diagram.specs.Validity.{Valid, tree}
 use Rattle.diagram.specs.Listing.{diagramOf}
 use Rattle.diagram.specs.DiagramOfListing.{diagram-is, good-diagram}
 use Rattle.paths.specs.PathLaws.{mem-unmap}
-use Rattle.state.specs.State.{State, Good, meaning, value, low, fixed, Fits}
+use Rattle.state.specs.State.{Good, meaning, value, low, fixed}
 use Rattle.state.specs.Max.{Tuple, none, more}
-use Rattle.state.specs.Highest.{Bound, start}
+use Rattle.state.specs.Highest.{Bound}
 use Rattle.state.specs.HighestLaws.{start-fits}
 use Rattle.state.specs.Lent.{stateOf}
 use Rattle.state.specs.ValueLaws.{low-lt, low-ge, by-low}
@@ -35,7 +32,7 @@ use Rattle.reduction.specs.CombinationLaws.{in-tuples}
 use Rattle.replay.specs.Replay.{factRow}
 use Rattle.next_facts.specs.Reach.{free, reachIn, reached}
 use Rattle.next_facts.specs.ReachLaws.{reach-sound, reach-exact}
-use Rattle.next_facts.specs.Filling.{parameterWord, firstWord, firstEnv, argumentsIn, under, rowsBy}
+use Rattle.next_facts.specs.Filling.{firstWord, firstEnv, argumentsIn, under}
 
 -- ===== Lists =====
 those-append : {A : Type 0} (q : A → Bool) (xs ys : List A) → those q (xs ++ ys) ≡ those q xs ++ those q ys
@@ -148,9 +145,6 @@ module _ {constants os : List ℕ} {k n : ℕ} {env us : List ℕ} (s : Stage co
 -- ===== Against the state =====
 
 module _ (ar : List ℕ) (n : ℕ) (constants facts os : List ℕ) where
-  abbrev st : State
-  st = stateOf ar n constants facts
-
   first-fixed : (k t : ℕ) → t < firstVariable → firstWord constants os k t ≡ fixed (stateOf ar n constants facts) os t
   unfolding stateOf fixed firstWord
   first-fixed k t h = rw (lt-ltb t firstVariable h) (by-low

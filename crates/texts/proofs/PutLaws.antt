@@ -29,6 +29,7 @@ printed-rows (A.Show n) e = ap A.Show (cc)
 printed-rows (A.Text n) e = let z : _≡_ {A = ℕ} 0 1 = cc in absurd (omega arith)
 printed-rows (A.Best k n a b c d) e = let z : _≡_ {A = ℕ} 0 1 = cc in absurd (omega arith)
 printed-rows (A.Count k n) e = let z : _≡_ {A = ℕ} 0 1 = cc in absurd (omega arith)
+printed-rows (A.Did n t) e = let z : _≡_ {A = ℕ} 0 1 = cc in absurd (omega arith)
 printed-rows A.Nothing e = let z : _≡_ {A = ℕ} 0 1 = cc in absurd (omega arith)
 
 printed-form : (a : Answer) {m : ℕ} → P.Form m ≡ printedBy a → a ≡ A.Text m
@@ -41,6 +42,7 @@ printed-form (A.Show n) e = let z : _≡_ {A = ℕ} 0 1 = cc in absurd (omega ar
 printed-form (A.Text n) e = ap A.Text (cc)
 printed-form (A.Best k n a b c d) e = let z : _≡_ {A = ℕ} 0 1 = cc in absurd (omega arith)
 printed-form (A.Count k n) e = let z : _≡_ {A = ℕ} 0 1 = cc in absurd (omega arith)
+printed-form (A.Did n t) e = let z : _≡_ {A = ℕ} 0 1 = cc in absurd (omega arith)
 printed-form A.Nothing e = let z : _≡_ {A = ℕ} 0 1 = cc in absurd (omega arith)
 
 printed-counts : (a : Answer) {m : ℕ} → P.Counts m ≡ printedBy a → (k : ℕ) × (a ≡ A.Count k m)
@@ -53,6 +55,7 @@ printed-counts (A.Show n) e = let z : _≡_ {A = ℕ} 0 1 = cc in absurd (omega 
 printed-counts (A.Text n) e = let z : _≡_ {A = ℕ} 0 1 = cc in absurd (omega arith)
 printed-counts (A.Best k n a b c d) e = let z : _≡_ {A = ℕ} 0 1 = cc in absurd (omega arith)
 printed-counts (A.Count k n) e = (k, ap (A.Count k) (cc))
+printed-counts (A.Did n t) e = let z : _≡_ {A = ℕ} 0 1 = cc in absurd (omega arith)
 printed-counts A.Nothing e = let z : _≡_ {A = ℕ} 0 1 = cc in absurd (omega arith)
 
 printed-line : (ws form table : List ℕ) (a : Answer) → P.Line ≡ printedBy a → answerBytes ws form table a ≡ answerLine a
@@ -66,6 +69,7 @@ printed-line ws form table (A.Show n) e = let z : _≡_ {A = ℕ} 0 1 = cc in ab
 printed-line ws form table (A.Text n) e = let z : _≡_ {A = ℕ} 0 1 = cc in absurd (omega arith)
 printed-line ws form table (A.Best k n a b c d) e = refl
 printed-line ws form table (A.Count k n) e = let z : _≡_ {A = ℕ} 0 1 = cc in absurd (omega arith)
+printed-line ws form table (A.Did n t) e = refl
 printed-line ws form table A.Nothing e = refl
 
 -- the rows of the value are there

@@ -50,6 +50,7 @@ answers-same vs ws form us ts (A.Show n) h t = h n refl
 answers-same vs ws form us ts (A.Text n) h t = refl
 answers-same vs ws form us ts (A.Best k n a b c d) h t = refl
 answers-same vs ws form us ts (A.Count k m) h t = t k m refl
+answers-same vs ws form us ts (A.Did n m) h t = refl
 answers-same vs ws form us ts A.Nothing h t = refl
 
 -- words that begin others are not more

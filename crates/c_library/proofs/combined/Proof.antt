@@ -4,10 +4,14 @@ use Rattle.c_library.proofs.combined.Statement.{statement}
 use Rattle.c_library.proofs.combined.Tie as tie
 
 returns : tie.Need-returns
-returns c = combined-done _ _ (c .before .before .before .before .before .before .before .combine .ensures .0) (c .before .before .before .before .before .before .before .combine .ensures .1) (c .before .answer .given .1)
+returns c =
+    let e = c .before .before .before .before .before .before .before .combine .ensures in
+    combined-done _ _ (e .0) (e .1) (c .before .answer .given .1)
 
 returns-2 : tie.Need-returns-2
-returns-2 c = combined-refused _ _ (c .before .before .before .before .before .before .before .before .combine .ensures .0) (c .before .before .before .before .before .before .before .before .combine .ensures .1) (c .before .before .answer2 .given .1) (c .number .ensures)
+returns-2 c =
+    let e = c .before .before .before .before .before .before .before .before .combine .ensures in
+    combined-refused _ _ (e .0) (e .1) (c .before .before .answer2 .given .1) (c .number .ensures)
 
 pub combined-spec : {M : Type 1} → statement M
 combined-spec =

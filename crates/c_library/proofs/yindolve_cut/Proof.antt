@@ -4,10 +4,14 @@ use Rattle.c_library.proofs.yindolve_cut.Statement.{statement}
 use Rattle.c_library.proofs.yindolve_cut.Tie as tie
 
 returns : tie.Need-returns
-returns c = cut-done _ _ _ (c .before .before .before .before .before .before .before .before .cut .ensures .0) (c .before .before .before .before .before .before .before .before .cut .ensures .1) (c .before .before .answer .given .1) (c .edge-number .ensures)
+returns c =
+    let e = c .before .before .before .before .before .before .before .before .cut .ensures in
+    cut-done _ _ _ (e .0) (e .1) (c .before .before .answer .given .1) (c .edge-number .ensures)
 
 returns-2 : tie.Need-returns-2
-returns-2 c = cut-refused _ _ _ (c .before .before .before .before .before .before .before .before .cut .ensures .0) (c .before .before .before .before .before .before .before .before .cut .ensures .1) (c .before .before .answer2 .given .1) (c .number .ensures)
+returns-2 c =
+    let e = c .before .before .before .before .before .before .before .before .cut .ensures in
+    cut-refused _ _ _ (e .0) (e .1) (c .before .before .answer2 .given .1) (c .number .ensures)
 
 pub yindolve-cut-spec : {M : Type 1} → statement M
 yindolve-cut-spec =

@@ -17,13 +17,16 @@ open-requires c κs =
 
 store-requires : tie.Need-store-requires
 store-requires c κs =
-    let a = c .before .before .before .before .before .before .before .before .before .before .before .before .before .args in
-    room-is (length (a .numbers .now)) (length (a .arities .now)) (length (a .state .now)) (c .before .before .before .before .before .before .before .before .before .has-room .ensures) (c .before .before .before .before .before .before .before .before .if1 .left) .numbers
+    let t = c .before .before .before .before .before .before .before .before in
+    let a = t .before .before .before .before .before .args in
+    room-is (length (a .numbers .now)) (length (a .arities .now)) (length (a .state .now)) (t .before .has-room .ensures) (t .if1 .left) .numbers
 
 returns-2 : tie.Need-returns-2
 returns-2 c =
-    let a = c .before .before .before .before .before .before .before .before .before .before .before .before .before .before .before .before .args in
-    open-done (a .numbers .now) (a .arities .now) (a .state .now) (c .before .before .before .before .before .before .before .before .before .before .before .before .has-room .ensures) (c .before .before .before .before .before .before .before .before .before .before .before .if1 .left) (c .before .before .before .before .before .before .before .before .«open» .ensures) (c .before .before .store .ensures)
+    let t = c .before .before .before .before .before .before .before .before in
+    let a = t .before .before .before .before .before .before .before .before .args in
+    open-done (a .numbers .now) (a .arities .now) (a .state .now) (t .before .before .before .before .has-room .ensures) (t .before .before .before .if1 .left)
+    (t .«open» .ensures) (c .before .before .store .ensures)
 
 pub yindolve-open-spec : {M : Type 1} → statement M
 yindolve-open-spec =

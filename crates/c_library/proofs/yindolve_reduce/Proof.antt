@@ -4,10 +4,14 @@ use Rattle.c_library.proofs.yindolve_reduce.Statement.{statement}
 use Rattle.c_library.proofs.yindolve_reduce.Tie as tie
 
 returns : tie.Need-returns
-returns c = reduced-done _ (c .before .before .before .before .before .before .before .reduce .ensures .0) (c .before .before .before .before .before .before .before .reduce .ensures .1) (c .before .answer .given .1)
+returns c =
+    let e = c .before .before .before .before .before .before .before .reduce .ensures in
+    reduced-done _ (e .0) (e .1) (c .before .answer .given .1)
 
 returns-2 : tie.Need-returns-2
-returns-2 c = reduced-refused _ (c .before .before .before .before .before .before .before .before .reduce .ensures .0) (c .before .before .before .before .before .before .before .before .reduce .ensures .1) (c .before .before .answer2 .given .1) (c .number .ensures)
+returns-2 c =
+    let e = c .before .before .before .before .before .before .before .before .reduce .ensures in
+    reduced-refused _ (e .0) (e .1) (c .before .before .answer2 .given .1) (c .number .ensures)
 
 pub yindolve-reduce-spec : {M : Type 1} → statement M
 yindolve-reduce-spec =

@@ -4,10 +4,14 @@ use Rattle.c_library.proofs.yindolve_regress.Statement.{statement}
 use Rattle.c_library.proofs.yindolve_regress.Tie as tie
 
 returns : tie.Need-returns
-returns c = regressed-done _ (c .before .before .before .before .before .before .before .regress .ensures .0) (c .before .before .before .before .before .before .before .regress .ensures .1) (c .before .answer .given .1)
+returns c =
+    let e = c .before .before .before .before .before .before .before .regress .ensures in
+    regressed-done _ (e .0) (e .1) (c .before .answer .given .1)
 
 returns-2 : tie.Need-returns-2
-returns-2 c = regressed-refused _ (c .before .before .before .before .before .before .before .before .regress .ensures .0) (c .before .before .before .before .before .before .before .before .regress .ensures .1) (c .before .before .answer2 .given .1) (c .number .ensures)
+returns-2 c =
+    let e = c .before .before .before .before .before .before .before .before .regress .ensures in
+    regressed-refused _ (e .0) (e .1) (c .before .before .answer2 .given .1) (c .number .ensures)
 
 pub yindolve-regress-spec : {M : Type 1} → statement M
 yindolve-regress-spec =

@@ -3,7 +3,7 @@ use borrow.Author.Needs.{needs}
 use Rattle.state.specs.Lent.{factWords}
 use Rattle.facts.specs.Words.{factsBase}
 use Rattle.model.proofs.CheckLaws.{part-words}
-use Rattle.desk_lines.proofs.BestLaws.{best-rows-long, best-constants-long, best-lent, best-moved, best-refused}
+use Rattle.desk_lines.proofs.BestLaws.{key-room, key-there, best-rows-long, best-constants-long, best-lent, best-moved, best-refused}
 use Rattle.desk_lines.proofs.best.Statement.{statement}
 use Rattle.desk_lines.proofs.best.Tie as tie
 
@@ -18,17 +18,24 @@ best-move-requires c κs =
     let s = c .before .before .before .before .before .before .before .before .before .before .before .before .before .before .before in
     best-lent (s .pre) (part-words (s .args .state .now) factsBase (s .args .n .live .facts * factWords))
 
+key-at-requires : tie.Need-key-at-requires
+key-at-requires c κs =
+    let chosen = c .before .before .before .before .before in
+    key-room (chosen .before .before .before .before .before .before .before .before .before .before .before .before .before .before .before .before .pre) _ _ (chosen .best-move .ensures) (c .before .m .given .1)
+
 returns : tie.Need-returns
 returns c =
-    let did = c .before .before .before .before .before .before in
-    let a = did .before .before .before .before .before .before .before .before .before .before .before .before .before .before .before .before .args in
-    best-moved _ _ _ _ _ _ _ (part-words (a .state .now) factsBase (a .n .live .facts * factWords)) (did .best-move .ensures) (c .before .before .m .given .1) (c .action-key .ensures)
+    let chosen = c .before .before .before .before .before .before in
+    let start = chosen .before .before .before .before .before .before .before .before .before .before .before .before .before .before .before .before in
+    best-moved _ _ _ _ _ _ _ (part-words (start .args .state .now) factsBase (start .args .n .live .facts * factWords)) (chosen .best-move .ensures)
+    (c .before .before .m .given .1)
+    (key-there (start .pre) _ _ (chosen .best-move .ensures) (c .before .before .m .given .1) (c .key-at .ensures))
 
 returns-2 : tie.Need-returns-2
 returns-2 c =
-    let did = c .before .before .before .before .before in
-    let a = did .before .before .before .before .before .before .before .before .before .before .before .before .before .before .before .before .args in
-    best-refused _ _ _ _ _ _ _ (part-words (a .state .now) factsBase (a .n .live .facts * factWords)) (did .best-move .ensures) (c .before .m2 .given .1)
+    let chosen = c .before .before .before .before .before in
+    let start = chosen .before .before .before .before .before .before .before .before .before .before .before .before .before .before .before .before in
+    best-refused _ _ _ _ _ _ _ (part-words (start .args .state .now) factsBase (start .args .n .live .facts * factWords)) (chosen .best-move .ensures) (c .before .m2 .given .1)
 
 pub best-spec : {M : Type 1} → statement M
 best-spec =
@@ -44,7 +51,7 @@ best-spec =
     slice-aggregate-best-move-2
     best-move-requires
     (λ c. search needs)
-    (λ c κs. search needs)
+    key-at-requires
     (λ c. search needs)
     (λ c. search needs)
     returns

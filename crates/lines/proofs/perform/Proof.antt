@@ -1,8 +1,8 @@
 use Rattle.lines.proofs.AnswerLaws.{ready-as, constant-answers, predicate-answers, total-answers, discount-answers, reward-answers, action-answers}
 use Rattle.lines.proofs.AnswerLaws.{variant-answers, becomes-answers, start-answers, objects-answers, is-answers, tell-answers, value-answers, backup-answers}
-use Rattle.lines.proofs.AnswerLaws.{cut-answers, show-answers, reduce-answers, text-answers, best-answers, count-answers, bad-answers}
+use Rattle.lines.proofs.AnswerLaws.{cut-answers, show-answers, reduce-answers, text-answers, best-answers, count-answers, did-answers, bad-answers}
 use Rattle.declaration_lines.specs.LineLaws.{for-constant, for-predicate, for-total, for-discount, for-action}
-use Rattle.desk_lines.specs.ReadyLaws.{best-task, count-task}
+use Rattle.desk_lines.specs.ReadyLaws.{best-task, count-task, did-task}
 use Rattle.diagram_lines.specs.ReadyLaws.{reward-ready, variant-ready, becomes-ready}
 use Rattle.run_lines.specs.ReadyLaws.{start-task, value-task, backup-task, cut-task, reduce-task, text-task}
 use Rattle.state_lines.specs.LineLaws.{for-objects, for-is, for-true}
@@ -124,19 +124,25 @@ count-requires c κs =
     let start = told .before .before .before .before .before .before .before .before .before .before .pre in
     count-task (ready-as (told .enum-told20 .given .1) (start .0)) (start .1)
 
--- What each has left: `did` is its call.
+did-requires : tie.Need-did-requires
+did-requires c κs =
+    let told = c .before .before .before .before .before in
+    let start = told .before .before .before .before .before .before .before .before .before .before .pre in
+    did-task (ready-as (told .enum-told21 .given .1) (start .0))
+
+-- What each has left: `call` is where it was called.
 
 returns : tie.Need-returns
 returns c =
-    let did = c .before .before in
-    let told = did .before .before in
-    constant-answers _ (told .before .before .before .before .before .before .before .before .before .before .pre .0) (told .enum-told .given .1) (did .constant .ensures)
+    let call = c .before .before in
+    let told = call .before .before in
+    constant-answers _ (told .before .before .before .before .before .before .before .before .before .before .pre .0) (told .enum-told .given .1) (call .constant .ensures)
 
 returns-2 : tie.Need-returns-2
 returns-2 c =
-    let did = c .before .before .before .before in
-    let told = did .before .before .before in
-    predicate-answers _ (told .before .before .before .before .before .before .before .before .before .before .pre .0) (told .enum-told2 .given .1) (did .predicate .ensures)
+    let call = c .before .before .before .before in
+    let told = call .before .before .before in
+    predicate-answers _ (told .before .before .before .before .before .before .before .before .before .before .pre .0) (told .enum-told2 .given .1) (call .predicate .ensures)
 
 returns-3 : tie.Need-returns-3
 returns-3 c =
@@ -150,51 +156,51 @@ returns-4 c =
 
 returns-5 : tie.Need-returns-5
 returns-5 c =
-    let did = c .before .before .before .before in
-    let told = did .before .before .before .before .before in
-    reward-answers _ (told .before .before .before .before .before .before .before .before .before .before .pre .0) (told .enum-told5 .given .1) (did .reward .ensures)
+    let call = c .before .before .before .before in
+    let told = call .before .before .before .before .before in
+    reward-answers _ (told .before .before .before .before .before .before .before .before .before .before .pre .0) (told .enum-told5 .given .1) (call .reward .ensures)
 
 returns-6 : tie.Need-returns-6
 returns-6 c =
-    let did = c .before .before .before .before .before .before in
-    let told = did .before .before .before .before in
-    action-answers _ (told .before .before .before .before .before .before .before .before .before .before .pre .0) (told .enum-told6 .given .1) (did .action .ensures)
+    let call = c .before .before .before .before .before .before in
+    let told = call .before .before .before .before in
+    action-answers _ (told .before .before .before .before .before .before .before .before .before .before .pre .0) (told .enum-told6 .given .1) (call .action .ensures)
 
 returns-7 : tie.Need-returns-7
 returns-7 c =
-    let did = c .before .before .before .before .before .before .before .before in
-    let told = did .before .before .before .before .before .before in
-    variant-answers _ (told .before .before .before .before .before .before .before .before .before .before .pre .0) (told .enum-told7 .given .1) (did .variant .ensures)
+    let call = c .before .before .before .before .before .before .before .before in
+    let told = call .before .before .before .before .before .before in
+    variant-answers _ (told .before .before .before .before .before .before .before .before .before .before .pre .0) (told .enum-told7 .given .1) (call .variant .ensures)
 
 returns-8 : tie.Need-returns-8
 returns-8 c =
-    let did = c .before .before .before .before .before .before in
-    let told = did .before .before .before .before .before .before in
-    becomes-answers _ (told .before .before .before .before .before .before .before .before .before .before .pre .0) (told .enum-told8 .given .1) (did .becomes .ensures)
+    let call = c .before .before .before .before .before .before in
+    let told = call .before .before .before .before .before .before in
+    becomes-answers _ (told .before .before .before .before .before .before .before .before .before .before .pre .0) (told .enum-told8 .given .1) (call .becomes .ensures)
 
 returns-9 : tie.Need-returns-9
 returns-9 c =
-    let did = c .before .before .before .before in
-    let told = did .before .before .before .before .before .before in
-    start-answers _ (told .before .before .before .before .before .before .before .before .before .before .pre .0) (told .enum-told9 .given .1) (did .start .ensures)
+    let call = c .before .before .before .before in
+    let told = call .before .before .before .before .before .before in
+    start-answers _ (told .before .before .before .before .before .before .before .before .before .before .pre .0) (told .enum-told9 .given .1) (call .start .ensures)
 
 returns-10 : tie.Need-returns-10
 returns-10 c =
-    let did = c .before .before in
-    let told = did .before .before in
-    objects-answers _ (told .before .before .before .before .before .before .before .before .before .before .pre .0) (told .enum-told10 .given .1) (did .objects .ensures)
+    let call = c .before .before in
+    let told = call .before .before in
+    objects-answers _ (told .before .before .before .before .before .before .before .before .before .before .pre .0) (told .enum-told10 .given .1) (call .objects .ensures)
 
 returns-11 : tie.Need-returns-11
 returns-11 c =
-    let did = c .before .before in
-    let told = did .before .before .before in
-    is-answers _ (told .before .before .before .before .before .before .before .before .before .before .pre .0) (told .enum-told11 .given .1) (did .is .ensures)
+    let call = c .before .before in
+    let told = call .before .before .before in
+    is-answers _ (told .before .before .before .before .before .before .before .before .before .before .pre .0) (told .enum-told11 .given .1) (call .is .ensures)
 
 returns-12 : tie.Need-returns-12
 returns-12 c =
-    let did = c .before .before in
-    let told = did .before .before .before .before in
-    tell-answers _ (told .before .before .before .before .before .before .before .before .before .before .pre .0) (told .enum-told12 .given .1) (did .tell .ensures)
+    let call = c .before .before in
+    let told = call .before .before .before .before in
+    tell-answers _ (told .before .before .before .before .before .before .before .before .before .before .pre .0) (told .enum-told12 .given .1) (call .tell .ensures)
 
 returns-13 : tie.Need-returns-13
 returns-13 c =
@@ -203,15 +209,15 @@ returns-13 c =
 
 returns-14 : tie.Need-returns-14
 returns-14 c =
-    let did = c .before .before .before .before in
-    let told = did .before .before .before .before .before .before in
-    backup-answers _ (told .before .before .before .before .before .before .before .before .before .before .pre .0) (told .enum-told14 .given .1) (did .backup .ensures)
+    let call = c .before .before .before .before in
+    let told = call .before .before .before .before .before .before in
+    backup-answers _ (told .before .before .before .before .before .before .before .before .before .before .pre .0) (told .enum-told14 .given .1) (call .backup .ensures)
 
 returns-15 : tie.Need-returns-15
 returns-15 c =
-    let did = c .before .before .before .before in
-    let told = did .before .before .before .before in
-    cut-answers _ (told .before .before .before .before .before .before .before .before .before .before .pre .0) (told .enum-told15 .given .1) (did .cut .ensures)
+    let call = c .before .before .before .before in
+    let told = call .before .before .before .before in
+    cut-answers _ (told .before .before .before .before .before .before .before .before .before .before .pre .0) (told .enum-told15 .given .1) (call .cut .ensures)
 
 returns-16 : tie.Need-returns-16
 returns-16 c =
@@ -220,9 +226,9 @@ returns-16 c =
 
 returns-17 : tie.Need-returns-17
 returns-17 c =
-    let did = c .before .before .before .before in
-    let told = did .before .before .before .before in
-    reduce-answers _ (told .before .before .before .before .before .before .before .before .before .before .pre .0) (told .enum-told17 .given .1) (did .reduce .ensures)
+    let call = c .before .before .before .before in
+    let told = call .before .before .before .before in
+    reduce-answers _ (told .before .before .before .before .before .before .before .before .before .before .pre .0) (told .enum-told17 .given .1) (call .reduce .ensures)
 
 returns-18 : tie.Need-returns-18
 returns-18 c =
@@ -231,30 +237,36 @@ returns-18 c =
 
 returns-19 : tie.Need-returns-19
 returns-19 c =
-    let did = c .before .before in
-    let told = did .before .before .before .before .before .before .before .before in
-    best-answers _ (told .before .before .before .before .before .before .before .before .before .before .pre .0) (told .enum-told19 .given .1) (did .best .ensures)
+    let call = c .before .before in
+    let told = call .before .before .before .before .before .before .before .before in
+    best-answers _ (told .before .before .before .before .before .before .before .before .before .before .pre .0) (told .enum-told19 .given .1) (call .best .ensures)
 
 returns-20 : tie.Need-returns-20
 returns-20 c =
-    let did = c .before .before in
-    let told = did .before .before .before .before .before in
-    count-answers _ (told .before .before .before .before .before .before .before .before .before .before .pre .0) (told .enum-told20 .given .1) (did .count .ensures)
+    let call = c .before .before in
+    let told = call .before .before .before .before .before in
+    count-answers _ (told .before .before .before .before .before .before .before .before .before .before .pre .0) (told .enum-told20 .given .1) (call .count .ensures)
 
 returns-21 : tie.Need-returns-21
-returns-21 c = bad-answers _ (c .before .before .before .before .before .before .before .before .before .before .pre .0) (c .enum-told21 .given .1)
+returns-21 c =
+    let call = c .before .before in
+    let told = call .before .before .before .before .before .before in
+    did-answers _ (told .before .before .before .before .before .before .before .before .before .before .pre .0) (told .enum-told21 .given .1) (call .did .ensures)
+
+returns-22 : tie.Need-returns-22
+returns-22 c = bad-answers _ (c .before .before .before .before .before .before .before .before .before .before .pre .0) (c .enum-told22 .given .1)
 
 pub perform-spec : {M : Type 1} → statement M
 perform-spec =
     tie.close
     (tie.spec
     (λ c. search needs) constant-requires (λ c. search needs) predicate-requires (λ c. search needs) total-requires (λ c. search needs)
-    discount-requires (λ c. search needs) reward-requires (λ c. search needs) action-requires (λ c. search needs) variant-requires
-    (λ c. search needs) becomes-requires (λ c. search needs) start-requires (λ c. search needs) objects-requires (λ c. search needs) is-requires
-    (λ c. search needs) tell-requires (λ c. search needs) value-requires (λ c. search needs) backup-requires (λ c. search needs) cut-requires
-    (λ c. search needs) (λ c κs. search needs) (λ c. search needs) reduce-requires (λ c. search needs) text-requires (λ c. search needs)
-    best-requires (λ c. search needs) count-requires (λ c. search needs) (λ c. search needs) returns (λ c. search needs) (λ c. search needs)
-    returns-2 returns-3 returns-4 (λ c. search needs) (λ c. search needs) (λ c. search needs) (λ c. search needs) returns-5 (λ c. search needs)
+    discount-requires (λ c. search needs) reward-requires (λ c. search needs) action-requires (λ c. search needs) variant-requires (λ c. search needs)
+    becomes-requires (λ c. search needs) start-requires (λ c. search needs) objects-requires (λ c. search needs) is-requires (λ c. search needs)
+    tell-requires (λ c. search needs) value-requires (λ c. search needs) backup-requires (λ c. search needs) cut-requires (λ c. search needs)
+    (λ c κs. search needs) (λ c. search needs) reduce-requires (λ c. search needs) text-requires (λ c. search needs) best-requires (λ c. search needs)
+    count-requires (λ c. search needs) did-requires (λ c. search needs) (λ c. search needs) returns (λ c. search needs) (λ c. search needs) returns-2
+    returns-3 returns-4 (λ c. search needs) (λ c. search needs) (λ c. search needs) (λ c. search needs) returns-5 (λ c. search needs)
     (λ c. search needs) (λ c. search needs) returns-6 (λ c. search needs) (λ c. search needs) (λ c. search needs) (λ c. search needs)
     (λ c. search needs) returns-7 (λ c. search needs) (λ c. search needs) (λ c. search needs) (λ c. search needs) (λ c. search needs) returns-8
     (λ c. search needs) (λ c. search needs) (λ c. search needs) (λ c. search needs) (λ c. search needs) returns-9 (λ c. search needs) returns-10
@@ -263,4 +275,5 @@ perform-spec =
     (λ c. search needs) returns-14 (λ c. search needs) (λ c. search needs) (λ c. search needs) returns-15 returns-16 (λ c. search needs)
     (λ c. search needs) (λ c. search needs) returns-17 (λ c. search needs) (λ c. search needs) (λ c. search needs) returns-18 (λ c. search needs)
     (λ c. search needs) (λ c. search needs) (λ c. search needs) (λ c. search needs) (λ c. search needs) (λ c. search needs) returns-19
-    (λ c. search needs) (λ c. search needs) (λ c. search needs) (λ c. search needs) returns-20 returns-21)
+    (λ c. search needs) (λ c. search needs) (λ c. search needs) (λ c. search needs) returns-20 (λ c. search needs) (λ c. search needs)
+    (λ c. search needs) (λ c. search needs) (λ c. search needs) returns-21 returns-22)

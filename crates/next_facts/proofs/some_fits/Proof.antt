@@ -1,6 +1,6 @@
 use borrow.Author.Needs.{needs}
 use Prim.Native.Nat.{_-_}
-use Rattle.next_facts.proofs.RowLaws.{Seeking, seeking-start, seeking-row, seeking-hit, seeking-on, seeking-end}
+use Rattle.next_facts.proofs.RowLaws.{Seeking, seeking-start, seeking-hit, seeking-on, seeking-end}
 use Rattle.next_facts.proofs.some_fits.Statement.{statement}
 use Rattle.next_facts.proofs.some_fits.Tie as tie
 

@@ -1,8 +1,7 @@
 use borrow.Author.Needs.{needs}
-use mathlib.Core.Path.{_≡_, sym, _∙_}
+use mathlib.Core.Path.{sym, _∙_}
 use Prim.Native.Nat.{_-_, _≤_}
 use native.Mathlib.Omega.{arith}
-use lib.ListN.{length}
 use Rattle.label.specs.Limits.{termEnd}
 use Rattle.next_facts.specs.Filling.{Begun}
 use Rattle.next_facts.proofs.StartLaws.{begun-none, begun-on, begun-end}

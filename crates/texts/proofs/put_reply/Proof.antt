@@ -3,34 +3,53 @@ use Rattle.texts.proofs.PutLaws.{rows-there, form-there, counts-there, 
 use Rattle.texts.proofs.put_reply.Statement.{statement}
 use Rattle.texts.proofs.put_reply.Tie as tie
 
+-- `judged` is where it is said what the answer prints, `known` where that is known, `call` where it was put.
+
 put-rows-requires : tie.Need-put-rows-requires
-put-rows-requires c κs = rows-there (c .before .before .before .before .before .before .before .before .before .before .pre) (c .before .before .before .before .printed-by .ensures) (c .before .before .printed .given .1)
+put-rows-requires c κs =
+    let known = c .before .before in
+    let judged = known .before .before in
+    rows-there (judged .before .before .before .before .before .before .pre) (judged .printed-by .ensures) (known .printed .given .1)
 
 put-value-requires : tie.Need-put-value-requires
-put-value-requires c κs = form-there (c .before .before .before .before .before .before .before .before .before .before .pre) (c .before .before .before .before .printed-by .ensures) (c .before .before .printed2 .given .1)
+put-value-requires c κs =
+    let known = c .before .before in
+    let judged = known .before .before in
+    form-there (judged .before .before .before .before .before .before .pre) (judged .printed-by .ensures) (known .printed2 .given .1)
 
 put-counts-requires : tie.Need-put-counts-requires
-put-counts-requires c κs = counts-there (c .before .before .before .before .before .before .before .before .before .before .pre) (c .before .before .before .before .printed-by .ensures) (c .before .before .printed3 .given .1)
+put-counts-requires c κs =
+    let known = c .before .before in
+    let judged = known .before .before in
+    counts-there (judged .before .before .before .before .before .before .pre) (judged .printed-by .ensures) (known .printed3 .given .1)
 
 returns : tie.Need-returns
 returns c =
-    let s = c .before .before .before .before .before .before .before in
-    put-rows (s .before .before .before .before .before .before .pre) (s .printed-by .ensures) (c .before .before .before .before .before .printed .given .1) (c .before .before .put-rows .ensures)
+    let call = c .before .before in
+    let known = call .before .before .before in
+    let judged = known .before .before in
+    put-rows (judged .before .before .before .before .before .before .pre) (judged .printed-by .ensures) (known .printed .given .1) (call .put-rows .ensures)
 
 returns-2 : tie.Need-returns-2
 returns-2 c =
-    let s = c .before .before .before .before .before .before .before in
-    put-form (s .before .before .before .before .before .before .pre) (s .printed-by .ensures) (c .before .before .before .before .before .printed2 .given .1) (c .before .before .put-value .ensures)
+    let call = c .before .before in
+    let known = call .before .before .before in
+    let judged = known .before .before in
+    put-form (judged .before .before .before .before .before .before .pre) (judged .printed-by .ensures) (known .printed2 .given .1) (call .put-value .ensures)
 
 returns-3 : tie.Need-returns-3
 returns-3 c =
-    let s = c .before .before .before .before .before .before .before in
-    put-counts (s .before .before .before .before .before .before .pre) (s .printed-by .ensures) (c .before .before .before .before .before .printed3 .given .1) (c .before .before .put-counts .ensures)
+    let call = c .before .before in
+    let known = call .before .before .before in
+    let judged = known .before .before in
+    put-counts (judged .before .before .before .before .before .before .pre) (judged .printed-by .ensures) (known .printed3 .given .1) (call .put-counts .ensures)
 
 returns-4 : tie.Need-returns-4
 returns-4 c =
-    let s = c .before .before .before .before .before .before in
-    put-line (s .before .before .before .before .before .before .pre) (s .printed-by .ensures) (c .before .before .before .before .enum-told .given .1) (c .before .before .put-answer .ensures)
+    let call = c .before .before in
+    let known = call .before .before in
+    let judged = known .before .before in
+    put-line (judged .before .before .before .before .before .before .pre) (judged .printed-by .ensures) (known .enum-told .given .1) (call .put-answer .ensures)
 
 pub put-reply-spec : {M : Type 1} → statement M
 put-reply-spec =

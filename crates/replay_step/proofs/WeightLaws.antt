@@ -1,0 +1,104 @@
+-- A weight has no variable: its value is not refused, and its highest leaf is the leaf that it has.
+use mathlib.Core.Path.{_≡_, refl, sym, ap, subst, _∙_}
+use mathlib.Core.Bool.{Bool, true, false, _&&_, cond}
+use mathlib.Core.List.{List, []}
+use Prim.Native.Nat.{ℕ, zero, suc, _+_, _^_, _≤_, _<_}
+use native.Mathlib.Omega.{arith}
+use native.Mathlib.Nat.{pow-zero}
+use lib.ListN.{length, replicate, length-replicate}
+use lib.Dec.{eqb, ltb}
+use borrow.Author.Tests.{le-ltb, ne-eqb, not-true}
+use Rattle.basics.specs.Tests.{Flag, isTrue, isFalse, flag}
+use Rattle.label.specs.Limits.{firstParameter, parameterCount, firstVariable, variableCount}
+use Rattle.refusal.specs.declared.Refusal.{Refusal}
+use Rattle.refusal.specs.declared.Refusal.the-variants.{Valuations}
+use Rattle.diagram.specs.Sizes.{mostRows}
+use Rattle.diagram.specs.Diagram.{Diagram}
+use Rattle.diagram.specs.Listing.{diagramOf}
+use Rattle.diagram.specs.Variables.{occurs, occurring, variables}
+use Rattle.state.specs.declared.Valued.{Valued}
+use Rattle.state.specs.declared.Valued.the-variants.{Value, Refused}
+use Rattle.state.specs.Lent.{stateOf}
+use Rattle.state.specs.State.{State, Good, meaning, value, fixed}
+use Rattle.state.specs.Highest.{Bound, start, highest}
+use Rattle.state.specs.HighestLaws.{highest-is}
+use Rattle.state.specs.ValueLaws.{value-same, low-lt}
+use Rattle.state.specs.ValueCall.{mostValuations, valuations}
+use Rattle.elimination.specs.Elimination.{mostEntries, allEntries}
+use Rattle.elimination.specs.Answer.{isTooLarge}
+use Rattle.regression.specs.NextLaws.{terms-occur}
+use Rattle.mdp.specs.Model.{Variant, GoodVariant}
+use Rattle.mdp.specs.Bellman.{weightIn}
+use Rattle.valuing.specs.Walks.{boundHighest, boundAnswer, climbed, isFew}
+use Rattle.valuing.specs.WalkLaws.{climbed-first}
+use Rattle.model.specs.Layout.{weightWords}
+use Rattle.replay_step.specs.Inside.{Weighing, WeighingAt}
+
+none-occurring : (ar : List ℕ) (d : Diagram) (t n : ℕ) → ((u : ℕ) → t ≤ u → occurs ar u d ≡ false) → occurring ar d t n ≡ []
+unfolding occurring
+none-occurring ar d t zero h = refl
+none-occurring ar d t (suc n) h = rw (h t (omega arith)) (none-occurring ar d (suc t) n (λ u i. h u (omega arith)))
+
+module _ {ar : List ℕ} {c : ℕ} {v : Variant} (few : c ≤ parameterCount) (g : GoodVariant ar c v) where
+  weight-none : variables ar (v .weight) ≡ []
+  unfolding variables
+  weight-none = none-occurring ar (v .weight) firstVariable variableCount (λ t h. quiet t h (flag (occurs ar t (v .weight))))
+    where
+      quiet : (t : ℕ) → firstVariable ≤ t → Flag (occurs ar t (v .weight)) → occurs ar t (v .weight) ≡ false
+      quiet t h (isFalse e) = e
+      quiet t h (isTrue e) = let z = terms-occur (λ x. x < firstParameter + c) ar t (v .weight) (g .weight) e in absurd (omega arith)
+
+  pub weight-few : (n : ℕ) (ws : List ℕ) → diagramOf ws ≡ v .weight → isFew ar n ws ≡ true
+  unfolding isFew valuations
+  weight-few n ws q =
+      let e : n ^ length (variables ar (diagramOf ws)) ≡ 1 = ap (λ (d : Diagram). n ^ length (variables ar d)) q ∙ ap (λ (l : List ℕ). n ^ length l) weight-none ∙ pow-zero n in
+      rw (le-ltb mostValuations (n ^ length (variables ar (diagramOf ws))) (omega (arith, e)))
+
+  pub weight-highest : (s : State) → Good s → (os : List ℕ) → Bound s os → highest s os (meaning ar (v .weight)) ≡ weightIn ar s os v
+  unfolding weightIn start
+  weight-highest s good os b =
+      let h = highest-is s os good b (meaning ar (v .weight)) in
+      sym (h .value) ∙ value-same (λ t. t < firstParameter + c) s (meaning ar (v .weight)) (h .point) (start s os) (g .weight)
+      (λ t k. h .inside .low t (omega arith) ∙ sym (low-lt firstVariable t (fixed s os t) 0 (omega arith)))
+
+-- ===== Room for a number for each row =====
+
+pub high-room : (m : ℕ) → mostRows ≤ m → mostRows ≤ length (replicate {A = ℕ} m 0)
+high-room m h = omega (arith, length-replicate {A = ℕ} m 0)
+
+pub high-kept : (m : ℕ) (xs : List ℕ) → mostRows ≤ m → length xs ≡ length (replicate {A = ℕ} m 0) → mostRows ≤ length xs
+high-kept m xs h e = omega (arith, e, high-room m h)
+
+-- ===== What the climb of a weight answers =====
+
+one-up : (x : ℕ) → eqb (suc x) 1 ≡ eqb x 0
+one-up zero = refl
+one-up (suc x) = ne-eqb (suc (suc x)) 1 (omega arith) ∙ sym (ne-eqb (suc x) 0 (omega arith))
+
+module _ (ar ws : List ℕ) (n : ℕ) (constants facts os : List ℕ) (few : isFew ar n ws ≡ true) where
+  weight-answer : climbed 0 (boundAnswer ar ws n constants facts os) ≡ Value (suc (boundHighest ar ws n constants facts os))
+  unfolding boundAnswer isTooLarge isFew stateOf
+  weight-answer =
+      let e = not-true (ltb mostValuations (valuations ar n (diagramOf ws))) few in
+      ap (λ (b : Bool). climbed 0 (cond (b && ltb mostEntries (allEntries (stateOf ar n constants facts) os ar ws)) (Refused Valuations)
+      (Value (boundHighest ar ws n constants facts os)))) e ∙ climbed-first (boundHighest ar ws n constants facts os)
+
+  module _ {r : Valued} (q : r ≡ climbed 0 (boundAnswer ar ws n constants facts os)) where
+    pub climb-refused : {e : Refusal} → r ≡ Refused e → {A : Type 0} → A
+    climb-refused {e} h = let z : _≡_ {A = Valued} (Refused e) (Value (suc (boundHighest ar ws n constants facts os))) = sym h ∙ q ∙ weight-answer in
+        let y : _≡_ {A = ℕ} 0 1 = cc in absurd (omega arith)
+
+    pub climb-none : {b : ℕ} → r ≡ Value b → eqb b 1 ≡ eqb (boundHighest ar ws n constants facts os) 0
+    climb-none {b} h = let z : _≡_ {A = Valued} (Value b) (Value (suc (boundHighest ar ws n constants facts os))) = sym h ∙ q ∙ weight-answer in
+        let y : b ≡ suc (boundHighest ar ws n constants facts os) = cc in
+        ap (λ (x : ℕ). eqb x 1) y ∙ one-up (boundHighest ar ws n constants facts os)
+
+-- ===== The words of a weight =====
+
+pub weighing-part : {ar listings table : List ℕ} {place n : ℕ} {constants facts os : List ℕ} → WeighingAt ar listings table place n constants facts os
+    → {ws : List ℕ} → ws ≡ weightWords listings table place → Weighing ar ws n constants facts os
+weighing-part {ar} {n = n} {constants} {facts} {os} w e = subst (λ (x : List ℕ). Weighing ar x n constants facts os) (sym e) (w .weighing)
+
+pub weightless-part : (ar : List ℕ) (n : ℕ) (constants facts os : List ℕ) {ws us : List ℕ} → ws ≡ us → {x : Bool} → x ≡ eqb (boundHighest ar ws n constants facts os) 0
+    → x ≡ eqb (boundHighest ar us n constants facts os) 0
+weightless-part ar n constants facts os e q = q ∙ ap (λ (l : List ℕ). eqb (boundHighest ar l n constants facts os) 0) e
