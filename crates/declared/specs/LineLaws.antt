@@ -371,6 +371,7 @@ module _ (σ : Session) (good : GoodSession σ) (h : DeclaredSession σ) where
     forText = λ n e t. h;
     forBest = λ x e t. h;
     forCount = λ l e t. h;
+    forDid = λ l e t. h;
   }
 
   -- the events of a line that stands where it may are those of its tree

@@ -18,7 +18,7 @@ use Rattle.forms.specs.Tree.Term.{term}
 use Rattle.forms.specs.Tree.Atom.{equal, holds}
 use Rattle.forms.specs.Tree.Diagram.{number, branch}
 use Rattle.text.specs.declared.Shape.{Shape}
-use Rattle.text.specs.declared.Shape.the-variants.{Nothing, One, Two, Listed, Drawn, Named, Headed, Never}
+use Rattle.text.specs.declared.Shape.the-variants.{Nothing, One, Two, Listed, Paired, Drawn, Named, Headed, Never}
 use Rattle.text.specs.declared.Kind.{Kind}
 use Rattle.text.specs.declared.Kind.the-variants as K
 use Rattle.text.specs.Line.{keyword, shapeOf, variableBytes, Item, itemBytes, GoodItem, ShapeWords, shapeBytes, GoodShape, Line, lineBytes, GoodLine}
@@ -116,13 +116,18 @@ item-unbroken Parameter x g = name-unbroken x g
 item-unbroken Any x g = term-unbroken x g
 item-unbroken Number x g = number-unbroken x g
 
+listed-unbroken : (k : Sort) (n : List ℕ) (xs : List (Item k)) → IsName n → All (GoodItem k) xs → Unbroken (n ++ manyBytes (itemBytes k) xs)
+listed-unbroken k n xs g h =
+    unbroken-then n (manyBytes (itemBytes k) xs) (name-unbroken n g) (many-unbroken (itemBytes k) (GoodItem k) (item-unbroken k) xs h)
+
 shape-unbroken : (h : Shape) (w : ShapeWords h) → GoodShape h w → Unbroken (shapeBytes h w)
 shape-unbroken Nothing w g = refl
 shape-unbroken (One k) x g = item-unbroken k x g
 shape-unbroken (Two k l) w g =
     unbroken-then (itemBytes k (w .0)) (32 ∷ itemBytes l (w .1)) (item-unbroken k (w .0) (g .0)) (item-unbroken l (w .1) (g .1))
-shape-unbroken (Listed k) w g =
-    unbroken-then (w .0) (manyBytes (itemBytes k) (w .1)) (name-unbroken (w .0) (g .0)) (many-unbroken (itemBytes k) (GoodItem k) (item-unbroken k) (w .1) (g .1))
+shape-unbroken (Listed k) w g = listed-unbroken k (w .0) (w .1) (g .0) (g .1)
+shape-unbroken (Paired k) w g =
+    unbroken-then (w .0) (32 ∷ (w .1 ++ manyBytes (itemBytes k) (w .2))) (name-unbroken (w .0) (g .0)) (listed-unbroken k (w .1) (w .2) (g .1) (g .2))
 shape-unbroken Drawn d g = diagram-unbroken d g
 shape-unbroken Named w g = unbroken-then (w .0) (32 ∷ diagramBytes (w .1)) (name-unbroken (w .0) (g .0)) (diagram-unbroken (w .1) (g .1))
 shape-unbroken Headed w g =
@@ -152,6 +157,7 @@ keyword-unbroken K.Reduce = refl
 keyword-unbroken K.Text = refl
 keyword-unbroken K.Best = refl
 keyword-unbroken K.Count = refl
+keyword-unbroken K.Did = refl
 keyword-unbroken K.Bad = refl
 
 -- a line is one line, whatever stands behind its line feed

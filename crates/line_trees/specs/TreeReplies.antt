@@ -29,9 +29,10 @@ use Rattle.session.specs.Session.{Session, refuseIf}
 use Rattle.session.specs.Declaring.{constantLine, predicateLine, totalLine, discountLine, repeated, actionLine}
 use Rattle.session.specs.Facts.{predicateOf, objectsLine, isLine, trueLine}
 use Rattle.session.specs.Modelling.{mostModelRows, rowsWith, withReward, withVariant, truthsNow, isSome, withTruth}
+use Rattle.session.specs.Replaying.{didLine}
 use Rattle.session.specs.Running.{withHeld, startLine, valueRead, backupLine, cutLine, cutSays, reduceLine, formRead, bestRead, countRead}
 use Rattle.session.specs.Replies.{Reply, allowed, withNames, withLive, withVocabulary, withTotal, withDiscount, withAction}
-use Rattle.session.specs.Replies.{refusal, quietly, valueSays, backupSays, reduceSays, textSays, bestSays, countSays, placed}
+use Rattle.session.specs.Replies.{refusal, quietly, valueSays, backupSays, reduceSays, textSays, bestSays, countSays, didSays, placed}
 use Rattle.line_trees.specs.TreeReading.{rewardVariables, readTree}
 
 -- (reward DIAGRAM): no parameter, any variables, by ascending N where each is written so; its row steps, closed up; last 9 for model rows
@@ -71,7 +72,7 @@ truthTree σ k vs d =
 unfoldable pub treeDone : Session → ℕ → (k : Kind) → Words k → Reply
 unfolding keyOf valueOf constantLine predicateLine totalLine discountLine actionLine rewardTree withReward weightTree withVariant truthTree withTruth
     startLine objectsLine isLine trueLine withVocabulary withTotal withDiscount withAction valueRead backupLine cutLine diagramAnswer reduceLine formRead bestRead
-    countRead rows
+    countRead didLine rows
 treeDone σ number K.Constant n = quietly σ number (withNames σ) (constantLine (σ .names) (keyOf n))
 treeDone σ number K.Predicate w =
     quietly σ number (withVocabulary σ) (predicateLine (record { names = σ .names; arities = σ .model .arities }) (keyOf (w .0)) (valueOf (w .1)))
@@ -98,6 +99,8 @@ treeDone σ number K.Reduce w = reduceSays σ number (reduceLine (σ .model .ari
 treeDone σ number K.Text w = textSays σ number (formRead (σ .model .arities) (σ .names) (σ .held .diagram))
 treeDone σ number K.Best w = bestSays σ number (bestRead (σ .model) (σ .live) (σ .held .diagram))
 treeDone σ number K.Count n = countSays σ number (valueOf n) (countRead (σ .model) (σ .names) (σ .live) (σ .held .diagram) (valueOf n))
+treeDone σ number K.Did w =
+    didSays σ number (didLine (σ .model) (σ .names) (σ .live) (keyOf (w .0)) (keyOf (w .1)) (map valueOf (w .2)))
 treeDone σ number K.Bad w = refusal σ number Form
 
 -- line `number` of a text: 5, for (best) also 20, for its place, then the line's own checks

@@ -209,6 +209,7 @@ module _ (σ : Session) where
   done-tree number K.Text w g h = refl
   done-tree number K.Best w g h = refl
   done-tree number K.Count w g h = refl
+  done-tree number K.Did w g h = rw (map-numbers (w .2))
   done-tree number K.Bad w g h = refl
 
 -- ===== A line in bytes =====
@@ -245,6 +246,7 @@ only-bad K.Reduce h = absurd (h refl)
 only-bad K.Text h = absurd (h refl)
 only-bad K.Best h = absurd (h refl)
 only-bad K.Count h = absurd (h refl)
+only-bad K.Did h = absurd (h refl)
 only-bad K.Bad h = refl
 
 bad-reply : (σ : Session) (number : ℕ) (part : Part) (y : Reply) → placed σ number (allowed σ (ruleOf K.Bad part)) y ≡ refusal σ number Form

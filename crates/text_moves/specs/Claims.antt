@@ -64,7 +64,7 @@ pub data RefusesBest (σ : Session) : Refusal → Type 0 where
 
 -- ===== What lines leave as it was =====
 
--- (objects n), (is c o) and (true p o ..) change the state in hand, and no other line does
+-- (objects n), (is c o), (true p o ..) and (did action variant o ..) change the state in hand, and no other line does (document 02, L10 for the last)
 abbrev pub movesState : Kind → Bool
 movesState K.Constant = false
 movesState K.Predicate = false
@@ -86,6 +86,7 @@ movesState K.Reduce = false
 movesState K.Text = false
 movesState K.Best = false
 movesState K.Count = false
+movesState K.Did = true
 movesState K.Bad = false
 
 -- none of the lines does

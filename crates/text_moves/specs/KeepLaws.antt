@@ -1,4 +1,5 @@
--- Lines of the run keep the model; and all but (objects n), (is c o) and (true p o ..) keep the state in hand (document 01, section 'Text').
+-- Lines of the run keep the model; and all but (objects n), (is c o), (true p o ..) and (did action variant o ..) keep the state in hand, with count and total (document 01,
+-- section 'Text'; document 02, L10).
 use mathlib.Core.Path.{_≡_, refl, sym, _∙_}
 use mathlib.Core.Bool.{true, false}
 use mathlib.Core.List.{List, [], _∷_, _++_}
@@ -59,6 +60,7 @@ module _ (σ : Session) (p : σ .part ≡ Run) (number : ℕ) where
     forText = λ n e a. record { part = p; model = refl; live = λ q. refl };
     forBest = λ x e a. record { part = p; model = refl; live = λ q. refl };
     forCount = λ l e a. record { part = p; model = refl; live = λ q. refl };
+    forDid = λ l e a. record { part = p; model = refl; live = moved };
   }
 
   line-keeps : (s : List ℕ) → Keeps σ (lineKind s) (reply σ number s)

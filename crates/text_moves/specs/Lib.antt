@@ -14,7 +14,7 @@
 --   text-moves: after whatever lines, backups, cuts and reductions, refused ones too, whatever line is answered by a move: MovesBy
 --   text-names: and NamesMove
 --   text-follows: and where some lines later the state is the same, k is one more and a value is printed, it is S^(k+1) · M0 plus the sum of the move printed
---   state-stays: the state is the same where no line between is an (objects n), an (is c o) or a (true p o ..)
+--   state-stays: the state is the same where no line between is an (objects n), an (is c o), a (true p o ..) or a (did action variant o ..)
 --   best-backup-value: so for the three lines (best), (backup) and (value), the backup accepted
 --
 -- Theorems: what refuses it, in every session

@@ -72,6 +72,7 @@ isAction K.Reduce = false
 isAction K.Text = false
 isAction K.Best = false
 isAction K.Count = false
+isAction K.Did = false
 isAction K.Bad = false
 
 -- an accepted (action ..) adds one; any other line leaves their names and parameters
@@ -168,6 +169,7 @@ module _ (σ : Session) (number : ℕ) (es : List Event) where
     forText = λ n e. keeps never refl refl;
     forBest = λ x e. keeps never refl refl;
     forCount = λ l e. keeps never refl refl;
+    forDid = λ l e. keeps never refl refl;
   }
 
 effect : (σ : Session) (number : ℕ) (s : List ℕ) → Effect σ (wordsOf (lineKind s) s) (lineKind s) (reply σ number s)

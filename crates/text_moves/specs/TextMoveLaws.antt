@@ -29,7 +29,7 @@ use Rattle.session.specs.Running.{withHeld, stateIn, backupLine as backupLineOf
 use Rattle.session.specs.Replies.{Reply, allowed, wordsOf, reply}
 use Rattle.session.specs.Texts.{Progress, afterLine, afterLines, beginning}
 use Rattle.session_laws.specs.PlaceLaws.{model-run, in-run}
-use Rattle.session_laws.specs.LineAnswers.{Answered, quiet, valued, backed, cutting, reducing, showing, printing, moving, counting, OneAnswer, blank, refusing, accepted, IsValue}
+use Rattle.session_laws.specs.LineAnswers.{Answered, quiet, valued, backed, cutting, reducing, showing, printing, moving, counting, replaying, OneAnswer, blank, refusing, accepted, IsValue}
 use Rattle.session_laws.specs.AnswerLaws.{one-answer}
 use Rattle.session_laws.specs.FoldLaws.{lines-count}
 use Rattle.session_laws.specs.TextRuns.{callsOf, RunOf}
@@ -56,24 +56,29 @@ module _ (ls : List (List ℕ)) (σ : Session) (q : σ ≡ afterLines beginning 
       let r = run-is (reply-moves σ (sound .good) number s k n a b c d e .1 .run) in
       answered-steps σ (sound .good) (callsOf (r .behind)) (r .held) number s k n a b c d e
 
+-- lines behind (start) keep the model
+model-stays : (ls : List (List ℕ)) (σ : Session) → σ ≡ afterLines beginning ls .session → σ .part ≡ Run → (ms : List (List ℕ))
+    → (τ : Session) → τ ≡ afterLines beginning (ls ++ ms) .session → τ .model ≡ σ .model
+model-stays ls σ q p ms τ u =
+    ap (λ (ρ : Session). ρ .model) (u ∙ ap (λ (r : Progress). r .session) (lines-both beginning ls ms))
+    ∙ lines-keep (afterLines beginning ls) (ap (λ (ρ : Session). ρ .part) (sym q) ∙ p) ms .model
+    ∙ ap (λ (ρ : Session). ρ .model) (sym q)
+
 -- "so a desk that follows it gets the value that the next backup, if accepted, states": behind the lines ls a move x is printed; lines ms later the state is the same, k is one
 -- more, so that one backup was accepted, and a value v is printed
 pub text-follows : (ls : List (List ℕ)) (σ : Session) → σ ≡ afterLines beginning ls .session → (x : Move) (y : Reply) → MovesBy σ x y
-    → (ms : List (List ℕ)) (τ : Session) → τ ≡ afterLines beginning (ls ++ ms) .session → τ .live ≡ σ .live
+    → (ms : List (List ℕ)) (τ : Session) → τ ≡ afterLines beginning (ls ++ ms) .session → inHand τ ≡ inHand σ
     → (number : ℕ) (s : List ℕ) (v w : ℕ) → reply τ number s .answer ≡ A.Value v (suc (σ .held .steps)) w
     → v ≡ scale (σ .model) ^ suc (σ .held .steps) * rewardIn (σ .model) (inHand σ) + moveSum (σ .model) (σ .held .steps) (inHand σ) x
-text-follows ls σ q x y h ms τ u live number s v w e =
+text-follows ls σ q x y h ms τ u same number s v w e =
     let k = suc (σ .held .steps) in
-    let kept = lines-keep (afterLines beginning ls) (ap (λ (ρ : Session). ρ .part) (sym q) ∙ h .run) ms in
-    let there : τ ≡ afterLines (afterLines beginning ls) ms .session = u ∙ ap (λ (p : Progress). p .session) (lines-both beginning ls ms) in
-    let model : τ .model ≡ σ .model = ap (λ (ρ : Session). ρ .model) there ∙ kept .model ∙ ap (λ (ρ : Session). ρ .model) (sym q) in
     let value = subst (λ (ρ : Session). reply ρ number s .answer ≡ A.Value v k w → IsValue ρ v k w) (sym u) (text-bellman (ls ++ ms) number s v k w) e in
     value .value
-    ∙ ap (λ (m : Model). bellman m k (stateIn (m .arities) (τ .live))) model
-    ∙ ap (λ (l : Live). bellman (σ .model) k (stateIn (σ .model .arities) l)) live
+    ∙ ap (λ (m : Model). bellman m k (inHand τ)) (model-stays ls σ q (h .run) ms τ u)
+    ∙ ap (bellman (σ .model) k) same
     ∙ h .steps .next
 
--- the state is the same where no line between is an (objects n), an (is c o) or a (true p o ..)
+-- the state is the same where no line between is an (objects n), an (is c o), a (true p o ..) or a (did action variant o ..)
 pub state-stays : (ls : List (List ℕ)) (σ : Session) → σ ≡ afterLines beginning ls .session → σ .part ≡ Run → (ms : List (List ℕ)) → NoStateLine ms
     → (τ : Session) → τ ≡ afterLines beginning (ls ++ ms) .session → τ .live ≡ σ .live
 state-stays ls σ q p ms none τ u =
@@ -113,6 +118,7 @@ backup-read σ number s k n e = go (lineKind s) (reply σ number s) (one-answer 
     by-kind i y a (printing m p r t q) e = let z : _≡_ {A = ℕ} 0 1 = cc in absurd (omega arith)
     by-kind i y a (moving x p h t q) e = let z : _≡_ {A = ℕ} 0 1 = cc in absurd (omega arith)
     by-kind i y a (counting l p h t q) e = let z : _≡_ {A = ℕ} 0 1 = cc in absurd (omega arith)
+    by-kind i y a (replaying l p h t q) e = let z : _≡_ {A = ℕ} 0 1 = cc in absurd (omega arith)
 
     go : (i : Kind) (y : Reply) → OneAnswer σ number s i y → y .answer ≡ A.Backup k n → Backed σ y
     go i y (blank q p) e = let d = sym (ap (λ (z : Reply). z .answer) p) ∙ e in let z : _≡_ {A = ℕ} 0 1 = cc in absurd (omega arith)
@@ -172,5 +178,7 @@ best-backup-value ls σ τ q u x h k rows b v i w e =
     let value = subst (λ (ρ : Session). reply ρ (suc (suc (suc (length ls)))) valueLine .answer ≡ A.Value v i w → IsValue ρ v i w) (sym there)
     (text-bellman (ls ++ ms) (suc (suc (suc (length ls)))) valueLine v i w) e in
     let one : i ≡ suc (σ .held .steps) = value .steps ∙ ap (λ (ρ : Session). ρ .held .steps) u ∙ backup-steps σ (suc (suc (length ls))) backupLine k rows b in
-    text-follows ls σ q x (reply σ (suc (length ls)) bestLine) h ms τ there (state-stays ls σ q (h .run) ms none τ there)
+    let same : inHand τ ≡ inHand σ =
+    ap₂ (λ (m : Model) (l : Live). stateIn (m .arities) l) (model-stays ls σ q (h .run) ms τ there) (state-stays ls σ q (h .run) ms none τ there) in
+    text-follows ls σ q x (reply σ (suc (length ls)) bestLine) h ms τ there same
     (suc (suc (suc (length ls)))) valueLine v w (e ∙ ap (λ j. A.Value v j w) one)

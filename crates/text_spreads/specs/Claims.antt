@@ -48,7 +48,7 @@ groundIn σ n = groundCount (σ .model .arities) (length (σ .names .predicates)
 abbrev pub choiceOf : Session → ℕ → ℕ → State
 choiceOf σ n c = choiceState (σ .model .arities) (length (σ .names .predicates)) n (σ .live .constants) c
 
--- the session with that state in hand
+-- the session with that state in hand, begun at count 0
 abbrev pub withChoice : Session → ℕ → ℕ → Session
 withChoice σ n c =
     withLive σ (record {
@@ -56,6 +56,8 @@ withChoice σ n c =
       placed = σ .live .placed;
       constants = σ .live .constants;
       facts = lentChoice (σ .model .arities) (length (σ .names .predicates)) n c;
+      count = 0;
+      total = 0;
     })
 
 -- the value in it

@@ -1,4 +1,5 @@
--- From line to line: a constant that is not declared has object 0. (is c o) places declared ones alone, (objects n) places none.
+-- From line to line: a constant that is not declared has object 0. (is c o) places declared ones alone, (objects n) places none, (true p o ..) and (did action variant o ..)
+-- change facts alone.
 use mathlib.Core.Path.{_≡_, refl, sym, _∙_}
 use mathlib.Core.Bool.{Bool, true, false, not, _||_, cond}
 use mathlib.Core.List.{List, [], _∷_, _++_}
@@ -10,10 +11,10 @@ use lib.Dec.{ltb, leb, eqb}
 use borrow.Author.Tests.{ltb-true}
 use Rattle.refusal.specs.declared.Refusal.the-variants.{Name, Arity, Range, Space}
 use Rattle.refusal.specs.Outcome.{ok, Accepted}
-use Rattle.refusal.specs.OutcomeLaws.{accepted-ok, accepted-cond}
+use Rattle.refusal.specs.OutcomeLaws.{accepted-ok, accepted-next, accepted-cond}
 use Rattle.label.specs.Limits.{constantCount, predicateCount, parameterCount, mostPlaces}
 use Rattle.state.specs.Lent.{factCount, allBelow}
-use Rattle.mdp.specs.Model.{mostActions}
+use Rattle.mdp.specs.Model.{Model, mostActions}
 use Rattle.words.specs.declared.Key.{Key}
 use Rattle.names.specs.Keys.{placeOf, isAmong}
 use Rattle.mdp.specs.Runs.{begin}
@@ -23,7 +24,9 @@ use Rattle.events.specs.declared.Event.{Event}
 use Rattle.session.specs.declared.Part.the-variants.{Run}
 use Rattle.session.specs.Session.{Names, Live, Session, refuseIf, opening}
 use Rattle.session.specs.Declaring.{isDeclared, Vocabulary, constantLine, predicateLine, repeated, actionLine}
-use Rattle.session.specs.Facts.{mostFacts, cleared, objectsLine, placed, isLine, isFact, factLine, factRow, withFact, predicateOf, trueLine}
+use Rattle.replay.specs.Replay.{mostFacts, factRow, actionOf, did}
+use Rattle.session.specs.Facts.{cleared, objectsLine, placed, isLine, isFact, begunAgain, factLine, withFact, predicateOf, trueLine}
+use Rattle.session.specs.Replaying.{variantNames, didOf, replayIn, didLine}
 use Rattle.session.specs.Modelling.{withReward, rewardRead, rewardLine, withVariant, weightRead, variantLine, truthsNow, withTruth, truthRead, becomesLine, weighed}
 use Rattle.session.specs.Running.{withHeld, startLine}
 use Rattle.session.specs.Replies.{Reply, withVocabulary, withTotal, withDiscount, withAction, wordsOf, reply}
@@ -91,7 +94,7 @@ fact-rest : (n : Names) (l : Live) → Rest n l → (row : List ℕ) → Accepte
 unfolding factLine withFact
 fact-rest n l h row = go (isFact (l .facts) row)
   where
-    go : (b : Bool) → Accepted (λ (z : Live). Rest n z) (cond b (ok l) (refuseIf (leb mostFacts (factCount (l .facts))) Space (ok (withFact l row))))
+    go : (b : Bool) → Accepted (λ (z : Live). Rest n z) (cond b (ok (begunAgain l)) (refuseIf (leb mostFacts (factCount (l .facts))) Space (ok (withFact l row))))
     go true = accepted-ok h
     go false = accepted-cond (leb mostFacts (factCount (l .facts))) Space (ok (withFact l row)) (λ a. accepted-ok h)
 
@@ -102,6 +105,16 @@ true-rest ar n l h k os m e =
     accepted-cond (not (eqb (length os) (getD ar (predicateOf n k) 0))) Arity _ (λ b.
     accepted-cond (not (allBelow (l .objects) os)) Range _ (λ c.
     fact-rest n l h (factRow (predicateOf n k) os)))) .given m e
+
+did-rest : (m : Model) (n : Names) (l : Live) → Rest n l → (a v : Key) (os : List ℕ) (x : Live) → didLine m n l a v os ≡ ok x → Rest n x
+unfolding didLine
+did-rest m n l h a v os x e =
+    accepted-cond {P = λ (z : Live). Rest n z} (not (isAmong a (n .actions))) Name _ (λ p.
+    accepted-cond (not (eqb (length os) (actionOf m (didOf m n a v os) .count))) Arity _ (λ q.
+    accepted-cond (not (isAmong v (variantNames n (m .actions) (placeOf a (n .actions))))) Name _ (λ r.
+    accepted-cond (not (allBelow (l .objects) os)) Range _ (λ s.
+    accepted-next (did m (replayIn l) (didOf m n a v os)) _ (λ y t.
+    accepted-ok h))))) .given x e
 
 -- ===== Every line =====
 
@@ -155,6 +168,7 @@ module _ (σ : Session) (w : Rest (σ .names) (σ .live)) where
     forText = λ n e. w;
     forBest = λ x e. w;
     forCount = λ l e. w;
+    forDid = did-rest (σ .model) (σ .names) (σ .live) w _ _ _;
   }
 
   reply-rest : (number : ℕ) (s : List ℕ) → Rest (reply σ number s .session .names) (reply σ number s .session .live)
