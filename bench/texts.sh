@@ -1,6 +1,6 @@
 #!/usr/bin/env bash
-# texts.sh [PROGRAM]: the program's processor time, input by a pipe, least of five: document 01's run, as a hundredth of 100 processes, and lines of each kind, moves, spreads,
-# reductions and forms among them, many times over in one text; a line's time is the difference to the same text without them.
+# texts.sh [PROGRAM]: the program's processor time, input by a pipe, least of five: document 01's run, as a hundredth of 100 processes, and lines of each kind, moves, logs,
+# spreads, reductions and forms among them, many times over in one text; a line's time is the difference to the same text without them.
 set -euo pipefail
 program=$(realpath "${1:-target/bin/yindolve}")
 cd "$(dirname "$0")/.."
@@ -55,7 +55,7 @@ line 'a (reward ..) line that is refused at its last name (2)' 100000 "$open" '(
 line 'a (becomes ..) line with a leaf, refused by 7: read and built' 30000 "$open" '(becomes (stock ?s) 2)'
 line 'the same with two row steps' 30000 "$open" '(becomes (stock ?s) (if (= !d ?s) 2 (if (stock ?s) 1 0)))'
 
-# moves, spreads, reductions and forms (document 02, L9, L11, L13, L2)
+# moves, logs, spreads, reductions and forms (document 02, L9, L10, L11, L13, L2)
 parts=$(sed '/(start)/q' examples/liftparts.txt)
 cuts=$(many 13 '(cut)')
 pair='(predicate near 2)
@@ -71,6 +71,43 @@ pair='(predicate near 2)
 line '(best) of liftparts after one backup and its cuts, 3 objects' 2000 "$parts"$'\n(backup)\n'"$cuts"$'\n(objects 3)\n(true wanted 0)\n(true aboard 0 2)' '(best)'
 line '(best), 64 objects, two parameters, the last binding alone' 20 "$pair"$'\n(objects 64)\n(true stock 63)\n(true near 63 63)' '(best)'
 line '(best), the same with 64 places in stock and 960 near' 20 "$pair"$'\n(objects 64)\n'"$(seq -f '(true stock %g)' 0 63; for a in $(seq 0 14); do seq -f "(true near $a %g)" 0 63; done)" '(best)'
+# 60 objects and 300 facts: 240 near, 60 in stock; a log whose lines change a proposition, one place of sixty, or two places of sixty
+week='(predicate near 2)
+(predicate stock 1)
+(predicate met 0)
+(total 4)
+(reward (if (met) (if (stock ?x) (if (near ?x ?y) 12 8) 4) 0))
+(action meet)
+(variant done 3)
+(becomes (met) (if (met) 0 1))
+(variant none 1)
+(action shift !a !c)
+(variant done 4)
+(becomes (stock ?s) (if (= ?s !c) 1 (if (= ?s !a) 0 (if (stock ?s) 1 0))))
+(action turn !a)
+(variant done 4)
+(becomes (near ?x ?y) (if (= ?x !a) (if (near ?y ?x) 1 0) (if (near ?x ?y) 1 0)))
+(start)
+(objects 60)'
+week=$week$'\n'"$(seq -f '(true stock %g)' 0 59; for a in $(seq 0 59); do for d in 1 2 3 4; do echo "(true near $a $(((a + d) % 60)))"; done; done)"
+line '(value), 60 objects and 300 facts' 20000 "$week" '(value)'
+line '(did ..), the same, that changes nothing' 5000 "$week" '(did meet none)'
+line '(did ..), the same, a proposition' 5000 "$week" '(did meet done)'
+line '(did ..), the same, a predicate of one place' 5000 "$week" $'(did shift done 0 1)\n(did shift done 1 0)'
+line '(did ..), the same, a predicate of two places, 240 facts' 500 "$week" '(did turn done 7)'
+line '(did ..), refused at its variant (2)' 20000 "$week" '(did turn gone 7)'
+plans='(constant hub)
+(predicate plan 6)
+(total 1)
+(reward (if (plan hub hub hub hub hub hub) 5 0))
+(action add !v !m)
+(variant only 1)
+(becomes (plan ?v ?m ?p ?f ?t ?s) (if (plan ?v ?m ?p ?f ?t ?s) 1 (if (= ?v !v) (if (= ?m !m) (if (= ?p hub) (if (= ?f hub) (if (= ?t !v) (if (= ?s !m) 1 0) 0) 0) 0) 0) 0)))
+(start)
+(objects 64)
+(is hub 0)'
+line '(did ..), 64 objects, a predicate of six places, 1 fact' 200 "$plans" '(did add only 63 62)'
+line '(did ..), the same with 300 facts' 20 "$plans"$'\n'"$(for a in $(seq 0 299); do echo "(true plan $((a % 64)) $((a / 64)) 5 6 7 8)"; done)" '(did add only 63 62)'
 states='(reward (if (stock ?x) (if (stock ?y) (if (= ?x ?y) 2 3) 1) 0))
 (action wait)
 (variant only 100)

@@ -166,6 +166,7 @@ step target/release/tests stored ../examples
 if [ -n "$program" ] && [ -x "$program" ]; then
     step target/release/tests stored corpus "$program"
     step target/release/tests stored corpus/cut-long "$program"
+    step target/release/tests stored corpus/did-wide "$program"
     step target/release/tests stored ../examples "$program"
     step target/release/tests program "$program" seconds "$seconds"
     step target/release/tests bellman "$program" seconds "$((seconds / 2))"

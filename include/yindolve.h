@@ -41,9 +41,9 @@ extern "C" {
 
 /* The version of this header and of its library. */
 #define YINDOLVE_VERSION_MAJOR 0
-#define YINDOLVE_VERSION_MINOR 3
+#define YINDOLVE_VERSION_MINOR 4
 #define YINDOLVE_VERSION_PATCH 0
-#define YINDOLVE_VERSION "0.3.0"
+#define YINDOLVE_VERSION "0.4.0"
 
 /* The first word of a leaf's row, 2^64 - 1, and the highest value of a leaf. */
 #define YINDOLVE_LEAF UINT64_C(18446744073709551615)
@@ -71,8 +71,8 @@ extern "C" {
 #define YINDOLVE_SPAN_WORDS 64     /* where truth diagrams stand: two words for each predicate */
 
 /* Sizes of a session's memory, in words, and of its answers, in bytes. */
-#define YINDOLVE_NUMBER_WORDS 23         /* numbers, at least */
-#define YINDOLVE_NAME_WORDS 136          /* names, exactly */
+#define YINDOLVE_NUMBER_WORDS 26         /* numbers, at least: how much of each table counts, k and S^k, count and total of (did ..) lines, lines answered */
+#define YINDOLVE_NAME_WORDS 248          /* names, exactly: two words for each constant, predicate, action, parameter of the last action, variant of any action */
 #define YINDOLVE_LISTING_WORDS 6144      /* the model's listings, exactly */
 #define YINDOLVE_TABLE_WORDS 4240        /* where they stand, exactly */
 #define YINDOLVE_STATE_WORDS 7200        /* the state, exactly */
@@ -80,11 +80,11 @@ extern "C" {
 #define YINDOLVE_SESSION_WORK_WORDS 6144 /* a session's working space, at least */
 #define YINDOLVE_ANSWER_BYTES 92160      /* the answer of a line: 90 bytes for each of 1,024 rows; (count n) has at most 1,023 lines, shorter ones */
 
-/* The refusals. Calls on diagrams answer 4, 6 to 11, 14 to 18 and 26 to 28; lines of a text 1 to 13, 15 to 17, 19, 20, 24 and 26 to 28. Later versions add 21 to 23 and 25. */
+/* The refusals. Calls on diagrams answer 4, 6 to 11, 14 to 18 and 26 to 28; lines of a text 1 to 13, 15 to 17, 19 to 24 and 26 to 28. Later versions add 25. */
 enum {
     YINDOLVE_FORM = 1,         /* a line that is not of the grammar */
     YINDOLVE_NAME = 2,         /* a name that is not declared, or given twice */
-    YINDOLVE_ARITY = 3,        /* not as many terms or objects as the predicate has places */
+    YINDOLVE_ARITY = 3,        /* not as many terms or objects as the predicate has places, or, in (did ..), as the action has parameters */
     YINDOLVE_RANGE = 4,        /* a number outside its range; a state without objects or with an object beyond them; more than 4 parameters */
     YINDOLVE_PLACE = 5,        /* a line in the wrong part of the text, a missing part, a second single form, a constant that is not placed */
     YINDOLVE_UNBOUND = 6,      /* a parameter where none is allowed, or past the action's; a truth diagram's variable that is no argument */
@@ -102,6 +102,9 @@ enum {
     YINDOLVE_BUFFER = 18,      /* a result buffer or a working space that is too small: nothing is done */
     YINDOLVE_LENGTH = 19,      /* (text): the value diagram as a form is too long for a (reward ..) line, more than 4,095 bytes or 64 open brackets */
     YINDOLVE_MISSING = 20,     /* (best): there is no state, or a constant is not placed */
+    YINDOLVE_WEIGHTLESS = 21,  /* (did ..): the variant's weight is 0 in the state */
+    YINDOLVE_CROWDED = 22,     /* (did ..): the next state has more than 1,024 facts */
+    YINDOLVE_TALLY = 23,       /* (did ..): the count of lines or the total of rewards passes 10^18 */
     YINDOLVE_GROUND = 24,      /* (count n): the states of n objects have more than 16 ground facts */
     YINDOLVE_KINDS = 26,       /* an equality or a constant in a diagram to reduce */
     YINDOLVE_RUNS = 27,        /* more than 512 valuations times paths of a diagram to reduce */
@@ -135,6 +138,9 @@ static inline const char *yindolve_refusal_word(uint64_t refusal) {
     case YINDOLVE_BUFFER: return "buffer";
     case YINDOLVE_LENGTH: return "length";
     case YINDOLVE_MISSING: return "missing";
+    case YINDOLVE_WEIGHTLESS: return "weightless";
+    case YINDOLVE_CROWDED: return "crowded";
+    case YINDOLVE_TALLY: return "tally";
     case YINDOLVE_GROUND: return "ground";
     case YINDOLVE_KINDS: return "kinds";
     case YINDOLVE_RUNS: return "runs";
@@ -149,7 +155,7 @@ static inline const char *yindolve_refusal_meaning(uint64_t refusal) {
     case 0: return "nothing is refused";
     case YINDOLVE_FORM: return "the line is not of the grammar: brackets, spaces, the count or the kind of its words";
     case YINDOLVE_NAME: return "a name that is not declared on an earlier accepted line, or one that is given twice";
-    case YINDOLVE_ARITY: return "not as many terms or objects as the predicate has places";
+    case YINDOLVE_ARITY: return "not as many terms or objects as the predicate has places, or the action parameters";
     case YINDOLVE_RANGE: return "a number outside its range, or an object that is not there";
     case YINDOLVE_PLACE: return "the line stands in the wrong part of the text, a part is missing, or a constant is not placed";
     case YINDOLVE_UNBOUND: return "a variable or a parameter that is not allowed here";
@@ -167,6 +173,9 @@ static inline const char *yindolve_refusal_meaning(uint64_t refusal) {
     case YINDOLVE_BUFFER: return "a result buffer or a working space that is too small";
     case YINDOLVE_LENGTH: return "the value diagram, written as a form, is too long for a (reward ..) line: more than 4,095 bytes or 64 open brackets";
     case YINDOLVE_MISSING: return "a move is asked for, and there is no state or a constant is not placed";
+    case YINDOLVE_WEIGHTLESS: return "a logged line whose outcome has weight 0 in the state";
+    case YINDOLVE_CROWDED: return "a logged line that leads to a state of more than 1,024 facts";
+    case YINDOLVE_TALLY: return "the count of logged lines or the total of their rewards would pass 10^18";
     case YINDOLVE_GROUND: return "more than 16 ground facts, so that there are too many states to count";
     case YINDOLVE_KINDS: return "an equality or a constant in the diagram to reduce";
     case YINDOLVE_RUNS: return "more than 512 valuations times paths of the diagram to reduce";
@@ -271,7 +280,7 @@ uint64_t yindolve_open(uint64_t *numbers, size_t numbers_count, uint64_t *aritie
  * The session's memory is tested once for a call, so that lines are best given many at a time. It passes the test if names, arities, the model laid out in listings
  * and table, state, value diagram and numbers agree as every line keeps them. So a session may be written to a file, read again and go on (examples/save.c), whatever
  * happened to its bytes: the call answers by the session that they are, or LISTING. (Words that pass but were not left by lines may hold any good value diagram; then a
- * value is that diagram's, and not the Bellman value, and (text) prints the bytes that its names hold.)
+ * value is that diagram's, and not the Bellman value, (text) prints the bytes that its names hold, and (did ..) goes on from the count and total that its numbers hold.)
  * Words behind the numbers and bytes behind the answers stay. Within a table the words behind those in use are the session's working space.
  * Refused, in this order: LISTING where the memory is no session's, a table of another size among it, or its count of lines and the block's bytes together pass
  * 2^64 - 1; BUFFER where the working space or the buffer is smaller than above. Nothing is written then.
@@ -308,6 +317,7 @@ typedef enum {
     YINDOLVE_ANSWER_TEXT,    /* the form that (text) prints: the answer's bytes but for the line feed, at most 4,086 */
     YINDOLVE_ANSWER_BEST,    /* (best action object ..): action, objects, parameters (how many objects) */
     YINDOLVE_ANSWER_COUNTS,  /* (count value states) lines, lowest value first: rows (how many lines); yindolve_read_counts reads them */
+    YINDOLVE_ANSWER_DID,     /* (did count total): count, total: how many logged lines were accepted since the state was told, and the rewards met, unscaled */
     YINDOLVE_ANSWER_REFUSED, /* (refused number line): refusal, line; line 0 in a closing answer */
     YINDOLVE_ANSWER_UNKNOWN  /* bytes that are no answer of this version; none where no line was answered */
 } yindolve_answer_kind;
@@ -320,6 +330,7 @@ typedef struct {
     uint64_t bytes;
     char action[16]; /* a name, 0 behind it */
     uint64_t objects[4], parameters;
+    uint64_t count, total;
 } yindolve_answer;
 
 /* What a label tests: its predicate, and the term at a place from 0 to YINDOLVE_PLACES - 1. */
@@ -453,6 +464,10 @@ static inline yindolve_answer yindolve_read_answer(const uint8_t *bytes, size_t 
     } else if (yindolve_take_word(bytes, count, &at, "(best ")) {
         a.kind = YINDOLVE_ANSWER_BEST;
         whole = yindolve_take_move(bytes, count, &at, &a);
+    } else if (yindolve_take_word(bytes, count, &at, "(did ")) {
+        a.kind = YINDOLVE_ANSWER_DID;
+        whole = yindolve_take_number(bytes, count, &at, &a.count) && yindolve_take_word(bytes, count, &at, " ") &&
+            yindolve_take_number(bytes, count, &at, &a.total) && yindolve_take_word(bytes, count, &at, ")\n");
     } else if (yindolve_take_count(bytes, count, &at, entry)) {
         a.kind = YINDOLVE_ANSWER_COUNTS;
         for (a.rows = 1, whole = 1; whole && at < count; ++a.rows) whole = yindolve_take_count(bytes, count, &at, entry);

@@ -27,7 +27,7 @@ static void refusals(void) {
     uint64_t number;
     EXPECT(strcmp(yindolve_refusal_word(0), "accepted") == 0);
     for (number = 1; number <= YINDOLVE_COMBINATIONS; ++number) {
-        if ((number > YINDOLVE_MISSING && number < YINDOLVE_GROUND) || number == YINDOLVE_GROUND + 1) { /* those of later versions */
+        if (number == YINDOLVE_GROUND + 1) { /* that of a later version */
             EXPECT(strcmp(yindolve_refusal_word(number), "unknown") == 0);
             continue;
         }
@@ -39,6 +39,8 @@ static void refusals(void) {
     EXPECT(strcmp(yindolve_refusal_word(YINDOLVE_FULL), "unknown") == 0); /* no refusal */
     EXPECT(YINDOLVE_FORM == 1 && YINDOLVE_WEIGHTS == 13 && YINDOLVE_BUFFER == 18 && YINDOLVE_LENGTH == 19);
     EXPECT(YINDOLVE_MISSING == 20 && YINDOLVE_GROUND == 24 && strcmp(yindolve_refusal_word(20), "missing") == 0 && strcmp(yindolve_refusal_word(24), "ground") == 0);
+    EXPECT(YINDOLVE_WEIGHTLESS == 21 && YINDOLVE_CROWDED == 22 && YINDOLVE_TALLY == 23 && strcmp(yindolve_refusal_word(21), "weightless") == 0);
+    EXPECT(strcmp(yindolve_refusal_word(22), "crowded") == 0 && strcmp(yindolve_refusal_word(23), "tally") == 0);
     EXPECT(YINDOLVE_KINDS == 26 && YINDOLVE_RUNS == 27 && YINDOLVE_COMBINATIONS == 28);
 }
 
@@ -71,6 +73,10 @@ static void read_answers(void) {
     EXPECT(a.kind == YINDOLVE_ANSWER_BEST && strcmp(a.action, "abcdefghijklmn1") == 0 && a.parameters == 4 && a.objects[0] == 63 && a.objects[1] == 0 && a.objects[3] == 9);
     a = read_text("(count 0 1)\n(count 1000000000000000000 65535)\n");
     EXPECT(a.kind == YINDOLVE_ANSWER_COUNTS && a.rows == 2 && a.value == 0 && a.parameters == 0);
+    a = read_text("(did 7 1000000000000000000)\n");
+    EXPECT(a.kind == YINDOLVE_ANSWER_DID && a.count == 7 && a.total == YINDOLVE_VALUE && a.value == 0 && a.rows == 0 && a.bytes == 28);
+    a = read_text("(refused 23 3)\n");
+    EXPECT(a.kind == YINDOLVE_ANSWER_REFUSED && a.refusal == YINDOLVE_TALLY && a.line == 3 && a.count == 0);
     a = read_text("(refused 20 3)\n");
     EXPECT(a.kind == YINDOLVE_ANSWER_REFUSED && a.refusal == YINDOLVE_MISSING && a.line == 3);
     EXPECT(read_text("").kind == YINDOLVE_ANSWER_NOTHING);
@@ -79,11 +85,11 @@ static void read_answers(void) {
     static const char *const wrong[] = {"(", "(value", "(value 1 2)\n", "(value 1 2 3)", "(value 1 2 3)\nx", "(value 99999999999999999999 1 1)\n", "(cut 5 maybe 4)\n",
         "(reduce)\n", "(reduce 5 4)\n",
         "(best)\n", "(best )\n", "(best wait )\n", "(best wait x)\n", "(best wait 0", "(best wait 0)\n(best wait 0)\n", "(best go 1 2 3 4 5)\n", "(best abcdefghijklmnop)\n", "(best Go)\n",
-        "(count 1)\n", "(count 1 2)", "(count 1 2)\n(count 3)\n", "(count 1 2)\n(value 1 2 3)\n", "(row 0 leaf)\n", "(row)\n", "(refused x 1)\n", "\n", "(value  1 2 3)\n", "7", "7\n7\n", "(if (p) 1 0)", "(if (p) 1 0\n", "(if (p) 1 0)\n\n", "(if "};
+        "(count 1)\n", "(count 1 2)", "(count 1 2)\n(count 3)\n", "(count 1 2)\n(value 1 2 3)\n", "(did)\n", "(did 1)\n", "(did 1 2", "(did 1 2 3)\n", "(did 1 2)\n(did 2 2)\n", "(did fill done)\n", "(row 0 leaf)\n", "(row)\n", "(refused x 1)\n", "\n", "(value  1 2 3)\n", "7", "7\n7\n", "(if (p) 1 0)", "(if (p) 1 0\n", "(if (p) 1 0)\n\n", "(if "};
     size_t i;
     for (i = 0; i < sizeof wrong / sizeof wrong[0]; ++i) {
         a = read_text(wrong[i]);
-        EXPECT(a.kind == YINDOLVE_ANSWER_UNKNOWN && a.bytes == strlen(wrong[i]) && a.value == 0 && a.rows == 0 && a.parameters == 0 && a.action[0] == 0);
+        EXPECT(a.kind == YINDOLVE_ANSWER_UNKNOWN && a.bytes == strlen(wrong[i]) && a.value == 0 && a.rows == 0 && a.parameters == 0 && a.action[0] == 0 && a.count == 0 && a.total == 0);
     }
 }
 
@@ -187,7 +193,7 @@ static void ends(void) {
     memcpy(numbers, other.numbers, sizeof numbers);
     numbers[0] = 7; /* neither part */
     EXPECT(yindolve_end(numbers, YINDOLVE_NUMBER_WORDS, other.answer, YINDOLVE_ANSWER_BYTES, &bytes) == YINDOLVE_LISTING && bytes == 99);
-    numbers[0] = 0, numbers[22] = 2; /* neither met nor not */
+    numbers[0] = 0, numbers[25] = 2; /* neither met nor not */
     EXPECT(yindolve_end(numbers, YINDOLVE_NUMBER_WORDS, other.answer, YINDOLVE_ANSWER_BYTES, &bytes) == YINDOLVE_LISTING && bytes == 99);
     EXPECT(yindolve_end(numbers, YINDOLVE_NUMBER_WORDS, other.answer, 0, &bytes) == YINDOLVE_LISTING && bytes == 99); /* 14 before 18 */
     memset(numbers, 255, sizeof numbers);
@@ -200,6 +206,29 @@ static void ends(void) {
     EXPECT(yindolve_run_text((const uint8_t *)"\n\n", 2, NULL, 0, &bytes, &lines) == 0 && bytes == 0);
     EXPECT(yindolve_run_text((const uint8_t *)"\n\nx", 3, answers, sizeof answers, &bytes, &lines) == 0);
     EXPECT(bytes == 28 && memcmp(answers, "(refused 1 3)\n(refused 5 0)\n", 28) == 0);
+}
+
+/* The session has the model, one step ahead, and a state with nothing true; it is left so. Count and total are words 19 and 20 of the numbers. */
+static void logs(void) {
+    yindolve_answer a = yindolve_session_ask(&session, "(did fill none 1)");
+    EXPECT(a.kind == YINDOLVE_ANSWER_DID && a.count == 1 && a.total == 0);
+    a = yindolve_session_ask(&session, "(did fill done 0)");
+    EXPECT(a.kind == YINDOLVE_ANSWER_DID && a.count == 2 && a.total == 10 && session.numbers[19] == 2 && session.numbers[20] == 10);
+    EXPECT(yindolve_session_ask(&session, "(did drain done 0)").refusal == YINDOLVE_NAME && yindolve_session_ask(&session, "(did fill done)").refusal == YINDOLVE_ARITY);
+    EXPECT(yindolve_session_ask(&session, "(value)").value == 120);
+    EXPECT(yindolve_session_save(&session, words, YINDOLVE_SAVED_WORDS) == 0 && yindolve_session_load(&other, words, YINDOLVE_SAVED_WORDS) == 0);
+    a = yindolve_session_ask(&other, "(did fill none 0)"); /* a saved log goes on */
+    EXPECT(a.kind == YINDOLVE_ANSWER_DID && a.count == 3 && a.total == 20);
+    other.numbers[19] = YINDOLVE_VALUE - 1; /* as many lines as no log has */
+    a = yindolve_session_ask(&other, "(did fill none 0)");
+    EXPECT(a.kind == YINDOLVE_ANSWER_DID && a.count == YINDOLVE_VALUE && a.total == 30);
+    EXPECT(yindolve_session_ask(&other, "(did fill none 0)").refusal == YINDOLVE_TALLY);
+    other.numbers[19] = YINDOLVE_VALUE + 1; /* no session's */
+    EXPECT(yindolve_session_ask(&other, "(did fill none 0)").kind == YINDOLVE_ANSWER_UNKNOWN);
+    other.numbers[19] = 0; /* rewards, and no line that met them */
+    EXPECT(yindolve_session_ask(&other, "(did fill none 0)").kind == YINDOLVE_ANSWER_UNKNOWN);
+    EXPECT(yindolve_session_ask(&session, "(objects 2)").kind == YINDOLVE_ANSWER_NOTHING && yindolve_session_ask(&session, "(is hub 0)").kind == YINDOLVE_ANSWER_NOTHING);
+    EXPECT(session.numbers[19] == 0 && session.numbers[20] == 0);
 }
 
 static void sessions(void) {
@@ -232,6 +261,7 @@ static void sessions(void) {
     EXPECT(yindolve_session_ask(&session, "(best)").refusal == YINDOLVE_MISSING && yindolve_session_ask(&session, "(count 2)").refusal == YINDOLVE_PLACE);
     EXPECT(yindolve_session_ask(&session, "(is hub 0)").kind == YINDOLVE_ANSWER_NOTHING);
     EXPECT(closes_with(&session, ""));
+    logs();
 
     EXPECT(yindolve_session_save(&session, words, YINDOLVE_SAVED_WORDS - 1) == YINDOLVE_BUFFER);
     EXPECT(yindolve_session_save(&session, words, YINDOLVE_SAVED_WORDS) == 0);
@@ -243,7 +273,7 @@ static void sessions(void) {
         EXPECT(yindolve_session_load(&other, words, YINDOLVE_SAVED_WORDS) == YINDOLVE_LISTING);
         words[i] ^= UINT64_C(1) << (i % 64);
     }
-    words[YINDOLVE_SAVED_HEAD + 18] = 7; /* rows that are no listing, with a right sum */
+    words[YINDOLVE_SAVED_HEAD + 21] = 7; /* rows that are no listing, with a right sum */
     words[2] = yindolve_saved_sum(words);
     EXPECT(yindolve_session_load(&other, words, YINDOLVE_SAVED_WORDS) == 0);
     EXPECT(yindolve_session_line(&other, (const uint8_t *)"(value)", 7, &bytes) == YINDOLVE_LISTING);

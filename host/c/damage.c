@@ -1,5 +1,5 @@
-/* Sessions whose words are damaged at random: a call answers LISTING and writes nothing, or it answers the lines by the session that the words are, and leaves one
- * that passes the test again. A session that is not damaged answers a text in blocks of any size as yindolve_run does.
+/* Sessions whose words are damaged, at random and in single words: a call answers LISTING and writes nothing, or it answers the lines by the session that the words
+ * are, and leaves one that passes the test again. A session that is not damaged answers a text in blocks of any size as yindolve_run does.
  *     damage SEED SECONDS
  */
 #include <stdio.h>
@@ -18,7 +18,12 @@
 static const char model[] = "(constant hub)\n(constant far)\n(predicate stock 1)\n(predicate road 2)\n(predicate rain 0)\n(total 4)\n(discount 1 2)\n"
     "(reward (if (stock ?a) (if (road hub ?a) 10 3) 0))\n(action fill !d)\n(variant done (if (rain) 1 3))\n(becomes (stock ?s) (if (= !d ?s) 1 (if (stock ?s) 1 0)))\n"
     "(variant none (if (rain) 3 1))\n(action wait)\n(variant only 4)\n(becomes (rain) 0)\n(start)\n";
-static const char run[] = "(objects 3)\n(is hub 0)\n(is far 2)\n(true stock 2)\n(true road 0 2)\n(value)\n(backup)\n(cut)\n(value)\n(show)\n(true road 0 1)\n(backup)\n(value)\n";
+static const char run[] = "(did wait only)\n(objects 3)\n(is hub 0)\n(is far 2)\n(true stock 2)\n(true road 0 2)\n(value)\n(backup)\n(cut)\n(value)\n(show)\n(true road 0 1)\n(backup)\n"
+    "(value)\n(did fill done 1)\n(did wait only)\n(did fill none 0)\n";
+
+/* Places among the numbers: the part of the text, the names of earlier actions' variants, count and total of (did ..) lines, rows of the value. */
+enum { PART = 0, EARLIER = 9, COUNT = 19, TOTAL = 20, ROWS = 21 };
+static const uint64_t of_logs[] = {EARLIER, COUNT, TOTAL};
 
 static uint64_t first_seed, seed;
 static yindolve_session whole, part, damaged, copy, other;
@@ -64,6 +69,7 @@ static void damage(yindolve_session *s) {
         if (next(3) == 0) i = offsetof(yindolve_session, table) / 8 + next(600);
         if (next(5) == 0) i = offsetof(yindolve_session, listings) / 8 + next(120);
         if (next(5) == 0) i = offsetof(yindolve_session, value) / 8 + next(60);
+        if (next(5) == 0) i = of_logs[next(3)];
         switch (next(6)) {
         case 0: words[i] += 1; break;
         case 1: words[i] -= 1; break;
@@ -72,6 +78,40 @@ static void damage(yindolve_session *s) {
         case 4: words[i] = words[next(counts[2])]; break;
         default: words[i] = next(UINT64_MAX);
         }
+    }
+}
+
+/* One number of a session is another: whether lines are answered; if not, LISTING is, and nothing is written. */
+static int passes(const yindolve_session *s, size_t place, uint64_t word) {
+    uint64_t bytes = 0, read = 0;
+    damaged = *s;
+    damaged.numbers[place] = word;
+    copy = damaged;
+    uint64_t answer = yindolve_session_lines(&damaged, (const uint8_t *)run, sizeof run - 1, first, sizeof first, &bytes, &read);
+    EXPECT(answer == 0 || (answer == YINDOLVE_LISTING && same(&damaged, &copy)));
+    return answer == 0;
+}
+
+/* The names of variants are those of the table; count and total are at most 10^18, with no total before the first line. */
+static void numbers_of_logs(const yindolve_session *s) {
+    uint64_t earlier = s->numbers[EARLIER];
+    EXPECT(earlier == 2 && s->numbers[COUNT] == 3 && s->numbers[TOTAL] > 0);
+    EXPECT(passes(s, EARLIER, earlier) && !passes(s, EARLIER, earlier - 1) && !passes(s, EARLIER, earlier + 1) && !passes(s, EARLIER, UINT64_MAX));
+    EXPECT(passes(s, COUNT, YINDOLVE_VALUE) && !passes(s, COUNT, YINDOLVE_VALUE + 1) && !passes(s, COUNT, UINT64_MAX) && !passes(s, COUNT, 0));
+    EXPECT(passes(s, TOTAL, YINDOLVE_VALUE) && !passes(s, TOTAL, YINDOLVE_VALUE + 1) && !passes(s, TOTAL, UINT64_MAX) && passes(s, TOTAL, 0));
+    other = *s;
+    other.numbers[TOTAL] = 0;
+    EXPECT(passes(&other, COUNT, 0));
+}
+
+/* A run has an action: the words of a run with a reward and a value diagram pass with one, and without one do not. */
+static void run_without_action(void) {
+    for (int actions = 0; actions < 2; ++actions) {
+        EXPECT(yindolve_session_open(&part) == 0 && yindolve_session_ask(&part, "(reward 1)").kind == YINDOLVE_ANSWER_NOTHING);
+        if (actions) yindolve_session_ask(&part, "(action a)"), yindolve_session_ask(&part, "(variant v 100)");
+        part.value[0] = YINDOLVE_LEAF, part.value[1] = 1, part.value[2] = 0;
+        part.numbers[ROWS] = 1;
+        EXPECT(passes(&part, PART, 0) && passes(&part, PART, 1) == actions);
     }
 }
 
@@ -85,8 +125,10 @@ int main(int count, char **arguments) {
     memcpy(text + sizeof model - 1, run, sizeof run - 1);
     size_t size = sizeof model + sizeof run - 2;
     EXPECT(yindolve_run(text, size, answers, sizeof answers, &bytes, &lines) == 0 && bytes > 100);
+    run_without_action();
     do {
         EXPECT(yindolve_session_open(&whole) == 0 && in_blocks(&whole, text, size, 200) == bytes && memcmp(joined, answers, bytes) == 0);
+        numbers_of_logs(&whole);
         EXPECT(yindolve_session_open(&part) == 0 && in_blocks(&part, text, sizeof model - 1 + next(2) * (sizeof run - 1), 60) <= bytes);
         for (int i = 0; i < 100; ++i) {
             damaged = next(2) ? whole : part;

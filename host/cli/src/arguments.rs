@@ -18,11 +18,11 @@ const fn known(long: &'static str, short: &'static str, takes_word: bool, comman
 const KNOWN: [Known; 10] = [
     known("--help", "-h", false, &[]),
     known("--version", "-V", false, &[]),
-    known("--strict", "", false, &["run"]),
+    known("--strict", "", false, &["run", "replay"]),
     known("--steps", "", true, &["plan", "report"]),
     known("--step", "", true, &["picture"]),
     known("--objects", "", true, &["count"]),
-    known("--output", "-o", true, &["plan", "next", "picture", "report"]),
+    known("--output", "-o", true, &["plan", "replay", "next", "picture", "report"]),
     known("--format", "", true, &["picture"]),
     known("--uncut", "", false, &["plan", "picture", "report"]),
     known("--reduce", "", false, &["plan"]),

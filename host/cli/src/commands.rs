@@ -6,6 +6,7 @@ pub mod explain;
 pub mod next;
 pub mod picture;
 pub mod plan;
+pub mod replay;
 pub mod report;
 pub mod run;
 pub mod value;

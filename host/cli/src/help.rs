@@ -9,6 +9,7 @@ The value engine for people. The numbers come from the proved library.
   plan MODEL --steps K -o FILE  look K steps ahead, and save the value diagram
   value FILE STATE ..           the number of each state
   best FILE STATE ..            the move to make in each state
+  replay FILE STATE LOG ..      what was done, line by line, and what it came to
   count FILE --objects N        how many states have which value
   next FILE [MODEL]             the value diagram as the next model's reward
   explain TEXT                  why lines are refused, and what to do
@@ -74,6 +75,24 @@ lines. A state that is refused is told by file, line and column, and the others
 are still done.
 
 Exit status: 0 all accepted, 1 a state was refused, 2 input or output failed.
+";
+
+pub const REPLAY: &str = "\
+use: yindolve-desk replay FILE STATE LOG .. [--strict] [-o END]
+
+Replays a log from a state on: each line (did ACTION VARIANT OBJECT ..) moves the
+state as the model says that this outcome does. Prints for each line that was
+done how many there are by then, and the total of the rewards met, that of the
+first state and of each one behind a line, as the model has them: neither scaled
+nor discounted. FILE is a model's text, or what plan saved. A STATE file has
+(objects n), (is c o) and (true p o ..) lines, a LOG file (did ..) lines and blank
+ones; a second LOG goes on where the first ends. A line that is refused is told by
+file, line and column; it moves nothing, and the others are still done.
+
+  --strict           stop at the first line of a log that is refused
+  -o, --output END   where the state at the end goes, as a STATE file
+
+Exit status: 0 all accepted, 1 a line was refused, 2 input or output failed.
 ";
 
 pub const COUNT: &str = "\

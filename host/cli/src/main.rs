@@ -23,11 +23,12 @@ use trouble::{message, Outcome, Trouble, Verdict};
 
 type Command = fn(&Arguments, &mut Out) -> Outcome;
 
-const COMMANDS: [(&str, Command, &str); 9] = [
+const COMMANDS: [(&str, Command, &str); 10] = [
     ("run", commands::run::run, help::RUN),
     ("plan", commands::plan::plan, help::PLAN),
     ("value", commands::value::value, help::VALUE),
     ("best", commands::best::best, help::BEST),
+    ("replay", commands::replay::replay, help::REPLAY),
     ("count", commands::count::count, help::COUNT),
     ("next", commands::next::next, help::NEXT),
     ("explain", commands::explain::explain, help::EXPLAIN),

@@ -6,7 +6,7 @@ use crate::trouble::{message, remark, Trouble};
 use crate::twin::{answer, told, Twin};
 use reference::explain::explain;
 use reference::text::{line_of, read_words, Line as Form};
-use yindolve::Answer;
+use yindolve::{Answer, Session};
 
 /// A state while it is read.
 pub struct Reader {
@@ -65,6 +65,11 @@ impl Reader {
         })?;
         remark(&told(&self.name, self.last, &fault));
         Ok(())
+    }
+
+    /// The engine with the state in hand; none where a line of the state is refused, which was told.
+    pub fn engine(self) -> Option<Session> {
+        self.accepted.then_some(self.twin.engine)
     }
 
     /// The engine's answer to a question about the state; none where a line of the state or the question is refused, which was told.

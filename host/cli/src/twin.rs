@@ -19,7 +19,7 @@ impl Twin {
         Twin { engine: Session::open(), known: Known::new(Slips::NONE) }
     }
 
-    /// The independent implementation brought to where an engine stands that runs by itself.
+    /// The independent implementation brought to where an engine stands that runs by itself: model, value diagram, state and log.
     pub fn of(engine: &Session) -> Result<Twin, Trouble> {
         let mut twin = Twin { engine: engine.clone(), known: Known::new(Slips::NONE) };
         for line in engine.model_lines() {
@@ -31,6 +31,11 @@ impl Twin {
             Some(Err(_)) => return Err(disagree("the value diagram")),
             None => {}
         }
+        for line in engine.state_lines() {
+            twin.known.take(line.as_bytes()).map_err(|_| disagree(&format!("the state's line {line}")))?;
+        }
+        let log = engine.log();
+        twin.known = twin.known.with_log(log.count, log.total);
         Ok(twin)
     }
 

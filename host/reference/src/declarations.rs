@@ -22,6 +22,13 @@ pub struct DeclaredAction {
     pub variants: Vec<DeclaredVariant>,
 }
 
+impl DeclaredAction {
+    /// The number of one of its variants.
+    pub fn variant(&self, name: &str) -> Option<usize> {
+        self.variants.iter().position(|variant| variant.name == name)
+    }
+}
+
 /// W where no (total) line is accepted.
 pub const DEFAULT_TOTAL: u64 = 100;
 /// G and D where no (discount) line is accepted (document 02, L7).
@@ -54,6 +61,11 @@ impl Declarations {
     pub fn predicate(&self, name: &str) -> Option<(u64, u64)> {
         let at = self.predicates.iter().position(|(n, _)| n == name)?;
         Some((at as u64 + 1, self.predicates[at].1))
+    }
+
+    /// An action's number.
+    pub fn action(&self, name: &str) -> Option<usize> {
+        self.actions.iter().position(|action| action.name == name)
     }
 
     /// Constants and predicates share one set of names.

@@ -6,6 +6,7 @@ mod form;
 mod measure;
 mod place;
 mod questions;
+mod replay;
 mod sizes;
 mod words;
 

@@ -1,4 +1,4 @@
-//! An independent implementation of document 01, and of document 02 as far as it is done (L1, L2, L4 to L9, L11, L13), for tests: plain and slow, one module for each of its sections.
+//! An independent implementation of document 01, and of document 02 as far as it is done (L1, L2, L4 to L11, L13), for tests: plain and slow, one module for each of its sections.
 
 pub mod bellman;
 pub mod best;
@@ -15,6 +15,7 @@ pub mod names;
 pub mod reduce;
 pub mod refusal;
 pub mod regress;
+pub mod replay;
 pub mod session;
 pub mod slips;
 pub mod spread;

@@ -22,7 +22,10 @@ pub enum Refusal {
     Buffer,
     Length,
     Missing,
-    Ground = 24,
+    Weightless,
+    Crowded,
+    Tally,
+    Ground,
     Kinds = 26,
     Runs,
     Combinations,
@@ -30,7 +33,7 @@ pub enum Refusal {
 
 impl Refusal {
     /// All of them, by number.
-    pub const ALL: [Refusal; 24] = {
+    pub const ALL: [Refusal; 27] = {
         use Refusal::*;
         [
             Form,
@@ -53,6 +56,9 @@ impl Refusal {
             Buffer,
             Length,
             Missing,
+            Weightless,
+            Crowded,
+            Tally,
             Ground,
             Kinds,
             Runs,

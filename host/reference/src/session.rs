@@ -8,6 +8,7 @@ use crate::form::{first_occurrences, form, variables_in_order};
 use crate::mdp::{backup, power, Action, Model, Variant};
 use crate::reduce::reduce;
 use crate::refusal::{require, Refusal};
+use crate::replay::{did, Done, Log};
 use crate::slips::Slips;
 use crate::spread::spread;
 use crate::state::{value, State};
@@ -34,6 +35,7 @@ pub enum Answer {
     Text { form: String },
     Best { action: String, objects: Vec<u64> },
     Count { value: u64, states: u64 },
+    Did { count: u64, total: u64 },
     Refused { refusal: Refusal, line: usize },
 }
 
@@ -53,6 +55,7 @@ impl Answer {
                 format!("(best {action}{objects})\n")
             }
             Answer::Count { value, states } => format!("(count {value} {states})\n"),
+            Answer::Did { count, total } => format!("(did {count} {total})\n"),
             Answer::Refused { refusal, line } => format!("(refused {} {line})\n", refusal.number()),
         }
     }
@@ -64,6 +67,7 @@ pub struct Placed {
     pub objects: u64,
     pub constants: Vec<Option<u64>>,
     pub facts: BTreeSet<(u64, Vec<u64>)>,
+    pub log: Log,
 }
 
 impl Placed {
@@ -112,6 +116,14 @@ impl Session {
     pub fn with_value(mut self, value: Diagram, k: u64) -> Session {
         if let Some(run) = &mut self.run {
             (run.value, run.k) = (value, k);
+        }
+        self
+    }
+
+    /// The session behind so many lines of a log, with this total.
+    pub fn with_log(mut self, count: u64, total: u64) -> Session {
+        if let Some(placed) = self.run.as_mut().and_then(|run| run.placed.as_mut()) {
+            placed.log = Log { count, total };
         }
         self
     }
@@ -273,6 +285,7 @@ impl Run {
             Line::Text => self.text(declarations),
             Line::Best => self.best(declarations, slips),
             Line::Count(objects) => self.count(*objects, declarations, slips),
+            Line::Did(action, variant, objects) => self.did(action, variant, objects, declarations, slips),
             _ => Ok(self.show()),
         }
     }
@@ -280,7 +293,7 @@ impl Run {
     fn objects(&mut self, objects: u64, declarations: &Declarations) -> Taken {
         require((1..=OBJECTS).contains(&objects), Refusal::Range)?;
         let constants = vec![None; declarations.constants.len()];
-        self.placed = Some(Placed { objects, constants, facts: BTreeSet::new() });
+        self.placed = Some(Placed { objects, constants, facts: BTreeSet::new(), log: Log::default() });
         Ok(NOTHING_PRINTED)
     }
 
@@ -301,6 +314,8 @@ impl Run {
         let fact = (predicate, objects.to_vec());
         require(placed.facts.len() < FACTS || placed.facts.contains(&fact), Refusal::Space)?;
         placed.facts.insert(fact);
+        // one that repeats a fact begins again too
+        placed.log = Log::default();
         Ok(NOTHING_PRINTED)
     }
 
@@ -356,6 +371,21 @@ impl Run {
         let predicates = declarations.predicates.len() as u64;
         let states = spread(&self.value, &self.arities, predicates, objects, &constants, slips)?;
         Ok(states.into_iter().map(|(value, states)| Answer::Count { value, states }).collect())
+    }
+
+    /// Words in their order: the action, with the count of its objects, the variant, the objects; then what the move itself refuses.
+    fn did(&mut self, action: &str, variant: &str, objects: &[u64], declarations: &Declarations, slips: Slips) -> Taken {
+        let placed = self.placed.as_mut().ok_or(Refusal::Place)?;
+        let state = placed.state().ok_or(Refusal::Place)?;
+        let action = declarations.action(action).ok_or(Refusal::Name)?;
+        require(objects.len() as u64 == self.model.actions[action].parameters, Refusal::Arity)?;
+        let variant = declarations.actions[action].variant(variant).ok_or(Refusal::Name)?;
+        require(objects.iter().all(|object| *object < placed.objects), Refusal::Range)?;
+        let done = Done { variant: &self.model.actions[action].variants[variant], objects };
+        let reward = if slips.values_totalled { &self.value } else { &self.model.reward };
+        let (next, log) = did(&done, reward, &self.arities, &state, placed.log, slips)?;
+        (placed.facts, placed.log) = (next.facts, log);
+        Ok(vec![Answer::Did { count: log.count, total: log.total }])
     }
 
     fn show(&self) -> Vec<Answer> {

@@ -16,6 +16,12 @@ pub struct Slips {
     pub later_move: bool,
     /// States counted by the facts of those predicates alone that the value diagram tests.
     pub tested_facts_only: bool,
+    /// Each truth diagram of a logged line read in the state that the ones before it have moved already.
+    pub truths_in_turn: bool,
+    /// The reward before a logged line added each time, not by the first alone.
+    pub both_rewards: bool,
+    /// The value diagram's number totalled in place of the reward.
+    pub values_totalled: bool,
 }
 
 impl Slips {
@@ -27,5 +33,8 @@ impl Slips {
         first_occurrence: false,
         later_move: false,
         tested_facts_only: false,
+        truths_in_turn: false,
+        both_rewards: false,
+        values_totalled: false,
     };
 }

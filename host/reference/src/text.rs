@@ -88,13 +88,15 @@ pub enum Line {
     Text,
     Best,
     Count(u64),
+    /// Action, variant and objects.
+    Did(String, String, Vec<u64>),
 }
 
 impl Line {
     /// Whether it belongs behind (start).
     pub fn is_of_the_run(&self) -> bool {
         use Line::*;
-        matches!(self, Objects(_) | Is(..) | True(..) | Value | Backup | Cut | Reduce | Show | Text | Best | Count(_))
+        matches!(self, Objects(_) | Is(..) | True(..) | Value | Backup | Cut | Reduce | Show | Text | Best | Count(_) | Did(..))
     }
 }
 
@@ -217,6 +219,9 @@ pub fn line_of(words: &[Word]) -> Option<Line> {
         ("text", []) => Line::Text,
         ("best", []) => Line::Best,
         ("count", [Kind::Number(objects)]) => Line::Count(*objects),
+        ("did", [Kind::Name(action), Kind::Name(variant), objects @ ..]) => {
+            Line::Did(action.clone(), variant.clone(), all(objects, number_of)?)
+        }
         _ => return None,
     })
 }

@@ -45,7 +45,7 @@ fn damaged_texts() {
         random = random.wrapping_mul(6_364_136_223_846_793_005).wrapping_add(1_442_695_040_888_963_407);
         (random >> 33) as usize % bound
     };
-    let long = ["/combinations-", "/ground-", "/count-", "/valuations-of-"];
+    let long = ["/combinations-", "/crowded-", "/ground-", "/count-", "/valuations-of-"];
     let short = |(name, text): &(String, Vec<u8>)| text.len() < 1_500 && !long.iter().any(|long| name.contains(long));
     for (name, text) in texts().into_iter().filter(short) {
         println!("{name}");
@@ -199,4 +199,71 @@ fn a_backup_refused_for_its_scale() {
     let (line, _, what, _) = only_fault(text);
     assert_eq!(line, 8);
     assert_eq!(what, "step 2: the scale 1,000,000,000,000^2 = 1,000,000,000,000,000,000,000,000; at most 1,000,000,000,000,000,000");
+}
+
+/// What a line of a log meets: a word, the weight on the state's way through it, the facts, the reward before and after, the sums.
+#[test]
+fn log_lines_refused() {
+    let model = "(constant hub)\n(predicate stock 1)\n(predicate near 2)\n(total 4)\n(reward (if (stock hub) 600000000000000000 0))\n\
+        (action fill !d !e)\n(variant done (if (near !d !e) (if (stock !e) 3 0) 4))\n(becomes (stock ?s) (if (= !d ?s) 1 (if (stock ?s) 1 0)))\n\
+        (variant none (if (near !d !e) (if (stock !e) 1 4) 0))\n(action join)\n(variant all 4)\n(becomes (near ?a ?b) 1)\n(start)\n";
+    let told = |lines: &str| {
+        let (line, column, what, advice) = only_fault(&format!("{model}{lines}"));
+        assert_eq!(line, 13 + lines.lines().count());
+        (column, what, advice)
+    };
+    assert_eq!(told("(did fill done 0 0)\n").1, "no (objects n) was accepted before it");
+    assert_eq!(told("(objects 2)\n(did fill done 0 0)\n").1, "not placed in this state: hub");
+    let placed = |lines: &str| told(&format!("(objects 34)\n(is hub 1)\n{lines}\n"));
+    assert_eq!(
+        placed("(did fll done 0 0)"),
+        (6, "the model has no action \"fll\"".into(), "did you mean \"fill\"? Otherwise its actions are fill, join".into())
+    );
+    assert_eq!(
+        placed("(did fill done 0)"),
+        (
+            6,
+            "\"fill\" has 2 parameters, and here it has 1 object".into(),
+            "(action fill !d !e) says how many; write an object for each".into()
+        )
+    );
+    assert_eq!(
+        placed("(did fill all 0 0)"),
+        (11, "the action \"fill\" has no variant \"all\"; there is one in \"join\"".into(), "its variants are done, none".into())
+    );
+    assert_eq!(placed("(did fill done 0 34)").0, 18);
+    assert_eq!(placed("(did fill done)").1, "\"fill\" has 2 parameters, and here it has 0 objects");
+    let (column, what, advice) = placed("(true near 0 1)\n(did fill done 0 1)");
+    assert_eq!(
+        (column, what.as_str()),
+        (1, "variant \"done\" of action \"fill\" has weight 0 in this state, where not stock(!e), near(!d, !e)")
+    );
+    assert!(advice.starts_with("by the model it does not come out so here"), "{advice}");
+    assert_eq!(placed("(did join all)").1, "the state after it has more than 1,024 facts");
+    assert_eq!(
+        placed("(did fill done 1 0)\n(did fill done 0 1)").1,
+        "the total would be 1,200,000,000,000,000,000; at most 1,000,000,000,000,000,000"
+    );
+    assert_eq!(
+        placed("(true stock 1)\n(did fill done 0 1)").1,
+        "the total would be 1,200,000,000,000,000,000; at most 1,000,000,000,000,000,000"
+    );
+}
+
+/// 15 in the reward before the first line, and after a line.
+#[test]
+fn log_rewards_refused() {
+    let model = "(predicate r 2)\n(total 1)\n(reward (if (r ?a ?b) (if (r ?c ?d) 5 1) 0))\n(action wait)\n(variant only 1)\n(start)\n";
+    let (_, _, what, _) = only_fault(&format!("{model}(objects 45)\n(did wait only)\n"));
+    assert_eq!(
+        what,
+        "the reward before the first line: 45^4 = 4,100,625 valuations, 45 objects and 4 variables, are more than 1,000,000, and the tables in their place have more than 8,192 entries"
+    );
+    let growing = stored("valuations-behind-a-line");
+    let after = faults(&growing).into_iter().map(|(_, fault)| fault.what).find(|what| what.starts_with("the reward after the line: "));
+    assert!(after.is_some());
+}
+
+fn stored(name: &str) -> Vec<u8> {
+    std::fs::read(format!("{}/../corpus/{name}.txt", env!("CARGO_MANIFEST_DIR"))).expect(name)
 }

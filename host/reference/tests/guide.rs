@@ -74,7 +74,8 @@ fn block_is_of(section: &str, example: &str, lines: usize) {
 }
 
 #[test]
-fn moves_and_spreads() {
+fn moves_logs_and_spreads() {
     block_is_of("What to do: best", "examples/errand.txt", 8);
     block_is_of("Before rules go out: count", "examples/counted.txt", 7);
+    block_is_of("What was done: did", "examples/week.txt", 17);
 }

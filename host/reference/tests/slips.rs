@@ -56,6 +56,19 @@ fn the_last_of_moves_with_equal_sums() {
 }
 
 #[test]
+fn truth_diagrams_of_a_log_line_in_turn() {
+    assert!(caught("did-truth-diagrams-together", Slips { truths_in_turn: true, ..Slips::NONE }));
+}
+
+#[test]
+fn rewards_of_a_log() {
+    let slips = Slips { both_rewards: true, ..Slips::NONE };
+    assert!(caught("did-first-line-adds-both-rewards", slips));
+    assert!(caught("tally-at-the-limit", slips));
+    assert!(caught("did-unscaled", Slips { values_totalled: true, ..Slips::NONE }));
+}
+
+#[test]
 fn states_by_tested_facts_alone() {
     assert!(caught("count-facts-that-nothing-tests", Slips { tested_facts_only: true, ..Slips::NONE }));
 }

@@ -1,12 +1,14 @@
-//! Values after backups, cuts and reductions, by the reference and by a program, against the Bellman equation worked out from state to state; a program's moves and spreads too.
+//! Values after backups, cuts and reductions, by the reference and by a program, against the Bellman equation worked out from state to state; a program's moves, spreads and logs too.
 
 use crate::models::{ground_facts, model, state, write_model, write_state, Signature, Size};
 use crate::moves::first_highest;
 use crate::program::printed;
 use crate::random::Random;
+use crate::replay::{Logged, Week};
 use crate::spread;
 use crate::tally::Tally;
-use reference::bellman::Bellman;
+use reference::bellman::{Bellman, PlainModel};
+use reference::refusal::Refusal;
 use reference::session::{Answer, Session};
 use reference::slips::Slips;
 use reference::state::State;
@@ -71,43 +73,58 @@ enum Asks {
     Value,
     Best,
     Count(u64),
+    /// A line of a log, with what brute force says.
+    Did(String, Result<Answer, Refusal>),
 }
 
 /// States of so many ground facts are counted by brute force.
 const COUNTED_FACTS: usize = 9;
 
 /// The lines of a state and of what is asked about it.
-fn ask(random: &mut Random, signature: &Signature, state: State, lines: &mut Vec<String>) -> Vec<Question> {
+fn ask(random: &mut Random, signature: &Signature, plain: &PlainModel, state: State, lines: &mut Vec<String>) -> Vec<Question> {
     lines.extend(write_state(&state));
     let placed = state.constants.iter().max().map_or(1, |object| object + 1);
     let few = (placed..=4).rev().find(|objects| ground_facts(signature, *objects).len() <= COUNTED_FACTS);
     let asked = [(Asks::Value, 1), (Asks::Best, 2)].into_iter().chain(few.map(|objects| (Asks::Count(objects), 3)));
-    let mut questions = Vec::new();
-    for (asks, seldom) in asked {
-        if random.once_in(seldom) {
-            lines.push(match asks {
-                Asks::Value => "(value)".to_string(),
-                Asks::Best => "(best)".to_string(),
-                Asks::Count(objects) => format!("(count {objects})"),
-            });
-            questions.push(Question { line: lines.len(), asks, state: state.clone() });
+    let asked: Vec<Asks> = asked.filter(|(_, seldom)| random.once_in(*seldom)).map(|(asks, _)| asks).collect();
+    let mut questions: Vec<Question> = asked.into_iter().map(|asks| question(asks, &state, lines)).collect();
+    if random.once_in(2) {
+        let mut week = Week::begin(plain, None, state);
+        for _ in 0..random.between(1, 4) {
+            let logged = Logged::random(random, plain, week.state().objects);
+            let right = week.take(&logged);
+            questions.push(question(Asks::Did(logged.line(), right), &week.state(), lines));
         }
+        questions.push(question(Asks::Value, &week.state(), lines));
     }
     questions
+}
+
+/// Puts the line of a question behind the others.
+fn question(asks: Asks, state: &State, lines: &mut Vec<String>) -> Question {
+    lines.push(match &asks {
+        Asks::Value => "(value)".to_string(),
+        Asks::Best => "(best)".to_string(),
+        Asks::Count(objects) => format!("(count {objects})"),
+        Asks::Did(line, _) => line.clone(),
+    });
+    Question { line: lines.len(), asks, state: state.clone() }
 }
 
 /// The lines that answer a question, by the equation.
 fn right_lines(bellman: &mut Bellman, signature: &Signature, scale: u128, k: u64, question: &Question) -> Vec<String> {
     let state = &question.state;
-    let text = match question.asks {
+    let text = match &question.asks {
         Asks::Value => format!("(value {} {k} {})\n", bellman.value(k, state), scale.pow(k as u32)),
         Asks::Best => first_highest(bellman, k, state).line,
-        Asks::Count(objects) => spread::lines(bellman, k, spread::states(signature, objects, &state.constants)),
+        Asks::Count(objects) => spread::lines(bellman, k, spread::states(signature, *objects, &state.constants)),
+        Asks::Did(_, Ok(answer)) => answer.print(),
+        Asks::Did(_, Err(refusal)) => Answer::Refused { refusal: *refusal, line: question.line }.print(),
     };
     text.lines().map(str::to_string).collect()
 }
 
-/// One random model with backups, cuts and reductions as a text for a program: how many values, moves and spreads it printed, all of them those of the equation.
+/// One random model with backups, cuts and reductions as a text for a program: how many values, moves, spreads and lines of logs it answered, all of them as brute force does.
 pub fn check_program(program: &Path, seed: u64) -> Result<u64, String> {
     let random = &mut Random::new(seed);
     let size = *random.pick(&SIZES);
@@ -120,7 +137,7 @@ pub fn check_program(program: &Path, seed: u64) -> Result<u64, String> {
         lines.push(random.pick(&OPERATIONS).to_string());
         let objects = random.between(1, size.objects);
         let state = state(random, &signature, objects);
-        questions.extend(ask(random, &signature, state, &mut lines));
+        questions.extend(ask(random, &signature, &plain, state, &mut lines));
     }
     let text: String = lines.iter().flat_map(|line| [line.as_str(), "\n"]).collect();
     let answers = String::from_utf8(printed(program, text.as_bytes())?).map_err(|error| error.to_string())?;
@@ -135,7 +152,7 @@ pub fn check_program(program: &Path, seed: u64) -> Result<u64, String> {
         match words[0] {
             "backup" if number(1)? == u128::from(k) + 1 => k += 1,
             "cut" | "reduce" => {}
-            "value" | "best" | "count" => {
+            "value" | "best" | "count" | "did" => {
                 let question = questions.next().ok_or_else(|| wrong("one too many"))?;
                 let right = right_lines(&mut bellman, &signature, scale, k, question);
                 let printed: Vec<&str> = [answer].into_iter().chain(answers.by_ref().take(right.len() - 1)).collect();
@@ -151,8 +168,18 @@ pub fn check_program(program: &Path, seed: u64) -> Result<u64, String> {
                 }
                 match lines[line - 1].as_str() {
                     "(backup)" | "(cut)" | "(reduce)" => {}
-                    _ if questions.next().is_some_and(|question| question.line == line) => {}
-                    line => return Err(wrong(line)),
+                    written => match questions.next().filter(|question| question.line == line) {
+                        // no limit is near
+                        Some(question @ Question { asks: Asks::Did(..), .. }) => {
+                            let right = right_lines(&mut bellman, &signature, scale, k, question);
+                            if right != [answer] {
+                                return Err(wrong(&format!("{right:?} is right at line {line}")));
+                            }
+                            answered += 1;
+                        }
+                        Some(_) => {}
+                        None => return Err(wrong(written)),
+                    },
                 }
             }
             _ => return Err(wrong("not known")),

@@ -1,11 +1,15 @@
 //! Random texts about one limit each: at it, just below and just past it.
 
 use crate::random::Random;
+use reference::diagram::LARGEST;
 use reference::terms::{LARGEST_ARITY, PARAMETERS, PLACES, VARIABLES};
+
+/// Of these one or a few together are about 10^18.
+pub const LARGE_NUMBERS: [u64; 6] = [0, 1, LARGEST / 2, LARGEST / 2 + 1, LARGEST - 1, LARGEST];
 
 /// The lines of a text about one limit.
 pub fn lines(random: &mut Random) -> Vec<String> {
-    match random.below(21) {
+    match random.below(24) {
         0 => declarations(random),
         1 => variables(random),
         2 => brackets(random),
@@ -32,6 +36,9 @@ pub fn lines(random: &mut Random) -> Vec<String> {
         17 => ground_facts(random),
         18 => growing_states(random),
         19 => growing_bindings(random),
+        20 => crowded_log(random),
+        21 => high_log(random),
+        22 => growing_log(random),
         _ => variants_apart(random),
     }
 }
@@ -122,8 +129,7 @@ fn scale(random: &mut Random) -> Vec<String> {
 }
 
 fn largest_value(random: &mut Random) -> Vec<String> {
-    let largest: u64 = 1_000_000_000_000_000_000;
-    let leaf = |random: &mut Random| *random.pick(&[0, 1, largest / 2, largest / 2 + 1, largest - 1, largest]);
+    let leaf = |random: &mut Random| *random.pick(&LARGE_NUMBERS);
     let reward = format!("(if (p) {} {})", leaf(random), leaf(random));
     let mut lines = vec!["(predicate p 0)".to_string(), "(total 1)".to_string(), format!("(reward {reward})"), "(action go)".to_string()];
     lines.extend(["(variant only 1)".to_string(), format!("(becomes (p) (if (p) {} 1))", random.below(2)), "(start)".to_string()]);
@@ -383,6 +389,76 @@ fn growing_bindings(random: &mut Random) -> Vec<String> {
     let full = random.below(5);
     lines.extend(numbered(5, |to| format!("(true r {full} {to})")));
     lines.extend(["(best)", "(value)"].map(str::to_string));
+    lines
+}
+
+/// Logs in which a line leaves about 1,024 facts: p of all pairs of the 31 objects that r marks, these, and some of q, which stay.
+fn crowded_log(random: &mut Random) -> Vec<String> {
+    let staying = about(random, 1_024) - 31 * 31 - 31;
+    let mut lines: Vec<String> =
+        ["(predicate p 2)", "(predicate r 1)", "(predicate q 2)", "(total 1)", "(reward (if (p ?x ?x) 3 1))"].map(str::to_string).to_vec();
+    lines.extend(
+        ["(action fill)", "(variant all 1)", "(becomes (p ?a ?b) (if (r ?a) (if (r ?b) 1 0) (if (p ?a ?b) 1 0)))"].map(str::to_string),
+    );
+    lines.extend(["(action clear !a)", "(variant all 1)", "(becomes (p ?a ?b) (if (= ?a !a) 0 (if (p ?a ?b) 1 0)))"].map(str::to_string));
+    lines.extend(["(start)", "(objects 40)", "(true p 39 39)"].map(str::to_string));
+    let first = random.below(9);
+    lines.extend(numbered(31, |object| format!("(true r {})", first + object)));
+    lines.extend(numbered(staying, |number| format!("(true q {} {})", number % 40, number / 40)));
+    let clear = format!("(did clear all {})", random.pick(&[39, 39, 20]));
+    lines.extend(
+        ["(did fill all)", &clear, "(did fill all)", "(value)", "(did clear all 20)", "(true q 39 39)", "(did fill all)", "(value)"]
+            .map(str::to_string),
+    );
+    lines
+}
+
+/// Logs whose total is about 10^18: by the first line, which adds the reward before it too, or by later ones.
+fn high_log(random: &mut Random) -> Vec<String> {
+    let mut leaf = || random.pick(&LARGE_NUMBERS).to_string();
+    let reward = format!("(if (p) (if (q) {} {}) (if (q) {} {}))", leaf(), leaf(), leaf(), leaf());
+    let mut lines: Vec<String> = ["(predicate p 0)", "(predicate q 0)", "(total 1)"].map(str::to_string).to_vec();
+    lines.push(format!("(reward {reward})"));
+    for (name, truth) in [("p", 1), ("q", 1), ("p", 0), ("q", 0)] {
+        // what is so already cannot become so, and stays
+        let (done, none) = if truth == 1 { ("0 1", "1 0") } else { ("1 0", "0 1") };
+        lines.push(format!("(action {name}{truth})"));
+        lines.extend([format!("(variant done (if ({name}) {done}))"), format!("(becomes ({name}) {truth})")]);
+        lines.push(format!("(variant none (if ({name}) {none}))"));
+    }
+    lines.extend(["(start)", "(objects 1)"].map(str::to_string));
+    for _ in 0..random.between(6, 14) {
+        let way = *random.pick(&["done", "done", "none"]);
+        lines.push(match random.below(9) {
+            0 => "(true p)".to_string(),
+            1 => "(true q)".to_string(),
+            _ => format!("(did {} {way})", random.pick(&["p0", "p1", "q0", "q1"])),
+        });
+    }
+    lines
+}
+
+/// Logs in which the reward before the first line, or behind a line, may meet 15: each fact of p brings entries, and the moves make p true of all that r relates to an object, or false.
+fn growing_log(random: &mut Random) -> Vec<String> {
+    let below = random.between(2, 45);
+    let mut lines: Vec<String> = ["(predicate p 1)", "(predicate r 2)", "(total 1)"].map(str::to_string).to_vec();
+    lines.push(format!("(reward {})", growing("p", below)));
+    lines.extend(["(action relate !a)", "(variant all 1)", "(becomes (p ?x) (if (r !a ?x) 1 (if (p ?x) 1 0)))"].map(str::to_string));
+    lines.extend(["(action drop !a)", "(variant one 1)", "(becomes (p ?x) (if (= ?x !a) 0 (if (p ?x) 1 0)))"].map(str::to_string));
+    lines.extend(["(start)", "(objects 5)"].map(str::to_string));
+    lines.extend(numbered(random.below(6), |object| format!("(true p {object})")));
+    for _ in 0..random.between(3, 9) {
+        lines.push(format!("(true r {} {})", random.below(5), random.below(5)));
+    }
+    for _ in 0..random.between(4, 9) {
+        let object = random.below(5);
+        lines.push(match random.below(8) {
+            0 => format!("(true p {object})"),
+            1 => "(value)".to_string(),
+            2..5 => format!("(did drop one {object})"),
+            _ => format!("(did relate all {object})"),
+        });
+    }
     lines
 }
 

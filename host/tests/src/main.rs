@@ -10,9 +10,9 @@
 //!
 //! `self` holds the reference against brute force, the weight rule over all states that matter, compares ground listings by their values, sees that blank
 //! lines change nothing but line numbers, that listings of the old kind meet 14 and that both ways to a value agree, works reductions out from states alone, sends value diagrams round
-//! (printed by (text), read as the next model's reward, with the same rows), holds moves and spreads against brute force over next states and over all
+//! (printed by (text), read as the next model's reward, with the same rows), holds moves, spreads and logs against brute force over next states and over all
 //! states, counts the refusals met, and sees that each slip is caught.
-//! `program` feeds random texts to a program and to the reference. `bellman` holds the values, moves and spreads that a program prints against brute force,
+//! `program` feeds random texts to a program and to the reference. `bellman` holds the values, moves, spreads and logs that a program prints against brute force,
 //! without the reference's diagrams. `round` sends value diagrams round through a program. `library` (feature `library`) makes random calls of the static
 //! library and of the reference, whole texts too, and sees that each call gave each of its answers.
 //! `stored` runs each NAME.txt of a folder and compares with NAME.out, by the reference or by the program at PATH. `text` prints
@@ -38,6 +38,7 @@ mod order;
 mod program;
 mod random;
 mod reductions;
+mod replay;
 #[cfg(feature = "library")]
 mod shapes;
 mod spread;
@@ -120,6 +121,7 @@ fn values_and_meanings(seed: u64, slips: Slips, tally: &mut Tally) -> Result<(),
     forms::check(seed, slips, tally).map_err(failed("form"))?;
     moves::check(seed, slips, tally).map_err(failed("move"))?;
     spread::check(seed, slips, tally).map_err(failed("spread"))?;
+    replay::check(seed, slips, tally).map_err(failed("log"))?;
     bellman::check(seed, slips, tally).map_err(failed("value"))
 }
 
@@ -146,6 +148,7 @@ fn self_tests(bound: &Bound) -> Result<(), String> {
     slips_are_caught()?;
     spread::check_limits(bound.first.unwrap_or(bound.fresh))?;
     println!("states of exactly 16 ground facts are counted, 17 are too many, and one state that meets 15 refuses all");
+    println!("logs at their limits: {}", replay::check_limits(bound.first.unwrap_or(bound.fresh))?);
     tally.print();
     match tally.missing() {
         missing if missing.is_empty() => Ok(()),
@@ -163,6 +166,9 @@ fn slips_are_caught() -> Result<(), String> {
         ("a form numbered by first occurrence", Slips { first_occurrence: true, ..Slips::NONE }),
         ("the last of moves with equal sums", Slips { later_move: true, ..Slips::NONE }),
         ("states by tested facts alone", Slips { tested_facts_only: true, ..Slips::NONE }),
+        ("truth diagrams of a logged line in turn", Slips { truths_in_turn: true, ..Slips::NONE }),
+        ("the reward before each logged line", Slips { both_rewards: true, ..Slips::NONE }),
+        ("values totalled in place of rewards", Slips { values_totalled: true, ..Slips::NONE }),
     ];
     for (name, slips) in slips {
         let caught = |seed: u64| values_and_meanings(seed, slips, &mut Tally::default()).err();
@@ -193,7 +199,7 @@ fn program_values(program: &Path, bound: &Bound) -> Result<(), String> {
         values += bellman::check_program(program, seed).map_err(|message| format!("seed {seed}: {message}"))?;
         done += 1;
     }
-    println!("{values} values, moves and spreads of {} are those of the equation", bound.told(done, SEEDS / 4));
+    println!("{values} values, moves, spreads and lines of logs of {} are those of brute force", bound.told(done, SEEDS / 4));
     Ok(())
 }
 

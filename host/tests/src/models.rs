@@ -327,9 +327,11 @@ pub fn write_model(signature: &Signature, model: &PlainModel) -> Vec<String> {
 pub fn write_state(state: &State) -> Vec<String> {
     let mut lines = vec![format!("(objects {})", state.objects)];
     lines.extend(state.constants.iter().enumerate().map(|(c, object)| format!("(is c{c} {object})")));
-    for (predicate, objects) in &state.facts {
-        let objects: String = objects.iter().map(|o| format!(" {o}")).collect();
-        lines.push(format!("(true p{predicate}{objects})"));
-    }
+    lines.extend(state.facts.iter().map(write_fact));
     lines
+}
+
+pub fn write_fact((predicate, objects): &(u64, Vec<u64>)) -> String {
+    let objects: String = objects.iter().map(|o| format!(" {o}")).collect();
+    format!("(true p{predicate}{objects})")
 }

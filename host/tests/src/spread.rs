@@ -155,9 +155,12 @@ fn test(terms: &[u64], yes: Tree, no: Tree) -> Tree {
     Tree::If { predicate, terms: terms.iter().map(|v| FIRST_VARIABLE + v).collect(), yes: Box::new(yes), no: Box::new(no) }
 }
 
+/// Over so many objects some states of a `growing` reward meet 15.
+pub const GROWING_OBJECTS: u64 = 5;
+
 /// A test of p that four variables stay named below, since equalities above test them: each fact more brings as many entries as these four have choices. So many tests of variables of their own
 /// stand below.
-fn growing(below: u64) -> Tree {
+pub fn growing(below: u64) -> Tree {
     let end = (5..5 + below).rev().fold(Tree::Number(9), |inner, v| test(&[v], inner, Tree::Number(0)));
     let chain = (1..5).rev().fold(end, |inner, v| test(&[v], inner, Tree::Number(v)));
     let equal = |inner: Tree, (a, b): (u64, u64)| test(&[a, b], inner, Tree::Number(0));
@@ -166,7 +169,6 @@ fn growing(below: u64) -> Tree {
 
 /// States among others that meet 15: the whole form is refused exactly if one does, by the count of entries alone.
 fn refused_states() -> Result<(), String> {
-    const OBJECTS: u64 = 5;
     let (mut passed, mut middle) = (0, 0);
     for below in [0, 3, 4, 5, 30, 55] {
         let (signature, plain) = plain_model(&[1], growing(below));
@@ -176,13 +178,13 @@ fn refused_states() -> Result<(), String> {
             let entries = tables::entries(&run.value, &run.arities, state, &Valuation::new());
             valuations(&run.value, state) > VALUATIONS && entries > u128::from(ENTRIES)
         };
-        let refused: Vec<bool> = states(&signature, OBJECTS, &[]).map(|state| too_many(&state)).collect();
-        let right = if refused.contains(&true) { Err(Refusal::Valuations) } else { Ok(1 << OBJECTS) };
+        let refused: Vec<bool> = states(&signature, GROWING_OBJECTS, &[]).map(|state| too_many(&state)).collect();
+        let right = if refused.contains(&true) { Err(Refusal::Valuations) } else { Ok(1 << GROWING_OBJECTS) };
         match (refused[0], right) {
             (_, Ok(_)) => passed += 1,
             (first, Err(_)) => middle += u64::from(!first),
         }
-        let answer = session.take(format!("(count {OBJECTS})").as_bytes());
+        let answer = session.take(format!("(count {GROWING_OBJECTS})").as_bytes());
         let states = |answer: &Answer| if let Answer::Count { states, .. } = answer { *states } else { 0 };
         let counted = answer.as_ref().map(|answers| answers.iter().map(states).sum()).map_err(|refusal| *refusal);
         expect(counted == right, || format!("{counted:?}, not {right:?}, where the states that meet 15 are {refused:?}"))?;

@@ -4,6 +4,8 @@ use crate::forms::renamed;
 use crate::limits;
 use crate::models::{model, sparse_state, write_model, write_state, Signature, Size};
 use crate::random::Random;
+use crate::replay::Logged;
+use reference::bellman::PlainModel;
 
 /// The text of a seed: a whole one, one about weights, a small one damaged, one about a limit, or once in a while plain bytes or next to nothing. Some are spaced out by
 /// blank lines.
@@ -69,12 +71,13 @@ fn next_to_nothing(random: &mut Random) -> Vec<u8> {
 
 fn whole(random: &mut Random, size: Size) -> Vec<String> {
     let (signature, plain) = model(random, size);
+    let questions = Questions { signature: &signature, plain: &plain, objects: size.objects };
     let mut lines = write_model(&signature, &plain);
     for line in lines.iter_mut().filter(|line| line.starts_with("(reward ")) {
         *line = renamed(random, line);
     }
     if random.once_in(8) {
-        let (at, question) = (random.below(lines.len() as u64) as usize, question(random, &signature));
+        let (at, question) = (random.below(lines.len() as u64) as usize, questions.one(random));
         lines.insert(at, question);
     }
     for _ in 0..random.between(1, 3) {
@@ -83,33 +86,68 @@ fn whole(random: &mut Random, size: Size) -> Vec<String> {
         }
         if random.once_in(3) {
             // before the first state, or in the one before
-            lines.push(question(random, &signature));
+            lines.push(questions.one(random));
         }
         let objects = random.between(1, size.objects);
         let mut state = write_state(&sparse_state(random, &signature, objects));
         if random.once_in(4) {
             // before a constant is placed, if there is one
-            state.insert(1, question(random, &signature));
+            state.insert(1, questions.one(random));
         }
-        lines.extend(state);
+        lines.extend(state.iter().cloned());
         lines.push("(value)".to_string());
         if random.once_in(2) {
-            lines.push(question(random, &signature));
+            lines.push(questions.one(random));
+        }
+        if random.once_in(2) {
+            for _ in 0..random.between(1, 6) {
+                lines.push(match random.below(12) {
+                    0 => "(value)".to_string(),
+                    1 => questions.one(random),
+                    2 => random.pick(&state).clone(),
+                    _ => questions.logged(random, objects),
+                });
+            }
         }
     }
     lines
 }
 
-/// (best), or (count n): of few states, or with a number that is refused.
-fn question(random: &mut Random, signature: &Signature) -> String {
-    let facts = |objects: u64| -> u64 {
-        let arities = &signature.arities[1..=signature.predicates as usize];
-        arities.iter().map(|arity| objects.saturating_pow(*arity as u32)).fold(0, u64::saturating_add)
-    };
-    let objects = *random.pick(&[0, 1, 1, 2, 2, 3, 3, 4, 5, 7, 64, 65]);
-    match facts(objects) {
-        facts if random.once_in(2) && (facts <= 8 || facts > 16) => format!("(count {objects})"),
-        _ => "(best)".to_string(),
+/// What is asked about a model's states, or done in them.
+struct Questions<'a> {
+    signature: &'a Signature,
+    plain: &'a PlainModel,
+    /// A state has so many at most.
+    objects: u64,
+}
+
+/// Tuples of objects that brute force goes through for one line of a log.
+const TUPLES: u64 = 5_000;
+
+impl Questions<'_> {
+    /// (best), a line of a log, or (count n): of few states, or with a number that is refused.
+    fn one(&self, random: &mut Random) -> String {
+        let facts = |objects: u64| -> u64 {
+            let arities = &self.signature.arities[1..=self.signature.predicates as usize];
+            arities.iter().map(|arity| objects.saturating_pow(*arity as u32)).fold(0, u64::saturating_add)
+        };
+        let objects = *random.pick(&[0, 1, 1, 2, 2, 3, 3, 4, 5, 7, 64, 65]);
+        match facts(objects) {
+            facts if random.once_in(2) && (facts <= 8 || facts > 16) => format!("(count {objects})"),
+            _ if random.once_in(3) => self.logged(random, self.objects),
+            _ => "(best)".to_string(),
+        }
+    }
+
+    /// A line of a log; (value) where the truth diagrams have too many tuples.
+    fn logged(&self, random: &mut Random, objects: u64) -> String {
+        let variants = self.plain.actions.iter().flat_map(|action| &action.variants);
+        let tuples = |predicate: &u64| self.objects.pow(self.signature.arities[*predicate as usize] as u32);
+        let most = variants.map(|variant| variant.truths.keys().map(tuples).sum::<u64>()).max().unwrap_or(0);
+        match most <= TUPLES {
+            true => Logged::random(random, self.plain, objects).line(),
+            false => "(value)".to_string(),
+        }
     }
 }
 
@@ -130,7 +168,7 @@ const NUMBERS: [&str; 14] = [
     "x",
 ];
 
-const LINES: [&str; 30] = [
+const LINES: [&str; 34] = [
     "",
     "()",
     "(start)",
@@ -143,6 +181,10 @@ const LINES: [&str; 30] = [
     "(best)",
     "(count 1)",
     "(count 2)",
+    "(did act0 way0)",
+    "(did act0 way0 0)",
+    "(did act0 way0 0 1)",
+    "(did act1)",
     "(objects 2)",
     "(objects 0)",
     "(is c0 1)",

@@ -1,6 +1,6 @@
 //! A value engine on first-order decision diagrams in which every function is proved: this crate is the safe face of its static library.
 //!
-//! A [`Session`] holds a model, looks ahead by backups, cuts and reductions, values one state after another, names the move to make, and counts states by their values; [`run`] answers a whole text, as
+//! A [`Session`] holds a model, looks ahead by backups, cuts and reductions, values one state after another, names the move to make, replays a log, and counts states by their values; [`run`] answers a whole text, as
 //! the program does. Below them stand the diagrams themselves: a [`Listing`] has rows that test atoms, such as `stock(hub)`, and leaves
 //! that are numbers, and a [`Space`] adds, multiplies and maximises listings, regresses them through an action's outcome, cuts and reduces
 //! away what no value needs, and values them in a [`State`].
@@ -80,6 +80,6 @@ pub use saved::Damaged;
 pub use session::{AllCut, Refused, Session};
 pub use space::{Combined, Cut, Space, Truths};
 pub use state::{fact, State, StateBuilder};
-pub use text::{run, run_into, Answer, BackupDone, Count, CutDone, Full, Move, ReduceDone};
+pub use text::{run, run_into, Answer, BackupDone, Count, CutDone, Full, Log, Move, ReduceDone};
 pub use value::{Fraction, Value};
 pub use vocabulary::{Action, Vocabulary};

@@ -8,9 +8,9 @@ use crate::refusal::accepted;
 /// The most bytes that the answer of one line has.
 pub const ANSWER_BYTES: usize = 92_160;
 /// Words of a session's numbers.
-pub const NUMBER_WORDS: usize = 23;
+pub const NUMBER_WORDS: usize = 26;
 /// Words of a session's names.
-pub const NAME_WORDS: usize = 136;
+pub const NAME_WORDS: usize = 248;
 /// Words of the model's listings.
 pub const LISTING_WORDS: usize = 6_144;
 /// Words that say where these stand.
@@ -24,17 +24,19 @@ pub const SESSION_WORK_WORDS: usize = 6_144;
 
 // Places among the numbers.
 const PART: usize = 0;
-const TOTAL: usize = 9;
-const DIVISOR: usize = 11;
-const REWARD_START: usize = 12;
-const REWARD_WORDS: usize = 13;
-const OBJECTS: usize = 16;
-const FACTS: usize = 17;
-const ROWS: usize = 18;
-const STEPS: usize = 19;
-const SCALE: usize = 20;
-const LINES: usize = 21;
-const MET: usize = 22;
+const TOTAL: usize = 10;
+const DIVISOR: usize = 12;
+const REWARD_START: usize = 13;
+const REWARD_WORDS: usize = 14;
+const OBJECTS: usize = 17;
+const FACTS: usize = 18;
+const LOG_COUNT: usize = 19;
+const LOG_TOTAL: usize = 20;
+const ROWS: usize = 21;
+const STEPS: usize = 22;
+const SCALE: usize = 23;
+const LINES: usize = 24;
+const MET: usize = 25;
 
 // Places in the state: the constants' objects, marks of those that are placed, then the facts.
 const MARKS: usize = 16;
@@ -210,6 +212,17 @@ impl Memory {
     /// The facts of the state in hand.
     pub fn facts(&self) -> impl Iterator<Item = &[u64]> {
         self.state[FIRST_FACT..].chunks_exact(FACT_WORDS).take(self.numbers[FACTS] as usize)
+    }
+
+    /// How many (did ..) lines were accepted since the state was told, and the total of their rewards.
+    pub fn log(&self) -> (u64, u64) {
+        (self.numbers[LOG_COUNT], self.numbers[LOG_TOTAL])
+    }
+
+    /// Puts these in. The caller has checked that there is a state, that both are at most 10^18, and that a total belongs to some line.
+    pub fn set_log(&mut self, count: u64, total: u64) {
+        self.numbers[LOG_COUNT] = count;
+        self.numbers[LOG_TOTAL] = total;
     }
 
     /// Puts in a value diagram that was worked out in another session of the same model. The caller has checked that it is a listing

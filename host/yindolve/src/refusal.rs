@@ -18,7 +18,7 @@ pub enum Refusal {
     Form = 1,
     /// A name that is not declared, or that is given twice.
     Name = 2,
-    /// A count of terms or objects that is not the predicate's.
+    /// A count of terms or objects that is not the predicate's, or in `(did ..)` not that of the action's parameters.
     Arity = 3,
     /// A number outside its range; a state without objects or with an object beyond them; more than 4 parameters.
     Range = 4,
@@ -54,6 +54,12 @@ pub enum Refusal {
     Length = 19,
     /// `(best)` where there is no state, or a constant is not placed.
     Missing = 20,
+    /// The variant of a `(did ..)` line has weight 0 in the state.
+    Weightless = 21,
+    /// The state behind a `(did ..)` line has more than 1,024 facts.
+    Crowded = 22,
+    /// The count of `(did ..)` lines, or the total of their rewards, would pass 10^18.
+    Tally = 23,
     /// More than 16 ground facts of the states that `(count n)` is to count.
     Ground = 24,
     /// An equality or a constant in a diagram to reduce.
@@ -87,6 +93,9 @@ impl Refusal {
         Refusal::Buffer,
         Refusal::Length,
         Refusal::Missing,
+        Refusal::Weightless,
+        Refusal::Crowded,
+        Refusal::Tally,
         Refusal::Ground,
         Refusal::Kinds,
         Refusal::Runs,
@@ -126,6 +135,9 @@ impl Refusal {
             Refusal::Buffer => "buffer",
             Refusal::Length => "length",
             Refusal::Missing => "missing",
+            Refusal::Weightless => "weightless",
+            Refusal::Crowded => "crowded",
+            Refusal::Tally => "tally",
             Refusal::Ground => "ground",
             Refusal::Kinds => "kinds",
             Refusal::Runs => "runs",
@@ -138,7 +150,7 @@ impl Refusal {
         match self {
             Refusal::Form => "the line is not of the grammar: brackets, spaces, the count or the kind of its words",
             Refusal::Name => "a name that is not declared on an earlier accepted line, or one that is given twice",
-            Refusal::Arity => "not as many terms or objects as the predicate has places",
+            Refusal::Arity => "not as many terms or objects as the predicate has places, or the action parameters",
             Refusal::Range => "a number outside its range, or an object that is not there",
             Refusal::Place => "the line stands in the wrong part of the text, a part is missing, or a constant is not placed",
             Refusal::Unbound => "a variable or a parameter that is not allowed here",
@@ -156,6 +168,9 @@ impl Refusal {
             Refusal::Buffer => "a result buffer or a working space that is too small",
             Refusal::Length => "the value diagram, written as a form, is too long for a (reward ..) line: more than 4,095 bytes or 64 open brackets",
             Refusal::Missing => "a move is asked for, and there is no state or a constant is not placed",
+            Refusal::Weightless => "a logged line whose outcome has weight 0 in the state",
+            Refusal::Crowded => "a logged line that leads to a state of more than 1,024 facts",
+            Refusal::Tally => "the count of logged lines or the total of their rewards would pass 10^18",
             Refusal::Ground => "more than 16 ground facts, so that there are too many states to count",
             Refusal::Kinds => "an equality or a constant in the diagram to reduce",
             Refusal::Runs => "more than 512 valuations times paths of the diagram to reduce",

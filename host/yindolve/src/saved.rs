@@ -1,15 +1,16 @@
 //! A session as bytes. They are lines: a heading with the format's number, then the parts with the count of their lines, and at the end
 //! the count of answered lines, 1 where one of them is not blank and else 0, and a sum over everything before it. Format 1 had no line `met`, format 2 rows with
-//! labels of four places.
+//! labels of four places; format 3, which is read too, had no line `did`.
 //!
 //! ```text
-//! yindolve session 3
+//! yindolve session 4
 //! model 10
 //! (constant hub)
 //! ..
 //! state 2
 //! (objects 2)
 //! (is hub 0)
+//! did 3 20
 //! value 1 6
 //! (row 0 leaf 120)
 //! ..
@@ -19,12 +20,14 @@
 //! ```
 
 use crate::listing::Row;
-use crate::text::Answer;
+use crate::text::{Answer, Log};
 use std::fmt;
 
 const HEADING: &str = "yindolve session ";
-const FORMAT: &str = "3";
-/// The highest power of the scale, and the most steps.
+const FORMAT: &str = "4";
+/// The format before, without a log.
+const WITHOUT_LOG: &str = "3";
+/// The highest power of the scale, the most steps, and the highest count and total of a log.
 const MOST: u64 = 1_000_000_000_000_000_000;
 
 /// Bytes that are no saved session.
@@ -50,6 +53,7 @@ impl std::error::Error for Damaged {}
 pub struct Parts {
     pub model: Vec<String>,
     pub state: Vec<String>,
+    pub log: Log,
     pub steps: u64,
     pub rows: Vec<Row>,
     pub lines: u64,
@@ -67,6 +71,7 @@ pub fn write(parts: &Parts) -> Vec<u8> {
         text += &format!("{name} {}\n", lines.len());
         text.extend(lines.iter().flat_map(|line| [line.as_str(), "\n"]));
     }
+    text += &format!("did {} {}\n", parts.log.count, parts.log.total);
     text += &format!("value {} {}\n", parts.steps, parts.rows.len());
     for (number, row) in parts.rows.iter().enumerate() {
         text += &match row {
@@ -105,7 +110,8 @@ impl<'a> Reader<'a> {
 pub fn read(bytes: &[u8]) -> Result<Parts, Damaged> {
     let format = bytes.strip_prefix(HEADING.as_bytes()).ok_or(Damaged::new("it does not begin with 'yindolve session'"))?;
     let format = format.split(|byte| *byte == b'\n').next().unwrap_or_default();
-    if format != FORMAT.as_bytes() {
+    let with_log = format == FORMAT.as_bytes();
+    if !with_log && format != WITHOUT_LOG.as_bytes() {
         return Err(Damaged::new(format!("its format is {} and not {FORMAT}", String::from_utf8_lossy(format).escape_debug())));
     }
     // "sum ", sixteen digits and a line feed
@@ -120,6 +126,7 @@ pub fn read(bytes: &[u8]) -> Result<Parts, Damaged> {
     let model = reader.lines(one(&model)?)?;
     let state = reader.heading("state")?;
     let state = reader.lines(one(&state)?)?;
+    let log = if with_log { read_log(&reader.heading("did")?)? } else { Log::default() };
     let [steps, rows] = reader.heading("value")?[..] else {
         return Err(Damaged::new("the line 'value ..' has two numbers"));
     };
@@ -139,8 +146,15 @@ pub fn read(bytes: &[u8]) -> Result<Parts, Damaged> {
         _ => return Err(Damaged::new("the line 'met ..' has 0 or 1")),
     };
     match reader.line() {
-        Err(_) => Ok(Parts { model, state, steps, rows, lines, met }),
+        Err(_) => Ok(Parts { model, state, log, steps, rows, lines, met }),
         Ok(line) => Err(Damaged::new(format!("{line:?} where the sum is due"))),
+    }
+}
+
+fn read_log(numbers: &[u64]) -> Result<Log, Damaged> {
+    match *numbers {
+        [count, total] if count <= MOST && total <= MOST => Ok(Log { count, total }),
+        _ => Err(Damaged::new("the line 'did ..' has two numbers, at most 10^18 each")),
     }
 }
 
@@ -171,7 +185,7 @@ mod tests {
     fn saved() -> Vec<u8> {
         let (mut session, _) = Session::load_part(SAMPLE.as_bytes()).unwrap();
         session.backup().unwrap();
-        session.tell("(objects 2)\n(is hub 0)\n(true stock 1)\n").unwrap();
+        session.tell("(objects 2)\n(is hub 0)\n(true stock 1)\n(did fill none 1)\n(did fill done 0)\n").unwrap();
         session.save()
     }
 
@@ -207,7 +221,7 @@ mod tests {
                 changed[at] = byte;
                 if let Ok(mut session) = Session::restore(&with_sum(&changed)) {
                     restored += 1;
-                    for line in ["(value)", "(show)", "(cut)", "(backup)", "(objects 3)", "(is hub 2)", "(value)"] {
+                    for line in ["(value)", "(show)", "(cut)", "(backup)", "(did fill none 0)", "(objects 3)", "(is hub 2)", "(value)"] {
                         session.line(line);
                     }
                 }
@@ -226,7 +240,7 @@ mod tests {
         };
         let restored = |bytes: &[u8]| Session::restore(bytes).unwrap_err().to_string();
         assert_eq!(restored(b"(reward 7)\n"), "not a saved session: it does not begin with 'yindolve session'");
-        assert_eq!(restored(b"yindolve session 2\n"), "not a saved session: its format is 2 and not 3");
+        assert_eq!(restored(b"yindolve session 2\n"), "not a saved session: its format is 2 and not 4");
         assert_eq!(restored(&bytes[..90]), "not a saved session: its sum is wrong, so that bytes were lost or changed");
         assert_eq!(
             wrong("stock ?s", "stok ?s"),
@@ -243,9 +257,31 @@ mod tests {
         assert_eq!(wrong("(start)", "(total 5)"), "not a saved session: the line (total 5) is not accepted there");
         assert_eq!(wrong("model 10", "model 11"), "not a saved session: \"(objects 2)\" where the line 'state ..' is due");
         assert_eq!(wrong("model 10", "model 9"), "not a saved session: \"(start)\" where the line 'state ..' is due");
+        let numbers = "not a saved session: the line 'did ..' has two numbers, at most 10^18 each";
+        assert_eq!(wrong("did 2 10", "did 2"), numbers);
+        assert_eq!(wrong("did 2 10", "did 1000000000000000001 10"), numbers);
+        assert_eq!(wrong("did 2 10", "did 0 10"), "not a saved session: it has a total of logged lines, but no state or no line");
+        assert_eq!(wrong("did 2 10\n", ""), "not a saved session: \"value 1 6\" where the line 'did ..' is due");
         assert_eq!(wrong("met 1", "met 2"), "not a saved session: the line 'met ..' has 0 or 1");
         assert_eq!(wrong("met 1", "met 0"), "not a saved session: it has lines of a model, but says that none was met");
         assert_eq!(wrong("(is hub 0)", "(constant c)"), "not a saved session: the line (constant c) is not accepted there");
+    }
+
+    /// A log goes on where it was saved, up to its limit; a session of the format before has none.
+    #[test]
+    fn logs() {
+        let bytes = saved();
+        let text = std::str::from_utf8(&bytes[..bytes.len() - 21]).unwrap();
+        let restored = |text: String| Session::restore(&with_sum(text.as_bytes())).unwrap();
+        let mut session = restored(text.to_string());
+        assert_eq!(session.did("fill", "none", &[0]), Ok(Log { count: 3, total: 20 }));
+        let mut last = restored(text.replace("did 2 10", &format!("did {} 10", MOST - 1)));
+        assert_eq!(last.did("fill", "none", &[0]), Ok(Log { count: MOST, total: 20 }));
+        assert_eq!(last.did("fill", "none", &[0]), Err(crate::Refusal::Tally));
+        assert_eq!(last.log(), Log { count: MOST, total: 20 });
+        let mut before = restored(text.replace("session 4", "session 3").replace("did 2 10\n", ""));
+        assert_eq!(before.log(), Log::default());
+        assert_eq!(before.did("fill", "none", &[0]), Ok(Log { count: 1, total: 20 }));
     }
 
     #[test]

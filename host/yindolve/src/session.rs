@@ -4,7 +4,7 @@ use crate::memory::{Memory, ANSWER_BYTES};
 use crate::refusal::Refusal;
 use crate::saved::{self, Damaged, Parts};
 use crate::state::{State, StateBuilder};
-use crate::text::{Answer, BackupDone, Count, CutDone, Move, ReduceDone};
+use crate::text::{Answer, BackupDone, Count, CutDone, Log, Move, ReduceDone};
 use crate::value::Value;
 use crate::vocabulary::Vocabulary;
 use std::fmt;
@@ -273,7 +273,7 @@ impl Session {
     }
 
     /// How many lines were answered; each of the calls [`backup`](Session::backup), [`cut`](Session::cut), [`reduce`](Session::reduce),
-    /// [`text`](Session::text), [`value_in_hand`](Session::value_in_hand), [`best`](Session::best) and [`count`](Session::count) counts as one.
+    /// [`text`](Session::text), [`value_in_hand`](Session::value_in_hand), [`best`](Session::best), [`count`](Session::count) and [`did`](Session::did) counts as one.
     pub fn lines(&self) -> u64 {
         self.memory.lines()
     }
@@ -319,6 +319,11 @@ impl Session {
             lines.push(format!("(true {name}{objects})"));
         }
         lines
+    }
+
+    /// How many objects the state in hand has; 0 where there is no state.
+    pub fn objects(&self) -> u64 {
+        self.memory.objects()
     }
 
     /// Looks one step further ahead.
@@ -487,6 +492,49 @@ impl Session {
         }
     }
 
+    /// Moves the state in hand as a log says: what was done, how it came out, and to which objects. The facts of the next state are what the variant's
+    /// truth diagrams say in the old one; all else stays. The answer counts such lines since the state was told, and totals the rewards met: of the state
+    /// before the first line, and of the one behind each. `(objects n)` and `(true ..)`, one that repeats a fact too, begin again with 0.
+    ///
+    /// No number bounds the work: a truth diagram of a predicate with many places that is 1 where little is tested takes long.
+    ///
+    /// # Refusals
+    /// `Form` (a name with other than letters and digits; no line is answered then); `Place` (before a `(start)`, no state, or a constant that is not placed);
+    /// `Name` (no such action); `Arity` (not an object for each of its parameters); `Name` (no such variant of it); `Range` (an object that is not there);
+    /// `Weightless` (the variant's weight is 0 in the state); `Crowded` (the next state has more than 1,024 facts); `Valuations` (of the reward); `Tally` (the
+    /// count or the total would pass 10^18). Nothing changes then.
+    ///
+    /// ```
+    /// use yindolve::{Refusal, Session};
+    /// let mut session = Session::load(include_str!("../../../examples/liftparts.txt"))?;
+    /// session.tell("(objects 3)\n(true wanted 0)\n(true aboard 0 2)\n")?;
+    /// session.did("call", "comes", &[2])?;
+    /// session.did("unload", "broken", &[2])?;
+    /// let log = session.did("unload", "done", &[2])?;
+    /// assert_eq!((log.count, log.total), (3, 12));
+    /// assert_eq!(session.did("unload", "lost", &[2]), Err(Refusal::Name));
+    /// assert_eq!(session.log(), log);
+    /// # Ok::<(), Box<dyn std::error::Error>>(())
+    /// ```
+    pub fn did(&mut self, action: &str, variant: &str, objects: &[u64]) -> Result<Log, Refusal> {
+        let is_word = |name: &&str| name.bytes().all(|byte| byte.is_ascii_lowercase() || byte.is_ascii_digit());
+        if ![action, variant].iter().all(is_word) {
+            return Err(Refusal::Form);
+        }
+        let objects: String = objects.iter().map(|object| format!(" {object}")).collect();
+        match self.line(format!("(did {action} {variant}{objects})")) {
+            Answer::Did(log) => Ok(log),
+            Answer::Refused { refusal, .. } => Err(refusal),
+            other => unreachable!("{other:?} for (did ..)"),
+        }
+    }
+
+    /// What the `(did ..)` lines come to that were accepted since the state was told.
+    pub fn log(&self) -> Log {
+        let (count, total) = self.memory.log();
+        Log { count, total }
+    }
+
     /// How many states of so many objects have which value, lowest first, with the constants placed as they are in the state in hand. A
     /// state is one choice of true or false for each ground fact of every declared predicate, so that the numbers of states add up to 2 to
     /// the power of the number of ground facts. Nothing changes by it.
@@ -510,13 +558,14 @@ impl Session {
         }
     }
 
-    /// The session as bytes: the accepted lines of the model and of the state in hand, the value diagram, k, and a sum over all of
-    /// them. They are a text that can be read; [`restore`](Session::restore) takes them back.
+    /// The session as bytes: the accepted lines of the model and of the state in hand, what a log came to, the value diagram, k, and a
+    /// sum over all of them. They are a text that can be read; [`restore`](Session::restore) takes them back.
     pub fn save(&self) -> Vec<u8> {
         let value = self.listing();
         saved::write(&Parts {
             model: self.model.clone(),
             state: self.state_lines(),
+            log: self.log(),
             steps: self.steps(),
             rows: value.map_or(Vec::new(), |listing| listing.rows().collect()),
             lines: self.lines(),
@@ -553,6 +602,10 @@ impl Session {
                 }
             }
         }
+        if parts.log != Log::default() && (session.memory.objects() == 0 || parts.log.count == 0) {
+            return Err(Damaged::new("it has a total of logged lines, but no state or no line"));
+        }
+        session.memory.set_log(parts.log.count, parts.log.total);
         if session.is_started() {
             let listing = Listing::from_rows(&session.arities(), parts.rows).map_err(|_| Damaged::new("the rows are no listing"))?;
             if !listing.is_closed(&session.arities()) {

@@ -116,6 +116,16 @@ pub struct Count {
     pub states: u64,
 }
 
+/// What the `(did action variant object ..)` lines come to that were accepted since the state was told.
+#[non_exhaustive]
+#[derive(Clone, Copy, Debug, Default, PartialEq, Eq)]
+pub struct Log {
+    /// How many they are.
+    pub count: u64,
+    /// The sum of the rewards along them, the first state's too, unscaled.
+    pub total: u64,
+}
+
 /// What a session answers to a line.
 #[non_exhaustive]
 #[derive(Clone, Debug, PartialEq, Eq)]
@@ -138,6 +148,8 @@ pub enum Answer {
     Best(Move),
     /// To `(count n)`: each value that occurs, lowest first.
     Counts(Vec<Count>),
+    /// To `(did action variant object ..)`.
+    Did(Log),
     /// The line is refused and changed nothing.
     Refused {
         /// Why.
@@ -177,6 +189,7 @@ impl Answer {
                 let objects = objects.iter().map(|object| number(object)).collect::<Option<_>>()?;
                 Answer::Best(Move { action: action.to_string(), objects })
             }
+            Some(&["did", count, total]) => Answer::Did(Log { count: number(count)?, total: number(total)? }),
             Some(&["count", ..]) => Answer::Counts(forms.iter().map(|form| read_count(form)).collect::<Option<_>>()?),
             Some(_) => Answer::Rows(forms.iter().map(|form| read_row(form)).collect::<Option<_>>()?),
         })
@@ -238,6 +251,10 @@ mod tests {
         assert_eq!(read("(count 30 2)\n(count 120 65534)\n"), Some(Answer::Counts(counts.to_vec())));
         assert_eq!(read("(count 30 2)\n(value 30 1 8)\n"), None);
         assert_eq!(read("(count 30)\n"), None);
+        assert_eq!(read("(did 7 1000000000000000000)\n"), Some(Answer::Did(Log { count: 7, total: 1_000_000_000_000_000_000 })));
+        assert_eq!(read("(did 7)\n"), None);
+        assert_eq!(read("(did fill done)\n"), None);
+        assert_eq!(read("(refused 21 9)\n"), Some(Answer::Refused { refusal: Refusal::Weightless, line: 9 }));
         assert_eq!(read("(refused 24 9)\n"), Some(Answer::Refused { refusal: Refusal::Ground, line: 9 }));
         assert_eq!(read("(refused 99 1)\n"), None);
         assert_eq!(read("(row 0 leaf 30)\nrow\n"), None);

@@ -25,13 +25,12 @@ fn pair(number: usize) -> Label {
 
 #[test]
 fn refusals_by_number() {
-    for (number, refusal) in (1..21).chain([24]).chain(26..29).zip(Refusal::ALL.iter().copied()) {
+    for (number, refusal) in (1..25).chain(26..29).zip(Refusal::ALL.iter().copied()) {
         assert_eq!(refusal.number(), number);
         assert_eq!(Refusal::from_number(number), Some(refusal));
     }
-    assert_eq!(Refusal::ALL.len(), 24);
+    assert_eq!(Refusal::ALL.len(), 27);
     assert_eq!(Refusal::from_number(0), None);
-    assert_eq!(Refusal::from_number(21), None);
     assert_eq!(Refusal::from_number(25), None);
     assert_eq!(Refusal::from_number(99), None);
     let error: Box<dyn std::error::Error> = Refusal::Listing.into();

@@ -202,6 +202,46 @@ fn moves_and_spreads() {
     }
 }
 
+/// A log by calls: what it comes to, what begins it again, what refuses a line, and a session that was restored in its middle.
+#[test]
+fn logs() {
+    let mut session = Session::load(SAMPLE).unwrap();
+    assert_eq!(session.did("fill", "done", &[0]), Err(Refusal::Place));
+    session.tell("(objects 3)\n(is hub 1)\n").unwrap();
+    session.backup().unwrap();
+    let log = session.did("fill", "done", &[1]).unwrap();
+    assert_eq!((log.count, log.total, session.answer_bytes()), (1, 10, &b"(did 1 10)\n"[..]));
+    let mut restored = Session::restore(&session.save()).unwrap();
+    for session in [&mut session, &mut restored] {
+        assert_eq!(session.log(), log);
+        let log = session.did("fill", "none", &[2]).unwrap();
+        assert_eq!((log.count, log.total), (2, 20));
+        assert_eq!(session.state_lines(), ["(objects 3)", "(is hub 1)", "(true stock 1)"]);
+        assert_eq!(session.value_in_hand().unwrap().value, 120);
+        for (action, variant, objects, refusal) in [
+            ("drain", "done", &[0][..], Refusal::Name),
+            ("fill", "done", &[], Refusal::Arity),
+            ("fill", "never", &[0], Refusal::Name),
+            ("fill", "done", &[3], Refusal::Range),
+            ("fill done", "0", &[], Refusal::Form),
+            ("fill", "done 0)", &[], Refusal::Form),
+            ("", "done", &[0], Refusal::Form),
+        ] {
+            assert_eq!(session.did(action, variant, objects), Err(refusal), "{action} {variant}");
+        }
+        assert_eq!(session.log(), log);
+        session.tell("(true stock 1)\n").unwrap();
+        assert_eq!((session.log().count, session.log().total), (0, 0));
+        let log = session.did("fill", "done", &[0]).unwrap();
+        assert_eq!((log.count, log.total), (1, 20));
+        session.tell("(objects 2)\n").unwrap();
+        assert_eq!((session.log().count, session.log().total), (0, 0));
+    }
+    let mut weights = Session::load("(reward 1)\n(action try)\n(variant never 0)\n(variant ever 100)\n(start)\n").unwrap();
+    weights.tell("(objects 1)\n").unwrap();
+    assert_eq!(weights.did("try", "never", &[]), Err(Refusal::Weightless));
+}
+
 /// Blank lines count and are no part of the model; what closes a text is known of a restored session too.
 #[test]
 fn blank_lines_and_the_end_of_a_text() {

@@ -98,6 +98,7 @@ fn the_manual_page() {
         "plan",
         "value",
         "best",
+        "replay",
         "count",
         "next",
         "explain",

@@ -7,6 +7,7 @@ mod next;
 mod picture;
 mod plan_and_value;
 mod questions;
+mod replay;
 mod report;
 mod run;
 mod troubles;

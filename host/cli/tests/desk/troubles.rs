@@ -10,7 +10,7 @@ fn told(ended: &crate::common::Ended, sentence: &str) {
     assert!(ended.err.contains(sentence) && last.starts_with("yindolve-desk: "), "{ended:?}");
 }
 
-/// Each command with what makes it print.
+/// Each command with what makes it print; a log stands beside the state.
 fn printing(plan: &str, state: &str) -> Vec<Vec<String>> {
     let sample = example("sample.txt");
     let lines = [
@@ -18,6 +18,7 @@ fn printing(plan: &str, state: &str) -> Vec<Vec<String>> {
         format!("explain {sample}"),
         format!("plan {sample} --steps 1 -o {plan}"),
         format!("value {plan} {state}"),
+        format!("replay {plan} {state} {state}.log"),
         format!("picture {sample}"),
         format!("report {sample}"),
         "--help".into(),
@@ -37,6 +38,7 @@ fn a_full_disk() {
     let plan = here.join("sample.plan").display().to_string();
     assert_eq!(desk(&["plan", &example("sample.txt"), "--steps", "1", "-o", &plan]).status, 0);
     let state = file(&here, "state.txt", "(objects 1)\n(is hub 0)\n");
+    file(&here, "state.txt.log", "(did fill done 0)\n");
     for arguments in printing(&plan, &state) {
         let full = OpenOptions::new().write(true).open("/dev/full").expect("a full device");
         told(&desk_with(&words(&arguments), Stdio::null(), full), "standard output cannot be written: the disk is full");
@@ -51,6 +53,7 @@ fn a_closed_pipe() {
     let plan = here.join("sample.plan").display().to_string();
     assert_eq!(desk(&["plan", &example("sample.txt"), "--steps", "1", "-o", &plan]).status, 0);
     let state = file(&here, "state.txt", "(objects 1)\n(is hub 0)\n");
+    file(&here, "state.txt.log", "(did fill done 0)\n");
     for arguments in printing(&plan, &state) {
         let (reader, writer) = std::io::pipe().expect("a pipe");
         drop(reader);

@@ -138,7 +138,7 @@ const fn form(name: &'static str, written: &'static str, shapes: &'static [Shape
     Form { name, written, shapes }
 }
 
-const FORMS: [Form; 20] = [
+const FORMS: [Form; 21] = [
     form("constant", "(constant NAME)", &[Shape::Name]),
     form("predicate", "(predicate NAME ARITY)", &[Shape::Name, Shape::Number]),
     form("total", "(total W)", &[Shape::Number]),
@@ -159,6 +159,7 @@ const FORMS: [Form; 20] = [
     form("text", "(text)", &[]),
     form("best", "(best)", &[]),
     form("count", "(count N)", &[Shape::Number]),
+    form("did", "(did ACTION VARIANT OBJECT ..)", &[Shape::Name, Shape::Name, Shape::Numbers]),
 ];
 
 /// The fault of words that are no line.

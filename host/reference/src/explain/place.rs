@@ -71,7 +71,7 @@ fn at_start(declared: &Declarations) -> Found {
 }
 
 fn in_run(run: &Run, declared: &Declarations, line: &Line) -> Found {
-    let whole_state = matches!(line, Line::Value | Line::Best);
+    let whole_state = matches!(line, Line::Value | Line::Best | Line::Did(..));
     let needs_state = whole_state || matches!(line, Line::Is(..) | Line::True(..));
     found(run.placed.is_some() || !needs_state, || "no (objects n) was accepted before it".into(), "begin the state with (objects n)")?;
     if !whole_state && !matches!(line, Line::Count(_)) {

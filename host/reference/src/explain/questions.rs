@@ -25,9 +25,9 @@ fn too_many(objects: u64, variables: usize) -> String {
 }
 
 /// The value of a diagram, where there are not too many valuations.
-pub fn valued(diagram: &Diagram, run: &Run, state: &State, bound: &Valuation) -> Result<(), (Refusal, String)> {
+pub fn valued(diagram: &Diagram, run: &Run, state: &State, bound: &Valuation) -> Result<u64, (Refusal, String)> {
     let met = |refusal| (refusal, too_many(state.objects, diagram.variables().len()));
-    value_with(diagram, &run.arities, state, bound).map(|_| ()).map_err(met)
+    value_with(diagram, &run.arities, state, bound).map_err(met)
 }
 
 /// The first action that does not pass: by its calls, or by a binding.

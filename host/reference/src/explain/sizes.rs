@@ -1,7 +1,7 @@
 //! What a line's own operation refuses: a diagram's 8, 10, 9, 7, full declarations (9), the sums of weights at (start), and what a run
 //! form does.
 
-use super::{backup, counted, grouped, measure, questions, unless_fault, Checked, Fault};
+use super::{backup, counted, grouped, measure, questions, replay, unless_fault, Checked, Fault};
 use crate::combine::{combine, Names, Operator};
 use crate::cut::{cut, Path, PATHS};
 use crate::declarations::{Declarations, DeclaredAction, Lookup, Variables, DEFAULT_TOTAL};
@@ -33,7 +33,7 @@ pub fn check(session: &Session, words: &[Word], line: &Line) -> Checked {
         Line::Becomes(_, arguments, written) => becomes(declared, arguments, written, &words[2]),
         Line::Start => start(declared, span),
         _ => match session.started() {
-            Some(run) => check_run(run, declared, line, span),
+            Some(run) => check_run(run, declared, words, line, span),
             None => Ok(()),
         },
     }
@@ -217,7 +217,7 @@ fn wrong_cases(declared: &Declarations, action: &DeclaredAction, mut wrong: Vec<
 }
 
 /// What a run form's operation refuses.
-pub fn check_run(run: &Run, declared: &Declarations, line: &Line, span: Span) -> Checked {
+fn check_run(run: &Run, declared: &Declarations, words: &[Word], line: &Line, span: Span) -> Checked {
     match line {
         Line::True(name, objects) => facts(run, declared, name, objects, span),
         Line::Value => valuations(run, span),
@@ -227,6 +227,7 @@ pub fn check_run(run: &Run, declared: &Declarations, line: &Line, span: Span) ->
         Line::Text => length(run, declared, span),
         Line::Best => questions::moves(run, declared, span),
         Line::Count(objects) => questions::states(run, declared, *objects, span),
+        Line::Did(..) => replay::moved(run, declared, words, span),
         _ => Ok(()),
     }
 }
@@ -245,7 +246,7 @@ fn facts(run: &Run, declared: &Declarations, name: &str, objects: &[u64], span: 
 
 fn valuations(run: &Run, span: Span) -> Checked {
     let Some(state) = run.placed.as_ref().and_then(|placed| placed.state()) else { return Ok(()) };
-    questions::valued(&run.value, run, &state, &Valuation::new()).map_err(|(refusal, met)| {
+    questions::valued(&run.value, run, &state, &Valuation::new()).map(|_| ()).map_err(|(refusal, met)| {
         Fault::new(
             refusal,
             span,

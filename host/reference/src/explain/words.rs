@@ -1,6 +1,6 @@
 //! Refusals 2, 3, 6 and 4, word by word.
 
-use super::{counted, grouped, unless_fault, Checked, Fault};
+use super::{counted, grouped, replay, unless_fault, Checked, Fault};
 use crate::declarations::{Declarations, DeclaredAction};
 use crate::diagram::LARGEST;
 use crate::refusal::Refusal;
@@ -24,6 +24,7 @@ pub fn check(session: &Session, words: &[Word]) -> Checked {
         ("is", [_, name, object]) => is(session, name, object),
         ("true", [_, name, objects @ ..]) => fact(session, name, objects),
         ("count", [_, objects]) => count(session, objects),
+        ("did", [_, action, variant, objects @ ..]) => replay::words(session, action, variant, objects),
         _ => Ok(()),
     }
 }
@@ -33,21 +34,21 @@ fn name_at(words: &[Word], at: usize) -> &str {
 }
 
 /// A word's name, without ? or !.
-fn name_of(word: &Word) -> &str {
+pub fn name_of(word: &Word) -> &str {
     match &word.kind {
         Kind::Name(name) | Kind::Variable(name) | Kind::Parameter(name) => name,
         _ => "",
     }
 }
 
-fn number_of(word: &Word) -> u64 {
+pub fn number_of(word: &Word) -> u64 {
     match word.kind {
         Kind::Number(number) => number,
         _ => 0,
     }
 }
 
-fn name_fault(word: &Word, what: String, advice: impl Into<String>) -> Fault {
+pub fn name_fault(word: &Word, what: String, advice: impl Into<String>) -> Fault {
     Fault::new(Refusal::Name, word.span, what, advice)
 }
 
@@ -181,11 +182,11 @@ fn count(session: &Session, objects: &Word) -> Checked {
     }
 }
 
-fn placed(session: &Session) -> Option<&Placed> {
+pub fn placed(session: &Session) -> Option<&Placed> {
     session.started().and_then(|run| run.placed.as_ref())
 }
 
-fn known_object(placed: &Placed, word: &Word) -> Checked {
+pub fn known_object(placed: &Placed, word: &Word) -> Checked {
     unless_fault(number_of(word) < placed.objects, || {
         let what = format!("there is no object {}; this state has objects 0 to {}", told(number_of(word)), placed.objects - 1);
         range_fault(word.span, what, "take one of these, or begin the state with more: (objects n)")
