@@ -8,7 +8,7 @@ use Rattle.refusal.specs.Outcome.{Outcome, ok, refused, andThen}
 use Rattle.diagram.specs.Diagram.{Diagram, leaf}
 use Rattle.diagram.specs.Listing.{listing}
 use Rattle.state.specs.State.{meaning, State}
-use Rattle.state.specs.Highest.{highest}
+use Rattle.minimum.specs.Number.{number}
 use Rattle.elimination.specs.Answer.{isTooLarge}
 use Rattle.reduction.specs.Combinations.{tuples}
 use Rattle.mdp.specs.Model.{Action, Model}
@@ -29,8 +29,8 @@ better best new = cond (ltb (best .sum) (new .sum)) new best
 
 -- the value of a regressed sum with the objects os for the parameters: "15 judged for each binding"
 unfoldable pub bindingValue : List ℕ → State → Diagram → List ℕ → Outcome ℕ
-unfolding isTooLarge listing highest meaning
-bindingValue ar s q os = cond (isTooLarge ar s os (listing q)) (refused Valuations) (ok (highest s os (meaning ar q)))
+unfolding isTooLarge listing number meaning
+bindingValue ar s q os = cond (isTooLarge ar s os (listing q)) (refused Valuations) (ok (number s os (meaning ar q)))
 
 -- the bindings of action i, whose regressed sum is q, one after the other
 unfoldable pub bindingsBest : List ℕ → State → ℕ → Diagram → List (List ℕ) → Rated → Outcome Rated

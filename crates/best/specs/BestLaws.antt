@@ -14,8 +14,9 @@ use Rattle.diagram.specs.Listing.{listing}
 use Rattle.state.specs.State.{meaning, State, Good}
 use Rattle.state.specs.Max.{Tuple, maxTuples, maxOf}
 use Rattle.state.specs.MaxLaws.{maxTuples-is}
-use Rattle.state.specs.Highest.{highest}
-use Rattle.state.specs.HighestLaws.{bound-tuple, highest-is, highest-one}
+use Rattle.state.specs.HighestLaws.{bound-tuple}
+use Rattle.minimum.specs.Number.{number}
+use Rattle.minimum.specs.NumberLaws.{number-equal}
 use Rattle.elimination.specs.Answer.{isTooLarge}
 use Rattle.reduction.specs.Combinations.{tuples}
 use Rattle.reduction.specs.Claims.{Values}
@@ -71,11 +72,11 @@ module _ (m : Model) (k : ℕ) (s : State) (here : Good s) where
 -- ===== The choice =====
 
 module _ (ar : List ℕ) (s : State) (i : ℕ) (q : Diagram) (f : Move → ℕ) where
-  binding-is : (os : List ℕ) → highest s os (meaning ar q) ≡ f (move i os) → Accepted (λ (x : ℕ). x ≡ f (move i os)) (bindingValue ar s q os)
+  binding-is : (os : List ℕ) → number s os (meaning ar q) ≡ f (move i os) → Accepted (λ (x : ℕ). x ≡ f (move i os)) (bindingValue ar s q os)
   unfolding bindingValue
-  binding-is os e = accepted-cond (isTooLarge ar s os (listing q)) Valuations (ok (highest s os (meaning ar q))) (λ z. accepted-ok e)
+  binding-is os e = accepted-cond (isTooLarge ar s os (listing q)) Valuations (ok (number s os (meaning ar q))) (λ z. accepted-ok e)
 
-  bindings-lead : (l : List (List ℕ)) → ((os : List ℕ) → List·Memᴰ os l → highest s os (meaning ar q) ≡ f (move i os)) → (best : Rated)
+  bindings-lead : (l : List (List ℕ)) → ((os : List ℕ) → List·Memᴰ os l → number s os (meaning ar q) ≡ f (move i os)) → (best : Rated)
       → Accepted (λ (r : Rated). r ≡ lead f best (map (move i) l)) (bindingsBest ar s i q l best)
   unfolding bindingsBest lead
   bindings-lead [] h best = accepted-ok refl
@@ -85,14 +86,14 @@ module _ (ar : List ℕ) (s : State) (i : ℕ) (q : Diagram) (f : Move → ℕ) 
       (λ r z. z ∙ ap (λ (n : ℕ). lead f (better best (rated (move i os) n)) (map (move i) l)) e))
 
 module _ (m : Model) (good : GoodModel m) (k : ℕ) (d : Diagram) (vals : Values (m .arities) (bellman m k) d) (s : State) (here : Good s) where
-  -- a regressed sum's highest leaf, with the objects of a move for the parameters, is the move's sum
+  -- a regressed sum's number, with the objects of a move for the parameters, is the move's sum
   sum-is : (a : Action) → GoodAction (m .arities) a
-      → Accepted (λ (q : Diagram). (os : List ℕ) → Tuple (s .size) (a .count) os → highest s os (meaning (m .arities) q) ≡ actionSum m k s a os) (sumCalls m d a)
+      → Accepted (λ (q : Diagram). (os : List ℕ) → Tuple (s .size) (a .count) os → number s os (meaning (m .arities) q) ≡ actionSum m k s a os) (sumCalls m d a)
   unfolding actionSum
   sum-is a g = accepted-mono
       (variants-sum (m .arities) (good .arities) (m .numerator) (let u = good .numerator-few in let v = good .denominator-few in omega arith) (bellman m k) d vals
       (a .count) (g .few) (a .variants) (g .variants) (λ s os. 0) (leaf 0) (leaf-has (m .arities) (a .count) 0 (good .arities) (omega arith)))
-      (λ q h os t. highest-one (meaning (m .arities) q) (highest-is s os here (bound-tuple here t) (meaning (m .arities) q)) (h .high s here os t) ∙ zero-add (actionSum m k s a os))
+      (λ q h os t. number-equal s os here (bound-tuple here t) (meaning (m .arities) q) _ (h .numbers s here os t) ∙ zero-add (actionSum m k s a os))
 
   at-move : (i : ℕ) (a : Action) (l : List Action) → From m i (a ∷ l) → (os : List ℕ) → actionSum m k s a os ≡ moveSum m k s (move i os)
   unfolding moveSum
@@ -147,9 +148,9 @@ module _ (m : Model) (good : GoodModel m) (k : ℕ) (d : Diagram) (vals : Values
 
   -- "so a desk that follows it gets the value that the next backup, if accepted, states"
   pub best-backup : 0 < length (m .actions) → (x : Move) → bestAnswer m s d ≡ ok x → (d′ : Diagram) → backup m k d ≡ ok d′
-      → highest s [] (meaning (m .arities) d′) ≡ scale m ^ suc k * rewardIn m s + moveSum m k s x
+      → number s [] (meaning (m .arities) d′) ≡ scale m ^ suc k * rewardIn m s + moveSum m k s x
   best-backup some x e d′ b =
-      highest-one (meaning (m .arities) d′) (highest-is s [] here (bound-none s here) (meaning (m .arities) d′)) (backup-is m good k d vals .given d′ b .high s here)
+      number-equal s [] here (bound-none s here) (meaning (m .arities) d′) _ (backup-is m good k d vals .given d′ b .numbers s here)
       ∙ best-steps some x e .next
 
 -- so behind every list of backups, cuts and reductions, refused ones among them, in every state

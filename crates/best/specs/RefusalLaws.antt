@@ -18,7 +18,7 @@ use Rattle.apply.specs.declared.Operation.the-variants.{Max}
 use Rattle.apply.specs.declared.Names.the-variants.{Shared}
 use Rattle.state.specs.State.{meaning, State}
 use Rattle.state.specs.Max.{Tuple}
-use Rattle.state.specs.Highest.{highest}
+use Rattle.minimum.specs.Number.{number}
 use Rattle.elimination.specs.Answer.{isTooLarge}
 use Rattle.regression.specs.RegressCall.{freedOutcome}
 use Rattle.reduction.specs.Combinations.{tuples}
@@ -35,13 +35,13 @@ ok-refused e f = let z : _≡_ {A = ℕ} 0 1 = cc in absurd (omega arith)
 -- ===== Bindings =====
 
 module _ (ar : List ℕ) (s : State) (q : Diagram) where
-  value-given : (os : List ℕ) → isTooLarge ar s os (listing q) ≡ false → bindingValue ar s q os ≡ ok (highest s os (meaning ar q))
+  value-given : (os : List ℕ) → isTooLarge ar s os (listing q) ≡ false → bindingValue ar s q os ≡ ok (number s os (meaning ar q))
   unfolding bindingValue
-  value-given os e = ap (λ (b : Bool). cond b (refused Valuations) (ok (highest s os (meaning ar q)))) e
+  value-given os e = ap (λ (b : Bool). cond b (refused Valuations) (ok (number s os (meaning ar q)))) e
 
   value-stops : (os : List ℕ) → isTooLarge ar s os (listing q) ≡ true → bindingValue ar s q os ≡ refused Valuations
   unfolding bindingValue
-  value-stops os e = ap (λ (b : Bool). cond b (refused Valuations) (ok (highest s os (meaning ar q)))) e
+  value-stops os e = ap (λ (b : Bool). cond b (refused Valuations) (ok (number s os (meaning ar q)))) e
 
   -- no binding meets 15, or one does
   judge : (l : List (List ℕ)) → ((os : List ℕ) → List·Memᴰ os l → isTooLarge ar s os (listing q) ≡ false)
@@ -67,7 +67,7 @@ module _ (ar : List ℕ) (s : State) (q : Diagram) where
     unfolding bindingsBest
     bindings-given [] h best = (best, refl)
     bindings-given (p ∷ l) h best =
-        let x = highest s p (meaning ar q) in
+        let x = number s p (meaning ar q) in
         let r = bindings-given l (λ os j. h os (List·Memᴰ·tail j)) (better best (rated (move i p) x)) in
         (r .0, ap (λ (o : Outcome ℕ). andThen o (λ x. bindingsBest ar s i q l (better best (rated (move i p) x)))) (value-given p (h p (List·Memᴰ·head refl))) ∙ r .1)
 
@@ -87,7 +87,7 @@ module _ (ar : List ℕ) (s : State) (q : Diagram) where
         go (isFalse f) (List·Memᴰ·head z) rest = clash e (subst (λ (y : List ℕ). isTooLarge ar s y (listing q) ≡ false) (sym z) f)
         go (isFalse f) (List·Memᴰ·tail j) rest =
             ap (λ (o : Outcome ℕ). andThen o (λ x. bindingsBest ar s i q l (better best (rated (move i p) x)))) (value-given p f)
-            ∙ rest j e (better best (rated (move i p) (highest s p (meaning ar q))))
+            ∙ rest j e (better best (rated (move i p) (number s p (meaning ar q))))
 
 -- ===== Actions =====
 

@@ -15,7 +15,7 @@ use Rattle.apply.specs.Pairs.{ends, pairs, pairCount, overflows}
 use Rattle.apply.specs.Formed.{formed}
 use Rattle.apply.specs.Combination.{rowsFormed, combination, diagramAnswer}
 use Rattle.state.specs.State.{meaning, State}
-use Rattle.state.specs.Highest.{highest}
+use Rattle.minimum.specs.Number.{number}
 use Rattle.state.specs.ValueCall.{valuations}
 use Rattle.regression.specs.Regression.{truthAt}
 use Rattle.mdp.specs.Model.{Model, scale}
@@ -49,7 +49,7 @@ pub table-best : (bestAnswer runModel nothingTrue (runModel .reward) ≡ ok (mov
     × (bestAnswer runModel hubAtOne (run runModel (aBackup ∷ []) .diagram) ≡ ok (move 0 (1 ∷ [])))
     × (bestAnswer waitModel hubAtOne (waitModel .reward) ≡ ok (move 1 (1 ∷ [])))
     × (bestAnswer waitModel stockAtHub (waitModel .reward) ≡ ok (move 0 []))
-unfolding bestAnswer moveSum run highest meaning scale diagramAnswer combination rowsFormed formed ends pairs pairCount overflows apply
+unfolding bestAnswer moveSum run number meaning scale diagramAnswer combination rowsFormed formed ends pairs pairCount overflows apply
     backup truthAt variables closed after moved testOf equates renamed numbering freeing
     mapped placed packed unpacked predicateOf termsOf isVariable isConstant listing diagramOf valuations
 table-best = (refl, refl, refl, refl, refl, refl, refl)

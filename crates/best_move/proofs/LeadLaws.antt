@@ -20,7 +20,6 @@ use Rattle.diagram.specs.Listings.{is-listing-diagram}
 use Rattle.state.specs.declared.Valued.{Valued}
 use Rattle.state.specs.declared.Valued.the-variants.{Value, Refused as Unvalued}
 use Rattle.state.specs.State.{State, meaning}
-use Rattle.state.specs.Highest.{highest}
 use Rattle.state.specs.Lent.{stateOf}
 use Rattle.elimination.specs.Answer.{isTooLarge}
 use Rattle.names.specs.Many.{many}
@@ -32,7 +31,8 @@ use Rattle.steps.specs.declared.Step.the-variants.{Rows, Refused as Stopped}
 use Rattle.steps.specs.GivenLaws.{then-then, then-same}
 use Rattle.best.specs.Moves.{move}
 use Rattle.best.specs.Best.{Rated, rated, better, bindingValue, bindingsBest, movesBest}
-use Rattle.valuing.specs.Walks.{boundHighest, boundAnswer, climbed, isFew, Prepared}
+use Rattle.minimum.specs.Number.{number}
+use Rattle.valuing.specs.Walks.{boundNumber, boundAnswer, climbed, isFew, Prepared}
 use Rattle.valuing.proofs.StartLaws.{root-cut}
 use Rattle.valuing.proofs.CheckLaws.{bound-few}
 use Rattle.best_move.specs.declared.Lead.{Lead}
@@ -126,9 +126,9 @@ module _ (ar ws : List ℕ) (n : ℕ) (constants facts : List ℕ) (listed : isL
   abbrev os : List ℕ
   os = digits n c i
 
-  value-is : bindingValue ar s (diagramOf ws) os ≡ cond (isTooLarge ar s os ws) (refused Valuations) (ok (highest s os (meaning ar (diagramOf ws))))
+  value-is : bindingValue ar s (diagramOf ws) os ≡ cond (isTooLarge ar s os ws) (refused Valuations) (ok (number s os (meaning ar (diagramOf ws))))
   unfolding bindingValue
-  value-is = ap (λ (x : List ℕ). cond (isTooLarge ar s os x) (refused Valuations) (ok (highest s os (meaning ar (diagramOf ws))))) (is-listing-diagram ar ws listed)
+  value-is = ap (λ (x : List ℕ). cond (isTooLarge ar s os x) (refused Valuations) (ok (number s os (meaning ar (diagramOf ws))))) (is-listing-diagram ar ws listed)
 
   -- a climb's answer taken
   pub binding-taken : {v : Valued} {r : Led} {xs : List ℕ} → xs ≡ digits n c i → v ≡ climbed (l .best) (boundAnswer ar ws n constants facts xs) → r ≡ takenAs v l a c i
@@ -139,10 +139,10 @@ module _ (ar ws : List ℕ) (n : ℕ) (constants facts : List ℕ) (listed : isL
       subst (Rates n (bindingTried ar s a (diagramOf ws) (rateOf n l) os)) (sym z)
       (rates-same (sym (ap (λ (y : Outcome ℕ). andThen y (λ h. ok (better (rateOf n l) (rated (move a os) h)))) value-is)) (go (isTooLarge ar s os ws)))
     where
-      go : (b : Bool) → Rates n (andThen (cond b (refused Valuations) (ok (highest s os (meaning ar (diagramOf ws))))) (λ h. ok (better (rateOf n l) (rated (move a os) h))))
-          (takenAs (climbed (l .best) (cond b (Unvalued Valuations) (Value (boundHighest ar ws n constants facts os)))) l a c i)
+      go : (b : Bool) → Rates n (andThen (cond b (refused Valuations) (ok (number s os (meaning ar (diagramOf ws))))) (λ h. ok (better (rateOf n l) (rated (move a os) h))))
+          (takenAs (climbed (l .best) (cond b (Unvalued Valuations) (Value (boundNumber ar ws n constants facts os)))) l a c i)
       go true = rates-refused refl
-      go false = rates-to (ap ok (sym (raised-is n l k a c i (boundHighest ar ws n constants facts os)))) (raised-leading n l k a c i (boundHighest ar ws n constants facts os) few)
+      go false = rates-to (ap ok (sym (raised-is n l k a c i (boundNumber ar ws n constants facts os)))) (raised-leading n l k a c i (boundNumber ar ws n constants facts os) few)
 
   -- where no leaf is as high as the best, no binding takes its place
   pub binding-settled : {high index : List ℕ} → Prepared ar ws high n constants facts index → 0 < n → {b : Bool} → b ≡ isFew ar n ws → settled ws high b (l .best) ≡ true

@@ -27,7 +27,7 @@ use Rattle.spread.specs.LeafLaws.{entries-few}
 use Rattle.spread.specs.LentChoiceLaws.{lent-choice, choice-good, spread-many}
 use Rattle.valuing.specs.Index.{Indexed, indexedCount, Clean}
 use Rattle.valuing.specs.Search.{Topping, Tops}
-use Rattle.valuing.specs.Walks.{boundHighest, boundAnswer, climbed, isFew, Prepared}
+use Rattle.valuing.specs.Walks.{boundNumber, boundAnswer, climbed, isFew, Prepared}
 use Rattle.valuing.specs.WalkLaws.{topping-room, prepared}
 use Rattle.count_states.specs.declared.Counted.{Counted}
 use Rattle.count_states.specs.declared.Counted.the-variants as Counted
@@ -84,19 +84,19 @@ abbrev pub tooLarge : List ℕ → List ℕ → ℕ → List ℕ → List ℕ �
 tooLarge ar ws n constants facts = isTooLarge ar (stateOf ar n constants facts) [] ws
 
 module _ (ar ws : List ℕ) (n : ℕ) (constants facts : List ℕ) {r : Valued} (e : r ≡ climbed 0 (boundAnswer ar ws n constants facts [])) where
-  answered : (b : Bool) → tooLarge ar ws n constants facts ≡ b → r ≡ climbed 0 (cond b (Refused Valuations) (Value (boundHighest ar ws n constants facts [])))
+  answered : (b : Bool) → tooLarge ar ws n constants facts ≡ b → r ≡ climbed 0 (cond b (Refused Valuations) (Value (boundNumber ar ws n constants facts [])))
   unfolding boundAnswer
-  answered b q = e ∙ ap (λ z. climbed 0 (cond z (Refused Valuations) (Value (boundHighest ar ws n constants facts [])))) q
+  answered b q = e ∙ ap (λ z. climbed 0 (cond z (Refused Valuations) (Value (boundNumber ar ws n constants facts [])))) q
 
-  pub value-told : {v : ℕ} → r ≡ Value v → (tooLarge ar ws n constants facts ≡ false) × (v ≡ suc (boundHighest ar ws n constants facts []))
+  pub value-told : {v : ℕ} → r ≡ Value v → (tooLarge ar ws n constants facts ≡ false) × (v ≡ suc (boundNumber ar ws n constants facts []))
   unfolding climbed
   value-told {v} q = go (flag (tooLarge ar ws n constants facts))
     where
-      go : Flag (tooLarge ar ws n constants facts) → (tooLarge ar ws n constants facts ≡ false) × (v ≡ suc (boundHighest ar ws n constants facts []))
+      go : Flag (tooLarge ar ws n constants facts) → (tooLarge ar ws n constants facts ≡ false) × (v ≡ suc (boundNumber ar ws n constants facts []))
       go (isTrue t) = let z : Value v ≡ Refused Valuations = sym q ∙ answered true t in let w : _≡_ {A = ℕ} 0 1 = cc in absurd (omega arith)
       go (isFalse t) =
-          let z : Value v ≡ Value (max 0 (suc (boundHighest ar ws n constants facts []))) = sym q ∙ answered false t in
-          let w : v ≡ max 0 (suc (boundHighest ar ws n constants facts [])) = cc in
+          let z : Value v ≡ Value (max 0 (suc (boundNumber ar ws n constants facts []))) = sym q ∙ answered false t in
+          let w : v ≡ max 0 (suc (boundNumber ar ws n constants facts [])) = cc in
           (t, omega arith)
 
   pub refusal-told : {why : Refusal} → r ≡ Refused why → tooLarge ar ws n constants facts ≡ true
@@ -106,7 +106,7 @@ module _ (ar ws : List ℕ) (n : ℕ) (constants facts : List ℕ) {r : Valued} 
       go : Flag (tooLarge ar ws n constants facts) → tooLarge ar ws n constants facts ≡ true
       go (isTrue t) = t
       go (isFalse t) =
-          let z : Refused why ≡ Value (max 0 (suc (boundHighest ar ws n constants facts []))) = sym q ∙ answered false t in
+          let z : Refused why ≡ Value (max 0 (suc (boundNumber ar ws n constants facts []))) = sym q ∙ answered false t in
           let w : _≡_ {A = ℕ} 0 1 = cc in
           absurd (omega arith)
 
@@ -231,7 +231,7 @@ module _ {ar : List ℕ} {count n : ℕ} {constants ws table : List ℕ} (h : Co
 
       same-values : valueOf ar ws n constants rows g ≡ valueIn ar count n constants ws
       unfolding valueIn choiceState
-      same-values = ap (λ z c. boundHighest ar ws n constants (z c) []) all-lent
+      same-values = ap (λ z c. boundNumber ar ws n constants (z c) []) all-lent
 
       pub count-spreading : Spreading ar ws n constants rows g table
       count-spreading = record {
@@ -244,9 +244,9 @@ module _ {ar : List ℕ} {count n : ℕ} {constants ws table : List ℕ} (h : Co
       unfolding rowsSpread spread someTooLarge entriesOf valueIn choiceState
       same-spread =
           ap (λ z. cond (someBelow (2 ^ g) (λ c. isTooLarge ar (stateOf ar n constants (z c)) [] ws)) (refused Valuations)
-          (ok (entries (2 ^ g) (λ c. boundHighest ar ws n constants (z c) [])))) all-lent
+          (ok (entries (2 ^ g) (λ c. boundNumber ar ws n constants (z c) [])))) all-lent
           ∙ ap (λ z. cond (someBelow (2 ^ z) (λ c. isTooLarge ar (stateOf ar n constants (lentChoice ar count n c)) [] ws)) (refused Valuations)
-          (ok (entries (2 ^ z) (λ c. boundHighest ar ws n constants (lentChoice ar count n c) [])))) e
+          (ok (entries (2 ^ z) (λ c. boundNumber ar ws n constants (lentChoice ar count n c) [])))) e
           ∙ sym (rw (le-ltb mostGround (groundCount ar count n) (omega (arith, e))))
 
       pub count-done : {x : Counted} {table′ : List ℕ} → Counts (rowsSpread ar ws n constants rows g) x table′ → Counts (spread ar count n constants ws) x table′

@@ -13,7 +13,7 @@ use Rattle.elimination.specs.Answer.{isTooLarge}
 use Rattle.spread.specs.Ground.{mostGround}
 use Rattle.spread.specs.Spread.{Entry, entries}
 use Rattle.valuing.specs.Search.{Tops}
-use Rattle.valuing.specs.Walks.{boundHighest, isFew}
+use Rattle.valuing.specs.Walks.{boundNumber, isFew}
 use Rattle.count_states.specs.Counted.{tableWords}
 use Rattle.count_states.specs.Facts.{picked}
 
@@ -33,7 +33,7 @@ pub record Choices (ar : List ℕ) (n : ℕ) (constants rows : List ℕ) (g : �
 
 -- the value in choice c
 abbrev pub valueOf : List ℕ → List ℕ → ℕ → List ℕ → List ℕ → ℕ → ℕ → ℕ
-valueOf ar ws n constants rows g c = boundHighest ar ws n constants (picked rows g c) []
+valueOf ar ws n constants rows g c = boundNumber ar ws n constants (picked rows g c) []
 
 -- choice c meets 15
 abbrev pub largeAt : List ℕ → List ℕ → ℕ → List ℕ → List ℕ → ℕ → ℕ → Bool

@@ -27,7 +27,7 @@
 --   written, answerBuffer, cutBuffer == the result buffer then
 --
 -- Theorems
---   cut-keeps: a cut leaves the highest leaf in every state
+--   cut-keeps: a cut leaves the number in every state
 --   mayGo-sound: the test says no more than document 01's condition; mayGo-complete: and no less
 --   matches-sound: what the search finds is a replacement; matches-complete: and it finds one where there is one
 --   matches-order: whatever the order of the literals

@@ -1,4 +1,4 @@
--- A cut leaves the highest leaf: the theorem, before closing up.
+-- A cut leaves the number: the theorem, before closing up. Cuts are of diagrams without minimum variables (document 02, L12).
 use mathlib.Core.Path.{_≡_, refl, sym, ap, ap₂, _∙_}
 use mathlib.Core.Logic.{_⊎_, inl, inr}
 use mathlib.Core.Bool.{Bool, true, false, not, cond, _||_, Bool·beq}
@@ -19,6 +19,9 @@ use Rattle.diagram.specs.Diagram.{Diagram, leaf, branch, eval, relabel}
 use Rattle.state.specs.State.{atomOf, meaning, State, truth, holds, value, Fits}
 use Rattle.state.specs.Highest.{Highest}
 use Rattle.state.specs.HighestLaws.{highest-by, highest-same}
+use Rattle.minimum.specs.Number.{Number}
+use Rattle.minimum.specs.Operations.{Plain}
+use Rattle.minimum.specs.PlainLaws.{highest-number, number-highest}
 use Rattle.state.specs.ValueLaws.{map-map, fits-after}
 use Rattle.apply.specs.ApplyLaws.{eval-node}
 use Rattle.paths.specs.Paths.{Literal, Step, Path, stepBefore, paths, literals, literalOf, termsIn, isEdge, through}
@@ -206,7 +209,7 @@ module _ (ar : List ℕ) (good : areArities ar ≡ true) where
   low-fixed t h = rw (lt-leb firstVariable t h)
 
   -- an edge that may go leaves the highest leaf
-  pub cut-highest : (d r : Diagram) (b : Bool) → MayGo ar d b r → (s : State) (os : List ℕ) (x : ℕ) → Highest s os (meaning ar d) x → Highest s os (meaning ar (cutAt r b d)) x
+  cut-highest : (d r : Diagram) (b : Bool) → MayGo ar d b r → (s : State) (os : List ℕ) (x : ℕ) → Highest s os (meaning ar d) x → Highest s os (meaning ar (cutAt r b d)) x
   cut-highest d (branch l t f) b (may n cover) s os x m = highest-by (meaning ar d) (meaning ar (cutAt (branch l t f) b d)) m up down
     where
       r : Diagram
@@ -248,9 +251,10 @@ unfolding eval reduced
 eval-reduced c (leaf v) = refl
 eval-reduced c (branch l t f) = eval-node c l (reduced t) (reduced f) ∙ ap₂ (cond (c l)) (eval-reduced c t) (eval-reduced c f)
 
--- a cut leaves the highest leaf in every state; closing up is left
-pub cut-keeps : (ar : List ℕ) → areArities ar ≡ true → (d r : Diagram) (b : Bool) → MayGo ar d b r
-    → (s : State) (os : List ℕ) (x : ℕ) → Highest s os (meaning ar d) x → Highest s os (meaning ar (reduced (cutAt r b d))) x
-cut-keeps ar good d r b m s os x h =
-    highest-same (meaning ar (cutAt r b d)) (meaning ar (reduced (cutAt r b d))) (cut-highest ar good d r b m s os x h)
-    (λ θ f. value-says ar s θ (cutAt r b d) ∙ sym (eval-reduced (says ar s θ) (cutAt r b d)) ∙ sym (value-says ar s θ (reduced (cutAt r b d))))
+-- a cut leaves the number in every state; closing up is left
+pub cut-keeps : (ar : List ℕ) → areArities ar ≡ true → (d r : Diagram) (b : Bool) → MayGo ar d b r → Plain (meaning ar d) → Plain (meaning ar (reduced (cutAt r b d)))
+    → (s : State) (os : List ℕ) (x : ℕ) → Number s os (meaning ar d) x → Number s os (meaning ar (reduced (cutAt r b d))) x
+cut-keeps ar good d r b m p q s os x h =
+    highest-number s os (meaning ar (reduced (cutAt r b d))) q x
+    (highest-same (meaning ar (cutAt r b d)) (meaning ar (reduced (cutAt r b d))) (cut-highest ar good d r b m s os x (number-highest s os (meaning ar d) p x h))
+    (λ θ f. value-says ar s θ (cutAt r b d) ∙ sym (eval-reduced (says ar s θ) (cutAt r b d)) ∙ sym (value-says ar s θ (reduced (cutAt r b d)))))

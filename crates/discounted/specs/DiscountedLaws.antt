@@ -8,7 +8,7 @@ use Rattle.basics.specs.Tests.{Cmp, below, equal, above, cmp}
 use Rattle.label.specs.Labels.{packed, unpacked, predicateOf, termsOf}
 use Rattle.state.specs.Max.{maxTo, maxTuples, maxOf, sumOf}
 use Rattle.state.specs.State.{meaning, State, Good}
-use Rattle.state.specs.Highest.{highest}
+use Rattle.minimum.specs.Number.{number}
 use Rattle.mdp.specs.Model.{Variant, Model, scale, GoodModel}
 use Rattle.mdp.specs.Bellman.{weightIn, stateAfter, rewardIn, bellman}
 use Rattle.mdp.specs.Runs.{Call, run}
@@ -124,14 +124,14 @@ bellman-discounted m good k s = makes-times (bellman-makes m good k s)
 pub bellman-over-scale : (m : Model) → GoodModel m → (k : ℕ) (s : State) → Equal (ratio (bellman m k s) (scale m ^ k)) (discounted m k s)
 bellman-over-scale m good k s = makes-ratio (power-some (scale m) k (scale-some m good)) (bellman-makes m good k s)
 
--- demand 3 in its own words: after every list of backups, cuts and reductions, in every state, the highest leaf of the value diagram is S^k times the k-step Bellman value
+-- demand 3 in its own words: after every list of backups, cuts and reductions, in every state, the number of the value diagram is S^k times the k-step Bellman value
 pub demand-3-discounted : (m : Model) → GoodModel m → (l : List Call) (s : State) → Good s
-    → Equal (whole (highest s [] (meaning (m .arities) (run m l .diagram)))) (times (whole (scale m ^ run m l .steps)) (discounted m (run m l .steps) s))
+    → Equal (whole (number s [] (meaning (m .arities) (run m l .diagram)))) (times (whole (scale m ^ run m l .steps)) (discounted m (run m l .steps) s))
 demand-3-discounted m good l s g = rw (demand-3 m good l s g) (bellman-discounted m good (run m l .steps) s)
 
 -- its corollary: the number divided by S^k is that value
 pub number-over-scale : (m : Model) → GoodModel m → (l : List Call) (s : State) → Good s
-    → Equal (ratio (highest s [] (meaning (m .arities) (run m l .diagram))) (scale m ^ run m l .steps)) (discounted m (run m l .steps) s)
+    → Equal (ratio (number s [] (meaning (m .arities) (run m l .diagram))) (scale m ^ run m l .steps)) (discounted m (run m l .steps) s)
 number-over-scale m good l s g = rw (demand-3 m good l s g) (bellman-over-scale m good (run m l .steps) s)
 
 -- document 01's run: after one backup 30 / 8 where nothing is true and 120 / 8 with stock at the hub

@@ -17,7 +17,7 @@
 -- Theorems
 --   bellman-discounted: Mk is S^k times the k-step Bellman value with discount G / D and probabilities weight / W
 --   bellman-over-scale: so Mk divided by S^k is that value
---   demand-3-discounted: after any list of backups, cuts and reductions, refused ones among them, the value diagram's highest leaf is S^k times that value, in every state
+--   demand-3-discounted: after any list of backups, cuts and reductions, refused ones among them, the value diagram's number is S^k times that value, in every state
 --   number-over-scale: its corollary, that number divided by S^k is the value
 --   makes-plus, makes-part, makes-higher: x / n + y / n = (x + y) / n; g / d · y / n = g · y / (d · n); of x / n and y / n the higher is that of x and y
 --   run-discounted: the values of document 01's run after one backup, by computation

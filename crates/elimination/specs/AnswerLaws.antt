@@ -1,5 +1,5 @@
 -- The answer of the value call: as before wherever it was no 15; where it was, the root table's value or still 15 (document 02, L6).
-use mathlib.Core.Path.{_≡_, refl, ap, sym}
+use mathlib.Core.Path.{_≡_, refl, ap, sym, _∙_}
 use mathlib.Core.Logic.{_≢_}
 use mathlib.Core.Bool.{Bool, true, false, not, _&&_, cond}
 use mathlib.Core.List.{List, []}
@@ -14,18 +14,21 @@ use Rattle.refusal.specs.declared.Refusal.the-variants.{Range, Unbound, Listing
 use Rattle.diagram.specs.Words.{isListing}
 use Rattle.diagram.specs.Listing.{diagramOf}
 use Rattle.diagram.specs.WordLaws.{below-every}
+use Rattle.diagram.specs.Listings.{is-listing-good}
 use Rattle.state.specs.declared.Valued.{Valued}
 use Rattle.state.specs.declared.Valued.the-variants.{Value, Refused}
 use Rattle.state.specs.Max.{none}
 use Rattle.state.specs.State.{State, Good, low, meaning}
 use Rattle.state.specs.ValueLaws.{low-lt, low-ge, by-low}
-use Rattle.state.specs.Highest.{start, highest}
+use Rattle.state.specs.Highest.{start}
 use Rattle.state.specs.HighestLaws.{bound-tuple}
 use Rattle.state.specs.Lent.{stateOf, isState, constantsBelow}
-use Rattle.state.specs.ValueCall.{mostValuations, parameters, valuations, answerBy, firstAnswer}
+use Rattle.state.specs.ValueCall.{mostValuations, parameters, valuations}
+use Rattle.minimum.specs.Number.{number}
+use Rattle.minimum.specs.PlainLaws.{number-plain, fine-plain}
 use Rattle.elimination.specs.Tables.{entries}
 use Rattle.elimination.specs.Elimination.{rootTable, mostEntries, allEntries}
-use Rattle.elimination.specs.Answer.{isTooLarge, valueAnswer}
+use Rattle.elimination.specs.Answer.{answerBy, firstAnswer, isTooLarge, valueAnswer}
 use Rattle.elimination.specs.RootLaws.{root-names, root-entries, root-value}
 
 -- a lent state has an object, and its constants are objects
@@ -56,8 +59,10 @@ module _ (ar ws : List ℕ) (n : ℕ) (constants facts : List ℕ) (listed : isL
   pub lent-entries : entries s [] (rootTable s ar ws) ≡ 1
   lent-entries = root-entries s [] good (bound-tuple good none) ar ws listed
 
-  pub lent-value : rootTable s ar ws .value (start s []) ≡ highest s [] (meaning ar (diagramOf ws))
+  -- a listing has no minimum variable, so that its number is the highest leaf
+  pub lent-value : rootTable s ar ws .value (start s []) ≡ number s [] (meaning ar (diagramOf ws))
   lent-value = root-value s [] good (bound-tuple good none) ar ws listed
+      ∙ sym (number-plain s [] (meaning ar (diagramOf ws)) (fine-plain ar (diagramOf ws) (is-listing-good ar ws listed .fine)))
 
 -- ===== The answer =====
 module _ (ar ws : List ℕ) (n : ℕ) (constants facts : List ℕ) where
@@ -78,7 +83,7 @@ module _ (ar ws : List ℕ) (n : ℕ) (constants facts : List ℕ) where
   unfolding valueAnswer isTooLarge firstAnswer answerBy old-by stateOf
   valued-same h = same-by (isListing ar ws) (isState ar n constants facts) (eqb (length (parameters ar (diagramOf ws))) 0)
       (ltb mostValuations (valuations ar n (diagramOf ws))) (ltb mostEntries (allEntries (stateOf ar n constants facts) [] ar ws))
-      (Value (highest (stateOf ar n constants facts) [] (meaning ar (diagramOf ws)))) h
+      (Value (number (stateOf ar n constants facts) [] (meaning ar (diagramOf ws)))) h
 
   -- a 15 passed the checks before it
   was-by : (a b c d : Bool) (x : ℕ) → old-by a b c d (Value x) ≡ Refused Valuations → (a ≡ true) × (b ≡ true) × (c ≡ true) × (d ≡ true)
@@ -95,7 +100,7 @@ module _ (ar ws : List ℕ) (n : ℕ) (constants facts : List ℕ) where
         × (ltb mostValuations (valuations ar n (diagramOf ws)) ≡ true)
     unfolding firstAnswer answerBy old-by
     passed = was-by (isListing ar ws) (isState ar n constants facts) (eqb (length (parameters ar (diagramOf ws))) 0)
-        (ltb mostValuations (valuations ar n (diagramOf ws))) (highest (stateOf ar n constants facts) [] (meaning ar (diagramOf ws))) was
+        (ltb mostValuations (valuations ar n (diagramOf ws))) (number (stateOf ar n constants facts) [] (meaning ar (diagramOf ws))) was
 
     pub valued-tables : allEntries (stateOf ar n constants facts) [] ar ws ≤ mostEntries
         → valueAnswer ar ws n constants facts ≡ Value (rootTable (stateOf ar n constants facts) ar ws .value (start (stateOf ar n constants facts) []))

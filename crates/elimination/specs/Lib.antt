@@ -22,7 +22,8 @@
 --
 -- Definitions: the call
 --   isTooLarge == valuations pass 1,000,000 and entries pass 8,192
---   valueAnswer == the value call's answer: its checks in order (14, 4, 6, 15), then the highest leaf
+--   answerBy, firstAnswer == the value call: its checks in order (14, 4, 6), then 15 where it is too large, else the number; by the first way of working alone
+--   valueAnswer == the same with the second way of working
 --
 -- Theorems
 --   root-value: in every state the value of the root's table is the highest leaf; it has no names (root-names) and one entry (root-entries)

@@ -12,7 +12,7 @@ use Rattle.diagram.specs.Words.{labelAt, rowCount, everyBelow}
 use Rattle.diagram.specs.Listing.{diagramOf}
 use Rattle.state.specs.State.{meaning, State, Good, low}
 use Rattle.state.specs.Terms.{Each}
-use Rattle.state.specs.Highest.{highest}
+use Rattle.minimum.specs.Number.{number}
 
 -- every term of the list is a constant
 abbrev pub allConstants : List ℕ → Bool
@@ -28,10 +28,10 @@ unfoldable pub isGround : List ℕ → List ℕ → Bool
 unfolding isGroundLabel labelAt
 isGround ar ws = everyBelow (rowCount ws) (λ i. eqb (labelAt ws i) leafMark || isGroundLabel ar (labelAt ws i))
 
--- the value of a listing in a state: its highest leaf
+-- the value of a listing in a state: its number
 unfoldable pub valueIn : List ℕ → List ℕ → State → ℕ
-unfolding highest meaning diagramOf
-valueIn ar ws s = highest s [] (meaning ar (diagramOf ws))
+unfolding number meaning diagramOf
+valueIn ar ws s = number s [] (meaning ar (diagramOf ws))
 
 -- "the same value in every state" that P names
 abbrev pub SameValues : (State → Type 0) → List ℕ → List ℕ → List ℕ → Type 0

@@ -5,13 +5,12 @@ use mathlib.Core.Bool.{Bool, true, false, not, _&&_, _||_}
 use mathlib.Core.List.{List, [], _∷_, map}
 use Prim.Native.Nat.{ℕ, zero, suc, pred, _<_}
 use native.Mathlib.Omega.{arith}
-use native.Mathlib.Nat.{le-of-eq}
 use lib.ListN.{length, getD}
 use lib.Dec.{eqb, ltb}
 use borrow.Author.Tests.{ltb-true, eqb-true, eqb-false, eq-eqb, ne-eqb}
 use Rattle.basics.specs.Tests.{and-left, and-right, Flag, isTrue, isFalse, flag}
 use Rattle.basics.specs.Members.{clash}
-use Rattle.label.specs.Limits.{constantCount, equality, firstParameter, leafMark}
+use Rattle.label.specs.Limits.{constantCount, equality, firstParameter, firstVariable, leafMark}
 use Rattle.label.specs.Terms.{isConstant}
 use Rattle.label.specs.Labels.{atomFrom, packed, predicateOf, unpacked, termsOf, isLabel, areArities}
 use Rattle.label.specs.LabelLaws.{packed-unpacked, label-below}
@@ -32,11 +31,14 @@ use Rattle.rename.specs.RelabelLaws.{eval-relabel, eval-agree, labels-weaken}
 use Rattle.state.specs.Max.{none}
 use Rattle.state.specs.State.{atomOf, meaning, State, Good, truth, holds, value, low, fixed}
 use Rattle.state.specs.Terms.{Each, Terms}
-use Rattle.state.specs.Highest.{start, highest}
+use Rattle.state.specs.Highest.{start}
 use Rattle.state.specs.Lent.{someBelow}
 use Rattle.state.specs.LentLaws.{some-made, some-found}
-use Rattle.state.specs.ValueLaws.{low-lt, low-ge, by-low, value-same}
-use Rattle.state.specs.HighestLaws.{bound-tuple, start-fits, highest-is, highest-one}
+use Rattle.state.specs.ValueLaws.{low-lt, low-ge, by-low, Terms-mono}
+use Rattle.state.specs.HighestLaws.{bound-tuple, start-fits}
+use Rattle.minimum.specs.Number.{number}
+use Rattle.minimum.specs.NumberLaws.{number-equal}
+use Rattle.minimum.specs.ApartLaws.{number-fixed}
 use Rattle.cutting.specs.MovedLaws.{label-atom}
 use Rattle.ground.specs.Ground.{allConstants, isGroundLabel, isGround, valueIn, StateUnder, DistinctConstants, ownObjects, EqualNumbers}
 
@@ -96,21 +98,15 @@ unfolding meaning
 ground-terms ar (leaf v) w = tt
 ground-terms ar (branch l t f) w = (ground-constants ar l (w .0 .1), ground-terms ar t (w .1), ground-terms ar f (w .2))
 
--- the highest leaf of a ground diagram is the leaf that the facts lead to
-ground-highest : (ar : List ℕ) (d : Diagram) → Labels (GroundLabel ar) d → (s : State) → Good s
-    → highest s [] (meaning ar d) ≡ eval (λ l. holds s (start s []) (atomOf ar l)) d
+-- the number of a ground diagram is the leaf that the facts lead to
+ground-number : (ar : List ℕ) (d : Diagram) → Labels (GroundLabel ar) d → (s : State) → Good s
+    → number s [] (meaning ar d) ≡ eval (λ l. holds s (start s []) (atomOf ar l)) d
 unfolding value meaning
-ground-highest ar d w s g =
+ground-number ar d w s g =
     let m = meaning ar d in
     let b = bound-tuple g none in
-    let fits = start-fits s [] g b in
-    highest-one m (highest-is s [] g b m) (record {
-      point = start s [];
-      inside = fits;
-      value = refl;
-      bound = λ θ f. le-of-eq (value-same (λ t. t < constantCount) s m θ (start s []) (ground-terms ar d w)
-          (λ t h. f .low t (omega arith) ∙ sym (fits .low t (omega arith))));
-    })
+    number-equal s [] g b m _ (number-fixed s [] m (Terms-mono (λ t. t < constantCount) (λ t. t < firstVariable) (λ t h. omega arith) m (ground-terms ar d w))
+    (start s []) (start-fits s [] g b))
     ∙ eval-relabel (holds s (start s [])) (atomOf ar) d
 
 -- ===== Facts chosen freely =====
@@ -242,7 +238,7 @@ freely-value : (ar ws : List ℕ) → Labels (GroundLabel ar) (diagramOf ws) →
 unfolding valueIn freely
 freely-value ar ws w c =
     let s = freely ar c in
-    ground-highest ar (diagramOf ws) w s (own-good (chosen ar c leafMark))
+    ground-number ar (diagramOf ws) w s (own-good (chosen ar c leafMark))
     ∙ eval-agree _ c (diagramOf ws) (labels-weaken (GroundLabel ar) _ (diagramOf ws) (freely-holds ar c) w)
 
 -- ===== L14, whole =====

@@ -4,7 +4,7 @@
 --   allConstants == every term of a list is a constant
 --   isGroundLabel == a label without variables, parameters and equality: its terms are constants, and its predicate is not equality
 --   isGround == each row of a listing is a leaf or has such a label
---   valueIn == the value of a listing in a state: its highest leaf
+--   valueIn == the value of a listing in a state: its number
 --   SameValues == two listings have the same value in every state that is named
 --   StateUnder == a state of document 01: constants are objects, facts are about its objects, as many as the predicate has places
 --   DistinctConstants == such a state, where constants have different objects

@@ -4,7 +4,7 @@ use mathlib.Core.Bool.{Bool, true, false, _||_}
 use mathlib.Core.List.{List, [], _∷_}
 use Prim.Native.Nat.{ℕ, suc, _+_, _*_, _^_, _≤_, _<_, max}
 use native.Mathlib.Omega.{arith}
-use native.Mathlib.Nat.{le-of-eq, zero-add}
+use native.Mathlib.Nat.{zero-add}
 use lib.Dec.{ltb, eqb}
 use borrow.Author.Tests.{ltb-false}
 use Rattle.refusal.specs.declared.Refusal.the-variants.{Scale}
@@ -13,7 +13,7 @@ use Rattle.refusal.specs.OutcomeLaws.{accepted-ok, accepted-then, accepted-cond
 use Rattle.label.specs.Limits.{firstParameter, parameterCount, firstVariable}
 use Rattle.label.specs.Labels.{areArities}
 use Rattle.diagram.specs.Sizes.{highestValue}
-use Rattle.diagram.specs.Diagram.{Diagram, leaf}
+use Rattle.diagram.specs.Diagram.{Diagram, leaf, relabel}
 use Rattle.diagram.specs.Listing.{Good as Listed}
 use Rattle.diagram.specs.Variables.{closed}
 use Rattle.rename.specs.ClosingLaws.{closed-good}
@@ -21,18 +21,21 @@ use Rattle.apply.specs.declared.Operation.the-variants.{Sum, Product, Max}
 use Rattle.apply.specs.declared.Names.the-variants.{Apart, Shared}
 use Rattle.apply.specs.GoodLaws.{fine-every}
 use Rattle.state.specs.Max.{Tuple, none, maxTuples, maxOf, sumOf}
-use Rattle.state.specs.MaxLaws.{max-scale, max-both}
 use Rattle.state.specs.State.{meaning, State, Good, value, fixed, Fits}
 use Rattle.state.specs.ValueLaws.{low-lt, Terms-mono, value-same}
-use Rattle.state.specs.Highest.{Highest, Bound, start, highest}
-use Rattle.state.specs.HighestLaws.{start-fits, bound-tuple, highest-is}
+use Rattle.state.specs.Highest.{Bound, start}
+use Rattle.state.specs.HighestLaws.{start-fits, bound-tuple}
+use Rattle.minimum.specs.Number.{Number, number}
+use Rattle.minimum.specs.NumberLaws.{number-is, number-scale}
+use Rattle.minimum.specs.PlainLaws.{fine-plain}
+use Rattle.minimum.specs.ApartLaws.{number-max-shared, number-fixed}
 use Rattle.regression.specs.Regression.{regressed}
 use Rattle.regression.specs.Parameters.{Allowed, Within, GoodTruths, WithinTruths}
 use Rattle.regression.specs.Next.{meanings}
-use Rattle.regression.specs.NextLaws.{Tells, regressed-tells, regressed-highest, next-good}
+use Rattle.regression.specs.NextLaws.{Tells, regressed-tells, regressed-number, next-good}
 use Rattle.regression.specs.RegressCall.{freedOutcome}
 use Rattle.reduction.specs.Claims.{Values}
-use Rattle.reduction.specs.ClosedLaws.{within-closed, closed-highest}
+use Rattle.reduction.specs.ClosedLaws.{within-closed, closed-number}
 use Rattle.mdp.specs.Model.{Variant, Action, Model, scale, Every, GoodVariant, GoodAction, GoodModel}
 use Rattle.mdp.specs.Bellman.{weightIn, stateAfter, rewardIn, bellman}
 use Rattle.mdp.specs.Backup.{combined, variantsSum, actionsBest, highestScale, mostSteps, scaleEnds, backup, rowOfCalls}
@@ -62,41 +65,37 @@ stateAfter-good ar s os v g = next-good s os (meanings ar (v .truths)) g
 
 -- ===== The steps of a backup =====
 
--- d has the highest leaf y in every state, for every tuple of c objects
+-- d has the number y in every state, for every tuple of c objects
 pub record Has (ar : List ℕ) (c : ℕ) (y : State → List ℕ → ℕ) (d : Diagram) : Type 0 where
   pub listed : Listed ar d
   pub within : Within c (meaning ar d)
-  pub high : (s : State) → Good s → (os : List ℕ) → Tuple (s .size) c os → Highest s os (meaning ar d) (y s os)
+  pub numbers : (s : State) → Good s → (os : List ℕ) → Tuple (s .size) c os → Number s os (meaning ar d) (y s os)
 
 pub leaf-has : (ar : List ℕ) (c x : ℕ) → areArities ar ≡ true → x ≤ highestValue → Has ar c (λ s os. x) (leaf x)
 leaf-has ar c x good h = record {
   listed = leaf-listed ar x good h;
   within = leaf-within c ar x;
-  high = λ s g os t. record {
-    point = start s os;
-    inside = start-fits s os g (bound-tuple g t);
-    value = leaf-value ar s x (start s os);
-    bound = λ θ f. le-of-eq (leaf-value ar s x θ);
-  };
+  numbers = λ s g os t. subst (λ (y : ℕ). Number s os (meaning ar (leaf x)) y) (leaf-value ar s x (start s os))
+      (number-fixed s os (meaning ar (leaf x)) (unfold meaning relabel in tt) (start s os) (start-fits s os g (bound-tuple g t)));
 }
 
 pub has-same : {ar : List ℕ} {c : ℕ} {y z : State → List ℕ → ℕ} {d : Diagram} → Has ar c y d → ((s : State) (os : List ℕ) → y s os ≡ z s os) → Has ar c z d
 has-same {ar = ar} {d = d} h e = record {
   listed = h .listed;
   within = h .within;
-  high = λ s g os t. subst (λ (x : ℕ). Highest s os (meaning ar d) x) (e s os) (h .high s g os t);
+  numbers = λ s g os t. subst (λ (x : ℕ). Number s os (meaning ar d) x) (e s os) (h .numbers s g os t);
 }
 
 only-nil : {n : ℕ} {os : List ℕ} → Tuple n 0 os → [] ≡ os
 only-nil none = refl
 
 -- without parameters the tuple is empty
-has-none : (ar : List ℕ) (y : State → ℕ) (d : Diagram) → Listed ar d → Within 0 (meaning ar d) → ((s : State) → Good s → Highest s [] (meaning ar d) (y s))
+has-none : (ar : List ℕ) (y : State → ℕ) (d : Diagram) → Listed ar d → Within 0 (meaning ar d) → ((s : State) → Good s → Number s [] (meaning ar d) (y s))
     → Has ar 0 (λ s os. y s) d
 has-none ar y d l w h = record {
   listed = l;
   within = w;
-  high = λ s g os t. subst (λ (o : List ℕ). Highest s o (meaning ar d) (y s)) (only-nil t) (h s g);
+  numbers = λ s g os t. subst (λ (o : List ℕ). Number s o (meaning ar d) (y s)) (only-nil t) (h s g);
 }
 
 -- the sum over the variants of the weighted values of the next states
@@ -109,8 +108,8 @@ module _ (ar : List ℕ) (good : areArities ar ≡ true) (g : ℕ) (g-few : g �
   regressed-has c v gv r tells = record {
     listed = tells .good;
     within = tells .within c (truths-within ar c v gv) (within-more c ar d (vals .within));
-    high = λ s gs os t. regressed-highest ar (v .truths) d r tells (vals .within) s gs os (bound-tuple gs t) (x (stateAfter ar s os v))
-        (vals .high (stateAfter ar s os v) (stateAfter-good ar s os v gs));
+    numbers = λ s gs os t. regressed-number ar (v .truths) d r tells (vals .within) s gs os (bound-tuple gs t) (x (stateAfter ar s os v))
+        (vals .numbers (stateAfter ar s os v) (stateAfter-good ar s os v gs));
   }
 
   pub variants-sum : (c : ℕ) → c ≤ parameterCount → (vs : List Variant) → Every (GoodVariant ar c) vs → (y : State → List ℕ → ℕ) (sum : Diagram) → Has ar c y sum
@@ -126,8 +125,8 @@ module _ (ar : List ℕ) (good : areArities ar ≡ true) (g : ℕ) (g-few : g �
       (variants-sum c few vs (gs .1) (λ s os. y s os + x (stateAfter ar s os v) * (weightIn ar s os v * g)) sum′ (record {
         listed = ha .listed;
         within = ha .within c (h .within) (hp .within c (regressed-has c v (gs .0) r hr .within) (hw .within c (weight-within ar c v (gs .0)) (leaf-within c ar g)));
-        high = λ s gd os t. ha .high s os (y s os) (x (stateAfter ar s os v) * (weightIn ar s os v * g)) (h .high s gd os t)
-            (max-scale (weightIn ar s os v * g) (regressed-has c v (gs .0) r hr .high s gd os t) (λ θ f.
+        numbers = λ s gd os t. ha .numbers s os (y s os) (x (stateAfter ar s os v) * (weightIn ar s os v * g)) (h .numbers s gd os t)
+            (number-scale (meaning ar r) (meaning ar p) (weightIn ar s os v * g) (regressed-has c v (gs .0) r hr .numbers s gd os t) (λ θ f.
             hp .values s θ ∙ ap (λ (n : ℕ). value s (meaning ar r) θ * n) (hw .values s θ ∙ times (weight-same ar c v few (gs .0) s os θ f) (leaf-value ar s g θ))));
       }))
       (λ e he. has-same he (λ s os. omega arith))))))
@@ -148,10 +147,12 @@ module _ (ar : List ℕ) (good : areArities ar ≡ true) (g : ℕ) (g-few : g �
       (actions-best l (gs .1) (λ s. max (z s) (maxTuples (s .size) (a .count) (λ os. gain ar g x s os (a .variants)))) best′ (has-none ar _ best′
       (hb .listed)
       (hb .within 0 (h .within) (within-closed 0 ar f (hf .listed) (hf .within)))
-      (λ s gd. max-both (h .high s gd [] none)
-      (closed-highest ar f (hf .listed) s [] _ (hf .high s gd (λ os. gain ar g x s os (a .variants))
-      (λ os t. has-same hq (λ s os. zero-add (gain ar g x s os (a .variants))) .high s gd os t)))
-      (λ θ f. hb .values s θ))))
+      (λ s gd. number-max-shared (meaning ar best) (meaning ar (closed ar f)) (meaning ar best′)
+      (fine-plain ar best (h .listed .fine)) (fine-plain ar (closed ar f) (closed-good ar f (hf .listed) .fine)) (fine-plain ar best′ (hb .listed .fine))
+      (λ θ e. hb .values s θ)
+      (h .numbers s gd [] none)
+      (closed-number ar f (hf .listed) s [] _ (hf .numbers s gd (λ os. gain ar g x s os (a .variants))
+      (λ os t. has-same hq (λ s os. zero-add (gain ar g x s os (a .variants))) .numbers s gd os t))))))
       (λ e he. has-same he (λ s os. omega arith)))))
 
 -- ===== A backup =====
@@ -194,9 +195,9 @@ backup-steps m gm k x d vals =
       listed = hc .listed;
       is-closed = hc .is-closed;
       within = hc .within 0 (hb .within) (hr .within 0 (gm .reward) (leaf-within 0 ar p));
-      high = λ s gd. subst (λ (x : ℕ). Highest s [] (meaning ar c) x) (last (maxOf (m .actions) _) (highest s [] (meaning ar (m .reward))) p)
-          (hc .high s [] _ (highest s [] (meaning ar (m .reward)) * p) (hb .high s gd [] none)
-          (max-scale p (highest-is s [] gd (bound-none s gd) (meaning ar (m .reward)))
+      numbers = λ s gd. subst (λ (x : ℕ). Number s [] (meaning ar c) x) (last (maxOf (m .actions) _) (number s [] (meaning ar (m .reward))) p)
+          (hc .numbers s [] _ (number s [] (meaning ar (m .reward)) * p) (hb .numbers s gd [] none)
+          (number-scale (meaning ar (m .reward)) (meaning ar r) p (number-is s [] gd (bound-none s gd) (meaning ar (m .reward)))
           (λ θ f. hr .values s θ ∙ ap (λ (n : ℕ). value s (meaning ar (m .reward)) θ * n) (leaf-value ar s p θ))));
     }))))
 

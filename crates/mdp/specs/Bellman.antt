@@ -3,7 +3,8 @@ use mathlib.Core.List.{List, []}
 use Prim.Native.Nat.{ℕ, zero, suc, _+_, _*_, _^_}
 use Rattle.state.specs.State.{State, meaning, value}
 use Rattle.state.specs.Max.{maxTuples, maxOf, sumOf}
-use Rattle.state.specs.Highest.{start, highest}
+use Rattle.state.specs.Highest.{start}
+use Rattle.minimum.specs.Number.{number}
 use Rattle.regression.specs.Next.{next, meanings}
 use Rattle.mdp.specs.Model.{Variant, Model, scale}
 
@@ -17,10 +18,10 @@ unfoldable pub stateAfter : List ℕ → State → List ℕ → Variant → Stat
 unfolding next meaning
 stateAfter ar s os v = next s os (meanings ar (v .truths))
 
--- the reward's value
+-- the reward's value: its number (document 02, L12: "the reward, and every value diagram, with maximum outside and minimum inside")
 unfoldable pub rewardIn : Model → State → ℕ
-unfolding highest meaning
-rewardIn m s = highest s [] (meaning (m .arities) (m .reward))
+unfolding number meaning
+rewardIn m s = number s [] (meaning (m .arities) (m .reward))
 
 -- M0(s) is the reward's value; M(k+1)(s) = S^(k+1) · M0(s) + the highest, over actions and object tuples, of the sum over variants of
 -- G · weight · Mk(next state)

@@ -1,4 +1,4 @@
--- What the calls of a backup give, each in terms of listings, parameters and highest leaves.
+-- What the calls of a backup give, each in terms of listings, parameters and numbers.
 use mathlib.Core.Path.{_≡_, refl, ap₂, sym, _∙_, subst}
 use mathlib.Core.Bool.{true, false}
 use mathlib.Core.List.{List, []}
@@ -21,11 +21,9 @@ use Rattle.diagram.specs.Diagram.{Diagram, leaf, eval, relabel}
 use Rattle.diagram.specs.Rows.{rows, onto}
 use Rattle.diagram.specs.Listing.{Fine, Good as Listed}
 use Rattle.diagram.specs.Variables.{occurs, variables, closedFrom, closed, after}
-use Rattle.rename.specs.Valuations.{ApartFree}
 use Rattle.rename.specs.Freeing.{freed, Freeable}
 use Rattle.rename.specs.VariableLaws.{terms-numbered, occurs-term, renaming-rows}
 use Rattle.rename.specs.ClosingLaws.{closed-good, closed-twice, after-good}
-use Rattle.rename.specs.ApartLaws.{apart-free}
 use Rattle.rename.specs.FreeingLaws.{freed-good}
 use Rattle.apply.specs.declared.Operation.{Operation}
 use Rattle.apply.specs.declared.Operation.the-variants.{Sum}
@@ -38,17 +36,20 @@ use Rattle.apply.specs.GoodLaws.{every-apply, fine-apply, good-apply, fine-ever
 use Rattle.apply.specs.Combination.{operate, combination, diagramAnswer}
 use Rattle.apply.specs.CombinationLaws.{done-accepted, good-shared}
 use Rattle.state.specs.Max.{Tuple, maxTuples}
-use Rattle.state.specs.State.{atomOf, meaning, State, Good, truth, holds, value}
+use Rattle.state.specs.State.{atomOf, meaning, State, Good, holds, value}
 use Rattle.state.specs.Terms.{Each, args}
 use Rattle.state.specs.ValueLaws.{Terms-mono}
-use Rattle.state.specs.Highest.{Highest}
+use Rattle.minimum.specs.Number.{Number}
+use Rattle.minimum.specs.ApartLaws.{sum-rises}
+use Rattle.minimum.specs.ClosingLaws.{number-combined}
 use Rattle.regression.specs.Parameters.{Allowed, Within}
 use Rattle.regression.specs.ResultLaws.{value-meaning, terms-every, every-terms}
 use Rattle.regression.specs.NextLaws.{terms-occur, occur-terms}
 use Rattle.regression.specs.RegressCall.{anyOccurs, freedOutcome}
 use Rattle.regression.specs.RegressCallLaws.{any-quiet}
-use Rattle.regression.specs.FreeCallLaws.{IsFreed, meaning-freed, freed-highest, freed-within}
-use Rattle.reduction.specs.ClosedLaws.{value-leaf, within-closedFrom, closed-room, within-closed, closed-highest}
+use Rattle.regression.specs.FreeCallLaws.{IsFreed, meaning-freed, room-freed, freed-number, freed-within}
+use Rattle.reduction.specs.KindLaws.{maximums-variables, closed-kinds, after-kinds}
+use Rattle.reduction.specs.ClosedLaws.{within-closedFrom, closed-room, within-closed, closed-number}
 use Rattle.mdp.specs.Backup.{given, combined}
 
 -- ===== Meanings and parameters =====
@@ -121,35 +122,20 @@ pub record Added (ar : List ℕ) (a b r : Diagram) : Type 0 where
   pub listed : Listed ar r
   pub is-closed : closed ar r ≡ r
   pub within : (c : ℕ) → Within c (meaning ar a) → Within c (meaning ar b) → Within c (meaning ar r)
-  pub high : (s : State) (os : List ℕ) (x y : ℕ) → Highest s os (meaning ar a) x → Highest s os (meaning ar b) y → Highest s os (meaning ar r) (x + y)
+  pub numbers : (s : State) (os : List ℕ) (x y : ℕ) → Number s os (meaning ar a) x → Number s os (meaning ar b) y → Number s os (meaning ar r) (x + y)
 
 -- the sum before it is closed up
 abbrev before : List ℕ → Diagram → Diagram → Diagram
 before ar a b = apply _+_ (closed ar a) (after ar a b)
 
 module _ (ar : List ℕ) (a b : Diagram) (good-a : Listed ar a) (good-b : Listed ar b) (room : length (variables ar a) + length (variables ar b) ≤ variableCount) where
-  free : ApartFree ar a b
-  free = apart-free ar a b good-a good-b room
-
-  -- the operands' leaves are chosen freely, so that the highest of the sum is the sum of the highest
-  apart-sum : (s : State) (os : List ℕ) (x y : ℕ) → Highest s os (meaning ar a) x → Highest s os (meaning ar b) y → Highest s os (meaning ar (before ar a b)) (x + y)
+  -- the operands have no variable in common, so that the number of the sum is the sum of the numbers
+  apart-sum : (s : State) (os : List ℕ) (x y : ℕ) → Number s os (meaning ar a) x → Number s os (meaning ar b) y → Number s os (meaning ar (before ar a b)) (x + y)
   apart-sum s os x y m k =
-      let j = free .joined (m .point) (k .point) (λ t h. m .inside .low t h ∙ sym (k .inside .low t h)) in
-      record {
-        point = j .assign;
-        inside = record { low = λ t h. j .low t h ∙ m .inside .low t h; range = j .range (s .size) (m .inside .range) (k .inside .range) };
-        value = value-apply _+_ ar (closed ar a) (after ar a b) s (j .assign) ∙ ap₂ _+_
-            (value-leaf ar s (closed ar a) (j .assign) ∙ j .first (truth s) ∙ sym (value-leaf ar s a (m .point)) ∙ m .value)
-            (value-leaf ar s (after ar a b) (j .assign) ∙ j .second (truth s) ∙ sym (value-leaf ar s b (k .point)) ∙ k .value);
-        bound = λ θ f.
-            let p = free .parted θ in
-            let u = m .bound (p .assign-a) (record { low = λ t h. p .low t h .0 ∙ f .low t h; range = λ t. p .range (s .size) (f .range) t .0 }) in
-            let v = k .bound (p .assign-b) (record { low = λ t h. p .low t h .1 ∙ f .low t h; range = λ t. p .range (s .size) (f .range) t .1 }) in
-            let e = value-apply _+_ ar (closed ar a) (after ar a b) s θ in
-            let e-a = value-leaf ar s (closed ar a) θ ∙ p .first (truth s) ∙ sym (value-leaf ar s a (p .assign-a)) in
-            let e-b = value-leaf ar s (after ar a b) θ ∙ p .second (truth s) ∙ sym (value-leaf ar s b (p .assign-b)) in
-            omega arith;
-      }
+      let fits : firstVariable + length (variables ar a) + length (variables ar b) ≤ termEnd = omega arith in
+      number-combined (meaning ar a) (meaning ar b) (rw (maximums-variables ar a good-a, maximums-variables ar b good-b) fits) _+_ sum-rises (meaning ar (before ar a b))
+      (λ θ f. value-apply _+_ ar (closed ar a) (after ar a b) s θ
+      ∙ ap₂ (λ c d. value s c θ + value s d θ) (closed-kinds ar a good-a) (after-kinds ar a b good-a good-b fits)) m k
 
   within-before : (c : ℕ) → Within c (meaning ar a) → Within c (meaning ar b) → Within c (meaning ar (before ar a b))
   unfolding after
@@ -171,7 +157,7 @@ apart-added ar a b x y = go (diagramAnswer Sum Apart ar a b) refl
           listed = closed-good ar (before ar a b) good;
           is-closed = closed-twice ar (before ar a b) good;
           within = λ c p q. within-closed c ar (before ar a b) good (within-before ar a b x y room c p q);
-          high = λ s os p q m k. closed-highest ar (before ar a b) good s os (p + q) (apart-sum ar a b x y room s os p q m k);
+          numbers = λ s os p q m k. closed-number ar (before ar a b) good s os (p + q) (apart-sum ar a b x y room s os p q m k);
         })
     go (Refused r) e = accepted-refused
 
@@ -180,15 +166,15 @@ apart-added ar a b x y = go (diagramAnswer Sum Apart ar a b) refl
 pub record FreedTo (ar : List ℕ) (c : ℕ) (d r : Diagram) : Type 0 where
   pub listed : Listed ar r
   pub within : Within 0 (meaning ar r)
-  pub high : (s : State) → Good s → (x : List ℕ → ℕ) → ((os : List ℕ) → Tuple (s .size) c os → Highest s os (meaning ar d) (x os))
-      → Highest s [] (meaning ar r) (maxTuples (s .size) c x)
+  pub numbers : (s : State) → Good s → (x : List ℕ → ℕ) → ((os : List ℕ) → Tuple (s .size) c os → Number s os (meaning ar d) (x os))
+      → Number s [] (meaning ar r) (maxTuples (s .size) c x)
 
 pub freed-to : (ar : List ℕ) (c : ℕ) (d : Diagram) → Listed ar d → c ≤ parameterCount → Within c (meaning ar d) → Accepted (FreedTo ar c d) (freedOutcome ar c d)
 unfolding freedOutcome
 freed-to ar c d good few w = accepted-cond (anyOccurs ar d (termEnd - c) c) Variables _ (λ q. accepted-ok (record {
   listed = freed-good ar c d good (freeable q);
   within = freed-within ar c d (freed ar c d) (is-freed q) w;
-  high = λ s g x h. freed-highest ar c d (freed ar c d) (is-freed q) s g x h;
+  numbers = λ s g x h. freed-number ar c d (freed ar c d) (is-freed q) s g x h;
 }))
   where
     freeable : anyOccurs ar d (termEnd - c) c ≡ false → Freeable ar c d
@@ -215,6 +201,7 @@ freed-to ar c d good few w = accepted-cond (anyOccurs ar d (termEnd - c) c) Vari
       parameters = ps;
       variables = vs;
       means = unfold freed in meaning-freed ar c d few ps vs (good .arities) (fine-every ar d (good .fine));
+      room = room-freed ar c d few ps vs (fine-every ar d (good .fine));
     }
       where
         ps : (t : ℕ) → firstParameter + c ≤ t → t < firstParameter + parameterCount → occurs ar t d ≡ false

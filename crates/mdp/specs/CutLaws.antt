@@ -16,6 +16,7 @@ use Rattle.rename.specs.ClosingLaws.{closed-good, closed-twice}
 use Rattle.apply.specs.GoodLaws.{EveryLabel}
 use Rattle.state.specs.State.{atomOf, meaning, State}
 use Rattle.state.specs.Terms.{Each, args}
+use Rattle.minimum.specs.PlainLaws.{fine-plain}
 use Rattle.regression.specs.Parameters.{Allowed, Within}
 use Rattle.regression.specs.ResultLaws.{terms-every, every-terms}
 use Rattle.cutting.specs.declared.Cut.the-variants.{Refused}
@@ -26,7 +27,7 @@ use Rattle.cutting.specs.TruthLaws.{cut-keeps}
 use Rattle.cutting.specs.ReduceLaws.{cut-good}
 use Rattle.reduction.specs.Claims.{Values}
 use Rattle.reduction.specs.KeepingLaws.{reduced-every}
-use Rattle.reduction.specs.ClosedLaws.{within-closed, closed-highest}
+use Rattle.reduction.specs.ClosedLaws.{within-closed, closed-number}
 use Rattle.mdp.specs.Runs.{leaves, cutOutcome}
 
 -- the labels that are left are labels of the diagram
@@ -63,7 +64,8 @@ cut-values ar y d v few k b mg =
       listed = closed-good ar (reduced (cutAt r b d)) good;
       is-closed = closed-twice ar (reduced (cutAt r b d)) good;
       within = within-closed 0 ar (reduced (cutAt r b d)) good (within-cut 0 ar r b d (v .within));
-      high = λ s g. closed-highest ar (reduced (cutAt r b d)) good s [] (y s) (cut-keeps ar (v .listed .arities) d r b mg s [] (y s) (v .high s g));
+      numbers = λ s g. closed-number ar (reduced (cutAt r b d)) good s [] (y s)
+          (cut-keeps ar (v .listed .arities) d r b mg (fine-plain ar d (v .listed .fine)) (fine-plain ar (reduced (cutAt r b d)) (good .fine)) s [] (y s) (v .numbers s g));
     }
 
 pub cut-is : (ar : List ℕ) (y : State → ℕ) (d : Diagram) → Values ar y d → Accepted (Values ar y) (cutOutcome ar d)

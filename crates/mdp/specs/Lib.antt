@@ -29,7 +29,7 @@
 --   aa, linked, pairModel == a model for what a cut misses and a reduction finds
 --
 -- Theorems
---   demand-3: after any list of backups, cuts and reductions, refused ones among them, the value diagram's highest leaf is Mk in every state
+--   demand-3: after any list of backups, cuts and reductions, refused ones among them, the value diagram's number is Mk in every state
 --   backup-steps: a backup takes a diagram of whatever values x to one of S^(k+1) · M0 + the best of the sums of G · weight · x
 --   backup-is: so it takes a diagram of the values Mk to one of the values M(k+1)
 --   cut-is: a cut leaves a diagram of the same values

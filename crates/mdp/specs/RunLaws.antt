@@ -1,13 +1,12 @@
--- Demand 3, whole: after every list of backups, cuts and reductions, refused ones among them, the highest leaf of the value diagram is Mk, in every state.
+-- Demand 3, whole: after every list of backups, cuts and reductions, refused ones among them, the number of the value diagram is Mk, in every state.
 use mathlib.Core.Path.{_≡_, refl}
 use mathlib.Core.List.{List, [], _∷_}
 use Prim.Native.Nat.{ℕ, suc}
 use Rattle.refusal.specs.Outcome.{Outcome, ok, refused, Accepted}
 use Rattle.diagram.specs.Diagram.{Diagram}
-use Rattle.state.specs.MaxLaws.{max-one}
 use Rattle.state.specs.State.{meaning, State, Good}
-use Rattle.state.specs.Highest.{highest}
-use Rattle.state.specs.HighestLaws.{highest-is}
+use Rattle.minimum.specs.Number.{number}
+use Rattle.minimum.specs.NumberLaws.{number-is, number-equal}
 use Rattle.reduction.specs.Claims.{Values}
 use Rattle.reduction.specs.Reduction.{reduceAnswer}
 use Rattle.reduction.specs.ReductionLaws.{reduce-is}
@@ -18,7 +17,7 @@ use Rattle.mdp.specs.Runs.{Call, aBackup, aCut, aReduce, Held, cutOutcom
 use Rattle.mdp.specs.BackupLaws.{bound-none, backup-is}
 use Rattle.mdp.specs.CutLaws.{cut-is}
 
--- the value diagram has a listing, is closed up, has no parameter, and its highest leaf in every state is Mk
+-- the value diagram has a listing, is closed up, has no parameter, and its number in every state is Mk
 abbrev pub Right : Model → Held → Type 0
 Right m h = Values (m .arities) (bellman m (h .steps)) (h .diagram)
 
@@ -44,7 +43,7 @@ module _ (m : Model) (good : GoodModel m) where
     listed = good .reward-listed;
     is-closed = good .reward-closed;
     within = good .reward;
-    high = λ s g. highest-is s [] g (bound-none s g) (meaning (m .arities) (m .reward));
+    numbers = λ s g. number-is s [] g (bound-none s g) (meaning (m .arities) (m .reward));
   }
 
   pub run-right : (l : List Call) → Right m (run m l)
@@ -53,6 +52,6 @@ module _ (m : Model) (good : GoodModel m) where
 
 -- for every model that reading can accept, every list of backups, cuts and reductions, every state of one object or more
 pub demand-3 : (m : Model) → GoodModel m → (l : List Call) (s : State) → Good s
-    → highest s [] (meaning (m .arities) (run m l .diagram)) ≡ bellman m (run m l .steps) s
+    → number s [] (meaning (m .arities) (run m l .diagram)) ≡ bellman m (run m l .steps) s
 demand-3 m good l s g =
-    max-one (highest-is s [] g (bound-none s g) (meaning (m .arities) (run m l .diagram))) (run-right m good l .high s g)
+    number-equal s [] g (bound-none s g) (meaning (m .arities) (run m l .diagram)) _ (run-right m good l .numbers s g)

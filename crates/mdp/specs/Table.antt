@@ -21,7 +21,7 @@ use Rattle.apply.specs.declared.Names.the-variants.{Shared}
 use Rattle.apply.specs.declared.Combined.the-variants.{Done, Refused}
 use Rattle.apply.specs.Combination.{rowsFormed, combination, diagramAnswer}
 use Rattle.state.specs.State.{meaning, State}
-use Rattle.state.specs.Highest.{highest}
+use Rattle.minimum.specs.Number.{number}
 use Rattle.regression.specs.Step.{labelTest}
 use Rattle.regression.specs.Regression.{truthAt}
 use Rattle.cutting.specs.declared.Edge.the-variants.{False}
@@ -36,7 +36,7 @@ use Rattle.mdp.specs.Runs.{Call, aBackup, aCut, aReduce, run}
 
 -- what (value) prints: value, k, S^k
 abbrev shown : Model → List Call → State → ℕ × ℕ × ℕ
-shown m l s = (highest s [] (meaning (m .arities) (run m l .diagram)), run m l .steps, scale m ^ run m l .steps)
+shown m l s = (number s [] (meaning (m .arities) (run m l .diagram)), run m l .steps, scale m ^ run m l .steps)
 
 -- S = 8, reward 1, one action that changes nothing
 abbrev eightModel : Model
@@ -68,7 +68,7 @@ pub table : (shown runModel [] nothingTrue ≡ (0, 0, 1))
     × (run eightModel (replicate 19 aBackup) .steps ≡ 19)
     × (backup eightModel 19 (run eightModel (replicate 19 aBackup) .diagram) ≡ refused Scale)
     × (andThen (truthAt (equalityArity ∷ 2 ∷ replicate (predicateCount - 2) 0) (forFirst (labelTest ab)) ba []) (λ r. ok (r .0)) ≡ ok (labelTest ba))
-unfolding run highest meaning scale cutAnswer diagramAnswer combination rowsFormed formed ends pairs pairCount overflows apply backup truthAt variables closed after moved testOf equates renamed numbering freeing mapped placed packed unpacked predicateOf termsOf isVariable
+unfolding run number meaning scale cutAnswer diagramAnswer combination rowsFormed formed ends pairs pairCount overflows apply backup truthAt variables closed after moved testOf equates renamed numbering freeing mapped placed packed unpacked predicateOf termsOf isVariable
 table = (refl, refl, refl, refl, refl, refl, refl, refl, refl, refl)
 
 -- a reward 1 if p(?a ?a), p(?a ?b) or p(?b ?a), the last as "more", and no action

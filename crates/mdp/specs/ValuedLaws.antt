@@ -16,12 +16,12 @@ use Rattle.diagram.specs.ListingOfDiagram.{diagram-listing}
 use Rattle.diagram.specs.Listings.{good-is-listing}
 use Rattle.diagram.specs.Variables.{occurs, occurring}
 use Rattle.state.specs.State.{meaning, Good}
-use Rattle.state.specs.Highest.{highest}
 use Rattle.state.specs.Lent.{stateOf, isState}
 use Rattle.state.specs.declared.Valued.{Valued}
 use Rattle.state.specs.declared.Valued.the-variants.{Value, Refused}
-use Rattle.state.specs.ValueCall.{parameters, answerBy}
-use Rattle.elimination.specs.Answer.{isTooLarge, valueAnswer}
+use Rattle.state.specs.ValueCall.{parameters}
+use Rattle.minimum.specs.Number.{number}
+use Rattle.elimination.specs.Answer.{answerBy, isTooLarge, valueAnswer}
 use Rattle.elimination.specs.AnswerLaws.{lent-good}
 use Rattle.regression.specs.Parameters.{Within}
 use Rattle.mdp.specs.Model.{Model, GoodModel}
@@ -49,15 +49,15 @@ passes a b c d w x y z v h i j k = rw (h, i, j, k)
 
 answer : (ar ws : List ℕ) (d : Diagram) (n : ℕ) (constants facts : List ℕ) → isListing ar ws ≡ true → diagramOf ws ≡ d
     → isState ar n constants facts ≡ true → parameters ar d ≡ [] → isTooLarge ar (stateOf ar n constants facts) [] ws ≡ false
-    → valueAnswer ar ws n constants facts ≡ Value (highest (stateOf ar n constants facts) [] (meaning ar d))
+    → valueAnswer ar ws n constants facts ≡ Value (number (stateOf ar n constants facts) [] (meaning ar d))
 unfolding valueAnswer answerBy
 answer ar ws d n constants facts i q s p f =
     passes (isListing ar ws) (isState ar n constants facts) (eqb (length (parameters ar (diagramOf ws))) 0) (isTooLarge ar (stateOf ar n constants facts) [] ws)
     (Refused Listing) (Refused Range) (Refused Unbound) (Refused Valuations)
-    (Value (highest (stateOf ar n constants facts) [] (meaning ar (diagramOf ws)))) i s
+    (Value (number (stateOf ar n constants facts) [] (meaning ar (diagramOf ws)))) i s
     (ap (λ (x : Diagram). eqb (length (parameters ar x)) 0) q ∙ ap (λ (x : List ℕ). eqb (length x) 0) p)
     f
-    ∙ ap (λ (x : Diagram). Value (highest (stateOf ar n constants facts) [] (meaning ar x))) q
+    ∙ ap (λ (x : Diagram). Value (number (stateOf ar n constants facts) [] (meaning ar x))) q
 
 -- of every lent state in which not both ways of working are too large
 pub value-is : (m : Model) → GoodModel m → (l : List Call) (n : ℕ) (constants facts : List ℕ) → isState (m .arities) n constants facts ≡ true

@@ -141,7 +141,7 @@ module _ (s : State) (os : List ℕ) (mine : ℕ → Bool) (a b : Tree Atomic) (
         ),
       )
 
-in-mem : (t : ℕ) (ts : List ℕ) → List·Memᴰ t ts → mem eqb t ts ≡ true
+pub in-mem : (t : ℕ) (ts : List ℕ) → List·Memᴰ t ts → mem eqb t ts ≡ true
 in-mem t (u ∷ ts) (List·Memᴰ·head e) = or-one (eqb t u) (mem eqb t ts) (eq-eqb t u e)
 in-mem t (u ∷ ts) (List·Memᴰ·tail m) = or-other (eqb t u) (mem eqb t ts) (in-mem t ts m)
 

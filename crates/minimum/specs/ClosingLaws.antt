@@ -55,11 +55,11 @@ rank-below vs t m = omega (arith, rank-less vs t (t + 1) m (omega arith), rank-m
 -- ===== Numbering kind by kind =====
 
 module _ (us vs : List ℕ) (m n : ℕ) where
-  kinds-fixed : (t : ℕ) → t < firstVariable → numberingKinds us vs m n t ≡ t
+  pub kinds-fixed : (t : ℕ) → t < firstVariable → numberingKinds us vs m n t ≡ t
   unfolding numberingKinds
   kinds-fixed t h = rw (lt-ltb t firstVariable h)
 
-  kinds-maximum : (t : ℕ) → firstVariable ≤ t → t < firstMinimum → numberingKinds us vs m n t ≡ m + rank us t
+  pub kinds-maximum : (t : ℕ) → firstVariable ≤ t → t < firstMinimum → numberingKinds us vs m n t ≡ m + rank us t
   unfolding numberingKinds
   kinds-maximum t h k = rw (le-ltb t firstVariable h, lt-ltb t firstMinimum k)
 

@@ -58,7 +58,7 @@ unfolding freeingKinds
 kinds-high c t h = rw (le-ltb t firstMinimum h)
 
 -- the four cases of a term below the minimum variables
-by-kind : (c : ℕ) (P : Type 0) (t : ℕ) → (t < firstParameter → P) → (firstParameter ≤ t → t < firstParameter + c → P)
+pub by-kind : (c : ℕ) (P : Type 0) (t : ℕ) → (t < firstParameter → P) → (firstParameter ≤ t → t < firstParameter + c → P)
     → (firstParameter + c ≤ t → t < firstVariable → P) → (firstVariable ≤ t → P) → P
 by-kind c P t f g h k = by-low P firstParameter t f (λ l. by-low P (firstParameter + c) t (g l) (λ m. by-low P firstVariable t (h m) k))
 

@@ -1,5 +1,5 @@
--- A diagram's number with minimum variables (document 02, L12). Its labels, its reading and its code are to come: the highest leaf of crate state then
--- becomes this number.
+-- A diagram's number with minimum variables (document 02, L12): what backups, values and the demands speak of. Labels with minimum variables are to come; without
+-- them it is the highest leaf of crate state (fine-plain, number-plain).
 --
 -- Definitions: the number
 --   IsMin, minTo == x is the lowest of f on P: attained, and nothing below; the lowest over the numbers below n
@@ -29,7 +29,7 @@
 -- Theorems
 --   number-is: the number computed is the number; number-one: there is one; number-equal: so each number is the computed one; number-attained: it is a leaf
 --   number-reads, reads-number: it is the highest, over the maximum variables, of the lowest leaf over the minimum ones
---   number-plain: without minimum variables it is the highest leaf; highest-number and number-highest, of the relations
+--   number-plain: without minimum variables it is the highest leaf; highest-number and number-highest, of the relations; fine-plain: a listing of today has none
 --   number-of-sum, number-of-max: of operands apart, the sum and the higher of their numbers (number-apart: for each operation that rises)
 --   number-of-product: times a diagram without variables, the product; number-fixed: whose number is its leaf; number-scale: times a number
 --   number-max-shared: names may be shared in a max where there is no minimum variable

@@ -1,14 +1,19 @@
--- Without minimum variables the number is the highest leaf.
+-- Without minimum variables the number is the highest leaf; the labels of today have none.
 use mathlib.Core.Path.{_≡_, refl, ap, ap₂, sym, _∙_}
 use mathlib.Core.List.{List, [], _∷_}
 use mathlib.Core.Bool.{Bool, true, false, cond}
-use Prim.Native.Nat.{ℕ, _<_}
+use Prim.Native.Nat.{ℕ, zero, suc, _<_}
+use native.Mathlib.Omega.{arith}
 use native.Mathlib.Nat.{le-of-eq, le-trans}
+use lib.ListN.{length, getD, take}
 use lib.Dec.{ltb, eqb}
 use borrow.Author.Tests.{lt-ltb}
 use Rattle.label.specs.Limits.{firstVariable}
-use Rattle.diagram.specs.Diagram.{Tree, leaf, branch}
-use Rattle.state.specs.State.{Atomic, State, value, Fits}
+use Rattle.label.specs.Labels.{isLabel, placesOf, unpacked, termsOf}
+use Rattle.label.specs.LabelLaws.{term-below, used-term, label-fits}
+use Rattle.diagram.specs.Diagram.{Tree, Diagram, leaf, branch, relabel}
+use Rattle.diagram.specs.Listing.{Fine}
+use Rattle.state.specs.State.{Atomic, atomOf, meaning, State, value, Fits}
 use Rattle.state.specs.Terms.{Each, args, Terms}
 use Rattle.state.specs.ValueLaws.{value-same}
 use Rattle.state.specs.Highest.{Highest, maxVals, insert, varsOf, varsIn, vars, start, highest}
@@ -57,6 +62,11 @@ unfolding from
 from-none m [] w = refl
 from-none m (v ∷ vs) w = rw (lt-ltb v m (w .0)) (from-none m vs (w .1))
 
+-- the maximum variables are all
+pub maximums-plain : (d : Tree Atomic) → Plain d → maximums d ≡ vars d
+unfolding maximums
+maximums-plain d w = below-all firstMinimum (vars d) (vars-each (λ t. t < firstMinimum) d w)
+
 pub number-plain : (s : State) (os : List ℕ) (d : Tree Atomic) → Plain d → number s os d ≡ highest s os d
 unfolding number highest maximums minimums
 number-plain s os d w =
@@ -80,3 +90,23 @@ number-highest s os d w x m = record {
   value = sym (plain-under s os d w (m .point) (m .lowest .point) (m .lowest .inside)) ∙ m .lowest .value;
   bound = λ θ f. let b = m .bound θ f in le-trans (le-of-eq (sym (plain-under s os d w θ (b .0) (b .1)))) (b .2);
 }
+
+-- ===== Labels =====
+
+-- the first n of a list, one by one
+pub each-take : (P : ℕ → Type 0) (n : ℕ) (ts : List ℕ) → ((k : ℕ) → k < n → k < length ts → P (getD ts k 0)) → Each P (take n ts)
+each-take P zero ts f = tt
+each-take P (suc n) [] f = tt
+each-take P (suc n) (t ∷ ts) f = (f 0 (omega arith) (omega arith), each-take P n ts (λ k h i. f (suc k) (omega arith) (omega arith)))
+
+-- the terms of a label end where the minimum variables begin
+label-plain : (ar : List ℕ) (l : ℕ) → isLabel ar l ≡ true → Each (λ t. t < firstMinimum) (termsOf ar (unpacked l))
+unfolding termsOf
+label-plain ar l h = each-take (λ t. t < firstMinimum) (getD ar (unpacked l .predicate) 0) (placesOf (unpacked l))
+    (λ k i j. term-below (getD (placesOf (unpacked l)) k 0) (used-term _ k _ i (label-fits ar l h .places-fit .fits k j)))
+
+-- so that what has a listing has no minimum variable
+pub fine-plain : (ar : List ℕ) (d : Diagram) → Fine ar d → Plain (meaning ar d)
+unfolding meaning relabel atomOf
+fine-plain ar (leaf x) w = tt
+fine-plain ar (branch l t f) w = (label-plain ar l (w .0), fine-plain ar t (w .1), fine-plain ar f (w .2))

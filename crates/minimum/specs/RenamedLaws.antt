@@ -9,16 +9,23 @@ use lib.Dec.{eqb}
 use borrow.Author.Tests.{eqb-true, eqb-false}
 use Rattle.basics.specs.Tests.{Cmp, below, equal, above, cmp}
 use Rattle.label.specs.Limits.{firstVariable}
-use Rattle.diagram.specs.Diagram.{Tree}
-use Rattle.state.specs.State.{Atomic, State, Good, value, low, Fits}
+use Rattle.diagram.specs.Diagram.{Tree, leaf, branch}
+use Rattle.state.specs.State.{Atomic, atom, State, Good, value, low, Fits}
 use Rattle.state.specs.Terms.{Terms, rename}
-use Rattle.state.specs.ValueLaws.{low-lt, low-ge, by-low, Terms-mono, value-same, rename-value, fits-after}
+use Rattle.state.specs.ValueLaws.{low-lt, low-ge, by-low, map-same, Terms-mono, value-same, rename-value, fits-after}
 use Rattle.state.specs.Highest.{vars, Bound}
 use Rattle.state.specs.HighestLaws.{vars-in}
 use Rattle.minimum.specs.Min.{IsMaxMin, Met}
 use Rattle.minimum.specs.Number.{firstMinimum, Under, Number, number}
 use Rattle.minimum.specs.Operations.{SameKind, KindByKind}
 use Rattle.minimum.specs.NumberLaws.{number-is, number-equal, number-by, split, split-low, split-high, split-under}
+
+-- maps that agree on the terms of d
+pub rename-same : (P : ℕ → Type 0) (ρ σ : ℕ → ℕ) → ((t : ℕ) → P t → ρ t ≡ σ t) → (d : Tree Atomic) → Terms P d → rename ρ d ≡ rename σ d
+unfolding rename
+rename-same P ρ σ e (leaf x) w = refl
+rename-same P ρ σ e (branch (atom p ts) t f) w =
+    λ i. branch (atom p (map-same P ρ σ e ts (w .0) i)) (rename-same P ρ σ e t (w .1) i) (rename-same P ρ σ e f (w .2) i)
 
 -- the variable of the list that ρ turns into t
 back : (ℕ → ℕ) → List ℕ → ℕ → ℕ

@@ -21,7 +21,7 @@ use Rattle.diagram.specs.Listings.{is-listing-good}
 use Rattle.diagram.specs.Variables.{occurs}
 use Rattle.rename.specs.VariableLaws.{occurs-term}
 use Rattle.state.specs.State.{meaning, State, Good}
-use Rattle.state.specs.Highest.{highest}
+use Rattle.minimum.specs.Number.{number}
 use Rattle.state.specs.ValueLaws.{Terms-mono}
 use Rattle.regression.specs.Parameters.{Allowed, Within}
 use Rattle.regression.specs.NextLaws.{occur-terms}
@@ -82,7 +82,7 @@ called ar ws n m r e = go (isListing ar ws) refl (ltb n resultWords || ltb m spa
 
 -- "The value is the same in every state", of whatever the call accepts
 pub call-keeps : (ar ws : List ℕ) (n m : ℕ) (r : Diagram) → reduceCall ar ws n m ≡ ok r
-    → (s : State) → Good s → highest s [] (meaning ar r) ≡ highest s [] (meaning ar (diagramOf ws))
+    → (s : State) → Good s → number s [] (meaning ar r) ≡ number s [] (meaning ar (diagramOf ws))
 call-keeps ar ws n m r e =
     let c = called ar ws n m r e in
     let g = is-listing-good ar ws (c .listed) in

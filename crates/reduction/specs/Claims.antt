@@ -13,7 +13,7 @@ use Rattle.diagram.specs.Words.{isListing}
 use Rattle.diagram.specs.Listing.{diagramOf, Good as Listed}
 use Rattle.diagram.specs.Variables.{closed}
 use Rattle.state.specs.State.{meaning, State, Good}
-use Rattle.state.specs.Highest.{Highest}
+use Rattle.minimum.specs.Number.{Number}
 use Rattle.regression.specs.Parameters.{Within}
 use Rattle.paths.specs.Paths.{Step, paths, mostPaths}
 use Rattle.paths.specs.Routes.{stepOn, pathAt}
@@ -78,9 +78,9 @@ pub record Called (ar ws : List ℕ) (n m : ℕ) (r : Diagram) : Type 0 where
   pub quiet : hasParameter ar (diagramOf ws) ≡ false
   pub answer : reduceAnswer ar (diagramOf ws) ≡ ok r
 
--- a value diagram of the values y, as backups, cuts and reductions ask for it and leave it: a listing, closed up, without parameters, with the highest leaf y in every state
+-- a value diagram of the values y, as backups, cuts and reductions ask for it and leave it: a listing, closed up, without parameters, with the number y in every state (document 02, L12)
 pub record Values (ar : List ℕ) (y : State → ℕ) (d : Diagram) : Type 0 where
   pub listed : Listed ar d
   pub is-closed : closed ar d ≡ d
   pub within : Within 0 (meaning ar d)
-  pub high : (s : State) → Good s → Highest s [] (meaning ar d) (y s)
+  pub numbers : (s : State) → Good s → Number s [] (meaning ar d) (y s)

@@ -1,10 +1,9 @@
--- Closing up keeps the highest leaf, and adds no parameter.
-use mathlib.Core.Path.{_≡_, sym, _∙_}
+-- Closing up keeps the number, and adds no parameter.
+use mathlib.Core.Path.{_≡_}
 use mathlib.Core.Bool.{true}
 use mathlib.Core.List.{List}
 use Prim.Native.Nat.{ℕ, _+_, _≤_}
 use native.Mathlib.Omega.{arith}
-use native.Mathlib.Nat.{le-of-eq}
 use lib.ListN.{length}
 use Rattle.basics.specs.Tests.{Cmp, below, equal, above, cmp}
 use Rattle.label.specs.Limits.{firstVariable, termEnd}
@@ -13,22 +12,15 @@ use Rattle.label.specs.RenamingLaws.{numbering-low, numbering-high}
 use Rattle.diagram.specs.Diagram.{Diagram}
 use Rattle.diagram.specs.Listing.{Good as Listed}
 use Rattle.diagram.specs.Variables.{occurs, variables, closedFrom, closed}
-use Rattle.rename.specs.Valuations.{holds as chooses, leafOf, ClosedFree}
 use Rattle.rename.specs.VariableLaws.{variables-few}
 use Rattle.rename.specs.ClosingLaws.{occurs-closedFrom}
-use Rattle.rename.specs.ApartLaws.{closed-free}
-use Rattle.state.specs.State.{atomOf, meaning, State, truth, holds, value}
+use Rattle.state.specs.State.{meaning, State}
 use Rattle.state.specs.ValueLaws.{Terms-mono}
-use Rattle.state.specs.Highest.{Highest}
-use Rattle.state.specs.HighestLaws.{highest-by}
+use Rattle.minimum.specs.Number.{Number}
+use Rattle.minimum.specs.ClosingLaws.{number-closed}
 use Rattle.regression.specs.Parameters.{Allowed, Within}
-use Rattle.regression.specs.ResultLaws.{value-meaning}
 use Rattle.regression.specs.NextLaws.{terms-occur, occur-terms}
-
--- the leaf that a valuation of a state leads to, as closing up and combination have it
-pub value-leaf : (ar : List ℕ) (s : State) (d : Diagram) (θ : ℕ → ℕ) → value s (meaning ar d) θ ≡ leafOf ar (truth s) θ d
-unfolding holds atomOf chooses
-value-leaf ar s d θ = value-meaning s ar d θ
+use Rattle.reduction.specs.KindLaws.{maximums-variables, closed-kinds}
 
 -- closing up from m on adds no parameter
 pub within-closedFrom : (c : ℕ) (ar : List ℕ) (m : ℕ) (d : Diagram) → firstVariable ≤ m → m + length (variables ar d) ≤ termEnd → Listed ar d
@@ -55,20 +47,6 @@ pub within-closed : (c : ℕ) (ar : List ℕ) (d : Diagram) → Listed ar d → 
 unfolding closed
 within-closed c ar d good w = within-closedFrom c ar firstVariable d (omega arith) (closed-room ar d) good w
 
--- closing up keeps the highest leaf
-pub closed-highest : (ar : List ℕ) (d : Diagram) → Listed ar d → (s : State) (os : List ℕ) (x : ℕ) → Highest s os (meaning ar d) x → Highest s os (meaning ar (closed ar d)) x
-unfolding closed
-closed-highest ar d good s os x m = highest-by (meaning ar d) (meaning ar (closedFrom ar firstVariable d)) m
-    (λ θ f. let c = free .closed-by θ in (
-      c .assign,
-      record { low = λ t h. c .low t h ∙ f .low t h; range = c .range (s .size) (f .range) },
-      le-of-eq (value-leaf ar s d θ ∙ sym (c .value (truth s)) ∙ sym (value-leaf ar s (closedFrom ar firstVariable d) (c .assign))),
-    ))
-    (λ θ f. let c = free .opened-by θ in (
-      c .assign,
-      record { low = λ t h. c .low t h ∙ f .low t h; range = c .range (s .size) (f .range) },
-      le-of-eq (value-leaf ar s (closedFrom ar firstVariable d) θ ∙ c .value (truth s) ∙ sym (value-leaf ar s d (c .assign))),
-    ))
-  where
-    free : ClosedFree ar firstVariable d
-    free = closed-free ar firstVariable d (omega arith) (closed-room ar d) good
+-- closing up keeps the number
+pub closed-number : (ar : List ℕ) (d : Diagram) → Listed ar d → (s : State) (os : List ℕ) (x : ℕ) → Number s os (meaning ar d) x → Number s os (meaning ar (closed ar d)) x
+closed-number ar d good s os x m = rw (closed-kinds ar d good) (number-closed (meaning ar d) (rw (maximums-variables ar d good) (closed-room ar d)) m)

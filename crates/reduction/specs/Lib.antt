@@ -38,13 +38,14 @@
 --   Clash == a fact that is both true and false
 --   Answered == none of 17, 26, 27 and 28 is met
 --   Called == nor 14, 18 and 6 by the call
---   Values == a value diagram of the values y: with a listing, closed up, without parameters, and y its highest leaf in every state
+--   Values == a value diagram of the values y: with a listing, closed up, without parameters, and y its number in every state
 --
 -- Theorems
 --   reduce-keeps: a reduction leaves the value in every state
 --   call-keeps: so does every reduction that the call on lent words accepts
 --   reduce-is: it leaves a value diagram one of the same values, as backups, cuts and reductions want it: with a listing, closed up, without parameters
---   within-closed, closed-highest: closing up adds no parameter and keeps the highest leaf
+--   within-closed, closed-number: closing up adds no parameter and keeps the number
+--   closed-kinds, after-kinds: closing up and moving apart are those of crate minimum, kind by kind (document 02, L12)
 --   reduced-few: at most 511 rows are left, so that 9 is never met
 --   answered: an answer is given only if none of 17, 26, 27 and 28 is met
 --   called: the call gives it only for a listing without parameters, with room for result and work
@@ -63,6 +64,7 @@ pub mod CombinationLaws
 pub mod OrderLaws
 pub mod KeepingLaws
 pub mod ModelLaws
+pub mod KindLaws
 pub mod ClosedLaws
 pub mod ReductionLaws
 pub mod CallLaws

@@ -1,4 +1,4 @@
--- A state with a best valuation is a combination: the winning path has the best leaf, so that the highest leaf stays.
+-- A state with a best valuation is a combination: the winning path has the best leaf, so that the number stays.
 use mathlib.Core.Path.{_≡_, refl, sym, ap, _∙_, subst}
 use mathlib.Core.Logic.{_⊎_, inl, inr}
 use mathlib.Core.Bool.{Bool, true, false}
@@ -23,8 +23,10 @@ use Rattle.state.specs.Max.{Tuple, none, more}
 use Rattle.state.specs.State.{atomOf, meaning, State, truth, holds, value, low, Fits}
 use Rattle.state.specs.Terms.{Each, args}
 use Rattle.state.specs.ValueLaws.{low-lt, low-ge, by-low, map-same, map-map, value-same}
-use Rattle.state.specs.Highest.{Highest}
 use Rattle.state.specs.HighestLaws.{highest-by, highest-same}
+use Rattle.minimum.specs.Number.{Number}
+use Rattle.minimum.specs.Operations.{Plain}
+use Rattle.minimum.specs.PlainLaws.{fine-plain, highest-number, number-highest}
 use Rattle.regression.specs.NextLaws.{occur-terms}
 use Rattle.paths.specs.Paths.{Literal, Step, Path, stepBefore, paths, literals, literalOf}
 use Rattle.paths.specs.PathLaws.{mem-map, mem-unmap, path-in, path-number}
@@ -209,11 +211,13 @@ module _ (ar : List ℕ) (d : Diagram) (s : State) (θ : ℕ → ℕ) where
       kept os m = unfold numberOf in (keeping-follows (isOn d (winners ar d)) (says ar s (valuation os)) d (pathAt d (run os .number))
           (path-in d (run os .number) (run os .below)) (run os .follows) (on-stays d (winners ar d) (numberOf os) m))
 
--- the highest leaf stays, before closing up
-pub keeping-highest : (ar : List ℕ) (d : Diagram) → Fine ar d → EveryLabel (Varied ar) d → (s : State) (ps : List ℕ) (x : ℕ)
-    → Highest s ps (meaning ar d) x → Highest s ps (meaning ar (reduced (keeping (isOn d (winners ar d)) d))) x
-keeping-highest ar d f varied s ps x m = highest-same (meaning ar kept) (meaning ar (reduced kept)) (highest-by (meaning ar d) (meaning ar kept) m up down)
-    (λ θ g. value-says ar s θ kept ∙ sym (eval-reduced (says ar s θ) kept) ∙ sym (value-says ar s θ (reduced kept)))
+-- the number stays, before closing up: it is the highest leaf, since there is no minimum variable
+pub keeping-number : (ar : List ℕ) (d : Diagram) → Fine ar d → EveryLabel (Varied ar) d → Plain (meaning ar (reduced (keeping (isOn d (winners ar d)) d)))
+    → (s : State) (ps : List ℕ) (x : ℕ) → Number s ps (meaning ar d) x → Number s ps (meaning ar (reduced (keeping (isOn d (winners ar d)) d))) x
+keeping-number ar d f varied plain s ps x m = highest-number s ps (meaning ar (reduced kept)) plain x
+    (highest-same (meaning ar kept) (meaning ar (reduced kept))
+    (highest-by (meaning ar d) (meaning ar kept) (number-highest s ps (meaning ar d) (fine-plain ar d f) x m) up down)
+    (λ θ g. value-says ar s θ kept ∙ sym (eval-reduced (says ar s θ) kept) ∙ sym (value-says ar s θ (reduced kept))))
   where
     kept : Diagram
     kept = keeping (isOn d (winners ar d)) d

@@ -24,8 +24,11 @@ use Rattle.apply.specs.GoodLaws.{EveryLabel}
 use Rattle.state.specs.Max.{none}
 use Rattle.state.specs.State.{atomOf, meaning, State, Good}
 use Rattle.state.specs.Terms.{Each, args}
-use Rattle.state.specs.Highest.{Highest, highest, Bound}
-use Rattle.state.specs.HighestLaws.{highest-is, highest-one, bound-tuple}
+use Rattle.state.specs.Highest.{Bound}
+use Rattle.state.specs.HighestLaws.{bound-tuple}
+use Rattle.minimum.specs.Number.{Number, number}
+use Rattle.minimum.specs.NumberLaws.{number-is, number-equal}
+use Rattle.minimum.specs.PlainLaws.{fine-plain}
 use Rattle.regression.specs.Parameters.{Allowed, Within}
 use Rattle.regression.specs.ResultLaws.{terms-every, every-terms}
 use Rattle.paths.specs.Paths.{paths, mostPaths}
@@ -34,8 +37,8 @@ use Rattle.reduction.specs.Combinations.{someOf, formed, winners}
 use Rattle.reduction.specs.Reduction.{isOn, keeping, reducedDiagram, isPlain, runs, mostRuns, mostFormed, reduceAnswer}
 use Rattle.reduction.specs.Claims.{Answered, Values}
 use Rattle.reduction.specs.KeepingLaws.{keeping-every, keeping-good, keeping-few, reduced-every}
-use Rattle.reduction.specs.ModelLaws.{Varied, keeping-highest}
-use Rattle.reduction.specs.ClosedLaws.{within-closed, closed-highest}
+use Rattle.reduction.specs.ModelLaws.{Varied, keeping-number}
+use Rattle.reduction.specs.ClosedLaws.{within-closed, closed-number}
 
 -- ===== What is not refused =====
 
@@ -116,22 +119,23 @@ module _ (ar : List ℕ) (d : Diagram) (listed : Listed ar d) (few : length (pat
       P : ℕ → Type 0
       P l = Each (Allowed 0) (args (atomOf ar l))
 
-  -- whatever is the highest leaf of the diagram is that of the result, in every state
-  pub reduced-highest : isPlain ar d ≡ true → Within 0 (meaning ar d) → (s : State) (os : List ℕ) (x : ℕ)
-      → Highest s os (meaning ar d) x → Highest s os (meaning ar (reducedDiagram ar d)) x
+  -- whatever is the number of the diagram is that of the result, in every state
+  pub reduced-number : isPlain ar d ≡ true → Within 0 (meaning ar d) → (s : State) (os : List ℕ) (x : ℕ)
+      → Number s os (meaning ar d) x → Number s os (meaning ar (reducedDiagram ar d)) x
   unfolding reducedDiagram
-  reduced-highest e w s os x m = closed-highest ar kept kept-good s os x (keeping-highest ar d (listed .fine) (plain-varied ar d e w) s os x m)
+  reduced-number e w s os x m = closed-number ar kept kept-good s os x
+      (keeping-number ar d (listed .fine) (plain-varied ar d e w) (fine-plain ar kept (kept-good .fine)) s os x m)
 
 -- ===== The theorems =====
 
 -- "The value is the same in every state"
 pub reduce-keeps : (ar : List ℕ) (d r : Diagram) → Listed ar d → Within 0 (meaning ar d) → reduceAnswer ar d ≡ ok r
-    → (s : State) → Good s → highest s [] (meaning ar r) ≡ highest s [] (meaning ar d)
+    → (s : State) → Good s → number s [] (meaning ar r) ≡ number s [] (meaning ar d)
 reduce-keeps ar d r listed w e s good =
     let a = answered ar d r e in
     let b : Bound s [] = bound-tuple good none in
-    let h = reduced-highest ar d listed (a .paths-few) (a .plain) w s [] (highest s [] (meaning ar d)) (highest-is s [] good b (meaning ar d)) in
-    highest-one (meaning ar r) (highest-is s [] good b (meaning ar r)) (subst (λ (x : Diagram). Highest s [] (meaning ar x) (highest s [] (meaning ar d))) (a .is) h)
+    let h = reduced-number ar d listed (a .paths-few) (a .plain) w s [] (number s [] (meaning ar d)) (number-is s [] good b (meaning ar d)) in
+    number-equal s [] good b (meaning ar r) (number s [] (meaning ar d)) (subst (λ (x : Diagram). Number s [] (meaning ar x) (number s [] (meaning ar d))) (a .is) h)
 
 -- so that "lists of backups and cuts may now hold reductions anywhere"
 pub reduce-is : (ar : List ℕ) (y : State → ℕ) (d : Diagram) → Values ar y d → Accepted (Values ar y) (reduceAnswer ar d)
@@ -144,5 +148,5 @@ reduce-is ar y d v = record { given = values }
           listed = reduced-listed ar d (v .listed) (a .paths-few);
           is-closed = reduced-closed ar d (v .listed) (a .paths-few);
           within = reduced-within ar d (v .listed) (a .paths-few) (v .within);
-          high = λ s g. reduced-highest ar d (v .listed) (a .paths-few) (a .plain) (v .within) s [] (y s) (v .high s g);
+          numbers = λ s g. reduced-number ar d (v .listed) (a .paths-few) (a .plain) (v .within) s [] (y s) (v .numbers s g);
         })

@@ -1,5 +1,5 @@
--- Laws of what freeing answers: one for each check, and that an accepted call takes the highest leaf over all tuples.
-use mathlib.Core.Path.{_≡_, refl, ap, ap₂}
+-- Laws of what freeing answers: one for each check, and that an accepted call takes the highest number over all tuples.
+use mathlib.Core.Path.{_≡_, refl, ap, ap₂, sym, _∙_}
 use mathlib.Core.Logic.{_⊎_, inl, inr}
 use mathlib.Core.Bool.{true, false, not, _&&_, _||_}
 use mathlib.Core.List.{List, [], _∷_}
@@ -18,6 +18,7 @@ use Rattle.label.specs.Limits.{firstParameter, parameterCount, firstVariable, t
 use Rattle.label.specs.Terms.{isConstant, isParameter, isVariable, isTerm}
 use Rattle.label.specs.Labels.{areArities, placesOf, predicateOf, unpacked, isLabel, termsOf}
 use Rattle.label.specs.Renamings.{mapped, renamed, freeing, Increasing, EachTerm, EachIn}
+use Rattle.label.specs.LabelLaws.{term-below}
 use Rattle.label.specs.RenamingLaws.{Freed as Freeable, freeing-increasing, renamed-atom, renamed-terms}
 use Rattle.label.specs.declared.Atom.{Atom}
 use Rattle.diagram.specs.Sizes.{resultWords, spaceWords}
@@ -31,12 +32,16 @@ use Rattle.apply.specs.GoodLaws.{fine-every}
 use Rattle.state.specs.Max.{Tuple, maxTuples}
 use Rattle.state.specs.State.{Atomic, atom, atomOf, meaning, State, Good}
 use Rattle.state.specs.Terms.{Each, args, Terms, renameAtom, rename}
-use Rattle.state.specs.Highest.{Highest}
+use Rattle.state.specs.ValueLaws.{Terms-mono}
+use Rattle.minimum.specs.Number.{firstMinimum, Number}
+use Rattle.minimum.specs.Operations.{freeingKinds, Room}
+use Rattle.minimum.specs.RenamedLaws.{rename-same}
+use Rattle.minimum.specs.FreedLaws.{kinds-low, number-freed}
 use Rattle.regression.specs.declared.Freed.the-variants.{Refused}
 use Rattle.regression.specs.Parameters.{Within, Labels}
 use Rattle.regression.specs.ResultLaws.{label-terms}
 use Rattle.regression.specs.NextLaws.{occur-terms}
-use Rattle.regression.specs.FreeingLaws.{highest-freed, within-freed}
+use Rattle.regression.specs.FreeingLaws.{within-freed}
 use Rattle.regression.specs.RegressCall.{anyOccurs, freedOutcome, freeOwn, freeOutcome, freeAnswer, freeResult}
 use Rattle.regression.specs.RegressCallLaws.{any-quiet}
 
@@ -102,7 +107,8 @@ pub record IsFreed (ar : List ℕ) (count : ℕ) (d r : Diagram) : Type 0 where
   pub few : count ≤ parameterCount
   pub parameters : (t : ℕ) → firstParameter + count ≤ t → t < firstParameter + parameterCount → occurs ar t d ≡ false
   pub variables : (t : ℕ) → termEnd ≤ t + count → t < termEnd → occurs ar t d ≡ false
-  pub means : meaning ar r ≡ rename (freeing count) (meaning ar d)
+  pub means : meaning ar r ≡ rename (freeingKinds count) (meaning ar d)
+  pub room : Room count (meaning ar d)
 
 -- a term is a constant, a parameter or a variable
 data Kinds (t : ℕ) : Type 0 where
@@ -150,10 +156,20 @@ module _ (ar : List ℕ) (count : ℕ) (d : Diagram) (few : count ≤ parameterC
       go (variable h k) x (equal y) = clash o (variables t (omega arith) k)
       go (variable h k) x (above y) = clash o (variables t (omega arith) k)
 
-  pub meaning-freed : areArities ar ≡ true → Labels ar d → meaning ar (relabel (renamed ar (freeing count)) d) ≡ rename (freeing count) (meaning ar d)
+  freeable-terms : Labels ar d → Terms (Freeable count) (meaning ar d)
+  freeable-terms w = terms-two (λ t. isTerm t ≡ true) (λ t. occurs ar t d ≡ true) (Freeable count) freeable (meaning ar d) (terms-isTerm ar d w) (occur-terms ar d)
+
+  pub meaning-freed : areArities ar ≡ true → Labels ar d → meaning ar (relabel (renamed ar (freeing count)) d) ≡ rename (freeingKinds count) (meaning ar d)
   meaning-freed good w =
-      meaning-renamed (Freeable count) (freeing count) (freeing-increasing count few) ar good d w
-      (terms-two (λ t. isTerm t ≡ true) (λ t. occurs ar t d ≡ true) (Freeable count) freeable (meaning ar d) (terms-isTerm ar d w) (occur-terms ar d))
+      meaning-renamed (Freeable count) (freeing count) (freeing-increasing count few) ar good d w (freeable-terms w)
+      ∙ rename-same (Freeable count) (freeing count) (freeingKinds count) (λ t f. sym (kinds-low count t (term-below t (f .0)))) (meaning ar d) (freeable-terms w)
+
+  pub room-freed : Labels ar d → Room count (meaning ar d)
+  room-freed w = Terms-mono (Freeable count) (λ t. firstVariable ≤ t → t < firstMinimum → t + count < firstMinimum) (λ t f. go t (f .1)) (meaning ar d) (freeable-terms w)
+    where
+      go : (t : ℕ) → (t < firstParameter + count) ⊎ ((firstVariable ≤ t) × (t + count < termEnd)) → firstVariable ≤ t → t < firstMinimum → t + count < firstMinimum
+      go t (inl h) k l = absurd (omega arith)
+      go t (inr h) k l = h .1
 
 pub free-is : (ar words : List ℕ) (count outLength workLength : ℕ) → Accepted (IsFreed ar count (diagramOf words)) (freeOutcome ar words count outLength workLength)
 unfolding freeOutcome freeOwn freedOutcome freed
@@ -175,12 +191,13 @@ free-is ar words count outLength workLength =
       parameters = ps;
       variables = vs;
       means = meaning-freed ar count (diagramOf words) few ps vs (g .arities) (fine-every ar (diagramOf words) (g .fine));
+      room = room-freed ar count (diagramOf words) few ps vs (fine-every ar (diagramOf words) (g .fine));
     }))))))
 
--- the highest leaf after freeing is the highest over all tuples of the highest leaf before it
-pub freed-highest : (ar : List ℕ) (count : ℕ) (d r : Diagram) → IsFreed ar count d r → (s : State) → Good s
-    → (x : List ℕ → ℕ) → ((os : List ℕ) → Tuple (s .size) count os → Highest s os (meaning ar d) (x os)) → Highest s [] (meaning ar r) (maxTuples (s .size) count x)
-freed-highest ar count d r f s g x m = rw (f .means) (highest-freed s g count (let h = f .few in omega arith) (meaning ar d) x m)
+-- the number after freeing is the highest over all tuples of the number before it
+pub freed-number : (ar : List ℕ) (count : ℕ) (d r : Diagram) → IsFreed ar count d r → (s : State) → Good s
+    → (x : List ℕ → ℕ) → ((os : List ℕ) → Tuple (s .size) count os → Number s os (meaning ar d) (x os)) → Number s [] (meaning ar r) (maxTuples (s .size) count x)
+freed-number ar count d r f s g x m = rw (f .means) (number-freed s g count (let h = f .few in omega arith) (meaning ar d) (f .room) x m)
 
 pub freed-within : (ar : List ℕ) (count : ℕ) (d r : Diagram) → IsFreed ar count d r → Within count (meaning ar d) → Within 0 (meaning ar r)
 freed-within ar count d r f w = rw (f .means) (within-freed count (let h = f .few in omega arith) (meaning ar d) w)

@@ -43,8 +43,8 @@
 --   regressed-is: an accepted regression is regressedDiagram, of at most 1,024 rows
 --   good-regressed: that diagram is good
 --   eval-stepped: the row step chooses the true result where T is 1, the false one where it is 0
---   regressed-highest: so the highest leaf after regression is the old one's in the next state
---   highest-freed: the highest leaf after freeing is the highest, over all tuples, of the highest leaf before
+--   regressed-number: so the number after regression is the old one's in the next state (document 02, L12)
+--   freed-number: the number after freeing is the highest, over all tuples, of the number before
 --   free-is: what an accepted freeing is
 --   combine-forms: every pair of a combination forms its reduced diagram, so the rows formed are the result's
 

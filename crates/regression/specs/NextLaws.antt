@@ -5,7 +5,6 @@ use mathlib.Core.List.{List, [], _∷_, map}
 use mathlib.Core.Option.{Option, some, none, Option·map}
 use Prim.Native.Nat.{ℕ, zero, suc, _-_, _≤_, _<_}
 use native.Mathlib.Omega.{arith}
-use native.Mathlib.Nat.{le-of-eq}
 use lib.ListN.{length, getD, List·getD-map}
 use lib.Dec.{eqb}
 use borrow.Author.Tests.{eqb-true, eq-eqb, ne-eqb}
@@ -13,7 +12,7 @@ use Rattle.refusal.specs.Outcome.{Accepted}
 use Rattle.refusal.specs.OutcomeLaws.{accepted-mono}
 use Rattle.basics.specs.Tests.{Either, one, other, either, or-one, or-other}
 use Rattle.basics.specs.Members.{mem, clash}
-use Rattle.label.specs.Limits.{firstParameter, firstVariable}
+use Rattle.label.specs.Limits.{firstVariable}
 use Rattle.label.specs.Labels.{areArities, predicateOf, unpacked, isLabel, termsOf}
 use Rattle.diagram.specs.Sizes.{mostRows}
 use Rattle.diagram.specs.Diagram.{Tree, Diagram, leaf, branch, eval, relabel}
@@ -21,12 +20,12 @@ use Rattle.diagram.specs.Rows.{rows}
 use Rattle.diagram.specs.Listing.{Good as Listed}
 use Rattle.diagram.specs.Variables.{occurs}
 use Rattle.apply.specs.GoodLaws.{fine-every}
-use Rattle.state.specs.MaxLaws.{max-by}
-use Rattle.state.specs.Highest.{Highest, Bound, start}
-use Rattle.state.specs.HighestLaws.{start-fits}
-use Rattle.state.specs.State.{Atomic, atom, atomOf, meaning, State, Good, holds, value, low, fixed, Fits}
+use Rattle.state.specs.Highest.{Bound}
+use Rattle.state.specs.State.{Atomic, atom, atomOf, meaning, State, Good, holds, value, fixed, Fits}
 use Rattle.state.specs.Terms.{Each, args, Terms}
-use Rattle.state.specs.ValueLaws.{low-lt, low-ge, by-low, Each-mono, Terms-mono, value-same}
+use Rattle.state.specs.ValueLaws.{low-lt, low-ge, by-low, Each-mono, Terms-mono}
+use Rattle.minimum.specs.Number.{Number}
+use Rattle.minimum.specs.NextLaws.{number-next}
 use Rattle.regression.specs.StepLaws.{eval-most}
 use Rattle.regression.specs.Regression.{argument, Truths, truthOf, regressed}
 use Rattle.regression.specs.RegressionLaws.{regressed-is}
@@ -34,7 +33,6 @@ use Rattle.regression.specs.Result.{replaced, truthGiven, truthDiagram, 
 use Rattle.regression.specs.Parameters.{Allowed, Within, Labels, GoodTruth, GoodTruths, WithinTruths}
 use Rattle.regression.specs.ResultLaws.{value-meaning, eval-rebuilt, value-replaced, label-terms, argument-low, argument-high}
 use Rattle.regression.specs.ResultLaws.{argument-terms, bit, terms-regressed, good-regressed, label-predicate}
-use Rattle.regression.specs.FreeingLaws.{fixed-constant}
 use Rattle.regression.specs.Next.{inner, factAfter, next, meanings}
 
 -- the objects of the terms that replace the arguments
@@ -167,49 +165,13 @@ regressed-tells ar truths d g h = accepted-mono (regressed-is ar truths d) (λ r
   variables = variables-regressed ar (h .arities) truths g d (fine-every ar d (h .fine));
 }))
 
--- the highest leaf: no parameter stands in the old diagram, which is read without a tuple
-refit : State → List ℕ → (ℕ → ℕ) → ℕ → ℕ
-refit s os θ t = low firstVariable t (fixed s os t) (θ t)
-
-refit-fits : (s : State) (os os′ : List ℕ) (θ : ℕ → ℕ) → Good s → Bound s os → Fits s os′ θ → Fits s os (refit s os θ)
-unfolding refit start
-refit-fits s os os′ θ g b f = record {
-  low = λ t h. low-lt firstVariable t (fixed s os t) (θ t) h;
-  range = λ t. by-low (refit s os θ t < s .size) firstVariable t
-      (λ h. rw (low-lt firstVariable t (fixed s os t) (θ t) h) (rw (low-lt firstVariable t (fixed s os t) 0 h) at (start-fits s os g b .range t)))
-      (λ h. rw (low-ge firstVariable t (fixed s os t) (θ t) h) (f .range t));
-}
-
-refit-value : (s s′ : State) (os os′ : List ℕ) (θ : ℕ → ℕ) (d : Tree Atomic) → Within 0 d → Fits s os′ θ → value s′ d (refit s os θ) ≡ value s′ d θ
-unfolding refit
-refit-value s s′ os os′ θ d w f = value-same (Allowed 0) s′ d (refit s os θ) θ (w .terms) (λ t a. by-low (refit s os θ t ≡ θ t) firstVariable t
-    (λ h. by-low (refit s os θ t ≡ θ t) firstParameter t
-    (λ l. low-lt firstVariable t (fixed s os t) (θ t) h ∙ fixed-constant s os t l ∙ sym (fixed-constant s os′ t l) ∙ sym (f .low t h))
-    (λ l. let k = a l in absurd (omega arith)))
-    (λ h. low-ge firstVariable t (fixed s os t) (θ t) h))
-
 pub next-good : (s : State) (os : List ℕ) (becomes : ℕ → Option (Tree Atomic)) → Good s → Good (next s os becomes)
 unfolding next
 next-good s os becomes g = record { some = g .some; placed = g .placed }
 
-to-next : (s : State) (os os′ : List ℕ) (becomes : ℕ → Option (Tree Atomic)) (θ : ℕ → ℕ) → Fits s os′ θ → Fits (next s os becomes) os′ θ
-unfolding next fixed
-to-next s os os′ becomes θ f = record { low = f .low; range = f .range }
-
-from-next : (s : State) (os os′ : List ℕ) (becomes : ℕ → Option (Tree Atomic)) (θ : ℕ → ℕ) → Fits (next s os becomes) os′ θ → Fits s os′ θ
-unfolding next fixed
-from-next s os os′ becomes θ f = record { low = f .low; range = f .range }
-
--- the result's highest leaf in the state, with the tuple os for the parameters, is the old diagram's in the next state
-pub regressed-highest : (ar : List ℕ) (truths : Truths) (d r : Diagram) → Tells ar truths d r → Within 0 (meaning ar d) → (s : State) → Good s → (os : List ℕ) → Bound s os
-    → (x : ℕ) → Highest (next s os (meanings ar truths)) [] (meaning ar d) x → Highest s os (meaning ar r) x
-regressed-highest ar truths d r tells w s g os b x m = max-by m
-    (λ θ f.
-    let f′ = from-next s os [] (meanings ar truths) θ f in
-    let h = refit-fits s os [] θ g b f′ in
-    (refit s os θ, h, le-of-eq (sym (refit-value s (next s os (meanings ar truths)) os [] θ (meaning ar d) w f′) ∙ sym (tells .values s os (refit s os θ) h))))
-    (λ θ f. (
-      refit s [] θ,
-      to-next s os [] (meanings ar truths) (refit s [] θ) (refit-fits s [] os θ g (record { each = λ i. g .placed 0 }) f),
-      le-of-eq (tells .values s os θ f ∙ sym (refit-value s (next s os (meanings ar truths)) [] os θ (meaning ar d) w f)),
-    ))
+-- the result's number in the state, with the tuple os for the parameters, is the old diagram's in the next state: no parameter stands in that
+pub regressed-number : (ar : List ℕ) (truths : Truths) (d r : Diagram) → Tells ar truths d r → Within 0 (meaning ar d) → (s : State) → Good s → (os : List ℕ) → Bound s os
+    → (x : ℕ) → Number (next s os (meanings ar truths)) [] (meaning ar d) x → Number s os (meaning ar r) x
+unfolding next
+regressed-number ar truths d r tells w s g os b x m =
+    number-next s (next s os (meanings ar truths)) refl (λ c. refl) g os b (meaning ar d) (meaning ar r) (w .terms) (tells .values s os) m

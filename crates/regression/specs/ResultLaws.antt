@@ -5,7 +5,7 @@ use mathlib.Core.List.{List, [], _∷_}
 use mathlib.Core.Option.{Option, some, none}
 use Prim.Native.Nat.{ℕ, zero, suc, _-_, _≤_, _<_}
 use native.Mathlib.Omega.{arith}
-use lib.ListN.{length, getD, take}
+use lib.ListN.{length, getD}
 use lib.Dec.{eqb}
 use borrow.Author.Tests.{eqb-true, eqb-false, lt-ltb, le-ltb}
 use Rattle.basics.specs.Tests.{Flag, isTrue, isFalse, flag}
@@ -25,6 +25,7 @@ use Rattle.apply.specs.GoodLaws.{EveryLabel, fine-every}
 use Rattle.state.specs.State.{Atomic, atomOf, meaning, State, holds, value}
 use Rattle.state.specs.Terms.{Each, args, Terms}
 use Rattle.state.specs.ValueLaws.{by-low}
+use Rattle.minimum.specs.PlainLaws.{each-take}
 use Rattle.regression.specs.Step.{labelTest, testDiagram}
 use Rattle.regression.specs.StepLaws.{eval-most, most-eval, eval-test, ordered-test, every-test, eval-stepped, from-stepped, reduced-stepped, every-stepped}
 use Rattle.regression.specs.MovedLaws.{moved-to, moved-holds, moved-label, moved-each}
@@ -140,11 +141,6 @@ Term t = isTerm t ≡ true
 zero-term : isTerm 0 ≡ true
 unfolding isTerm isConstant
 zero-term = refl
-
-each-take : (P : ℕ → Type 0) (n : ℕ) (ts : List ℕ) → ((k : ℕ) → k < n → k < length ts → P (getD ts k 0)) → Each P (take n ts)
-each-take P zero ts f = tt
-each-take P (suc n) [] f = tt
-each-take P (suc n) (t ∷ ts) f = (f 0 (omega arith) (omega arith), each-take P n ts (λ k h i. f (suc k) (omega arith) (omega arith)))
 
 pub label-terms : (ar : List ℕ) (l : ℕ) → isLabel ar l ≡ true → Each Term (termsOf ar (unpacked l))
 unfolding termsOf

@@ -10,15 +10,16 @@ use lib.Dec.{eqb}
 use Rattle.label.specs.Limits.{firstParameter, firstVariable, predicateCount}
 use Rattle.label.specs.Labels.{areArities, predicateOf, unpacked, isLabel, termsOf}
 use Rattle.label.specs.ArityLaws.{terms-length}
-use Rattle.diagram.specs.Diagram.{Diagram}
+use Rattle.diagram.specs.Diagram.{Tree, Diagram}
 use Rattle.diagram.specs.Listing.{Fine}
 use Rattle.apply.specs.GoodLaws.{fine-every}
-use Rattle.state.specs.State.{meaning, atomOf, State, Good, truth, holds, value, low, fixed, Fits}
-use Rattle.state.specs.Max.{IsMax, Tuple, none as no-objects, more}
-use Rattle.state.specs.MaxLaws.{max-one}
-use Rattle.state.specs.Highest.{Highest, highest, start, Bound}
-use Rattle.state.specs.HighestLaws.{highest-is, start-fits, bound-tuple}
+use Rattle.state.specs.State.{Atomic, meaning, atomOf, State, Good, truth, holds, value, low, fixed, Fits}
+use Rattle.state.specs.Max.{Tuple, none as no-objects, more}
+use Rattle.state.specs.Highest.{start, Bound}
+use Rattle.state.specs.HighestLaws.{start-fits, bound-tuple}
 use Rattle.state.specs.ValueLaws.{low-lt, low-ge, by-low}
+use Rattle.minimum.specs.NumberLaws.{number-is, number-one}
+use Rattle.minimum.specs.NextLaws.{number-next}
 use Rattle.regression.specs.ResultLaws.{value-meaning, eval-agree, label-predicate}
 use Rattle.regression.specs.Next.{inner, factAfter, next}
 use Rattle.mdp.specs.Model.{Variant, Model, GoodVariant, GoodModel}
@@ -64,22 +65,7 @@ module _ (ar : List ℕ) (good : areArities ar ≡ true) {s t : State} (a : Alik
       ∙ eval-agree (λ l. holds s θ (atomOf ar l)) (λ l. holds t θ (atomOf ar l)) (λ l. isLabel ar l ≡ true) (holds-alike θ range) d (fine-every ar d f)
       ∙ sym (value-meaning t ar d θ)
 
-  fits-alike : (os : List ℕ) (θ : ℕ → ℕ) → Fits s os θ → Fits t os θ
-  unfolding fixed
-  fits-alike os θ f = record {
-    low = λ u h. f .low u h ∙ ap (λ (c : ℕ → ℕ). low firstParameter u (c u) (getD os (u - firstParameter) (c 0))) (a .constant);
-    range = λ u. subst (θ u <_) (a .size) (f .range u);
-  }
-
 module _ (ar : List ℕ) (good : areArities ar ≡ true) {s t : State} (a : Alike ar s t) where
-  highest-alike : (d : Diagram) → Fine ar d → (x : ℕ) → Highest s [] (meaning ar d) x → Highest t [] (meaning ar d) x
-  highest-alike d f x h = record {
-    point = h .point;
-    inside = fits-alike ar good a [] (h .point) (h .inside);
-    value = sym (value-alike ar good a (h .point) (h .inside .range) d f) ∙ h .value;
-    bound = λ θ w. let w′ = fits-alike ar good (alike-back a) [] θ w in subst (_≤ x) (value-alike ar good a θ (w′ .range) d f) (h .bound θ w′);
-  }
-
   good-alike : Good s → Good t
   good-alike g = record {
     some = subst (0 <_) (a .size) (g .some);
@@ -117,5 +103,11 @@ pub reward-alike : (m : Model) → GoodModel m → {s t : State} → Alike (m .a
 unfolding rewardIn
 reward-alike m gm {s} {t} a g =
     let g′ = good-alike (m .arities) (gm .arities) a g in
-    max-one (highest-alike (m .arities) (gm .arities) a (m .reward) (gm .reward-listed .fine) _ (highest-is s [] g (bound-none s g) (meaning (m .arities) (m .reward))))
-    (highest-is t [] g′ (bound-none t g′) (meaning (m .arities) (m .reward)))
+    number-one reward
+    (number-next t s (a .size) (λ c. ap (λ (k : ℕ → ℕ). k c) (a .constant)) g′ [] (bound-none t g′) reward reward (gm .reward .terms)
+    (λ θ f. sym (value-alike (m .arities) (gm .arities) a θ (λ u. subst (λ (n : ℕ). θ u < n) (sym (a .size)) (f .range u)) (m .reward) (gm .reward-listed .fine)))
+    (number-is s [] g (bound-none s g) reward))
+    (number-is t [] g′ (bound-none t g′) reward)
+  where
+    reward : Tree Atomic
+    reward = meaning (m .arities) (m .reward)

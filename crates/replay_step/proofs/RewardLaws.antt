@@ -19,15 +19,15 @@ use Rattle.diagram.specs.Listings.{is-listing-good}
 use Rattle.state.specs.declared.Valued.{Valued}
 use Rattle.state.specs.declared.Valued.the-variants.{Value, Refused as Unvalued}
 use Rattle.state.specs.State.{State, atomOf, meaning, holds, value}
-use Rattle.state.specs.HighestLaws.{highest-is}
 use Rattle.state.specs.Lent.{factWords, factCount, stateOf, isState}
+use Rattle.minimum.specs.NumberLaws.{number-is, number-attained}
 use Rattle.elimination.specs.Answer.{isTooLarge}
 use Rattle.elimination.specs.AnswerLaws.{lent-good}
 use Rattle.regression.specs.Next.{next}
 use Rattle.mdp.specs.BackupLaws.{bound-none}
 use Rattle.mdp.specs.Bellman.{stateAfter}
 use Rattle.replay.specs.Replay.{mostFacts, factsOf}
-use Rattle.valuing.specs.Walks.{boundHighest, boundAnswer}
+use Rattle.valuing.specs.Walks.{boundNumber, boundAnswer}
 use Rattle.next_facts.specs.declared.Facts.{Facts}
 use Rattle.next_facts.specs.declared.Facts.the-variants.{Rows, Many}
 use Rattle.next_facts.specs.NextCall.{afterAt, Moving, factsAnswer, NextFacts}
@@ -48,19 +48,19 @@ value-most s ar θ (branch l t e) f = go (holds s θ (atomOf ar l)) (value-most 
     go false p q = q
 
 module _ (ar ws : List ℕ) (n : ℕ) (constants facts : List ℕ) (listed : isListing ar ws ≡ true) (lent : isState ar n constants facts ≡ true) where
-  highest-most : boundHighest ar ws n constants facts [] ≤ highestValue
-  highest-most =
+  number-most : boundNumber ar ws n constants facts [] ≤ highestValue
+  number-most =
       let g = lent-good ar n constants facts lent in
-      let h = highest-is (stateOf ar n constants facts) [] g (bound-none (stateOf ar n constants facts) g) (meaning ar (diagramOf ws)) in
-      subst (λ x. x ≤ highestValue) (h .value) (value-most (stateOf ar n constants facts) ar (h .point) (diagramOf ws) (is-listing-good ar ws listed .fine))
+      let h = number-attained (meaning ar (diagramOf ws)) (number-is (stateOf ar n constants facts) [] g (bound-none (stateOf ar n constants facts) g) (meaning ar (diagramOf ws))) in
+      subst (λ x. x ≤ highestValue) (h .2) (value-most (stateOf ar n constants facts) ar (h .0) (diagramOf ws) (is-listing-good ar ws listed .fine))
 
   pub answer-low : {r : Valued} → r ≡ boundAnswer ar ws n constants facts [] → Low highestValue r
   unfolding boundAnswer
   answer-low {r} e = record { few = λ v q. go v (isTooLarge ar (stateOf ar n constants facts) [] ws) (sym e ∙ q) }
     where
-      go : (v : ℕ) (b : Bool) → cond b (Unvalued Valuations) (Value (boundHighest ar ws n constants facts [])) ≡ Value v → v ≤ highestValue
+      go : (v : ℕ) (b : Bool) → cond b (Unvalued Valuations) (Value (boundNumber ar ws n constants facts [])) ≡ Value v → v ≤ highestValue
       go v true q = let z : _≡_ {A = ℕ} 0 1 = cc in absurd (omega arith)
-      go v false q = let z : boundHighest ar ws n constants facts [] ≡ v = cc in omega (arith, highest-most)
+      go v false q = let z : boundNumber ar ws n constants facts [] ≡ v = cc in omega (arith, number-most)
 
 -- ===== The reward before =====
 

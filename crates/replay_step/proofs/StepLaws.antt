@@ -15,7 +15,6 @@ use Rattle.diagram.specs.Listing.{listing, diagramOf}
 use Rattle.diagram.specs.Listings.{is-listing-diagram}
 use Rattle.state.specs.declared.Valued.the-variants.{Value, Refused as Unvalued}
 use Rattle.state.specs.State.{State, Good, meaning}
-use Rattle.state.specs.Highest.{highest}
 use Rattle.state.specs.Lent.{factCount, stateOf}
 use Rattle.elimination.specs.Answer.{isTooLarge}
 use Rattle.elimination.specs.AnswerLaws.{lent-good}
@@ -27,14 +26,15 @@ use Rattle.model.specs.declared.Head.{Head}
 use Rattle.model.specs.Layout.{variantWords, variantPlace, weightWords, variantAt, variantsOf, actionAt, rewardWords, modelOf, LaidVariant}
 use Rattle.replay.specs.Replay.{mostFacts, Did, Replay, noVariant, noAction, variantOf, inHand, factsOf, stateNext, movedBy, rewardHere, rewardMet, rewardEnds, counted}
 use Rattle.replay.specs.Replay.{hasNoWeight, hasManyFacts, hasValuations, isTooHigh, did}
-use Rattle.valuing.specs.Walks.{boundHighest, boundAnswer}
+use Rattle.minimum.specs.Number.{number}
+use Rattle.valuing.specs.Walks.{boundNumber, boundAnswer}
 use Rattle.valuing.specs.WalkLaws.{bound-below}
 use Rattle.next_facts.specs.NextCall.{afterAt, Moving}
 use Rattle.replay_step.specs.declared.Stepped.{Stepped}
 use Rattle.replay_step.specs.declared.Stepped.the-variants.{Done, Refused}
 use Rattle.replay_step.specs.Stepped.{lentReplay, lentDid, lentStep, StepTask, Steps}
 use Rattle.replay_step.specs.Inside.{WeighingAt, rewardBefore, bothAdded, rewardsMet, talliedAs, toldAs, movedAs, Moves}
-use Rattle.replay_step.proofs.WeightLaws.{weight-few, weight-highest}
+use Rattle.replay_step.proofs.WeightLaws.{weight-few, weight-number}
 
 -- ===== The checks, in their order =====
 
@@ -158,11 +158,11 @@ module _ {ar listings table : List ℕ} {h : Head} {a v n : ℕ} {constants fact
     };
   }
 
-  weightless-is : eqb (boundHighest ar (weightWords listings table (variantPlace a v)) n constants facts os) 0 ≡ hasNoWeight M R D
+  weightless-is : eqb (boundNumber ar (weightWords listings table (variantPlace a v)) n constants facts os) 0 ≡ hasNoWeight M R D
   unfolding hasNoWeight inHand stateOf modelOf
   weightless-is = ap (λ (x : ℕ). eqb x 0)
-      (ap (λ (d : Diagram). highest S os (meaning ar d)) weight-is
-      ∙ weight-highest (good-action .few) good-variant S good-state os (bound-below good-state os (t .objects))
+      (ap (λ (d : Diagram). number S os (meaning ar d)) weight-is
+      ∙ weight-number (good-action .few) good-variant S good-state os (bound-below good-state os (t .objects))
       ∙ ap (weightIn ar S os) (sym variant-is))
 
   -- ===== The facts of the next state =====
@@ -194,7 +194,7 @@ module _ {ar listings table : List ℕ} {h : Head} {a v n : ℕ} {constants fact
   unfolding rewardEnds inHand modelOf
   ends-is c fs k = ap (isTooLarge ar (stateOf ar n constants fs) []) reward-is
 
-  here-is : (c : ℕ) (fs : List ℕ) (k : ℕ) → rewardHere M (lentReplay n constants fs c k) ≡ boundHighest ar (rewardWords listings h) n constants fs []
+  here-is : (c : ℕ) (fs : List ℕ) (k : ℕ) → rewardHere M (lentReplay n constants fs c k) ≡ boundNumber ar (rewardWords listings h) n constants fs []
   unfolding rewardIn inHand modelOf
   here-is c fs k = refl
 
@@ -202,11 +202,11 @@ module _ {ar listings table : List ℕ} {h : Head} {a v n : ℕ} {constants fact
   unfolding movedBy
   moved-is = ap (λ (fs : List ℕ). lentReplay n constants fs count total) facts-are
 
-  met-is : rewardMet M R D ≡ cond (eqb count 0) (boundHighest ar (rewardWords listings h) n constants facts []) 0 + boundHighest ar (rewardWords listings h) n constants F []
+  met-is : rewardMet M R D ≡ cond (eqb count 0) (boundNumber ar (rewardWords listings h) n constants facts []) 0 + boundNumber ar (rewardWords listings h) n constants F []
   unfolding rewardMet
   met-is = ap (λ (r : Replay). cond (eqb count 0) (rewardHere M R) 0 + rewardHere M r) moved-is
       ∙ ap (λ (x : ℕ). cond (eqb count 0) x 0 + rewardHere M (lentReplay n constants F count total)) (here-is count facts total)
-      ∙ ap (λ (x : ℕ). cond (eqb count 0) (boundHighest ar (rewardWords listings h) n constants facts []) 0 + x) (here-is count F total)
+      ∙ ap (λ (x : ℕ). cond (eqb count 0) (boundNumber ar (rewardWords listings h) n constants facts []) 0 + x) (here-is count F total)
 
   valuations-is : hasValuations M R D ≡ Ends
   unfolding hasValuations
@@ -220,7 +220,7 @@ module _ {ar listings table : List ℕ} {h : Head} {a v n : ℕ} {constants fact
 
   -- ===== The line =====
 
-  pub step-weightless : {x : Bool} → x ≡ eqb (boundHighest ar (weightWords listings table (variantPlace a v)) n constants facts os) 0 → x ≡ true
+  pub step-weightless : {x : Bool} → x ≡ eqb (boundNumber ar (weightWords listings table (variantPlace a v)) n constants facts os) 0 → x ≡ true
       → lentStep ar listings table h a v n constants facts count total os ≡ refused Weightless
   unfolding did
   step-weightless q e = rw (sym weightless-is ∙ sym q ∙ e) refl
@@ -242,8 +242,8 @@ module _ {ar listings table : List ℕ} {h : Head} {a v n : ℕ} {constants fact
       ∙ ap (checks (ltb mostFacts (factCount F)) Ends) (counted-is ∙ ap (λ (x : ℕ). lentReplay n constants F (suc count) (total + x)) met-is)
       ∙ sym (ap (cond (ltb mostFacts (factCount F)) (refused Crowded))
       (told-outcome n constants F (factCount F) count total (eqb count 0) (isTooLarge ar S [] (rewardWords listings h))
-      (isTooLarge ar (stateOf ar n constants F) [] (rewardWords listings h)) (boundHighest ar (rewardWords listings h) n constants facts [])
-      (boundHighest ar (rewardWords listings h) n constants F [])))
+      (isTooLarge ar (stateOf ar n constants F) [] (rewardWords listings h)) (boundNumber ar (rewardWords listings h) n constants facts [])
+      (boundNumber ar (rewardWords listings h) n constants F [])))
       ∙ sym (many-outcome n constants F (factCount F) count total (ltb mostFacts (factCount F))
       (toldAs (factCount F) count total (rewardsMet ar (rewardWords listings h) n constants facts F count)))
 
@@ -251,7 +251,7 @@ module _ {ar listings table : List ℕ} {h : Head} {a v n : ℕ} {constants fact
     pub reward-listed : isListing ar ws ≡ true
     reward-listed = subst (λ (x : List ℕ). isListing ar x ≡ true) (sym p) (t .laid .reward)
 
-    pub step-moved : {x : Bool} → x ≡ eqb (boundHighest ar (weightWords listings table (variantPlace a v)) n constants facts os) 0 → x ≡ false
+    pub step-moved : {x : Bool} → x ≡ eqb (boundNumber ar (weightWords listings table (variantPlace a v)) n constants facts os) 0 → x ≡ false
         → {r : Stepped} {out′ : List ℕ} → Moves ar ws n constants facts F count total r out′
         → Steps (lentStep ar listings table h a v n constants facts count total os) n constants r out′
     unfolding outcomeOf

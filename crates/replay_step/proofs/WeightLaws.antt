@@ -20,16 +20,19 @@ use Rattle.state.specs.declared.Valued.{Valued}
 use Rattle.state.specs.declared.Valued.the-variants.{Value, Refused}
 use Rattle.state.specs.Lent.{stateOf}
 use Rattle.state.specs.State.{State, Good, meaning, value, fixed}
-use Rattle.state.specs.Highest.{Bound, start, highest}
-use Rattle.state.specs.HighestLaws.{highest-is}
-use Rattle.state.specs.ValueLaws.{value-same, low-lt}
+use Rattle.state.specs.Highest.{Bound, start}
+use Rattle.state.specs.HighestLaws.{start-fits}
+use Rattle.state.specs.ValueLaws.{Terms-mono}
 use Rattle.state.specs.ValueCall.{mostValuations, valuations}
+use Rattle.minimum.specs.Number.{number}
+use Rattle.minimum.specs.NumberLaws.{number-equal}
+use Rattle.minimum.specs.ApartLaws.{number-fixed}
 use Rattle.elimination.specs.Elimination.{mostEntries, allEntries}
 use Rattle.elimination.specs.Answer.{isTooLarge}
 use Rattle.regression.specs.NextLaws.{terms-occur}
 use Rattle.mdp.specs.Model.{Variant, GoodVariant}
 use Rattle.mdp.specs.Bellman.{weightIn}
-use Rattle.valuing.specs.Walks.{boundHighest, boundAnswer, climbed, isFew}
+use Rattle.valuing.specs.Walks.{boundNumber, boundAnswer, climbed, isFew}
 use Rattle.valuing.specs.WalkLaws.{climbed-first}
 use Rattle.model.specs.Layout.{weightWords}
 use Rattle.replay_step.specs.Inside.{Weighing, WeighingAt}
@@ -54,12 +57,10 @@ module _ {ar : List ℕ} {c : ℕ} {v : Variant} (few : c ≤ parameterCount) (g
       let e : n ^ length (variables ar (diagramOf ws)) ≡ 1 = ap (λ (d : Diagram). n ^ length (variables ar d)) q ∙ ap (λ (l : List ℕ). n ^ length l) weight-none ∙ pow-zero n in
       rw (le-ltb mostValuations (n ^ length (variables ar (diagramOf ws))) (omega (arith, e)))
 
-  pub weight-highest : (s : State) → Good s → (os : List ℕ) → Bound s os → highest s os (meaning ar (v .weight)) ≡ weightIn ar s os v
-  unfolding weightIn start
-  weight-highest s good os b =
-      let h = highest-is s os good b (meaning ar (v .weight)) in
-      sym (h .value) ∙ value-same (λ t. t < firstParameter + c) s (meaning ar (v .weight)) (h .point) (start s os) (g .weight)
-      (λ t k. h .inside .low t (omega arith) ∙ sym (low-lt firstVariable t (fixed s os t) 0 (omega arith)))
+  pub weight-number : (s : State) → Good s → (os : List ℕ) → Bound s os → number s os (meaning ar (v .weight)) ≡ weightIn ar s os v
+  unfolding weightIn
+  weight-number s good os b = number-equal s os good b (meaning ar (v .weight)) _ (number-fixed s os (meaning ar (v .weight))
+      (Terms-mono (λ t. t < firstParameter + c) (λ t. t < firstVariable) (λ t h. omega arith) (meaning ar (v .weight)) (g .weight)) (start s os) (start-fits s os good b))
 
 -- ===== Room for a number for each row =====
 
@@ -76,22 +77,22 @@ one-up zero = refl
 one-up (suc x) = ne-eqb (suc (suc x)) 1 (omega arith) ∙ sym (ne-eqb (suc x) 0 (omega arith))
 
 module _ (ar ws : List ℕ) (n : ℕ) (constants facts os : List ℕ) (few : isFew ar n ws ≡ true) where
-  weight-answer : climbed 0 (boundAnswer ar ws n constants facts os) ≡ Value (suc (boundHighest ar ws n constants facts os))
+  weight-answer : climbed 0 (boundAnswer ar ws n constants facts os) ≡ Value (suc (boundNumber ar ws n constants facts os))
   unfolding boundAnswer isTooLarge isFew stateOf
   weight-answer =
       let e = not-true (ltb mostValuations (valuations ar n (diagramOf ws))) few in
       ap (λ (b : Bool). climbed 0 (cond (b && ltb mostEntries (allEntries (stateOf ar n constants facts) os ar ws)) (Refused Valuations)
-      (Value (boundHighest ar ws n constants facts os)))) e ∙ climbed-first (boundHighest ar ws n constants facts os)
+      (Value (boundNumber ar ws n constants facts os)))) e ∙ climbed-first (boundNumber ar ws n constants facts os)
 
   module _ {r : Valued} (q : r ≡ climbed 0 (boundAnswer ar ws n constants facts os)) where
     pub climb-refused : {e : Refusal} → r ≡ Refused e → {A : Type 0} → A
-    climb-refused {e} h = let z : _≡_ {A = Valued} (Refused e) (Value (suc (boundHighest ar ws n constants facts os))) = sym h ∙ q ∙ weight-answer in
+    climb-refused {e} h = let z : _≡_ {A = Valued} (Refused e) (Value (suc (boundNumber ar ws n constants facts os))) = sym h ∙ q ∙ weight-answer in
         let y : _≡_ {A = ℕ} 0 1 = cc in absurd (omega arith)
 
-    pub climb-none : {b : ℕ} → r ≡ Value b → eqb b 1 ≡ eqb (boundHighest ar ws n constants facts os) 0
-    climb-none {b} h = let z : _≡_ {A = Valued} (Value b) (Value (suc (boundHighest ar ws n constants facts os))) = sym h ∙ q ∙ weight-answer in
-        let y : b ≡ suc (boundHighest ar ws n constants facts os) = cc in
-        ap (λ (x : ℕ). eqb x 1) y ∙ one-up (boundHighest ar ws n constants facts os)
+    pub climb-none : {b : ℕ} → r ≡ Value b → eqb b 1 ≡ eqb (boundNumber ar ws n constants facts os) 0
+    climb-none {b} h = let z : _≡_ {A = Valued} (Value b) (Value (suc (boundNumber ar ws n constants facts os))) = sym h ∙ q ∙ weight-answer in
+        let y : b ≡ suc (boundNumber ar ws n constants facts os) = cc in
+        ap (λ (x : ℕ). eqb x 1) y ∙ one-up (boundNumber ar ws n constants facts os)
 
 -- ===== The words of a weight =====
 
@@ -99,6 +100,6 @@ pub weighing-part : {ar listings table : List ℕ} {place n : ℕ} {constants fa
     → {ws : List ℕ} → ws ≡ weightWords listings table place → Weighing ar ws n constants facts os
 weighing-part {ar} {n = n} {constants} {facts} {os} w e = subst (λ (x : List ℕ). Weighing ar x n constants facts os) (sym e) (w .weighing)
 
-pub weightless-part : (ar : List ℕ) (n : ℕ) (constants facts os : List ℕ) {ws us : List ℕ} → ws ≡ us → {x : Bool} → x ≡ eqb (boundHighest ar ws n constants facts os) 0
-    → x ≡ eqb (boundHighest ar us n constants facts os) 0
-weightless-part ar n constants facts os e q = q ∙ ap (λ (l : List ℕ). eqb (boundHighest ar l n constants facts os) 0) e
+pub weightless-part : (ar : List ℕ) (n : ℕ) (constants facts os : List ℕ) {ws us : List ℕ} → ws ≡ us → {x : Bool} → x ≡ eqb (boundNumber ar ws n constants facts os) 0
+    → x ≡ eqb (boundNumber ar us n constants facts os) 0
+weightless-part ar n constants facts os e q = q ∙ ap (λ (l : List ℕ). eqb (boundNumber ar l n constants facts os) 0) e

@@ -14,7 +14,7 @@ ghost use Rattle.state.specs.Lent.{isState};
 ghost use Rattle.model.specs.Layout.{weightWords};
 ghost use Rattle.replay.specs.Replay.{factsOf};
 ghost use Rattle.next_facts.specs.NextCall.{afterAt, Moving};
-ghost use Rattle.valuing.specs.Walks.{boundHighest};
+ghost use Rattle.valuing.specs.Walks.{boundNumber};
 ghost use Rattle.replay_step.specs.Stepped.{lentStep, StepTask, Steps};
 ghost use Rattle.replay_step.specs.Inside.{Weighing, WeighingAt, rewardBefore, addedTo, rewardsMet, Rewarding, Low, talliedAs, toldAs, Moves};
 
@@ -34,7 +34,7 @@ fn is_weightless(
     objects: &[u64],
 ) -> bool
     requires { ⌜ Weighing (now arities) (now words) n (now constants) (now facts) (now objects) ⌝ }
-    ensures { λ r. ⌜ r ≡ eqb (boundHighest (now (arities .entry)) (now (words .entry)) n (now (constants .entry)) (now (facts .entry)) (now (objects .entry))) 0 ⌝ }
+    ensures { λ r. ⌜ r ≡ eqb (boundNumber (now (arities .entry)) (now (words .entry)) n (now (constants .entry)) (now (facts .entry)) (now (objects .entry))) 0 ⌝ }
 {
     let mut high = [0u64; diagram::ROWS];
     valuing::tops(words, &mut high);
@@ -70,7 +70,7 @@ fn has_no_weight(
     objects: &[u64],
 ) -> bool
     requires { ⌜ WeighingAt (now arities) (now listings) (now table) place n (now constants) (now facts) (now objects) ⌝ }
-    ensures { λ r. ⌜ r ≡ eqb (boundHighest (now (arities .entry)) (weightWords (now (listings .entry)) (now (table .entry)) place) n (now (constants .entry)) (now (facts .entry))
+    ensures { λ r. ⌜ r ≡ eqb (boundNumber (now (arities .entry)) (weightWords (now (listings .entry)) (now (table .entry)) place) n (now (constants .entry)) (now (facts .entry))
         (now (objects .entry))) 0 ⌝ }
 {
     let start = table[place] as usize;

@@ -13,10 +13,10 @@ use Rattle.diagram.specs.Words.{isListing}
 use Rattle.diagram.specs.Listing.{diagramOf}
 use Rattle.diagram.specs.Listings.{is-listing-diagram}
 use Rattle.state.specs.State.{meaning}
-use Rattle.state.specs.Highest.{highest}
 use Rattle.state.specs.Lent.{factWords, isState}
 use Rattle.state.specs.declared.Valued.{Valued}
 use Rattle.state.specs.declared.Valued.the-variants.{Value, Refused}
+use Rattle.minimum.specs.Number.{number}
 use Rattle.elimination.specs.Answer.{isTooLarge}
 use Rattle.valuing.specs.Walks.{boundAnswer}
 use Rattle.refusal.specs.Outcome.{Outcome, ok, refused}
@@ -55,8 +55,8 @@ value-reads : (ar ws : List ℕ) (l : Live) → isListing ar ws ≡ true
     → boundAnswer ar ws (l .objects) (l .constants) (l .facts) [] ≡ valuedAs (valueRead ar l (diagramOf ws))
 unfolding boundAnswer valueRead stateIn
 value-reads ar ws l i =
-    last (isTooLarge ar (stateIn ar l) [] ws) (highest (stateIn ar l) [] (meaning ar (diagramOf ws)))
-    ∙ ap (λ (xs : List ℕ). valuedAs (refuseIf (isTooLarge ar (stateIn ar l) [] xs) Valuations (ok (highest (stateIn ar l) [] (meaning ar (diagramOf ws))))))
+    last (isTooLarge ar (stateIn ar l) [] ws) (number (stateIn ar l) [] (meaning ar (diagramOf ws)))
+    ∙ ap (λ (xs : List ℕ). valuedAs (refuseIf (isTooLarge ar (stateIn ar l) [] xs) Valuations (ok (number (stateIn ar l) [] (meaning ar (diagramOf ws))))))
     (sym (is-listing-diagram ar ws i))
   where
     last : (d : Bool) (v : ℕ) → cond d (Refused Valuations) (Value v) ≡ valuedAs (refuseIf d Valuations (ok v))

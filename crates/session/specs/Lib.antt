@@ -31,7 +31,7 @@
 --   mostObjects, cleared, objectsLine == (objects n)
 --   placed, isLine == (is c o): a constant's object. In Replies placed is what follows once a line's place is judged
 --   withFact, begunAgain, sameWord, rowIs, isFact, factLine, predicateOf, trueLine == (true p o ..)
---   stateIn, valueRead == (value): the state in hand, and its highest leaf, or 15
+--   stateIn, valueRead == (value): the state in hand, and the value diagram's number in it, or 15
 --   withHeld, backupLine == (backup)
 --   cutTo, cutLine, cutSays == (cut)
 --   reduceLine == (reduce) (document 02, L13)

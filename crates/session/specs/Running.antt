@@ -11,8 +11,8 @@ use Rattle.diagram.specs.Diagram.{Diagram}
 use Rattle.diagram.specs.Rows.{rows}
 use Rattle.diagram.specs.Listing.{listing}
 use Rattle.state.specs.State.{State, meaning}
-use Rattle.state.specs.Highest.{highest}
 use Rattle.state.specs.Lent.{stateOf, constantsBelow}
+use Rattle.minimum.specs.Number.{number}
 use Rattle.elimination.specs.Answer.{isTooLarge}
 use Rattle.refusal.specs.Outcome.{Outcome, ok, andThen}
 use Rattle.cutting.specs.declared.Cut.{Cut}
@@ -63,12 +63,12 @@ unfoldable pub stateIn : List ℕ → Live → State
 unfolding stateOf
 stateIn ar l = stateOf ar (l .objects) (l .constants) (l .facts)
 
--- the highest leaf over all valuations; 15 if these are above 1,000,000 and the entries of the tables above 8,192 (document 02, L6)
+-- the number of the value diagram (document 02, L12); 15 if the valuations are above 1,000,000 and the entries of the tables above 8,192 (L6)
 unfoldable pub valueRead : List ℕ → Live → Diagram → Outcome ℕ
-unfolding isTooLarge highest meaning stateIn
+unfolding isTooLarge number meaning stateIn
 valueRead ar l d =
     refuseIf (isTooLarge ar (stateIn ar l) [] (listing d)) Valuations
-    (ok (highest (stateIn ar l) [] (meaning ar d)))
+    (ok (number (stateIn ar l) [] (meaning ar d)))
 
 -- ===== (backup) =====
 

@@ -22,7 +22,7 @@ use Rattle.state.specs.Lent.{constantsBelow}
 use Rattle.mdp.specs.Model.{Model}
 use Rattle.spread.specs.Ground.{mostGround, groundCount, choiceState}
 use Rattle.spread.specs.Spread.{Entry, entryWords, values, countOf, entries, valueIn, entriesOf, someTooLarge, spread}
-use Rattle.spread.specs.LeafLaws.{hasLeaf, highest-leaf, values-leaves}
+use Rattle.spread.specs.LeafLaws.{hasLeaf, number-leaf, values-leaves}
 use Rattle.spread.specs.ChoiceLaws.{FewPlaces, arities-few}
 use Rattle.spread.specs.LentChoiceLaws.{choice-good, lines-few}
 use Rattle.answers.specs.Answers.{field, lineEnd, countHead, countLineAt, countLines}
@@ -128,7 +128,7 @@ module _ (m : Model) (names : Names) (l : Live) (d : Diagram) (n : ℕ) (es : Li
       let tree = diagramOf (listing d) in
       all-worded (countOf g f) (values g f)
       (λ v e. leaf-word ar v tree (is-listing-good ar (listing d) listed .fine)
-      (values-leaves g f tree (λ i h. highest-leaf ar (choiceState ar count n cs i) tree (choice-good ar count n cs few (c .some) (c .placed) i)) v e))
+      (values-leaves g f tree (λ i h. number-leaf ar (choiceState ar count n cs i) tree (choice-good ar count n cs few (c .some) (c .placed) i)) v e))
       (λ v. omega (arith, count-most g f v, few-choices (groundCount ar count n) (c .ground)))
 
   pub entries-words : (i : ℕ) → IsWord (getD (entryWords (entriesIn m names l d n)) i 0)

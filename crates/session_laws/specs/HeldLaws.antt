@@ -6,8 +6,8 @@ use Rattle.diagram.specs.Diagram.{Diagram}
 use Rattle.refusal.specs.Outcome.{Outcome, ok, refused, Accepted}
 use Rattle.refusal.specs.OutcomeLaws.{accepted-mono}
 use Rattle.state.specs.State.{State, meaning}
-use Rattle.state.specs.Highest.{highest}
-use Rattle.state.specs.HighestLaws.{highest-is}
+use Rattle.minimum.specs.Number.{number}
+use Rattle.minimum.specs.NumberLaws.{number-is}
 use Rattle.reduction.specs.Reduction.{reduceAnswer}
 use Rattle.reduction.specs.Claims.{Values}
 use Rattle.reduction.specs.ReductionLaws.{reduce-is}
@@ -18,13 +18,13 @@ use Rattle.mdp.specs.BackupLaws.{bound-none, backup-steps}
 use Rattle.mdp.specs.CutLaws.{cut-is}
 use Rattle.session.specs.Good.{GoodValue}
 
--- the values that it has are its own highest leaves
-own-values : (ar : List ℕ) (d : Diagram) → GoodValue ar d → Values ar (λ s. highest s [] (meaning ar d)) d
+-- the values that it has are its own numbers
+own-values : (ar : List ℕ) (d : Diagram) → GoodValue ar d → Values ar (λ s. number s [] (meaning ar d)) d
 own-values ar d g = record {
   listed = g .listed;
   is-closed = g .is-closed;
   within = g .within;
-  high = λ s h. highest-is s [] h (bound-none s h) (meaning ar d);
+  numbers = λ s h. number-is s [] h (bound-none s h) (meaning ar d);
 }
 
 values-good : (ar : List ℕ) (x : State → ℕ) (d : Diagram) → Values ar x d → GoodValue ar d

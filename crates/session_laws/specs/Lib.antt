@@ -21,7 +21,7 @@
 -- Definitions: the run behind lines
 --   callOf, callThen, callsOf == the backups, cuts and reductions that lines ask for, in order, accepted or refused
 --   isRefused, oneIfBackup, acceptedBackup, acceptedBackups == how many of the lines, with their replies, are accepted (backup) lines
---   HoldsValues == in every state the highest leaf of the value diagram is Mk
+--   HoldsValues == in every state the number of the value diagram is Mk
 --   RunOf == the model is the one accepted at (start); value diagram and k are those of a run of it, of the very backups, cuts and reductions asked for behind it;
 --            k counts the accepted (backup) lines; HoldsValues
 --

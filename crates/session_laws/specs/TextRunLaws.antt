@@ -16,7 +16,7 @@ use Rattle.cutting.specs.declared.Cut.the-variants as C
 use Rattle.cutting.specs.Cut.{diagramAnswer}
 use Rattle.reduction.specs.Reduction.{reduceAnswer}
 use Rattle.state.specs.State.{meaning}
-use Rattle.state.specs.Highest.{highest}
+use Rattle.minimum.specs.Number.{number}
 use Rattle.mdp.specs.Model.{Model, GoodModel}
 use Rattle.mdp.specs.Bellman.{bellman}
 use Rattle.mdp.specs.Backup.{backup}
@@ -395,7 +395,7 @@ run-behind q p (s ∷ ls) r =
 run-values : (σ : Session) → GoodModel (σ .model) → (l : List Call) → σ .held ≡ run (σ .model) l → HoldsValues σ
 run-values σ g l e = record {
   each = λ s h.
-      subst (λ (x : Held). highest s [] (meaning (σ .model .arities) (x .diagram)) ≡ bellman (σ .model) (x .steps) s) (sym e) (demand-3 (σ .model) g l s h);
+      subst (λ (x : Held). number s [] (meaning (σ .model .arities) (x .diagram)) ≡ bellman (σ .model) (x .steps) s) (sym e) (demand-3 (σ .model) g l s h);
 }
 
 pub run-of : (ls : List (List ℕ)) → afterLines beginning ls .session .part ≡ Run → GoodModel (afterLines beginning ls .session .model)

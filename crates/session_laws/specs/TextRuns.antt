@@ -9,7 +9,7 @@ use lib.ListN.{length}
 use Rattle.refusal.specs.Outcome.{ok}
 use Rattle.diagram.specs.Listing.{listing}
 use Rattle.state.specs.State.{State, Good, meaning}
-use Rattle.state.specs.Highest.{highest}
+use Rattle.minimum.specs.Number.{number}
 use Rattle.elimination.specs.Answer.{isTooLarge}
 use Rattle.mdp.specs.Bellman.{bellman}
 use Rattle.mdp.specs.Runs.{Call, aBackup, aCut, aReduce, begin, run}
@@ -101,13 +101,13 @@ acceptedBackups (s ∷ ls) (y ∷ ys) = acceptedBackup (lineKind s) (y .answer) 
 abbrev pub tooLarge : Session → Bool
 tooLarge σ = isTooLarge (σ .model .arities) (stateIn (σ .model .arities) (σ .live)) [] (listing (σ .held .diagram))
 
--- in every state the highest leaf of the value diagram is Mk
+-- in every state the number of the value diagram is Mk
 pub record HoldsValues (σ : Session) : Type 0 where
-  pub each : (s : State) → Good s → highest s [] (meaning (σ .model .arities) (σ .held .diagram)) ≡ bellman (σ .model) (σ .held .steps) s
+  pub each : (s : State) → Good s → number s [] (meaning (σ .model .arities) (σ .held .diagram)) ≡ bellman (σ .model) (σ .held .steps) s
 
 -- the session σ behind the lines ls, one of which, `start`, is the accepted (start), and no other is: a second (start) is 5. Its model is the one that stands
 -- before that line, and so its sums of weights passed; its value diagram and k are those that a run of this model leads to, of the very backups, cuts and
--- reductions that the lines behind it ask for; k is the number of accepted (backup) lines; and in every state the highest leaf of the value diagram is Mk
+-- reductions that the lines behind it ask for; k is the number of accepted (backup) lines; and in every state the number of the value diagram is Mk
 pub record RunOf (ls : List (List ℕ)) (σ : Session) : Type 0 where
   pub before : List (List ℕ)
   pub start : List ℕ

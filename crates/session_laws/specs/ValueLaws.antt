@@ -11,9 +11,9 @@ use Rattle.diagram.specs.Listing.{listing}
 use Rattle.diagram.specs.ListingOfDiagram.{diagram-listing}
 use Rattle.state.specs.State.{Good, meaning, low}
 use Rattle.state.specs.ValueLaws.{low-lt, low-ge, by-low}
-use Rattle.state.specs.Highest.{highest}
 use Rattle.state.specs.Lent.{stateOf}
 use Rattle.state.specs.ValueCall.{mostValuations, valuations}
+use Rattle.minimum.specs.Number.{number}
 use Rattle.elimination.specs.AnswerLaws.{few-not-large}
 use Rattle.refusal.specs.Outcome.{ok}
 use Rattle.refusal.specs.OutcomeLaws.{accepted-ok, accepted-cond}
@@ -48,7 +48,7 @@ state-good ar n constants facts d = record {
 
 -- once there are objects, in the state in hand
 pub held-bellman : (σ : Session) → GoodSession σ → HoldsValues σ → 1 ≤ σ .live .objects
-    → highest (stateIn (σ .model .arities) (σ .live)) [] (meaning (σ .model .arities) (σ .held .diagram))
+    → number (stateIn (σ .model .arities) (σ .live)) [] (meaning (σ .model .arities) (σ .held .diagram))
     ≡ bellman (σ .model) (σ .held .steps) (stateIn (σ .model .arities) (σ .live))
 unfolding stateIn
 held-bellman σ g v some =
@@ -59,10 +59,10 @@ held-bellman σ g v some =
 -- ===== The line =====
 
 value-found : (σ : Session) (v : ℕ) → valueRead (σ .model .arities) (σ .live) (σ .held .diagram) ≡ ok v
-    → v ≡ highest (stateIn (σ .model .arities) (σ .live)) [] (meaning (σ .model .arities) (σ .held .diagram))
+    → v ≡ number (stateIn (σ .model .arities) (σ .live)) [] (meaning (σ .model .arities) (σ .held .diagram))
 unfolding valueRead
 value-found σ v e =
-    accepted-cond {P = λ x. x ≡ highest (stateIn (σ .model .arities) (σ .live)) [] (meaning (σ .model .arities) (σ .held .diagram))}
+    accepted-cond {P = λ x. x ≡ number (stateIn (σ .model .arities) (σ .live)) [] (meaning (σ .model .arities) (σ .held .diagram))}
     (tooLarge σ) Valuations _ (λ d. accepted-ok refl) .given v e
 
 -- where the place of a (value) is right and it reads v, v is Mk
@@ -114,7 +114,7 @@ value-says σ number es a v e = ap (λ o. placed σ number o (done σ number K.V
 
 value-few : (σ : Session) → tooLarge σ ≡ false
     → valueRead (σ .model .arities) (σ .live) (σ .held .diagram)
-    ≡ ok (highest (stateIn (σ .model .arities) (σ .live)) [] (meaning (σ .model .arities) (σ .held .diagram)))
+    ≡ ok (number (stateIn (σ .model .arities) (σ .live)) [] (meaning (σ .model .arities) (σ .held .diagram)))
 unfolding valueRead
 value-few σ few = rw few
 

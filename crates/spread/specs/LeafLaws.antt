@@ -22,8 +22,9 @@ use Rattle.diagram.specs.WordLaws.{number-test}
 use Rattle.rename.specs.AscendingLaws.{ascending-nodup}
 use Rattle.state.specs.Max.{none}
 use Rattle.state.specs.State.{Atomic, State, Good, value, meaning}
-use Rattle.state.specs.Highest.{highest}
-use Rattle.state.specs.HighestLaws.{highest-is, bound-tuple}
+use Rattle.state.specs.HighestLaws.{bound-tuple}
+use Rattle.minimum.specs.Number.{number}
+use Rattle.minimum.specs.NumberLaws.{number-is, number-attained}
 use Rattle.state.specs.Lent.{someBelow}
 use Rattle.state.specs.LentLaws.{some-found}
 use Rattle.spread.specs.Ground.{choiceState}
@@ -59,13 +60,13 @@ leaf-part v (branch l t f) e = go (either (hasLeaf v t) (hasLeaf v f) e) (leaf-p
     go (one h) x y = part-high (leaf v) l t f (x h)
     go (other h) x y = part-low (leaf v) l t f (y h)
 
--- the highest leaf is a leaf
-pub highest-leaf : (ar : List ℕ) (s : State) (d : Diagram) → Good s → hasLeaf (highest s [] (meaning ar d)) d ≡ true
+-- the number is a leaf
+pub number-leaf : (ar : List ℕ) (s : State) (d : Diagram) → Good s → hasLeaf (number s [] (meaning ar d)) d ≡ true
 unfolding meaning value
-highest-leaf ar s d good =
-    let m = highest-is s [] good (bound-tuple good none) (meaning ar d) in
-    sym (relabel-leaf _ (highest s [] (meaning ar d)) d)
-    ∙ ap (λ v. hasLeaf v (meaning ar d)) (sym (m .value)) ∙ eval-leaf _ (meaning ar d)
+number-leaf ar s d good =
+    let m = number-attained (meaning ar d) (number-is s [] good (bound-tuple good none) (meaning ar d)) in
+    sym (relabel-leaf _ (number s [] (meaning ar d)) d)
+    ∙ ap (λ v. hasLeaf v (meaning ar d)) (sym (m .2)) ∙ eval-leaf _ (meaning ar d)
 
 -- ===== How many =====
 mem-leaves : (v : ℕ) (vs : List ℕ) → mem same (leaf v) (map leaf vs) ≡ mem eqb v vs
@@ -124,7 +125,7 @@ unfolding entries valueIn
 entries-few ar count n constants ws m listed good =
     rw (length-map (λ (v : ℕ). record { value = v; states = countOf m f v }) (values m f))
     (leaves-few (diagramOf ws) (values m f) (ascending-nodup 0 (values m f) (values-ascend m f))
-    (values-leaves m f (diagramOf ws) (λ c l. highest-leaf ar (choiceState ar count n constants c) (diagramOf ws) (good c)))
+    (values-leaves m f (diagramOf ws) (λ c l. number-leaf ar (choiceState ar count n constants c) (diagramOf ws) (good c)))
     (is-listing-good ar ws listed .few))
   where
     f : ℕ → ℕ

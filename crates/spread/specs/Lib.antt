@@ -23,7 +23,7 @@
 --   lent-choice, choice-good: the lent words of a choice are a state
 --   entries-values, values-ascend, values-occur: the lines' values ascend strictly and are those that occur; count-some: each has a state
 --   entries-sum, states-sum: the numbers add up, to 2^g
---   highest-leaf, lines-few: a value is a leaf of the diagram, and there are at most 1,023 lines
+--   number-leaf, lines-few: a value is a leaf of the diagram, and there are at most 1,023 lines
 --   spread-many, spread-large, spread-lines: the answer by its cases
 --   table-spread, table-ground, table-many: small cases, by computation
 

@@ -7,7 +7,8 @@ use Rattle.refusal.specs.declared.Refusal.the-variants.{Ground, Valuations}
 use Rattle.refusal.specs.Outcome.{Outcome, ok, refused}
 use Rattle.diagram.specs.Listing.{diagramOf}
 use Rattle.state.specs.State.{meaning}
-use Rattle.state.specs.Highest.{insert, highest}
+use Rattle.state.specs.Highest.{insert}
+use Rattle.minimum.specs.Number.{number}
 use Rattle.state.specs.Lent.{someBelow}
 use Rattle.elimination.specs.Answer.{isTooLarge}
 use Rattle.spread.specs.Ground.{mostGround, groundCount, choiceState}
@@ -40,8 +41,8 @@ entries m f = map (λ v. record { value = v; states = countOf m f v }) (values m
 
 -- the value in choice c's state: what (value) prints there
 unfoldable pub valueIn : List ℕ → ℕ → ℕ → List ℕ → List ℕ → ℕ → ℕ
-unfolding choiceState highest meaning
-valueIn ar count n constants ws c = highest (choiceState ar count n constants c) [] (meaning ar (diagramOf ws))
+unfolding choiceState number meaning
+valueIn ar count n constants ws c = number (choiceState ar count n constants c) [] (meaning ar (diagramOf ws))
 
 -- the entries of all states of n objects
 unfoldable pub entriesOf : List ℕ → ℕ → ℕ → List ℕ → List ℕ → List Entry

@@ -1,5 +1,5 @@
--- The value of a diagram in a state: the highest leaf over all valuations, as a relation and as a number that computes
--- (document 01, section 'States and value').
+-- The highest leaf of a diagram over all valuations of a state, as a relation and as a number that computes (document 01, section 'States and value'): its value
+-- where it has no minimum variable. Values are the numbers of crate minimum (document 02, L12).
 use mathlib.Core.List.{List, [], _∷_}
 use mathlib.Core.Bool.{cond}
 use Prim.Native.Nat.{ℕ, _<_}

@@ -1,8 +1,8 @@
 -- The highest leaf computed is the highest leaf; and all that crates above use of highest leaves: nothing else opens their definition.
-use mathlib.Core.Path.{_≡_, refl, ap, ap₂, sym, _∙_}
+use mathlib.Core.Path.{_≡_, refl, ap, sym, _∙_}
 use mathlib.Core.List.{List, [], _∷_, List·Memᴰ, List·Memᴰ·head, List·Memᴰ·tail}
 use mathlib.Core.Bool.{Bool, true, false, cond}
-use Prim.Native.Nat.{ℕ, zero, suc, _+_, _-_, _*_, _≤_, _<_, max}
+use Prim.Native.Nat.{ℕ, zero, suc, _-_, _≤_, _<_, max}
 use native.Mathlib.Omega.{arith}
 use native.Mathlib.Nat.{le-refl, le-of-eq, le-trans}
 use lib.ListN.{getD}
@@ -10,8 +10,8 @@ use lib.Dec.{ltb, eqb}
 use borrow.Author.Tests.{ltb-true, ltb-false, eqb-true, eqb-false, eq-eqb, ne-eqb}
 use Rattle.label.specs.Limits.{firstParameter, firstVariable}
 use Rattle.diagram.specs.Diagram.{Tree, leaf, branch}
-use Rattle.state.specs.Max.{Below, Tuple, none, more, maxTuples}
-use Rattle.state.specs.MaxLaws.{max-by, max-one, max-same, max-scale, max-both, maxTo-is, maxTuples-is}
+use Rattle.state.specs.Max.{Below, Tuple, none, more}
+use Rattle.state.specs.MaxLaws.{max-by, max-one, max-same, max-both, maxTo-is}
 use Rattle.state.specs.State.{Atomic, State, Good, value, low, fixed, Fits}
 use Rattle.state.specs.Terms.{Each, args, Terms}
 use Rattle.state.specs.ValueLaws.{low-lt, low-ge, by-low, Each-mono, value-same, Terms-mono}
@@ -214,49 +214,7 @@ highest-same d d′ m e = max-same m e
 pub highest-one : {s : State} {os : List ℕ} (d : Tree Atomic) {x y : ℕ} → Highest s os d x → Highest s os d y → x ≡ y
 highest-one d m k = max-one m k
 
--- every leaf times w
-pub highest-scale : {s : State} {os : List ℕ} (d d′ : Tree Atomic) {x : ℕ} (w : ℕ) → Highest s os d x
-    → ((θ : ℕ → ℕ) → Fits s os θ → value s d′ θ ≡ value s d θ * w) → Highest s os d′ (x * w)
-highest-scale d d′ w m e = max-scale w m e
-
 -- the higher of two leaves under every valuation
 pub highest-max : {s : State} {os : List ℕ} (a b c : Tree Atomic) {x y : ℕ} → Highest s os a x → Highest s os b y
     → ((θ : ℕ → ℕ) → Fits s os θ → value s c θ ≡ max (value s a θ) (value s b θ)) → Highest s os c (max x y)
 highest-max a b c m k e = max-both m k e
-
--- a sum whose operands' valuations are chosen freely: two are joined to one, and one is parted into two
-module _ {s : State} {os : List ℕ} (a b c : Tree Atomic)
-    (joined : (θ η : ℕ → ℕ) → Fits s os θ → Fits s os η → (μ : ℕ → ℕ) × Fits s os μ × (value s c μ ≡ value s a θ + value s b η))
-    (parted : (μ : ℕ → ℕ) → Fits s os μ → (θ : ℕ → ℕ) × Fits s os θ × ((η : ℕ → ℕ) × Fits s os η × (value s c μ ≡ value s a θ + value s b η))) where
-  pub highest-sum : {x y : ℕ} → Highest s os a x → Highest s os b y → Highest s os c (x + y)
-  highest-sum m k =
-      let j = joined (m .point) (k .point) (m .inside) (k .inside) in
-      record {
-        point = j .0;
-        inside = j .1;
-        value = j .2 ∙ ap₂ _+_ (m .value) (k .value);
-        bound = λ μ f.
-            let p = parted μ f in
-            let u = m .bound (p .0) (p .1) in
-            let v = k .bound (p .2 .0) (p .2 .1) in
-            let w = p .2 .2 in
-            omega arith;
-      }
-
--- a tuple of objects chosen freely: the valuations of d with a tuple are those of d′ without one
-module _ {s : State} (good : Good s) (c : ℕ) (d d′ : Tree Atomic)
-    (freed : (os : List ℕ) → Tuple (s .size) c os → (θ : ℕ → ℕ) → Fits s os θ → (η : ℕ → ℕ) × Fits s [] η × (value s d′ η ≡ value s d θ))
-    (bound : (η : ℕ → ℕ) → Fits s [] η → (os : List ℕ) × Tuple (s .size) c os × ((θ : ℕ → ℕ) × Fits s os θ × (value s d′ η ≡ value s d θ))) where
-  pub highest-tuples : (x : List ℕ → ℕ) → ((os : List ℕ) → Tuple (s .size) c os → Highest s os d (x os)) → Highest s [] d′ (maxTuples (s .size) c x)
-  highest-tuples x m =
-      let top = maxTuples-is (s .size) c x (good .some) in
-      let best = m (top .point) (top .inside) in
-      let f = freed (top .point) (top .inside) (best .point) (best .inside) in
-      record {
-        point = f .0;
-        inside = f .1;
-        value = f .2 ∙ best .value ∙ top .value;
-        bound = λ η h.
-            let t = bound η h in
-            le-trans (le-of-eq (t .2 .2)) (le-trans (m (t .0) (t .1) .bound (t .2 .0) (t .2 .1)) (top .bound (t .0) (t .1)));
-      }

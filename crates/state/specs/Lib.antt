@@ -26,15 +26,12 @@
 --   allBelow, namesBelow, constantsBelow, isState == there is an object, and no object that the lent words name is n or beyond
 --   mostValuations, parameters, valuations == 1,000,000; the parameters of a diagram; n to the number of its variables
 --   Valued == the value, or the refusal
---   answerBy == the value call: its checks in order (14, 4, 6), then 15 where it is too large, else the highest leaf
---   firstAnswer == the call by the first way of working alone, as document 01 has it
 --
 -- Theorems
 --   highest-is: the highest leaf computed is the highest leaf
 --   rename-value: a renamed diagram is valued through the renaming
 --   highest-by: highest leaves compared; highest-same: of diagrams with the same leaves; highest-one: there is one
---   highest-scale: times a number; highest-max: of two diagrams' highest; highest-sum: over disjoint variables the sum of the highest
---   highest-tuples: the highest over all tuples
+--   highest-max: of two diagrams' highest
 --   same-facts: neither order nor repetition of lent facts matters
 
 pub mod Max

@@ -1,10 +1,10 @@
 -- Laws of maxima.
-use mathlib.Core.Path.{_≡_, refl, ap, sym, _∙_}
+use mathlib.Core.Path.{_≡_, refl, sym, _∙_}
 use mathlib.Core.List.{List, [], _∷_}
 use mathlib.Core.Bool.{Bool, true, false}
-use Prim.Native.Nat.{ℕ, zero, suc, _*_, _≤_, _<_, max}
+use Prim.Native.Nat.{ℕ, zero, suc, _≤_, _<_, max}
 use native.Mathlib.Omega.{arith}
-use native.Mathlib.Nat.{le-trans, le-refl, le-of-eq, mul-le-mul-right}
+use native.Mathlib.Nat.{le-trans, le-refl, le-of-eq}
 use lib.Dec.{leb}
 use borrow.Author.Tests.{leb-true, leb-false}
 use Rattle.state.specs.Max.{IsMax, Below, maxTo, Tuple, none, more, maxTuples}
@@ -37,14 +37,6 @@ module _ {X : Type 0} {P : X → Type 0} {f : X → ℕ} where
   -- another function with the same values on P
   pub max-same : {g : X → ℕ} {x : ℕ} → IsMax P f x → ((a : X) → P a → f a ≡ g a) → IsMax P g x
   max-same m e = max-by m (λ a p. (a, p, le-of-eq (e a p))) (λ a p. (a, p, le-of-eq (sym (e a p))))
-
-  pub max-scale : {g : X → ℕ} {x : ℕ} (w : ℕ) → IsMax P f x → ((a : X) → P a → g a ≡ f a * w) → IsMax P g (x * w)
-  max-scale w m e = record {
-    point = m .point;
-    inside = m .inside;
-    value = e (m .point) (m .inside) ∙ ap (λ n. n * w) (m .value);
-    bound = λ a p. rw (e a p) (mul-le-mul-right w (m .bound a p));
-  }
 
 -- the higher of two functions
 module _ {X : Type 0} {P : X → Type 0} {f g h : X → ℕ} where

@@ -2,7 +2,7 @@
 use label::Label;
 use refusal::Refusal;
 
-// What valuing answers: the highest leaf, or why there is none.
+// What valuing answers: the number, or why there is none.
 pub enum Valued {
     Value(u64),
     Refused(Refusal),

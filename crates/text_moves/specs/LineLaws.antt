@@ -11,7 +11,7 @@ use Rattle.refusal.specs.Outcome.{Outcome, ok, refused}
 use Rattle.diagram.specs.Diagram.{Diagram}
 use Rattle.diagram.specs.Listing.{listing}
 use Rattle.state.specs.State.{meaning}
-use Rattle.state.specs.Highest.{highest}
+use Rattle.minimum.specs.Number.{number}
 use Rattle.elimination.specs.Answer.{isTooLarge}
 use Rattle.mdp.specs.Model.{Every}
 use Rattle.best.specs.Moves.{Move}
@@ -55,7 +55,7 @@ value-large : (ar : List ℕ) (l : Live) (d : Diagram) (r : Refusal) → valueRe
 unfolding valueRead
 value-large ar l d r e = go (isTooLarge ar (stateIn ar l) [] (listing d)) e
   where
-    go : (b : Bool) → refuseIf b Valuations (ok (highest (stateIn ar l) [] (meaning ar d))) ≡ refused r → r ≡ Valuations
+    go : (b : Bool) → refuseIf b Valuations (ok (number (stateIn ar l) [] (meaning ar d))) ≡ refused r → r ≡ Valuations
     go true f = cc
     go false f = let z : _≡_ {A = ℕ} 0 1 = cc in absurd (omega arith)
 

@@ -11,9 +11,9 @@ use Rattle.label.specs.Limits.{constantCount}
 use Rattle.diagram.specs.Listing.{listing}
 use Rattle.rename.specs.Ascending.{Ascending}
 use Rattle.state.specs.State.{State, Good, meaning}
-use Rattle.state.specs.Highest.{highest}
 use Rattle.state.specs.Lent.{stateOf, constantsBelow}
 use Rattle.state.specs.LentLaws.{some-found, some-made}
+use Rattle.minimum.specs.Number.{number}
 use Rattle.mdp.specs.Model.{scale}
 use Rattle.mdp.specs.Bellman.{bellman}
 use Rattle.spread.specs.Ground.{choiceState}
@@ -79,7 +79,7 @@ module _ (σ : Session) (g : GoodSession σ) (n : ℕ) where
       }
 
   module _ (p : σ .part ≡ Run) (some : 1 ≤ n) (below : constantsBelow n (σ .live .constants) ≡ true)
-      (holds : (s : State) → Good s → highest s [] (meaning (σ .model .arities) (σ .held .diagram)) ≡ bellman (σ .model) (σ .held .steps) s) (c : ℕ) where
+      (holds : (s : State) → Good s → number s [] (meaning (σ .model .arities) (σ .held .diagram)) ≡ bellman (σ .model) (σ .held .steps) s) (c : ℕ) where
     value-steps : valueAt σ n c ≡ bellman (σ .model) (σ .held .steps) (choiceOf σ n c)
     value-steps =
         sym (value-is σ g p n c)

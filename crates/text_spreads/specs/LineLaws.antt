@@ -18,8 +18,8 @@ use Rattle.diagram.specs.ListingOfDiagram.{diagram-listing}
 use Rattle.diagram.specs.Words.{everyBelow}
 use Rattle.diagram.specs.WordLaws.{every-below, below-every}
 use Rattle.state.specs.State.{meaning}
-use Rattle.state.specs.Highest.{highest}
 use Rattle.state.specs.Lent.{constantsBelow}
+use Rattle.minimum.specs.Number.{number}
 use Rattle.elimination.specs.Answer.{isTooLarge}
 use Rattle.spread.specs.Ground.{choiceState}
 use Rattle.spread.specs.Spread.{valueIn, spread}
@@ -152,10 +152,10 @@ module _ (σ : Session) (n : ℕ) where
 -- ===== (value) in the state of a choice =====
 
 -- the listing is that of the value diagram
-pub value-is : (σ : Session) → GoodSession σ → σ .part ≡ Run → (n c : ℕ) → highest (choiceOf σ n c) [] (meaning (σ .model .arities) (σ .held .diagram)) ≡ valueAt σ n c
+pub value-is : (σ : Session) → GoodSession σ → σ .part ≡ Run → (n c : ℕ) → number (choiceOf σ n c) [] (meaning (σ .model .arities) (σ .held .diagram)) ≡ valueAt σ n c
 unfolding valueIn
 value-is σ g p n c =
-    ap (λ d. highest (choiceOf σ n c) [] (meaning (σ .model .arities) d)) (sym (diagram-listing (σ .model .arities) (σ .held .diagram) (g .begun p .value .listed)))
+    ap (λ d. number (choiceOf σ n c) [] (meaning (σ .model .arities) d)) (sym (diagram-listing (σ .model .arities) (σ .held .diagram) (g .begun p .value .listed)))
 
 module _ (σ : Session) (g : GoodSession σ) (p : σ .part ≡ Run) (marks : eachPlaced (σ .live .placed) (length (σ .names .constants)) ≡ true) (n : ℕ) (some : 1 ≤ n) (c : ℕ) where
   allowed-value : allowed (withChoice σ n c) (ruleOf K.Value (σ .part)) ≡ ok tt
@@ -164,15 +164,15 @@ module _ (σ : Session) (g : GoodSession σ) (p : σ .part ≡ Run) (marks : eac
       ap (λ (q : Part). allowed (withChoice σ n c) (ruleOf K.Value q)) p
       ∙ rw (le-leb 1 n some, marks)
 
-  value-in : (number : ℕ) (b : Bool) → isTooLarge (σ .model .arities) (choiceOf σ n c) [] (listing (σ .held .diagram)) ≡ b
-      → reply (withChoice σ n c) number valueLine
-      ≡ valueSays (withChoice σ n c) number (refuseIf b F.Valuations (ok (highest (choiceOf σ n c) [] (meaning (σ .model .arities) (σ .held .diagram)))))
+  value-in : (place : ℕ) (b : Bool) → isTooLarge (σ .model .arities) (choiceOf σ n c) [] (listing (σ .held .diagram)) ≡ b
+      → reply (withChoice σ n c) place valueLine
+      ≡ valueSays (withChoice σ n c) place (refuseIf b F.Valuations (ok (number (choiceOf σ n c) [] (meaning (σ .model .arities) (σ .held .diagram)))))
   unfolding reply replyTo done valueRead stateIn choiceState
-  value-in number b e =
+  value-in place b e =
       let τ = withChoice σ n c in
-      ap (λ (k : Kind). replyTo τ number k (wordsOf k valueLine)) (line-complete (line K.Value tt) (tt, omega arith, omega arith))
-      ∙ ap (λ (o : Outcome (Unit {0})). placed τ number o (done τ number K.Value (wordsOf K.Value valueLine))) allowed-value
-      ∙ ap (λ (d : Bool). valueSays τ number (refuseIf d F.Valuations (ok (highest (choiceOf σ n c) [] (meaning (σ .model .arities) (σ .held .diagram)))))) e
+      ap (λ (k : Kind). replyTo τ place k (wordsOf k valueLine)) (line-complete (line K.Value tt) (tt, omega arith, omega arith))
+      ∙ ap (λ (o : Outcome (Unit {0})). placed τ place o (done τ place K.Value (wordsOf K.Value valueLine))) allowed-value
+      ∙ ap (λ (d : Bool). valueSays τ place (refuseIf d F.Valuations (ok (number (choiceOf σ n c) [] (meaning (σ .model .arities) (σ .held .diagram)))))) e
 
   pub prints-value : isTooLarge (σ .model .arities) (choiceOf σ n c) [] (listing (σ .held .diagram)) ≡ false → PrintsValue σ n c (valueAt σ n c)
   prints-value e number = value-in number false e ∙ ap (λ v. valueSays (withChoice σ n c) number (ok v)) (value-is σ g p n c)

@@ -25,9 +25,9 @@ use Rattle.listing.specs.Used.{Used, setFrom, markedVariables}
 use Rattle.listing.specs.UsedLaws.{set-occurring, marked-variables}
 use Rattle.state.specs.declared.Valued.{Valued}
 use Rattle.state.specs.declared.Valued.the-variants.{Value, Refused}
-use Rattle.state.specs.ValueCall.{mostValuations, parameters, valuations, answerBy}
-use Rattle.elimination.specs.Answer.{isTooLarge, valueAnswer}
-use Rattle.valuing.specs.Walks.{boundHighest, boundAnswer, isFew}
+use Rattle.state.specs.ValueCall.{mostValuations, parameters, valuations}
+use Rattle.elimination.specs.Answer.{answerBy, isTooLarge, valueAnswer}
+use Rattle.valuing.specs.Walks.{boundNumber, boundAnswer, isFew}
 use Rattle.valuing.specs.Tables.{tablesAnswer}
 use Rattle.state.specs.LentLaws.{objects-length, object-at, all-made, all-at}
 use Rattle.valuing.specs.Index.{placeCount, objectAt}
@@ -246,7 +246,7 @@ few-marks ar ws n {marks} {v} {q} u j w =
 
 -- the two ways of working
 module _ (ar ws : List ℕ) (n : ℕ) (constants facts os : List ℕ) {few : Bool} (e : few ≡ isFew ar n ws) where
-  pub bound-few : few ≡ true → {x : ℕ} → x ≡ boundHighest ar ws n constants facts os → Value x ≡ boundAnswer ar ws n constants facts os
+  pub bound-few : few ≡ true → {x : ℕ} → x ≡ boundNumber ar ws n constants facts os → Value x ≡ boundAnswer ar ws n constants facts os
   unfolding isFew boundAnswer isTooLarge stateOf
   bound-few t o = rw (not-true (ltb mostValuations (valuations ar n (diagramOf ws))) (sym e ∙ t)) (ap Value o)
 

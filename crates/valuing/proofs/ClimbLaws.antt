@@ -16,12 +16,12 @@ use Rattle.diagram.specs.ListingValid.{listing-is-valid}
 use Rattle.state.specs.declared.Valued.{Valued}
 use Rattle.state.specs.declared.Valued.the-variants.{Value, Refused}
 use Rattle.state.specs.State.{State, atomOf, meaning, holds, value}
-use Rattle.state.specs.HighestLaws.{highest-is}
+use Rattle.minimum.specs.NumberLaws.{number-is, number-attained}
 use Rattle.state.specs.Lent.{allBelow, stateOf, isState}
 use Rattle.elimination.specs.Elimination.{mostEntries, allEntries}
 use Rattle.elimination.specs.AnswerLaws.{lent-good}
 use Rattle.valuing.specs.Tables.{tablesAnswer, Liftable}
-use Rattle.valuing.specs.Walks.{boundHighest, boundAnswer, climbed, isFew}
+use Rattle.valuing.specs.Walks.{boundNumber, boundAnswer, climbed, isFew}
 use Rattle.valuing.proofs.StartLaws.{lent-bound}
 use Rattle.valuing.proofs.CheckLaws.{bound-few, bound-many}
 
@@ -52,26 +52,27 @@ value-most s ar θ (branch l t e) f = go (holds s θ (atomOf ar l)) (value-most 
 
 module _ (ar ws : List ℕ) (n : ℕ) (constants facts os : List ℕ) (listed : isListing ar ws ≡ true) (lent : isState ar n constants facts ≡ true)
     (below : allBelow n os ≡ true) where
-  highest-most : boundHighest ar ws n constants facts os ≤ highestValue
-  highest-most =
-      let h = highest-is (stateOf ar n constants facts) os (lent-good ar n constants facts lent) (lent-bound ar n constants facts os lent below) (meaning ar (diagramOf ws)) in
-      subst (λ x. x ≤ highestValue) (h .value)
-      (value-most (stateOf ar n constants facts) ar (h .point) (diagramOf ws) (good-diagram ar ws (listing-is-valid ar ws listed) .fine))
+  number-most : boundNumber ar ws n constants facts os ≤ highestValue
+  number-most =
+      let h = number-attained (meaning ar (diagramOf ws))
+      (number-is (stateOf ar n constants facts) os (lent-good ar n constants facts lent) (lent-bound ar n constants facts os lent below) (meaning ar (diagramOf ws))) in
+      subst (λ x. x ≤ highestValue) (h .2)
+      (value-most (stateOf ar n constants facts) ar (h .0) (diagramOf ws) (good-diagram ar ws (listing-is-valid ar ws listed) .fine))
 
   pub tables-liftable : {r : Valued} → r ≡ tablesAnswer ar ws n constants facts os → Liftable r
   unfolding tablesAnswer
   tables-liftable {r} e = record { few = λ v q. go v (ltb mostEntries (allEntries (stateOf ar n constants facts) os ar ws)) (sym e ∙ q) }
     where
-      go : (v : ℕ) (b : Bool) → cond b (Refused Valuations) (Value (boundHighest ar ws n constants facts os)) ≡ Value v → v ≤ highestValue
+      go : (v : ℕ) (b : Bool) → cond b (Refused Valuations) (Value (boundNumber ar ws n constants facts os)) ≡ Value v → v ≤ highestValue
       go v true q = let z : _≡_ {A = ℕ} 0 1 = cc in absurd (omega arith)
-      go v false q = let z : boundHighest ar ws n constants facts os ≡ v = cc in omega (arith, highest-most)
+      go v false q = let z : boundNumber ar ws n constants facts os ≡ v = cc in omega (arith, number-most)
 
 -- ===== Both ways of working =====
 module _ (ar ws : List ℕ) (n : ℕ) (constants facts os : List ℕ) (best : ℕ) {few : Bool} (e : few ≡ isFew ar n ws) where
-  pub climb-few : few ≡ true → {x : ℕ} → x ≡ max best (suc (boundHighest ar ws n constants facts os))
+  pub climb-few : few ≡ true → {x : ℕ} → x ≡ max best (suc (boundNumber ar ws n constants facts os))
       → Value x ≡ climbed best (boundAnswer ar ws n constants facts os)
   unfolding climbed
-  climb-few t {x} o = ap Value o ∙ ap (climbed best) (bound-few ar ws n constants facts os e t {x = boundHighest ar ws n constants facts os} refl)
+  climb-few t {x} o = ap Value o ∙ ap (climbed best) (bound-few ar ws n constants facts os e t {x = boundNumber ar ws n constants facts os} refl)
 
   pub climb-many : few ≡ false → {r x : Valued} → r ≡ tablesAnswer ar ws n constants facts os → x ≡ climbed best r
       → x ≡ climbed best (boundAnswer ar ws n constants facts os)

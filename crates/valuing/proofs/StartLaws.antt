@@ -20,15 +20,17 @@ use Rattle.diagram.specs.Validity.{Valid, tree}
 use Rattle.diagram.specs.RowDiagrams.{branch-row}
 use Rattle.diagram.specs.DiagramOfListing.{valid-rows, shown-rows, diagram-is}
 use Rattle.diagram.specs.ListingValid.{listing-is-valid}
+use Rattle.diagram.specs.Listings.{is-listing-good}
 use Rattle.state.specs.State.{atomOf, meaning, State, truth, holds, value, low, fixed, Fits}
 use Rattle.state.specs.ValueLaws.{low-lt, low-ge, by-low}
 use Rattle.state.specs.Highest.{Highest, Bound}
-use Rattle.state.specs.HighestLaws.{highest-is}
 use Rattle.state.specs.Lent.{allBelow, constantsBelow, stateOf, isState}
+use Rattle.minimum.specs.NumberLaws.{number-is}
+use Rattle.minimum.specs.PlainLaws.{fine-plain, number-highest}
 use Rattle.elimination.specs.AnswerLaws.{lent-good}
 use Rattle.valuing.specs.Index.{Indexed, indexedCount}
 use Rattle.valuing.specs.Search.{free, Topping, Tops, topAt, fixedIn, Placing, Started, lentTruth, lentHolds, leafFrom, Extends, Hit, old, new, Best, Ready}
-use Rattle.valuing.specs.Walks.{boundHighest, Prepared}
+use Rattle.valuing.specs.Walks.{boundNumber, Prepared}
 use Rattle.valuing.specs.WalkLaws.{bound-below, topping-room, prepared}
 
 -- a row's number, test by test
@@ -259,11 +261,13 @@ module _ {ar ws high : List ℕ} {n : ℕ} {constants facts index : List ℕ} (p
       ∙ ap (eval (lentHolds ar facts θ)) (diagram-is ar ws (listing-is-valid ar ws (p .listed)) ∙ ap (tree ws) (omega arith))
 
   module _ (os : List ℕ) (o : allBelow n os ≡ true) where
-    best-is : Highest (stateOf ar n constants facts) os (meaning ar (diagramOf ws)) (boundHighest ar ws n constants facts os)
-    best-is = highest-is (stateOf ar n constants facts) os (lent-good ar n constants facts (p .lent)) (lent-bound ar n constants facts os (p .lent) o) (meaning ar (diagramOf ws))
+    -- a listing has no minimum variable, so that its number is the highest leaf
+    best-is : Highest (stateOf ar n constants facts) os (meaning ar (diagramOf ws)) (boundNumber ar ws n constants facts os)
+    best-is = number-highest (stateOf ar n constants facts) os (meaning ar (diagramOf ws)) (fine-plain ar (diagramOf ws) (is-listing-good ar ws (p .listed) .fine)) _
+        (number-is (stateOf ar n constants facts) os (lent-good ar n constants facts (p .lent)) (lent-bound ar n constants facts os (p .lent) o) (meaning ar (diagramOf ws)))
 
     -- no leaf below the root passes the best so far
-    pub root-cut : {best : ℕ} → getD high (rowCount ws - 1) 0 < best → best ≡ max best (suc (boundHighest ar ws n constants facts os))
+    pub root-cut : {best : ℕ} → getD high (rowCount ws - 1) 0 < best → best ≡ max best (suc (boundNumber ar ws n constants facts os))
     unfolding leafFrom
     root-cut {best} h =
         let θ = best-is .point in
@@ -289,15 +293,15 @@ module _ {ar ws high : List ℕ} {n : ℕ} {constants facts index : List ℕ} (p
       }
 
       -- and its end is the higher of the best so far and the value
-      pub found-highest : {best b : ℕ} {env′ : List ℕ} → Best ar facts ws env n (rowCount ws - 1) best b env′ → b ≡ max best (suc (boundHighest ar ws n constants facts os))
-      found-highest {best} {b} t =
+      pub found-number : {best b : ℕ} {env′ : List ℕ} → Best ar facts ws env n (rowCount ws - 1) best b env′ → b ≡ max best (suc (boundNumber ar ws n constants facts os))
+      found-number {best} {b} t =
           let θ = best-is .point in
           let v = best-is .value in
           let k = t .kept in
           let l = t .above θ (fits-extends ar n constants facts os (p .lent) o env s θ (best-is .inside)) in
           omega (arith, leaf-value θ, top (t .hit))
         where
-          top : Hit ar facts ws env n (rowCount ws - 1) best b → b ≤ max best (suc (boundHighest ar ws n constants facts os))
+          top : Hit ar facts ws env n (rowCount ws - 1) best b → b ≤ max best (suc (boundNumber ar ws n constants facts os))
           top (old z) = omega arith
           top (new θ x z) =
               let f = best-is .bound θ (extends-fits ar n constants facts os (p .lent) o env s θ m x) in

@@ -16,12 +16,14 @@ use Rattle.diagram.specs.Words.{rowCount, isListing}
 use Rattle.diagram.specs.Listing.{diagramOf}
 use Rattle.diagram.specs.Validity.{Valid}
 use Rattle.diagram.specs.ListingValid.{listing-is-valid}
+use Rattle.diagram.specs.Listings.{is-listing-good}
 use Rattle.state.specs.declared.Valued.the-variants.{Value, Refused}
 use Rattle.state.specs.State.{State, Good, Fits, meaning, fixed}
 use Rattle.state.specs.ValueLaws.{by-low}
-use Rattle.state.specs.Highest.{start, highest, Bound}
+use Rattle.state.specs.Highest.{start, Bound}
 use Rattle.state.specs.HighestLaws.{start-fits}
 use Rattle.state.specs.Lent.{allBelow, stateOf, isState}
+use Rattle.minimum.specs.PlainLaws.{number-plain, fine-plain}
 use Rattle.elimination.specs.Elimination.{rowTable, tables, rootTable, entriesTo, allEntries, mostEntries}
 use Rattle.elimination.specs.Tables.{leafTable}
 use Rattle.elimination.specs.RowLaws.{table-at}
@@ -168,7 +170,8 @@ module _ (ar ws : List ℕ) (n : ℕ) (constants facts os : List ℕ) (listed : 
             let place : startAt heads′ root + placeOf (s .size) (rootTable s ar ws .names) (start s os) ≡ a =
             ap (λ (xs : List ℕ). startAt heads′ root + placeOf (s .size) xs (start s os)) (root-names s os good bound ar ws listed) ∙ here ∙ sym q in
             rw (le-ltb mostEntries (allEntries s os ar ws) few)
-            (ap Value (ap (λ (x : ℕ). getD space′ x 0) (sym place) ∙ entry ∙ root-value s os good bound ar ws listed))
+            (ap Value (ap (λ (x : ℕ). getD space′ x 0) (sym place) ∙ entry ∙ root-value s os good bound ar ws listed
+            ∙ sym (number-plain s os (meaning ar (diagramOf ws)) (fine-plain ar (diagramOf ws) (is-listing-good ar ws listed .fine)))))
           where
             here : startAt heads′ root + 0 ≡ getD heads′ (root * 2 + 1) 0
             here = omega arith

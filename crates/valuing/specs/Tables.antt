@@ -10,15 +10,15 @@ use Rattle.diagram.specs.Listing.{diagramOf}
 use Rattle.state.specs.declared.Valued.{Valued}
 use Rattle.state.specs.declared.Valued.the-variants.{Value, Refused}
 use Rattle.state.specs.State.{meaning}
-use Rattle.state.specs.Highest.{highest}
 use Rattle.state.specs.Lent.{stateOf}
+use Rattle.minimum.specs.Number.{number}
 use Rattle.elimination.specs.Elimination.{mostEntries, allEntries}
 
--- 15 where the tables have too many entries, else the highest leaf, with the objects os for the parameters
+-- 15 where the tables have too many entries, else the number, with the objects os for the parameters
 unfoldable pub tablesAnswer : List ℕ → List ℕ → ℕ → List ℕ → List ℕ → List ℕ → Valued
 tablesAnswer ar ws n constants facts os =
     cond (ltb mostEntries (allEntries (stateOf ar n constants facts) os ar ws)) (Refused Valuations)
-    (Value (highest (stateOf ar n constants facts) os (meaning ar (diagramOf ws))))
+    (Value (number (stateOf ar n constants facts) os (meaning ar (diagramOf ws))))
 
 -- an answer that has room for one more
 pub record Liftable (r : Valued) : Type 0 where

@@ -17,8 +17,8 @@ use Rattle.state.specs.declared.Valued.the-variants.{Value}
 use Rattle.state.specs.State.{State, Good}
 use Rattle.state.specs.Highest.{Bound}
 use Rattle.state.specs.Lent.{allBelow, isState}
-use Rattle.state.specs.ValueCall.{parameters, answerBy}
-use Rattle.elimination.specs.Answer.{valueAnswer}
+use Rattle.state.specs.ValueCall.{parameters}
+use Rattle.elimination.specs.Answer.{answerBy, valueAnswer}
 use Rattle.valuing.specs.Index.{buckets, mostIndexed, indexedCount, bucketAt, Indexed, Clean}
 use Rattle.valuing.specs.Search.{Topping, Tops}
 use Rattle.valuing.specs.Walks.{boundAnswer, climbed, Prepared}

@@ -11,24 +11,24 @@ use Rattle.diagram.specs.Listing.{diagramOf}
 use Rattle.state.specs.declared.Valued.{Valued}
 use Rattle.state.specs.declared.Valued.the-variants.{Value, Refused}
 use Rattle.state.specs.State.{meaning}
-use Rattle.state.specs.Highest.{highest}
 use Rattle.state.specs.Lent.{stateOf, isState}
 use Rattle.state.specs.ValueCall.{mostValuations, valuations}
+use Rattle.minimum.specs.Number.{number}
 use Rattle.elimination.specs.Answer.{isTooLarge}
 use Rattle.valuing.specs.Index.{indexedCount, Indexed}
 use Rattle.valuing.specs.Search.{Tops}
 
 -- ===== What is answered =====
 
--- the highest leaf of a listing in a lent state, with the objects os for the parameters
-abbrev pub boundHighest : List ℕ → List ℕ → ℕ → List ℕ → List ℕ → List ℕ → ℕ
-boundHighest ar ws n constants facts os = highest (stateOf ar n constants facts) os (meaning ar (diagramOf ws))
+-- the number of a listing in a lent state (document 02, L12), with the objects os for the parameters
+abbrev pub boundNumber : List ℕ → List ℕ → ℕ → List ℕ → List ℕ → List ℕ → ℕ
+boundNumber ar ws n constants facts os = number (stateOf ar n constants facts) os (meaning ar (diagramOf ws))
 
--- 15 where both ways of working are too large, else the highest leaf: "with 15 judged for each binding" (L9), "for each state" (L11)
+-- 15 where both ways of working are too large, else the number: "with 15 judged for each binding" (L9), "for each state" (L11)
 unfoldable pub boundAnswer : List ℕ → List ℕ → ℕ → List ℕ → List ℕ → List ℕ → Valued
 unfolding isTooLarge stateOf
 boundAnswer ar ws n constants facts os =
-    cond (isTooLarge ar (stateOf ar n constants facts) os ws) (Refused Valuations) (Value (boundHighest ar ws n constants facts os))
+    cond (isTooLarge ar (stateOf ar n constants facts) os ws) (Refused Valuations) (Value (boundNumber ar ws n constants facts os))
 
 -- the best so far after one answer more: one more than the best leaf, 0 for none
 unfoldable pub climbed : ℕ → Valued → Valued

@@ -13,7 +13,7 @@ ghost use Rattle.state.specs.ValueCall.{mostValuations};
 ghost use Rattle.elimination.specs.Answer.{valueAnswer};
 ghost use Rattle.valuing.specs.Index.{buckets, mostIndexed, indexedCount, placeCount, hashEnd, hashGap, hashStart, hashStep, bucketFor, bucketAt, says, Indexed, Clean, Placed, Asked, Sought};
 ghost use Rattle.valuing.specs.Tables.{tablesAnswer, Liftable};
-ghost use Rattle.valuing.specs.Walks.{boundHighest, boundAnswer, climbed, isFew, Prepared};
+ghost use Rattle.valuing.specs.Walks.{boundNumber, boundAnswer, climbed, isFew, Prepared};
 ghost use Rattle.valuing.specs.Search.{free, Topping, Tops, topAt, fixedIn, Placing, lentHolds, given, Labelled, LooksUp, Telling, Best, Ready};
 use eliminate::Reached;
 use label::Label;
@@ -401,7 +401,7 @@ fn climb_rows(
 ) -> u64
     requires { ⌜ Prepared (now arities) (now words) (now high) n (now constants) (now facts) (now index) ⌝ }
     requires { ⌜ allBelow n (now objects) ≡ true ⌝ }
-    ensures { λ r. ⌜ r ≡ max best (suc (boundHighest (now (arities .entry)) (now (words .entry)) n (now (constants .entry)) (now (facts .entry)) (now (objects .entry)))) ⌝ }
+    ensures { λ r. ⌜ r ≡ max best (suc (boundNumber (now (arities .entry)) (now (words .entry)) n (now (constants .entry)) (now (facts .entry)) (now (objects .entry)))) ⌝ }
 {
     let root = words.len() / 3 - 1;
     if high[root] < best {
@@ -424,7 +424,7 @@ fn highest_leaf(
     requires { ⌜ isListing (now arities) (now words) ≡ true ⌝ }
     requires { ⌜ isState (now arities) n (now constants) (now facts) ≡ true ⌝ }
     requires { ⌜ allBelow n (now objects) ≡ true ⌝ }
-    ensures { λ r. ⌜ r ≡ boundHighest (now (arities .entry)) (now (words .entry)) n (now (constants .entry)) (now (facts .entry)) (now (objects .entry)) ⌝ }
+    ensures { λ r. ⌜ r ≡ boundNumber (now (arities .entry)) (now (words .entry)) n (now (constants .entry)) (now (facts .entry)) (now (objects .entry)) ⌝ }
 {
     let mut high = [0u64; diagram::ROWS];
     tops(words, &mut high);
@@ -677,7 +677,7 @@ pub fn value_listed(
     value_by(arities, words, n, constants, facts, small)
 }
 
-// The value of a listing in a state that are lent with an arity list: the highest leaf over all valuations.
+// The value of a listing in a state that are lent with an arity list: its number.
 pub fn value(arities: &[u64], words: &[u64], n: u64, constants: &[u64], facts: &[u64]) -> Valued
     ensures { λ r. ⌜ r ≡ valueAnswer (now (arities .entry)) (now (words .entry)) n (now (constants .entry)) (now (facts .entry)) ⌝ }
 {

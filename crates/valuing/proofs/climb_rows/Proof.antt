@@ -1,6 +1,6 @@
 use native.Mathlib.Omega.{arith}
 use borrow.Author.Needs.{needs}
-use Rattle.valuing.proofs.StartLaws.{root-some, root-read, root-cut, started, start-ready, found-highest}
+use Rattle.valuing.proofs.StartLaws.{root-some, root-read, root-cut, started, start-ready, found-number}
 use Rattle.valuing.proofs.climb_rows.Statement.{statement}
 use Rattle.valuing.proofs.climb_rows.Tie as tie
 
@@ -24,7 +24,7 @@ returns-2 c =
     let at-go = c .before in
     let at-start = at-go .before .before .before in
     let entry = at-start .before .before .before .before .before .before .before .before .before .before .before in
-    found-highest (entry .pre .0) _ (entry .pre .1) (started (at-start .start .ensures)) (omega (arith, entry .fits)) (at-go .go .ensures)
+    found-number (entry .pre .0) _ (entry .pre .1) (started (at-start .start .ensures)) (omega (arith, entry .fits)) (at-go .go .ensures)
 
 pub climb-rows-spec : {M : Type 1} → statement M
 climb-rows-spec =
