@@ -23,6 +23,7 @@ use Rattle.regression.specs.RegressCall.{truthWords, areListings}
 use Rattle.regression.specs.RegressCallLaws.{listings-at}
 use Rattle.truths.specs.TruthChecks.{hasTruth}
 use Rattle.model.specs.Layout.{spansAt, variantWords}
+use Rattle.state.specs.Lent.{factCount}
 use Rattle.replay.specs.Replay.{factsOf}
 use Rattle.next_facts.specs.declared.Facts.{Facts}
 use Rattle.next_facts.specs.declared.Facts.the-variants.{Rows, Many}
@@ -30,6 +31,8 @@ use Rattle.next_facts.specs.Reach.{free}
 use Rattle.next_facts.specs.Filling.{firstWord, firstEnv, Begun, ownTerms, ownPlace, ownLabel, ownWords, under, rowsBy, wordsAt, allRows, Filled, FilledBy, Fillable, Walkable, Askable}
 use Rattle.next_facts.specs.FillingLaws.{gather-upTo, gather-most, filled-none, filled-few, filled-then, filled-more}
 use Rattle.next_facts.specs.OwnLaws.{own-term, own-past, own-valid}
+use Rattle.next_facts.specs.Keeping.{Ordered, keptRows, Standing}
+use Rattle.next_facts.specs.KeepingLaws.{kept-own}
 use Rattle.next_facts.specs.NextCall.{afterAt, Moving, NextFacts}
 use Rattle.next_facts.specs.NextLaws.{next-end}
 
@@ -106,6 +109,9 @@ module _ {ar listings spans marks out : List ℕ} {p count : ℕ} (s : Askable a
   pub ask-read : p < length ar
   ask-read = omega (arith, s .predicate, arity-words ar (s .arities))
 
+  pub ask-few : getD ar p 0 ≤ mostPlaces
+  ask-few = arity-most ar p (s .arities)
+
   module _ {b : Bool} (q : b ≡ hasTruth spans p) where
     pub ask-some : {ws : List ℕ} → b ≡ true → ws ≡ truthWords listings spans p → Walkable ar ws marks out p count
     unfolding hasTruth
@@ -143,6 +149,15 @@ module _ {ar listings spans marks out : List ℕ} {p count : ℕ} (s : Askable a
     own-filled facts n constants os {out′} {r} e z f =
         subst (λ (x : List ℕ). Filled (rowsBy ar facts x p n constants os) count out r out′)
         (own-is z ∙ sym (ap (λ (x : Bool). cond x (truthWords listings spans p) (ownWords p (getD ar p 0))) (sym q ∙ e))) f
+
+pub kept-filled : {ar listings spans marks out facts constants os : List ℕ} {p n count : ℕ} {b ordered : Bool} → Askable ar listings spans marks out p count
+    → Standing ar facts constants os n ordered → b ≡ hasTruth spans p → b ≡ false → ordered ≡ true → {r : Facts} {out′ : List ℕ}
+    → Filled (keptRows facts p (getD ar p 0) (factCount facts)) count out r out′ → Filled (rowsBy ar facts (wordsAt ar listings spans p) p n constants os) count out r out′
+unfolding wordsAt
+kept-filled {ar} {listings} {spans} {marks} {out} {facts} {constants} {os} {p} {n} {count} s t q e o {r} {out′} f =
+    subst (λ (x : List ℕ). Filled (rowsBy ar facts x p n constants os) count out r out′)
+    (sym (ap (λ (x : Bool). cond x (truthWords listings spans p) (ownWords p (getD ar p 0))) (sym q ∙ e)))
+    (subst (λ (l : List (List ℕ)). Filled l count out r out′) (kept-own ar (s .arities) p (s .some) (s .predicate) facts constants os n t o) f)
 
 -- `fill_all`: the rows of the first q predicates behind equality are written
 pub record Passing (ar listings spans facts constants os marks₀ marks out₀ out : List ℕ) (n count q : ℕ) : Type 0 where
@@ -216,6 +231,10 @@ move-ask {ar} {listings} {table} {place} m = record {
   places = omega (arith, length-replicate {A = ℕ} mostRows 0);
   room = record { words = m .words; few = omega arith };
 }
+
+pub move-standing : {ar listings table : List ℕ} {place n : ℕ} {constants facts os out : List ℕ} {ordered : Bool} → Moving ar listings table place n constants facts os out
+    → n ≤ free → (ordered ≡ true → Ordered ar facts) → Standing ar facts constants os n ordered
+move-standing m h o = record { lent = m .lent; objects = m .objects; most = h; order = o }
 
 pub move-end : (ar listings table : List ℕ) (place n : ℕ) (constants facts os : List ℕ) {out out₀ out′ : List ℕ} {r : Facts} → Moving ar listings table place n constants facts os out
     → n ≤ free → Filled (allRows ar facts listings (take (place + variantWords - (place + 2)) (drop (place + 2) table)) n constants os (pred predicateCount)) 0 out₀ r out′

@@ -9,13 +9,12 @@ use lib.ListN.{length, getD, set, length-set}
 use lib.Seq.{set-getD, set-set}
 use Rattle.label.specs.Limits.{firstVariable, mostPlaces}
 use Rattle.diagram.specs.Words.{upTo}
-use Rattle.state.specs.Lent.{factWords}
-use Rattle.reduction.specs.Combinations.{gather}
-use Rattle.replay.specs.Replay.{mostFacts, factRow}
+use Rattle.state.specs.Lent.{factWords, mostFacts, factRow}
+use Rattle.state.specs.Max.{gather}
 use Rattle.next_facts.specs.declared.Facts.{Facts}
 use Rattle.next_facts.specs.declared.Facts.the-variants.{Rows, Many}
 use Rattle.next_facts.specs.Reach.{reached, Reaching}
-use Rattle.next_facts.specs.Filling.{argumentsIn, under, spread, Filled, FilledBy, Fillable}
+use Rattle.next_facts.specs.Filling.{objectsIn, under, spread, Filled, FilledBy, Fillable}
 use Rattle.next_facts.specs.FillingLaws.{gather-upTo, gather-most, filled-none, filled-few, filled-then, filled-more}
 
 -- the rows of a prefix, by what the diagram can come to
@@ -25,7 +24,7 @@ module _ (ar facts ws : List ℕ) (p k n : ℕ) (env : List ℕ) where
   under-none zero e = rw e refl
   under-none (suc c) e = rw e refl
 
-  under-whole : (c : ℕ) → c ≡ 0 → reached ar facts ws env ≡ true → under ar facts ws p k n c env ≡ factRow p (argumentsIn env k) ∷ []
+  under-whole : (c : ℕ) → c ≡ 0 → reached ar facts ws env ≡ true → under ar facts ws p k n c env ≡ factRow p (objectsIn env firstVariable k) ∷ []
   unfolding under
   under-whole zero z e = rw e refl
   under-whole (suc c) z e = absurd (omega arith)
@@ -44,7 +43,7 @@ module _ (ar facts ws : List ℕ) (p k n c : ℕ) {env marks out : List ℕ} {co
   }
 
   module _ (e : not b ≡ false) where
-    pub fill-row : {r : Facts} {out′ : List ℕ} → c ≡ 0 → Filled (factRow p (argumentsIn env k) ∷ []) count out r out′
+    pub fill-row : {r : Facts} {out′ : List ℕ} → c ≡ 0 → Filled (factRow p (objectsIn env firstVariable k) ∷ []) count out r out′
         → FilledBy (under ar facts ws p k n c env) count env out r env out′
     fill-row {r} {out′} z f = record {
       filled = subst (λ (l : List (List ℕ)). Filled l count out r out′) (sym (under-whole ar facts ws p k n env c z (sym q ∙ not-false b e))) f;

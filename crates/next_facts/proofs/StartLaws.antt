@@ -61,16 +61,16 @@ pub begun-end : {constants os : List ℕ} {k : ℕ} {env : List ℕ} {t : ℕ} �
 begun-end {constants} {os} {k} {env} b l m = subst (Begun constants os k env) (omega arith) b
 
 -- `row_word`
-module _ (env : List ℕ) (p k i : ℕ) where
-  pub word-first : i ≡ 0 → p ≡ rowWord env p k i
+module _ (ws : List ℕ) (at p k i : ℕ) where
+  pub word-first : i ≡ 0 → p ≡ rowWord ws at p k i
   unfolding rowWord
   word-first e = rw (eq-eqb i 0 e) refl
 
   module _ (n : i ≡ 0 → ⊥) where
-    pub word-behind : k < i → 0 ≡ rowWord env p k i
+    pub word-behind : k < i → 0 ≡ rowWord ws at p k i
     unfolding rowWord
     word-behind h = rw (ne-eqb i 0 n, lt-leb i k h) refl
 
-    pub word-object : i ≤ k → getD env (firstVariable + (i - 1)) 0 ≡ rowWord env p k i
+    pub word-object : i ≤ k → getD ws (at + (i - 1)) 0 ≡ rowWord ws at p k i
     unfolding rowWord
     word-object h = rw (ne-eqb i 0 n, le-leb i k h) refl

@@ -12,9 +12,9 @@ use Rattle.diagram.specs.Sizes.{mostRows}
 use Rattle.diagram.specs.Validity.{Valid}
 use Rattle.regression.specs.RegressCall.{truthWords, areListings}
 use Rattle.truths.specs.TruthChecks.{hasTruth}
-use Rattle.state.specs.Lent.{factWords}
-use Rattle.reduction.specs.Combinations.{gather}
-use Rattle.replay.specs.Replay.{mostFacts, factRow, flat}
+use Rattle.state.specs.Lent.{factWords, mostFacts, factRow}
+use Rattle.state.specs.Max.{gather}
+use Rattle.replay.specs.Replay.{flat}
 use Rattle.next_facts.specs.declared.Facts.{Facts}
 use Rattle.next_facts.specs.declared.Facts.the-variants.{Rows, Many}
 use Rattle.next_facts.specs.Reach.{free, reached, Reaching}
@@ -62,18 +62,18 @@ ownWords p k = leafMark ∷ 1 ∷ 0 ∷ leafMark ∷ 0 ∷ 0 ∷ ownLabel p k �
 
 -- ===== Rows of facts =====
 
--- the objects of the k arguments
-unfoldable pub argumentsIn : List ℕ → ℕ → List ℕ
-argumentsIn env k = take k (drop firstVariable env)
+-- the k objects that stand at the place
+unfoldable pub objectsIn : List ℕ → ℕ → ℕ → List ℕ
+objectsIn ws at k = take k (drop at ws)
 
--- word i of the row
-unfoldable pub rowWord : List ℕ → ℕ → ℕ → ℕ → ℕ
-rowWord env p k i = cond (eqb i 0) p (cond (leb i k) (getD env (firstVariable + (i - 1)) 0) 0)
+-- word i of the row of p with these objects
+unfoldable pub rowWord : List ℕ → ℕ → ℕ → ℕ → ℕ → ℕ
+rowWord ws at p k i = cond (eqb i 0) p (cond (leb i k) (getD ws (at + (i - 1)) 0) 0)
 
 -- the rows of p with the arguments that have objects, c of its k places left: none as soon as the diagram can only come to 0
 unfoldable pub under : List ℕ → List ℕ → List ℕ → ℕ → ℕ → ℕ → ℕ → List ℕ → List (List ℕ)
-unfolding reached argumentsIn
-under ar facts ws p k n zero env = cond (reached ar facts ws env) (factRow p (argumentsIn env k) ∷ []) []
+unfolding reached objectsIn
+under ar facts ws p k n zero env = cond (reached ar facts ws env) (factRow p (objectsIn env firstVariable k) ∷ []) []
 under ar facts ws p k n (suc c) env =
     cond (reached ar facts ws env) (gather (λ v. under ar facts ws p k n c (set env (firstVariable + (k - (c + 1))) v)) (upTo n)) []
 

@@ -8,9 +8,9 @@ use lib.ListN.{length, take, length-append}
 use lib.Dec.{leb}
 use borrow.Author.Tests.{le-leb, lt-leb, leb-true, leb-false}
 use Rattle.diagram.specs.Words.{upTo}
-use Rattle.reduction.specs.Combinations.{gather}
-use Rattle.state.specs.Lent.{factWords}
-use Rattle.replay.specs.Replay.{mostFacts, flat}
+use Rattle.state.specs.Lent.{factWords, mostFacts}
+use Rattle.state.specs.Max.{gather}
+use Rattle.replay.specs.Replay.{flat}
 use Rattle.next_facts.specs.declared.Facts.{Facts}
 use Rattle.next_facts.specs.declared.Facts.the-variants.{Rows, Many}
 use Rattle.next_facts.specs.Filling.{rowsCounted, Filled}

@@ -7,11 +7,10 @@ use lib.ListN.{length, take}
 use lib.Dec.{ltb}
 use Rattle.label.specs.Labels.{areArities}
 use Rattle.state.specs.State.{State}
-use Rattle.state.specs.Lent.{factWords, factCount, stateOf, isState, allBelow}
+use Rattle.state.specs.Lent.{factWords, factCount, stateOf, isState, allBelow, mostFacts}
 use Rattle.mdp.specs.Model.{GoodVariant}
 use Rattle.mdp.specs.Bellman.{stateAfter}
 use Rattle.model.specs.Layout.{variantWords, variantAt, LaidVariant}
-use Rattle.replay.specs.Replay.{mostFacts}
 use Rattle.next_facts.specs.declared.Facts.{Facts}
 use Rattle.next_facts.specs.declared.Facts.the-variants.{Rows, Many}
 

@@ -3,12 +3,12 @@ use mathlib.Core.Path.{_≡_, refl, sym, ap, ap₂, subst, _∙_}
 use mathlib.Core.Bool.{Bool, true, false, not, _&&_, cond}
 use mathlib.Core.List.{List, [], _∷_, _++_, map, List·Memᴰ, List·Memᴰ·head, List·Memᴰ·tail}
 use mathlib.Core.Option.{Option, some, none, Option·map}
-use Prim.Native.Nat.{ℕ, zero, suc, pred, _+_, _-_, _≤_, _<_}
+use Prim.Native.Nat.{ℕ, suc, pred, _+_, _-_, _≤_, _<_}
 use native.Mathlib.Omega.{arith}
 use lib.ListN.{length, getD}
 use lib.Dec.{eqb, ltb, leb}
-use borrow.Author.Tests.{eqb-true, eqb-false, ne-eqb, not-true, not-false, ltb-true, lt-ltb, le-ltb, le-leb, lt-leb}
-use Rattle.basics.specs.Tests.{Flag, isTrue, isFalse, flag, and-left, and-right, Cmp, below, equal, above, cmp}
+use borrow.Author.Tests.{eqb-true, eqb-false, ne-eqb, not-true, not-false, lt-ltb, le-ltb, le-leb, lt-leb}
+use Rattle.basics.specs.Tests.{Flag, isTrue, isFalse, flag, and-right, Cmp, below, equal, above, cmp}
 use Rattle.label.specs.Limits.{equality, predicateCount}
 use Rattle.label.specs.ArityLaws.{arity-most}
 use Rattle.diagram.specs.Diagram.{Diagram}
@@ -18,19 +18,19 @@ use Rattle.diagram.specs.ListingValid.{listing-is-valid}
 use Rattle.diagram.specs.Validity.{Valid}
 use Rattle.state.specs.State.{State, Good, meaning, value}
 use Rattle.state.specs.Highest.{Bound}
-use Rattle.state.specs.Lent.{factCount, stateOf, allBelow}
+use Rattle.state.specs.Lent.{factCount, stateOf, mostFacts, factRow}
+use Rattle.state.specs.Max.{gather, tuples}
 use Rattle.elimination.specs.AnswerLaws.{lent-good}
 use Rattle.regression.specs.Result.{AtMost}
 use Rattle.regression.specs.RegressCall.{truthCount, truthWords}
 use Rattle.regression.specs.RegressCallLaws.{truths-none, truths-some, listings-at}
 use Rattle.regression.specs.Next.{inner, factAfter, next}
-use Rattle.reduction.specs.Combinations.{gather, tuples}
 use Rattle.reduction.specs.ListLaws.{in-upTo}
 use Rattle.reduction.specs.CombinationLaws.{in-tuples}
 use Rattle.mdp.specs.Bellman.{stateAfter}
 use Rattle.truths.specs.TruthChecks.{hasTruth}
 use Rattle.model.specs.Layout.{spansAt, variantAt}
-use Rattle.replay.specs.Replay.{factRow, rowsAt, factRows, factsOf, mostFacts}
+use Rattle.replay.specs.Replay.{rowsAt, factRows, factsOf}
 use Rattle.replay.specs.FactLaws.{facts-count}
 use Rattle.next_facts.specs.Reach.{free}
 use Rattle.next_facts.specs.declared.Facts.{Facts}
@@ -38,6 +38,7 @@ use Rattle.next_facts.specs.declared.Facts.the-variants.{Rows, Many}
 use Rattle.next_facts.specs.Filling.{ownWords, rowsBy, wordsAt, allRows, rowsCounted, Filled}
 use Rattle.next_facts.specs.UnderLaws.{those-same, tuple-size, isOne, rows-are}
 use Rattle.next_facts.specs.OwnLaws.{own-valid, own-diagram, own-says}
+use Rattle.next_facts.specs.KeepingLaws.{bound-below}
 use Rattle.next_facts.specs.NextCall.{afterAt, Moving, NextFacts}
 
 gather-same : {B : Type 0} (f g : ℕ → List B) (xs : List ℕ) → ((a : ℕ) → List·Memᴰ a xs → f a ≡ g a) → gather f xs ≡ gather g xs
@@ -54,13 +55,6 @@ counted-answer c = go (cmp c (suc mostFacts))
     go (above l) = rw (lt-leb c mostFacts (omega arith), lt-ltb mostFacts c (omega arith)) refl
 
 module _ (ar listings table : List ℕ) (place n : ℕ) (constants facts os out : List ℕ) (m : Moving ar listings table place n constants facts os out) (most : n ≤ free) where
-  -- the objects of parameters are objects
-  objects-below : (os : List ℕ) → allBelow n os ≡ true → (i : ℕ) → getD os i (getD constants 0 0) < n
-  unfolding stateOf
-  objects-below [] e i = lent-good ar n constants facts (m .lent) .placed 0
-  objects-below (o ∷ os) e zero = ltb-true o n (and-left (ltb o n) _ e)
-  objects-below (o ∷ os) e (suc i) = objects-below os (and-right (ltb o n) _ e) i
-
   module _ (p : ℕ) (some-one : 0 < p) (fits : p < predicateCount) where
     has-some : hasTruth (spansAt table place) p ≡ true → truthCount (spansAt table place) p ≡ 0 → ⊥
     unfolding hasTruth
@@ -128,7 +122,7 @@ module _ (ar listings table : List ℕ) (place n : ℕ) (constants facts os out 
 
     bound : Bound (stateOf ar n constants facts) os
     unfolding stateOf
-    bound = record { each = objects-below os (m .objects) }
+    bound = bound-below good os (m .objects)
 
     pub rows-next : rowsBy ar facts (wordsAt ar listings (spansAt table place) p) p n constants os ≡ rowsAt ar (afterAt ar listings table place n constants facts os) p
     unfolding rowsBy rowsAt afterAt stateAfter next isOne stateOf

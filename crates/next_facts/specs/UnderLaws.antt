@@ -17,22 +17,20 @@ use Rattle.diagram.specs.Listing.{diagramOf}
 use Rattle.diagram.specs.DiagramOfListing.{diagram-is, good-diagram}
 use Rattle.paths.specs.PathLaws.{mem-unmap}
 use Rattle.state.specs.State.{Good, meaning, value, low, fixed}
-use Rattle.state.specs.Max.{Tuple, none, more}
+use Rattle.state.specs.Max.{Tuple, none, more, gather, those, tuples}
 use Rattle.state.specs.Highest.{Bound}
 use Rattle.state.specs.HighestLaws.{start-fits}
-use Rattle.state.specs.Lent.{stateOf}
+use Rattle.state.specs.Lent.{stateOf, factRow}
 use Rattle.state.specs.ValueLaws.{low-lt, low-ge, by-low}
 use Rattle.regression.specs.Result.{AtMost}
 use Rattle.regression.specs.StepLaws.{eval-most}
 use Rattle.regression.specs.ResultLaws.{value-meaning}
 use Rattle.regression.specs.Next.{inner}
-use Rattle.reduction.specs.Combinations.{gather, those, tuples}
 use Rattle.reduction.specs.ListLaws.{in-upTo}
 use Rattle.reduction.specs.CombinationLaws.{in-tuples}
-use Rattle.replay.specs.Replay.{factRow}
 use Rattle.next_facts.specs.Reach.{free, reachIn, reached}
 use Rattle.next_facts.specs.ReachLaws.{reach-sound, reach-exact}
-use Rattle.next_facts.specs.Filling.{firstWord, firstEnv, argumentsIn, under}
+use Rattle.next_facts.specs.Filling.{firstWord, firstEnv, objectsIn, under}
 
 -- ===== Lists =====
 those-append : {A : Type 0} (q : A → Bool) (xs ys : List A) → those q (xs ++ ys) ≡ those q xs ++ those q ys
@@ -135,8 +133,8 @@ module _ {constants os : List ℕ} {k n : ℕ} {env us : List ℕ} (s : Stage co
       low-one i (equal c) m = subst (λ (j : ℕ). getD (us ++ (o ∷ [])) j 0 < n) (sym c) (rw (getD-append-seam us o [] 0) b)
       low-one i (above c) m = absurd (omega arith)
 
-  stage-arguments : length us ≡ k → k ≤ mostPlaces → argumentsIn env k ≡ us
-  unfolding argumentsIn
+  stage-arguments : length us ≡ k → k ≤ mostPlaces → objectsIn env firstVariable k ≡ us
+  unfolding objectsIn
   stage-arguments e h =
       let z : length (take k (drop firstVariable env)) ≡ k = length-take-le k (drop firstVariable env) (omega (arith, length-drop firstVariable env, s .words)) in
       ext-getD 0 (take k (drop firstVariable env)) us (z ∙ sym e) (λ i m.
@@ -258,7 +256,7 @@ module _ (ar : List ℕ) (n : ℕ) (constants facts os : List ℕ) where
       under-no zero env e = rw e refl
       under-no (suc c) env e = rw e refl
 
-      under-one : (env : List ℕ) → reached ar facts ws env ≡ true → under ar facts ws p k n 0 env ≡ factRow p (argumentsIn env k) ∷ []
+      under-one : (env : List ℕ) → reached ar facts ws env ≡ true → under ar facts ws p k n 0 env ≡ factRow p (objectsIn env firstVariable k) ∷ []
       unfolding under
       under-one env e = rw e refl
 

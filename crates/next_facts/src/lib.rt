@@ -4,17 +4,20 @@ use label::Label;
 use label::Term;
 use state::FACT_WORDS;
 ghost use mathlib.Core.Path.{_≡_};
-ghost use mathlib.Core.Bool.{_||_, not};
-ghost use Prim.Native.Nat.{pred, _+_, _-_, _*_, _<_, _≤_};
-ghost use lib.ListN.{length, set};
+ghost use mathlib.Core.Bool.{true, _||_, not};
+ghost use Prim.Native.Nat.{suc, pred, _+_, _-_, _*_, _<_, _≤_};
+ghost use lib.ListN.{length, set, take, drop};
 ghost use mathlib.Core.List.{[], _∷_};
 ghost use Rattle.label.specs.Limits.{mostPlaces, termEnd, predicateCount};
+ghost use Rattle.label.specs.Labels.{areArities};
 ghost use Rattle.diagram.specs.Words.{rowCount};
-ghost use Rattle.state.specs.Lent.{factWords, factCount, someBelow};
-ghost use Rattle.replay.specs.Replay.{factsOf, factRow};
+ghost use Rattle.state.specs.Lent.{factWords, factCount, someBelow, factRow};
+ghost use Rattle.reduction.specs.Claims.{Lower};
+ghost use Rattle.replay.specs.Replay.{factsOf};
 ghost use Rattle.next_facts.specs.Reach.{isOpen, differs, fits, mayHold, pickLeaf, reached, Placed, Reaching, Marked};
-ghost use Rattle.next_facts.specs.Filling.{parameterWord, firstWord, Begun, ownPlace, ownLabel, argumentsIn, rowWord, under, spread, rowsBy, wordsAt, allRows};
+ghost use Rattle.next_facts.specs.Filling.{parameterWord, firstWord, Begun, ownPlace, ownLabel, objectsIn, rowWord, under, spread, rowsBy, wordsAt, allRows};
 ghost use Rattle.next_facts.specs.Filling.{Filled, FilledBy, Room, Fillable, Walkable, Askable};
+ghost use Rattle.next_facts.specs.Keeping.{Ordered, keptAt, keptRows, Standing};
 ghost use Rattle.next_facts.specs.NextCall.{afterAt, Moving, NextFacts};
 
 // Rows of facts, or more than a state in hand may have.
@@ -168,11 +171,10 @@ fn reach(arities: &[u64], words: &[u64], facts: &[u64], env: &[u64], marks: &mut
     marks[rows - 1] != 0
 }
 
-// Word i of the row of p with the arguments in env.
-fn row_word(env: &[u64], p: u64, k: usize, i: usize) -> u64
-    requires { ⌜ length (now env) ≡ termEnd ⌝ }
-    requires { ⌜ k ≤ mostPlaces ⌝ }
-    ensures { λ r. ⌜ r ≡ rowWord (now (env .entry)) p k i ⌝ }
+// Word i of the row of p with the k objects that stand at the place.
+fn row_word(words: &[u64], at: usize, p: u64, k: usize, i: usize) -> u64
+    requires { ⌜ at + k ≤ length (now words) ⌝ }
+    ensures { λ r. ⌜ r ≡ rowWord (now (words .entry)) at p k i ⌝ }
 {
     if i == 0 {
         return p;
@@ -180,22 +182,22 @@ fn row_word(env: &[u64], p: u64, k: usize, i: usize) -> u64
     if i > k {
         return 0;
     }
-    env[ARGUMENTS + (i - 1)]
+    words[at + (i - 1)]
 }
 
-// Writes one row more.
-fn put(env: &[u64], out: &mut [u64], p: u64, k: usize, count: usize) -> Facts
-    requires { ⌜ length (now env) ≡ termEnd ⌝ }
+// Writes one row more, with the k objects that stand at the place.
+fn put(words: &[u64], at: usize, out: &mut [u64], p: u64, k: usize, count: usize) -> Facts
+    requires { ⌜ at + k ≤ length (now words) ⌝ }
     requires { ⌜ k ≤ mostPlaces ⌝ }
     requires { ⌜ Room (now out) count ⌝ }
-    ensures { λ r. ⌜ Filled (factRow p (argumentsIn (now (env .entry)) k) ∷ []) count (now (out .entry)) r (now (out .exit)) ⌝ }
+    ensures { λ r. ⌜ Filled (factRow p (objectsIn (now (words .entry)) at k) ∷ []) count (now (out .entry)) r (now (out .exit)) ⌝ }
 {
     if count == FACTS {
         return Facts::Many;
     }
     let mut i = 0;
     while i < FACT_WORDS {
-        let w = row_word(env, p, k, i);
+        let w = row_word(words, at, p, k, i);
         out[count * FACT_WORDS + i] = w;
         i += 1;
     }
@@ -224,7 +226,7 @@ fn fill(
         return Facts::Rows(count);
     }
     if left == 0 {
-        return put(env, out, p, k, count);
+        return put(env, ARGUMENTS, out, p, k, count);
     }
     spread(
         arities,
@@ -377,12 +379,84 @@ fn fill_by(
     )
 }
 
+// Whether the first of the k + 1 words in which the rows at two places differ is lower in the row at a.
+fn is_lower(facts: &[u64], a: usize, b: usize, k: usize) -> bool
+    requires { ⌜ a + factWords ≤ length (now facts) ⌝ }
+    requires { ⌜ b + factWords ≤ length (now facts) ⌝ }
+    requires { ⌜ k ≤ mostPlaces ⌝ }
+    ensures { λ r. ⌜ (r ≡ true → Lower (take (suc k) (drop a (now (facts .entry)))) (take (suc k) (drop b (now (facts .entry))))) ⌝ }
+{
+    let mut j = 0;
+    while j <= k {
+        let x = facts[a + j];
+        let y = facts[b + j];
+        if x != y {
+            return x < y;
+        }
+        j += 1;
+    }
+    false
+}
+
+// Whether each row of the facts is lower than the next: its predicate, or its objects.
+fn are_ordered(arities: &[u64], facts: &[u64]) -> bool
+    requires { ⌜ areArities (now arities) ≡ true ⌝ }
+    ensures { λ r. ⌜ (r ≡ true → Ordered (now (arities .entry)) (now (facts .entry))) ⌝ }
+{
+    let rows = facts.len() / FACT_WORDS;
+    let mut i = 1;
+    while i < rows {
+        let b = i * FACT_WORDS;
+        let a = b - FACT_WORDS;
+        let p = facts[a] as usize;
+        let k = truths::word_at(arities, p) as usize;
+        if !is_lower(facts, a, b, k) {
+            return false;
+        }
+        i += 1;
+    }
+    true
+}
+
+// Writes row i of the facts, if it is one of p.
+fn keep_row(facts: &[u64], i: usize, out: &mut [u64], p: u64, k: usize, count: usize) -> Facts
+    requires { ⌜ i * factWords + factWords ≤ length (now facts) ⌝ }
+    requires { ⌜ k ≤ mostPlaces ⌝ }
+    requires { ⌜ Room (now out) count ⌝ }
+    ensures { λ r. ⌜ Filled (keptAt (now (facts .entry)) p k i) count (now (out .entry)) r (now (out .exit)) ⌝ }
+{
+    if facts[i * FACT_WORDS] != p {
+        return Facts::Rows(count);
+    }
+    put(facts, i * FACT_WORDS + 1, out, p, k, count)
+}
+
+// Writes the rows of p in the order of the facts.
+fn keep(facts: &[u64], out: &mut [u64], p: u64, k: usize, count: usize) -> Facts
+    requires { ⌜ k ≤ mostPlaces ⌝ }
+    requires { ⌜ Room (now out) count ⌝ }
+    ensures { λ r. ⌜ Filled (keptRows (now (facts .entry)) p k (factCount (now (facts .entry)))) count (now (out .entry)) r (now (out .exit)) ⌝ }
+{
+    let rows = facts.len() / FACT_WORDS;
+    let mut m = count;
+    let mut i = 0;
+    while i < rows {
+        let Facts::Rows(c) = keep_row(facts, i, out, p, k, m) else {
+            return Facts::Many;
+        };
+        m = c;
+        i += 1;
+    }
+    Facts::Rows(m)
+}
+
 // Writes the rows of p: by its truth diagram, or as they are.
 fn fill_at(
     arities: &[u64],
     listings: &[u64],
     spans: &[u64],
     facts: &[u64],
+    ordered: bool,
     n: u64,
     constants: &[u64],
     objects: &[u64],
@@ -392,6 +466,7 @@ fn fill_at(
     count: usize,
 ) -> Facts
     requires { ⌜ Askable (now arities) (now listings) (now spans) (now marks) (now out) p count ⌝ }
+    requires { ⌜ Standing (now arities) (now facts) (now constants) (now objects) n ordered ⌝ }
     ensures { λ r. ⌜ Filled (rowsBy (now (arities .entry)) (now (facts .entry)) (wordsAt (now (arities .entry)) (now (listings .entry)) (now (spans .entry)) p) p n
         (now (constants .entry)) (now (objects .entry))) count (now (out .entry)) r (now (out .exit)) ⌝ }
 {
@@ -410,7 +485,11 @@ fn fill_at(
             count,
         );
     }
-    let l = own_label(p as u64, arities[p]);
+    let k = arities[p];
+    if ordered {
+        return keep(facts, out, p as u64, k as usize, count);
+    }
+    let l = own_label(p as u64, k);
     let own = [Label::LEAF, 1, 0, Label::LEAF, 0, 0, l.packed, 0, 1];
     fill_by(
         arities,
@@ -432,6 +511,7 @@ fn fill_all(
     listings: &[u64],
     spans: &[u64],
     facts: &[u64],
+    ordered: bool,
     n: u64,
     constants: &[u64],
     objects: &[u64],
@@ -439,6 +519,7 @@ fn fill_all(
     out: &mut [u64],
 ) -> Facts
     requires { ⌜ Askable (now arities) (now listings) (now spans) (now marks) (now out) 1 0 ⌝ }
+    requires { ⌜ Standing (now arities) (now facts) (now constants) (now objects) n ordered ⌝ }
     ensures { λ r. ⌜ Filled (allRows (now (arities .entry)) (now (facts .entry)) (now (listings .entry)) (now (spans .entry)) n
         (now (constants .entry)) (now (objects .entry)) (pred predicateCount)) 0 (now (out .entry)) r (now (out .exit)) ⌝ }
 {
@@ -450,6 +531,7 @@ fn fill_all(
             listings,
             spans,
             facts,
+            ordered,
             n,
             constants,
             objects,
@@ -486,12 +568,14 @@ pub fn next_facts(
     let first = place + 2;
     let end = place + model::VARIANT_WORDS;
     let spans = &table[first..end];
+    let ordered = are_ordered(arities, facts);
     let mut marks = [0u64; diagram::ROWS];
     fill_all(
         arities,
         listings,
         spans,
         facts,
+        ordered,
         n,
         constants,
         objects,

@@ -59,7 +59,7 @@ fill-returns t c =
 fill-put-requires : (t : ℕ) → fill-lts.Need-put-requires (reach-reads.Asked, reach-reads.Learnt, put-reads.Asked, put-reads.Learnt, spread-below t, spread.Post) (fill-at t) fill.Post
 fill-put-requires t c κs =
     let s = c .before .before .before .before .before .before .before .before .before .before .before .before .before .before .before .pre .1 in
-    (s .reaching .words, (s .most, s .room))
+    (omega (arith, s .reaching .words, s .most), (s .most, s .room))
 
 fill-returns-2 : (t : ℕ) → fill-lts.Need-returns-2 (reach-reads.Asked, reach-reads.Learnt, put-reads.Asked, put-reads.Learnt, spread-below t, spread.Post) (fill-at t) fill.Post
 fill-returns-2 t c =

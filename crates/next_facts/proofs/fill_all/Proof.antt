@@ -6,26 +6,28 @@ use Rattle.next_facts.proofs.fill_all.Statement.{statement}
 use Rattle.next_facts.proofs.fill_all.Tie as tie
 
 abbrev Inv-loop : tie.InvT-loop
-Inv-loop arities listings spans facts n constants objects marks₀ out₀ count₀ q₀ marks out count q =
+Inv-loop arities listings spans facts ordered n constants objects marks₀ out₀ count₀ q₀ marks out count q =
     Passing arities listings spans facts constants objects marks₀ marks out₀ out n count q
 
 abbrev μ-loop : tie.MeasureT-loop
-μ-loop arities listings spans facts n constants objects marks₀ out₀ count₀ q₀ marks out count q = 31 - q
+μ-loop arities listings spans facts ordered n constants objects marks₀ out₀ count₀ q₀ marks out count q = 31 - q
 
 loop-holds : tie.Need-loop-holds Inv-loop μ-loop
-loop-holds c = search passing-start
+loop-holds c = passing-start _ _ _ _ (c .before .before .before .before .before .before .before .before .pre .0)
 
 fill-at-requires : tie.Need-fill-at-requires Inv-loop μ-loop
-fill-at-requires c κs = search passing-ask
+fill-at-requires c κs =
+    let loop = c .before .before .before in
+    (passing-ask (loop .loop .inv) (c .before .before .loop-test .taken), loop .before .before .before .before .before .before .before .before .before .pre .1)
 
 same-length : tie.Need-same-length Inv-loop μ-loop
 same-length c =
-    c .before .before .before .before .before .before .fill-at .kept .1 .1 .1 .1 .1 .1 .1 .0 ∙ c .before .before .before .before .before .before .before .before .before .before .loop .inv
+    c .before .before .before .before .before .before .fill-at .kept .1 .1 .1 .1 .1 .1 .1 .1 .0 ∙ c .before .before .before .before .before .before .before .before .before .before .loop .inv
     .marks-same
 
 same-length-2 : tie.Need-same-length-2 Inv-loop μ-loop
 same-length-2 c =
-    c .before .before .before .before .before .before .fill-at .kept .1 .1 .1 .1 .1 .1 .1 .1 .0 ∙ c .before .before .before .before .before .before .before .before .before .before .loop
+    c .before .before .before .before .before .before .fill-at .kept .1 .1 .1 .1 .1 .1 .1 .1 .1 .0 ∙ c .before .before .before .before .before .before .before .before .before .before .loop
     .inv .out-same
 
 returns : tie.Need-returns Inv-loop μ-loop
@@ -38,7 +40,7 @@ loop-again c =
     let kept = c .before .before .before .before .before .before .before .fill-at .kept in
     passing-on (c .before .before .before .before .before .before .before .before .before .before .before .loop .inv)
     (c .before .before .before .before .before .before .before .before .before .before .loop-test .taken) (c .before .before .before .before .before .before .before .fill-at .ensures)
-    (kept .1 .1 .1 .1 .1 .1 .1 .0) (kept .1 .1 .1 .1 .1 .1 .1 .1 .0) (c .before .m .given .1)
+    (kept .1 .1 .1 .1 .1 .1 .1 .1 .0) (kept .1 .1 .1 .1 .1 .1 .1 .1 .1 .0) (c .before .m .given .1)
 
 same-length-3 : tie.Need-same-length-3 Inv-loop μ-loop
 same-length-3 c = c .before .loop .inv .marks-same

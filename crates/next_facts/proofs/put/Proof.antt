@@ -6,10 +6,10 @@ use Rattle.next_facts.proofs.put.Statement.{statement}
 use Rattle.next_facts.proofs.put.Tie as tie
 
 abbrev Inv-loop : tie.InvT-loop
-Inv-loop env out₀ p k count i₀ out i = Putting env out₀ out p k count i
+Inv-loop words at out₀ p k count i₀ out i = Putting words out₀ out at p k count i
 
 abbrev μ-loop : tie.MeasureT-loop
-μ-loop env out₀ p k count i₀ out i = 7 - i
+μ-loop words at out₀ p k count i₀ out i = 7 - i
 
 returns : tie.Need-returns Inv-loop μ-loop
 returns c = search put-many
@@ -18,7 +18,7 @@ loop-holds : tie.Need-loop-holds Inv-loop μ-loop
 loop-holds c = search putting-start
 
 row-word-requires : tie.Need-row-word-requires Inv-loop μ-loop
-row-word-requires c κs = (c .before .loop .inv .words, c .before .loop .inv .few)
+row-word-requires c κs = c .before .loop .inv .words
 
 mul-out : tie.Need-mul-out Inv-loop μ-loop
 mul-out c = omega (arith, putting-room (c .before .before .loop .inv) (c .before .loop-test .taken))
@@ -38,8 +38,8 @@ loop-again c = search putting-on
 same-length : tie.Need-same-length Inv-loop μ-loop
 same-length c = c .before .loop .inv .same
 
-add-t14 : tie.Need-add-t14 Inv-loop μ-loop
-add-t14 c = omega (arith, c .before .loop .inv .place)
+add-t15 : tie.Need-add-t15 Inv-loop μ-loop
+add-t15 c = omega (arith, c .before .loop .inv .place)
 
 returns-2 : tie.Need-returns-2 Inv-loop μ-loop
 returns-2 c = search putting-end
@@ -47,4 +47,4 @@ returns-2 c = search putting-end
 pub put-spec : {M : Type 1} → statement M
 put-spec =
     tie.close (tie.spec Inv-loop μ-loop returns loop-holds row-word-requires mul-out add-out mul-out-2 slice-write-out (λ c. search needs) (λ c. search needs) loop-again
-    add-t14 same-length returns-2)
+    add-t15 same-length returns-2)
