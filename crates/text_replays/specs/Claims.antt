@@ -11,9 +11,10 @@ use Rattle.refusal.specs.declared.Refusal.the-variants as F
 use Rattle.diagram.specs.Sizes.{highestValue}
 use Rattle.diagram.specs.Listing.{listing}
 use Rattle.state.specs.State.{State}
+use Rattle.state.specs.Lent.{factCount, mostFacts}
 use Rattle.elimination.specs.Answer.{isTooLarge}
 use Rattle.mdp.specs.Bellman.{weightIn, rewardIn}
-use Rattle.replay.specs.Replay.{mostFacts, Did, noAction, actionOf, variantOf, factRows, stateNext}
+use Rattle.replay.specs.Replay.{Did, noAction, actionOf, variantOf, factRows, stateNext}
 use Rattle.replay.specs.Along.{rewardsAlong, Alike, Comes}
 use Rattle.words.specs.Bytes.{decimal}
 use Rattle.words.specs.Keys.{keyOf}
@@ -138,6 +139,10 @@ nextOf σ w = stateNext (σ .model) (inHand σ) (didIn σ w)
 abbrev pub factsOfNext : Session → Words K.Did → ℕ
 factsOfNext σ w = length (factRows (σ .model .arities) (nextOf σ w))
 
+-- no fact of a predicate that is not declared is true in the state: 22 counts facts of declared predicates alone
+abbrev pub NoneUndeclared : Session → State → Type 0
+NoneUndeclared σ s = (p : ℕ) (os : List ℕ) → length (σ .names .predicates) < p → s .fact p os ≡ false
+
 -- 15 of the reward in a state
 abbrev pub TooLargeIn : Session → State → Type 0
 TooLargeIn σ s = isTooLarge (σ .model .arities) s [] (listing (σ .model .reward)) ≡ true
@@ -176,12 +181,13 @@ pub record MayDid (σ : Session) (w : Words K.Did) : Type 0 where
   pub count : suc (σ .live .count) ≤ highestValue
   pub total : σ .live .total + rewardsMet σ w ≤ highestValue
 
--- the reply y to it, accepted: only the facts, count and total of the session change; the state in hand is the one that the variant's truth diagrams give; one more line,
--- and the rewards met; these two are printed
+-- the reply y to it, accepted: only the facts, count and total of the session change; the state in hand is the one that the variant's truth diagrams give, and has as many
+-- facts; one more line, and the rewards met; these two are printed
 pub record MovesOn (σ : Session) (w : Words K.Did) (y : Reply) : Type 0 where
   pub rest : y .session ≡ withLive σ (y .session .live)
   pub placed : y .session .live .placed ≡ σ .live .placed
   pub state : Alike (σ .model .arities) (inHand (y .session)) (nextOf σ w)
+  pub facts : factCount (y .session .live .facts) ≡ factsOfNext σ w
   pub count : y .session .live .count ≡ suc (σ .live .count)
   pub total : y .session .live .total ≡ σ .live .total + rewardsMet σ w
   pub answer : y .answer ≡ A.Did (suc (σ .live .count)) (σ .live .total + rewardsMet σ w)

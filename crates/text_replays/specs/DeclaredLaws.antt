@@ -38,7 +38,7 @@ use Rattle.text_replays.specs.DeclaringLaws.{countsOf, lensOf, allOf, ad
 action-key : (w : Words K.Action) → GoodLine (line K.Action w) → keyIn (wordAt (wordsOf K.Action (lineBytes (line K.Action w))) 0) ≡ keyOf (w .0)
 action-key w g = ap (λ (es : List Event). keyIn (wordAt es 0)) (line-events K.Action w (g .0))
 
-action-count : (w : Words K.Action) → GoodLine (line K.Action w) → length (keysIn (drop 1 (wordsOf K.Action (lineBytes (line K.Action w))))) ≡ length (w .1)
+pub action-count : (w : Words K.Action) → GoodLine (line K.Action w) → length (keysIn (drop 1 (wordsOf K.Action (lineBytes (line K.Action w))))) ≡ length (w .1)
 action-count w g =
     ap (λ (es : List Event). length (keysIn (drop 1 es))) (line-events K.Action w (g .0))
     ∙ length-map keyIn (map parameterEvent (w .1)) ∙ length-map parameterEvent (w .1)
@@ -212,7 +212,7 @@ names-at (b ∷ l) (x ∷ xs) e (suc a) =
     ∙ names-at l xs (ap (drop 1) e) a
 
 -- the default matches
-map-at : {A B : Type 0} (f : A → B) (xs : List A) (i : ℕ) (d : A) (e : B) → f d ≡ e → getD (map f xs) i e ≡ f (getD xs i d)
+pub map-at : {A B : Type 0} (f : A → B) (xs : List A) (i : ℕ) (d : A) (e : B) → f d ≡ e → getD (map f xs) i e ≡ f (getD xs i d)
 map-at f [] i d e q = sym q
 map-at f (x ∷ xs) zero d e q = refl
 map-at f (x ∷ xs) (suc i) d e q = map-at f xs i d e q

@@ -12,9 +12,8 @@ use Rattle.refusal.specs.declared.Refusal.the-variants.{Name, Arity, Range, Spa
 use Rattle.refusal.specs.Outcome.{ok, Accepted}
 use Rattle.refusal.specs.OutcomeLaws.{accepted-ok, accepted-cond}
 use Rattle.diagram.specs.WordLaws.{below-every}
-use Rattle.state.specs.Lent.{factCount, allBelow}
+use Rattle.state.specs.Lent.{factCount, allBelow, mostFacts, factRow}
 use Rattle.mdp.specs.Model.{Model}
-use Rattle.replay.specs.Replay.{mostFacts, factRow}
 use Rattle.mdp.specs.Runs.{begin}
 use Rattle.words.specs.declared.Key.{Key}
 use Rattle.names.specs.Keys.{placeOf, isAmong}

@@ -2,26 +2,23 @@
 use mathlib.Core.Path.{_≡_, refl, sym, ap, ap₂, subst, fun-ext, _∙_}
 use mathlib.Core.Logic.{_≢_}
 use mathlib.Core.Bool.{Bool, true, false, _&&_, _||_, cond}
-use mathlib.Core.List.{List, [], _∷_, _++_, map}
+use mathlib.Core.List.{List, [], _∷_, _++_}
 use Prim.Native.Nat.{ℕ, zero, suc, _+_, _-_, _≤_, _<_}
 use native.Mathlib.Omega.{arith}
 use lib.ListN.{length, getD}
 use lib.Dec.{eqb, ltb}
 use borrow.Author.Tests.{eqb-true, eqb-false}
 use Rattle.basics.specs.Tests.{Flag, isTrue, isFalse, flag}
-use Rattle.label.specs.Limits.{leafMark, firstParameter, firstVariable, predicateCount}
-use Rattle.label.specs.Labels.{areArities, predicateOf, unpacked, isLabel, termsOf}
-use Rattle.label.specs.ArityLaws.{terms-length}
+use Rattle.label.specs.Limits.{leafMark, firstParameter, firstVariable}
+use Rattle.label.specs.Labels.{areArities, isLabel}
 use Rattle.diagram.specs.Words.{labelAt, highAt, lowAt, rowCount}
 use Rattle.diagram.specs.Validity.{ValidRow, a-leaf, a-branch, Valid}
-use Rattle.state.specs.State.{atomOf, State, Good, truth, holds, low, fixed}
-use Rattle.state.specs.Max.{Tuple, none, more}
+use Rattle.state.specs.State.{atomOf, State, Good, low, fixed}
 use Rattle.state.specs.Terms.{args}
 use Rattle.state.specs.Highest.{put, varsOf, start}
 use Rattle.state.specs.HighestLaws.{start-fits}
 use Rattle.state.specs.LentLaws.{some-same}
 use Rattle.state.specs.ValueCall.{mostValuations, valuations}
-use Rattle.regression.specs.ResultLaws.{label-predicate}
 use Rattle.elimination.specs.Tables.{Table, sumTo, countChoices, entries, leafTable, isCase, join, unite, without, aggregate, aggregateAll, aggregateEntries}
 use Rattle.elimination.specs.Elimination.{untested, rowJoin, rowUnion, rowDrops, rowTable, tables, rowEntries, entriesTo, mostEntries, allEntries}
 use Rattle.elimination.specs.RowLaws.{row-leaf, row-branch, tables-length}
@@ -29,6 +26,7 @@ use Rattle.elimination.specs.Answer.{isTooLarge}
 use Rattle.diagram.specs.Listing.{diagramOf}
 use Rattle.mdp.specs.BackupLaws.{bound-none}
 use Rattle.replay.specs.Along.{Alike}
+use Rattle.replay.specs.AlikeLaws.{holds-alike}
 
 -- ===== Tests that agree where every term has an object below n =====
 
@@ -88,22 +86,9 @@ snoc-same n a b d h k (x ∷ xs) [] e w j = absurd (omega arith)
 snoc-same n a b d h k (x ∷ xs) (y ∷ ys) e w zero = w 0
 snoc-same n a b d h k (x ∷ xs) (y ∷ ys) e w (suc j) = snoc-same n a b d h k xs ys (omega arith) (λ i. w (suc i)) j
 
-tuple-map : (n : ℕ) (θ : ℕ → ℕ) → In n θ → (ts : List ℕ) → Tuple n (length ts) (map θ ts)
-tuple-map n θ h [] = none
-tuple-map n θ h (t ∷ ts) = more (h t) (tuple-map n θ h ts)
-
 -- ===== States that are alike =====
 
 module _ (ar : List ℕ) (arities : areArities ar ≡ true) {s t : State} (a : Alike ar s t) where
-  truth-alike : (p : ℕ) (os : List ℕ) → p < predicateCount → Tuple (s .size) (getD ar p 0) os → truth s p os ≡ truth t p os
-  truth-alike zero os h w = refl
-  truth-alike (suc p) os h w = a .fact (suc p) os (omega arith) h w
-
-  holds-alike : (θ : ℕ → ℕ) → In (s .size) θ → (l : ℕ) → isLabel ar l ≡ true → holds s θ (atomOf ar l) ≡ holds t θ (atomOf ar l)
-  unfolding holds atomOf
-  holds-alike θ range l h = truth-alike (predicateOf l) (map θ (termsOf ar (unpacked l))) (label-predicate ar l h)
-      (subst (λ (c : ℕ). Tuple (s .size) c (map θ (termsOf ar (unpacked l)))) (terms-length ar l arities) (tuple-map (s .size) θ range (termsOf ar (unpacked l))))
-
   start-alike : start s [] ≡ start t []
   unfolding start fixed
   start-alike = fun-ext (λ u. ap (λ (c : ℕ → ℕ). low firstVariable u (low firstParameter u (c u) (getD [] (u - firstParameter) (c 0))) 0) (a .constant))
@@ -112,7 +97,7 @@ module _ (ar : List ℕ) (arities : areArities ar ≡ true) {s t : State} (a : A
   unfolding join
   join-same b l h x y k = record {
     names = ap (varsOf (args (atomOf ar l))) (k .names);
-    has = λ θ r. ap₂ _&&_ (ap (isCase b) (holds-alike θ r l h)) (k .has θ r);
+    has = λ θ r. ap₂ _&&_ (ap (isCase b) (holds-alike ar arities a θ r l h)) (k .has θ r);
   }
 
   module _ (good : Good s) where

@@ -16,16 +16,25 @@
 --   Stands == what (value) needs
 --   hasAction, actionParameters, hasVariant, NamesPass == names and counts, and that they pass
 --   weightOf, nextOf, factsOfNext == the variant's weight in the state; the next state, and how many facts it has
+--   NoneUndeclared == no fact of a predicate that is not declared is true in a state
 --   TooLargeIn, RewardTooLarge == 15 of the reward in a state; before the move of the first line, or after the move
 --   rewardsMet == the reward before and after the move of the first line, after the move of each later one
 --   RefusesDid == 5; 2, 3, 2, 4; 21, 22, 15, 23: each where none before it is met
---   MayDid, MovesOn == none is met; the state in hand is the next state, one more, the rewards met, and these two printed
+--   MayDid, MovesOn == none is met; the state in hand is the next state, with as many facts; one more, the rewards met, and these two printed
 --
 -- Definitions: names
 --   ActionLines, noLines, Declarations, DeclarationsOf == an accepted (action ..) line with the names of its accepted (variant ..) lines; those among lines, in order; those of a text
 --   DeclaredBy == the session behind lines has these names, variants and numbers of parameters
 --   PlaceOf, NoPlace, actionNames, variantNamesAt == the first place of a name among names; none; the names of the actions, and of an action's variants
 --   NamesDid == the numbers that a line's words name are the places of its names among them
+--
+-- Definitions: diagrams
+--   VariantDrawn, ActionDrawn, DrawsWeight, DrawsTruth == an accepted (variant ..) line with its weight as drawn and the truth diagrams of its accepted (becomes ..) lines; an accepted
+--       (action ..) line with these; what a line draws, as it is read in the session before it
+--   Drawings, DrawingsOf, linesOf == those among lines, in order; those of a text; their names alone
+--   OneEach, DrawnOnce == no two truth diagrams of a variant are of one predicate
+--   orElse, ifSo, drawnFor, variantFrom, actionFrom, DrawnBy == the variants and actions that they give; the model behind lines has these, under these names
+--   noDrawing, noneDrawn, drawnAt, DidDrawn == what is drawn for a variant of an action; the variant that a (did ..) line names has the diagrams that the lines of its names draw
 --
 -- Theorems: every list of lines
 --   text-logs: there is such a list of accepted lines, behind any lines
@@ -40,6 +49,7 @@
 -- Theorems: what refuses it, and what it does
 --   refuses-did, did-refuses: in every good session it is refused with r exactly if RefusesDid says r; text-refuses, text-refused: so behind any lines
 --   may-did, did-may: it is accepted exactly if MayDid, and MovesOn; text-did, text-may: so behind any lines
+--   text-undeclared, next-undeclared: behind any lines NoneUndeclared of the state in hand, and of the next state of any line: 22 counts facts of declared predicates
 --   did-only: no bytes but those of a (did ..) line are of its kind
 --   large-alike: states that no diagram tells apart meet 15 for the same listings
 --
@@ -47,9 +57,12 @@
 --   text-declares, text-declared: every text has such declarations, and they are DeclaredBy; none-before: no variant stands before the first action
 --   text-did-names, accepted-names: where names and counts pass, so for every accepted line: NamesDid
 --   unknown-action, unknown-variant: where they do not pass by 2, the text has no such name
+--   text-draws, text-drawn: every text has such drawings, and they are DrawnBy; text-did-drawn, accepted-drawn: where names and counts pass, so for every accepted line: DidDrawn
+--   drawn-once: DrawnOnce, for every such drawings
 
 -- definitions
 pub mod Claims
+pub mod Drawings
 -- laws
 pub mod LargeLaws
 pub mod ObjectLaws
@@ -65,4 +78,8 @@ pub mod TextReplayLaws
 pub mod DeclaringLaws
 pub mod DeclaredLaws
 pub mod NameLaws
+pub mod DrawingLaws
+pub mod DrawnLaws
+pub mod OnceLaws
 pub mod TextDidLaws
+pub mod UndeclaredLaws

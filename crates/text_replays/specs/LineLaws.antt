@@ -6,9 +6,9 @@ use Prim.Native.Nat.{ℕ}
 use lib.ListN.{length}
 use lib.Dec.{eqb}
 use Rattle.refusal.specs.declared.Refusal.the-variants as F
-use Rattle.refusal.specs.Outcome.{Outcome, ok, refused, andThen}
+use Rattle.refusal.specs.Outcome.{Outcome, ok, refused}
 use Rattle.state.specs.Lent.{allBelow}
-use Rattle.replay.specs.Replay.{Did, did}
+use Rattle.replay.specs.Replay.{Did}
 use Rattle.words.specs.Bytes.{valueOf}
 use Rattle.words.specs.Keys.{keyOf}
 use Rattle.text.specs.declared.Kind.{Kind}
@@ -22,7 +22,7 @@ use Rattle.session.specs.declared.Part.{Part}
 use Rattle.session.specs.declared.Part.the-variants.{Model as ModelPart, Run}
 use Rattle.session.specs.Place.{ruleOf}
 use Rattle.session.specs.Session.{Live, Session, refuseIf}
-use Rattle.session.specs.Replaying.{didOf, replayIn, replayed, didLine}
+use Rattle.session.specs.Replaying.{didOf, didTo, didLine}
 use Rattle.session.specs.Replies.{isPlaced, unless, allowed, refusal, didSays, done, placed, replyTo, wordsOf, reply}
 use Rattle.text_replays.specs.Claims.{didBytes, Stands, hasAction, actionParameters, hasVariant}
 use Rattle.text_replays.specs.ObjectLaws.{numbers-held}
@@ -76,7 +76,7 @@ checks a b c d o = refuseIf (not a) F.Name (refuseIf (not b) F.Arity (refuseIf (
 
 -- what replay says of the objects os
 abbrev pub movedTo : Session → Words K.Did → List ℕ → Outcome Live
-movedTo σ w os = andThen (did (σ .model) (replayIn (σ .live)) (didOf (σ .model) (σ .names) (keyOf (w .0)) (keyOf (w .1)) os)) (λ r. ok (replayed (σ .live) r))
+movedTo σ w os = didTo (σ .model) (σ .live) (didOf (σ .model) (σ .names) (keyOf (w .0)) (keyOf (w .1)) os)
 
 module _ (σ : Session) (w : Words K.Did) where
   abbrev hasCount : Bool

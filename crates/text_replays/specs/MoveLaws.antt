@@ -10,11 +10,11 @@ use Rattle.diagram.specs.Sizes.{highestValue}
 use Rattle.diagram.specs.Listing.{listing}
 use Rattle.diagram.specs.ListingOfDiagram.{valid-listing}
 use Rattle.state.specs.State.{State, Good}
-use Rattle.state.specs.Lent.{stateOf, factCount}
+use Rattle.state.specs.Lent.{stateOf, factCount, mostFacts}
 use Rattle.elimination.specs.Answer.{isTooLarge}
 use Rattle.mdp.specs.Model.{GoodModel}
 use Rattle.mdp.specs.Bellman.{weightIn, rewardIn}
-use Rattle.replay.specs.Replay.{mostFacts, variantOf, Replay, inHand as handOf, factsOf, stateNext, movedBy, rewardHere, rewardMet, rewardEnds, counted}
+use Rattle.replay.specs.Replay.{variantOf, Replay, inHand as handOf, factsOf, stateNext, movedBy, rewardHere, rewardMet, rewardEnds, counted}
 use Rattle.replay.specs.Replay.{hasNoWeight, hasManyFacts, hasValuations, isTooHigh, did}
 use Rattle.replay.specs.Along.{Alike}
 use Rattle.replay.specs.AlikeLaws.{reward-alike}
@@ -114,6 +114,10 @@ module _ (σ : Session) (model : GoodModel (σ .model)) (good : Good (inHand σ)
   pub next-alike : Alike ar (inHand (sessionBy σ w)) (nextOf σ w)
   unfolding stateIn replayed counted handOf replayIn movedBy
   next-alike = moved-alike
+
+  pub next-facts : factCount (sessionBy σ w .live .facts) ≡ factsOfNext σ w
+  unfolding stateIn replayed counted handOf replayIn movedBy
+  next-facts = facts-count (σ .model .arities) (model .arities) (nextOf σ w)
 
   pub next-count : sessionBy σ w .live .count ≡ suc (σ .live .count)
   unfolding replayed counted replayIn

@@ -10,11 +10,10 @@ use borrow.Author.Tests.{ltb-true, ltb-false, lt-ltb}
 use Rattle.basics.specs.Tests.{and-left, and-right, Flag, isTrue, isFalse, flag}
 use Rattle.basics.specs.Members.{clash}
 use Rattle.state.specs.Max.{Tuple, none, more}
-use Rattle.state.specs.Lent.{allBelow}
+use Rattle.state.specs.Lent.{allBelow, mostObjects}
 use Rattle.words.specs.Bytes.{decimal, valueOf}
 use Rattle.events.specs.Events.{numberEvent}
 use Rattle.events.specs.Contents.{numbersIn}
-use Rattle.session.specs.Facts.{mostObjects}
 
 pub numbers-held : (ns : List (List ℕ)) → numbersIn (map numberEvent ns) ≡ map valueOf ns
 numbers-held [] = refl

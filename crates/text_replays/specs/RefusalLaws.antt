@@ -16,11 +16,11 @@ use Rattle.refusal.specs.Outcome.{Outcome, ok, refused, andThen}
 use Rattle.diagram.specs.Sizes.{highestValue}
 use Rattle.diagram.specs.Listing.{listing}
 use Rattle.state.specs.State.{State, Good}
-use Rattle.state.specs.Lent.{allBelow}
+use Rattle.state.specs.Lent.{allBelow, mostFacts}
 use Rattle.elimination.specs.Answer.{isTooLarge}
 use Rattle.elimination.specs.AnswerLaws.{lent-good}
 use Rattle.mdp.specs.Model.{GoodModel}
-use Rattle.replay.specs.Replay.{mostFacts, Replay, did}
+use Rattle.replay.specs.Replay.{Replay, did}
 use Rattle.words.specs.Bytes.{decimal, valueOf}
 use Rattle.text.specs.declared.Kind.the-variants as K
 use Rattle.text.specs.Line.{Words, GoodLine}
@@ -31,7 +31,7 @@ use Rattle.session.specs.declared.Part.{Part}
 use Rattle.session.specs.declared.Part.the-variants.{Model as ModelPart, Run}
 use Rattle.session.specs.Session.{Live, Session}
 use Rattle.session.specs.Running.{stateIn}
-use Rattle.session.specs.Replaying.{replayIn, replayed}
+use Rattle.session.specs.Replaying.{replayIn, replayed, didTo}
 use Rattle.session.specs.Replies.{Reply, isPlaced, refusal, didSays, reply}
 use Rattle.session.specs.Texts.{replyBytes}
 use Rattle.session.specs.Good.{GoodSession}
@@ -43,7 +43,7 @@ use Rattle.text_replays.specs.Claims.{didBytes, didIn, Stands, hasAction
 use Rattle.text_replays.specs.Claims.{RefusesDid, in-model, missing, no-action, other-count, no-variant, no-object, weightless, crowded, large, tally}
 use Rattle.text_replays.specs.ObjectLaws.{length-map, objects-held, objects-below, below-objects, not-below}
 use Rattle.text_replays.specs.LineLaws.{readOf, model-refused, unplaced-refused, stands-said, movedTo, read-by}
-use Rattle.text_replays.specs.MoveLaws.{replayBy, sessionBy, checkedBy, did-by, next-alike, next-count, next-total, next-placed}
+use Rattle.text_replays.specs.MoveLaws.{replayBy, sessionBy, checkedBy, did-by, next-alike, next-facts, next-count, next-total, next-placed}
 
 -- not both answers of a test
 not-true : (b : Bool) → (b ≡ true → ⊥) → b ≡ false
@@ -112,6 +112,7 @@ module _ (σ : Session) (g : GoodSession σ) (w : Words K.Did) where
 
     said-by : (a b c e : Bool) → eqb (weightOf σ w) 0 ≡ a → ltb mostFacts (factsOfNext σ w) ≡ b → someLarge ≡ c → someHigh ≡ e
         → readOf σ w ≡ andThen (checkedBy a b c e (replayBy σ w)) (λ x. ok (replayed (σ .live) x))
+    unfolding didTo
     said-by a b c e p q u v =
         named-read n ∙ ap (λ (o : Outcome Replay). andThen o (λ x. ok (replayed (σ .live) x))) (did-by σ model (placed-good σ g (s .placed)) w a b c e p q u v)
 
@@ -144,6 +145,7 @@ module _ (σ : Session) (g : GoodSession σ) (w : Words K.Did) where
       high (inr k) = omega (arith, h .total)
 
   read-may : MayDid σ w → readOf σ w ≡ ok (sessionBy σ w .live)
+  unfolding didTo
   read-may h = named-read (h .named) ∙ ap (λ (o : Outcome Replay). andThen o (λ x. ok (replayed (σ .live) x))) (may-counts h)
 
   -- ===== One of the two =====
@@ -245,6 +247,7 @@ module _ (σ : Session) (g : GoodSession σ) (number : ℕ) (w : Words K.Did) (l
         rest = refl;
         placed = next-placed σ m k w;
         state = next-alike σ m k w;
+        facts = next-facts σ m k w;
         count = count;
         total = total;
         answer = ap₂ A.Did count total;

@@ -14,7 +14,9 @@ use Rattle.session_laws.specs.TextRuns.{isRefused}
 use Rattle.session_laws.specs.TextLaws.{text-sound}
 use Rattle.text_replays.specs.Claims.{didBytes, reached, RefusesDid, MayDid, MovesOn, ActionLines, DeclarationsOf, NamesDid}
 use Rattle.text_replays.specs.RefusalLaws.{refuses-did, did-refuses, may-did, did-may}
+use Rattle.text_replays.specs.Drawings.{ActionDrawn, DrawingsOf, DidDrawn}
 use Rattle.text_replays.specs.NameLaws.{text-did-names}
+use Rattle.text_replays.specs.DrawnLaws.{text-did-drawn}
 
 module _ (ls : List (List ℕ)) (number : ℕ) (w : Words K.Did) (line-good : GoodLine (line K.Did w)) where
   good : GoodSession (reached ls)
@@ -37,3 +39,7 @@ module _ (ls : List (List ℕ)) (number : ℕ) (w : Words K.Did) (line-good : Go
   -- by the action and the variant that the text declares under its names
   pub accepted-names : isRefused (reply (reached ls) number (didBytes w) .answer) ≡ false → (xs : List ActionLines) → DeclarationsOf ls xs → NamesDid ls xs w
   accepted-names e xs d = text-did-names ls xs d w line-good (text-may e .named)
+
+  -- and by the weight and the truth diagrams that the lines of these names draw
+  pub accepted-drawn : isRefused (reply (reached ls) number (didBytes w) .answer) ≡ false → (xs : List ActionDrawn) → DrawingsOf ls xs → DidDrawn ls xs w
+  accepted-drawn e xs d = text-did-drawn ls xs d w line-good (text-may e .named)
