@@ -8,9 +8,9 @@ use Rattle.refusal.specs.Outcome.{Outcome, ok, refused, andThen}
 use Rattle.diagram.specs.Diagram.{Diagram, leaf}
 use Rattle.diagram.specs.Listing.{listing}
 use Rattle.state.specs.State.{meaning, State}
+use Rattle.state.specs.Max.{tuples}
 use Rattle.minimum.specs.Number.{number}
 use Rattle.elimination.specs.Answer.{isTooLarge}
-use Rattle.reduction.specs.Combinations.{tuples}
 use Rattle.mdp.specs.Model.{Action, Model}
 use Rattle.mdp.specs.Backup.{variantsSum}
 use Rattle.best.specs.Moves.{Move, move, firstMove}

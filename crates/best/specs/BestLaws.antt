@@ -12,13 +12,12 @@ use Rattle.refusal.specs.OutcomeLaws.{accepted-ok, accepted-then, accepted-cond
 use Rattle.diagram.specs.Diagram.{Diagram, leaf}
 use Rattle.diagram.specs.Listing.{listing}
 use Rattle.state.specs.State.{meaning, State, Good}
-use Rattle.state.specs.Max.{Tuple, maxTuples, maxOf}
+use Rattle.state.specs.Max.{Tuple, maxTuples, maxOf, tuples}
 use Rattle.state.specs.MaxLaws.{maxTuples-is}
 use Rattle.state.specs.HighestLaws.{bound-tuple}
 use Rattle.minimum.specs.Number.{number}
 use Rattle.minimum.specs.NumberLaws.{number-equal}
 use Rattle.elimination.specs.Answer.{isTooLarge}
-use Rattle.reduction.specs.Combinations.{tuples}
 use Rattle.reduction.specs.Claims.{Values}
 use Rattle.reduction.specs.CombinationLaws.{in-tuples}
 use Rattle.mdp.specs.Model.{Action, Model, scale, Every, GoodAction, GoodModel}

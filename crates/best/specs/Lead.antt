@@ -3,7 +3,7 @@ use mathlib.Core.Path.{_≡_}
 use mathlib.Core.List.{List, [], _∷_, _++_, map, List·Memᴰ}
 use Prim.Native.Nat.{ℕ, suc, _+_, _<_}
 use lib.ListN.{length, getD}
-use Rattle.reduction.specs.Combinations.{tuples}
+use Rattle.state.specs.Max.{tuples}
 use Rattle.mdp.specs.Model.{Action, Model}
 use Rattle.best.specs.Moves.{Move, move, actionAt}
 use Rattle.best.specs.Best.{Rated, rated, better}

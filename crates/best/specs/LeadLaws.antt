@@ -11,9 +11,8 @@ use lib.Dec.{ltb}
 use borrow.Author.Tests.{ltb-true, ltb-false}
 use Rattle.basics.specs.Tests.{Cmp, below, equal, above, cmp, Flag, isTrue, isFalse, flag}
 use Rattle.state.specs.State.{State}
-use Rattle.state.specs.Max.{Tuple, none, more}
+use Rattle.state.specs.Max.{Tuple, none, more, tuples}
 use Rattle.paths.specs.PathLaws.{mem-map, mem-unmap}
-use Rattle.reduction.specs.Combinations.{tuples}
 use Rattle.reduction.specs.Claims.{Sorted, Lower, differs, onwards}
 use Rattle.reduction.specs.CombinationLaws.{tuples-in, in-tuples}
 use Rattle.reduction.specs.OrderLaws.{sorted-append, sorted-map, tuples-order}

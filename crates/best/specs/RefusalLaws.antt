@@ -17,11 +17,10 @@ use Rattle.diagram.specs.Variables.{closed}
 use Rattle.apply.specs.declared.Operation.the-variants.{Max}
 use Rattle.apply.specs.declared.Names.the-variants.{Shared}
 use Rattle.state.specs.State.{meaning, State}
-use Rattle.state.specs.Max.{Tuple}
+use Rattle.state.specs.Max.{Tuple, tuples}
 use Rattle.minimum.specs.Number.{number}
 use Rattle.elimination.specs.Answer.{isTooLarge}
 use Rattle.regression.specs.RegressCall.{freedOutcome}
-use Rattle.reduction.specs.Combinations.{tuples}
 use Rattle.reduction.specs.CombinationLaws.{tuples-in, in-tuples}
 use Rattle.mdp.specs.Model.{Action, Model, scale, Every}
 use Rattle.mdp.specs.Backup.{combined, actionsBest, scaleEnds, rowOfCalls, backup}

@@ -20,9 +20,9 @@ use Rattle.diagram.specs.Diagram.{Diagram, leaf}
 use Rattle.diagram.specs.Listing.{diagramOf}
 use Rattle.state.specs.State.{State}
 use Rattle.state.specs.Lent.{stateOf, isState}
+use Rattle.state.specs.Max.{tuples}
 use Rattle.names.specs.Many.{many}
 use Rattle.names.specs.ManyLaws.{length-many, getD-many}
-use Rattle.reduction.specs.Combinations.{tuples}
 use Rattle.mdp.specs.Model.{Action, Model, Every, GoodAction}
 use Rattle.mdp.specs.Backup.{variantsSum}
 use Rattle.model.specs.declared.Head.{Head}

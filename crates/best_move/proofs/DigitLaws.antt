@@ -32,9 +32,10 @@ use borrow.Author.Tests.{lt-ltb, ltb-true}
 use Rattle.basics.specs.Tests.{and-left, and-right}
 use Rattle.diagram.specs.Words.{upTo}
 use Rattle.state.specs.Lent.{allBelow}
+use Rattle.state.specs.Max.{gather, tuples}
+use Rattle.state.specs.MaxLaws.{gather-last}
 use Rattle.names.specs.Many.{many}
 use Rattle.names.specs.ManyLaws.{many-ext, getD-many}
-use Rattle.reduction.specs.Combinations.{gather, tuples}
 use Rattle.best_move.specs.Inside.{digits, Tupled}
 
 -- ===== Lists =====
@@ -50,10 +51,6 @@ append-append (a ∷ x) y z = ap (a ∷_) (append-append x y z)
 map-append : {A B : Type 0} (g : A → B) (x y : List A) → map g (x ++ y) ≡ map g x ++ map g y
 map-append g [] y = refl
 map-append g (a ∷ x) y = ap (g a ∷_) (map-append g x y)
-
-gather-last : {A B : Type 0} (f : A → List B) (l : List A) (a : A) → gather f (l ++ (a ∷ [])) ≡ gather f l ++ f a
-gather-last f [] a = append-none (f a)
-gather-last f (b ∷ l) a = ap (f b ++_) (gather-last f l a) ∙ sym (append-append (f b) (gather f l) (f a))
 
 map-many : {A B : Type 0} (g : A → B) (f : ℕ → A) (n : ℕ) → map g (many f n) ≡ many (λ j. g (f j)) n
 unfolding many

@@ -21,9 +21,9 @@ use Rattle.state.specs.declared.Valued.{Valued}
 use Rattle.state.specs.declared.Valued.the-variants.{Value, Refused as Unvalued}
 use Rattle.state.specs.State.{State, meaning}
 use Rattle.state.specs.Lent.{stateOf}
+use Rattle.state.specs.Max.{tuples}
 use Rattle.elimination.specs.Answer.{isTooLarge}
 use Rattle.names.specs.Many.{many}
-use Rattle.reduction.specs.Combinations.{tuples}
 use Rattle.mdp.specs.Model.{Action, Model}
 use Rattle.mdp.specs.Backup.{variantsSum}
 use Rattle.steps.specs.declared.Step.{Step}

@@ -9,7 +9,7 @@ use Rattle.diagram.specs.Sizes.{spaceWords}
 use Rattle.diagram.specs.Words.{isListing}
 use Rattle.diagram.specs.Listing.{diagramOf}
 use Rattle.state.specs.State.{meaning}
-use Rattle.state.specs.Lent.{stateOf, isState}
+use Rattle.state.specs.Lent.{stateOf, isState, mostObjects}
 use Rattle.regression.specs.Parameters.{Within}
 use Rattle.model.specs.declared.Head.{Head}
 use Rattle.model.specs.Layout.{modelOf, Laid}
@@ -26,10 +26,6 @@ chosenAs (refused r) = Refused r
 -- the answer in a state, of a model and a value's listing in lent words
 abbrev pub bestChosen : List ℕ → List ℕ → List ℕ → Head → ℕ → List ℕ → List ℕ → List ℕ → Chosen
 bestChosen ar listings table h n constants facts value = chosenAs (bestAnswer (modelOf ar listings table h) (stateOf ar n constants facts) (diagramOf value))
-
--- a session has 64 objects at most
-abbrev pub mostObjects : ℕ
-mostObjects = 64
 
 -- a model laid out in words, a state, a value's listing without parameters, and room for the rows formed
 pub record BestTask (ar listings table : List ℕ) (h : Head) (n : ℕ) (constants facts value work : List ℕ) : Type 0 where

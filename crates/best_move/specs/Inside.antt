@@ -14,9 +14,9 @@ use Rattle.diagram.specs.Listing.{diagramOf}
 use Rattle.state.specs.State.{State, meaning}
 use Rattle.state.specs.declared.Valued.{Valued}
 use Rattle.state.specs.declared.Valued.the-variants.{Value, Refused as Unvalued}
-use Rattle.state.specs.Lent.{stateOf, isState}
+use Rattle.state.specs.Lent.{stateOf, isState, mostObjects}
+use Rattle.state.specs.Max.{tuples}
 use Rattle.regression.specs.Parameters.{Within}
-use Rattle.reduction.specs.Combinations.{tuples}
 use Rattle.mdp.specs.Model.{Action}
 use Rattle.mdp.specs.Backup.{variantsSum}
 use Rattle.model.specs.declared.Head.{Head}
@@ -29,7 +29,6 @@ use Rattle.valuing.specs.Index.{indexedCount, Indexed}
 use Rattle.best_move.specs.declared.Lead.{Lead}
 use Rattle.best_move.specs.declared.Led.{Led}
 use Rattle.best_move.specs.declared.Led.the-variants.{To, Refused}
-use Rattle.best_move.specs.Chosen.{mostObjects}
 
 -- ===== Tuples by number =====
 

@@ -7,8 +7,9 @@ use native.Mathlib.Nat.{pow-zero, pow-suc, pow-succ', one-le-pow, mul-le-mul-rig
 use lib.ListN.{length, getD, length-append, length-map, List·getD-append}
 use lib.Seq.{getD-append-add, getD-at, ext-getD}
 use Rattle.basics.specs.Tests.{Cmp, cmp, below, equal, above}
-use Rattle.spread.specs.Ground.{Ground, ground, joined, tuples, factsOf}
-use Rattle.spread.specs.GroundLaws.{length-joined, length-tuples}
+use Rattle.state.specs.Max.{tuples}
+use Rattle.spread.specs.Ground.{Ground, ground, joined, factsOf}
+use Rattle.spread.specs.GroundLaws.{length-joined, tuples-joined, length-tuples}
 use Rattle.count_states.specs.Facts.{digits, firstFacts}
 
 -- ===== Lists by index =====
@@ -43,9 +44,9 @@ joined-at m f d e (suc n) a b h l = go (cmp a n) (joined-at m f d e n a b)
 module _ (n : ℕ) (some : 0 < n) where
   -- behind the tuples of k objects in place a
   heads-at : (k a b : ℕ) → a < n → b < n ^ k → getD (tuples n (suc k)) (a * n ^ k + b) [] ≡ a ∷ getD (tuples n k) b []
-  unfolding tuples
   heads-at k a b h l =
-      joined-at (n ^ k) (λ o. map (λ os. o ∷ os) (tuples n k)) [] (λ o. length-map (tuples n k) (λ os. o ∷ os) ∙ length-tuples n k) n a b h l
+      ap (λ ts. getD ts (a * n ^ k + b) []) (tuples-joined n k)
+      ∙ joined-at (n ^ k) (λ o. map (λ os. o ∷ os) (tuples n k)) [] (λ o. length-map (tuples n k) (λ os. o ∷ os) ∙ length-tuples n k) n a b h l
       ∙ map-at (λ os. a ∷ os) (tuples n k) b [] [] (omega (arith, length-tuples n k))
 
   none : (r : ℕ) → getD (tuples n 0) 0 [] ++ (r ∷ []) ≡ r ∷ getD (tuples n 0) 0 []

@@ -8,7 +8,7 @@ use lib.ListN.{length, getD}
 use Rattle.label.specs.Limits.{mostPlaces, predicateCount}
 use Rattle.label.specs.ArityLaws.{arity-most, arity-words}
 use Rattle.spread.specs.Ground.{groundCount}
-use Rattle.count_states.specs.Counted.{mostObjects}
+use Rattle.state.specs.Lent.{mostObjects}
 use Rattle.count_states.specs.Facts.{mostPower, Power, Declared}
 
 -- ===== power =====

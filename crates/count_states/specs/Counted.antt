@@ -8,14 +8,10 @@ use Rattle.refusal.specs.Outcome.{Outcome, ok, refused}
 use Rattle.label.specs.Limits.{predicateCount}
 use Rattle.diagram.specs.Sizes.{mostRows}
 use Rattle.diagram.specs.Words.{isListing}
-use Rattle.state.specs.Lent.{constantsBelow}
+use Rattle.state.specs.Lent.{mostObjects, constantsBelow}
 use Rattle.spread.specs.Spread.{Entry, entryWords}
 use Rattle.count_states.specs.declared.Counted.{Counted}
 use Rattle.count_states.specs.declared.Counted.the-variants.{Lines, Refused}
-
--- "n from 1 to 64"
-abbrev pub mostObjects : ℕ
-mostObjects = 64
 
 -- two words a line; a listing of 1,024 rows has fewer leaves than rows, so there are at most 1,023 lines
 abbrev pub tableWords : ℕ

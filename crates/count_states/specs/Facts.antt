@@ -7,9 +7,8 @@ use lib.ListN.{length, take, drop}
 use lib.Dec.{eqb}
 use Rattle.label.specs.Limits.{predicateCount, mostPlaces}
 use Rattle.label.specs.Labels.{areArities}
-use Rattle.state.specs.Lent.{factWords}
+use Rattle.state.specs.Lent.{factWords, mostObjects}
 use Rattle.spread.specs.Ground.{Ground, ground, rowsOf}
-use Rattle.count_states.specs.Counted.{mostObjects}
 
 -- ===== Powers =====
 

@@ -1,7 +1,7 @@
 -- How many states of n objects have which value: the call (document 02, L11). What the spread is stands in spread.
 --
 -- Definitions
---   mostObjects, tableWords == n at most; words of the table of lines
+--   tableWords == words of the table of lines
 --   countedAs == how many lines, or the refusal
 --   Countable, Counts == what the call asks; what it answers and leaves in the table
 --

@@ -15,7 +15,7 @@ use Rattle.diagram.specs.Diagram.{Diagram, leaf}
 use Rattle.diagram.specs.Listing.{diagramOf}
 use Rattle.state.specs.State.{State}
 use Rattle.state.specs.Lent.{factWords, stateOf}
-use Rattle.reduction.specs.Combinations.{tuples}
+use Rattle.state.specs.Max.{tuples}
 use Rattle.mdp.specs.Model.{Action, Model}
 use Rattle.mdp.specs.Backup.{variantsSum}
 use Rattle.words.specs.declared.Key.{Key}

@@ -13,7 +13,7 @@ use Rattle.refusal.specs.Outcome.{Outcome, ok, refused}
 use Rattle.label.specs.Limits.{constantCount}
 use Rattle.diagram.specs.Listing.{diagramOf, listing}
 use Rattle.diagram.specs.Listings.{is-listing-diagram}
-use Rattle.state.specs.Lent.{constantsBelow}
+use Rattle.state.specs.Lent.{constantsBelow, mostObjects}
 use Rattle.names.specs.KeyLaws.{length-keys}
 use Rattle.names.specs.Layout.{declaredAt}
 use Rattle.spread.specs.Ground.{mostGround, groundCount}
@@ -25,7 +25,6 @@ use Rattle.events.specs.Contents.{numberIn}
 use Rattle.answers.specs.declared.Answer.the-variants as A
 use Rattle.text.specs.declared.Kind.the-variants as K
 use Rattle.session.specs.Session.{Session, refuseIf}
-use Rattle.session.specs.Facts.{mostObjects}
 use Rattle.session.specs.Running.{countRead, entriesIn}
 use Rattle.session.specs.Replies.{Reply, countSays, done, wordsOf}
 use Rattle.session.specs.Texts.{tableOf}

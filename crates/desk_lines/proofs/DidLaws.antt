@@ -8,7 +8,7 @@ use lib.Seq.{paste, length-paste, length-take-le, getD-take, getD-drop, ext-getD
 use Rattle.refusal.specs.declared.Refusal.{Refusal}
 use Rattle.refusal.specs.Outcome.{Outcome, ok, andThen}
 use Rattle.label.specs.Limits.{constantCount, mostPlaces, parameterCount}
-use Rattle.state.specs.Lent.{factWords}
+use Rattle.state.specs.Lent.{factWords, mostFacts}
 use Rattle.words.specs.declared.Key.{Key}
 use Rattle.text.specs.declared.Kind.the-variants as K
 use Rattle.events.specs.declared.Next.{Next}
@@ -18,10 +18,10 @@ use Rattle.events.specs.Front.{nextAt, eventsOf}
 use Rattle.events.specs.FrontLaws.{next-moves}
 use Rattle.events.specs.Contents.{keyIn, wordAt, numbersIn}
 use Rattle.mdp.specs.Model.{Model}
-use Rattle.replay.specs.Replay.{Did, Replay, did, mostFacts}
+use Rattle.replay.specs.Replay.{Did, Replay}
 use Rattle.answers.specs.declared.Answer.the-variants as A
 use Rattle.session.specs.Session.{Live as SessionLive}
-use Rattle.session.specs.Replaying.{replayIn, replayed, didLine}
+use Rattle.session.specs.Replaying.{replayIn, replayed, didTo, didLine}
 use Rattle.session.specs.Replies.{Reply, withLive, didSays, done, wordsOf}
 use Rattle.declare.specs.Tables.{namesOf}
 use Rattle.facts.specs.declared.Live.{Live}
@@ -44,7 +44,7 @@ use Rattle.memory.specs.WordLaws.{next-drops, first-is, second-is, rest-is}
 use Rattle.desk_lines.specs.declared.Found.{Found}
 use Rattle.desk_lines.specs.declared.Found.the-variants as F
 use Rattle.desk_lines.specs.Lines.{LogTask, DidAnswered}
-use Rattle.desk_lines.specs.Doing.{Fits, doing, Findable, Finding, Movable, StepsIn, moved}
+use Rattle.desk_lines.specs.Doing.{Fits, Findable, Finding, Movable, StepsIn, moved}
 
 -- ===== The state moved =====
 
@@ -124,11 +124,11 @@ module _ {ar listings table : List ℕ} {h : Head} {a v : ℕ} {os state : List 
     facts-room e = omega (arith, rows-few e, x .live .room)
 
     pub replay-done : {m c t : ℕ} → r ≡ S.Done m c t → {state′ : List ℕ} → state′ ≡ paste state factsBase rows (m * factWords)
-        → Living (doing M (liveOf state l) (lentDid a v os)) state (Done (liveWith l m c t)) state′
-    unfolding doing
+        → Living (didTo M (liveOf state l) (lentDid a v os)) state (Done (liveWith l m c t)) state′
+    unfolding didTo
     replay-done {m} {c} {t} e {state′} y =
         let q = steps-as e .steps in
-        subst (Living (doing M (liveOf state l) (lentDid a v os)) state (Done (liveWith l m c t))) (sym y)
+        subst (Living (didTo M (liveOf state l) (lentDid a v os)) state (Done (liveWith l m c t))) (sym y)
         (record {
           lives = (
             ap (λ (o : Outcome Replay). andThen o (λ r. ok (replayed (liveOf state l) r))) (q .is) ∙ ap ok (sym (copied-live (x .live) (q .few) rows (q .room) c t)),
@@ -136,8 +136,8 @@ module _ {ar listings table : List ℕ} {h : Head} {a v : ℕ} {os state : List 
           );
         })
 
-    pub replay-refused : {why : Refusal} → r ≡ S.Refused why → Living (doing M (liveOf state l) (lentDid a v os)) state (Refused why) state
-    unfolding doing
+    pub replay-refused : {why : Refusal} → r ≡ S.Refused why → Living (didTo M (liveOf state l) (lentDid a v os)) state (Refused why) state
+    unfolding didTo
     replay-refused e = record { lives = (ap (λ (o : Outcome Replay). andThen o (λ r. ok (replayed (liveOf state l) r))) (steps-as e .steps), refl) }
 
 -- ===== The line's words =====
@@ -205,12 +205,12 @@ module _ {n : Numbers} {names ar listings table state : List ℕ} (t : LogTask n
           objects = sym (w .within) ∙ fits-in .3;
         })
 
-    pub carry-done : {q : Told} {state′ : List ℕ} → Living (doing (modelOf ar listings table (n .head)) (liveOf state (n .live)) (lentDid a b lent)) state q state′
+    pub carry-done : {q : Told} {state′ : List ℕ} → Living (didTo (modelOf ar listings table (n .head)) (liveOf state (n .live)) (lentDid a b lent)) state q state′
         → Living Line state q state′
     unfolding liveOf
     carry-done {q} {state′} d =
         subst (λ (z : Outcome SessionLive). Living z state q state′)
-        (ap (λ (xs : List ℕ). doing (modelOf ar listings table (n .head)) (liveOf state (n .live)) (lentDid a b xs)) (sym lent-are)
+        (ap (λ (xs : List ℕ). didTo (modelOf ar listings table (n .head)) (liveOf state (n .live)) (lentDid a b xs)) (sym lent-are)
         ∙ sym (found-is e .found ar listings (n .head) (liveOf state (n .live)) os row (t .agreed) w)) d
 
 -- ===== What the line is answered =====

@@ -13,8 +13,7 @@ use Rattle.names.specs.Keys.{placeOf, isAmong}
 use Rattle.mdp.specs.Model.{Model}
 use Rattle.replay.specs.Replay.{noAction}
 use Rattle.session.specs.Session.{Names, Live}
-use Rattle.session.specs.Replaying.{variantNames, didOf, didLine}
-use Rattle.desk_lines.specs.Doing.{doing}
+use Rattle.session.specs.Replaying.{variantNames, didOf, didTo, didLine}
 
 module _ (m : Model) (n : Names) (l : Live) (k v : Key) (os : List ℕ) where
   pub line-name : isAmong k (n .actions) ≡ false → didLine m n l k v os ≡ refused Name
@@ -38,6 +37,6 @@ module _ (m : Model) (n : Names) (l : Live) (k v : Key) (os : List ℕ) where
         unfolding didLine didOf
         line-range h = rw (e, ← p, u, eq-eqb (length os) c f, w, g, h)
 
-        pub line-found : allBelow (l .objects) os ≡ true → {b : ℕ} → b ≡ placeOf v ks → didLine m n l k v os ≡ doing m l (record { action = a; variant = b; objects = os })
-        unfolding didLine didOf doing
+        pub line-found : allBelow (l .objects) os ≡ true → {b : ℕ} → b ≡ placeOf v ks → didLine m n l k v os ≡ didTo m l (record { action = a; variant = b; objects = os })
+        unfolding didLine didOf
         line-found h {b} q = rw (e, ← p, u, eq-eqb (length os) c f, w, g, h, ← q)

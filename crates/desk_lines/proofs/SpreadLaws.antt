@@ -9,10 +9,9 @@ use borrow.Author.Tests.{le-leb, lt-leb, leb-true}
 use Rattle.basics.specs.Tests.{and-left, and-right}
 use Rattle.refusal.specs.declared.Refusal.the-variants.{Range}
 use Rattle.refusal.specs.Outcome.{Outcome, refused}
-use Rattle.state.specs.Lent.{constantsBelow, isState}
+use Rattle.state.specs.Lent.{constantsBelow, isState, mostObjects}
 use Rattle.spread.specs.Spread.{Entry, spread}
 use Rattle.session.specs.Session.{refuseIf}
-use Rattle.session.specs.Facts.{mostObjects}
 use Rattle.count_states.specs.declared.Counted.{Counted}
 use Rattle.count_states.specs.declared.Counted.the-variants.{Refused}
 use Rattle.count_states.specs.Counted.{countedAs, Countable, Counts}

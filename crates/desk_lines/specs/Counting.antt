@@ -9,10 +9,9 @@ use Rattle.refusal.specs.declared.Refusal.the-variants.{Range}
 use Rattle.refusal.specs.Outcome.{Outcome}
 use Rattle.label.specs.Limits.{predicateCount}
 use Rattle.diagram.specs.Words.{isListing}
-use Rattle.state.specs.Lent.{constantsBelow}
+use Rattle.state.specs.Lent.{constantsBelow, mostObjects}
 use Rattle.spread.specs.Spread.{Entry, spread}
 use Rattle.session.specs.Session.{refuseIf}
-use Rattle.session.specs.Facts.{mostObjects}
 use Rattle.count_states.specs.Counted.{tableWords}
 
 -- what the line reads of lent words: countRead on them (session)

@@ -4,7 +4,7 @@ use mathlib.Core.Bool.{true}
 use mathlib.Core.List.{List}
 use Prim.Native.Nat.{ℕ, _+_, _*_, _<_, _≤_}
 use lib.ListN.{length, getD, take}
-use Rattle.refusal.specs.Outcome.{Outcome, ok, refused, andThen}
+use Rattle.refusal.specs.Outcome.{Outcome, refused}
 use Rattle.label.specs.Limits.{constantCount}
 use Rattle.diagram.specs.Sizes.{highestValue}
 use Rattle.state.specs.Lent.{factWords, allBelow, isState}
@@ -12,10 +12,10 @@ use Rattle.words.specs.declared.Key.{Key}
 use Rattle.names.specs.Keys.{keysAt}
 use Rattle.names.specs.Layout.{variantsAt, nameWords}
 use Rattle.mdp.specs.Model.{Model}
-use Rattle.replay.specs.Replay.{Did, did}
+use Rattle.replay.specs.Replay.{did}
 use Rattle.answers.specs.declared.Answer.the-variants as A
 use Rattle.session.specs.Session.{Live as SessionLive}
-use Rattle.session.specs.Replaying.{replayIn, replayed, didLine}
+use Rattle.session.specs.Replaying.{replayIn, didTo, didLine}
 use Rattle.declare.specs.declared.Counts.{Counts}
 use Rattle.declare.specs.Tables.{namesOf}
 use Rattle.facts.specs.declared.Live.{Live}
@@ -48,13 +48,8 @@ abbrev pub Fits : List ℕ → ℕ → Tuple → Found → Type 0
 Fits table actions o (At a v) = (a < actions) × (v < variantsOf table a) × (o .count ≡ getD table (a * actionWords) 0) × (o .within ≡ true)
 Fits table actions o (Refused e) = Unit {0}
 
--- what replay says of the line, in the state in hand (session, `didLine`)
-unfoldable pub doing : Model → SessionLive → Did → Outcome SessionLive
-unfolding did replayIn replayed
-doing m l d = andThen (did m (replayIn l) d) (λ r. ok (replayed l r))
-
 abbrev pub FoundAs : Outcome SessionLive → Model → SessionLive → List ℕ → Found → Type 0
-FoundAs o m l os (At a v) = o ≡ doing m l (record { action = a; variant = v; objects = os })
+FoundAs o m l os (At a v) = o ≡ didTo m l (record { action = a; variant = v; objects = os })
 FoundAs o m l os (Refused e) = o ≡ refused e
 
 -- a line with the keys k and v, whose objects os are kept as o and a row: 2, 3, 2 and 4, or what is done

@@ -18,19 +18,18 @@ ghost use mathlib.Core.Path.{_≡_};
 ghost use Prim.Native.Nat.{_+_, _*_, _<_, _≤_};
 ghost use lib.ListN.{length, drop};
 ghost use lib.Seq.{paste};
-ghost use Rattle.state.specs.Lent.{factWords};
-ghost use Rattle.replay.specs.Replay.{mostFacts};
+ghost use Rattle.state.specs.Lent.{factWords, mostFacts};
 ghost use Rattle.names.specs.Keys.{placeOf};
 ghost use Rattle.events.specs.Front.{eventsOf};
 ghost use Rattle.events.specs.Contents.{numbersIn};
-ghost use Rattle.session.specs.Replaying.{didLine};
+ghost use Rattle.session.specs.Replaying.{didTo, didLine};
 ghost use Rattle.declare.specs.Tables.{namesOf};
 ghost use Rattle.facts.specs.Words.{factsBase, mostBytes, liveOf, Living};
 ghost use Rattle.model.specs.Layout.{modelOf};
 ghost use Rattle.count_states.specs.Counted.{Counts as CountedAs};
 ghost use Rattle.desk_lines.specs.Lines.{MoveTask, CountTask, LogTask, DidTask, BestAnswered, CountAnswered, DidAnswered};
 ghost use Rattle.desk_lines.specs.Counting.{spreadRead, Spreadable};
-ghost use Rattle.desk_lines.specs.Doing.{variantKeys, doing, moved, Findable, Finding, Movable, StepsIn};
+ghost use Rattle.desk_lines.specs.Doing.{variantKeys, moved, Findable, Finding, Movable, StepsIn};
 
 // (best): the name of the action and its objects, or the refusal.
 pub fn best(
@@ -237,7 +236,7 @@ fn replay(
     live: Live,
 ) -> Told
     requires { ⌜ Movable (now arities) (now listings) (now table) head a v (now objects) (now state) live ⌝ }
-    ensures { λ r. ⌜ Living (doing (modelOf (now (arities .entry)) (now (listings .entry)) (now (table .entry)) head) (liveOf (now (state .entry)) live)
+    ensures { λ r. ⌜ Living (didTo (modelOf (now (arities .entry)) (now (listings .entry)) (now (table .entry)) head) (liveOf (now (state .entry)) live)
         (record { action = a; variant = v; objects = now (objects .entry) })) (now (state .entry)) r (now (state .exit)) ⌝ }
 {
     let mut rows = [0u64; facts::FACTS * facts::FACT_WORDS];

@@ -9,10 +9,9 @@ use lib.ListN.{length, getD, set, take, drop, replicate, length-set, length-drop
 use lib.Seq.{take-add, drop-drop, ext-getD, getD-take, getD-drop, getD-set-same, getD-set-other, length-take-le}
 use lib.Dec.{eqb}
 use Rattle.basics.specs.Tests.{Flag, isTrue, isFalse, flag, and-left}
-use Rattle.state.specs.Lent.{factCount, someBelow, allBelow, factWords}
+use Rattle.state.specs.Lent.{factCount, someBelow, allBelow, factWords, mostFacts, factRow}
 use Rattle.session.specs.Session.{refuseIf}
 use Rattle.diagram.specs.WordLaws.{every-below, below-every}
-use Rattle.replay.specs.Replay.{mostFacts, factRow}
 use Rattle.session.specs.Facts.{sameWord, rowIs, isFact, withFact, begunAgain, factLine, trueLine}
 use Rattle.facts.specs.declared.Live.{Live}
 use Rattle.facts.specs.declared.Told.{Told}

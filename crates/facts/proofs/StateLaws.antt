@@ -15,9 +15,9 @@ use Rattle.names.specs.Keys.{keysAt, placeOf}
 use Rattle.names.specs.Layout.{constantsAt}
 use Rattle.names.specs.KeyLaws.{among-at, among-none}
 use Rattle.refusal.specs.Outcome.{ok}
-use Rattle.state.specs.Lent.{factWords}
+use Rattle.state.specs.Lent.{factWords, mostObjects}
 use Rattle.session.specs.Session.{Live as SessionLive}
-use Rattle.session.specs.Facts.{objectsLine, isLine, cleared, placed, mostObjects}
+use Rattle.session.specs.Facts.{objectsLine, isLine, cleared, placed}
 use Rattle.declare.specs.declared.Counts.{Counts}
 use Rattle.declare.specs.Tables.{namesOf, GoodNames}
 use Rattle.facts.specs.declared.Live.{Live}

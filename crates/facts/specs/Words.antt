@@ -7,10 +7,9 @@ use Prim.Native.Nat.{ℕ, suc, _+_, _*_, _<_, _≤_}
 use lib.ListN.{length, getD, set, take, drop}
 use Rattle.label.specs.Limits.{constantCount, mostPlaces}
 use Rattle.refusal.specs.Outcome.{Outcome, ok, refused}
-use Rattle.state.specs.Lent.{factWords, allBelow}
+use Rattle.state.specs.Lent.{factWords, allBelow, mostFacts, mostObjects}
 use Rattle.session.specs.Session.{Live as SessionLive}
-use Rattle.replay.specs.Replay.{mostFacts}
-use Rattle.session.specs.Facts.{mostObjects, withFact, trueLine}
+use Rattle.session.specs.Facts.{withFact, trueLine}
 use Rattle.words.specs.declared.Key.{Key}
 use Rattle.declare.specs.declared.Counts.{Counts}
 use Rattle.declare.specs.Tables.{namesOf}

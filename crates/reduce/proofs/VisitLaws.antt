@@ -17,7 +17,7 @@ use Rattle.diagram.specs.Words.{labelAt, highAt, lowAt}
 use Rattle.diagram.specs.Validity.{tree}
 use Rattle.paths.specs.Paths.{paths}
 use Rattle.paths.specs.PathLaws.{paths-leaf, paths-branch}
-use Rattle.reduction.specs.Combinations.{gather, before}
+use Rattle.reduction.specs.Combinations.{before}
 use Rattle.reduction.specs.Reduction.{mostFormed}
 use Rattle.reduce.specs.Routing.{Routed}
 use Rattle.reduce.specs.Searching.{factEnd, stacked, signOf, Way, ways, sumOf, betterOf, formedOn, winnersOn, formedFrom, winnersFrom, Facing, Searching, Standing, isMarked, Searched, Same, Reached, Visited, Forked}

@@ -30,7 +30,8 @@ use Rattle.rename.specs.VariableLaws.{variables-few}
 use Rattle.listing.specs.Used.{Used}
 use Rattle.paths.specs.Paths.{paths}
 use Rattle.paths.specs.PathLaws.{rows-paths}
-use Rattle.reduction.specs.Combinations.{gather, tuples, valuations, formed, winners}
+use Rattle.state.specs.Max.{gather, tuples}
+use Rattle.reduction.specs.Combinations.{valuations, formed, winners}
 use Rattle.reduction.specs.CombinationLaws.{tuples-length, valuations-count}
 use Rattle.reduction.specs.Reduction.{mostRuns, mostFormed}
 use Rattle.reduce.specs.Searching.{factEnd, stacked, ways, formedOn, winnersOn, formedFrom, winnersFrom, Leaves, Facing, Searching, Standing, isMarked, Visited}

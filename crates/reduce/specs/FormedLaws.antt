@@ -16,11 +16,11 @@ use Rattle.diagram.specs.Diagram.{Diagram}
 use Rattle.diagram.specs.Words.{upTo}
 use Rattle.diagram.specs.Variables.{variables}
 use Rattle.rename.specs.VariableLaws.{variables-few}
-use Rattle.state.specs.Max.{Tuple, none, more}
+use Rattle.state.specs.Max.{Tuple, none, more, gather, those, tuples}
 use Rattle.paths.specs.Paths.{Literal, Path, paths, literals}
 use Rattle.paths.specs.PathLaws.{paths-are}
 use Rattle.paths.specs.Routes.{pathAt}
-use Rattle.reduction.specs.Combinations.{gather, those, someOf, tuples, valuations, objectOf, Ground, groundOf, opposed, consistent, grounds, facts, isConsistent, choices, combinations, formedBy, formed, before, winner, winners}
+use Rattle.reduction.specs.Combinations.{someOf, valuations, objectOf, Ground, groundOf, opposed, consistent, grounds, facts, isConsistent, choices, combinations, formedBy, formed, before, winner, winners}
 use Rattle.reduction.specs.Claims.{AtLeast}
 use Rattle.reduction.specs.ListLaws.{reverse-in}
 use Rattle.reduction.specs.CombinationLaws.{in-tuples, tuples-in, in-choices, at-least-trans, earlier, winner-in, winner-first}

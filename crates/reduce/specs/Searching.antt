@@ -13,7 +13,8 @@ use Rattle.diagram.specs.Words.{labelAt, highAt, lowAt}
 use Rattle.diagram.specs.Validity.{tree}
 use Rattle.paths.specs.Paths.{paths}
 use Rattle.paths.specs.Routes.{pathAt}
-use Rattle.reduction.specs.Combinations.{gather, before}
+use Rattle.state.specs.Max.{gather}
+use Rattle.reduction.specs.Combinations.{before}
 use Rattle.reduction.specs.Reduction.{mostFormed}
 use Rattle.reduce.specs.Routing.{Routed}
 

@@ -18,8 +18,8 @@ use Rattle.diagram.specs.Variables.{variables}
 use Rattle.paths.specs.Paths.{paths}
 use Rattle.paths.specs.PathLaws.{mem-map, mem-unmap}
 use Rattle.paths.specs.Routes.{pathAt}
-use Rattle.state.specs.Max.{Tuple, none, more}
-use Rattle.reduction.specs.Combinations.{those, someOf, tuples, valuations, Ground, opposed, consistent, grounds, facts, isConsistent, choices, before, leastOf, winner}
+use Rattle.state.specs.Max.{Tuple, none, more, those, tuples}
+use Rattle.reduction.specs.Combinations.{someOf, valuations, Ground, opposed, consistent, grounds, facts, isConsistent, choices, before, leastOf, winner}
 use Rattle.reduction.specs.Claims.{Once, AtLeast, Clash}
 use Rattle.reduction.specs.ListLaws.{gather-in, in-gather, those-in, in-those, someOf-in, in-someOf, upTo-in, in-upTo, once-map, once-those, once-gather, once-upTo, gather-length}
 

@@ -1,7 +1,7 @@
 -- Valuations over invented objects, and the consistent combinations of the paths that they may follow (document 02, L13; R12 of source document 000).
 use mathlib.Core.Bool.{Bool, true, false, not, _&&_, _||_, cond, Bool·beq}
 use mathlib.Core.List.{List, [], _∷_, _++_, map, reverse}
-use Prim.Native.Nat.{ℕ, zero, suc, _+_}
+use Prim.Native.Nat.{ℕ, _+_}
 use lib.ListN.{length, getD}
 use lib.Dec.{eqb, ltb}
 use Rattle.label.specs.Labels.{predicateOf, unpacked, termsOf}
@@ -11,31 +11,19 @@ use Rattle.diagram.specs.Words.{upTo, equalLists}
 use Rattle.diagram.specs.Variables.{variables}
 use Rattle.paths.specs.Paths.{Literal, paths, literals}
 use Rattle.paths.specs.Routes.{pathAt}
+use Rattle.state.specs.Max.{gather, those, tuples}
 
 -- ===== Lists =====
 
--- the lists that f gives the members, one behind the other
-abbrev pub gather : {A B : Type 0} → (A → List B) → List A → List B
-gather f [] = []
-gather f (a ∷ l) = f a ++ gather f l
-
--- those that pass the test
-abbrev pub those : {A : Type 0} → (A → Bool) → List A → List A
-those p [] = []
-those p (a ∷ l) = cond (p a) (a ∷ those p l) (those p l)
-
+-- a member passes the test
 abbrev pub someOf : {A : Type 0} → (A → Bool) → List A → Bool
 someOf p [] = false
 someOf p (a ∷ l) = p a || someOf p l
 
 -- ===== "run all valuations over as many invented objects as there are variables" =====
 
--- the lists of c objects below n; "lowest objects first, the lowest variable changing slowest"
-unfoldable pub tuples : ℕ → ℕ → List (List ℕ)
-tuples n zero = [] ∷ []
-tuples n (suc c) = gather (λ o. map (o ∷_) (tuples n c)) (upTo n)
-
 -- the invented objects are 0, 1, ..; a valuation is a list of them, one for each variable, the lowest variable's first. With no variable there is one.
+-- "lowest objects first, the lowest variable changing slowest"
 unfoldable pub valuations : List ℕ → Diagram → List (List ℕ)
 unfolding tuples variables
 valuations ar d = tuples (length (variables ar d)) (length (variables ar d))

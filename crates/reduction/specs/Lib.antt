@@ -1,9 +1,8 @@
 -- Reduction by model checking (document 02, L13; R12 of source document 000).
 --
 -- Definitions: valuations over invented objects
---   gather, those, someOf == lists one behind the other; the members that pass a test; whether one does
---   tuples == the lists of c objects below n, lowest objects first, the first changing slowest
---   valuations == those of as many objects as there are variables, one object for each variable
+--   someOf == whether a member passes a test
+--   valuations == the tuples of as many objects as there are variables, one object for each variable
 --   objectOf == the object of a variable
 --
 -- Definitions: combinations

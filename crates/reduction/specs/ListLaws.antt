@@ -10,7 +10,8 @@ use Rattle.basics.specs.Tests.{Cmp, cmp, below, equal, above, Either, one, othe
 use Rattle.basics.specs.Members.{clash}
 use Rattle.diagram.specs.Words.{upTo}
 use Rattle.paths.specs.PathLaws.{mem-unmap}
-use Rattle.reduction.specs.Combinations.{gather, those, someOf}
+use Rattle.state.specs.Max.{gather, those}
+use Rattle.reduction.specs.Combinations.{someOf}
 use Rattle.reduction.specs.Claims.{Once}
 
 -- ===== Members =====

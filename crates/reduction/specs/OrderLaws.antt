@@ -11,7 +11,7 @@ use Rattle.diagram.specs.Words.{upTo}
 use Rattle.paths.specs.Paths.{Path, stepBefore, paths}
 use Rattle.paths.specs.PathLaws.{mem-unmap, paths-leaf, paths-branch, path-high, path-low}
 use Rattle.paths.specs.Routes.{pathAt}
-use Rattle.reduction.specs.Combinations.{gather, tuples}
+use Rattle.state.specs.Max.{gather, tuples}
 use Rattle.reduction.specs.Claims.{Sorted, Lower, differs, onwards, Sooner, parts, along}
 use Rattle.reduction.specs.ListLaws.{in-gather, in-upTo}
 

@@ -53,7 +53,7 @@ module _ (ar : List ℕ) (good : areArities ar ≡ true) {s t : State} (a : Alik
   truth-alike zero os h w = refl
   truth-alike (suc p) os h w = a .fact (suc p) os (omega arith) h w
 
-  holds-alike : (θ : ℕ → ℕ) → ((u : ℕ) → θ u < s .size) → (l : ℕ) → isLabel ar l ≡ true → holds s θ (atomOf ar l) ≡ holds t θ (atomOf ar l)
+  pub holds-alike : (θ : ℕ → ℕ) → ((u : ℕ) → θ u < s .size) → (l : ℕ) → isLabel ar l ≡ true → holds s θ (atomOf ar l) ≡ holds t θ (atomOf ar l)
   unfolding holds atomOf
   holds-alike θ range l h = truth-alike (predicateOf l) (map θ (termsOf ar (unpacked l))) (label-predicate ar l h)
       (subst (λ (c : ℕ). Tuple (s .size) c (map θ (termsOf ar (unpacked l)))) (terms-length ar l good) (tuple-map (s .size) θ range (termsOf ar (unpacked l))))

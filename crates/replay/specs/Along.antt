@@ -9,10 +9,10 @@ use Rattle.refusal.specs.Outcome.{Outcome, ok, refused}
 use Rattle.label.specs.Limits.{predicateCount}
 use Rattle.state.specs.State.{State}
 use Rattle.state.specs.Max.{Tuple, sumOf}
-use Rattle.state.specs.Lent.{factCount}
+use Rattle.state.specs.Lent.{factCount, mostFacts}
 use Rattle.mdp.specs.Model.{Model}
 use Rattle.mdp.specs.Bellman.{weightIn, rewardIn}
-use Rattle.replay.specs.Replay.{mostFacts, Did, actionOf, variantOf, stateNext, Replay, inHand, movedBy, counted}
+use Rattle.replay.specs.Replay.{Did, actionOf, variantOf, stateNext, Replay, inHand, movedBy, counted}
 use Rattle.replay.specs.Replay.{hasNoWeight, hasManyFacts, hasValuations, isTooHigh}
 
 -- the states s0, s1, .. that the lines lead through: each by the truth diagrams of the next line

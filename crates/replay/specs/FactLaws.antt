@@ -1,30 +1,29 @@
--- The facts of a state, listed as rows and lent again, are its facts; none is listed twice.
-use mathlib.Core.Path.{_≡_, refl, sym, ap, subst, _∙_}
+-- The facts of a state, listed as rows and lent again, are its facts; none is listed twice; the rows are whole and name its objects only.
+use mathlib.Core.Path.{_≡_, refl, sym, ap, ap₂, subst, _∙_}
 use mathlib.Core.Bool.{Bool, true, _&&_}
 use mathlib.Core.List.{List, [], _∷_, _++_, map, List·Memᴰ, List·Memᴰ·head, List·Memᴰ·tail}
 use Prim.Native.Nat.{ℕ, zero, suc, pred, _+_, _*_, _≤_, _<_}
 use native.Mathlib.Omega.{arith}
 use lib.ListN.{length, getD, take, drop, replicate, length-append, length-replicate}
 use lib.Seq.{length-take-le, take-append-seam, drop-append-add, getD-append-add}
-use lib.Dec.{eqb}
-use borrow.Author.Tests.{eqb-true, eq-eqb}
+use lib.Dec.{eqb, leb}
+use borrow.Author.Tests.{eqb-true, eq-eqb, lt-ltb}
 use Rattle.basics.specs.Tests.{and-left, and-right}
 use Rattle.label.specs.Limits.{predicateCount, mostPlaces}
 use Rattle.label.specs.Labels.{areArities}
 use Rattle.label.specs.ArityLaws.{arity-most}
-use Rattle.diagram.specs.Words.{upTo, equalLists}
-use Rattle.diagram.specs.WordLaws.{lists-equal, equal-lists}
+use Rattle.diagram.specs.Words.{upTo, equalLists, everyBelow}
+use Rattle.diagram.specs.WordLaws.{lists-equal, equal-lists, every-below}
 use Rattle.diagram.specs.RowLaws.{same-tests}
 use Rattle.paths.specs.PathLaws.{mem-map, mem-unmap}
 use Rattle.state.specs.State.{State}
-use Rattle.state.specs.Max.{Tuple, none, more}
-use Rattle.state.specs.Lent.{factWords, factCount, predicateAt, objectsAt, saysFact, saidBy}
+use Rattle.state.specs.Max.{Tuple, none, more, those, tuples}
+use Rattle.state.specs.Lent.{factWords, factCount, predicateAt, objectsAt, saysFact, saidBy, factRow, allBelow, namesBelow, constantsBelow, isState}
 use Rattle.state.specs.LentLaws.{some-made, some-found}
-use Rattle.reduction.specs.Combinations.{gather, those, tuples}
 use Rattle.reduction.specs.Claims.{Once}
 use Rattle.reduction.specs.ListLaws.{gather-in, in-gather, those-in, in-those, upTo-in, place-of, once-those, once-gather, once-upTo}
 use Rattle.reduction.specs.CombinationLaws.{tuples-in, in-tuples, tuples-once}
-use Rattle.replay.specs.Replay.{factRow, rowsAt, factRows, flat, factsOf}
+use Rattle.replay.specs.Replay.{rowsAt, factRows, flat, factsOf}
 
 -- ===== Rows behind one another =====
 
@@ -62,18 +61,34 @@ front-objects (w ∷ ws) rest e =
     let k : length ws ≡ mostPlaces = omega arith in
     ap (λ (n : ℕ). take n (ws ++ rest)) (sym k) ∙ take-append-seam ws rest
 
+module _ (rows : List (List ℕ)) (i : ℕ) where
+  flat-next : (row : List ℕ) → length row ≡ factWords → (predicateAt (row ++ flat rows) (suc i) ≡ predicateAt (flat rows) i)
+      × (objectsAt (row ++ flat rows) (suc i) ≡ objectsAt (flat rows) i)
+  unfolding predicateAt objectsAt
+  flat-next row k =
+      let e : suc i * factWords ≡ length row + i * factWords = omega arith in
+      let f : suc (suc i * factWords) ≡ length row + suc (i * factWords) = omega arith in (
+        ap (λ (j : ℕ). getD (row ++ flat rows) j 0) e ∙ getD-append-add row (flat rows) (i * factWords) 0,
+        ap (λ (j : ℕ). take mostPlaces (drop j (row ++ flat rows))) f ∙ ap (take mostPlaces) (drop-append-add row (flat rows) (suc (i * factWords))),
+      )
+
+-- predicate and objects of row i
+flat-at : (rows : List (List ℕ)) → Whole rows → (i : ℕ) → i < length rows
+    → (predicateAt (flat rows) i ≡ getD (getD rows i []) 0 0) × (objectsAt (flat rows) i ≡ drop 1 (getD rows i []))
+unfolding predicateAt objectsAt
+flat-at [] w i h = absurd (omega arith)
+flat-at (row ∷ rows) w zero h = (front-word row (flat rows) (whole-first w), front-objects row (flat rows) (whole-first w))
+flat-at (row ∷ rows) w (suc i) h =
+    let n = flat-next rows i row (whole-first w) in
+    let r = flat-at rows (whole-rest w) i (omega arith) in
+    (n .0 ∙ r .0, n .1 ∙ r .1)
+
 says-flat : (ar : List ℕ) (p : ℕ) (os : List ℕ) (rows : List (List ℕ)) → Whole rows → (i : ℕ) → i < length rows
     → saysFact ar (flat rows) p os i ≡ rowSays ar p os (getD rows i [])
-unfolding saysFact predicateAt objectsAt rowSays
-says-flat ar p os [] w i h = absurd (omega arith)
-says-flat ar p os (row ∷ rows) w zero h =
-    rw (front-word row (flat rows) (whole-first w), front-objects row (flat rows) (whole-first w)) refl
-says-flat ar p os (row ∷ rows) w (suc i) h =
-    let k = whole-first w in
-    let e : suc i * factWords ≡ length row + i * factWords = omega arith in
-    let f : suc (suc i * factWords) ≡ length row + suc (i * factWords) = omega arith in
-    rw (f, e, getD-append-add row (flat rows) (i * factWords) 0, drop-append-add row (flat rows) (suc (i * factWords)))
-    (says-flat ar p os rows (whole-rest w) i (omega arith))
+unfolding saysFact rowSays
+says-flat ar p os rows w i h =
+    let r = flat-at rows w i h in
+    ap₂ (λ (q : ℕ) (us : List ℕ). eqb q p && equalLists (take (getD ar p 0) us) os) (r .0) (r .1)
 
 get-in : (rows : List (List ℕ)) (i : ℕ) → i < length rows → List·Memᴰ (getD rows i []) rows
 get-in [] i h = absurd (omega arith)
@@ -107,8 +122,26 @@ front [] ys j h = refl
 front (x ∷ xs) ys zero h = absurd (omega arith)
 front (x ∷ xs) ys (suc j) h = ap (x ∷_) (front xs ys j (omega arith))
 
-row-length : (p : ℕ) (os : List ℕ) → length (factRow p os) ≡ factWords
+pub row-length : (p : ℕ) (os : List ℕ) → length (factRow p os) ≡ factWords
 row-length p os = ap suc (length-take-le mostPlaces (os ++ replicate mostPlaces 0) (omega (arith, length-append os (replicate mostPlaces 0))))
+
+tuple-below : {n c : ℕ} {os : List ℕ} → Tuple n c os → allBelow n os ≡ true
+tuple-below none = refl
+tuple-below {n} (more {o} h t) = rw (lt-ltb o n h) (tuple-below t)
+
+rows-whole : (ar : List ℕ) (s : State) → Whole (factRows ar s)
+unfolding factRows rowsAt
+rows-whole ar s = record {
+  each = λ row m.
+      let q = in-gather (λ p. rowsAt ar s (suc p)) (upTo (pred predicateCount)) row m in
+      let u = mem-unmap (factRow (suc (q .0))) (those (s .fact (suc (q .0))) (tuples (s .size) (getD ar (suc (q .0)) 0))) row (q .2) in
+      ap length (u .2) ∙ row-length (suc (q .0)) (u .0);
+}
+
+-- they are whole rows
+pub facts-whole : (ar : List ℕ) (s : State) → factCount (factsOf ar s) * factWords ≡ length (factsOf ar s)
+unfolding factsOf
+facts-whole ar s = let h = flat-length (factRows ar s) (rows-whole ar s) in omega arith
 
 module _ (ar : List ℕ) (good : areArities ar ≡ true) where
   row-objects : (n q : ℕ) (os : List ℕ) → Tuple n (getD ar q 0) os → take (getD ar q 0) (take mostPlaces (os ++ replicate mostPlaces 0)) ≡ os
@@ -128,15 +161,6 @@ module _ (ar : List ℕ) (good : areArities ar ≡ true) where
       let k = lists-equal _ os′ (and-right (eqb q p) _ e) in
       (h, sym (row-objects n q os t) ∙ ap (λ (c : ℕ). take (getD ar c 0) (take mostPlaces (os ++ replicate mostPlaces 0))) h ∙ k)
 
-  rows-whole : (s : State) → Whole (factRows ar s)
-  unfolding factRows rowsAt
-  rows-whole s = record {
-    each = λ row m.
-        let q = in-gather (λ p. rowsAt ar s (suc p)) (upTo (pred predicateCount)) row m in
-        let u = mem-unmap (factRow (suc (q .0))) (those (s .fact (suc (q .0))) (tuples (s .size) (getD ar (suc (q .0)) 0))) row (q .2) in
-        ap length (u .2) ∙ row-length (suc (q .0)) (u .0);
-  }
-
   -- the rows say what is true, of every declared predicate and all tuples of objects
   pub facts-said : (s : State) (p : ℕ) (os : List ℕ) → 0 < p → p < predicateCount → Tuple (s .size) (getD ar p 0) os → saidBy ar (factsOf ar s) p os ≡ s .fact p os
   unfolding factsOf factRows rowsAt
@@ -145,7 +169,7 @@ module _ (ar : List ℕ) (good : areArities ar ≡ true) where
     where
       there : saidBy ar (flat (factRows ar s)) (suc p) os ≡ true → s .fact (suc p) os ≡ true
       there e =
-          let r = in-said ar (suc p) os (factRows ar s) (rows-whole s) e in
+          let r = in-said ar (suc p) os (factRows ar s) (rows-whole ar s) e in
           let q = in-gather (λ i. rowsAt ar s (suc i)) (upTo (pred predicateCount)) (r .0) (r .1) in
           let l = those (s .fact (suc (q .0))) (tuples (s .size) (getD ar (suc (q .0)) 0)) in
           let u = mem-unmap (factRow (suc (q .0))) (those (s .fact (suc (q .0))) (tuples (s .size) (getD ar (suc (q .0)) 0))) (r .0) (q .2) in
@@ -155,7 +179,7 @@ module _ (ar : List ℕ) (good : areArities ar ≡ true) where
           subst (λ (c : ℕ). s .fact c os ≡ true) (z .0) (subst (λ (x : List ℕ). s .fact (suc (q .0)) x ≡ true) (z .1) (i .1))
 
       back : s .fact (suc p) os ≡ true → saidBy ar (flat (factRows ar s)) (suc p) os ≡ true
-      back e = said-in ar (suc p) os (factRows ar s) (rows-whole s) (factRow (suc p) os)
+      back e = said-in ar (suc p) os (factRows ar s) (rows-whole ar s) (factRow (suc p) os)
           (gather-in (λ i. rowsAt ar s (suc i)) (upTo (pred predicateCount)) p (factRow (suc p) os) (upTo-in (pred predicateCount) p (omega arith))
           (mem-map (factRow (suc p)) (those (s .fact (suc p)) (tuples (s .size) (getD ar (suc p) 0))) os
           (those-in (s .fact (suc p)) (tuples (s .size) (getD ar (suc p) 0)) os (tuples-in (s .size) t) e)))
@@ -185,4 +209,33 @@ module _ (ar : List ℕ) (good : areArities ar ≡ true) where
 
   pub facts-count : (s : State) → factCount (factsOf ar s) ≡ length (factRows ar s)
   unfolding factsOf
-  facts-count s = flat-count (factRows ar s) (rows-whole s)
+  facts-count s = flat-count (factRows ar s) (rows-whole ar s)
+
+  -- ===== Lent again =====
+
+  row-below : (s : State) (row : List ℕ) → List·Memᴰ row (factRows ar s) → allBelow (s .size) (take (getD ar (getD row 0 0) 0) (drop 1 row)) ≡ true
+  unfolding factRows rowsAt
+  row-below s row m =
+      let q = in-gather (λ p. rowsAt ar s (suc p)) (upTo (pred predicateCount)) row m in
+      let p = suc (q .0) in
+      let l = tuples (s .size) (getD ar p 0) in
+      let u = mem-unmap (factRow p) (those (s .fact p) l) row (q .2) in
+      let t = in-tuples (s .size) (getD ar p 0) (u .0) (in-those (s .fact p) l (u .0) (u .1) .0) in
+      subst (λ (r : List ℕ). allBelow (s .size) (take (getD ar (getD r 0 0) 0) (drop 1 r)) ≡ true) (sym (u .2))
+      (ap (allBelow (s .size)) (row-objects (s .size) p (u .0) t) ∙ tuple-below t)
+
+  names-flat : (s : State) (i : ℕ) → i < length (factRows ar s) → namesBelow ar (s .size) (flat (factRows ar s)) i ≡ true
+  unfolding namesBelow
+  names-flat s i h =
+      let r = flat-at (factRows ar s) (rows-whole ar s) i h in
+      ap₂ (λ (q : ℕ) (us : List ℕ). allBelow (s .size) (take (getD ar q 0) us)) (r .0) (r .1) ∙ row-below s (getD (factRows ar s) i []) (get-in (factRows ar s) i h)
+
+  -- a state that is lent with them in place of its own facts
+  pub facts-lent : (n : ℕ) (constants facts : List ℕ) → isState ar n constants facts ≡ true → (s : State) → s .size ≡ n → isState ar n constants (factsOf ar s) ≡ true
+  unfolding isState factsOf
+  facts-lent n constants facts e s q =
+      let c = flat-count (factRows ar s) (rows-whole ar s) in
+      let z : everyBelow (factCount (flat (factRows ar s))) (namesBelow ar n (flat (factRows ar s))) ≡ true =
+      every-below (factCount (flat (factRows ar s))) (namesBelow ar n (flat (factRows ar s))) (λ i l.
+      subst (λ (x : ℕ). namesBelow ar x (flat (factRows ar s)) i ≡ true) q (names-flat s i (omega arith))) in
+      rw (and-left (leb 1 n) _ e, and-left (constantsBelow n constants) _ (and-right (leb 1 n) _ e), z)

@@ -1,10 +1,9 @@
 -- Replay of logged lines (document 02, L10). The line and its code are in session and desk_lines.
 --
 -- Definitions: one line
---   mostFacts == 1,024 facts
 --   Did, actionOf, variantOf == (did action variant object ..), its names found; the action and the variant that it names
 --   Replay, inHand, begun == the state as it is lent, count and total; the state in hand; count 0 and total 0
---   factRow, rowsAt, factRows, flat, factsOf == the facts of a state as rows, predicate by predicate, lowest objects first
+--   rowsAt, factRows, flat, factsOf == the facts of a state as rows, predicate by predicate, lowest objects first
 --   stateNext, movedBy == the state that the variant's truth diagrams give; it, in hand
 --   rewardHere, isFirst, rewardMet == the reward in hand; no line was accepted yet; reward before and after on the first line, later the reward after
 --   rewardEnds, counted == 15 of the reward, here; the state moved, one more, the rewards met
@@ -25,6 +24,7 @@
 --   verdict: each refusal exactly under its condition, in the order 21, 22, 15, 23
 --   facts-said: the facts of a state, listed as rows and lent again, are its facts
 --   facts-once, facts-count: none is listed twice, and they are as many as the rows that 22 counts
+--   facts-whole, facts-lent: they are whole rows, and can be lent in place of the facts of a state of as many objects
 --   reward-alike, next-alike: states that are alike have one reward, and their next states are alike
 
 -- definitions

@@ -1,27 +1,23 @@
 -- Replay of logged lines (document 02, L10): "moves the state in hand by that variant's truth diagrams", "totals the rewards met, unscaled".
 use mathlib.Core.Bool.{Bool, _&&_, _||_, cond}
-use mathlib.Core.List.{List, [], _∷_, _++_, map}
+use mathlib.Core.List.{List, [], _∷_, map}
 use mathlib.Core.Option.{none}
 use Prim.Native.Nat.{ℕ, suc, pred, _+_}
-use lib.ListN.{getD, take, replicate}
+use lib.ListN.{getD}
 use lib.Dec.{eqb, ltb}
 use Rattle.refusal.specs.declared.Refusal.the-variants.{Weightless, Crowded, Valuations, Tally}
 use Rattle.refusal.specs.Outcome.{Outcome, ok, refused}
-use Rattle.label.specs.Limits.{predicateCount, mostPlaces}
+use Rattle.label.specs.Limits.{predicateCount}
 use Rattle.diagram.specs.Sizes.{highestValue}
 use Rattle.diagram.specs.Diagram.{leaf}
 use Rattle.diagram.specs.Words.{upTo}
 use Rattle.diagram.specs.Listing.{listing}
 use Rattle.state.specs.State.{State}
-use Rattle.state.specs.Lent.{factCount, stateOf}
+use Rattle.state.specs.Lent.{factRow, mostFacts, factCount, stateOf}
+use Rattle.state.specs.Max.{gather, those, tuples}
 use Rattle.elimination.specs.Answer.{isTooLarge}
-use Rattle.reduction.specs.Combinations.{gather, those, tuples}
 use Rattle.mdp.specs.Model.{Variant, Action, Model}
 use Rattle.mdp.specs.Bellman.{weightIn, stateAfter, rewardIn}
-
--- a state in hand has at most this many facts
-abbrev pub mostFacts : ℕ
-mostFacts = 1024
 
 -- ===== Lines and what is in hand =====
 
@@ -60,10 +56,6 @@ unfoldable pub begun : ℕ → List ℕ → List ℕ → Replay
 begun n constants facts = record { size = n; constants = constants; facts = facts; count = 0; total = 0 }
 
 -- ===== The facts of a state as rows =====
-
--- a row of facts: the predicate and its objects, 0 in unused places
-abbrev pub factRow : ℕ → List ℕ → List ℕ
-factRow p os = p ∷ take mostPlaces (os ++ replicate mostPlaces 0)
 
 -- what is true of the predicate p, lowest objects first
 unfoldable pub rowsAt : List ℕ → State → ℕ → List (List ℕ)

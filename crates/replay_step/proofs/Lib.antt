@@ -1,5 +1,4 @@
 -- Laws of the code.
 pub mod RewardLaws
-pub mod StateLaws
 pub mod StepLaws
 pub mod WeightLaws

@@ -19,14 +19,15 @@ use Rattle.diagram.specs.Listings.{is-listing-good}
 use Rattle.state.specs.declared.Valued.{Valued}
 use Rattle.state.specs.declared.Valued.the-variants.{Value, Refused as Unvalued}
 use Rattle.state.specs.State.{State, atomOf, meaning, holds, value}
-use Rattle.state.specs.Lent.{factWords, factCount, stateOf, isState}
+use Rattle.state.specs.Lent.{factWords, factCount, stateOf, isState, mostFacts}
 use Rattle.minimum.specs.NumberLaws.{number-is, number-attained}
 use Rattle.elimination.specs.Answer.{isTooLarge}
 use Rattle.elimination.specs.AnswerLaws.{lent-good}
 use Rattle.regression.specs.Next.{next}
 use Rattle.mdp.specs.BackupLaws.{bound-none}
 use Rattle.mdp.specs.Bellman.{stateAfter}
-use Rattle.replay.specs.Replay.{mostFacts, factsOf}
+use Rattle.replay.specs.Replay.{factsOf}
+use Rattle.replay.specs.FactLaws.{facts-lent}
 use Rattle.valuing.specs.Walks.{boundNumber, boundAnswer}
 use Rattle.next_facts.specs.declared.Facts.{Facts}
 use Rattle.next_facts.specs.declared.Facts.the-variants.{Rows, Many}
@@ -34,7 +35,6 @@ use Rattle.next_facts.specs.NextCall.{afterAt, Moving, factsAnswer, NextFacts}
 use Rattle.replay_step.specs.declared.Stepped.{Stepped}
 use Rattle.replay_step.specs.declared.Stepped.the-variants.{Done, Refused}
 use Rattle.replay_step.specs.Inside.{Rewarding, rewardBefore, addedTo, bothAdded, rewardsMet, Low, talliedAs, toldAs, movedAs, Moves}
-use Rattle.replay_step.proofs.StateLaws.{facts-lent}
 
 -- ===== A listing's values are no higher than a leaf may be =====
 

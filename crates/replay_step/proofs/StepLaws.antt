@@ -15,7 +15,7 @@ use Rattle.diagram.specs.Listing.{listing, diagramOf}
 use Rattle.diagram.specs.Listings.{is-listing-diagram}
 use Rattle.state.specs.declared.Valued.the-variants.{Value, Refused as Unvalued}
 use Rattle.state.specs.State.{State, Good, meaning}
-use Rattle.state.specs.Lent.{factCount, stateOf}
+use Rattle.state.specs.Lent.{factCount, stateOf, mostFacts}
 use Rattle.elimination.specs.Answer.{isTooLarge}
 use Rattle.elimination.specs.AnswerLaws.{lent-good}
 use Rattle.names.specs.Many.{many}
@@ -24,7 +24,7 @@ use Rattle.mdp.specs.Model.{Variant, Action, Model, Every, GoodVariant, GoodAct
 use Rattle.mdp.specs.Bellman.{weightIn, stateAfter, rewardIn}
 use Rattle.model.specs.declared.Head.{Head}
 use Rattle.model.specs.Layout.{variantWords, variantPlace, weightWords, variantAt, variantsOf, actionAt, rewardWords, modelOf, LaidVariant}
-use Rattle.replay.specs.Replay.{mostFacts, Did, Replay, noVariant, noAction, variantOf, inHand, factsOf, stateNext, movedBy, rewardHere, rewardMet, rewardEnds, counted}
+use Rattle.replay.specs.Replay.{Did, Replay, noVariant, noAction, variantOf, inHand, factsOf, stateNext, movedBy, rewardHere, rewardMet, rewardEnds, counted}
 use Rattle.replay.specs.Replay.{hasNoWeight, hasManyFacts, hasValuations, isTooHigh, did}
 use Rattle.minimum.specs.Number.{number}
 use Rattle.valuing.specs.Walks.{boundNumber, boundAnswer}

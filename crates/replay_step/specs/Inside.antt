@@ -8,11 +8,10 @@ use lib.Dec.{eqb, ltb}
 use Rattle.refusal.specs.declared.Refusal.the-variants.{Crowded, Tally}
 use Rattle.diagram.specs.Sizes.{highestValue}
 use Rattle.diagram.specs.Words.{isListing}
-use Rattle.state.specs.Lent.{factWords, factCount, isState, allBelow}
+use Rattle.state.specs.Lent.{factWords, factCount, isState, allBelow, mostFacts}
 use Rattle.state.specs.declared.Valued.{Valued}
 use Rattle.state.specs.declared.Valued.the-variants.{Value, Refused as Unvalued}
 use Rattle.model.specs.Layout.{variantWords, weightWords}
-use Rattle.replay.specs.Replay.{mostFacts}
 use Rattle.valuing.specs.Walks.{boundAnswer, isFew}
 use Rattle.replay_step.specs.declared.Stepped.{Stepped}
 use Rattle.replay_step.specs.declared.Stepped.the-variants.{Done, Refused}

@@ -6,10 +6,10 @@ use Prim.Native.Nat.{ℕ, _*_, _≤_, _<_}
 use lib.ListN.{length, take}
 use Rattle.refusal.specs.Outcome.{Outcome, ok, refused}
 use Rattle.diagram.specs.Sizes.{highestValue}
-use Rattle.state.specs.Lent.{factWords, isState, allBelow}
+use Rattle.state.specs.Lent.{factWords, isState, allBelow, mostFacts}
 use Rattle.model.specs.declared.Head.{Head}
 use Rattle.model.specs.Layout.{variantsOf, modelOf, Laid}
-use Rattle.replay.specs.Replay.{mostFacts, Did, Replay, did}
+use Rattle.replay.specs.Replay.{Did, Replay, did}
 use Rattle.replay_step.specs.declared.Stepped.{Stepped}
 use Rattle.replay_step.specs.declared.Stepped.the-variants.{Done, Refused}
 

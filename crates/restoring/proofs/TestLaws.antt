@@ -15,14 +15,12 @@ use Rattle.diagram.specs.Sizes.{resultWords, highestValue}
 use Rattle.diagram.specs.Words.{everyBelow}
 use Rattle.diagram.specs.Listings.{is-listing-good}
 use Rattle.listing.specs.Check.{Decides}
-use Rattle.state.specs.Lent.{factWords, isState}
+use Rattle.state.specs.Lent.{factWords, isState, mostFacts, mostObjects}
 use Rattle.mdp.specs.Model.{mostTotal, mostDenominator, mostActions}
 use Rattle.mdp.specs.Backup.{mostSteps}
 use Rattle.names.specs.Layout.{nameWords}
 use Rattle.session.specs.declared.Part.{Part}
 use Rattle.session.specs.declared.Part.the-variants.{Model, Run}
-use Rattle.replay.specs.Replay.{mostFacts}
-use Rattle.session.specs.Facts.{mostObjects}
 use Rattle.session.specs.Good.{mostVariantNames}
 use Rattle.declare.specs.declared.Counts.{Counts}
 use Rattle.facts.specs.declared.Live.{Live}

@@ -13,7 +13,7 @@ use Rattle.label.specs.Limits.{constantCount, predicateCount, parameterCount}
 use Rattle.label.specs.Labels.{areArities}
 use Rattle.diagram.specs.Sizes.{resultWords, highestValue}
 use Rattle.listing.specs.Check.{Decides}
-use Rattle.state.specs.Lent.{factWords, isState}
+use Rattle.state.specs.Lent.{factWords, isState, mostFacts, mostObjects}
 use Rattle.names.specs.Many.{many}
 use Rattle.names.specs.ManyLaws.{length-many}
 use Rattle.mdp.specs.Model.{Action, Every, mostTotal, mostDenominator, mostActions, mostVariants}
@@ -21,8 +21,6 @@ use Rattle.mdp.specs.Backup.{mostSteps}
 use Rattle.names.specs.Layout.{nameWords}
 use Rattle.session.specs.declared.Part.{Part}
 use Rattle.session.specs.declared.Part.the-variants.{Model, Run}
-use Rattle.replay.specs.Replay.{mostFacts}
-use Rattle.session.specs.Facts.{mostObjects}
 use Rattle.session.specs.Good.{mostVariantNames, LastAction, variantCount, GoodLog}
 use Rattle.declare.specs.declared.Counts.{Counts}
 use Rattle.facts.specs.declared.Live.{Live}

@@ -8,14 +8,12 @@ use Rattle.label.specs.Limits.{constantCount, predicateCount, parameterCount}
 use Rattle.label.specs.Labels.{areArities}
 use Rattle.diagram.specs.Sizes.{resultWords, highestValue}
 use Rattle.diagram.specs.Words.{everyBelow}
-use Rattle.state.specs.Lent.{factWords, isState}
+use Rattle.state.specs.Lent.{factWords, isState, mostFacts, mostObjects}
 use Rattle.mdp.specs.Model.{mostTotal, mostDenominator, mostActions, mostVariants}
 use Rattle.mdp.specs.Backup.{mostSteps}
 use Rattle.names.specs.Layout.{nameWords}
 use Rattle.session.specs.declared.Part.{Part}
 use Rattle.session.specs.declared.Part.the-variants.{Model, Run}
-use Rattle.replay.specs.Replay.{mostFacts}
-use Rattle.session.specs.Facts.{mostObjects}
 use Rattle.session.specs.Good.{mostVariantNames}
 use Rattle.modelling.specs.Building.{variantsBefore}
 use Rattle.declare.specs.declared.Counts.{Counts}

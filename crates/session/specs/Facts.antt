@@ -10,13 +10,8 @@ use Rattle.words.specs.declared.Key.{Key}
 use Rattle.names.specs.Keys.{placeOf, isAmong}
 use Rattle.refusal.specs.Outcome.{Outcome, ok}
 use Rattle.diagram.specs.Words.{everyBelow}
-use Rattle.state.specs.Lent.{factWords, factCount, someBelow, allBelow}
-use Rattle.replay.specs.Replay.{mostFacts, factRow}
+use Rattle.state.specs.Lent.{factWords, factRow, mostObjects, mostFacts, factCount, someBelow, allBelow}
 use Rattle.session.specs.Session.{Names, Live, refuseIf}
-
--- state texts have at most 64 objects, and 1,024 facts (replay, `mostFacts`)
-abbrev pub mostObjects : ℕ
-mostObjects = 64
 
 -- (objects n) clears the state: no constant is placed, no fact is true
 unfoldable pub cleared : ℕ → Live

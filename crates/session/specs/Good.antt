@@ -12,12 +12,11 @@ use Rattle.diagram.specs.Listing.{Good}
 use Rattle.diagram.specs.Variables.{closed}
 use Rattle.state.specs.State.{meaning}
 use Rattle.state.specs.Max.{sumOf}
-use Rattle.state.specs.Lent.{isState}
+use Rattle.state.specs.Lent.{isState, mostObjects}
 use Rattle.regression.specs.Parameters.{Within}
 use Rattle.mdp.specs.Model.{Action, Model, Every, GoodAction, GoodModel, mostTotal, mostDenominator, mostActions, mostVariants}
 use Rattle.session.specs.declared.Part.the-variants.{Model as ModelPart, Run}
 use Rattle.session.specs.Session.{Names, Singles, Live, Session}
-use Rattle.session.specs.Facts.{mostObjects}
 use Rattle.session.specs.Modelling.{mostModelRows}
 
 -- names of variants, of all actions together

@@ -28,7 +28,7 @@
 --   pickOption == the first if true, else the second
 --
 -- Definitions: lines of the run
---   mostObjects, cleared, objectsLine == (objects n)
+--   cleared, objectsLine == (objects n)
 --   placed, isLine == (is c o): a constant's object. In Replies placed is what follows once a line's place is judged
 --   withFact, begunAgain, sameWord, rowIs, isFact, factLine, predicateOf, trueLine == (true p o ..)
 --   stateIn, valueRead == (value): the state in hand, and the value diagram's number in it, or 15

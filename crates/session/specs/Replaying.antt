@@ -39,13 +39,18 @@ replayIn l = record { size = l .objects; constants = l .constants; facts = l .fa
 unfoldable pub replayed : Live → Replay → Live
 replayed l r = record { objects = l .objects; placed = l .placed; constants = l .constants; facts = r .facts; count = r .count; total = r .total }
 
+-- what replay says of the line in the state in hand: 21, 22, 15 and 23, or that state moved
+unfoldable pub didTo : Model → Live → Did → Outcome Live
+unfolding replayIn replayed did
+didTo m l d = andThen (did m (replayIn l) d) (λ r. ok (replayed l r))
+
 -- at the action's word 2, then 3 ('a count of objects other than the action's parameters is 3, found at the action's word'); 2 at the variant; 4 at an object; then 21,
 -- 22, 15 and 23
 unfoldable pub didLine : Model → Names → Live → Key → Key → List ℕ → Outcome Live
-unfolding isAmong placeOf variantNames didOf replayIn replayed did
+unfolding isAmong placeOf variantNames didOf didTo
 didLine m n l a v os =
     refuseIf (not (isAmong a (n .actions))) Name
     (refuseIf (not (eqb (length os) (actionOf m (didOf m n a v os) .count))) Arity
     (refuseIf (not (isAmong v (variantNames n (m .actions) (placeOf a (n .actions))))) Name
     (refuseIf (not (allBelow (l .objects) os)) Range
-    (andThen (did m (replayIn l) (didOf m n a v os)) (λ r. ok (replayed l r))))))
+    (didTo m l (didOf m n a v os)))))

@@ -11,7 +11,7 @@ use Rattle.diagram.specs.Diagram.{Diagram}
 use Rattle.diagram.specs.Rows.{rows}
 use Rattle.diagram.specs.Listing.{listing}
 use Rattle.state.specs.State.{State, meaning}
-use Rattle.state.specs.Lent.{stateOf, constantsBelow}
+use Rattle.state.specs.Lent.{stateOf, constantsBelow, mostObjects}
 use Rattle.minimum.specs.Number.{number}
 use Rattle.elimination.specs.Answer.{isTooLarge}
 use Rattle.refusal.specs.Outcome.{Outcome, ok, andThen}
@@ -32,7 +32,6 @@ use Rattle.answers.specs.declared.Answer.the-variants as A
 use Rattle.session.specs.declared.Part.{Part}
 use Rattle.session.specs.declared.Part.the-variants.{Run}
 use Rattle.session.specs.Session.{Names, Live, Session, refuseIf}
-use Rattle.session.specs.Facts.{mostObjects}
 use Rattle.session.specs.Modelling.{weighed}
 
 -- the session with another value diagram and another k, in a part of the text

@@ -18,7 +18,7 @@ use Rattle.diagram.specs.Diagram.{Diagram, leaf, branch}
 use Rattle.diagram.specs.Words.{isListing}
 use Rattle.diagram.specs.Listing.{Good, Fine, listing, diagramOf}
 use Rattle.diagram.specs.Listings.{good-is-listing, is-listing-good}
-use Rattle.state.specs.Lent.{constantsBelow}
+use Rattle.state.specs.Lent.{constantsBelow, mostObjects}
 use Rattle.mdp.specs.Model.{Model}
 use Rattle.spread.specs.Ground.{mostGround, groundCount, choiceState}
 use Rattle.spread.specs.Spread.{Entry, entryWords, values, countOf, entries, valueIn, entriesOf, someTooLarge, spread}
@@ -28,7 +28,6 @@ use Rattle.spread.specs.LentChoiceLaws.{choice-good, lines-few}
 use Rattle.answers.specs.Answers.{field, lineEnd, countHead, countLineAt, countLines}
 use Rattle.answers.specs.Writing.{IsWord}
 use Rattle.session.specs.Session.{Names, Live}
-use Rattle.session.specs.Facts.{mostObjects}
 use Rattle.session.specs.Running.{entriesIn, countRead}
 use Rattle.session_laws.specs.LineAnswers.{entryLines}
 

@@ -4,8 +4,8 @@ use mathlib.Core.Bool.{true, not}
 use mathlib.Core.List.{List, [], _∷_, _++_}
 use Prim.Native.Nat.{ℕ, zero, suc, _+_, _*_, _≤_, _<_}
 use native.Mathlib.Omega.{arith}
-use lib.ListN.{length, getD, take, drop, replicate, length-append, length-replicate, List·getD-append}
-use lib.Seq.{ext-getD, length-take-le, take-take, drop-drop, drop-at}
+use lib.ListN.{length, getD, take, drop, replicate, length-append, List·getD-append}
+use lib.Seq.{ext-getD, take-take, drop-drop, drop-at}
 use lib.Dec.{ltb, leb, eqb}
 use borrow.Author.Tests.{lt-ltb, not-false}
 use Rattle.basics.specs.Tests.{and-left, and-right, Cmp, below, equal, above, cmp, Flag, isTrue, isFalse, flag}
@@ -13,13 +13,13 @@ use Rattle.refusal.specs.declared.Refusal.the-variants.{Name, Arity, Range, Spa
 use Rattle.label.specs.Limits.{mostPlaces}
 use Rattle.words.specs.declared.Key.{Key}
 use Rattle.names.specs.Keys.{isAmong}
-use Rattle.state.specs.Lent.{factWords, factCount, predicateAt, objectsAt, allBelow, namesBelow, isState}
+use Rattle.state.specs.Lent.{factWords, factCount, predicateAt, objectsAt, allBelow, namesBelow, isState, mostFacts, factRow}
 use Rattle.state.specs.LentLaws.{objects-length, object-at}
+use Rattle.replay.specs.FactLaws.{row-length}
 use Rattle.refusal.specs.Outcome.{ok, Accepted}
 use Rattle.refusal.specs.OutcomeLaws.{accepted-ok, accepted-cond}
 use Rattle.session.specs.declared.Part.the-variants.{Run}
 use Rattle.session.specs.Session.{Live, Session}
-use Rattle.replay.specs.Replay.{mostFacts, factRow}
 use Rattle.session.specs.Facts.{withFact, begunAgain, isFact, factLine, predicateOf, trueLine}
 use Rattle.session.specs.Replies.{withLive}
 use Rattle.session.specs.Good.{GoodSession}
@@ -40,18 +40,13 @@ padded-below n zero [] h e = refl
 padded-below n (suc m) [] h e = rw (lt-ltb 0 n h, padded-below n m [] h e)
 padded-below n m (o ∷ os) h e = rw (and-left (ltb o n) _ e, padded-below n m os h (and-right (ltb o n) _ e))
 
-row-length : (p : ℕ) (os : List ℕ) → length (factRow p os) ≡ factWords
-row-length p os =
-    ap suc (length-take-le mostPlaces (os ++ replicate mostPlaces 0)
-    (omega (arith, length-append os (replicate mostPlaces 0), length-replicate {A = ℕ} mostPlaces 0)))
-
 -- ===== One row more =====
 
 module _ (facts : List ℕ) (whole : WholeRows facts) (p : ℕ) (os : List ℕ) where
   row-count : factCount (facts ++ factRow p os) ≡ suc (factCount facts)
   row-count = omega (arith, length-append facts (factRow p os), row-length p os, whole)
 
-  pub row-whole : WholeRows (facts ++ factRow p os)
+  row-whole : WholeRows (facts ++ factRow p os)
   row-whole = omega (arith, length-append facts (factRow p os), row-length p os, whole)
 
   old-predicate : (i : ℕ) → i < factCount facts → predicateAt (facts ++ factRow p os) i ≡ predicateAt facts i
@@ -82,7 +77,7 @@ module _ (facts : List ℕ) (whole : WholeRows facts) (p : ℕ) (os : List ℕ) 
       take-below n (getD ar (predicateAt (facts ++ factRow p os) (factCount facts)) 0) (objectsAt (facts ++ factRow p os) (factCount facts))
       (ap (allBelow n) new-objects ∙ take-below n mostPlaces (os ++ replicate mostPlaces 0) (padded-below n mostPlaces os h e))
 
-  pub row-state : (ar : List ℕ) (n : ℕ) (constants : List ℕ) → allBelow n os ≡ true → isState ar n constants facts ≡ true
+  row-state : (ar : List ℕ) (n : ℕ) (constants : List ℕ) → allBelow n os ≡ true → isState ar n constants facts ≡ true
       → isState ar n constants (facts ++ factRow p os) ≡ true
   row-state ar n constants b e = state-made ar n constants (facts ++ factRow p os) (record {
     some = d .some;

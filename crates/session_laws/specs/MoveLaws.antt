@@ -11,8 +11,7 @@ use Rattle.refusal.specs.OutcomeLaws.{accepted-ok, accepted-next}
 use Rattle.label.specs.Limits.{parameterCount}
 use Rattle.diagram.specs.Diagram.{Diagram, leaf}
 use Rattle.state.specs.State.{State}
-use Rattle.state.specs.Max.{Tuple, none, more}
-use Rattle.reduction.specs.Combinations.{tuples}
+use Rattle.state.specs.Max.{Tuple, none, more, tuples}
 use Rattle.reduction.specs.CombinationLaws.{in-tuples}
 use Rattle.mdp.specs.Model.{Action, Model, Every, GoodAction}
 use Rattle.mdp.specs.Backup.{variantsSum}

@@ -1,87 +1,33 @@
 -- (did ..) keeps a session good: the facts of the next state are whole rows and name objects only, count and total are at most 10^18 (document 02, L10).
 use mathlib.Core.Path.{_≡_, refl, sym, ap, subst}
 use mathlib.Core.Bool.{true, false, not}
-use mathlib.Core.List.{List, [], _∷_, _++_, append-nil, append-assoc, List·Memᴰ, List·Memᴰ·head, List·Memᴰ·tail}
-use Prim.Native.Nat.{ℕ, suc, pred}
+use mathlib.Core.List.{List}
+use Prim.Native.Nat.{ℕ}
 use native.Mathlib.Omega.{arith}
-use lib.ListN.{length, getD}
+use lib.ListN.{length}
 use lib.Dec.{eqb, ltb}
-use borrow.Author.Tests.{eqb-true, ltb-false, lt-ltb, not-false}
+use borrow.Author.Tests.{eqb-true, ltb-false, not-false}
 use Rattle.refusal.specs.declared.Refusal.the-variants.{Name, Arity, Range, Weightless, Crowded, Valuations, Tally}
 use Rattle.refusal.specs.Outcome.{ok, Accepted}
 use Rattle.refusal.specs.OutcomeLaws.{accepted-ok, accepted-cond, accepted-then}
-use Rattle.label.specs.Limits.{predicateCount}
+use Rattle.label.specs.Labels.{areArities}
 use Rattle.diagram.specs.Sizes.{highestValue}
-use Rattle.diagram.specs.Words.{upTo}
 use Rattle.words.specs.declared.Key.{Key}
 use Rattle.names.specs.Keys.{placeOf, isAmong}
-use Rattle.state.specs.State.{State}
-use Rattle.state.specs.Max.{Tuple, none, more}
 use Rattle.state.specs.Lent.{allBelow, isState, stateOf}
-use Rattle.paths.specs.PathLaws.{mem-unmap}
-use Rattle.reduction.specs.Combinations.{those, tuples}
-use Rattle.reduction.specs.ListLaws.{in-gather, in-those}
-use Rattle.reduction.specs.CombinationLaws.{in-tuples}
 use Rattle.regression.specs.Next.{next}
 use Rattle.mdp.specs.Model.{Model}
 use Rattle.mdp.specs.Bellman.{stateAfter}
-use Rattle.replay.specs.Replay.{Did, Replay, actionOf, factRow, rowsAt, factRows, flat, factsOf, inHand, stateNext, movedBy, counted}
-use Rattle.replay.specs.Replay.{hasNoWeight, hasManyFacts, hasValuations, isTooHigh, did}
+use Rattle.replay.specs.Replay.{Did, Replay, actionOf, inHand, stateNext, movedBy, counted, hasNoWeight, hasManyFacts, hasValuations, isTooHigh, did}
+use Rattle.replay.specs.FactLaws.{facts-whole, facts-lent}
 use Rattle.session.specs.declared.Part.the-variants.{Run}
 use Rattle.session.specs.Session.{Names, Live, Session}
-use Rattle.session.specs.Replaying.{variantNames, didOf, replayIn, replayed, didLine}
+use Rattle.session.specs.Replaying.{variantNames, didOf, replayIn, replayed, didTo, didLine}
 use Rattle.session.specs.Replies.{withLive}
 use Rattle.session.specs.Good.{GoodLog, GoodSession}
 use Rattle.model_laws.specs.OutcomeLaws.{neither}
-use Rattle.session_laws.specs.StateLaws.{described, state-made, live-good}
-use Rattle.session_laws.specs.FactLaws.{WholeRows, row-whole, row-state}
-
--- ===== The facts of a state as rows =====
-
--- each row is that of a fact about objects below n
-record Named (n : ℕ) (rows : List (List ℕ)) : Type 0 where
-  each : (row : List ℕ) → List·Memᴰ row rows → (p : ℕ) × (os : List ℕ) × (row ≡ factRow p os) × (allBelow n os ≡ true)
-
--- what stays with a row more stays with rows behind one another
-rows-behind : (n : ℕ) (P : List ℕ → Type 0) → ((facts : List ℕ) (p : ℕ) (os : List ℕ) → allBelow n os ≡ true → P facts → P (facts ++ factRow p os))
-    → (rows : List (List ℕ)) → Named n rows → (facts : List ℕ) → P facts → P (facts ++ flat rows)
-rows-behind n P step [] w facts h = subst P (sym (append-nil facts)) h
-rows-behind n P step (row ∷ rows) w facts h =
-    let q = w .each row (List·Memᴰ·head refl) in
-    let one = subst (λ (x : List ℕ). P (facts ++ x)) (sym (q .2)) (step facts (q .0) (q .1) (q .3) h) in
-    subst P (append-assoc facts row (flat rows))
-    (rows-behind n P step rows (record { each = λ x m. w .each x (List·Memᴰ·tail m) }) (facts ++ row) one)
-
-tuple-all : {n c : ℕ} {os : List ℕ} → Tuple n c os → allBelow n os ≡ true
-tuple-all none = refl
-tuple-all {n} (more {o} h t) = rw (lt-ltb o n h, tuple-all t)
-
-facts-named : (ar : List ℕ) (s : State) → Named (s .size) (factRows ar s)
-unfolding factRows rowsAt
-facts-named ar s = record {
-  each = λ row m.
-      let q = in-gather (λ p. rowsAt ar s (suc p)) (upTo (pred predicateCount)) row m in
-      let p = suc (q .0) in
-      let l = tuples (s .size) (getD ar p 0) in
-      let u = mem-unmap (factRow p) (those (s .fact p) l) row (q .2) in
-      let i = in-those (s .fact p) l (u .0) (u .1) in
-      (p, u .0, u .2, tuple-all (in-tuples (s .size) (getD ar p 0) (u .0) (i .0)));
-}
-
--- they are whole rows
-facts-whole : (ar : List ℕ) (s : State) → WholeRows (factsOf ar s)
-unfolding factsOf
-facts-whole ar s = rows-behind (s .size) WholeRows (λ facts p os b w. row-whole facts w p os) (factRows ar s) (facts-named ar s) [] refl
-
--- and can be lent with the constants of another state of as many objects
-facts-state : (ar : List ℕ) (s : State) (constants facts : List ℕ) → isState ar (s .size) constants facts ≡ true → isState ar (s .size) constants (factsOf ar s) ≡ true
-unfolding factsOf
-facts-state ar s constants facts e =
-    let n = s .size in
-    let d = described ar n constants facts e in
-    let none-yet = state-made ar n constants [] (record { some = d .some; placing = d .placing; naming = λ i h. absurd (omega arith) }) in
-    rows-behind n (λ (x : List ℕ). WholeRows x × (isState ar n constants x ≡ true))
-    (λ x p os b h. (row-whole x (h .0) p os, row-state x (h .0) p os ar n constants b (h .1))) (factRows ar s) (facts-named ar s) [] (refl, none-yet) .1
+use Rattle.session_laws.specs.StateLaws.{live-good}
+use Rattle.session_laws.specs.FactLaws.{WholeRows}
 
 -- ===== The line =====
 
@@ -111,7 +57,7 @@ did-counts m r d =
     accepted-ok (e₁, e₂, e₃, e₄, refl)))))
 
 pub did-read : (m : Model) (n : Names) (l : Live) (a v : Key) (os : List ℕ) → Accepted (Replayed m n l a v os) (didLine m n l a v os)
-unfolding didLine
+unfolding didLine didTo
 did-read m n l a v os =
     let d = didOf m n a v os in
     let variants = variantNames n (m .actions) (placeOf a (n .actions)) in
@@ -150,9 +96,9 @@ module _ (m : Model) (l : Live) (d : Did) where
   unfolding replayed counted movedBy
   moved-whole = facts-whole (m .arities) (stateNext m (inHand (m .arities) (replayIn l)) d)
 
-  moved-state : isState (m .arities) (l .objects) (l .constants) (l .facts) ≡ true → isState (m .arities) (moved .objects) (moved .constants) (moved .facts) ≡ true
+  moved-state : areArities (m .arities) ≡ true → isState (m .arities) (l .objects) (l .constants) (l .facts) ≡ true → isState (m .arities) (moved .objects) (moved .constants) (moved .facts) ≡ true
   unfolding replayed counted movedBy inHand stateOf replayIn stateNext stateAfter next
-  moved-state e = facts-state (m .arities) (stateNext m (inHand (m .arities) (replayIn l)) d) (l .constants) (l .facts) e
+  moved-state a e = facts-lent (m .arities) a (l .objects) (l .constants) (l .facts) e (stateNext m (inHand (m .arities) (replayIn l)) d) refl
 
 pub did-log : (m : Model) (n : Names) (l : Live) (a v : Key) (os : List ℕ) (l′ : Live) → didLine m n l a v os ≡ ok l′ → GoodLog l′
 did-log m n l a v os l′ e =
@@ -172,4 +118,4 @@ did-good σ g p a v os l e =
     let d = didOf (σ .model) (σ .names) a v os in
     let r = did-read (σ .model) (σ .names) (σ .live) a v os .given l e in
     subst (λ (x : Live). GoodSession (withLive σ x)) (sym (r .is))
-    (live-good σ g p (moved (σ .model) (σ .live) d) (λ h. moved-state (σ .model) (σ .live) d (g .state h)) (g .most) (moved-log (σ .model) (σ .live) d (r .low)))
+    (live-good σ g p (moved (σ .model) (σ .live) d) (λ h. moved-state (σ .model) (σ .live) d (g .tables .arities) (g .state h)) (g .most) (moved-log (σ .model) (σ .live) d (r .low)))

@@ -13,12 +13,12 @@ use Rattle.label.specs.Limits.{constantCount}
 use Rattle.words.specs.declared.Key.{Key}
 use Rattle.names.specs.Keys.{placeOf, isAmong}
 use Rattle.diagram.specs.WordLaws.{every-below, below-every}
-use Rattle.state.specs.Lent.{factCount, namesBelow, constantsBelow, isState}
+use Rattle.state.specs.Lent.{factCount, namesBelow, constantsBelow, isState, mostObjects}
 use Rattle.refusal.specs.Outcome.{ok, Accepted}
 use Rattle.refusal.specs.OutcomeLaws.{accepted-ok, accepted-cond}
 use Rattle.session.specs.declared.Part.the-variants.{Run}
 use Rattle.session.specs.Session.{Names, Live, Session}
-use Rattle.session.specs.Facts.{mostObjects, cleared, objectsLine, placed, isLine}
+use Rattle.session.specs.Facts.{cleared, objectsLine, placed, isLine}
 use Rattle.session.specs.Replies.{withLive}
 use Rattle.session.specs.Good.{GoodLog, GoodSession}
 use Rattle.session_laws.specs.PlaceLaws.{model-run}

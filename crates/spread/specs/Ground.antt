@@ -2,12 +2,12 @@
 use mathlib.Core.Bool.{Bool, true, false, _&&_}
 use mathlib.Core.List.{List, [], _∷_, _++_, map}
 use Prim.Native.Nat.{ℕ, zero, suc, pred, _+_, _*_, _/_, _%_, _^_}
-use lib.ListN.{length, getD, take, replicate}
+use lib.ListN.{length, getD}
 use lib.Dec.{eqb, ltb}
-use Rattle.label.specs.Limits.{mostPlaces}
 use Rattle.diagram.specs.Words.{equalLists}
+use Rattle.state.specs.Max.{tuples}
 use Rattle.state.specs.State.{State}
-use Rattle.state.specs.Lent.{stateOf, allBelow}
+use Rattle.state.specs.Lent.{factRow, stateOf, allBelow}
 
 -- "24, more than 16 ground facts"
 abbrev pub mostGround : ℕ
@@ -24,12 +24,6 @@ sameGround (ground p os) (ground q us) = eqb p q && equalLists os us
 unfoldable pub joined : {A : Type 0} → ℕ → (ℕ → List A) → List A
 joined zero f = []
 joined (suc n) f = joined n f ++ f n
-
--- all tuples of c objects below n, lowest objects first, the first changing slowest
-unfoldable pub tuples : ℕ → ℕ → List (List ℕ)
-unfolding joined
-tuples n zero = [] ∷ []
-tuples n (suc c) = joined n (λ o. map (λ os. o ∷ os) (tuples n c))
 
 -- the ground facts of predicate p
 unfoldable pub factsOf : List ℕ → ℕ → ℕ → List Ground
@@ -68,9 +62,9 @@ chosen (b ∷ bs) [] = []
 chosen (true ∷ bs) (f ∷ fs) = f ∷ chosen bs fs
 chosen (false ∷ bs) (f ∷ fs) = chosen bs fs
 
--- a row of facts, as (true ..) makes it: the predicate and its objects, 0 in unused places
+-- its row, as (true ..) makes it
 abbrev pub rowOf : Ground → List ℕ
-rowOf (ground p os) = p ∷ take mostPlaces (os ++ replicate mostPlaces 0)
+rowOf (ground p os) = factRow p os
 
 unfoldable pub rowsOf : List Ground → List ℕ
 rowsOf [] = []

@@ -1,5 +1,5 @@
 -- Laws of ground facts: how many there are, which they are, and that none is repeated.
-use mathlib.Core.Path.{_≡_, refl, ap, sym, _∙_}
+use mathlib.Core.Path.{_≡_, refl, ap, sym, subst, _∙_}
 use mathlib.Core.Bool.{Bool, true, false, _&&_, _||_}
 use mathlib.Core.List.{List, [], _∷_, _++_, map}
 use Prim.Native.Nat.{ℕ, zero, suc, pred, _+_, _*_, _^_, _≤_, _<_}
@@ -10,12 +10,14 @@ use lib.Dec.{eqb, ltb, leb}
 use borrow.Author.Tests.{eqb-true, eqb-false, eq-eqb, ne-eqb, ltb-true, ltb-false, lt-ltb, le-ltb}
 use Rattle.basics.specs.Tests.{Flag, isTrue, isFalse, flag, and-left, and-right, Either, one, other, either, Cmp, cmp, below, equal, above}
 use Rattle.basics.specs.Members.{IsTest, mem, mem-append, NoDup, clash}
-use Rattle.diagram.specs.Words.{equalLists}
+use Rattle.diagram.specs.Words.{upTo, equalLists}
 use Rattle.diagram.specs.WordLaws.{lists-equal, equal-lists}
 use Rattle.diagram.specs.RowLaws.{same-tests}
 use Rattle.state.specs.Lent.{someBelow, allBelow}
 use Rattle.state.specs.LentLaws.{some-found, some-made, some-none}
-use Rattle.spread.specs.Ground.{Ground, ground, sameGround, joined, tuples, factsOf, groundFacts, groundCount, isGround}
+use Rattle.state.specs.Max.{gather, tuples}
+use Rattle.state.specs.MaxLaws.{gather-last}
+use Rattle.spread.specs.Ground.{Ground, ground, sameGround, joined, factsOf, groundFacts, groundCount, isGround}
 
 -- ===== Tests of equality =====
 pub list-test : IsTest equalLists
@@ -48,11 +50,23 @@ length-joined (suc n) k f h =
     let z : suc n * k ≡ n * k + k = omega arith in
     omega arith
 
+gather-joined : {A : Type 0} (n : ℕ) (f : ℕ → List A) → gather f (upTo n) ≡ joined n f
+unfolding joined
+gather-joined zero f = refl
+gather-joined (suc n) f = gather-last f (upTo n) n ∙ ap (_++ f n) (gather-joined n f)
+
+-- the tuples of c + 1 objects: those with first object 0, then those with 1, ..
+pub tuples-joined : (n c : ℕ) → tuples n (suc c) ≡ joined n (λ o. map (λ os. o ∷ os) (tuples n c))
+unfolding tuples
+tuples-joined n c = gather-joined n (λ o. map (λ os. o ∷ os) (tuples n c))
+
 pub length-tuples : (n c : ℕ) → length (tuples n c) ≡ n ^ c
 unfolding tuples
 length-tuples n zero = sym (pow-zero n)
 length-tuples n (suc c) =
-    length-joined n (n ^ c) (λ o. map (λ os. o ∷ os) (tuples n c)) (λ o. length-map (λ os. o ∷ os) (tuples n c) ∙ length-tuples n c) ∙ sym (pow-succ' n c)
+    ap length (tuples-joined n c)
+    ∙ length-joined n (n ^ c) (λ o. map (λ os. o ∷ os) (tuples n c)) (λ o. length-map (λ os. o ∷ os) (tuples n c) ∙ length-tuples n c)
+    ∙ sym (pow-succ' n c)
 
 -- the count is that of the facts
 pub length-ground : (ar : List ℕ) (count n : ℕ) → length (groundFacts ar count n) ≡ groundCount ar count n
@@ -117,10 +131,12 @@ pub mem-tuples : (n : ℕ) (os : List ℕ) (c : ℕ) → mem equalLists os (tupl
 unfolding tuples
 mem-tuples n [] zero = refl
 mem-tuples n [] (suc c) =
-    mem-joined equalLists [] n (λ o. map (λ os. o ∷ os) (tuples n c)) ∙ some-none n _ (λ i l. nil-heads i (tuples n c)) ∙ sym (rw (ne-eqb 0 (suc c) (omega arith)))
+    ap (mem equalLists []) (tuples-joined n c)
+    ∙ mem-joined equalLists [] n (λ o. map (λ os. o ∷ os) (tuples n c)) ∙ some-none n _ (λ i l. nil-heads i (tuples n c)) ∙ sym (rw (ne-eqb 0 (suc c) (omega arith)))
 mem-tuples n (o ∷ us) zero = sym (rw (ne-eqb (suc (length us)) 0 (omega arith)))
 mem-tuples n (o ∷ us) (suc c) =
-    mem-joined equalLists (o ∷ us) n (λ o. map (λ os. o ∷ os) (tuples n c))
+    ap (mem equalLists (o ∷ us)) (tuples-joined n c)
+    ∙ mem-joined equalLists (o ∷ us) n (λ o. map (λ os. o ∷ os) (tuples n c))
     ∙ some-agree n _ _ (λ i. mem-heads o i us (tuples n c))
     ∙ some-same-at n o (mem equalLists us (tuples n c))
     ∙ rw (mem-tuples n us c, eqb-suc (length us) c) (and-move (ltb o n) (eqb (length us) c) (allBelow n us))
@@ -201,8 +217,9 @@ head-key i (o ∷ us) ts e = eqb-true o i (and-left (eqb o i) _ (sym (mem-heads 
 tuples-nodup : (n c : ℕ) → NoDup equalLists (tuples n c)
 unfolding tuples
 tuples-nodup n zero = (refl, tt)
-tuples-nodup n (suc c) = nodup-joined equalLists (λ os. getD os 0 0) n (λ o. map (λ os. o ∷ os) (tuples n c)) list-test
-    (λ o. heads-nodup o (tuples n c) (tuples-nodup n c)) (λ o os e. head-key o os (tuples n c) e)
+tuples-nodup n (suc c) = subst (NoDup equalLists) (sym (tuples-joined n c))
+    (nodup-joined equalLists (λ os. getD os 0 0) n (λ o. map (λ os. o ∷ os) (tuples n c)) list-test
+    (λ o. heads-nodup o (tuples n c) (tuples-nodup n c)) (λ o os e. head-key o os (tuples n c) e))
 
 facts-nodup : (q : ℕ) (ts : List (List ℕ)) → NoDup equalLists ts → NoDup sameGround (map (ground q) ts)
 facts-nodup q [] d = tt

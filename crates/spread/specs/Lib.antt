@@ -3,7 +3,7 @@
 -- Definitions: states
 --   mostGround == at most 16 ground facts, above it 24
 --   Ground, sameGround == a predicate and its objects; whether two are equal
---   joined, tuples == lists one behind the other; all tuples of c objects, lowest first
+--   joined == lists one behind the other
 --   factsOf, groundFacts, groundCount == the ground facts of a predicate, of all declared ones; how many
 --   isGround == a declared predicate with as many objects as it has places, all below n
 --   bits, numberOf == choice c of g facts, lowest bit first; the number of a choice

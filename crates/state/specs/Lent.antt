@@ -1,8 +1,8 @@
 -- A state as it is lent: its size, the constants' objects, and its facts as rows of words (document 01, section 'States and value').
-use mathlib.Core.List.{List, [], _∷_}
+use mathlib.Core.List.{List, [], _∷_, _++_}
 use mathlib.Core.Bool.{Bool, true, false, _&&_, _||_}
 use Prim.Native.Nat.{ℕ, zero, suc, _+_, _*_, _/_}
-use lib.ListN.{length, getD, take, drop}
+use lib.ListN.{length, getD, take, drop, replicate}
 use lib.Dec.{eqb, ltb, leb}
 use Rattle.label.specs.Limits.{constantCount, mostPlaces}
 use Rattle.diagram.specs.Words.{equalLists, everyBelow}
@@ -11,6 +11,18 @@ use Rattle.state.specs.State.{State, low}
 -- words of a row of facts: its predicate, and an object for each place
 abbrev pub factWords : ℕ
 factWords = suc mostPlaces
+
+-- a row of facts: the predicate and its objects, 0 in unused places
+abbrev pub factRow : ℕ → List ℕ → List ℕ
+factRow p os = p ∷ take mostPlaces (os ++ replicate mostPlaces 0)
+
+-- "at most 64 objects"
+abbrev pub mostObjects : ℕ
+mostObjects = 64
+
+-- a state in hand has at most this many facts
+abbrev pub mostFacts : ℕ
+mostFacts = 1024
 
 -- words behind the last whole row name no fact
 abbrev pub factCount : List ℕ → ℕ

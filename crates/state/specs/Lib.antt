@@ -13,6 +13,8 @@
 -- Definitions: the highest leaf
 --   IsMax, Highest == x is the highest of f on P: attained, and nothing above; the highest leaf over all valuations
 --   maxTo, maxTuples == the highest over the numbers below n; over all tuples of c objects
+--   gather, those == lists one behind the other; the members that pass a test
+--   Tuple, tuples == c objects below n; all of them, lowest objects first, the first changing slowest
 --   maxOf, sumOf == the highest over a list; the sum
 --   insert, varsOf, varsIn, vars == the used variables, ascending
 --   put, start, maxVals == θ with another object for v; object 0 for each variable; the highest over all choices for a list of variables
@@ -21,6 +23,8 @@
 --
 -- Definitions: the call
 --   factWords, factCount, predicateAt, objectsAt == a fact is a row of words: its predicate, and an object for each place
+--   factRow == the row of a fact, 0 in unused places
+--   mostObjects, mostFacts == at most 64 objects, and 1,024 facts
 --   saysFact, someBelow, saidBy == row i says that p holds of objects; some row does
 --   stateOf == the state that lent words are
 --   allBelow, namesBelow, constantsBelow, isState == there is an object, and no object that the lent words name is n or beyond

@@ -1,7 +1,9 @@
--- The highest value of a function over a part of a type, and maxima that compute (document 01, sections 'States and value' and 'Backup').
+-- The highest value of a function over a part of a type, maxima that compute, and tuples of objects (document 01, sections 'States and value' and 'Backup').
 use mathlib.Core.Path.{_≡_}
-use mathlib.Core.List.{List, [], _∷_}
+use mathlib.Core.Bool.{Bool, cond}
+use mathlib.Core.List.{List, [], _∷_, _++_, map}
 use Prim.Native.Nat.{ℕ, zero, suc, _+_, _≤_, _<_, max}
+use Rattle.diagram.specs.Words.{upTo}
 
 -- x is the highest value of f on P: attained, and nothing above
 pub record IsMax {X : Type 0} (P : X → Type 0) (f : X → ℕ) (x : ℕ) : Type 0 where
@@ -23,6 +25,21 @@ maxTo (suc n) f = max (maxTo n f) (f n)
 pub data Tuple (n : ℕ) : ℕ → List ℕ → Type 0 where
   none : Tuple n 0 []
   more : {o c : ℕ} {os : List ℕ} → o < n → Tuple n c os → Tuple n (suc c) (o ∷ os)
+
+-- the lists that f gives the members, one behind the other
+abbrev pub gather : {A B : Type 0} → (A → List B) → List A → List B
+gather f [] = []
+gather f (a ∷ l) = f a ++ gather f l
+
+-- the members that pass the test
+abbrev pub those : {A : Type 0} → (A → Bool) → List A → List A
+those p [] = []
+those p (a ∷ l) = cond (p a) (a ∷ those p l) (those p l)
+
+-- all tuples of c objects below n, lowest objects first, the first changing slowest
+unfoldable pub tuples : ℕ → ℕ → List (List ℕ)
+tuples n zero = [] ∷ []
+tuples n (suc c) = gather (λ o. map (o ∷_) (tuples n c)) (upTo n)
 
 -- the highest over all tuples of c objects below n
 unfoldable pub maxTuples : ℕ → ℕ → (List ℕ → ℕ) → ℕ

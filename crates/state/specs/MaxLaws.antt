@@ -1,13 +1,13 @@
--- Laws of maxima.
-use mathlib.Core.Path.{_≡_, refl, sym, _∙_}
-use mathlib.Core.List.{List, [], _∷_}
+-- Laws of maxima, and of gathered lists.
+use mathlib.Core.Path.{_≡_, refl, sym, ap, _∙_}
+use mathlib.Core.List.{List, [], _∷_, _++_, append-assoc, append-nil}
 use mathlib.Core.Bool.{Bool, true, false}
 use Prim.Native.Nat.{ℕ, zero, suc, _≤_, _<_, max}
 use native.Mathlib.Omega.{arith}
 use native.Mathlib.Nat.{le-trans, le-refl, le-of-eq}
 use lib.Dec.{leb}
 use borrow.Author.Tests.{leb-true, leb-false}
-use Rattle.state.specs.Max.{IsMax, Below, maxTo, Tuple, none, more, maxTuples}
+use Rattle.state.specs.Max.{IsMax, Below, maxTo, Tuple, none, more, gather, maxTuples}
 
 module _ {X Y : Type 0} {P : X → Type 0} {f : X → ℕ} {Q : Y → Type 0} {g : Y → ℕ} where
   pub max-by : {x : ℕ} → IsMax P f x → Below P f Q g → Below Q g P f → IsMax Q g x
@@ -141,3 +141,8 @@ maxTuples-is n (suc c) f h = build (λ o. maxTuples-is n c (λ os. f (o ∷ os))
       where
         all : (os : List ℕ) → Tuple n (suc c) os → f os ≤ maxTo n g
         all os (more {o = o} {os = os′} l t) = le-trans (rec o .bound os′ t) (maxTo-is n g h .bound o l)
+
+-- one member more
+pub gather-last : {A B : Type 0} (f : A → List B) (l : List A) (a : A) → gather f (l ++ (a ∷ [])) ≡ gather f l ++ f a
+gather-last f [] a = append-nil (f a)
+gather-last f (b ∷ l) a = ap (f b ++_) (gather-last f l a) ∙ sym (append-assoc (f b) (gather f l) (f a))

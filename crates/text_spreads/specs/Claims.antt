@@ -14,6 +14,7 @@ use Rattle.diagram.specs.Listing.{listing}
 use Rattle.rename.specs.Ascending.{Ascending}
 use Rattle.state.specs.State.{State}
 use Rattle.state.specs.Max.{sumOf}
+use Rattle.state.specs.Lent.{mostObjects}
 use Rattle.mdp.specs.Model.{scale}
 use Rattle.mdp.specs.Bellman.{bellman}
 use Rattle.spread.specs.Ground.{mostGround, Ground, ground, isGround, groundCount, lentChoice, choiceState}
@@ -26,7 +27,6 @@ use Rattle.text.specs.Line.Line.{line}
 use Rattle.answers.specs.declared.Answer.the-variants as A
 use Rattle.session.specs.declared.Part.the-variants.{Model as ModelPart, Run}
 use Rattle.session.specs.Session.{Session}
-use Rattle.session.specs.Facts.{mostObjects}
 use Rattle.session.specs.Replies.{Reply, withLive, refusal, reply}
 use Rattle.session.specs.Texts.{replyBytes}
 use Rattle.session_laws.specs.LineAnswers.{entryLines}
@@ -115,7 +115,7 @@ pub data RefusesCount (σ : Session) (n : ℕ) : Refusal → Type 0 where
   unplaced : σ .part ≡ Run → (c : ℕ) → c < length (σ .names .constants) → (getD (σ .live .placed) c 0 ≡ 1 → ⊥) → RefusesCount σ n F.Place
   outside : σ .part ≡ Run → AllPlaced σ → (n < 1) ⊎ (mostObjects < n) → RefusesCount σ n F.Range
   beyond : σ .part ≡ Run → AllPlaced σ → 1 ≤ n → n ≤ mostObjects → (c : ℕ) → c < length (σ .names .constants) → n ≤ getD (σ .live .constants) c 0 → RefusesCount σ n F.Range
-  crowded : σ .part ≡ Run → AllPlaced σ → 1 ≤ n → n ≤ mostObjects → AllBelow σ n → mostGround < groundIn σ n → RefusesCount σ n F.Ground
+  manyGround : σ .part ≡ Run → AllPlaced σ → 1 ≤ n → n ≤ mostObjects → AllBelow σ n → mostGround < groundIn σ n → RefusesCount σ n F.Ground
   large : σ .part ≡ Run → AllPlaced σ → 1 ≤ n → n ≤ mostObjects → AllBelow σ n → groundIn σ n ≤ mostGround
       → (c : ℕ) → c < 2 ^ groundIn σ n → MeetsLarge σ n c → RefusesCount σ n F.Valuations
 

@@ -18,7 +18,7 @@ use Rattle.diagram.specs.ListingOfDiagram.{diagram-listing}
 use Rattle.diagram.specs.Words.{everyBelow}
 use Rattle.diagram.specs.WordLaws.{every-below, below-every}
 use Rattle.state.specs.State.{meaning}
-use Rattle.state.specs.Lent.{constantsBelow}
+use Rattle.state.specs.Lent.{constantsBelow, mostObjects}
 use Rattle.minimum.specs.Number.{number}
 use Rattle.elimination.specs.Answer.{isTooLarge}
 use Rattle.spread.specs.Ground.{choiceState}
@@ -34,7 +34,6 @@ use Rattle.session.specs.declared.Part.{Part}
 use Rattle.session.specs.declared.Part.the-variants.{Model as ModelPart, Run}
 use Rattle.session.specs.Place.{ruleOf}
 use Rattle.session.specs.Session.{Session, refuseIf}
-use Rattle.session.specs.Facts.{mostObjects}
 use Rattle.session.specs.Running.{stateIn, valueRead, countRead}
 use Rattle.session.specs.Replies.{Reply, eachPlaced, unless, allowed, refusal, valueSays, countSays, done, placed, replyTo, wordsOf, reply}
 use Rattle.session.specs.Good.{GoodSession}

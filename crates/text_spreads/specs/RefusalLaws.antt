@@ -14,7 +14,7 @@ use Rattle.refusal.specs.declared.Refusal.{Refusal}
 use Rattle.refusal.specs.declared.Refusal.the-variants as F
 use Rattle.refusal.specs.Outcome.{Outcome, ok, refused}
 use Rattle.diagram.specs.Listing.{listing}
-use Rattle.state.specs.Lent.{someBelow, constantsBelow}
+use Rattle.state.specs.Lent.{someBelow, constantsBelow, mostObjects}
 use Rattle.state.specs.LentLaws.{some-found, some-made, some-none}
 use Rattle.elimination.specs.Answer.{isTooLarge}
 use Rattle.spread.specs.Ground.{mostGround}
@@ -28,11 +28,10 @@ use Rattle.answers.specs.declared.Answer.the-variants as A
 use Rattle.session.specs.declared.Part.{Part}
 use Rattle.session.specs.declared.Part.the-variants.{Model as ModelPart, Run}
 use Rattle.session.specs.Session.{Session}
-use Rattle.session.specs.Facts.{mostObjects}
 use Rattle.session.specs.Running.{entriesIn, countRead}
 use Rattle.session.specs.Replies.{Reply, eachPlaced, refusal, countSays, reply}
 use Rattle.session.specs.Good.{GoodSession}
-use Rattle.text_spreads.specs.Claims.{countLine, groundIn, choiceOf, valueAt, AllPlaced, AllBelow, MayCount, RefusesCount, in-model, unplaced, outside, beyond, crowded, large}
+use Rattle.text_spreads.specs.Claims.{countLine, groundIn, choiceOf, valueAt, AllPlaced, AllBelow, MayCount, RefusesCount, in-model, unplaced, outside, beyond, manyGround, large}
 use Rattle.text_spreads.specs.LineLaws.{model-refused, unplaced-refused, placed-said, every-false, marks-placed, placed-marks, Settled, all-below, below-all}
 use Rattle.text_spreads.specs.LineLaws.{not-below, read-outside, read-beyond, read-spread, prints-value, meets-large, prints-few, large-meets}
 
@@ -150,7 +149,7 @@ alike-refuses σ m n r (inr k) (in-model p) = in-model p
 alike-refuses σ m n r (inr k) (unplaced p c l u) = unplaced p c l u
 alike-refuses σ m n r (inr k) (outside p a o) = outside p a (inr (k .1))
 alike-refuses σ m n r (inr k) (beyond p a s o c l u) = absurd (omega (arith, k .0))
-alike-refuses σ m n r (inr k) (crowded p a s o b u) = absurd (omega (arith, k .0))
+alike-refuses σ m n r (inr k) (manyGround p a s o b u) = absurd (omega (arith, k .0))
 alike-refuses σ m n r (inr k) (large p a s o b f c l u) = absurd (omega (arith, k .0))
 
 turned : (m n : ℕ) → Alike m n → Alike n m
@@ -175,7 +174,7 @@ module _ (σ : Session) (g : GoodSession σ) (settled : Settled σ) (number : �
       (not-true (eachPlaced (σ .live .placed) (length (σ .names .constants))) (λ e. u (marks-placed σ e c l)))
   held-refuses r (outside p a o) = read-said p a (refused F.Range) (read-refused σ g settled (valueOf w) F.Range (by-range o))
   held-refuses r (beyond p a s o c l u) = read-said p a (refused F.Range) (read-refused σ g settled (valueOf w) F.Range (by-constant s o c l u))
-  held-refuses r (crowded p a s o b u) = read-said p a (refused F.Ground) (read-refused σ g settled (valueOf w) F.Ground (by-ground s o b u))
+  held-refuses r (manyGround p a s o b u) = read-said p a (refused F.Ground) (read-refused σ g settled (valueOf w) F.Ground (by-ground s o b u))
   held-refuses r (large p a s o b f c l u) =
       read-said p a (refused F.Valuations)
       (read-refused σ g settled (valueOf w) F.Valuations (by-state s o b f c l (large-meets σ g p (placed-marks σ a) (valueOf w) s c u)))
@@ -199,7 +198,7 @@ module _ (σ : Session) (g : GoodSession σ) (settled : Settled σ) (number : �
       in-place : σ .part ≡ Run → AllPlaced σ → Judged σ g settled (valueOf w) → ((r : Refusal) × RefusesCount σ (valueOf w) r) ⊎ MayCount σ (valueOf w)
       in-place p a (refusing r (by-range o)) = inl (F.Range, outside p a o)
       in-place p a (refusing r (by-constant s o c l u)) = inl (F.Range, beyond p a s o c l u)
-      in-place p a (refusing r (by-ground s o b u)) = inl (F.Ground, crowded p a s o b u)
+      in-place p a (refusing r (by-ground s o b u)) = inl (F.Ground, manyGround p a s o b u)
       in-place p a (refusing r (by-state s o b f c l u)) = inl (F.Valuations, large p a s o b f c l (meets-large σ g p (placed-marks σ a) (valueOf w) s c u))
       in-place p a (passing h) = inr (record {
         run = p;

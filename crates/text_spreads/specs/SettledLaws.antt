@@ -13,7 +13,7 @@ use Rattle.refusal.specs.declared.Refusal.the-variants.{Name, Arity, Range, Spa
 use Rattle.refusal.specs.Outcome.{ok, Accepted}
 use Rattle.refusal.specs.OutcomeLaws.{accepted-ok, accepted-next, accepted-cond}
 use Rattle.label.specs.Limits.{constantCount, predicateCount, parameterCount, mostPlaces}
-use Rattle.state.specs.Lent.{factCount, allBelow}
+use Rattle.state.specs.Lent.{factCount, allBelow, mostFacts, factRow}
 use Rattle.mdp.specs.Model.{Model, mostActions}
 use Rattle.words.specs.declared.Key.{Key}
 use Rattle.names.specs.Keys.{placeOf, isAmong}
@@ -24,9 +24,9 @@ use Rattle.events.specs.declared.Event.{Event}
 use Rattle.session.specs.declared.Part.the-variants.{Run}
 use Rattle.session.specs.Session.{Names, Live, Session, refuseIf, opening}
 use Rattle.session.specs.Declaring.{isDeclared, Vocabulary, constantLine, predicateLine, repeated, actionLine}
-use Rattle.replay.specs.Replay.{mostFacts, factRow, actionOf, did}
+use Rattle.replay.specs.Replay.{actionOf, did}
 use Rattle.session.specs.Facts.{cleared, objectsLine, placed, isLine, isFact, begunAgain, factLine, withFact, predicateOf, trueLine}
-use Rattle.session.specs.Replaying.{variantNames, didOf, replayIn, didLine}
+use Rattle.session.specs.Replaying.{variantNames, didOf, replayIn, didTo, didLine}
 use Rattle.session.specs.Modelling.{withReward, rewardRead, rewardLine, withVariant, weightRead, variantLine, truthsNow, withTruth, truthRead, becomesLine, weighed}
 use Rattle.session.specs.Running.{withHeld, startLine}
 use Rattle.session.specs.Replies.{Reply, withVocabulary, withTotal, withDiscount, withAction, wordsOf, reply}
@@ -107,7 +107,7 @@ true-rest ar n l h k os m e =
     fact-rest n l h (factRow (predicateOf n k) os)))) .given m e
 
 did-rest : (m : Model) (n : Names) (l : Live) → Rest n l → (a v : Key) (os : List ℕ) (x : Live) → didLine m n l a v os ≡ ok x → Rest n x
-unfolding didLine
+unfolding didLine didTo
 did-rest m n l h a v os x e =
     accepted-cond {P = λ (z : Live). Rest n z} (not (isAmong a (n .actions))) Name _ (λ p.
     accepted-cond (not (eqb (length os) (actionOf m (didOf m n a v os) .count))) Arity _ (λ q.
