@@ -91,10 +91,10 @@ week='(predicate near 2)
 (objects 60)'
 week=$week$'\n'"$(seq -f '(true stock %g)' 0 59; for a in $(seq 0 59); do for d in 1 2 3 4; do echo "(true near $a $(((a + d) % 60)))"; done; done)"
 line '(value), 60 objects and 300 facts' 20000 "$week" '(value)'
-line '(did ..), the same, that changes nothing' 5000 "$week" '(did meet none)'
-line '(did ..), the same, a proposition' 5000 "$week" '(did meet done)'
-line '(did ..), the same, a predicate of one place' 5000 "$week" $'(did shift done 0 1)\n(did shift done 1 0)'
-line '(did ..), the same, a predicate of two places, 240 facts' 500 "$week" '(did turn done 7)'
+line '(did ..), the same, that changes nothing' 1000 "$week" '(did meet none)'
+line '(did ..), the same, a proposition' 1000 "$week" '(did meet done)'
+line '(did ..), the same, a predicate of one place' 500 "$week" $'(did shift done 0 1)\n(did shift done 1 0)'
+line '(did ..), the same, a predicate of two places, 240 facts' 300 "$week" '(did turn done 7)'
 line '(did ..), refused at its variant (2)' 20000 "$week" '(did turn gone 7)'
 plans='(constant hub)
 (predicate plan 6)
@@ -106,7 +106,7 @@ plans='(constant hub)
 (start)
 (objects 64)
 (is hub 0)'
-line '(did ..), 64 objects, a predicate of six places, 1 fact' 200 "$plans" '(did add only 63 62)'
+line '(did ..), 64 objects, a predicate of six places, 1 fact' 100 "$plans" '(did add only 63 62)'
 line '(did ..), the same with 300 facts' 20 "$plans"$'\n'"$(for a in $(seq 0 299); do echo "(true plan $((a % 64)) $((a / 64)) 5 6 7 8)"; done)" '(did add only 63 62)'
 states='(reward (if (stock ?x) (if (stock ?y) (if (= ?x ?y) 2 3) 1) 0))
 (action wait)
