@@ -1,8 +1,11 @@
 #!/usr/bin/env bash
 # All host tests. With a program's path, the stored and random texts go through that program too; where the static library is there, its calls are tested. Random
-# tests run for SECONDS each. The last line is the verdict.
-#     host/test.sh [PROGRAM] [SECONDS]
+# tests run for SECONDS each. The last line is the verdict. With --first only what needs neither program nor library, with --rest all else: the gate does the first
+# part beside the proofs.
+#     host/test.sh [--first | --rest] [PROGRAM] [SECONDS]
 set -uo pipefail
+part=all
+case ${1:-} in --first | --rest) part=${1#--}; shift ;; esac
 program=${1:-}
 seconds=${2:-20}
 if [ -n "$program" ]; then program=$(realpath "$program"); fi
@@ -155,13 +158,22 @@ program_at_its_ends() {
     [ "${status[2]}" -eq 141 ] || { echo "status ${status[2]} at a closed pipe"; return 1; }
 }
 
-step cargo fmt --check
-step quiet cargo test --quiet --release --offline
-step quiet cargo build --quiet --release --offline
-step target/release/believed --check
-step target/release/tests self seconds "$seconds"
-step target/release/tests stored corpus
-step target/release/tests stored ../examples
+verdict() {
+    echo "$passed passed, $failed failed"
+    [ "$failed" -eq 0 ]
+    exit
+}
+
+if [ "$part" != rest ]; then
+    step cargo fmt --check
+    step quiet cargo test --quiet --release --offline
+    step quiet cargo build --quiet --release --offline
+    step target/release/believed --check
+    step target/release/tests self seconds "$seconds"
+    step target/release/tests stored corpus
+    step target/release/tests stored ../examples
+fi
+if [ "$part" = first ]; then verdict; fi
 
 if [ -n "$program" ] && [ -x "$program" ]; then
     step target/release/tests stored corpus "$program"
@@ -210,5 +222,4 @@ if [ -f ../target/bin/yindolve ] && [ -f ../target/staticlib/libc_library.a ]; t
     step installed
     step readme
 fi
-echo "$passed passed, $failed failed"
-[ "$failed" -eq 0 ]
+verdict
