@@ -153,7 +153,8 @@ pub copy-start : (ks s : List ℕ) → Copied ks s s 0
 unfolding keysAt many
 copy-start ks s = record { size = refl; keys = refl; before = record { word = λ i h k. refl }; behind = record { word = λ i h k. refl } }
 
-pub copy-on : (ks s t : List ℕ) (i n : ℕ) {k : Key} {u : List ℕ} → i < n → n ≤ parameterCount → nameWords ≤ length s → Copied ks s t i → k ≡ keyAt ks 0 i → u ≡ putKey t (parametersAt + i * 2) k → Copied ks s u (i + 1)
+pub copy-on : (ks s t : List ℕ) (i n : ℕ) {k : Key} {u : List ℕ} → i < n → n ≤ parameterCount → nameWords ≤ length s
+    → Copied ks s t i → k ≡ keyAt ks 0 i → u ≡ putKey t (parametersAt + i * 2) k → Copied ks s u (i + 1)
 unfolding keysAt
 copy-on ks s t i n {k} {u} h f r c e z =
     let w = c .size in
@@ -228,7 +229,20 @@ module _ (s : List ℕ) (n : Counts) (k : Key) (ps : List Key) where
 
       pub action-many : c ≤ parameterCount → mostActions ≤ n .actions → Naming (actionLine (namesOf s n) k ps) s (Refused Space) s
       unfolding actionLine namesOf
-      action-many l m = record { named = (rw (among-none s actionsAt (n .actions) k p h, distinct .0, size, le-ltb parameterCount c l, length-keys s actionsAt (n .actions), le-leb mostActions (n .actions) m), refl) }
+      action-many l m =
+          record {
+            named = (
+              rw (
+                among-none s actionsAt (n .actions) k p h,
+                distinct .0,
+                size,
+                le-ltb parameterCount c l,
+                length-keys s actionsAt (n .actions),
+                le-leb mostActions (n .actions) m,
+              ),
+              refl,
+            );
+          }
 
       pub action-room : c * 2 ≤ length ks
       action-room = distinct .2
@@ -244,7 +258,8 @@ module _ (s : List ℕ) (n : Counts) (k : Key) (ps : List Key) where
                   (ap ok (names-ext _ _
                   (sym (early constantsAt (n .constants) (let a = g .constants in omega arith) ∙ kept constantsAt (n .constants) (let a = g .constants in omega arith)))
                   (sym (early declaredAt (n .predicates) (let a = g .predicates in omega arith) ∙ kept declaredAt (n .predicates) (let a = g .predicates in omega arith)))
-                  (sym (early actionsAt (n .actions + 1) (omega arith) ∙ ap (λ (x : List ℕ). keysAt x actionsAt (n .actions + 1)) z ∙ keys-more s actionsAt (n .actions) k (let r = g .room in omega arith)))
+                  (sym (early actionsAt (n .actions + 1) (omega arith) ∙ ap (λ (x : List ℕ). keysAt x actionsAt (n .actions + 1)) z
+                  ∙ keys-more s actionsAt (n .actions) k (let r = g .room in omega arith)))
                   (sym (y .keys ∙ distinct .1))
                   (sym (no-variants u (variantsAt + (n .earlier + n .variants) * 2)))
                   (sym (late (n .earlier + n .variants) (g .earlier) ∙ keys-behind s variantsAt (n .earlier) (n .variants))))),

@@ -44,8 +44,18 @@ module _ (s : List ℕ) (n : Counts) (k : Key) {i : ℕ} (p : i ≡ placeOf k (k
 
 -- ===== (constant n) =====
 
+abbrev oneConstantMore : Counts → Counts
+oneConstantMore n = record {
+  constants = n .constants + 1;
+  predicates = n .predicates;
+  actions = n .actions;
+  parameters = n .parameters;
+  variants = n .variants;
+  earlier = n .earlier;
+}
+
 constant-put : (s : List ℕ) (n : Counts) (k : Key) → GoodNames s n → n .constants < constantCount
-    → namesOf (putKey s (constantsAt + n .constants * 2) k) (record { constants = n .constants + 1; predicates = n .predicates; actions = n .actions; parameters = n .parameters; variants = n .variants; earlier = n .earlier })
+    → namesOf (putKey s (constantsAt + n .constants * 2) k) (oneConstantMore n)
     ≡ record {
       constants = keysAt s constantsAt (n .constants) ++ (k ∷ []);
       predicates = namesOf s n .predicates;
@@ -81,14 +91,32 @@ module _ (s : List ℕ) (n : Counts) (k : Key) where
 
     pub constant-done : {t : List ℕ} → GoodNames s n → n .constants < constantCount → t ≡ putKey s (constantsAt + n .constants * 2) k
         → Naming (constantLine (namesOf s n) k) s
-        (Done (record { constants = n .constants + 1; predicates = n .predicates; actions = n .actions; parameters = n .parameters; variants = n .variants; earlier = n .earlier })) t
+        (Done (oneConstantMore n)) t
     unfolding constantLine namesOf
     constant-done g h q = rw q (record { named = (rw (← p, e, length-keys, lt-leb constantCount (n .constants) h) (ap ok (sym (constant-put s n k g h))), good) })
       where
-        good : GoodNames (putKey s (constantsAt + n .constants * 2) k) (record { constants = n .constants + 1; predicates = n .predicates; actions = n .actions; parameters = n .parameters; variants = n .variants; earlier = n .earlier })
-        good = record { room = rw (length-put) (g .room); constants = omega arith; predicates = g .predicates; actions = g .actions; parameters = g .parameters; variants = g .variants; earlier = g .earlier }
+        good : GoodNames (putKey s (constantsAt + n .constants * 2) k) (oneConstantMore n)
+        good = record {
+          room = rw (length-put) (g .room);
+          constants = omega arith;
+          predicates = g .predicates;
+          actions = g .actions;
+          parameters = g .parameters;
+          variants = g .variants;
+          earlier = g .earlier;
+        }
 
 -- ===== (predicate n arity) =====
+
+abbrev onePredicateMore : Counts → Counts
+onePredicateMore n = record {
+  constants = n .constants;
+  predicates = n .predicates + 1;
+  actions = n .actions;
+  parameters = n .parameters;
+  variants = n .variants;
+  earlier = n .earlier;
+}
 
 and-both : (a b : Bool) → a ≡ true → b ≡ true → (a && b) ≡ true
 and-both a b p q = rw (p, q)
@@ -110,7 +138,7 @@ arities-set ar i a h p f =
     (and-both (eqb (getD (set ar i a) equality 0) equalityArity) _ (rw (getD-set-other ar i equality a 0 (λ e. omega arith)) w) (at-most-set ar i a x f))
 
 predicate-put : (s : List ℕ) (n : Counts) (k : Key) → GoodNames s n → n .predicates + 1 < predicateCount
-    → namesOf (putKey s (declaredAt + n .predicates * 2) k) (record { constants = n .constants; predicates = n .predicates + 1; actions = n .actions; parameters = n .parameters; variants = n .variants; earlier = n .earlier })
+    → namesOf (putKey s (declaredAt + n .predicates * 2) k) (onePredicateMore n)
     ≡ record {
       constants = namesOf s n .constants;
       predicates = keysAt s declaredAt (n .predicates) ++ (k ∷ []);
@@ -155,11 +183,11 @@ module _ (s ar : List ℕ) (n : Counts) (k : Key) (a : ℕ) where
     pub predicate-done : {t br : List ℕ} → GoodVocabulary s ar n → a ≤ mostPlaces → n .predicates + 1 < predicateCount → t ≡ putKey s (declaredAt + n .predicates * 2) k
         → br ≡ set ar (n .predicates + 1) a
         → Wording (predicateLine (vocabularyOf s ar n) k a) s ar
-        (Done (record { constants = n .constants; predicates = n .predicates + 1; actions = n .actions; parameters = n .parameters; variants = n .variants; earlier = n .earlier })) t br
+        (Done (onePredicateMore n)) t br
     unfolding predicateLine vocabularyOf namesOf
     predicate-done g f h q u = rw (q, u) (record { worded = (rw (← p, e, le-ltb mostPlaces a f, length-keys, lt-leb predicateCount (suc (n .predicates)) (omega arith)) (ap ok (sym same)), good) })
       where
-        same : vocabularyOf (putKey s (declaredAt + n .predicates * 2) k) (set ar (n .predicates + 1) a) (record { constants = n .constants; predicates = n .predicates + 1; actions = n .actions; parameters = n .parameters; variants = n .variants; earlier = n .earlier })
+        same : vocabularyOf (putKey s (declaredAt + n .predicates * 2) k) (set ar (n .predicates + 1) a) (onePredicateMore n)
             ≡ record {
               names = record {
                 constants = namesOf s n .constants;
@@ -173,9 +201,17 @@ module _ (s ar : List ℕ) (n : Counts) (k : Key) (a : ℕ) where
             }
         same = vocabulary-ext _ _ (predicate-put s n k (g .names) h) (ap (λ (i : ℕ). set ar i a) (omega arith))
 
-        good : GoodVocabulary (putKey s (declaredAt + n .predicates * 2) k) (set ar (n .predicates + 1) a) (record { constants = n .constants; predicates = n .predicates + 1; actions = n .actions; parameters = n .parameters; variants = n .variants; earlier = n .earlier })
+        good : GoodVocabulary (putKey s (declaredAt + n .predicates * 2) k) (set ar (n .predicates + 1) a) (onePredicateMore n)
         good = record {
-          names = record { room = rw (length-put) (g .names .room); constants = g .names .constants; predicates = h; actions = g .names .actions; parameters = g .names .parameters; variants = g .names .variants; earlier = g .names .earlier };
+          names = record {
+            room = rw (length-put) (g .names .room);
+            constants = g .names .constants;
+            predicates = h;
+            actions = g .names .actions;
+            parameters = g .names .parameters;
+            variants = g .names .variants;
+            earlier = g .names .earlier;
+          };
           arities = arities-set ar (n .predicates + 1) a (g .arities) (omega arith) f;
         }
 

@@ -220,7 +220,8 @@ module _ (s : List ℕ) (l : Live) (row : List ℕ) {b : Bool} (q : b ≡ isFact
     unfolding factLine liveOf
     note-space h = record { lives = (rw (← lent-facts, e, fact-count s l g, le-leb mostFacts (l .facts) h), refl) }
 
-    pub note-done : {t : List ℕ} → l .facts < mostFacts → Putting s l row t → Living (factLine (liveOf s l) row) s (Done (record { objects = l .objects; facts = l .facts + 1; count = 0; total = 0 })) t
+    pub note-done : {t : List ℕ} → l .facts < mostFacts → Putting s l row t
+        → Living (factLine (liveOf s l) row) s (Done (record { objects = l .objects; facts = l .facts + 1; count = 0; total = 0 })) t
     unfolding factLine liveOf
     note-done h u = record { lives = (rw (← lent-facts, e, fact-count s l g, lt-leb mostFacts (l .facts) h) (ap ok (sym (u .live))), u .good) }
 

@@ -66,14 +66,16 @@ module _ (s : List ℕ) (n : ℕ) where
   unfolding objectsLine
   objects-many z h = record { lives = (rw (le-leb 1 n (omega arith), lt-leb n mostObjects h), refl) }
 
-  pub objects-done : {t : List ℕ} → (n ≡ 0 → ⊥) → n ≤ mostObjects → stateWords ≤ length s → Cleared s t factsBase → Living (objectsLine n) s (Done (record { objects = n; facts = 0; count = 0; total = 0 })) t
+  pub objects-done : {t : List ℕ} → (n ≡ 0 → ⊥) → n ≤ mostObjects → stateWords ≤ length s → Cleared s t factsBase
+      → Living (objectsLine n) s (Done (record { objects = n; facts = 0; count = 0; total = 0 })) t
   unfolding objectsLine cleared liveOf
   objects-done {t} z h r c =
       let w = c .size in
       record {
         lives = (
           rw (le-leb 1 n (omega (arith, z)), le-leb n mostObjects h)
-              (ap ok (live-ext _ _ refl (sym (zero-part t placedBase (omega arith) (λ j l. c .zeros j (omega arith)))) (sym (zero-part t 0 (omega arith) (λ j l. c .zeros j (omega arith)))) refl refl refl)),
+              (ap ok (live-ext _ _ refl (sym (zero-part t placedBase (omega arith) (λ j l. c .zeros j (omega arith))))
+              (sym (zero-part t 0 (omega arith) (λ j l. c .zeros j (omega arith)))) refl refl refl)),
           record { room = omega arith; objects = h; facts = omega arith },
         );
       }

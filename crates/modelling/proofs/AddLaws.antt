@@ -11,7 +11,8 @@ use Rattle.diagram.specs.Listing.{diagramOf}
 use Rattle.state.specs.ValueLaws.{by-low}
 use Rattle.model.specs.declared.Head.{Head}
 use Rattle.model.specs.Layout.{part, listingWords, actionWords, variantPlace, variantAt, variantsOf, actionAt, rewardWords, modelOf}
-use Rattle.modelling.specs.Building.{modelWith, SpannedAction, Spanned, Canonical, ListedVariant, Listed, Building, withActions, rewarded, newAction, moreActions, rewardHead, ActionRoom, ActionAdded, RowsRoom, RewardAdded}
+use Rattle.modelling.specs.Building.{modelWith, SpannedAction, Spanned, Canonical, ListedVariant, Listed, Building, withActions, rewarded, newAction, moreActions, rewardHead}
+use Rattle.modelling.specs.Building.{ActionRoom, ActionAdded, RowsRoom, RewardAdded}
 use Rattle.modelling.specs.WordLaws.{Same, actionOf, actionUse, paste-before, paste-there, action-same, spanned-action, canonical-on, listed-variant}
 
 -- a list and one more

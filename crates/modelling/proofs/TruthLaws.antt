@@ -22,8 +22,10 @@ use Rattle.mdp.specs.Model.{Variant, Action, mostVariants}
 use Rattle.model.specs.declared.Head.{Head}
 use Rattle.model.specs.Layout.{part, variantWords, actionWords, variantPlace, weightWords, spansAt, variantAt, variantsOf, actionAt, modelOf}
 use Rattle.session.specs.Modelling.{lastVariant, lastTruths, withTruthAt, pickOption, truthsNow, truthsOfLast, isSome}
-use Rattle.modelling.specs.Building.{modelWith, Inside, truthPlace, SpannedVariant, SpannedAction, Canonical, ListedVariant, Listed, withActions, RowsRoom, TruthRoom, HasTruth, TruthAdded, lastPlace, TruthPlaced, moreWords}
-use Rattle.modelling.specs.WordLaws.{Same, variantOf, actionOf, actionUse, part-under, truth-none, truth-here, truth-same, truths-over, span-same, action-same, variant-same, inside-kept, spanned-variant, spanned-action, canonical-on, listed-variant}
+use Rattle.modelling.specs.Building.{modelWith, Inside, truthPlace, SpannedVariant, SpannedAction, Canonical, ListedVariant, Listed, withActions, RowsRoom, TruthRoom}
+use Rattle.modelling.specs.Building.{HasTruth, TruthAdded, lastPlace, TruthPlaced, moreWords}
+use Rattle.modelling.specs.WordLaws.{Same, variantOf, actionOf, actionUse, part-under, truth-none, truth-here, truth-same, truths-over, span-same, action-same, variant-same}
+use Rattle.modelling.specs.WordLaws.{inside-kept, spanned-variant, spanned-action, canonical-on, listed-variant}
 use Rattle.modelling.proofs.AddLaws.{snoc, below-action, Appended, appended}
 
 -- ===== The last of a list =====

@@ -15,7 +15,8 @@ use Rattle.table.specs.ChainLaws.{prev-le, prev-gap, prev-hits}
 use Rattle.diagram.specs.Words.{highAt}
 use Rattle.apply.specs.declared.Operation.{Operation}
 use Rattle.plan.specs.Walk.{Pair, samePair, isEnd, pairLabel, onHigh, onLow, walked, mostRows, Leading}
-use Rattle.plan.specs.WalkLaws.{mem-at, mem-nowhere, place-one, end-label, branch-label, high-below, low-below, high-leading, low-leading, extends-length, extends-getD, walked-old, walked-end, walked-branch, walked-extends, walked-fresh, walked-root}
+use Rattle.plan.specs.WalkLaws.{mem-at, mem-nowhere, place-one, end-label, branch-label, high-below, low-below, high-leading, low-leading, extends-length, extends-getD}
+use Rattle.plan.specs.WalkLaws.{walked-old, walked-end, walked-branch, walked-extends, walked-fresh, walked-root}
 use Rattle.plan.specs.Plan.{keyCount, keyOf, pairOf, hashOf, keyAt, putEntry, Index, origin, Entry, Plan, Touched, wentTo, packBase, Ready, Planned, pairsAt, Reached, Overrun, Visited, Entered}
 use Rattle.plan.specs.PlanLaws.{pair-of-key, key-one, length-pairs, plan-pairs, plan-added, index-touched}
 use Rattle.plan.specs.declared.Went.{Went}

@@ -16,7 +16,8 @@ use Rattle.table.specs.ChainLaws.{test, prev-zero, prev-same, prev-other, prev-
 use Rattle.apply.specs.declared.Operation.{Operation}
 use Rattle.plan.specs.Walk.{Pair, samePair, isEnd, pairLabel, onHigh, onLow, mostRows}
 use Rattle.plan.specs.WalkLaws.{pair-ext, nodup-more}
-use Rattle.plan.specs.Plan.{buckets, mostPairs, keyCount, keyOf, pairOf, hashOf, keyAt, linkAt, pairLabelAt, firstAt, secondAt, hashAt, putEntry, Index, origin, Entry, Plan, Clean, Touched, pairsAt}
+use Rattle.plan.specs.Plan.{buckets, mostPairs, keyCount, keyOf, pairOf, hashOf, keyAt, linkAt, pairLabelAt, firstAt, secondAt, hashAt, putEntry, Index, origin, Entry, Plan}
+use Rattle.plan.specs.Plan.{Clean, Touched, pairsAt}
 
 -- keys
 pub key-less : (p : Pair) → p .0 < mostRows → p .1 < mostRows → keyOf p < keyCount

@@ -14,7 +14,9 @@ add-action-requires c κs = search action-fits
 returns : tie.Need-returns
 returns c =
     let m = c .before .before .before .before .before .before .before .before .before .before .before .before in
-    action-done _ _ (m .before .before .before .before .before .first-word .ensures) (m .before .before .before .before .next-event .ensures) (m .before .before .before .key-in .ensures) (m .action .ensures) (c .before .before .before .before .before .before .counts .given .1) (c .before .before .before .add-action .ensures) (c .with-tables .ensures)
+    action-done _ _ (m .before .before .before .before .before .first-word .ensures) (m .before .before .before .before .next-event .ensures)
+    (m .before .before .before .key-in .ensures) (m .action .ensures) (c .before .before .before .before .before .before .counts .given .1)
+    (c .before .before .before .add-action .ensures) (c .with-tables .ensures)
 
 returns-2 : tie.Need-returns-2
 returns-2 c = search action-refused
@@ -22,4 +24,5 @@ returns-2 c = search action-refused
 pub action-spec : {M : Type 1} → statement M
 action-spec =
     tie.close
-    (tie.spec (λ c κs. search needs) (λ c κs. search needs) (λ c κs. search needs) action-requires (λ c. search needs) add-action-requires (λ c κs. search needs) (λ c. search needs) (λ c. search needs) (λ c. search needs) (λ c. search needs) returns (λ c. search needs) (λ c. search needs) returns-2)
+    (tie.spec (λ c κs. search needs) (λ c κs. search needs) (λ c κs. search needs) action-requires (λ c. search needs) add-action-requires (λ c κs. search needs)
+    (λ c. search needs) (λ c. search needs) (λ c. search needs) (λ c. search needs) returns (λ c. search needs) (λ c. search needs) returns-2)

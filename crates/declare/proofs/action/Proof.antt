@@ -16,15 +16,38 @@ returns-4 : tie.Need-returns-4
 returns-4 c = search action-many
 
 copy-parameters-requires : tie.Need-copy-parameters-requires
-copy-parameters-requires c κs = (search needs, (action-room _ (c .before .before .before .before .before .before .before .before .before .before .before .before .before .before .before .before .before .before .before .before .before .before .before .before .args .n) _ _ (c .before .before .before .before .before .before .before .before .before .before .before .before .before .before .before .before .before .before .before .find .ensures) (c .before .before .before .before .before .before .before .before .before .before .before .before .before .before .before .before .before .if1 .left) (c .before .before .before .before .before .before .before .before .before .before .before .count .given .1) (c .before .before .before .before .before .before .before .before .before .before .before .before .before .before .before .read-parameters .ensures), put-room _ _ _ _ _ (c .before .before .before .before .before .before .before .before .before .before .before .before .before .before .before .before .before .before .before .before .before .before .before .before .pre .0) (c .before .before .before .before .put .ensures)))
+copy-parameters-requires c κs =
+    let late = c .before .before .before .before .before .before .before .before .before in
+    let middle = late .before .before .before .before .before .before .before in
+    let early = middle .before .before .before .before .before .before .before .before in (
+      search needs,
+      (
+        action-room _ (early .args .n) _ _ (middle .before .before .before .find .ensures) (middle .before .if1 .left)
+            (late .before .before .count .given .1) (late .before .before .before .before .before .before .read-parameters .ensures),
+        put-room _ _ _ _ _ (early .pre .0) (c .before .before .before .before .put .ensures),
+      ),
+    )
 
 add-names : tie.Need-add-t8
-add-names c = record { fits = names-sum (c .before .before .before .before .before .before .before .before .before .before .before .before .before .before .before .before .before .before .before .before .before .before .before .before .before .before .before .before .before .pre .0) }
+add-names c =
+    let late = c .before .before .before .before .before .before .before .before .before in
+    let middle = late .before .before .before .before .before .before .before in
+    let early = middle .before .before .before .before .before .before .before .before in
+    record { fits = names-sum (early .before .before .before .before .before .pre .0) }
 
 returns-5 : tie.Need-returns-5
-returns-5 c = action-done _ _ _ _ (c .before .before .before .before .before .before .before .before .before .before .before .before .before .before .before .before .before .before .before .before .before .before .before .before .find .ensures) (c .before .before .before .before .before .before .before .before .before .before .before .before .before .before .before .before .before .before .before .before .before .before .if1 .left) (c .before .before .before .before .before .before .before .before .before .before .before .before .before .before .before .before .count .given .1) (c .before .before .before .before .before .before .before .before .before .before .before .before .before .before .before .before .before .before .before .before .read-parameters .ensures) (c .before .before .before .before .before .before .before .before .before .before .before .before .before .before .before .before .before .before .before .before .before .before .before .before .before .before .before .before .before .pre .0) (c .before .before .before .before .before .before .before .before .before .before .before .before .before .before .if2 .left) (c .before .before .before .before .before .before .before .before .before .before .before .before .if3 .left) (c .before .before .before .before .before .before .before .before .before .put .ensures) (c .before .before .before .before .copy-parameters .ensures)
+returns-5 c =
+    let put = c .before .before .before .before .before .before .before .before .before in
+    let counted = put .before .before .before .before .before .before .before in
+    let found = counted .before .before .before .before .before .before .before .before in
+    action-done _ _ _ _ (found .find .ensures) (counted .before .before .before .before .before .before .if1 .left) (counted .count .given .1)
+    (counted .before .before .before .before .read-parameters .ensures) (found .before .before .before .before .before .pre .0)
+    (put .before .before .before .before .before .if2 .left) (put .before .before .before .if3 .left) (put .put .ensures)
+    (c .before .before .before .before .copy-parameters .ensures)
 
 pub action-spec : {M : Type 1} → statement M
 action-spec =
     tie.close
-    (tie.spec (λ c κs. search needs) (λ c. search needs) returns (λ c κs. search needs) (λ c. search needs) (λ c. search needs) (λ c. search needs) (λ c. search needs) returns-2 (λ c. search needs) (λ c. search needs) returns-3 (λ c. search needs) (λ c. search needs) returns-4 (λ c. search needs) (λ c. search needs) (λ c κs. search needs) copy-parameters-requires (λ c. search needs) add-names (λ c. search needs) (λ c. search needs) returns-5)
+    (tie.spec (λ c κs. search needs) (λ c. search needs) returns (λ c κs. search needs) (λ c. search needs) (λ c. search needs) (λ c. search needs)
+    (λ c. search needs) returns-2 (λ c. search needs) (λ c. search needs) returns-3 (λ c. search needs) (λ c. search needs) returns-4 (λ c. search needs) (λ c. search needs)
+    (λ c κs. search needs) copy-parameters-requires (λ c. search needs) add-names (λ c. search needs) (λ c. search needs) returns-5)

@@ -21,7 +21,8 @@ best-move-requires c κs =
 key-at-requires : tie.Need-key-at-requires
 key-at-requires c κs =
     let chosen = c .before .before .before .before .before in
-    key-room (chosen .before .before .before .before .before .before .before .before .before .before .before .before .before .before .before .before .pre) _ _ (chosen .best-move .ensures) (c .before .m .given .1)
+    key-room (chosen .before .before .before .before .before .before .before .before .before .before .before .before .before .before .before .before .pre) _ _
+    (chosen .best-move .ensures) (c .before .m .given .1)
 
 returns : tie.Need-returns
 returns c =

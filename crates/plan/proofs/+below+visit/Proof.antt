@@ -2,7 +2,8 @@ use borrow.Author.Needs.{needs}
 use Rattle.plan.proofs.StepLaws.{word-full, word-to}
 use Rattle.plan.specs.Walk.{mostRows}
 use Rattle.plan.specs.Plan.{wentOf}
-use Rattle.plan.proofs.VisitLaws.{ready-key, ready-index, ready-rooms, visit-packable, visit-answer, visit-new, below-end, high-few, low-few, high-less, low-less, high-ready, high-full, low-ready, low-full, low-index, below-branch}
+use Rattle.plan.proofs.VisitLaws.{ready-key, ready-index, ready-rooms, visit-packable, visit-answer, visit-new, below-end, high-few, low-few, high-less, low-less}
+use Rattle.plan.proofs.VisitLaws.{high-ready, high-full, low-ready, low-full, low-index, below-branch}
 use native.Mathlib.Omega.{arith}
 use Prim.Native.Nat.{ℕ, _+_, _*_, _/_, _%_, _<_}
 use borrow.Fn.Kinds.{In}

@@ -17,7 +17,8 @@ close-requires c κs =
 returns-2 : tie.Need-returns-2
 returns-2 c w b t =
     let s = c .before .before .before .before .before .before .before .before .before .before .before .before .before .before in
-    rest-closed (s .args .p) (s .args .out .now) (s .pre .0) w (c .before .before .before .before .before .before .before .before .before .before .put-refusal .ensures) b t _ (c .before .before .before .before .before .before .end .given .1) (c .before .before .close .ensures)
+    rest-closed (s .args .p) (s .args .out .now) (s .pre .0) w (c .before .before .before .before .before .before .before .before .before .before .put-refusal .ensures) b t _
+    (c .before .before .before .before .before .before .end .given .1) (c .before .before .close .ensures)
 
 pub close-rest-spec : {M : Type 1} → statement M
 close-rest-spec =
