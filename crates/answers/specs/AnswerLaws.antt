@@ -32,6 +32,7 @@ use Rattle.refusal.specs.declared.Refusal.the-variants.{
   Crowded,
   Tally,
   Ground,
+  Minimum,
   Kinds,
   Runs,
   Combinations,
@@ -114,6 +115,7 @@ number-word Weightless = omega arith
 number-word Crowded = omega arith
 number-word Tally = omega arith
 number-word Ground = omega arith
+number-word Minimum = omega arith
 number-word Kinds = omega arith
 number-word Runs = omega arith
 number-word Combinations = omega arith

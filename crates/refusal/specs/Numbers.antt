@@ -3,7 +3,7 @@ use Prim.Native.Nat.{ℕ}
 use Rattle.refusal.specs.declared.Refusal.{Refusal}
 use Rattle.refusal.specs.declared.Refusal.the-variants.{Form, Name, Arity, Range, Place, Unbound, Truth, Variables, Space}
 use Rattle.refusal.specs.declared.Refusal.the-variants.{Pairs, Value, Scale, Weights, Listing, Valuations, Nothing, Paths, Buffer}
-use Rattle.refusal.specs.declared.Refusal.the-variants.{Length, Missing, Weightless, Crowded, Tally, Ground, Kinds, Runs, Combinations}
+use Rattle.refusal.specs.declared.Refusal.the-variants.{Length, Missing, Weightless, Crowded, Tally, Ground, Minimum, Kinds, Runs, Combinations}
 
 abbrev pub numberOf : Refusal → ℕ
 numberOf Form = 1
@@ -31,6 +31,7 @@ numberOf Weightless = 21
 numberOf Crowded = 22
 numberOf Tally = 23
 numberOf Ground = 24
+numberOf Minimum = 25
 numberOf Kinds = 26
 numberOf Runs = 27
 numberOf Combinations = 28
