@@ -9,13 +9,15 @@ use lib.ListN.{length, getD}
 use lib.Dec.{eqb, ltb, leb}
 use borrow.Author.Tests.{lt-ltb, le-ltb, le-leb, lt-leb, eqb-true, eq-eqb, ne-eqb}
 use Rattle.basics.specs.Tests.{and-left, Flag, isTrue, isFalse, flag, Cmp, below, equal, above, cmp}
-use Rattle.label.specs.Limits.{constantCount, firstParameter, parameterCount, firstVariable, variableCount, termBits, termBase, termEnd, predicateCount, equalityArity, mostPlaces}
-use Rattle.label.specs.Terms.{isConstant, isParameter, isVariable, isTerm}
+use Rattle.label.specs.Limits.{constantCount, firstParameter, parameterCount, firstVariable, variableCount, firstMinimum, minimumCount, termBits, termBase, termEnd}
+use Rattle.label.specs.Limits.{predicateCount, equalityArity, mostPlaces}
+use Rattle.label.specs.Terms.{isConstant, isParameter, isVariable, isMinimum, isTerm}
 use Rattle.label.specs.Labels.{areArities, allAtMost, placesOf, placeIn, atomFrom, packed, predicateOf, placeAt, unpacked, placeFits, inOrder, isAtom, isLabel}
 use Rattle.label.specs.Labels.{isLabelUnder, equalAtom, equates, testOf}
 use Rattle.label.specs.Renamings.{mapOf, placed, mapped, moved, renamed}
 use Rattle.label.specs.Callers.{endsAt, Places, Packable, TermMap, Mappable, Movable, Replaced}
-use Rattle.label.specs.LabelLaws.{used-term, unused-zero, each-end, ends-zero, zero-ends, places-below, below-places, place-of, predicate-of, place-fits, fits-list, label-fits, label-ends, label-places}
+use Rattle.label.specs.LabelLaws.{used-term, unused-zero, each-end, ends-zero, zero-ends, places-below, below-places, place-of, predicate-of, place-fits, fits-list}
+use Rattle.label.specs.LabelLaws.{label-fits, label-ends, label-places}
 use Rattle.label.specs.RenamingLaws.{mapped-place}
 use Rattle.label.specs.declared.Atom.{Atom}
 use Rattle.label.specs.declared.Label.{Label}
@@ -27,20 +29,47 @@ pub term-low : {t : ℕ} → t < firstParameter + parameterCount → true ≡ is
 unfolding isTerm isConstant isParameter
 term-low {t} h = go (cmp t constantCount)
   where
-    go : Cmp t constantCount → true ≡ (isConstant t || (isParameter t || isVariable t))
+    go : Cmp t constantCount → true ≡ (isConstant t || (isParameter t || (isVariable t || isMinimum t)))
     go (below q) = rw (lt-ltb t constantCount q)
     go (equal q) = rw (le-ltb t constantCount (omega arith), le-leb firstParameter t (omega arith), lt-ltb t (firstParameter + parameterCount) h)
     go (above q) = rw (le-ltb t constantCount (omega arith), le-leb firstParameter t (omega arith), lt-ltb t (firstParameter + parameterCount) h)
 
 pub term-gap : {t : ℕ} → firstParameter + parameterCount ≤ t → t < firstVariable → false ≡ isTerm t
-unfolding isTerm isConstant isParameter isVariable
+unfolding isTerm isConstant isParameter isVariable isMinimum
 term-gap {t} n h =
-    rw (le-ltb t constantCount (omega arith), le-leb firstParameter t (omega arith), le-ltb t (firstParameter + parameterCount) n, lt-leb firstVariable t h)
+    rw (
+      le-ltb t constantCount (omega arith),
+      le-leb firstParameter t (omega arith),
+      le-ltb t (firstParameter + parameterCount) n,
+      lt-leb firstVariable t h,
+      lt-leb firstMinimum t (omega arith),
+    )
 
-pub term-high : {t : ℕ} → firstVariable ≤ t → ltb t (firstVariable + variableCount) ≡ isTerm t
-unfolding isTerm isConstant isParameter isVariable
-term-high {t} n =
-    rw (le-ltb t constantCount (omega arith), le-leb firstParameter t (omega arith), le-ltb t (firstParameter + parameterCount) (omega arith), le-leb firstVariable t n)
+pub term-high : {t : ℕ} → firstVariable ≤ t → ltb t (firstMinimum + minimumCount) ≡ isTerm t
+unfolding isTerm isConstant isParameter isVariable isMinimum
+term-high {t} n = go (cmp t firstMinimum)
+  where
+    high : firstMinimum ≤ t → ltb t (firstMinimum + minimumCount) ≡ isTerm t
+    high q = rw (
+      le-ltb t constantCount (omega arith),
+      le-leb firstParameter t (omega arith),
+      le-ltb t (firstParameter + parameterCount) (omega arith),
+      le-leb firstVariable t n,
+      le-ltb t (firstVariable + variableCount) q,
+      le-leb firstMinimum t q,
+    )
+
+    go : Cmp t firstMinimum → ltb t (firstMinimum + minimumCount) ≡ isTerm t
+    go (below q) = rw (
+      lt-ltb t (firstMinimum + minimumCount) (omega arith),
+      le-ltb t constantCount (omega arith),
+      le-leb firstParameter t (omega arith),
+      le-ltb t (firstParameter + parameterCount) (omega arith),
+      le-leb firstVariable t n,
+      lt-ltb t (firstVariable + variableCount) q,
+    )
+    go (equal q) = high (omega arith)
+    go (above q) = high (omega arith)
 
 -- placed
 pub placed-used : (map : List ℕ) (n k t : ℕ) → k < n → getD map t 0 ≡ placed (mapOf map) n k t

@@ -8,27 +8,33 @@ use lib.ListN.{length, getD}
 use lib.Dec.{eqb, ltb, leb}
 use borrow.Author.Tests.{ltb-true, eqb-true, lt-ltb, le-ltb, eq-eqb}
 use Rattle.basics.specs.Tests.{and-left, and-right, Flag, isTrue, isFalse, flag, Either, one, other, either, Cmp, cmp, below, equal, above}
-use Rattle.label.specs.Limits.{constantCount, firstParameter, parameterCount, firstVariable, variableCount, termBase, termEnd, mostPlaces, predicateCount}
+use Rattle.label.specs.Limits.{constantCount, firstParameter, parameterCount, firstVariable, variableCount, firstMinimum, minimumCount, termBase, termEnd, mostPlaces, predicateCount}
 use Rattle.label.specs.Limits.{predicateWeight, weightAt, termBits, leafMark}
-use Rattle.label.specs.Terms.{isConstant, isParameter, isVariable, isTerm}
+use Rattle.label.specs.Terms.{isConstant, isParameter, isVariable, isMinimum, isTerm}
 use Rattle.label.specs.Labels.{packed, predicateOf, placeAt, unpacked, placeFits, placesFit, inOrder, isAtom, placesOf, placeIn, atomFrom, weighed, isLabel}
 use Rattle.label.specs.Callers.{endsAt, Places}
 use Rattle.label.specs.declared.Atom.{Atom}
 
--- the limits agree: terms end with the variables, a place has its bits, the predicate stands before all places, and a word holds no more than the leaf's mark
-pub limits-agree : (termEnd ≡ firstVariable + variableCount) × (termBase ≡ 2 ^ termBits) × (predicateWeight ≡ 2 ^ (mostPlaces * termBits)) × (suc leafMark ≡ 2 ^ 64)
-limits-agree = (refl, refl, refl, refl)
+-- the limits agree: minimum variables follow the variables and are as many, terms end with them, a place has its bits, the predicate stands before all places, and a word holds no
+-- more than the leaf's mark
+pub limits-agree : (firstMinimum ≡ firstVariable + variableCount) × (minimumCount ≡ variableCount) × (termEnd ≡ firstMinimum + minimumCount) × (termBase ≡ 2 ^ termBits)
+    × (predicateWeight ≡ 2 ^ (mostPlaces * termBits)) × (suc leafMark ≡ 2 ^ 64)
+limits-agree = (refl, refl, refl, refl, refl, refl)
 
 -- numbers of terms end below the base of the packing
 pub term-below : (t : ℕ) → isTerm t ≡ true → t < termEnd
-unfolding isTerm isConstant isParameter isVariable
+unfolding isTerm isConstant isParameter isVariable isMinimum
 term-below t e = go (either (isConstant t) _ e)
   where
-    rest : Either (isParameter t) (isVariable t) → t < termEnd
-    rest (one q) = omega (arith, ltb-true t (firstParameter + parameterCount) (and-right (leb firstParameter t) _ q))
-    rest (other q) = ltb-true t (firstVariable + variableCount) (and-right (leb firstVariable t) _ q)
+    last : Either (isVariable t) (isMinimum t) → t < termEnd
+    last (one q) = omega (arith, ltb-true t (firstVariable + variableCount) (and-right (leb firstVariable t) _ q))
+    last (other q) = ltb-true t (firstMinimum + minimumCount) (and-right (leb firstMinimum t) _ q)
 
-    go : Either (isConstant t) (isParameter t || isVariable t) → t < termEnd
+    rest : Either (isParameter t) (isVariable t || isMinimum t) → t < termEnd
+    rest (one q) = omega (arith, ltb-true t (firstParameter + parameterCount) (and-right (leb firstParameter t) _ q))
+    rest (other q) = last (either (isVariable t) _ q)
+
+    go : Either (isConstant t) (isParameter t || (isVariable t || isMinimum t)) → t < termEnd
     go (one q) = omega (arith, ltb-true t constantCount q)
     go (other q) = rest (either (isParameter t) _ q)
 
@@ -189,14 +195,17 @@ module _ (l : ℕ) where
       (λ e. each-place (λ k. 1 ≤ k → placeAt l k ≡ 0) (λ h. absurd (omega arith)) (λ h. omega arith) (λ h. omega arith) (λ h. omega arith) (λ h. omega arith) (λ h. omega arith))
       (λ e. each-place (λ k. 2 ≤ k → placeAt l k ≡ 0) (λ h. absurd (omega arith)) (λ h. absurd (omega arith)) (λ h. omega arith) (λ h. omega arith) (λ h. omega arith) (λ h. omega arith))
       (λ e. each-place (λ k. 3 ≤ k → placeAt l k ≡ 0) (λ h. absurd (omega arith)) (λ h. absurd (omega arith)) (λ h. absurd (omega arith)) (λ h. omega arith) (λ h. omega arith) (λ h. omega arith))
-      (λ e. each-place (λ k. 4 ≤ k → placeAt l k ≡ 0) (λ h. absurd (omega arith)) (λ h. absurd (omega arith)) (λ h. absurd (omega arith)) (λ h. absurd (omega arith)) (λ h. omega arith) (λ h. omega arith))
-      (λ e. each-place (λ k. 5 ≤ k → placeAt l k ≡ 0) (λ h. absurd (omega arith)) (λ h. absurd (omega arith)) (λ h. absurd (omega arith)) (λ h. absurd (omega arith)) (λ h. absurd (omega arith)) (λ h. omega arith))
+      (λ e. each-place (λ k. 4 ≤ k → placeAt l k ≡ 0) (λ h. absurd (omega arith)) (λ h. absurd (omega arith)) (λ h. absurd (omega arith)) (λ h. absurd (omega arith))
+      (λ h. omega arith) (λ h. omega arith))
+      (λ e. each-place (λ k. 5 ≤ k → placeAt l k ≡ 0) (λ h. absurd (omega arith)) (λ h. absurd (omega arith)) (λ h. absurd (omega arith)) (λ h. absurd (omega arith))
+      (λ h. absurd (omega arith)) (λ h. omega arith))
       (λ e k h i. absurd (omega arith))
 
   place-whole : (n : ℕ) → n ≤ mostPlaces → Zero n → Whole n
   unfolding placeAt
   place-whole = each-end (λ n. Zero n → Whole n)
-      (λ z. up-0 (z 0 (omega arith) (omega arith)) (z 1 (omega arith) (omega arith)) (z 2 (omega arith) (omega arith)) (z 3 (omega arith) (omega arith)) (z 4 (omega arith) (omega arith)) (z 5 (omega arith) (omega arith)))
+      (λ z. up-0 (z 0 (omega arith) (omega arith)) (z 1 (omega arith) (omega arith)) (z 2 (omega arith) (omega arith)) (z 3 (omega arith) (omega arith))
+      (z 4 (omega arith) (omega arith)) (z 5 (omega arith) (omega arith)))
       (λ z. up-1 (z 1 (omega arith) (omega arith)) (z 2 (omega arith) (omega arith)) (z 3 (omega arith) (omega arith)) (z 4 (omega arith) (omega arith)) (z 5 (omega arith) (omega arith)))
       (λ z. up-2 (z 2 (omega arith) (omega arith)) (z 3 (omega arith) (omega arith)) (z 4 (omega arith) (omega arith)) (z 5 (omega arith) (omega arith)))
       (λ z. up-3 (z 3 (omega arith) (omega arith)) (z 4 (omega arith) (omega arith)) (z 5 (omega arith) (omega arith)))

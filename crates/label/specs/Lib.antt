@@ -1,8 +1,9 @@
--- Terms, atoms and labels (document 01, section 'Terms, labels, listings'; document 02, L3 and L8).
+-- Terms, atoms and labels (document 01, section 'Terms, labels, listings'; document 02, L3, L8 and L12).
 --
 -- Definitions: numbers
 --   constantCount, firstParameter, parameterCount, firstVariable, variableCount == 16 constants from 0, 4 parameters from 16, 64 variables from 64
---   termEnd == 128: every term's number is below it
+--   firstMinimum, minimumCount == 64 minimum variables from 128
+--   termEnd == 192: every term's number is below it
 --   termBits, termBase == 8 bits for a place: the base 256 in which a label's places are packed
 --   predicateCount, mostPlaces == 32 predicates, with at most 6 places each
 --   equality, equalityArity == equality is predicate 0 and has 2 places
@@ -11,9 +12,9 @@
 --   leafMark == 2^64 - 1, a leaf's first word: above every label
 --
 -- Definitions: terms, atoms, labels
---   isConstant, isParameter, isVariable, isTerm == t is the number of a constant, a parameter, a variable; of one of these
+--   isConstant, isParameter, isVariable, isMinimum, isTerm == t is the number of a constant, a parameter, a (maximum) variable, a minimum variable; of one of these
 --   Kind, kindOf == the kind of the term with a number, or that no term has it (an enum of the code)
---   constantTerm, parameterTerm, variableTerm == the number of constant, parameter, variable i
+--   constantTerm, parameterTerm, variableTerm, minimumTerm == the number of constant, parameter, variable, minimum variable i
 --   allAtMost, areArities == an arity list: 32 arities, the first of them 2, each at most 6
 --   Atom == a predicate and six places, unused ones 0 (a struct of the code)
 --   packed, weighed, Label == the number of an atom: predicate · 2^48 + t1 · 2^40 + .. + t6, first place highest; it as a struct of the code
@@ -28,7 +29,7 @@
 --   pickTest == the first test if true, else the second
 --
 -- Definitions: the order of labels, as the thesis writes it (document 02, L3)
---   kindRank, termBefore == constants before parameters before variables; two terms by kind, then by number
+--   kindRank, termBefore == constants before parameters before variables before minimum variables; two terms by kind, then by number
 --   placesBefore, atomBefore, labelBefore == by the first place that differs; by predicate, then by the used places; of labels
 --   StrictTotal == irreflexive, transitive, trichotomous
 --   isFirstWord, wordBefore, Compared == first words of rows, a leaf after every label; what the comparison of two words answers
@@ -40,8 +41,8 @@
 --   mapOf, Increasing == a map of terms as a list of words; a map that turns terms into terms and keeps their order
 --   EachTerm, EachIn == what is so of every term of an atom, of a label
 --   rank == how many numbers of a list are below t
---   numbering == the variables vs renamed to m, m + 1, .. in their order: closing up, moving apart
---   freeing == parameter i turns into variable i, the other variables move up by the parameter count
+--   numbering == the variables us renamed to m, m + 1, .., the minimum variables vs to n, n + 1, .., each kind in its order: closing up, moving apart
+--   freeing == parameter i turns into variable i, the other variables move up by the parameter count, minimum variables stay
 --
 -- Theorems
 --   limits-agree: the limits agree with each other

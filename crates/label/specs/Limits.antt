@@ -1,8 +1,8 @@
 -- The limits of terms and labels, and how a label is packed: the numbers of document 01, section 'Terms, labels, listings',
--- as document 02, L8 has them, by name.
+-- as document 02, L8 and L12 have them, by name.
 use Prim.Native.Nat.{ℕ, _-_, _*_, _^_}
 
--- a term is a constant (numbers 0 to 15), an action parameter (16 to 19) or a variable (64 to 127)
+-- a term is a constant (numbers 0 to 15), an action parameter (16 to 19), a variable (64 to 127) or a minimum variable (128 to 191; document 02, L12)
 abbrev pub constantCount : ℕ
 constantCount = 16
 
@@ -18,9 +18,15 @@ firstVariable = 64
 abbrev pub variableCount : ℕ
 variableCount = 64
 
+abbrev pub firstMinimum : ℕ
+firstMinimum = 128
+
+abbrev pub minimumCount : ℕ
+minimumCount = 64
+
 -- numbers of terms are below this
 abbrev pub termEnd : ℕ
-termEnd = 128
+termEnd = 192
 
 -- a place of a label takes so many bits: its places are packed in this base
 abbrev pub termBits : ℕ

@@ -10,14 +10,15 @@ use Rattle.label.specs.Terms.{kindOf}
 use Rattle.label.specs.Labels.{unpacked, termsOf, isLabel}
 use Rattle.label.specs.declared.Atom.{Atom}
 use Rattle.label.specs.declared.Kind.{Kind}
-use Rattle.label.specs.declared.Kind.the-variants.{Constant, Parameter, Variable, None}
+use Rattle.label.specs.declared.Kind.the-variants.{Constant, Parameter, Variable, Minimum, None}
 
--- constants before parameters before variables
+-- constants before parameters before variables before minimum variables
 abbrev pub kindRank : Kind → ℕ
 kindRank Constant = 0
 kindRank Parameter = 1
 kindRank Variable = 2
-kindRank None = 3
+kindRank Minimum = 3
+kindRank None = 4
 
 -- two terms are compared "by kind of term and then by number"
 unfoldable pub termBefore : ℕ → ℕ → Bool

@@ -10,30 +10,33 @@ use lib.Dec.{eqb, ltb, leb}
 use borrow.Author.Tests.{ltb-true, ltb-false, leb-true, eqb-true, lt-ltb, le-ltb, eq-eqb, ne-eqb}
 use Rattle.basics.specs.Tests.{and-left, and-right, Flag, isTrue, isFalse, flag, Cmp, below, equal, above, cmp}
 use Rattle.basics.specs.Members.{clash}
-use Rattle.label.specs.Limits.{constantCount, firstParameter, parameterCount, firstVariable, termBase, leafMark}
-use Rattle.label.specs.Terms.{isConstant, isParameter, isVariable, isTerm, kindOf}
+use Rattle.label.specs.Limits.{constantCount, firstParameter, parameterCount, firstVariable, variableCount, firstMinimum, termBase, leafMark}
+use Rattle.label.specs.Terms.{isConstant, isParameter, isVariable, isMinimum, isTerm, kindOf}
 use Rattle.label.specs.Labels.{packed, unpacked, placeFits, placesOf, isLabel, termsOf}
 use Rattle.label.specs.LabelLaws.{place-below, unused-zero, used-term, PlacesFit, Fitting, label-fits, label-below, packed-unpacked}
 use Rattle.label.specs.Order.{termBefore, placesBefore, atomBefore, labelBefore, isFirstWord, wordBefore, Compared, StrictTotal}
 use Rattle.label.specs.declared.Atom.{Atom}
-use Rattle.label.specs.declared.Kind.the-variants.{Constant, Parameter, Variable}
+use Rattle.label.specs.declared.Kind.the-variants.{Constant, Parameter, Variable, Minimum}
 
 -- the kind of a term by its number
 data Kinded (t : ℕ) : Type 0 where
   constant : t < constantCount → kindOf t ≡ Constant → Kinded t
   parameter : firstParameter ≤ t → t < firstParameter + parameterCount → kindOf t ≡ Parameter → Kinded t
-  variable : firstVariable ≤ t → kindOf t ≡ Variable → Kinded t
+  variable : firstVariable ≤ t → t < firstMinimum → kindOf t ≡ Variable → Kinded t
+  minimum : firstMinimum ≤ t → kindOf t ≡ Minimum → Kinded t
 
 kinded : (t : ℕ) → isTerm t ≡ true → Kinded t
-unfolding isTerm kindOf isConstant isParameter isVariable
-kinded t e = go (flag (isConstant t)) (flag (isParameter t)) (flag (isVariable t))
+unfolding isTerm kindOf isConstant isParameter isVariable isMinimum
+kinded t e = go (flag (isConstant t)) (flag (isParameter t)) (flag (isVariable t)) (flag (isMinimum t))
   where
-    go : Flag (isConstant t) → Flag (isParameter t) → Flag (isVariable t) → Kinded t
-    go (isTrue p) q r = constant (ltb-true t constantCount p) (rw p)
-    go (isFalse p) (isTrue q) r =
+    go : Flag (isConstant t) → Flag (isParameter t) → Flag (isVariable t) → Flag (isMinimum t) → Kinded t
+    go (isTrue p) q r s = constant (ltb-true t constantCount p) (rw p)
+    go (isFalse p) (isTrue q) r s =
         parameter (leb-true firstParameter t (and-left _ _ q)) (ltb-true t (firstParameter + parameterCount) (and-right (leb firstParameter t) _ q)) (rw (p, q))
-    go (isFalse p) (isFalse q) (isTrue r) = variable (leb-true firstVariable t (and-left _ _ r)) (rw (p, q, r))
-    go (isFalse p) (isFalse q) (isFalse r) = clash e (rw (p, q, r))
+    go (isFalse p) (isFalse q) (isTrue r) s =
+        variable (leb-true firstVariable t (and-left _ _ r)) (ltb-true t (firstVariable + variableCount) (and-right (leb firstVariable t) _ r)) (rw (p, q, r))
+    go (isFalse p) (isFalse q) (isFalse r) (isTrue s) = minimum (leb-true firstMinimum t (and-left _ _ s)) (rw (p, q, r, s))
+    go (isFalse p) (isFalse q) (isFalse r) (isFalse s) = clash e (rw (p, q, r, s))
 
 -- the numbers of terms go by kind
 pub term-numbers : (t u : ℕ) → isTerm t ≡ true → isTerm u ≡ true → termBefore t u ≡ ltb t u
@@ -43,13 +46,20 @@ term-numbers t u p q = go (kinded t p) (kinded u q)
     go : Kinded t → Kinded u → termBefore t u ≡ ltb t u
     go (constant h e) (constant k f) = rw (e, f)
     go (constant h e) (parameter j k f) = rw (e, f, lt-ltb t u (omega arith))
-    go (constant h e) (variable k f) = rw (e, f, lt-ltb t u (omega arith))
+    go (constant h e) (variable j k f) = rw (e, f, lt-ltb t u (omega arith))
+    go (constant h e) (minimum k f) = rw (e, f, lt-ltb t u (omega arith))
     go (parameter g h e) (constant k f) = rw (e, f, le-ltb t u (omega arith))
     go (parameter g h e) (parameter j k f) = rw (e, f)
-    go (parameter g h e) (variable k f) = rw (e, f, lt-ltb t u (omega arith))
-    go (variable h e) (constant k f) = rw (e, f, le-ltb t u (omega arith))
-    go (variable h e) (parameter j k f) = rw (e, f, le-ltb t u (omega arith))
-    go (variable h e) (variable k f) = rw (e, f)
+    go (parameter g h e) (variable j k f) = rw (e, f, lt-ltb t u (omega arith))
+    go (parameter g h e) (minimum k f) = rw (e, f, lt-ltb t u (omega arith))
+    go (variable g h e) (constant k f) = rw (e, f, le-ltb t u (omega arith))
+    go (variable g h e) (parameter j k f) = rw (e, f, le-ltb t u (omega arith))
+    go (variable g h e) (variable j k f) = rw (e, f)
+    go (variable g h e) (minimum k f) = rw (e, f, lt-ltb t u (omega arith))
+    go (minimum h e) (constant k f) = rw (e, f, le-ltb t u (omega arith))
+    go (minimum h e) (parameter j k f) = rw (e, f, le-ltb t u (omega arith))
+    go (minimum h e) (variable j k f) = rw (e, f, le-ltb t u (omega arith))
+    go (minimum h e) (minimum k f) = rw (e, f)
 
 -- the places from place k on of an atom of arity n
 abbrev pub Fits : ℕ → ℕ → List ℕ → Type 0

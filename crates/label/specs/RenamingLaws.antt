@@ -1,18 +1,18 @@
 -- Laws of renamed labels: a map that keeps the order of terms keeps labels normal and in order. Closing up, moving apart and freeing are such maps.
 use mathlib.Core.Path.{_≡_, refl, sym, ap, ap₂, subst, _∙_}
 use mathlib.Core.Logic.{_⊎_, inl, inr}
-use mathlib.Core.Bool.{true, not, _||_, cond}
+use mathlib.Core.Bool.{Bool, true, false, not, _&&_, _||_, cond}
 use mathlib.Core.List.{List, [], _∷_, map}
 use Prim.Native.Nat.{ℕ, zero, suc, _+_, _-_, _/_, _≤_, _<_}
 use native.Mathlib.Omega.{arith}
 use lib.ListN.{length, getD, take}
 use lib.Seq.{take-nil}
-use lib.Dec.{eqb, ltb}
+use lib.Dec.{eqb, ltb, leb}
 use borrow.Author.Tests.{ltb-true, ltb-false, eqb-true, lt-ltb, le-ltb, le-leb, eq-eqb, ne-eqb}
 use Rattle.basics.specs.Tests.{and-left, and-right, Flag, isTrue, isFalse, flag, one, Cmp, below, equal, above, cmp}
 use Rattle.basics.specs.Members.{mem, clash}
-use Rattle.label.specs.Limits.{constantCount, firstParameter, parameterCount, firstVariable, variableCount, termEnd, predicateCount, equalityArity, mostPlaces}
-use Rattle.label.specs.Terms.{isConstant, isParameter, isVariable, isTerm}
+use Rattle.label.specs.Limits.{constantCount, firstParameter, parameterCount, firstVariable, variableCount, firstMinimum, minimumCount, termEnd, predicateCount, equalityArity, mostPlaces}
+use Rattle.label.specs.Terms.{isConstant, isParameter, isVariable, isMinimum, isTerm}
 use Rattle.label.specs.Labels.{areArities, placesOf, placeIn, packed, predicateOf, unpacked, placeFits, inOrder, isAtom, isLabel, termsOf, equalAtom, equates, testOf, labelOf}
 use Rattle.label.specs.Renamings.{placed, mapped, moved, renamed, rank, numbering, freeing, Increasing, EachTerm, EachIn}
 use Rattle.label.specs.LabelLaws.{each-place, atom-same, Fitting, PlacesFit, atom-fits, fits-atom, atom-places, label-fits, label-packed, unpacked-packed, unused-zero, used-term}
@@ -208,11 +208,11 @@ module _ (P : ℕ → Type 0) (ρ : ℕ → ℕ) (inc : Increasing P ρ) where
     unfolding termsOf mapped unpacked predicateOf
     renamed-terms l e p = ap (termsOf ar) (renamed-atom l e p) ∙ mapped-terms ρ (getD ar (predicateOf l) 0) (unpacked l)
 
--- closing up and moving apart
-abbrev pub Numbered : List ℕ → ℕ → Type 0
-Numbered vs t = (isTerm t ≡ true) × ((t < firstVariable) ⊎ (mem eqb t vs ≡ true))
+-- closing up and moving apart: what is no variable, the variables us, the minimum variables vs
+abbrev pub Numbered : List ℕ → List ℕ → ℕ → Type 0
+Numbered us vs t = (isTerm t ≡ true) × ((t < firstVariable) ⊎ (((t < firstMinimum) × (mem eqb t us ≡ true)) ⊎ ((firstMinimum ≤ t) × (mem eqb t vs ≡ true))))
 
-rank-mono : (vs : List ℕ) (t u : ℕ) → t ≤ u → rank vs t ≤ rank vs u
+pub rank-mono : (vs : List ℕ) (t u : ℕ) → t ≤ u → rank vs t ≤ rank vs u
 rank-mono [] t u h = omega arith
 rank-mono (v ∷ vs) t u h = go (flag (ltb v t)) (flag (ltb v u)) (rank-mono vs t u h)
   where
@@ -222,7 +222,7 @@ rank-mono (v ∷ vs) t u h = go (flag (ltb v t)) (flag (ltb v u)) (rank-mono vs 
     go (isFalse p) (isTrue q) ih = rw (p, q) (omega arith)
     go (isFalse p) (isFalse q) ih = rw (p, q) (omega arith)
 
-rank-less : (vs : List ℕ) (t u : ℕ) → mem eqb t vs ≡ true → t < u → rank vs t < rank vs u
+pub rank-less : (vs : List ℕ) (t u : ℕ) → mem eqb t vs ≡ true → t < u → rank vs t < rank vs u
 rank-less [] t u e h = clash e refl
 rank-less (v ∷ vs) t u e h = go (flag (eqb t v)) (flag (ltb v t)) (flag (ltb v u)) (rank-less vs t u)
   where
@@ -236,7 +236,7 @@ rank-less (v ∷ vs) t u e h = go (flag (eqb t v)) (flag (ltb v t)) (flag (ltb v
     go (isFalse x) (isFalse p) (isTrue q) ih = let m : mem eqb t vs ≡ true = rw x at e in rw (p, q) (omega (arith, ih m h))
     go (isFalse x) (isFalse p) (isFalse q) ih = let m : mem eqb t vs ≡ true = rw x at e in rw (p, q) (omega (arith, ih m h))
 
-rank-le : (vs : List ℕ) (t : ℕ) → rank vs t ≤ length vs
+pub rank-le : (vs : List ℕ) (t : ℕ) → rank vs t ≤ length vs
 rank-le [] t = omega arith
 rank-le (v ∷ vs) t = go (flag (ltb v t)) (rank-le vs t)
   where
@@ -247,58 +247,91 @@ rank-le (v ∷ vs) t = go (flag (ltb v t)) (rank-le vs t)
 pub rank-below : (vs : List ℕ) (t : ℕ) → mem eqb t vs ≡ true → rank vs t < length vs
 rank-below vs t e = omega (arith, rank-less vs t (suc t) e (omega arith), rank-le vs (suc t))
 
-pub numbering-low : (vs : List ℕ) (m t : ℕ) → t < firstVariable → numbering vs m t ≡ t
-unfolding numbering
-numbering-low vs m t h = rw (lt-ltb t firstVariable h)
+module _ (us vs : List ℕ) (m n t : ℕ) where
+  pub numbering-low : t < firstVariable → numbering us vs m n t ≡ t
+  unfolding numbering
+  numbering-low h = rw (lt-ltb t firstVariable h)
 
-pub numbering-high : (vs : List ℕ) (m t : ℕ) → firstVariable ≤ t → numbering vs m t ≡ m + rank vs t
-unfolding numbering
-numbering-high vs m t h = rw (le-ltb t firstVariable h)
+  pub numbering-variable : firstVariable ≤ t → t < firstMinimum → numbering us vs m n t ≡ m + rank us t
+  unfolding numbering
+  numbering-variable h k = rw (le-ltb t firstVariable h, lt-ltb t firstMinimum k)
+
+  pub numbering-minimum : firstMinimum ≤ t → numbering us vs m n t ≡ n + rank vs t
+  unfolding numbering
+  numbering-minimum h = rw (le-ltb t firstVariable (omega arith), le-ltb t firstMinimum h)
 
 variable-term : (t : ℕ) → firstVariable ≤ t → t < termEnd → isTerm t ≡ true
-unfolding isTerm isConstant isParameter isVariable
-variable-term t h k =
-    rw (
+unfolding isTerm isConstant isParameter isVariable isMinimum
+variable-term t h k = go (cmp t firstMinimum)
+  where
+    high : firstMinimum ≤ t → isTerm t ≡ true
+    high q = rw (
       le-ltb t constantCount (omega arith),
       le-leb firstParameter t (omega arith),
       le-ltb t (firstParameter + parameterCount) (omega arith),
       le-leb firstVariable t h,
-      lt-ltb t (firstVariable + variableCount) k,
+      le-ltb t (firstVariable + variableCount) q,
+      le-leb firstMinimum t q,
+      lt-ltb t (firstMinimum + minimumCount) k,
     )
 
--- the variables vs, renamed from m on, fit below the end of the terms: the map keeps the order of the constants, the parameters and vs
-pub numbering-increasing : (vs : List ℕ) (m : ℕ) → firstVariable ≤ m → m + length vs ≤ termEnd → Increasing (Numbered vs) (numbering vs m)
-numbering-increasing vs m h room = record { terms = λ t p. term t p (cmp t firstVariable); order = λ t u p q l. less t u p q l (cmp t firstVariable) (cmp u firstVariable) }
+    go : Cmp t firstMinimum → isTerm t ≡ true
+    go (below q) = rw (
+      le-ltb t constantCount (omega arith),
+      le-leb firstParameter t (omega arith),
+      le-ltb t (firstParameter + parameterCount) (omega arith),
+      le-leb firstVariable t h,
+      lt-ltb t (firstVariable + variableCount) q,
+    )
+    go (equal q) = high (omega arith)
+    go (above q) = high (omega arith)
+
+-- the place of a term that is numbered
+data Numbers (us vs : List ℕ) (m n t : ℕ) : Type 0 where
+  fixed : t < firstVariable → numbering us vs m n t ≡ t → Numbers us vs m n t
+  variable : firstVariable ≤ t → t < firstMinimum → mem eqb t us ≡ true → numbering us vs m n t ≡ m + rank us t → Numbers us vs m n t
+  minimum : firstMinimum ≤ t → mem eqb t vs ≡ true → numbering us vs m n t ≡ n + rank vs t → Numbers us vs m n t
+
+-- each kind, renamed from its number on, fits below the end of the kind: the map keeps the order of the constants, the parameters, us and vs
+pub numbering-increasing : (us vs : List ℕ) (m n : ℕ) → firstVariable ≤ m → m + length us ≤ firstMinimum → firstMinimum ≤ n → n + length vs ≤ termEnd
+    → Increasing (Numbered us vs) (numbering us vs m n)
+numbering-increasing us vs m n h room j space = record { terms = term; order = less }
   where
-    in-vs : (t : ℕ) → Numbered vs t → firstVariable ≤ t → mem eqb t vs ≡ true
-    in-vs t p k = go (p .1)
+    numbers : (t : ℕ) → Numbered us vs t → Numbers us vs m n t
+    numbers t p = go (p .1) (cmp t firstVariable)
       where
-        go : (t < firstVariable) ⊎ (mem eqb t vs ≡ true) → mem eqb t vs ≡ true
-        go (inl x) = absurd (omega arith)
-        go (inr x) = x
+        go : (t < firstVariable) ⊎ (((t < firstMinimum) × (mem eqb t us ≡ true)) ⊎ ((firstMinimum ≤ t) × (mem eqb t vs ≡ true))) → Cmp t firstVariable → Numbers us vs m n t
+        go (inl x) q = fixed x (numbering-low us vs m n t x)
+        go (inr (inl x)) (below q) = fixed q (numbering-low us vs m n t q)
+        go (inr (inl x)) (equal q) = variable (omega arith) (x .0) (x .1) (numbering-variable us vs m n t (omega arith) (x .0))
+        go (inr (inl x)) (above q) = variable (omega arith) (x .0) (x .1) (numbering-variable us vs m n t (omega arith) (x .0))
+        go (inr (inr x)) q = minimum (x .0) (x .1) (numbering-minimum us vs m n t (x .0))
 
-    high : (t : ℕ) → Numbered vs t → firstVariable ≤ t → isTerm (numbering vs m t) ≡ true
-    high t p k = rw (numbering-high vs m t k) (variable-term (m + rank vs t) (omega arith) (omega (arith, rank-below vs t (in-vs t p k))))
+    term : (t : ℕ) → Numbered us vs t → isTerm (numbering us vs m n t) ≡ true
+    term t p = go (numbers t p)
+      where
+        go : Numbers us vs m n t → isTerm (numbering us vs m n t) ≡ true
+        go (fixed k e) = rw e (p .0)
+        go (variable k l i e) = variable-term (numbering us vs m n t) (omega arith) (omega (arith, rank-below us t i))
+        go (minimum k i e) = variable-term (numbering us vs m n t) (omega arith) (omega (arith, rank-below vs t i))
 
-    term : (t : ℕ) → Numbered vs t → Cmp t firstVariable → isTerm (numbering vs m t) ≡ true
-    term t p (below k) = rw (numbering-low vs m t k) (p .0)
-    term t p (equal k) = high t p (omega arith)
-    term t p (above k) = high t p (omega arith)
+    less : (t u : ℕ) → Numbered us vs t → Numbered us vs u → t < u → numbering us vs m n t < numbering us vs m n u
+    less t u p q l = go (numbers t p) (numbers u q)
+      where
+        go : Numbers us vs m n t → Numbers us vs m n u → numbering us vs m n t < numbering us vs m n u
+        go (fixed k e) (fixed k′ e′) = omega arith
+        go (fixed k e) (variable k′ l′ i′ e′) = omega arith
+        go (fixed k e) (minimum k′ i′ e′) = omega arith
+        go (variable k g i e) (fixed k′ e′) = absurd (omega arith)
+        go (variable k g i e) (variable k′ g′ i′ e′) = omega (arith, rank-less us t u i l)
+        go (variable k g i e) (minimum k′ i′ e′) = omega (arith, rank-below us t i)
+        go (minimum k i e) (fixed k′ e′) = absurd (omega arith)
+        go (minimum k i e) (variable k′ g′ i′ e′) = absurd (omega arith)
+        go (minimum k i e) (minimum k′ i′ e′) = omega (arith, rank-less vs t u i l)
 
-    both : (t u : ℕ) → Numbered vs t → t < u → firstVariable ≤ t → numbering vs m t < numbering vs m u
-    both t u p l k =
-        rw (numbering-high vs m t k, numbering-high vs m u (omega arith)) (omega (arith, rank-less vs t u (in-vs t p k) l))
-
-    less : (t u : ℕ) → Numbered vs t → Numbered vs u → t < u → Cmp t firstVariable → Cmp u firstVariable → numbering vs m t < numbering vs m u
-    less t u p q l (below j) (below k) = rw (numbering-low vs m t j, numbering-low vs m u k) l
-    less t u p q l (below j) (equal k) = rw (numbering-low vs m t j, numbering-high vs m u (omega arith)) (omega arith)
-    less t u p q l (below j) (above k) = rw (numbering-low vs m t j, numbering-high vs m u (omega arith)) (omega arith)
-    less t u p q l (equal j) k = both t u p l (omega arith)
-    less t u p q l (above j) k = both t u p l (omega arith)
-
--- freeing: constants, the action's parameters, and the variables that stay below the end of the terms
+-- freeing: constants, the action's parameters, the variables that stay below the minimum variables, and these
 abbrev pub Freed : ℕ → ℕ → Type 0
-Freed c t = (isTerm t ≡ true) × ((t < firstParameter + c) ⊎ ((firstVariable ≤ t) × (t + c < termEnd)))
+Freed c t = (isTerm t ≡ true) × ((t < firstParameter + c) ⊎ ((firstVariable ≤ t) × (t < firstMinimum → t + c < firstMinimum)))
 
 pub freeing-constant : (c t : ℕ) → t < firstParameter → freeing c t ≡ t
 unfolding freeing
@@ -308,28 +341,37 @@ pub freeing-parameter : (c t : ℕ) → firstParameter ≤ t → t < firstParame
 unfolding freeing
 freeing-parameter c t h k = rw (le-ltb t firstParameter h, lt-ltb t (firstParameter + c) k)
 
-pub freeing-variable : (c t : ℕ) → firstParameter + c ≤ firstVariable → firstVariable ≤ t → freeing c t ≡ t + c
+pub freeing-variable : (c t : ℕ) → firstParameter + c ≤ firstVariable → firstVariable ≤ t → t < firstMinimum → freeing c t ≡ t + c
 unfolding freeing
-freeing-variable c t m h = rw (le-ltb t firstParameter (omega arith), le-ltb t (firstParameter + c) (omega arith), le-ltb t firstVariable h)
+freeing-variable c t m h k =
+    rw (le-ltb t firstParameter (omega arith), le-ltb t (firstParameter + c) (omega arith), le-ltb t firstVariable h, lt-ltb t firstMinimum k)
+
+pub freeing-minimum : (c t : ℕ) → firstParameter + c ≤ firstVariable → firstMinimum ≤ t → freeing c t ≡ t
+unfolding freeing
+freeing-minimum c t m h =
+    rw (le-ltb t firstParameter (omega arith), le-ltb t (firstParameter + c) (omega arith), le-ltb t firstVariable (omega arith), le-ltb t firstMinimum h)
 
 -- where freeing puts a term
 data Image (c t : ℕ) : Type 0 where
   constant : t < firstParameter → freeing c t ≡ t → Image c t
   parameter : firstParameter ≤ t → t < firstParameter + c → freeing c t ≡ t + (firstVariable - firstParameter) → Image c t
-  variable : firstVariable ≤ t → t + c < termEnd → freeing c t ≡ t + c → Image c t
+  variable : firstVariable ≤ t → t + c < firstMinimum → freeing c t ≡ t + c → Image c t
+  minimum : firstMinimum ≤ t → freeing c t ≡ t → Image c t
 
 -- the parameters turn into variables, which the others follow
 pub freeing-increasing : (c : ℕ) → c ≤ parameterCount → Increasing (Freed c) (freeing c)
 freeing-increasing c m = record { terms = term; order = less }
   where
     image : (t : ℕ) → Freed c t → Image c t
-    image t p = go (p .1) (cmp t firstParameter)
+    image t p = go (p .1) (cmp t firstParameter) (cmp t firstMinimum)
       where
-        go : (t < firstParameter + c) ⊎ ((firstVariable ≤ t) × (t + c < termEnd)) → Cmp t firstParameter → Image c t
-        go (inl h) (below k) = constant k (freeing-constant c t k)
-        go (inl h) (equal k) = parameter (omega arith) h (freeing-parameter c t (omega arith) h)
-        go (inl h) (above k) = parameter (omega arith) h (freeing-parameter c t (omega arith) h)
-        go (inr h) k = variable (h .0) (h .1) (freeing-variable c t (omega arith) (h .0))
+        go : (t < firstParameter + c) ⊎ ((firstVariable ≤ t) × (t < firstMinimum → t + c < firstMinimum)) → Cmp t firstParameter → Cmp t firstMinimum → Image c t
+        go (inl h) (below k) l = constant k (freeing-constant c t k)
+        go (inl h) (equal k) l = parameter (omega arith) h (freeing-parameter c t (omega arith) h)
+        go (inl h) (above k) l = parameter (omega arith) h (freeing-parameter c t (omega arith) h)
+        go (inr h) k (below l) = variable (h .0) (h .1 l) (freeing-variable c t (omega arith) (h .0) l)
+        go (inr h) k (equal l) = minimum (omega arith) (freeing-minimum c t (omega arith) (omega arith))
+        go (inr h) k (above l) = minimum (omega arith) (freeing-minimum c t (omega arith) (omega arith))
 
     term : (t : ℕ) → Freed c t → isTerm (freeing c t) ≡ true
     term t p = go (image t p)
@@ -338,6 +380,7 @@ freeing-increasing c m = record { terms = term; order = less }
         go (constant k e) = rw e (p .0)
         go (parameter j k e) = variable-term (freeing c t) (omega arith) (omega arith)
         go (variable j k e) = variable-term (freeing c t) (omega arith) (omega arith)
+        go (minimum k e) = rw e (p .0)
 
     less : (t u : ℕ) → Freed c t → Freed c u → t < u → freeing c t < freeing c u
     less t u p q h = go (image t p) (image u q)
@@ -346,9 +389,16 @@ freeing-increasing c m = record { terms = term; order = less }
         go (constant k e) (constant k′ e′) = omega arith
         go (constant k e) (parameter j′ k′ e′) = omega arith
         go (constant k e) (variable j′ k′ e′) = omega arith
+        go (constant k e) (minimum k′ e′) = omega arith
         go (parameter j k e) (constant k′ e′) = absurd (omega arith)
         go (parameter j k e) (parameter j′ k′ e′) = omega arith
         go (parameter j k e) (variable j′ k′ e′) = omega arith
+        go (parameter j k e) (minimum k′ e′) = omega arith
         go (variable j k e) (constant k′ e′) = absurd (omega arith)
         go (variable j k e) (parameter j′ k′ e′) = absurd (omega arith)
         go (variable j k e) (variable j′ k′ e′) = omega arith
+        go (variable j k e) (minimum k′ e′) = omega arith
+        go (minimum k e) (constant k′ e′) = absurd (omega arith)
+        go (minimum k e) (parameter j′ k′ e′) = absurd (omega arith)
+        go (minimum k e) (variable j′ k′ e′) = absurd (omega arith)
+        go (minimum k e) (minimum k′ e′) = omega arith

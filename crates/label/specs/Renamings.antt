@@ -5,7 +5,7 @@ use mathlib.Core.Path.{_≡_}
 use Prim.Native.Nat.{ℕ, _+_, _-_, _<_}
 use lib.ListN.{getD}
 use lib.Dec.{ltb}
-use Rattle.label.specs.Limits.{firstParameter, firstVariable, mostPlaces}
+use Rattle.label.specs.Limits.{firstParameter, firstVariable, firstMinimum, mostPlaces}
 use Rattle.label.specs.Terms.{isTerm}
 use Rattle.label.specs.Labels.{placeIn, packed, unpacked, testOf, predicateOf}
 use Rattle.label.specs.declared.Atom.{Atom}
@@ -44,16 +44,18 @@ abbrev pub rank : List ℕ → ℕ → ℕ
 rank [] t = 0
 rank (v ∷ vs) t = cond (ltb v t) 1 0 + rank vs t
 
--- the variables vs renamed to m, m + 1, .. in their order: closing up has m = firstVariable, the second operand of a call apart that and the first's count
-unfoldable pub numbering : List ℕ → ℕ → ℕ → ℕ
-numbering vs m t = cond (ltb t firstVariable) t (m + rank vs t)
+-- the variables us renamed to m, m + 1, .. and the minimum variables vs to n, n + 1, .., each kind in its order: closing up has the first number of each kind,
+-- the second operand of a call apart that and the first's count of the kind
+unfoldable pub numbering : List ℕ → List ℕ → ℕ → ℕ → ℕ → ℕ
+numbering us vs m n t = cond (ltb t firstVariable) t (cond (ltb t firstMinimum) (m + rank us t) (n + rank vs t))
 
--- freeing: parameter i turns into variable i, and the other variables move up by the parameter count c
+-- freeing: parameter i turns into variable i, and the other variables move up by the parameter count c; minimum variables stay
 unfoldable pub freeing : ℕ → ℕ → ℕ
 freeing c t =
     cond (ltb t firstParameter) t
     (cond (ltb t (firstParameter + c)) (t + (firstVariable - firstParameter))
-    (cond (ltb t firstVariable) t (t + c)))
+    (cond (ltb t firstVariable) t
+    (cond (ltb t firstMinimum) (t + c) t)))
 
 -- ρ turns the terms that P names into terms and keeps their order
 pub record Increasing (P : ℕ → Type 0) (ρ : ℕ → ℕ) : Type 0 where

@@ -2,8 +2,8 @@
 ghost use mathlib.Core.Path.{_≡_};
 ghost use Prim.Native.Nat.{_+_, _*_, _<_, _≤_, min};
 ghost use lib.ListN.{length};
-ghost use Rattle.label.specs.Limits.{constantCount, parameterCount, variableCount, termBase, mostPlaces, predicateCount};
-ghost use Rattle.label.specs.Terms.{isTerm, kindOf, constantTerm, parameterTerm, variableTerm};
+ghost use Rattle.label.specs.Limits.{constantCount, parameterCount, variableCount, minimumCount, termBase, mostPlaces, predicateCount};
+ghost use Rattle.label.specs.Terms.{isTerm, kindOf, constantTerm, parameterTerm, variableTerm, minimumTerm};
 ghost use Rattle.label.specs.Labels.{areArities, packed, predicateOf, placeAt, unpacked, isLabel, isLabelUnder, equalAtom, equates, testOf};
 ghost use Rattle.label.specs.Order.{Compared};
 ghost use Rattle.label.specs.Renamings.{mapOf, placed, mapped, moved, renamed};
@@ -14,6 +14,7 @@ pub enum Kind {
     Constant,
     Parameter,
     Variable,
+    Minimum,
     None,
 }
 
@@ -31,8 +32,12 @@ impl Term {
     pub const FIRST_VARIABLE: u64 = 64;
 
     pub const VARIABLES: u64 = 64;
+
+    pub const FIRST_MINIMUM: u64 = 128;
+
+    pub const MINIMUMS: u64 = 64;
     // Every term's number is below this.
-    pub const END: u64 = 128;
+    pub const END: u64 = 192;
     // A place of a label takes so many bits: its places are packed in this base.
     pub const BITS: u64 = 8;
 
@@ -66,6 +71,16 @@ impl Term {
         }
     }
 
+    // Minimum variable i.
+    pub fn minimum(i: u64) -> Term
+        requires { ⌜ i < minimumCount ⌝ }
+        ensures { λ r. ⌜ r .number ≡ minimumTerm i ⌝ }
+    {
+        Term {
+            number: Term::FIRST_MINIMUM + i,
+        }
+    }
+
     // The kind of the term, or None where no term has the number.
     pub fn kind(self) -> Kind
         ensures { λ r. ⌜ r ≡ kindOf (self .number) ⌝ }
@@ -82,6 +97,9 @@ impl Term {
         }
         if t < Term::FIRST_VARIABLE + Term::VARIABLES {
             return Kind::Variable;
+        }
+        if t < Term::FIRST_MINIMUM + Term::MINIMUMS {
+            return Kind::Minimum;
         }
         Kind::None
     }
@@ -331,7 +349,7 @@ pub fn is_term(t: u64) -> bool
     if t < Term::FIRST_VARIABLE {
         return false;
     }
-    t < Term::FIRST_VARIABLE + Term::VARIABLES
+    t < Term::FIRST_MINIMUM + Term::MINIMUMS
 }
 
 // Place k of a predicate of arity n with its term t replaced.
