@@ -2,7 +2,7 @@
 use mathlib.Core.Path.{_≡_, refl}
 use mathlib.Core.Bool.{Bool, true, false, cond, _||_}
 use mathlib.Core.List.{List, [], _++_}
-use Prim.Native.Nat.{ℕ, _≤_, _<_}
+use Prim.Native.Nat.{ℕ, _+_, _≤_, _<_}
 use native.Mathlib.Omega.{arith}
 use lib.ListN.{length, drop}
 use lib.Dec.{ltb}
@@ -15,7 +15,8 @@ use Rattle.diagram.specs.Diagram.{Diagram, same, eval}
 use Rattle.diagram.specs.Rows.{onto, rows}
 use Rattle.diagram.specs.Words.{isListing}
 use Rattle.diagram.specs.Listing.{listing, diagramOf, Good}
-use Rattle.diagram.specs.Variables.{closed, after}
+use Rattle.label.specs.Limits.{variableCount, minimumCount}
+use Rattle.diagram.specs.Variables.{variables, minimums, closed, after}
 use Rattle.apply.specs.declared.Operation.{Operation}
 use Rattle.apply.specs.declared.Names.{Names}
 use Rattle.apply.specs.declared.Names.the-variants.{Apart, Shared}
@@ -28,7 +29,7 @@ use Rattle.apply.specs.ApplyLaws.{eval-apply}
 use Rattle.apply.specs.RowLaws.{rows-onto, nothing-rows, onto-closed, onto-nodup}
 use Rattle.apply.specs.FormedLaws.{formed-count}
 use Rattle.apply.specs.GoodLaws.{good-apply}
-use Rattle.apply.specs.Combination.{operate, leftOperand, rightOperand, combination, tooMany, operandRows, rowsFormed, diagramAnswer, combineAnswer, combineResult}
+use Rattle.apply.specs.Combination.{operate, leftOperand, rightOperand, combination, tooMany, operandRows, rowsFormed, diagramAnswer, doneAs, combineAnswer, combineResult}
 
 -- the rows formed are the operands' as renamed and those of the result before it is closed up
 pub operands-closed : (names : Names) (ar : List ℕ) (a b : Diagram) → ClosedRows (operandRows names ar a b)
@@ -66,9 +67,15 @@ module _ (op : Operation) (names : Names) (ar x y : List ℕ) (outLength workLen
   answer-buffer e d h = rw (e, d, h)
 
   pub answer-diagrams : isListing ar x ≡ true → isListing ar y ≡ true → resultWords ≤ outLength → spaceWords ≤ workLength
-      → combineAnswer op names ar x y outLength workLength ≡ diagramAnswer op names ar (diagramOf x) (diagramOf y)
+      → combineAnswer op names ar x y outLength workLength ≡ diagramAnswer op (doneAs op names ar (diagramOf x) (diagramOf y)) ar (diagramOf x) (diagramOf y)
   unfolding combineAnswer
   answer-diagrams e d h k = rw (e, d, le-ltb outLength resultWords h, le-ltb workLength spaceWords k)
+
+-- 8 is met exactly where a kind passes its limit
+pub not-many : (ar : List ℕ) (a b : Diagram) → length (variables ar a) + length (variables ar b) ≤ variableCount
+    → length (minimums ar a) + length (minimums ar b) ≤ minimumCount → tooMany Apart ar a b ≡ false
+not-many ar a b v u =
+    rw (le-ltb variableCount (length (variables ar a) + length (variables ar b)) v, le-ltb minimumCount (length (minimums ar a) + length (minimums ar b)) u)
 
 module _ (op : Operation) (names : Names) (ar : List ℕ) (a b : Diagram) where
   pub diagrams-variables : tooMany names ar a b ≡ true → diagramAnswer op names ar a b ≡ Refused Variables
@@ -160,7 +167,7 @@ result-refused op names ar x y workLength out r e = rw e
 pub result-done : (op : Operation) (names : Names) (ar x y : List ℕ) (workLength : ℕ) (out : List ℕ) (n m : ℕ)
     → combineAnswer op names ar x y (length out) workLength ≡ Done n m
     → combineResult op names ar x y workLength out
-    ≡ listing (combination op names ar (diagramOf x) (diagramOf y)) ++ drop (length (listing (combination op names ar (diagramOf x) (diagramOf y)))) out
+    ≡ (let d = combination op (doneAs op names ar (diagramOf x) (diagramOf y)) ar (diagramOf x) (diagramOf y) in listing d ++ drop (length (listing d)) out)
 unfolding combineResult
 result-done op names ar x y workLength out n m e = rw e
 

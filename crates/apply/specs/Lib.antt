@@ -1,4 +1,4 @@
--- Combination: two diagrams combined leaf by leaf (document 01, section 'Combination').
+-- Combination: two diagrams combined leaf by leaf (document 01, section 'Combination'; document 02, L4 and L12).
 --
 -- Definitions: the result
 --   Operation, operate == sum, product, max; the operation on two leaves
@@ -17,13 +17,14 @@
 --   tooHigh, overflows == the operation on two leaves is above 10^18; on some pair of leaves
 --   add, formed == one row more unless it is there; the rows that the pairs form, behind rows that are there
 --   operandRows, rowsFormed == an apart call forms the renamed operands' rows; how many rows a call forms
---   tooMany == more than 64 variables, both operands' together when apart
+--   tooMany == more than 64 variables of a kind, both operands' together when apart
 --   EveryLabel == a property of every label of a diagram
 --
 -- Definitions: the call
 --   Combined == rows and pairs, or the refusal
 --   diagramAnswer == the operation's own checks in order: 8, 10, 11, 9
---   combineAnswer == the call on lent listings: 14 by operand, 18, then the operation's own
+--   doneAs == with which names a call is done: a max asked for with shared names is done apart if either side has a minimum variable
+--   combineAnswer == the call on lent listings: 14 by operand, 18, then the operation's own, done as doneAs says
 --   written, combineResult == the result buffer then: words behind a result stay, and a refused call changes none
 --
 -- Definitions: before request L4, when only two leaves ended a pair

@@ -7,7 +7,7 @@ pub enum Operation {
     Max,
 }
 
-// Whether the operands' variables are kept apart.
+// Whether the operands' variables are kept apart. A max asked for with shared names is done apart where an operand has a minimum variable.
 pub enum Names {
     Apart,
     Shared,

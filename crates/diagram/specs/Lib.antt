@@ -30,9 +30,10 @@
 --
 -- Definitions: variables
 --   occurs == a term stands in a label of the diagram
---   occurring, variables, pickList == those of n terms that occur; the variables, ascending
---   closedFrom, closed == the used variables renamed to m, m + 1, ..; from the first variable on: closing up
---   after == the second operand's variables follow after the first's: apart
+--   occurring, variables, minimums, pickList == those of n terms that occur; the variables, the minimum variables, ascending
+--   isPlain == a diagram without minimum variables
+--   closedFrom, closed == the used variables renamed to m, m + 1, .., the minimum variables to n, n + 1, ..; from the first of each kind on: closing up
+--   after == the second operand's variables follow after the first's, kind by kind: apart
 --
 -- Theorems
 --   canonicity: two ordered reduced diagrams with one meaning are equal

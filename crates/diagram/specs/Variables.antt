@@ -1,11 +1,11 @@
--- The variables of a diagram, closing up and moving apart (document 01, section 'Combination').
+-- The variables of a diagram, closing up and moving apart (document 01, section 'Combination'; kind by kind, document 02, L12).
 use mathlib.Core.Bool.{Bool, true, false, _||_}
 use mathlib.Core.List.{List, [], _∷_, _++_}
 use Prim.Native.Nat.{ℕ, zero, suc, _+_}
 use lib.ListN.{length}
 use lib.Dec.{eqb}
 use Rattle.basics.specs.Members.{mem}
-use Rattle.label.specs.Limits.{firstVariable, variableCount}
+use Rattle.label.specs.Limits.{firstVariable, variableCount, firstMinimum, minimumCount}
 use Rattle.label.specs.Labels.{termsOf, unpacked}
 use Rattle.label.specs.Renamings.{renamed, numbering}
 use Rattle.diagram.specs.Diagram.{Diagram, leaf, branch, relabel}
@@ -29,17 +29,27 @@ unfoldable pub variables : List ℕ → Diagram → List ℕ
 unfolding occurring occurs
 variables ar d = occurring ar d firstVariable variableCount
 
--- the used variables renamed to m, m + 1, .. in their order
-unfoldable pub closedFrom : List ℕ → ℕ → Diagram → Diagram
-unfolding variables relabel
-closedFrom ar m d = relabel (renamed ar (numbering (variables ar d) m)) d
+-- its minimum variables, ascending
+unfoldable pub minimums : List ℕ → Diagram → List ℕ
+unfolding occurring occurs
+minimums ar d = occurring ar d firstMinimum minimumCount
 
--- closing up: the used variables become the first ones in their order
+-- d has no minimum variable
+unfoldable pub isPlain : List ℕ → Diagram → Bool
+unfolding minimums
+isPlain ar d = eqb (length (minimums ar d)) 0
+
+-- the used variables renamed to m, m + 1, .. and the used minimum variables to n, n + 1, .., each kind in its order
+unfoldable pub closedFrom : List ℕ → ℕ → ℕ → Diagram → Diagram
+unfolding variables minimums relabel
+closedFrom ar m n d = relabel (renamed ar (numbering (variables ar d) (minimums ar d) m n)) d
+
+-- closing up: the used variables become the first ones in their order, and "closing up keeps the two kinds separate"
 unfoldable pub closed : List ℕ → Diagram → Diagram
 unfolding closedFrom
-closed ar d = closedFrom ar firstVariable d
+closed ar d = closedFrom ar firstVariable firstMinimum d
 
--- apart: the variables of the second operand b follow after those of the first, a
+-- apart: the variables of the second operand b follow after those of the first, a, and so do its minimum variables
 unfoldable pub after : List ℕ → Diagram → Diagram → Diagram
 unfolding closedFrom
-after ar a b = closedFrom ar (firstVariable + length (variables ar a)) b
+after ar a b = closedFrom ar (firstVariable + length (variables ar a)) (firstMinimum + length (minimums ar a)) b

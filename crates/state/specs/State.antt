@@ -9,7 +9,8 @@ use Rattle.label.specs.Limits.{firstParameter, firstVariable}
 use Rattle.label.specs.Labels.{predicateOf, unpacked, termsOf}
 use Rattle.diagram.specs.Diagram.{Tree, leaf, Diagram, eval, relabel}
 
--- an atomic formula: a predicate and its terms. A term is its number: constants first, then parameters, then variables.
+-- an atomic formula: a predicate and its terms. A term is its number: constants first, then parameters, then variables, then minimum
+-- variables (document 02, L12). In this crate a variable is one of either kind: every term from the first variable on.
 pub data Atomic : Type 0 where
   atom : ℕ → List ℕ → Atomic
 
