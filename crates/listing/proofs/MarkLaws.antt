@@ -11,7 +11,7 @@ use lib.Dec.{eqb}
 use borrow.Author.Tests.{eqb-true, eqb-false, eq-eqb, ne-eqb}
 use Rattle.basics.specs.Tests.{Flag, isTrue, isFalse, flag, Cmp, cmp, below, equal, above, cond-const}
 use Rattle.basics.specs.Members.{mem}
-use Rattle.label.specs.Limits.{leafMark, termEnd, mostPlaces, predicateCount, firstVariable, variableCount}
+use Rattle.label.specs.Limits.{leafMark, termEnd, mostPlaces, predicateCount, firstVariable, variableCount, firstMinimum}
 use Rattle.label.specs.Labels.{placesOf, predicateOf, placeAt, unpacked, isLabel, termsOf}
 use Rattle.label.specs.LabelLaws.{label-fits, predicate-of, place-of, place-end}
 use Rattle.label.specs.ArityLaws.{arity-most, arity-words}
@@ -20,7 +20,7 @@ use Rattle.diagram.specs.Listing.{diagramOf}
 use Rattle.diagram.specs.Validity.{Valid}
 use Rattle.diagram.specs.RowDiagrams.{branch-row}
 use Rattle.diagram.specs.DiagramOfListing.{valid-rows}
-use Rattle.listing.specs.Used.{rowTerms, mentioned, marked, Markable, Cleared, Used, setFrom, markedVariables}
+use Rattle.listing.specs.Used.{rowTerms, mentioned, marked, Markable, Cleared, Used, setFrom, markedVariables, markedMinimums}
 use Rattle.listing.specs.UsedLaws.{terms-leaf, terms-branch, mentioned-none, mentioned-more, mentioned-occurs}
 
 -- clear: the marks before t are cleared
@@ -169,32 +169,46 @@ count-small {x} m e = go (flag (eqb m 0))
 plus-none : (n x : ℕ) → x ≡ 0 → n ≡ n + x
 plus-none n x e = omega arith
 
--- count_variables: n of the variables' marks before t are set
-pub record Counting (ms : List ℕ) (n t : ℕ) : Type 0 where
-  pub most : t ≤ termEnd
-  pub fewer : n + firstVariable ≤ t
-  pub sum : n + setFrom ms t (termEnd - t) ≡ setFrom ms firstVariable variableCount
+-- count_between: n of the marks from `first` on and before t are set
+pub record Counting (ms : List ℕ) (first end n t : ℕ) : Type 0 where
+  pub most : t ≤ end
+  pub last : end ≤ termEnd
+  pub fewer : n + first ≤ t
+  pub sum : n + setFrom ms t (end - t) ≡ setFrom ms first (end - first)
 
-module _ {ms : List ℕ} where
-  pub count-start : Counting ms 0 firstVariable
-  count-start = record { most = omega arith; fewer = omega arith; sum = omega arith }
+module _ {ms : List ℕ} {first end : ℕ} where
+  pub count-start : first ≤ end → end ≤ termEnd → Counting ms first end 0 first
+  count-start h k = record { most = h; last = k; fewer = omega arith; sum = omega arith }
 
-  pub count-next : {n t x : ℕ} → Counting ms n t → t < termEnd → x ≡ cond (eqb (getD ms t 0) 0) 0 1 → Counting ms (n + x) (t + 1)
-  count-next {n} {t} {x} c h e = record { most = omega arith; fewer = omega (arith, c .fewer, count-small (getD ms t 0) e); sum = all }
+  pub count-next : {n t x : ℕ} → Counting ms first end n t → t < end → x ≡ cond (eqb (getD ms t 0) 0) 0 1 → Counting ms first end (n + x) (t + 1)
+  count-next {n} {t} {x} c h e = record { most = omega arith; last = c .last; fewer = omega (arith, c .fewer, count-small (getD ms t 0) e); sum = all }
     where
-      all : n + x + setFrom ms (t + 1) (termEnd - (t + 1)) ≡ setFrom ms firstVariable variableCount
+      all : n + x + setFrom ms (t + 1) (end - (t + 1)) ≡ setFrom ms first (end - first)
       all =
-          let p : termEnd - t ≡ suc (termEnd - (t + 1)) = omega arith in
-          let q : setFrom ms t (termEnd - t) ≡ x + setFrom ms (suc t) (termEnd - (t + 1)) = ap (setFrom ms t) p ∙ set-more ms t (termEnd - (t + 1)) ∙ rw e in
-          let r : setFrom ms (t + 1) (termEnd - (t + 1)) ≡ setFrom ms (suc t) (termEnd - (t + 1)) = rw add-one in
+          let p : end - t ≡ suc (end - (t + 1)) = omega arith in
+          let q : setFrom ms t (end - t) ≡ x + setFrom ms (suc t) (end - (t + 1)) = ap (setFrom ms t) p ∙ set-more ms t (end - (t + 1)) ∙ rw e in
+          let r : setFrom ms (t + 1) (end - (t + 1)) ≡ setFrom ms (suc t) (end - (t + 1)) = rw add-one in
           omega (arith, c .sum)
 
-  pub count-room : {n t x : ℕ} → Counting ms n t → x ≡ cond (eqb (getD ms t 0) 0) 0 1 → n + x < 18446744073709551616
-  count-room {n} {t} {x} c e = omega (arith, c .most, c .fewer, count-small (getD ms t 0) e)
+  pub count-room : {n t x : ℕ} → Counting ms first end n t → x ≡ cond (eqb (getD ms t 0) 0) 0 1 → n + x < 18446744073709551616
+  count-room {n} {t} {x} c e = omega (arith, c .most, c .last, c .fewer, count-small (getD ms t 0) e)
 
-  pub count-end : {n t : ℕ} → Counting ms n t → termEnd ≤ t → n ≡ markedVariables ms
-  unfolding markedVariables
+  pub count-within : {n t : ℕ} → Counting ms first end n t → length ms ≡ termEnd → t < end → t < length ms
+  count-within c w h = omega (arith, c .last)
+
+  pub count-end : {n t : ℕ} → Counting ms first end n t → end ≤ t → n ≡ setFrom ms first (end - first)
   count-end {n} {t} c h =
-      let p : termEnd - t ≡ 0 = omega arith in
-      let q : setFrom ms t (termEnd - t) ≡ 0 = ap (setFrom ms t) p ∙ set-none ms t in
+      let p : end - t ≡ 0 = omega arith in
+      let q : setFrom ms t (end - t) ≡ 0 = ap (setFrom ms t) p ∙ set-none ms t in
       plus-none n _ q ∙ c .sum
+
+pub counted-variables : (ms : List ℕ) {n : ℕ} → n ≡ setFrom ms firstVariable (firstMinimum - firstVariable) → n ≡ markedVariables ms
+unfolding markedVariables
+counted-variables ms e = e
+
+pub counted-minimums : (ms : List ℕ) {n : ℕ} → n ≡ setFrom ms firstMinimum (termEnd - firstMinimum) → n ≡ markedMinimums ms
+unfolding markedMinimums
+counted-minimums ms e = e
+
+pub none-marked : (ms : List ℕ) {n : ℕ} → n ≡ markedMinimums ms → eqb n 0 ≡ eqb (markedMinimums ms) 0
+none-marked ms e = ap (λ (n : ℕ). eqb n 0) e

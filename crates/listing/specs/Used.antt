@@ -6,7 +6,7 @@ use Prim.Native.Nat.{ℕ, zero, suc, _+_, _<_}
 use lib.ListN.{length, getD, set}
 use lib.Dec.{eqb}
 use Rattle.basics.specs.Members.{mem}
-use Rattle.label.specs.Limits.{leafMark, termEnd, firstVariable, variableCount}
+use Rattle.label.specs.Limits.{leafMark, termEnd, firstVariable, variableCount, firstMinimum, minimumCount}
 use Rattle.label.specs.Labels.{termsOf, unpacked}
 use Rattle.diagram.specs.Diagram.{Diagram}
 use Rattle.diagram.specs.Words.{labelAt, rowCount}
@@ -42,6 +42,11 @@ setFrom ms t (suc n) = cond (eqb (getD ms t 0) 0) 0 1 + setFrom ms (suc t) n
 unfoldable pub markedVariables : List ℕ → ℕ
 unfolding setFrom
 markedVariables ms = setFrom ms firstVariable variableCount
+
+-- how many marks of minimum variables are set
+unfoldable pub markedMinimums : List ℕ → ℕ
+unfolding setFrom
+markedMinimums ms = setFrom ms firstMinimum minimumCount
 
 -- what marking a row requires
 pub record Markable (ar ws ms : List ℕ) (i : ℕ) : Type 0 where

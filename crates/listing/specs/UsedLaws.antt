@@ -1,5 +1,5 @@
--- A term occurs in a listing's diagram exactly if it stands in one of the rows, and the set marks of variables are as many as the variables.
-use mathlib.Core.Path.{_≡_, refl, sym, _∙_}
+-- A term occurs in a listing's diagram exactly if it stands in one of the rows, and the set marks of each kind of variable are as many as the variables of that kind.
+use mathlib.Core.Path.{_≡_, refl, sym, ap, _∙_}
 use mathlib.Core.Logic.{_≢_}
 use mathlib.Core.Bool.{Bool, true, false, _||_, cond}
 use mathlib.Core.List.{List, [], _∷_}
@@ -10,7 +10,7 @@ use lib.Dec.{eqb}
 use borrow.Author.Tests.{eqb-true, eqb-false, eq-eqb, ne-eqb}
 use Rattle.basics.specs.Tests.{Flag, isTrue, isFalse, flag, Cmp, cmp, below, equal, above, Either, one, other, either, or-one, or-other}
 use Rattle.basics.specs.Members.{mem, mem-append, clash}
-use Rattle.label.specs.Limits.{leafMark, termEnd, firstVariable, variableCount}
+use Rattle.label.specs.Limits.{leafMark, termEnd, firstVariable, variableCount, firstMinimum, minimumCount}
 use Rattle.label.specs.Labels.{termsOf, unpacked}
 use Rattle.diagram.specs.Diagram.{Diagram, leaf, branch, same}
 use Rattle.diagram.specs.DiagramLaws.{same-eq, onto-old, onto-leaf, onto-branch}
@@ -19,10 +19,10 @@ use Rattle.diagram.specs.Words.{labelAt, highAt, lowAt, rowCount, upTo}
 use Rattle.diagram.specs.WordLaws.{below-upTo, mem-upTo}
 use Rattle.diagram.specs.Listing.{diagramOf}
 use Rattle.diagram.specs.Validity.{Valid, tree}
-use Rattle.diagram.specs.Variables.{pickList, occurs, occurring, variables}
+use Rattle.diagram.specs.Variables.{pickList, occurs, occurring, variables, minimums, isPlain}
 use Rattle.diagram.specs.Shown.{Shown, mem-tree}
 use Rattle.diagram.specs.DiagramOfListing.{shown-rows, diagram-is, rows-are}
-use Rattle.listing.specs.Used.{rowTerms, mentioned, Used, setFrom, markedVariables}
+use Rattle.listing.specs.Used.{rowTerms, mentioned, Used, setFrom, markedVariables, markedMinimums}
 
 -- two tests that imply each other are equal
 same-tests : (a b : Bool) → (a ≡ true → b ≡ true) → (b ≡ true → a ≡ true) → a ≡ b
@@ -187,3 +187,12 @@ module _ (ar : List ℕ) (d : Diagram) (ms : List ℕ) (u : Used ar d ms) where
   pub marked-variables : markedVariables ms ≡ length (variables ar d)
   unfolding markedVariables variables
   marked-variables = set-occurring firstVariable variableCount (omega arith)
+
+  pub marked-minimums : markedMinimums ms ≡ length (minimums ar d)
+  unfolding markedMinimums minimums
+  marked-minimums = set-occurring firstMinimum minimumCount (omega arith)
+
+  -- none of them: the diagram has no minimum variable
+  pub marked-plain : eqb (markedMinimums ms) 0 ≡ isPlain ar d
+  unfolding isPlain
+  marked-plain = ap (λ (n : ℕ). eqb n 0) marked-minimums

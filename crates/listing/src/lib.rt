@@ -3,7 +3,7 @@ use label::Label;
 use label::Term;
 use table::Found;
 ghost use mathlib.Core.Path.{_≡_};
-ghost use Prim.Native.Nat.{_+_, _*_, _<_, _≤_};
+ghost use Prim.Native.Nat.{_+_, _-_, _*_, _<_, _≤_};
 ghost use mathlib.Core.Bool.{cond};
 ghost use lib.Dec.{eqb};
 ghost use lib.ListN.{length};
@@ -13,7 +13,7 @@ ghost use Rattle.diagram.specs.Words.{isListing};
 ghost use Rattle.diagram.specs.Listing.{diagramOf};
 ghost use Rattle.diagram.specs.Validity.{ValidRow, ValidRows, Valid};
 ghost use Rattle.listing.specs.Check.{Decides, Entered, Downward, Walked};
-ghost use Rattle.listing.specs.Used.{rowTerms, marked, Markable, Cleared, Used, markedVariables};
+ghost use Rattle.listing.specs.Used.{rowTerms, marked, Markable, Cleared, Used, setFrom, markedVariables, markedMinimums};
 
 // Whether row i is a leaf or a branch, its children before it.
 fn is_valid_row(arities: &[u64], words: &[u64], i: usize) -> bool
@@ -212,16 +212,46 @@ fn counted(mark: u64) -> usize
     1
 }
 
+// How many of the terms from `first` on and before `end` are marked.
+fn count_between(marks: &[u64], first: usize, end: usize) -> usize
+    requires { ⌜ length (now marks) ≡ termEnd ⌝ }
+    requires { ⌜ first ≤ end ⌝ }
+    requires { ⌜ end ≤ termEnd ⌝ }
+    ensures { λ r. ⌜ r ≡ setFrom (now (marks .entry)) first (end - first) ⌝ }
+{
+    let mut n = 0;
+    let mut t = first;
+    while t < end {
+        n += counted(marks[t]);
+        t += 1;
+    }
+    n
+}
+
 // How many variables are marked.
 pub fn count_variables(marks: &[u64]) -> usize
     requires { ⌜ length (now marks) ≡ termEnd ⌝ }
     ensures { λ r. ⌜ r ≡ markedVariables (now (marks .entry)) ⌝ }
 {
-    let mut n = 0;
-    let mut t = Term::FIRST_VARIABLE as usize;
-    while t < (Term::END as usize) {
-        n += counted(marks[t]);
-        t += 1;
-    }
-    n
+    count_between(
+        marks,
+        Term::FIRST_VARIABLE as usize,
+        Term::FIRST_MINIMUM as usize,
+    )
+}
+
+// How many minimum variables are marked.
+pub fn count_minimums(marks: &[u64]) -> usize
+    requires { ⌜ length (now marks) ≡ termEnd ⌝ }
+    ensures { λ r. ⌜ r ≡ markedMinimums (now (marks .entry)) ⌝ }
+{
+    count_between(marks, Term::FIRST_MINIMUM as usize, Term::END as usize)
+}
+
+// Whether no minimum variable is marked.
+pub fn is_plain(marks: &[u64]) -> bool
+    requires { ⌜ length (now marks) ≡ termEnd ⌝ }
+    ensures { λ r. ⌜ r ≡ eqb (markedMinimums (now (marks .entry))) 0 ⌝ }
+{
+    count_minimums(marks) == 0
 }

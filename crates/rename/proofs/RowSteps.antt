@@ -118,7 +118,8 @@ module _ {ar ws map old : List ℕ} (pre : Renamable ar ws map old) {k : ℕ} (h
 
       two : Copied new old (set (set out (k * 3) x) (k * 3 + 1) (getD ws (k * 3 + 1) 0)) (suc (suc (k * 3)))
       two =
-          rw e₁ (copy-next new old (set out (k * 3) x) (suc (k * 3)) (getD ws (suc (k * 3)) 0) (omega (arith, size)) (omega (arith, room)) (ap (λ i. getD ws i 0) (sym e₁) ∙ sym (row .1) ∙ ap (λ i. getD new i 0) e₁) one)
+          rw e₁ (copy-next new old (set out (k * 3) x) (suc (k * 3)) (getD ws (suc (k * 3)) 0) (omega (arith, size)) (omega (arith, room))
+          (ap (λ i. getD ws i 0) (sym e₁) ∙ sym (row .1) ∙ ap (λ i. getD new i 0) e₁) one)
 
       three : Copied new old (set (set (set out (k * 3) x) (k * 3 + 1) (getD ws (k * 3 + 1) 0)) (k * 3 + 2) (getD ws (k * 3 + 2) 0)) (suc (suc (suc (k * 3))))
       three =

@@ -5,17 +5,18 @@ use mathlib.Core.Bool.{true}
 use mathlib.Core.List.{List}
 use Prim.Native.Nat.{ℕ, _+_, _≤_}
 use lib.ListN.{length}
-use Rattle.label.specs.Limits.{termEnd, predicateCount, parameterCount, leafMark}
+use Rattle.label.specs.Limits.{firstMinimum, termEnd, predicateCount, parameterCount, leafMark}
 use Rattle.label.specs.Labels.{isLabel}
 use Rattle.label.specs.Callers.{TermMap}
 use Rattle.diagram.specs.Words.{isListing}
-use Rattle.rename.specs.Maps.{usedVariables}
+use Rattle.rename.specs.Maps.{usedVariables, usedMinimums}
 
--- the used variables, numbered from `first` on, fit below the end of the terms
-pub record Closable (used : List ℕ) (first : ℕ) (map : List ℕ) : Type 0 where
+-- the used variables, numbered from `first` on, fit below the minimum variables, and the used minimum variables, numbered from `minimum` on, below the end of the terms
+pub record Closable (used : List ℕ) (first minimum : ℕ) (map : List ℕ) : Type 0 where
   pub marks : termEnd ≤ length used
   pub whole : termEnd ≤ length map
-  pub room : first + length (usedVariables used) ≤ termEnd
+  pub room : first + length (usedVariables used) ≤ firstMinimum
+  pub space : minimum + length (usedMinimums used) ≤ termEnd
 
 -- an action's parameter count
 pub record Countable (count : ℕ) (map : List ℕ) : Type 0 where

@@ -9,9 +9,9 @@ use lib.ListN.{length}
 use lib.Dec.{ltb}
 use borrow.Author.Tests.{lt-ltb, le-ltb}
 use Rattle.basics.specs.Tests.{Cmp, below, equal, above, cmp}
-use Rattle.label.specs.Limits.{firstParameter, firstVariable, termEnd}
+use Rattle.label.specs.Limits.{firstParameter, firstVariable, firstMinimum}
 use Rattle.label.specs.Renamings.{renamed, freeing, Increasing}
-use Rattle.label.specs.RenamingLaws.{Freed, freeing-increasing, freeing-constant, freeing-parameter, freeing-variable}
+use Rattle.label.specs.RenamingLaws.{Freed, freeing-increasing, freeing-constant, freeing-parameter, freeing-variable, freeing-minimum}
 use Rattle.diagram.specs.Diagram.{Diagram}
 use Rattle.diagram.specs.Rows.{rows}
 use Rattle.diagram.specs.Listing.{listing, Good}
@@ -30,28 +30,35 @@ freeing-other c t h k = rw (le-ltb t firstParameter (omega arith), le-ltb t (fir
 data Kind (c t : ℕ) : Type 0 where
   constant : t < firstParameter → Kind c t
   parameter : firstParameter ≤ t → t < firstParameter + c → Kind c t
-  variable : firstVariable ≤ t → t + c < termEnd → Kind c t
+  variable : firstVariable ≤ t → t + c < firstMinimum → Kind c t
+  minimum : firstMinimum ≤ t → Kind c t
 
 module _ (ar : List ℕ) (c : ℕ) (d : Diagram) (good : Good ar d) (free : Freeable ar c d) where
   kind : (t : ℕ) → occurs ar t d ≡ true → Kind c t
   kind t e = go (cmp t firstParameter) (cmp t firstVariable)
     where
+      high : firstVariable ≤ t → Cmp t firstMinimum → Kind c t
+      high h (below k) = variable h (free .variables t e h k)
+      high h (equal k) = minimum (omega arith)
+      high h (above k) = minimum (omega arith)
+
       go : Cmp t firstParameter → Cmp t firstVariable → Kind c t
       go (below h) k = constant h
       go (equal h) (below k) = parameter (omega arith) (free .parameters t e k)
       go (above h) (below k) = parameter (omega arith) (free .parameters t e k)
-      go (equal h) (equal k) = variable (omega arith) (free .variables t e (omega arith))
-      go (equal h) (above k) = variable (omega arith) (free .variables t e (omega arith))
-      go (above h) (equal k) = variable (omega arith) (free .variables t e (omega arith))
-      go (above h) (above k) = variable (omega arith) (free .variables t e (omega arith))
+      go (equal h) (equal k) = high (omega arith) (cmp t firstMinimum)
+      go (equal h) (above k) = high (omega arith) (cmp t firstMinimum)
+      go (above h) (equal k) = high (omega arith) (cmp t firstMinimum)
+      go (above h) (above k) = high (omega arith) (cmp t firstMinimum)
 
   occurs-freed : (t : ℕ) → occurs ar t d ≡ true → Freed c t
   occurs-freed t e = (occurs-term ar d t (good .fine) e, go (kind t e))
     where
-      go : Kind c t → (t < firstParameter + c) ⊎ ((firstVariable ≤ t) × (t + c < termEnd))
+      go : Kind c t → (t < firstParameter + c) ⊎ ((firstVariable ≤ t) × (t < firstMinimum → t + c < firstMinimum))
       go (constant h) = inl (omega arith)
       go (parameter h k) = inl k
-      go (variable h k) = inr (h, k)
+      go (variable h k) = inr (h, λ z. k)
+      go (minimum h) = inr (omega arith, λ z. absurd (omega arith))
 
   pub terms-freed : Terms ar (Freed c) d
   terms-freed = terms-each-occurs ar (Freed c) d occurs-freed
@@ -87,18 +94,20 @@ module _ (ar : List ℕ) (c : ℕ) (d : Diagram) (good : Good ar d) (free : Free
       go : (u : ℕ) → freeing c u ≡ t → Kind c u → (t < firstParameter) ⊎ (firstVariable ≤ t)
       go u g (constant h) = inl (omega (arith, freeing-constant c u h))
       go u g (parameter h k) = inr (omega (arith, freeing-parameter c u h k))
-      go u g (variable h k) = inr (omega (arith, free .count, freeing-variable c u (omega (arith, free .count)) h))
+      go u g (variable h k) = inr (omega (arith, freeing-variable c u (omega (arith, free .count)) h (omega arith)))
+      go u g (minimum h) = inr (omega (arith, freeing-minimum c u (omega (arith, free .count)) h))
 
   pub leaf-freed : (h : ℕ → List ℕ → Bool) (θ : ℕ → ℕ) → leafOf ar h θ (freed ar c d) ≡ leafOf ar h (λ t. θ (freeing c t)) d
   unfolding freed
   leaf-freed h θ = leaf-renaming ar (good .arities) (Freed c) (freeing c) increasing h θ d (good .fine) terms-freed
 
-  -- constants by η, parameters by ζ, the first c variables by η at the parameters, the others by η at the variables they come from
+  -- constants and minimum variables by η, parameters by ζ, the first c variables by η at the parameters, the others by η at the variables they come from
   unbinding : (ℕ → ℕ) → (ℕ → ℕ) → ℕ → ℕ
   unbinding η ζ t =
       cond (ltb t firstParameter) (η t)
       (cond (ltb t firstVariable) (ζ t)
-      (cond (ltb t (firstVariable + c)) (η (t - (firstVariable - firstParameter))) (η (t - c))))
+      (cond (ltb t (firstVariable + c)) (η (t - (firstVariable - firstParameter)))
+      (cond (ltb t firstMinimum) (η (t - c)) (η t))))
 
   unbinding-constant : (η ζ : ℕ → ℕ) (t : ℕ) → t < firstParameter → unbinding η ζ t ≡ η t
   unfolding unbinding
@@ -108,9 +117,22 @@ module _ (ar : List ℕ) (c : ℕ) (d : Diagram) (good : Good ar d) (free : Free
   unfolding unbinding
   unbinding-parameter η ζ t h k = rw (le-ltb t firstParameter h, lt-ltb t firstVariable k)
 
+  unbinding-minimum : (η ζ : ℕ → ℕ) (t : ℕ) → firstMinimum ≤ t → unbinding η ζ t ≡ η t
+  unfolding unbinding
+  unbinding-minimum η ζ t h =
+      rw (
+        le-ltb t firstParameter (omega arith),
+        le-ltb t firstVariable (omega arith),
+        le-ltb t (firstVariable + c) (omega (arith, free .count)),
+        le-ltb t firstMinimum h,
+      )
+
   unbinding-range : (η ζ : ℕ → ℕ) (n : ℕ) → ((t : ℕ) → η t < n) → ((t : ℕ) → ζ t < n) → (t : ℕ) → unbinding η ζ t < n
   unfolding unbinding
-  unbinding-range η ζ n p q t = cond-below n (ltb t firstParameter) (p t) (cond-below n (ltb t firstVariable) (q t) (cond-below n (ltb t (firstVariable + c)) (p _) (p _)))
+  unbinding-range η ζ n p q t =
+      cond-below n (ltb t firstParameter) (p t)
+      (cond-below n (ltb t firstVariable) (q t)
+      (cond-below n (ltb t (firstVariable + c)) (p _) (cond-below n (ltb t firstMinimum) (p _) (p _))))
 
   unbinding-freeing : (η ζ : ℕ → ℕ) (t : ℕ) → occurs ar t d ≡ true → unbinding η ζ (freeing c t) ≡ η t
   unfolding unbinding
@@ -133,18 +155,21 @@ module _ (ar : List ℕ) (c : ℕ) (d : Diagram) (good : Good ar d) (free : Free
           let u = t + c in
           let z : u - c ≡ t = omega arith in
           rw (
-            freeing-variable c t (omega arith) h,
+            freeing-variable c t (omega arith) h (omega arith),
             le-ltb u firstParameter (omega arith),
             le-ltb u firstVariable (omega arith),
             le-ltb u (firstVariable + c) (omega arith),
+            lt-ltb u firstMinimum k,
             z,
           )
+      go (minimum h) = ap (unbinding η ζ) (freeing-minimum c t (omega (arith, free .count)) h) ∙ unbinding-minimum η ζ t h
 
   freed-by : (η ζ : ℕ → ℕ) → FreedBy ar c d η ζ
   freed-by η ζ = record {
     assign = unbinding η ζ;
     constants = unbinding-constant η ζ;
     parameters = unbinding-parameter η ζ;
+    minimums = unbinding-minimum η ζ;
     range = unbinding-range η ζ;
     value = λ h. leaf-freed h (unbinding η ζ) ∙ leaf-agree ar h _ η d (terms-each-occurs ar _ d (unbinding-freeing η ζ));
   }
@@ -155,6 +180,7 @@ module _ (ar : List ℕ) (c : ℕ) (d : Diagram) (good : Good ar d) (free : Free
     constants = λ t h. ap θ (freeing-constant c t h);
     parameters = λ i h. ap θ (freeing-parameter c (firstParameter + i) (omega arith) (omega arith) ∙ shift i);
     others = λ t h k. ap θ (freeing-other c t h k);
+    minimums = λ t h. ap θ (freeing-minimum c t (omega (arith, free .count)) h);
     range = λ n p t. p _;
     value = λ h. leaf-freed h θ;
   }

@@ -10,21 +10,23 @@ use lib.Dec.{eqb, ltb}
 use borrow.Author.Tests.{eq-eqb, ne-eqb, lt-ltb, le-ltb}
 use Rattle.basics.specs.Tests.{Flag, isTrue, isFalse, flag, Cmp, below, equal, above, cmp}
 use Rattle.basics.specs.Members.{mem, clash}
-use Rattle.label.specs.Limits.{firstVariable, variableCount, termEnd, firstParameter, parameterCount}
+use Rattle.label.specs.Limits.{firstVariable, variableCount, firstMinimum, minimumCount, termEnd, firstParameter, parameterCount}
 use Rattle.label.specs.Callers.{TermMap}
 use Rattle.label.specs.Renamings.{rank, numbering, freeing, mapOf}
-use Rattle.label.specs.RenamingLaws.{rank-below, numbering-high, numbering-low}
+use Rattle.label.specs.RenamingLaws.{rank-below, numbering-low, numbering-variable, numbering-minimum, freeing-constant, freeing-parameter, freeing-variable, freeing-minimum}
 use Rattle.diagram.specs.Diagram.{Diagram}
-use Rattle.diagram.specs.Variables.{occurs, pickList, occurring, variables}
+use Rattle.diagram.specs.Variables.{occurs, pickList, occurring, variables, minimums}
 use Rattle.rename.specs.Ascending.{Ascending}
 use Rattle.rename.specs.AscendingLaws.{ascending-weaken, ascending-not, rank-none}
-use Rattle.rename.specs.Maps.{tabled, isUsed, usedFrom, usedVariables, Marks, closeAt, freeAt}
+use Rattle.rename.specs.Maps.{tabled, isUsed, usedFrom, usedVariables, usedMinimums, Marks, closeAt}
 use Rattle.rename.specs.Calls.{Closable}
 use mathlib.Core.Logic.{_⊎_, inl, inr}
 use Rattle.label.specs.LabelLaws.{term-below}
 use Rattle.diagram.specs.Listing.{Good}
 use Rattle.rename.specs.VariableLaws.{occurs-term}
+use Rattle.rename.specs.Relabelling.{KindsFit}
 use Rattle.rename.specs.Freeing.{Freeable}
+use Rattle.rename.specs.FreeingLaws.{freeing-other}
 
 -- the laws of `tabled`: nothing else unfolds it
 pub tabled-none : (f : ℕ → ℕ) → tabled f 0 ≡ []
@@ -87,9 +89,17 @@ pub used-variables-ascending : (used : List ℕ) → Ascending firstVariable (us
 unfolding usedVariables
 used-variables-ascending used = used-ascending used firstVariable variableCount
 
-pub used-variable : (used : List ℕ) (u : ℕ) → firstVariable ≤ u → u < termEnd → mem eqb u (usedVariables used) ≡ isUsed used u
+pub used-variable : (used : List ℕ) (u : ℕ) → firstVariable ≤ u → u < firstMinimum → mem eqb u (usedVariables used) ≡ isUsed used u
 unfolding usedVariables
 used-variable used u h k = used-mem used firstVariable variableCount u h k
+
+pub used-minimums-ascending : (used : List ℕ) → Ascending firstMinimum (usedMinimums used)
+unfolding usedMinimums
+used-minimums-ascending used = used-ascending used firstMinimum minimumCount
+
+pub used-minimum : (used : List ℕ) (u : ℕ) → firstMinimum ≤ u → u < termEnd → mem eqb u (usedMinimums used) ≡ isUsed used u
+unfolding usedMinimums
+used-minimum used u h k = used-mem used firstMinimum minimumCount u h k
 
 -- one more number is below t + 1 if t is there
 pub rank-next : (n : ℕ) (xs : List ℕ) (t : ℕ) → Ascending n xs → rank xs (suc t) ≡ rank xs t + cond (mem eqb t xs) 1 0
@@ -136,91 +146,118 @@ pub used-variables : (ar : List ℕ) (d : Diagram) (used : List ℕ) → Marks a
 unfolding usedVariables variables
 used-variables ar d used m = used-occurring ar d used m firstVariable variableCount (omega arith)
 
+pub used-minimums : (ar : List ℕ) (d : Diagram) (used : List ℕ) → Marks ar d used → usedMinimums used ≡ minimums ar d
+unfolding usedMinimums minimums
+used-minimums ar d used m = used-occurring ar d used m firstMinimum minimumCount (omega arith)
+
 -- the laws of `closeAt`: nothing else unfolds it
-pub close-low : (used : List ℕ) (first t : ℕ) → t < firstVariable → closeAt used first t ≡ t
-unfolding closeAt
-close-low used first t h = rw (lt-ltb t firstVariable h)
+module _ (used : List ℕ) (first minimum t : ℕ) where
+  pub close-low : t < firstVariable → closeAt used first minimum t ≡ t
+  unfolding closeAt
+  close-low h = rw (lt-ltb t firstVariable h)
 
-pub close-used : (used : List ℕ) (first t : ℕ) → firstVariable ≤ t → isUsed used t ≡ true → closeAt used first t ≡ numbering (usedVariables used) first t
-unfolding closeAt
-close-used used first t h e = rw (le-ltb t firstVariable h, e)
+  pub close-used : firstVariable ≤ t → isUsed used t ≡ true → closeAt used first minimum t ≡ numbering (usedVariables used) (usedMinimums used) first minimum t
+  unfolding closeAt
+  close-used h e = rw (le-ltb t firstVariable h, e)
 
-pub close-unused : (used : List ℕ) (first t : ℕ) → firstVariable ≤ t → isUsed used t ≡ false → closeAt used first t ≡ 0
-unfolding closeAt
-close-unused used first t h e = rw (le-ltb t firstVariable h, e)
+  pub close-unused : firstVariable ≤ t → isUsed used t ≡ false → closeAt used first minimum t ≡ 0
+  unfolding closeAt
+  close-unused h e = rw (le-ltb t firstVariable h, e)
 
-pub close-below : (used : List ℕ) (first t : ℕ) → first + length (usedVariables used) ≤ termEnd → t < termEnd → closeAt used first t < termEnd
-close-below used first t room h = go (cmp t firstVariable) (flag (isUsed used t))
-  where
-    high : firstVariable ≤ t → Flag (isUsed used t) → closeAt used first t < termEnd
-    high k (isTrue e) =
-        omega (
-          arith,
-          close-used used first t k e,
-          numbering-high (usedVariables used) first t k,
-          rank-below (usedVariables used) t (used-variable used t k h ∙ e),
-        )
-    high k (isFalse e) = omega (arith, close-unused used first t k e)
+  -- each kind ends where its numbers do
+  close-below : first + length (usedVariables used) ≤ firstMinimum → minimum + length (usedMinimums used) ≤ termEnd → t < termEnd → closeAt used first minimum t < termEnd
+  close-below r s h = go (cmp t firstVariable) (flag (isUsed used t)) (cmp t firstMinimum)
+    where
+      least : firstMinimum ≤ t → isUsed used t ≡ true → closeAt used first minimum t < termEnd
+      least k e =
+          omega (
+            arith,
+            close-used (omega arith) e,
+            numbering-minimum (usedVariables used) (usedMinimums used) first minimum t k,
+            rank-below (usedMinimums used) t (used-minimum used t k h ∙ e),
+          )
 
-    go : Cmp t firstVariable → Flag (isUsed used t) → closeAt used first t < termEnd
-    go (below k) f = omega (arith, close-low used first t k)
-    go (equal k) f = high (omega arith) f
-    go (above k) f = high (omega arith) f
+      high : firstVariable ≤ t → Flag (isUsed used t) → Cmp t firstMinimum → closeAt used first minimum t < termEnd
+      high k (isTrue e) (below l) =
+          omega (
+            arith,
+            close-used k e,
+            numbering-variable (usedVariables used) (usedMinimums used) first minimum t k l,
+            rank-below (usedVariables used) t (used-variable used t k l ∙ e),
+          )
+      high k (isTrue e) (equal l) = least (omega arith) e
+      high k (isTrue e) (above l) = least (omega arith) e
+      high k (isFalse e) l = omega (arith, close-unused k e)
+
+      go : Cmp t firstVariable → Flag (isUsed used t) → Cmp t firstMinimum → closeAt used first minimum t < termEnd
+      go (below k) f l = omega (arith, close-low k)
+      go (equal k) f l = high (omega arith) f l
+      go (above k) f l = high (omega arith) f l
 
 -- the written map is one of terms
-pub close-terms : (used : List ℕ) (first : ℕ) (map rest : List ℕ) → Closable used first map → TermMap (tabled (closeAt used first) termEnd ++ rest)
-close-terms used first map rest c = tabled-terms (closeAt used first) rest (λ t h. close-below used first t (c .room) h)
+pub close-terms : (used : List ℕ) (first minimum : ℕ) (map rest : List ℕ) → Closable used first minimum map → TermMap (tabled (closeAt used first minimum) termEnd ++ rest)
+close-terms used first minimum map rest c =
+    tabled-terms (closeAt used first minimum) rest (λ t h. close-below used first minimum t (c .room) (c .space) h)
 
 -- a written map has the number of each term that is no variable or is used
-pub close-numbers : (used : List ℕ) (first : ℕ) (rest : List ℕ) (t : ℕ) → t < termEnd → (t < firstVariable) ⊎ (isUsed used t ≡ true)
-    → mapOf (tabled (closeAt used first) termEnd ++ rest) t ≡ numbering (usedVariables used) first t
-close-numbers used first rest t h p = tabled-at (closeAt used first) termEnd rest t h ∙ go (cmp t firstVariable) p
+pub close-numbers : (used : List ℕ) (first minimum : ℕ) (rest : List ℕ) (t : ℕ) → t < termEnd → (t < firstVariable) ⊎ (isUsed used t ≡ true)
+    → mapOf (tabled (closeAt used first minimum) termEnd ++ rest) t ≡ numbering (usedVariables used) (usedMinimums used) first minimum t
+close-numbers used first minimum rest t h p = tabled-at (closeAt used first minimum) termEnd rest t h ∙ go (cmp t firstVariable) p
   where
-    high : firstVariable ≤ t → (t < firstVariable) ⊎ (isUsed used t ≡ true) → closeAt used first t ≡ numbering (usedVariables used) first t
+    high : firstVariable ≤ t → (t < firstVariable) ⊎ (isUsed used t ≡ true) → closeAt used first minimum t ≡ numbering (usedVariables used) (usedMinimums used) first minimum t
     high k (inl x) = absurd (omega arith)
-    high k (inr x) = close-used used first t k x
+    high k (inr x) = close-used used first minimum t k x
 
-    go : Cmp t firstVariable → (t < firstVariable) ⊎ (isUsed used t ≡ true) → closeAt used first t ≡ numbering (usedVariables used) first t
-    go (below k) x = close-low used first t k ∙ sym (numbering-low (usedVariables used) first t k)
+    go : Cmp t firstVariable → (t < firstVariable) ⊎ (isUsed used t ≡ true)
+        → closeAt used first minimum t ≡ numbering (usedVariables used) (usedMinimums used) first minimum t
+    go (below k) x = close-low used first minimum t k ∙ sym (numbering-low (usedVariables used) (usedMinimums used) first minimum t k)
     go (equal k) x = high (omega arith) x
     go (above k) x = high (omega arith) x
 
 -- a call on the marks of a diagram's terms
-pub marks-closable : (ar : List ℕ) (d : Diagram) (used : List ℕ) (first : ℕ) (map : List ℕ) → Marks ar d used → termEnd ≤ length map
-    → first + length (variables ar d) ≤ termEnd → Closable used first map
-marks-closable ar d used first map m w r = record { marks = m .whole; whole = w; room = rw (used-variables ar d used m) r }
+pub marks-closable : (ar : List ℕ) (d : Diagram) (used : List ℕ) (first minimum : ℕ) (map : List ℕ) → Marks ar d used → termEnd ≤ length map
+    → KindsFit ar first minimum d → Closable used first minimum map
+marks-closable ar d used first minimum map m w f = record {
+  marks = m .whole;
+  whole = w;
+  room = rw (used-variables ar d used m) (f .variables-end);
+  space = rw (used-minimums ar d used m) (f .minimums-end);
+}
 
--- the laws of `freeAt`: nothing else unfolds it
-pub free-is : (c t : ℕ) → freeing c t < termEnd → freeAt c t ≡ freeing c t
-unfolding freeAt
-free-is c t h = rw (lt-ltb (freeing c t) termEnd h)
-
-pub free-out : (c t : ℕ) → termEnd ≤ freeing c t → freeAt c t ≡ 0
-unfolding freeAt
-free-out c t h = rw (le-ltb (freeing c t) termEnd h)
-
-pub free-below : (c t : ℕ) → freeAt c t < termEnd
-free-below c t = go (cmp (freeing c t) termEnd)
+-- freeing gives a term a number below the end
+pub free-below : (c t : ℕ) → c ≤ parameterCount → t < termEnd → freeing c t < termEnd
+free-below c t m h = go (cmp t firstParameter) (cmp t (firstParameter + c)) (cmp t firstVariable) (cmp t firstMinimum)
   where
-    go : Cmp (freeing c t) termEnd → freeAt c t < termEnd
-    go (below h) = omega (arith, free-is c t h)
-    go (equal h) = omega (arith, free-out c t (omega arith))
-    go (above h) = omega (arith, free-out c t (omega arith))
+    high : firstVariable ≤ t → Cmp t firstMinimum → freeing c t < termEnd
+    high k (below l) = omega (arith, freeing-variable c t (omega arith) k l)
+    high k (equal l) = omega (arith, freeing-minimum c t (omega arith) (omega arith))
+    high k (above l) = omega (arith, freeing-minimum c t (omega arith) (omega arith))
 
-pub free-terms : (c : ℕ) (rest : List ℕ) → TermMap (tabled (freeAt c) termEnd ++ rest)
-free-terms c rest = tabled-terms (freeAt c) rest (λ t h. free-below c t)
+    middle : firstParameter + c ≤ t → Cmp t firstVariable → Cmp t firstMinimum → freeing c t < termEnd
+    middle k (below l) i = omega (arith, freeing-other c t k l)
+    middle k (equal l) i = high (omega arith) i
+    middle k (above l) i = high (omega arith) i
 
-pub free-numbers : (c : ℕ) (rest : List ℕ) (t : ℕ) → t < termEnd → freeing c t < termEnd → mapOf (tabled (freeAt c) termEnd ++ rest) t ≡ freeing c t
-free-numbers c rest t h k = tabled-at (freeAt c) termEnd rest t h ∙ free-is c t k
+    go : Cmp t firstParameter → Cmp t (firstParameter + c) → Cmp t firstVariable → Cmp t firstMinimum → freeing c t < termEnd
+    go (below k) j l i = omega (arith, freeing-constant c t k)
+    go (equal k) (below j) l i = omega (arith, freeing-parameter c t (omega arith) j)
+    go (above k) (below j) l i = omega (arith, freeing-parameter c t (omega arith) j)
+    go (equal k) (equal j) l i = middle (omega arith) l i
+    go (equal k) (above j) l i = middle (omega arith) l i
+    go (above k) (equal j) l i = middle (omega arith) l i
+    go (above k) (above j) l i = middle (omega arith) l i
+
+pub free-terms : (c : ℕ) (rest : List ℕ) → c ≤ parameterCount → TermMap (tabled (freeing c) termEnd ++ rest)
+free-terms c rest m = tabled-terms (freeing c) rest (λ t h. free-below c t m h)
 
 -- no parameter past the count is marked, and no variable that would pass the last
 pub marks-freeable : (ar : List ℕ) (c : ℕ) (d : Diagram) (used : List ℕ) → Good ar d → Marks ar d used → c ≤ parameterCount
-    → ((t : ℕ) → firstParameter + c ≤ t → t < firstVariable → isUsed used t ≡ false) → ((t : ℕ) → termEnd ≤ t + c → t < termEnd → isUsed used t ≡ false)
+    → ((t : ℕ) → firstParameter + c ≤ t → t < firstVariable → isUsed used t ≡ false) → ((t : ℕ) → firstMinimum ≤ t + c → t < firstMinimum → isUsed used t ≡ false)
     → Freeable ar c d
 marks-freeable ar c d used good m few p q = record {
   count = few;
   parameters = λ t e h. first t e h (cmp t (firstParameter + c));
-  variables = λ t e h. second t e (cmp (t + c) termEnd);
+  variables = λ t e h k. second t e k (cmp (t + c) firstMinimum);
 }
   where
     first : (t : ℕ) → occurs ar t d ≡ true → t < firstVariable → Cmp t (firstParameter + c) → t < firstParameter + c
@@ -228,7 +265,7 @@ marks-freeable ar c d used good m few p q = record {
     first t e h (equal k) = clash e (sym (used-occurs ar d used m t (omega arith)) ∙ p t (omega arith) h)
     first t e h (above k) = clash e (sym (used-occurs ar d used m t (omega arith)) ∙ p t (omega arith) h)
 
-    second : (t : ℕ) → occurs ar t d ≡ true → Cmp (t + c) termEnd → t + c < termEnd
-    second t e (below k) = k
-    second t e (equal k) = let b = term-below t (occurs-term ar d t (good .fine) e) in clash e (sym (used-occurs ar d used m t b) ∙ q t (omega arith) b)
-    second t e (above k) = let b = term-below t (occurs-term ar d t (good .fine) e) in clash e (sym (used-occurs ar d used m t b) ∙ q t (omega arith) b)
+    second : (t : ℕ) → occurs ar t d ≡ true → t < firstMinimum → Cmp (t + c) firstMinimum → t + c < firstMinimum
+    second t e h (below k) = k
+    second t e h (equal k) = clash e (sym (used-occurs ar d used m t (omega arith)) ∙ q t (omega arith) h)
+    second t e h (above k) = clash e (sym (used-occurs ar d used m t (omega arith)) ∙ q t (omega arith) h)

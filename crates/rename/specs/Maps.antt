@@ -1,12 +1,12 @@
--- Maps of terms as the calls write them (document 01, sections 'Combination' and 'Regression').
+-- Maps of terms as the calls write them (document 01, sections 'Combination' and 'Regression'; kind by kind, document 02, L12).
 use mathlib.Core.Path.{_≡_}
 use mathlib.Core.Bool.{Bool, not, cond}
 use mathlib.Core.List.{List, [], _∷_, _++_}
 use Prim.Native.Nat.{ℕ, zero, suc, _<_, _≤_}
 use lib.ListN.{length, getD}
 use lib.Dec.{eqb, ltb}
-use Rattle.label.specs.Limits.{firstVariable, variableCount, termEnd}
-use Rattle.label.specs.Renamings.{numbering, freeing}
+use Rattle.label.specs.Limits.{firstVariable, variableCount, firstMinimum, minimumCount, termEnd}
+use Rattle.label.specs.Renamings.{numbering}
 use Rattle.diagram.specs.Diagram.{Diagram}
 use Rattle.diagram.specs.Variables.{occurs, pickList}
 
@@ -29,15 +29,16 @@ unfoldable pub usedVariables : List ℕ → List ℕ
 unfolding usedFrom isUsed
 usedVariables used = usedFrom used firstVariable variableCount
 
+-- the marked minimum variables, ascending
+unfoldable pub usedMinimums : List ℕ → List ℕ
+unfolding usedFrom isUsed
+usedMinimums used = usedFrom used firstMinimum minimumCount
+
 -- the words mark the terms of d, each with 1
 pub record Marks (ar : List ℕ) (d : Diagram) (used : List ℕ) : Type 0 where
   pub whole : termEnd ≤ length used
   pub mark : (t : ℕ) → t < termEnd → getD used t 0 ≡ cond (occurs ar t d) 1 0
 
--- closing up: constants and parameters stay, a used variable has its number; an unused one, which no label has, 0
-unfoldable pub closeAt : List ℕ → ℕ → ℕ → ℕ
-closeAt used first t = cond (ltb t firstVariable) t (cond (isUsed used t) (numbering (usedVariables used) first t) 0)
-
--- freeing: a variable that would pass the last, which no label of a freed diagram has, 0
-unfoldable pub freeAt : ℕ → ℕ → ℕ
-freeAt c t = cond (ltb (freeing c t) termEnd) (freeing c t) 0
+-- closing up: constants and parameters stay, a used variable of either kind has its number; an unused one, which no label has, 0
+unfoldable pub closeAt : List ℕ → ℕ → ℕ → ℕ → ℕ
+closeAt used first minimum t = cond (ltb t firstVariable) t (cond (isUsed used t) (numbering (usedVariables used) (usedMinimums used) first minimum t) 0)

@@ -2,12 +2,14 @@
 use mathlib.Core.Path.{_≡_}
 use mathlib.Core.Bool.{true, cond}
 use mathlib.Core.List.{List, [], _∷_}
-use Prim.Native.Nat.{ℕ, _<_}
+use Prim.Native.Nat.{ℕ, _+_, _≤_, _<_}
+use lib.ListN.{length}
 use lib.Dec.{eqb}
-use Rattle.label.specs.Limits.{leafMark}
+use Rattle.label.specs.Limits.{firstVariable, firstMinimum, termEnd, leafMark}
 use Rattle.label.specs.Labels.{isLabel}
 use Rattle.label.specs.Renamings.{EachIn}
 use Rattle.diagram.specs.Diagram.{Diagram, leaf, branch}
+use Rattle.diagram.specs.Variables.{variables, minimums}
 
 -- every label of d is in Q
 abbrev pub Labels : (ℕ → Type 0) → Diagram → Type 0
@@ -41,3 +43,10 @@ Terms ar P d = Labels (EachIn ar P) d
 -- labels under the arity list ar whose terms P names
 abbrev pub Named : List ℕ → (ℕ → Type 0) → ℕ → Type 0
 Named ar P l = (isLabel ar l ≡ true) × EachIn ar P l
+
+-- the variables of d, numbered from m on, and its minimum variables, numbered from n on, stay each among their kind
+pub record KindsFit (ar : List ℕ) (m n : ℕ) (d : Diagram) : Type 0 where
+  pub variables-from : firstVariable ≤ m
+  pub variables-end : m + length (variables ar d) ≤ firstMinimum
+  pub minimums-from : firstMinimum ≤ n
+  pub minimums-end : n + length (minimums ar d) ≤ termEnd

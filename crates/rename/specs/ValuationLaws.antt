@@ -2,20 +2,17 @@
 use mathlib.Core.Path.{_≡_, ap, ap₂, _∙_}
 use mathlib.Core.Bool.{Bool, true, false, cond}
 use mathlib.Core.List.{List, map, map-map}
-use Prim.Native.Nat.{ℕ, _+_, _≤_, _<_}
-use lib.ListN.{length}
-use Rattle.label.specs.Limits.{firstVariable, termEnd}
+use Prim.Native.Nat.{ℕ, _<_}
 use Rattle.label.specs.Labels.{areArities, predicateOf, unpacked, termsOf, isLabel}
-use Rattle.label.specs.Renamings.{renamed, mapped, numbering, Increasing, EachIn}
-use Rattle.label.specs.RenamingLaws.{Numbered, renamed-terms, renamed-atom, numbering-increasing}
+use Rattle.label.specs.Renamings.{renamed, mapped, Increasing, EachIn}
+use Rattle.label.specs.RenamingLaws.{renamed-terms, renamed-atom}
 use Rattle.diagram.specs.Diagram.{Diagram, relabel}
-use Rattle.diagram.specs.Listing.{Fine, Good}
-use Rattle.diagram.specs.Variables.{variables, closedFrom}
+use Rattle.diagram.specs.Listing.{Fine}
 use Rattle.rename.specs.Relabelling.{Terms, Named}
 use Rattle.rename.specs.RelabelLaws.{eval-relabel, eval-agree, labels-weaken}
 use Rattle.rename.specs.AscendingLaws.{map-agree}
 use Rattle.rename.specs.TermLaws.{each-terms}
-use Rattle.rename.specs.VariableLaws.{named-labels, terms-numbered}
+use Rattle.rename.specs.VariableLaws.{named-labels}
 use Rattle.rename.specs.Valuations.{holds, leafOf}
 
 -- a choice of two numbers below n is below n
@@ -48,11 +45,3 @@ module _ (ar : List ℕ) (good : areArities ar ≡ true) (P : ℕ → Type 0) (�
       eval-relabel (holds ar h θ) (renamed ar ρ) d
       ∙ eval-agree (λ l. holds ar h θ (renamed ar ρ l)) (holds ar h (λ t. θ (ρ t))) d
       (labels-weaken (Named ar P) _ d (λ l p. renamed-holds h θ l (p .0) (p .1)) (named-labels ar P d f q))
-
--- closing up and moving apart
-pub leaf-closedFrom : (ar : List ℕ) (m : ℕ) (d : Diagram) → firstVariable ≤ m → m + length (variables ar d) ≤ termEnd → Good ar d
-    → (h : ℕ → List ℕ → Bool) (θ : ℕ → ℕ) → leafOf ar h θ (closedFrom ar m d) ≡ leafOf ar h (λ t. θ (numbering (variables ar d) m t)) d
-unfolding closedFrom
-leaf-closedFrom ar m d low room good h θ =
-    leaf-renaming ar (good .arities) (Numbered (variables ar d)) (numbering (variables ar d) m) (numbering-increasing (variables ar d) m low room) h θ d (good .fine)
-    (terms-numbered ar d (good .fine))

@@ -10,7 +10,7 @@ use lib.Dec.{eqb}
 use borrow.Author.Tests.{eqb-true, eq-eqb}
 use Rattle.basics.specs.Tests.{Flag, isTrue, isFalse, flag, Either, one, other, either, or-one, or-other, Cmp, below, equal, above, cmp}
 use Rattle.basics.specs.Members.{mem, NoDup, clash}
-use Rattle.label.specs.Limits.{firstVariable, variableCount, termEnd}
+use Rattle.label.specs.Limits.{firstVariable, variableCount, firstMinimum, minimumCount, termEnd}
 use Rattle.label.specs.Terms.{isTerm}
 use Rattle.label.specs.Labels.{areArities, isLabel, unpacked, termsOf}
 use Rattle.label.specs.Renamings.{renamed, Increasing, EachIn}
@@ -20,7 +20,7 @@ use Rattle.diagram.specs.Diagram.{Diagram, leaf, branch, relabel}
 use Rattle.diagram.specs.Rows.{rows}
 use Rattle.diagram.specs.Listing.{listing, Fine, Good}
 use Rattle.diagram.specs.RowDiagrams.{not-mark}
-use Rattle.diagram.specs.Variables.{occurs, pickList, occurring, variables}
+use Rattle.diagram.specs.Variables.{occurs, pickList, occurring, variables, minimums}
 use Rattle.rename.specs.Relabelling.{Labels, Terms, Named, Keeps, relabelled}
 use Rattle.rename.specs.RelabelLaws.{labels-weaken, relabel-ordered, relabel-reduced, relabel-count, relabel-listing}
 use Rattle.rename.specs.Ascending.{Ascending}
@@ -78,8 +78,8 @@ pub named-labels : (ar : List ℕ) (P : ℕ → Type 0) (d : Diagram) → Fine a
 named-labels ar P (leaf v) f q = tt
 named-labels ar P (branch l x y) f q = ((f .0, q .0), named-labels ar P x (f .1) (q .1), named-labels ar P y (f .2) (q .2))
 
--- the variables among n terms
-in-occurring : (ar : List ℕ) (d : Diagram) (t n u : ℕ) → mem eqb u (occurring ar d t n) ≡ true → (occurs ar u d ≡ true) × (t ≤ u) × (u < t + n)
+-- those of n terms that occur: the laws of one kind of variables, whose numbers are the n from t on
+pub in-occurring : (ar : List ℕ) (d : Diagram) (t n u : ℕ) → mem eqb u (occurring ar d t n) ≡ true → (occurs ar u d ≡ true) × (t ≤ u) × (u < t + n)
 unfolding occurring
 in-occurring ar d t zero u e = clash e refl
 in-occurring ar d t (suc n) u e = go (flag (occurs ar t d)) (in-occurring ar d (suc t) n u)
@@ -98,7 +98,7 @@ in-occurring ar d t (suc n) u e = go (flag (occurs ar t d)) (in-occurring ar d (
     go (isTrue p) ih = first (either (eqb u t) _ (rw p at e)) p ih
     go (isFalse p) ih = later ih (rw p at e)
 
-occurring-in : (ar : List ℕ) (d : Diagram) (t n u : ℕ) → occurs ar u d ≡ true → t ≤ u → u < t + n → mem eqb u (occurring ar d t n) ≡ true
+pub occurring-in : (ar : List ℕ) (d : Diagram) (t n u : ℕ) → occurs ar u d ≡ true → t ≤ u → u < t + n → mem eqb u (occurring ar d t n) ≡ true
 unfolding occurring
 occurring-in ar d t zero u e h k = absurd (omega arith)
 occurring-in ar d t (suc n) u e h k = go (flag (occurs ar t d)) (cmp t u) (occurring-in ar d (suc t) n u e)
@@ -112,7 +112,7 @@ occurring-in ar d t (suc n) u e h k = go (flag (occurs ar t d)) (cmp t u) (occur
     go (isFalse p) (equal q) ih = clash e (rw (← q) p)
     go (isFalse p) (above q) ih = absurd (omega arith)
 
-occurring-ascending : (ar : List ℕ) (d : Diagram) (t n : ℕ) → Ascending t (occurring ar d t n)
+pub occurring-ascending : (ar : List ℕ) (d : Diagram) (t n : ℕ) → Ascending t (occurring ar d t n)
 unfolding occurring
 occurring-ascending ar d t zero = tt
 occurring-ascending ar d t (suc n) = go (flag (occurs ar t d)) (occurring-ascending ar d (suc t) n)
@@ -121,7 +121,7 @@ occurring-ascending ar d t (suc n) = go (flag (occurs ar t d)) (occurring-ascend
     go (isTrue p) ih = rw p (omega arith, ih)
     go (isFalse p) ih = rw p (ascending-weaken t (suc t) (occurring ar d (suc t) n) (omega arith) ih)
 
-length-occurring : (ar : List ℕ) (d : Diagram) (t n : ℕ) → length (occurring ar d t n) ≤ n
+pub length-occurring : (ar : List ℕ) (d : Diagram) (t n : ℕ) → length (occurring ar d t n) ≤ n
 unfolding occurring
 length-occurring ar d t zero = omega arith
 length-occurring ar d t (suc n) = go (flag (occurs ar t d)) (length-occurring ar d (suc t) n)
@@ -130,13 +130,13 @@ length-occurring ar d t (suc n) = go (flag (occurs ar t d)) (length-occurring ar
     go (isTrue p) ih = rw p (omega arith)
     go (isFalse p) ih = rw p (omega arith)
 
--- the laws of `variables`: nothing else unfolds it
+-- the laws of `variables` and `minimums`: nothing else unfolds them
 module _ (ar : List ℕ) (d : Diagram) where
-  pub variable-occurs : (t : ℕ) → mem eqb t (variables ar d) ≡ true → (occurs ar t d ≡ true) × (firstVariable ≤ t) × (t < termEnd)
+  pub variable-occurs : (t : ℕ) → mem eqb t (variables ar d) ≡ true → (occurs ar t d ≡ true) × (firstVariable ≤ t) × (t < firstMinimum)
   unfolding variables
   variable-occurs t e = in-occurring ar d firstVariable variableCount t e
 
-  pub occurs-variable : (t : ℕ) → occurs ar t d ≡ true → firstVariable ≤ t → t < termEnd → mem eqb t (variables ar d) ≡ true
+  pub occurs-variable : (t : ℕ) → occurs ar t d ≡ true → firstVariable ≤ t → t < firstMinimum → mem eqb t (variables ar d) ≡ true
   unfolding variables
   occurs-variable t e h k = occurring-in ar d firstVariable variableCount t e h k
 
@@ -151,20 +151,43 @@ module _ (ar : List ℕ) (d : Diagram) where
   unfolding variables
   variables-few = length-occurring ar d firstVariable variableCount
 
-  -- each term that occurs is a constant, a parameter, or one of the variables
-  pub occurs-numbered : Fine ar d → (t : ℕ) → occurs ar t d ≡ true → Numbered (variables ar d) t
-  occurs-numbered f t e = (occurs-term ar d t f e, go (cmp t firstVariable))
+  pub minimum-occurs : (t : ℕ) → mem eqb t (minimums ar d) ≡ true → (occurs ar t d ≡ true) × (firstMinimum ≤ t) × (t < termEnd)
+  unfolding minimums
+  minimum-occurs t e = in-occurring ar d firstMinimum minimumCount t e
+
+  pub occurs-minimum : (t : ℕ) → occurs ar t d ≡ true → firstMinimum ≤ t → t < termEnd → mem eqb t (minimums ar d) ≡ true
+  unfolding minimums
+  occurs-minimum t e h k = occurring-in ar d firstMinimum minimumCount t e h k
+
+  pub minimums-ascending : Ascending firstMinimum (minimums ar d)
+  unfolding minimums
+  minimums-ascending = occurring-ascending ar d firstMinimum minimumCount
+
+  pub minimums-few : length (minimums ar d) ≤ minimumCount
+  unfolding minimums
+  minimums-few = length-occurring ar d firstMinimum minimumCount
+
+  -- each term that occurs is a constant, a parameter, or one of the variables of its kind
+  pub occurs-numbered : Fine ar d → (t : ℕ) → occurs ar t d ≡ true → Numbered (variables ar d) (minimums ar d) t
+  occurs-numbered f t e = (occurs-term ar d t f e, go (cmp t firstVariable) (cmp t firstMinimum))
     where
-      high : firstVariable ≤ t → (t < firstVariable) ⊎ (mem eqb t (variables ar d) ≡ true)
-      high h = inr (occurs-variable t e h (term-below t (occurs-term ar d t f e)))
+      least : firstMinimum ≤ t → (firstMinimum ≤ t) × (mem eqb t (minimums ar d) ≡ true)
+      least h = (h, occurs-minimum t e h (term-below t (occurs-term ar d t f e)))
 
-      go : Cmp t firstVariable → (t < firstVariable) ⊎ (mem eqb t (variables ar d) ≡ true)
-      go (below h) = inl h
-      go (equal h) = high (omega arith)
-      go (above h) = high (omega arith)
+      high : firstVariable ≤ t → Cmp t firstMinimum
+          → (t < firstVariable) ⊎ (((t < firstMinimum) × (mem eqb t (variables ar d) ≡ true)) ⊎ ((firstMinimum ≤ t) × (mem eqb t (minimums ar d) ≡ true)))
+      high h (below k) = inr (inl (k, occurs-variable t e h k))
+      high h (equal k) = inr (inr (least (omega arith)))
+      high h (above k) = inr (inr (least (omega arith)))
 
-  pub terms-numbered : Fine ar d → Terms ar (Numbered (variables ar d)) d
-  terms-numbered f = terms-each-occurs ar (Numbered (variables ar d)) d (occurs-numbered f)
+      go : Cmp t firstVariable → Cmp t firstMinimum
+          → (t < firstVariable) ⊎ (((t < firstMinimum) × (mem eqb t (variables ar d) ≡ true)) ⊎ ((firstMinimum ≤ t) × (mem eqb t (minimums ar d) ≡ true)))
+      go (below h) k = inl h
+      go (equal h) k = high (omega arith) k
+      go (above h) k = high (omega arith) k
+
+  pub terms-numbered : Fine ar d → Terms ar (Numbered (variables ar d) (minimums ar d)) d
+  terms-numbered f = terms-each-occurs ar (Numbered (variables ar d) (minimums ar d)) d (occurs-numbered f)
 
 -- a term that ρ gives for one of d
 pub record Origin (ar : List ℕ) (ρ : ℕ → ℕ) (d : Diagram) (t : ℕ) : Type 0 where

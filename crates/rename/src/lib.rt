@@ -6,30 +6,30 @@ ghost use mathlib.Core.List.{_++_};
 ghost use Prim.Native.Nat.{_<_, _≤_};
 ghost use lib.ListN.{length, drop};
 ghost use Rattle.label.specs.Limits.{termEnd, parameterCount};
-ghost use Rattle.label.specs.Renamings.{renamed, mapOf};
+ghost use Rattle.label.specs.Renamings.{renamed, mapOf, freeing};
 ghost use Rattle.rename.specs.Relabelling.{labelled, relabelled};
-ghost use Rattle.rename.specs.Maps.{tabled, closeAt, freeAt};
+ghost use Rattle.rename.specs.Maps.{tabled, closeAt};
 ghost use Rattle.rename.specs.Calls.{Closable, Countable, Word, Renamable};
 ghost use Rattle.rename.specs.Steps.{Numbering, numberAfter};
 
-// Writes the map that closes up, or moves apart: used[t] marks the terms that occur, and the used variables get the numbers from `first` on.
-pub fn close_map(used: &[u64], first: u64, map: &mut [u64])
-    requires { ⌜ Closable (now used) first (now map) ⌝ }
-    ensures { λ _. ⌜ now (map .exit) ≡ tabled (closeAt (now (used .entry)) first) termEnd ++ drop termEnd (now (map .entry)) ⌝ }
+// Writes the map that closes up, or moves apart: used[t] marks the terms that occur, the used variables get the numbers from `first` on, and the used minimum variables those from `minimum` on.
+pub fn close_map(used: &[u64], first: u64, minimum: u64, map: &mut [u64])
+    requires { ⌜ Closable (now used) first minimum (now map) ⌝ }
+    ensures { λ _. ⌜ now (map .exit) ≡ tabled (closeAt (now (used .entry)) first minimum) termEnd ++ drop termEnd (now (map .entry)) ⌝ }
 {
     let mut t = 0u64;
     let mut next = first;
     while t < Term::END {
-        map[t as usize] = close_term(used, first, t, next);
-        next = number_after(used, first, t, next);
+        map[t as usize] = close_term(used, first, minimum, t, next);
+        next = number_after(used, first, minimum, t, next);
         t += 1;
     }
 }
 
 // What closing up writes for the term t, where `next` is the number of the next used variable.
-fn close_term(used: &[u64], first: u64, t: u64, next: u64) -> u64
-    requires { ⌜ Numbering (now used) first t next ⌝ }
-    ensures { λ r. ⌜ r ≡ closeAt (now (used .entry)) first t ⌝ }
+fn close_term(used: &[u64], first: u64, minimum: u64, t: u64, next: u64) -> u64
+    requires { ⌜ Numbering (now used) first minimum t next ⌝ }
+    ensures { λ r. ⌜ r ≡ closeAt (now (used .entry)) first minimum t ⌝ }
 {
     if t < Term::FIRST_VARIABLE {
         return t;
@@ -40,13 +40,16 @@ fn close_term(used: &[u64], first: u64, t: u64, next: u64) -> u64
     next
 }
 
-// The number of the next used variable behind the term t.
-fn number_after(used: &[u64], first: u64, t: u64, next: u64) -> u64
-    requires { ⌜ Numbering (now used) first t next ⌝ }
-    ensures { λ r. ⌜ r ≡ numberAfter (now (used .entry)) first t ⌝ }
+// The number of the next used variable behind the term t: the minimum variables have numbers of their own.
+fn number_after(used: &[u64], first: u64, minimum: u64, t: u64, next: u64) -> u64
+    requires { ⌜ Numbering (now used) first minimum t next ⌝ }
+    ensures { λ r. ⌜ r ≡ numberAfter (now (used .entry)) first minimum t ⌝ }
 {
     if t < Term::FIRST_VARIABLE {
         return next;
+    }
+    if t + 1 == Term::FIRST_MINIMUM {
+        return minimum;
     }
     if used[t as usize] == 0 {
         return next;
@@ -57,7 +60,7 @@ fn number_after(used: &[u64], first: u64, t: u64, next: u64) -> u64
 // Writes the map that frees the parameters of an action that has `count` of them.
 pub fn free_map(count: u64, map: &mut [u64])
     requires { ⌜ Countable count (now map) ⌝ }
-    ensures { λ _. ⌜ now (map .exit) ≡ tabled (freeAt count) termEnd ++ drop termEnd (now (map .entry)) ⌝ }
+    ensures { λ _. ⌜ now (map .exit) ≡ tabled (freeing count) termEnd ++ drop termEnd (now (map .entry)) ⌝ }
 {
     let mut t = 0u64;
     while t < Term::END {
@@ -70,7 +73,7 @@ pub fn free_map(count: u64, map: &mut [u64])
 fn free_term(count: u64, t: u64) -> u64
     requires { ⌜ t < termEnd ⌝ }
     requires { ⌜ count ≤ parameterCount ⌝ }
-    ensures { λ r. ⌜ r ≡ freeAt count t ⌝ }
+    ensures { λ r. ⌜ r ≡ freeing count t ⌝ }
 {
     if t < Term::FIRST_PARAMETER {
         return t;
@@ -81,10 +84,10 @@ fn free_term(count: u64, t: u64) -> u64
     if t < Term::FIRST_VARIABLE {
         return t;
     }
-    if t + count < Term::END {
+    if t < Term::FIRST_MINIMUM {
         return t + count;
     }
-    0
+    t
 }
 
 // Writes the words of a listing with each branch row's label renamed, term t by map[t]. The words behind stay.

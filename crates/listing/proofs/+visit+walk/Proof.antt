@@ -55,7 +55,15 @@ walk-returns-3 t c = search walk-high-off
 
 walk-visit-requires-2 :
     (t : ℕ) → walk-lts.Need-visit-requires-2 (visit-below t, visit.Post) (walk-at t) walk.Post
-walk-visit-requires-2 t c κs = let p = c .before .before .before .before .before .before .before .pre in (omega (arith, p .0, less-low (p .1 .0) (c .before .before .before .before .if1 .left)), down-low (p .1 .0) (c .before .before .before .before .if1 .left))
+walk-visit-requires-2 t c κs = let p = c .before .before .before .before .before .before .before .pre in (
+  omega (
+    arith,
+    p .0,
+    less-low (p .1 .0)
+        (c .before .before .before .before .if1 .left),
+  ),
+  down-low (p .1 .0) (c .before .before .before .before .if1 .left),
+)
 
 walk-returns-4 :
     (t : ℕ) → walk-lts.Need-returns-4 (visit-below t, visit.Post) (walk-at t) walk.Post

@@ -43,4 +43,5 @@ returns-3 c = search pass-end
 pub are-valid-rows-spec : {M : Type 1} → statement M
 are-valid-rows-spec =
     tie.close
-    (tie.spec Inv-loop μ-loop loop-holds is-valid-row-requires (λ c. search needs) (λ c. search needs) returns enter-requires same-length-3 same-length-4 returns-2 (λ c. search needs) (λ c. search needs) loop-again (λ c. search needs) (λ c. search needs) returns-3)
+    (tie.spec Inv-loop μ-loop loop-holds is-valid-row-requires (λ c. search needs)
+    (λ c. search needs) returns enter-requires same-length-3 same-length-4 returns-2 (λ c. search needs) (λ c. search needs) loop-again (λ c. search needs) (λ c. search needs) returns-3)

@@ -37,4 +37,5 @@ returns-7 c = search check-good
 pub check-spec : {M : Type 1} → statement M
 check-spec =
     tie.close
-    (tie.spec (λ c κs. search needs) returns (λ c. search needs) returns-2 returns-3 returns-4 (λ c. search needs) (λ c. search needs) are-valid-rows-requires returns-5 (λ c. search needs) walk-requires returns-6 returns-7)
+    (tie.spec (λ c κs. search needs) returns (λ c. search needs) returns-2 returns-3 returns-4 (λ c. search needs)
+    (λ c. search needs) are-valid-rows-requires returns-5 (λ c. search needs) walk-requires returns-6 returns-7)

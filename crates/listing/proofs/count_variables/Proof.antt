@@ -1,29 +1,7 @@
-use Prim.Native.Nat.{_-_}
-use Rattle.label.specs.Limits.{termEnd}
 use borrow.Author.Needs.{needs}
-use Rattle.listing.proofs.MarkLaws.{Counting, count-room, count-start, count-next, count-end}
+use Rattle.listing.proofs.MarkLaws.{counted-variables}
 use Rattle.listing.proofs.count_variables.Statement.{statement}
 use Rattle.listing.proofs.count_variables.Tie as tie
 
-abbrev Inv-loop : tie.InvT-loop
-Inv-loop marks n₀ t₀ n t = Counting marks n t
-
-abbrev μ-loop : tie.MeasureT-loop
-μ-loop marks n₀ t₀ n t = termEnd - t
-
-loop-holds : tie.Need-loop-holds Inv-loop μ-loop
-loop-holds c = search count-start
-
-add-n : tie.Need-add-n Inv-loop μ-loop
-add-n c = search count-room
-
-loop-again : tie.Need-loop-again Inv-loop μ-loop
-loop-again c = search count-next
-
-returns : tie.Need-returns Inv-loop μ-loop
-returns c = search count-end
-
 pub count-variables-spec : {M : Type 1} → statement M
-count-variables-spec =
-    tie.close
-    (tie.spec Inv-loop μ-loop loop-holds (λ c. search needs) (λ c. search needs) (λ c κs. search needs) add-n (λ c. search needs) (λ c. search needs) loop-again returns)
+count-variables-spec = tie.close (tie.spec (λ c κs. search needs) (λ c. search counted-variables))

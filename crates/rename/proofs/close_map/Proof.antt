@@ -8,10 +8,10 @@ use Rattle.rename.proofs.close_map.Statement.{statement}
 use Rattle.rename.proofs.close_map.Tie as tie
 
 abbrev Inv-loop : tie.InvT-loop
-Inv-loop used first map₀ t₀ next₀ map t next = (length map ≡ length map₀) × Closing used first map₀ map t next
+Inv-loop used first minimum map₀ t₀ next₀ map t next = (length map ≡ length map₀) × Closing used first minimum map₀ map t next
 
 abbrev μ-loop : tie.MeasureT-loop
-μ-loop used first map₀ t₀ next₀ map t next = termEnd - t
+μ-loop used first minimum map₀ t₀ next₀ map t next = termEnd - t
 
 loop-holds : tie.Need-loop-holds Inv-loop μ-loop
 loop-holds c = (search needs, search closing-start)
@@ -31,4 +31,5 @@ returns c = search closing-end
 pub close-map-spec : {M : Type 1} → statement M
 close-map-spec =
     tie.close
-    (tie.spec Inv-loop μ-loop loop-holds close-term-requires (λ c. search needs) (λ c. search needs) number-after-requires (λ c. search needs) (λ c. search needs) loop-again (λ c. search needs) returns)
+    (tie.spec Inv-loop μ-loop loop-holds close-term-requires (λ c. search needs) (λ c. search needs) number-after-requires (λ c. search needs)
+    (λ c. search needs) loop-again (λ c. search needs) returns)
