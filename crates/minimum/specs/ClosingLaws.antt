@@ -1,71 +1,29 @@
 -- Closing up and moving apart, kind by kind: the number stays, and operands apart have no variable in common.
 use mathlib.Core.Path.{_≡_}
-use mathlib.Core.List.{List, [], _∷_, List·Memᴰ, List·Memᴰ·head, List·Memᴰ·tail}
+use mathlib.Core.List.{List, _∷_, List·Memᴰ, List·Memᴰ·head, List·Memᴰ·tail}
 use mathlib.Core.Bool.{Bool, true, false, cond}
 use Prim.Native.Nat.{ℕ, _+_, _≤_, _<_}
 use native.Mathlib.Omega.{arith}
 use lib.ListN.{length}
-use lib.Dec.{ltb}
-use borrow.Author.Tests.{ltb-true, ltb-false, lt-ltb, le-ltb}
-use Rattle.basics.specs.Tests.{Flag, isTrue, isFalse, flag}
-use Rattle.label.specs.Limits.{firstVariable}
-use Rattle.label.specs.Renamings.{rank}
+use lib.Dec.{eqb, ltb}
+use borrow.Author.Tests.{lt-ltb, le-ltb}
+use Rattle.basics.specs.Members.{mem}
+use Rattle.label.specs.Limits.{firstVariable, firstMinimum}
+use Rattle.label.specs.Renamings.{numbering}
+use Rattle.label.specs.RenamingLaws.{rank-less, rank-below, numbering-low, numbering-variable, numbering-minimum}
 use Rattle.diagram.specs.Diagram.{Tree}
 use Rattle.state.specs.State.{Atomic, State, Good, value, Fits}
 use Rattle.state.specs.Terms.{Each, Terms, rename}
 use Rattle.state.specs.ValueLaws.{by-low, Terms-map}
 use Rattle.state.specs.Highest.{vars, Bound}
 use Rattle.state.specs.HighestLaws.{vars-up, vars-in}
-use Rattle.minimum.specs.Number.{firstMinimum, Number, maximums, minimums, number}
-use Rattle.minimum.specs.Operations.{Rises, SameKind, KindByKind, numberingKinds, closedKinds, afterKinds}
+use Rattle.minimum.specs.Number.{Number, maximums, minimums, number}
+use Rattle.minimum.specs.Operations.{Rises, SameKind, KindByKind, closedKinds, afterKinds}
 use Rattle.minimum.specs.NumberLaws.{number-is, number-equal, below-in, from-in}
-use Rattle.minimum.specs.ApartLaws.{Told, number-told}
+use Rattle.minimum.specs.ApartLaws.{in-mem, Told, number-told}
 use Rattle.minimum.specs.RenamedLaws.{number-renamed, order-single}
 
--- ===== Ranks =====
-
--- one more of the numbers below t
-one-mono : (v t u : ℕ) → t ≤ u → cond (ltb v t) 1 0 ≤ cond (ltb v u) 1 0
-one-mono v t u h = go (flag (ltb v t)) (flag (ltb v u))
-  where
-    go : Flag (ltb v t) → Flag (ltb v u) → cond (ltb v t) 1 0 ≤ cond (ltb v u) 1 0
-    go (isTrue p) (isTrue q) = rw (p, q) (omega arith)
-    go (isTrue p) (isFalse q) = absurd (omega (arith, ltb-true v t p, ltb-false v u q))
-    go (isFalse p) q = rw p (omega arith)
-
-rank-mono : (vs : List ℕ) (t u : ℕ) → t ≤ u → rank vs t ≤ rank vs u
-rank-mono [] t u h = omega arith
-rank-mono (v ∷ vs) t u h = omega (arith, one-mono v t u h, rank-mono vs t u h)
-
-rank-less : (vs : List ℕ) (t u : ℕ) → List·Memᴰ t vs → t < u → rank vs t < rank vs u
-rank-less (v ∷ vs) t u (List·Memᴰ·head e) h = rw (le-ltb v t (omega arith), lt-ltb v u (omega arith)) (omega (arith, rank-mono vs t u (omega arith)))
-rank-less (v ∷ vs) t u (List·Memᴰ·tail m) h = omega (arith, one-mono v t u (omega arith), rank-less vs t u m h)
-
-rank-most : (vs : List ℕ) (t : ℕ) → rank vs t ≤ length vs
-rank-most [] t = omega arith
-rank-most (v ∷ vs) t = go (flag (ltb v t)) (rank-most vs t)
-  where
-    go : Flag (ltb v t) → rank vs t ≤ length vs → cond (ltb v t) 1 0 + rank vs t ≤ length (v ∷ vs)
-    go (isTrue p) r = rw p (omega arith)
-    go (isFalse p) r = rw p (omega arith)
-
-rank-below : (vs : List ℕ) (t : ℕ) → List·Memᴰ t vs → rank vs t < length vs
-rank-below vs t m = omega (arith, rank-less vs t (t + 1) m (omega arith), rank-most vs (t + 1))
-
 -- ===== Numbering kind by kind =====
-
-module _ (us vs : List ℕ) (m n : ℕ) where
-  pub kinds-fixed : (t : ℕ) → t < firstVariable → numberingKinds us vs m n t ≡ t
-  unfolding numberingKinds
-  kinds-fixed t h = rw (lt-ltb t firstVariable h)
-
-  pub kinds-maximum : (t : ℕ) → firstVariable ≤ t → t < firstMinimum → numberingKinds us vs m n t ≡ m + rank us t
-  unfolding numberingKinds
-  kinds-maximum t h k = rw (le-ltb t firstVariable h, lt-ltb t firstMinimum k)
-
-  kinds-minimum : (t : ℕ) → firstMinimum ≤ t → numberingKinds us vs m n t ≡ n + rank vs t
-  unfolding numberingKinds
-  kinds-minimum t h = rw (le-ltb t firstVariable (omega arith), le-ltb t firstMinimum h)
 
 each-at : (P : ℕ → Type 0) (vs : List ℕ) → Each P vs → (t : ℕ) → List·Memᴰ t vs → P t
 each-at P (v ∷ vs) w t (List·Memᴰ·head e) = rw e (w .0)
@@ -74,56 +32,56 @@ each-at P (v ∷ vs) w t (List·Memᴰ·tail m) = each-at P vs (w .1) t m
 vars-variable : (d : Tree Atomic) (t : ℕ) → List·Memᴰ t (vars d) → firstVariable ≤ t
 vars-variable d t i = each-at (λ v. firstVariable ≤ v) (vars d) (vars-up d) t i
 
-in-maximums : (d : Tree Atomic) (t : ℕ) → List·Memᴰ t (vars d) → t < firstMinimum → List·Memᴰ t (maximums d)
+in-maximums : (d : Tree Atomic) (t : ℕ) → List·Memᴰ t (vars d) → t < firstMinimum → mem eqb t (maximums d) ≡ true
 unfolding maximums
-in-maximums d t i h = below-in firstMinimum t h (vars d) i
+in-maximums d t i h = in-mem t (maximums d) (below-in firstMinimum t h (vars d) i)
 
-in-minimums : (d : Tree Atomic) (t : ℕ) → List·Memᴰ t (vars d) → firstMinimum ≤ t → List·Memᴰ t (minimums d)
+in-minimums : (d : Tree Atomic) (t : ℕ) → List·Memᴰ t (vars d) → firstMinimum ≤ t → mem eqb t (minimums d) ≡ true
 unfolding minimums
-in-minimums d t i h = from-in firstMinimum t h (vars d) i
+in-minimums d t i h = in-mem t (minimums d) (from-in firstMinimum t h (vars d) i)
 
 -- the variables of d numbered from m and from n on: those of the one kind end before those of the other begin
 module _ (d : Tree Atomic) (m n : ℕ) (low : firstVariable ≤ m) (room : m + length (maximums d) ≤ firstMinimum) (high : firstMinimum ≤ n) where
   ρ : ℕ → ℕ
-  ρ = numberingKinds (maximums d) (minimums d) m n
+  ρ = numbering (maximums d) (minimums d) m n
 
   at-maximum : (t : ℕ) → List·Memᴰ t (vars d) → t < firstMinimum → (m ≤ ρ t) × (ρ t < m + length (maximums d))
   unfolding ρ
-  at-maximum t i h = rw (kinds-maximum (maximums d) (minimums d) m n t (vars-variable d t i) h) (omega (arith, rank-below (maximums d) t (in-maximums d t i h)))
+  at-maximum t i h = rw (numbering-variable (maximums d) (minimums d) m n t (vars-variable d t i) h) (omega (arith, rank-below (maximums d) t (in-maximums d t i h)))
 
   at-minimum : (t : ℕ) → List·Memᴰ t (vars d) → firstMinimum ≤ t → (n ≤ ρ t) × (ρ t < n + length (minimums d))
   unfolding ρ
-  at-minimum t i h = rw (kinds-minimum (maximums d) (minimums d) m n t h) (omega (arith, rank-below (minimums d) t (in-minimums d t i h)))
+  at-minimum t i h = rw (numbering-minimum (maximums d) (minimums d) m n t h) (omega (arith, rank-below (minimums d) t (in-minimums d t i h)))
 
   numbered-order : (t u : ℕ) → List·Memᴰ t (vars d) → List·Memᴰ u (vars d) → t < u → ρ t < ρ u
   unfolding ρ
   numbered-order t u i j l = by-low (ρ t < ρ u) firstMinimum u
-      (λ h. rw (kinds-maximum (maximums d) (minimums d) m n t (vars-variable d t i) (omega arith), kinds-maximum (maximums d) (minimums d) m n u (vars-variable d u j) h)
+      (λ h. rw (numbering-variable (maximums d) (minimums d) m n t (vars-variable d t i) (omega arith), numbering-variable (maximums d) (minimums d) m n u (vars-variable d u j) h)
       (omega (arith, rank-less (maximums d) t u (in-maximums d t i (omega arith)) l)))
       (λ h. by-low (ρ t < ρ u) firstMinimum t
       (λ k. omega (arith, at-maximum t i k, at-minimum u j h))
-      (λ k. rw (kinds-minimum (maximums d) (minimums d) m n t k, kinds-minimum (maximums d) (minimums d) m n u h)
+      (λ k. rw (numbering-minimum (maximums d) (minimums d) m n t k, numbering-minimum (maximums d) (minimums d) m n u h)
       (omega (arith, rank-less (minimums d) t u (in-minimums d t i k) l))))
 
-  pub numbered-kinds : KindByKind (numberingKinds (maximums d) (minimums d) m n) d
+  pub numbered-kinds : KindByKind (numbering (maximums d) (minimums d) m n) d
   unfolding ρ
   numbered-kinds = record {
-    low = kinds-fixed (maximums d) (minimums d) m n;
+    low = numbering-low (maximums d) (minimums d) m n;
     kinds = λ t i. record {
       variable = by-low (firstVariable ≤ ρ t) firstMinimum t (λ h. omega (arith, at-maximum t i h)) (λ h. omega (arith, at-minimum t i h));
       maximum = λ h. omega (arith, at-maximum t i h);
       minimum = λ h. omega (arith, at-minimum t i h);
     };
-    single = order-single (numberingKinds (maximums d) (minimums d) m n) (vars d) numbered-order;
+    single = order-single (numbering (maximums d) (minimums d) m n) (vars d) numbered-order;
   }
 
   -- whatever is so of the numbers given, each kind by itself
   pub numbered-terms : (P : ℕ → Type 0) → ((t : ℕ) → m ≤ t → t < m + length (maximums d) → P t) → ((t : ℕ) → n ≤ t → t < n + length (minimums d) → P t)
-      → Terms (λ t. firstVariable ≤ t → P t) (rename (numberingKinds (maximums d) (minimums d) m n) d)
+      → Terms (λ t. firstVariable ≤ t → P t) (rename (numbering (maximums d) (minimums d) m n) d)
   unfolding ρ
   numbered-terms P p q = Terms-map (λ t. firstVariable ≤ t → List·Memᴰ t (vars d)) (λ t. firstVariable ≤ t → P t) ρ
       (λ t i k. by-low (P (ρ t)) firstVariable t
-      (λ h. let e = kinds-fixed (maximums d) (minimums d) m n t h in absurd (omega arith))
+      (λ h. let e = numbering-low (maximums d) (minimums d) m n t h in absurd (omega arith))
       (λ h. by-low (P (ρ t)) firstMinimum t
       (λ l. let r = at-maximum t (i h) l in p (ρ t) (r .0) (r .1))
       (λ l. let r = at-minimum t (i h) l in q (ρ t) (r .0) (r .1)))) d (vars-in d)
@@ -132,7 +90,7 @@ module _ (d : Tree Atomic) (m n : ℕ) (low : firstVariable ≤ m) (room : m + l
 
 pub number-closed : {s : State} {os : List ℕ} (d : Tree Atomic) → firstVariable + length (maximums d) ≤ firstMinimum → {x : ℕ} → Number s os d x → Number s os (closedKinds d) x
 unfolding closedKinds
-number-closed d room = number-renamed d (numberingKinds (maximums d) (minimums d) firstVariable firstMinimum)
+number-closed d room = number-renamed d (numbering (maximums d) (minimums d) firstVariable firstMinimum)
     (numbered-kinds d firstVariable firstMinimum (omega arith) room (omega arith))
 
 -- ===== Operands apart =====
@@ -160,7 +118,7 @@ module _ (a b : Tree Atomic) (room : firstVariable + length (maximums a) + lengt
   unfolding afterKinds
   number-combined {s} {os} op rises c e m k = number-told s os (firstOf a) (closedKinds a) (afterKinds a b) apart-told op rises c e
       (number-closed a (omega arith) m)
-      (number-renamed b (numberingKinds (maximums b) (minimums b) (firstVariable + length (maximums a)) (firstMinimum + length (minimums a)))
+      (number-renamed b (numbering (maximums b) (minimums b) (firstVariable + length (maximums a)) (firstMinimum + length (minimums a)))
       (numbered-kinds b (firstVariable + length (maximums a)) (firstMinimum + length (minimums a)) (omega arith) room (omega arith)) k)
 
   pub number-of-combined : (s : State) (os : List ℕ) → Good s → Bound s os → (op : ℕ → ℕ → ℕ) → Rises op → (c : Tree Atomic)

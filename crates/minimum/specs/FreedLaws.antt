@@ -6,9 +6,9 @@ use native.Mathlib.Omega.{arith}
 use native.Mathlib.Nat.{le-of-eq, le-trans}
 use lib.ListN.{getD}
 use borrow.Author.Tests.{lt-ltb, le-ltb}
-use Rattle.label.specs.Limits.{firstParameter, firstVariable}
+use Rattle.label.specs.Limits.{firstParameter, firstVariable, firstMinimum}
 use Rattle.label.specs.Renamings.{freeing}
-use Rattle.label.specs.RenamingLaws.{freeing-constant, freeing-parameter, freeing-variable}
+use Rattle.label.specs.RenamingLaws.{freeing-constant, freeing-parameter, freeing-variable, freeing-minimum}
 use Rattle.diagram.specs.Diagram.{Tree}
 use Rattle.state.specs.Max.{maxTuples, Tuple, none, more}
 use Rattle.state.specs.MaxLaws.{maxTuples-is}
@@ -18,8 +18,8 @@ use Rattle.state.specs.ValueLaws.{low-lt, low-ge, by-low, rename-value, value-s
 use Rattle.state.specs.HighestLaws.{bound-tuple}
 use Rattle.minimum.specs.Min.{IsMaxMin, Met}
 use Rattle.minimum.specs.MinLaws.{max-min}
-use Rattle.minimum.specs.Number.{firstMinimum, Under, Number, number}
-use Rattle.minimum.specs.Operations.{freeingKinds, Room}
+use Rattle.minimum.specs.Number.{Under, Number, number}
+use Rattle.minimum.specs.Operations.{Room}
 use Rattle.minimum.specs.NumberLaws.{number-is, number-equal, split, split-low, split-high, split-under}
 
 -- ===== A tuple of objects chosen freely =====
@@ -48,14 +48,6 @@ module _ {s : State} (good : Good s) (c : ℕ) (d d′ : Tree Atomic)
 freeing-rest : (c t : ℕ) → firstParameter + c ≤ t → t < firstVariable → freeing c t ≡ t
 unfolding freeing
 freeing-rest c t h k = rw (le-ltb t firstParameter (omega arith), le-ltb t (firstParameter + c) h, lt-ltb t firstVariable k)
-
-pub kinds-low : (c t : ℕ) → t < firstMinimum → freeingKinds c t ≡ freeing c t
-unfolding freeingKinds
-kinds-low c t h = rw (lt-ltb t firstMinimum h)
-
-pub kinds-high : (c t : ℕ) → firstMinimum ≤ t → freeingKinds c t ≡ t
-unfolding freeingKinds
-kinds-high c t h = rw (le-ltb t firstMinimum h)
 
 -- the four cases of a term below the minimum variables
 pub by-kind : (c : ℕ) (P : Type 0) (t : ℕ) → (t < firstParameter → P) → (firstParameter ≤ t → t < firstParameter + c → P)
@@ -108,8 +100,8 @@ module _ (s : State) (good : Good s) (c : ℕ) (few : firstParameter + c ≤ fir
   unfolding unfree
   unfree-high os θ t h = low-ge firstVariable t (fixed s [] t) _ (omega arith) ∙ low-ge (firstVariable + c) t (getD os (t - firstVariable) (s .constant 0)) _ h
 
-  unfree-free : (os : List ℕ) (θ : ℕ → ℕ) → Tuple (s .size) c os → Fits s os θ → (t : ℕ) → unfree s c os θ (freeing c t) ≡ θ t
-  unfree-free os θ tu f t = by-kind c (unfree s c os θ (freeing c t) ≡ θ t) t
+  unfree-free : (os : List ℕ) (θ : ℕ → ℕ) → Tuple (s .size) c os → Fits s os θ → (t : ℕ) → t < firstMinimum → unfree s c os θ (freeing c t) ≡ θ t
+  unfree-free os θ tu f t m = by-kind c (unfree s c os θ (freeing c t) ≡ θ t) t
       (λ h. rw (freeing-constant c t h) (unfree-low os θ t (omega arith) ∙ fixed-constant s [] t h ∙ sym (fixed-constant s os t h) ∙ sym (f .low t (omega arith))))
       (λ h k.
       let e : (t + (firstVariable - firstParameter)) - firstVariable ≡ t - firstParameter = omega arith in
@@ -119,7 +111,7 @@ module _ (s : State) (good : Good s) (c : ℕ) (few : firstParameter + c ≤ fir
       ∙ sym (tuple-past tu (t - firstParameter) (s .constant 0) (omega arith)) ∙ sym (fixed-parameter s os t (omega arith)) ∙ sym (f .low t k)))
       (λ h.
       let e : (t + c) - c ≡ t = omega arith in
-      rw (freeing-variable c t few h) (unfree-high os θ (t + c) (omega arith) ∙ ap θ e))
+      rw (freeing-variable c t few h m) (unfree-high os θ (t + c) (omega arith) ∙ ap θ e))
 
   unfree-fits : (os : List ℕ) (θ : ℕ → ℕ) → Tuple (s .size) c os → Fits s os θ → Fits s [] (unfree s c os θ)
   unfree-fits os θ tu f = record {
@@ -141,10 +133,10 @@ module _ (s : State) (good : Good s) (c : ℕ) (few : firstParameter + c ≤ fir
   unfolding taken
   taken-tuple θ f = values-tuple (s .size) c (λ i. θ (firstVariable + i)) (λ i. f .range (firstVariable + i))
 
-  freed-fits : (θ : ℕ → ℕ) → Fits s [] θ → Fits s (taken θ) (λ t. θ (freeingKinds c t))
+  freed-fits : (θ : ℕ → ℕ) → Fits s [] θ → Fits s (taken θ) (λ t. θ (freeing c t))
   unfolding taken
   freed-fits θ f = record {
-    low = λ t h. ap θ (kinds-low c t (omega arith)) ∙ by-kind c (θ (freeing c t) ≡ fixed s (taken θ) t) t
+    low = λ t h. by-kind c (θ (freeing c t) ≡ fixed s (taken θ) t) t
         (λ l. ap θ (freeing-constant c t l) ∙ f .low t h ∙ fixed-constant s [] t l ∙ sym (fixed-constant s (taken θ) t l))
         (λ l k.
         let e : t + (firstVariable - firstParameter) ≡ firstVariable + (t - firstParameter) = omega arith in
@@ -153,7 +145,7 @@ module _ (s : State) (good : Good s) (c : ℕ) (few : firstParameter + c ≤ fir
         (λ l k. ap θ (freeing-rest c t l k) ∙ f .low t h ∙ fixed-parameter s [] t (omega arith)
         ∙ sym (tuple-past (taken-tuple θ f) (t - firstParameter) (s .constant 0) (omega arith)) ∙ sym (fixed-parameter s (taken θ) t (omega arith)))
         (λ l. absurd (omega arith));
-    range = λ t. f .range (freeingKinds c t);
+    range = λ t. f .range (freeing c t);
   }
 
   -- what is below the minimum variables stays there
@@ -162,22 +154,22 @@ module _ (s : State) (good : Good s) (c : ℕ) (few : firstParameter + c ≤ fir
       (λ l. rw (freeing-constant c t l) h)
       (λ l k. rw (freeing-parameter c t l k) (omega arith))
       (λ l k. rw (freeing-rest c t l k) h)
-      (λ l. rw (freeing-variable c t few l) (room l h))
+      (λ l. rw (freeing-variable c t few l h) (room l h))
 
   module _ (d : Tree Atomic) (room : Room c d) where
     -- valuations that agree on the terms below the minimum variables and on these
     through : (θ η : ℕ → ℕ) → ((t : ℕ) → t < firstMinimum → freeing c t < firstMinimum → θ (freeing c t) ≡ η t) → ((t : ℕ) → firstMinimum ≤ t → θ t ≡ η t)
-        → value s (rename (freeingKinds c) d) θ ≡ value s d η
-    through θ η p q = rename-value s (freeingKinds c) d θ
-        ∙ value-same (λ t. firstVariable ≤ t → t < firstMinimum → t + c < firstMinimum) s d (λ t. θ (freeingKinds c t)) η room
-        (λ t k. by-low (θ (freeingKinds c t) ≡ η t) firstMinimum t
-        (λ h. ap θ (kinds-low c t h) ∙ p t h (freed-below t h k))
-        (λ h. ap θ (kinds-high c t h) ∙ q t h))
+        → value s (rename (freeing c) d) θ ≡ value s d η
+    through θ η p q = rename-value s (freeing c) d θ
+        ∙ value-same (λ t. firstVariable ≤ t → t < firstMinimum → t + c < firstMinimum) s d (λ t. θ (freeing c t)) η room
+        (λ t k. by-low (θ (freeing c t) ≡ η t) firstMinimum t
+        (λ h. p t h (freed-below t h k))
+        (λ h. ap θ (freeing-minimum c t few h) ∙ q t h))
 
     -- freeing takes the maximum over the tuples
     pub number-freed : (x : List ℕ → ℕ) → ((os : List ℕ) → Tuple (s .size) c os → Number s os d (x os))
-        → Number s [] (rename (freeingKinds c) d) (maxTuples (s .size) c x)
-    number-freed x m = number-tuples good c d (rename (freeingKinds c) d)
+        → Number s [] (rename (freeing c) d) (maxTuples (s .size) c x)
+    number-freed x m = number-tuples good c d (rename (freeing c) d)
         (λ os tu θ f. (
           unfree s c os θ,
           unfree-fits os θ tu f,
@@ -185,7 +177,7 @@ module _ (s : State) (good : Good s) (c : ℕ) (few : firstParameter + c ≤ fir
             split θ η,
             split-under η f (u .fits .range),
             le-of-eq (sym (through η (split θ η)
-                (λ t h k. u .same (freeing c t) k ∙ unfree-free os θ tu f t ∙ sym (split-low θ η t h))
+                (λ t h k. u .same (freeing c t) k ∙ unfree-free os θ tu f t h ∙ sym (split-low θ η t h))
                 (λ t h. sym (split-high θ η t h)))),
           ),
         ))
@@ -193,19 +185,19 @@ module _ (s : State) (good : Good s) (c : ℕ) (few : firstParameter + c ≤ fir
           taken η,
           taken-tuple η g,
           (
-            (λ t. η (freeingKinds c t)),
+            (λ t. η (freeing c t)),
             freed-fits η g,
             λ θ u. (
               split η θ,
               split-under θ g (u .fits .range),
               le-of-eq (through (split η θ) θ
-                  (λ t h k. split-low η θ (freeing c t) k ∙ ap η (sym (kinds-low c t h)) ∙ sym (u .same t h))
+                  (λ t h k. split-low η θ (freeing c t) k ∙ sym (u .same t h))
                   (λ t h. split-high η θ t h)),
             ),
           ),
         ))
         x m
 
-    pub number-of-freed : number s [] (rename (freeingKinds c) d) ≡ maxTuples (s .size) c (λ os. number s os d)
-    number-of-freed = number-equal s [] good (record { each = λ i. good .placed 0 }) (rename (freeingKinds c) d) _
+    pub number-of-freed : number s [] (rename (freeing c) d) ≡ maxTuples (s .size) c (λ os. number s os d)
+    number-of-freed = number-equal s [] good (record { each = λ i. good .placed 0 }) (rename (freeing c) d) _
         (number-freed (λ os. number s os d) (λ os tu. number-is s os good (bound-tuple good tu) d))

@@ -97,12 +97,6 @@ module _ {X : Type 0} {P : X → Type 0} {Q : X → X → Type 0} {f g : X → �
       (λ b q. rw (e (m .point) b (m .inside) q) (mul-le-mul-right w (m .lowest .bound b q)))
       (λ a p. let b = m .bound a p in (b .0, b .1, rw (e a (b .0) p (b .1)) (mul-le-mul-right w (b .2))))
 
-  -- values that are nowhere above give no more
-  pub max-min-rise : {x y : ℕ} → IsMaxMin P Q f x → IsMaxMin P Q g y → ((a b : X) → P a → Q a b → f b ≤ g b) → x ≤ y
-  max-min-rise m k e =
-      let b = k .bound (m .point) (m .inside) in
-      le-trans (m .lowest .bound (b .0) (b .1)) (le-trans (e (m .point) (b .0) (m .inside) (b .1)) (b .2))
-
 -- choices that meet each other
 module _ {X Y : Type 0} {P : X → Type 0} {Q : X → X → Type 0} {f : X → ℕ} {P′ : Y → Type 0} {Q′ : Y → Y → Type 0} {g : Y → ℕ} where
   pub max-min-by : {x : ℕ} → IsMaxMin P Q f x → Met P Q f P′ Q′ g → Met P′ Q′ g P Q f → IsMaxMin P′ Q′ g x

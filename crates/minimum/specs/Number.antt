@@ -5,15 +5,12 @@ use mathlib.Core.List.{List, [], _∷_}
 use mathlib.Core.Bool.{cond}
 use Prim.Native.Nat.{ℕ, _<_}
 use lib.Dec.{ltb}
+use Rattle.label.specs.Limits.{firstMinimum}
 use Rattle.diagram.specs.Diagram.{Tree}
 use Rattle.state.specs.Max.{IsMax}
 use Rattle.state.specs.State.{Atomic, State, value, Fits}
 use Rattle.state.specs.Highest.{put, maxVals, vars, start}
 use Rattle.minimum.specs.Min.{IsMin, IsMaxMin, minTo}
-
--- a variable is a maximum variable (numbers 64 to 127) or a minimum variable (128 to 191)
-abbrev pub firstMinimum : ℕ
-firstMinimum = 128
 
 -- η gives every term but the minimum variables what θ gives it
 pub record Under (s : State) (os : List ℕ) (θ η : ℕ → ℕ) : Type 0 where

@@ -7,18 +7,18 @@ use native.Mathlib.Omega.{arith}
 use native.Mathlib.Nat.{le-of-eq, le-trans}
 use lib.Dec.{ltb}
 use borrow.Author.Tests.{ltb-true, ltb-false, lt-ltb, le-ltb}
-use Rattle.label.specs.Limits.{firstVariable}
+use Rattle.label.specs.Limits.{firstVariable, firstMinimum}
 use Rattle.diagram.specs.Diagram.{Tree}
 use Rattle.state.specs.Max.{IsMax}
 use Rattle.state.specs.MaxLaws.{max-one}
 use Rattle.state.specs.State.{Atomic, State, Good, value, Fits}
 use Rattle.state.specs.Terms.{Each, Terms}
-use Rattle.state.specs.ValueLaws.{by-low, Terms-mono, value-same}
+use Rattle.state.specs.ValueLaws.{by-low, Each-mono, Terms-mono, value-same}
 use Rattle.state.specs.Highest.{maxVals, vars, start, Bound}
 use Rattle.state.specs.HighestLaws.{vars-up, vars-in, start-fits}
 use Rattle.minimum.specs.Min.{IsMin, IsMaxMin, Met}
-use Rattle.minimum.specs.MinLaws.{max-min-one, max-min-by, max-min-scale, max-min-rise}
-use Rattle.minimum.specs.Number.{firstMinimum, Under, Lowest, Number, HighestLowest, minVals, below, from, maximums, minimums, number}
+use Rattle.minimum.specs.MinLaws.{max-min-one, max-min-by, max-min-scale}
+use Rattle.minimum.specs.Number.{Under, Lowest, Number, HighestLowest, minVals, below, from, maximums, minimums, number}
 use Rattle.minimum.specs.ReachLaws.{Reach, maxVals-reach, minVals-reach, reach-fits, reach-under, overlay, overlay-kept, overlay-in, overlay-reach}
 
 -- ===== The number computed =====
@@ -81,23 +81,23 @@ module _ (s : State) (os : List ℕ) (good : Good s) (d : Tree Atomic) (us vs : 
                 (λ t m. overlay-in vs η b t m) ∙ low .value)) (top .bound a r),
           )
 
-below-each : (P : ℕ → Type 0) (m : ℕ) (vs : List ℕ) → Each P vs → Each P (below m vs)
+pub below-each : (P : ℕ → Type 0) (m : ℕ) (vs : List ℕ) → Each P vs → Each (λ v. P v × (v < m)) (below m vs)
 unfolding below
 below-each P m [] w = tt
-below-each P m (v ∷ vs) w = go (ltb v m) (below-each P m vs (w .1))
+below-each P m (v ∷ vs) w = go (ltb v m) refl (below-each P m vs (w .1))
   where
-    go : (b : Bool) → Each P (below m vs) → Each P (cond b (v ∷ below m vs) (below m vs))
-    go true r = (w .0, r)
-    go false r = r
+    go : (b : Bool) → ltb v m ≡ b → Each (λ u. P u × (u < m)) (below m vs) → Each (λ u. P u × (u < m)) (cond b (v ∷ below m vs) (below m vs))
+    go true e r = ((w .0, ltb-true v m e), r)
+    go false e r = r
 
-from-each : (m : ℕ) (vs : List ℕ) → Each (λ v. m ≤ v) (from m vs)
+pub from-each : (P : ℕ → Type 0) (m : ℕ) (vs : List ℕ) → Each P vs → Each (λ v. P v × (m ≤ v)) (from m vs)
 unfolding from
-from-each m [] = tt
-from-each m (v ∷ vs) = go (ltb v m) refl (from-each m vs)
+from-each P m [] w = tt
+from-each P m (v ∷ vs) w = go (ltb v m) refl (from-each P m vs (w .1))
   where
-    go : (b : Bool) → ltb v m ≡ b → Each (λ v. m ≤ v) (from m vs) → Each (λ v. m ≤ v) (cond b (from m vs) (v ∷ from m vs))
+    go : (b : Bool) → ltb v m ≡ b → Each (λ u. P u × (m ≤ u)) (from m vs) → Each (λ u. P u × (m ≤ u)) (cond b (from m vs) (v ∷ from m vs))
     go true e r = r
-    go false e r = (ltb-false v m e, r)
+    go false e r = ((w .0, ltb-false v m e), r)
 
 pub below-in : (m t : ℕ) → t < m → (vs : List ℕ) → List·Memᴰ t vs → List·Memᴰ t (below m vs)
 unfolding below
@@ -122,8 +122,8 @@ from-in m t h (v ∷ vs) i = go (ltb v m) refl i (from-in m t h vs)
 pub number-is : (s : State) (os : List ℕ) → Good s → Bound s os → (d : Tree Atomic) → Number s os d (number s os d)
 unfolding number maximums minimums
 number-is s os good b d = number-vals s os good d (maximums d) (minimums d)
-    (below-each (λ v. firstVariable ≤ v) firstMinimum (vars d) (vars-up d))
-    (from-each firstMinimum (vars d))
+    (Each-mono _ (λ v. firstVariable ≤ v) (λ v h. h .0) (maximums d) (below-each (λ v. firstVariable ≤ v) firstMinimum (vars d) (vars-up d)))
+    (Each-mono _ (λ v. firstMinimum ≤ v) (λ v h. h .1) (minimums d) (from-each (λ v. firstVariable ≤ v) firstMinimum (vars d) (vars-up d)))
     (Terms-mono (λ t. firstVariable ≤ t → List·Memᴰ t (vars d)) (Covered (maximums d) (minimums d))
     (λ t i. ((λ h k. below-in firstMinimum t k (vars d) (i h)), (λ h. from-in firstMinimum t h (vars d) (i (omega arith))))) d (vars-in d))
     (start s os) (start-fits s os good b)
@@ -159,11 +159,6 @@ number-same d d′ m e = max-min-by m
 pub number-scale : {s : State} {os : List ℕ} (d d′ : Tree Atomic) {x : ℕ} (w : ℕ) → Number s os d x
     → ((θ : ℕ → ℕ) → Fits s os θ → value s d′ θ ≡ value s d θ * w) → Number s os d′ (x * w)
 number-scale d d′ w m e = max-min-scale w m (λ θ η f u. e η (u .fits))
-
--- no leaf above the other's
-pub number-rise : {s : State} {os : List ℕ} (d d′ : Tree Atomic) {x y : ℕ} → Number s os d x → Number s os d′ y
-    → ((θ : ℕ → ℕ) → Fits s os θ → value s d θ ≤ value s d′ θ) → x ≤ y
-number-rise d d′ m k e = max-min-rise m k (λ θ η f u. e η (u .fits))
 
 -- a valuation is under itself, and what is under it agrees with it on terms that are no variables
 pub under-self : {s : State} {os : List ℕ} {θ : ℕ → ℕ} → Fits s os θ → Under s os θ θ

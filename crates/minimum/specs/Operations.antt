@@ -1,17 +1,15 @@
 -- What is done to diagrams, as far as their numbers see it (document 02, L12; document 01, sections 'Combination' and 'Regression').
 use mathlib.Core.Path.{_≡_}
-use mathlib.Core.List.{List, List·Memᴰ}
-use mathlib.Core.Bool.{cond}
+use mathlib.Core.List.{List·Memᴰ}
 use Prim.Native.Nat.{ℕ, _+_, _≤_, _<_}
 use lib.ListN.{length}
-use lib.Dec.{ltb}
-use Rattle.label.specs.Limits.{firstVariable}
-use Rattle.label.specs.Renamings.{rank, freeing}
+use Rattle.label.specs.Limits.{firstVariable, firstMinimum}
+use Rattle.label.specs.Renamings.{numbering}
 use Rattle.diagram.specs.Diagram.{Tree}
 use Rattle.state.specs.State.{Atomic}
 use Rattle.state.specs.Terms.{Terms, rename}
 use Rattle.state.specs.Highest.{vars}
-use Rattle.minimum.specs.Number.{firstMinimum, maximums, minimums}
+use Rattle.minimum.specs.Number.{maximums, minimums}
 
 -- d has no minimum variable
 abbrev pub Plain : Tree Atomic → Type 0
@@ -41,24 +39,15 @@ pub record KindByKind (ρ : ℕ → ℕ) (d : Tree Atomic) : Type 0 where
   pub kinds : (t : ℕ) → List·Memᴰ t (vars d) → SameKind t (ρ t)
   pub single : (t u : ℕ) → List·Memᴰ t (vars d) → List·Memᴰ u (vars d) → ρ t ≡ ρ u → t ≡ u
 
--- the maximum variables us renamed to m, m + 1, .. and the minimum variables vs to n, n + 1, .., each kind in its order
-unfoldable pub numberingKinds : List ℕ → List ℕ → ℕ → ℕ → ℕ → ℕ
-numberingKinds us vs m n t = cond (ltb t firstVariable) t (cond (ltb t firstMinimum) (m + rank us t) (n + rank vs t))
-
 -- closing up keeps the two kinds separate
 unfoldable pub closedKinds : Tree Atomic → Tree Atomic
-unfolding numberingKinds rename maximums minimums
-closedKinds d = rename (numberingKinds (maximums d) (minimums d) firstVariable firstMinimum) d
+unfolding numbering rename maximums minimums
+closedKinds d = rename (numbering (maximums d) (minimums d) firstVariable firstMinimum) d
 
 -- apart: the variables of the second operand b follow after those of the first, a, kind by kind
 unfoldable pub afterKinds : Tree Atomic → Tree Atomic → Tree Atomic
-unfolding numberingKinds rename maximums minimums
-afterKinds a b = rename (numberingKinds (maximums b) (minimums b) (firstVariable + length (maximums a)) (firstMinimum + length (minimums a))) b
-
--- freeing c parameters leaves the numbers of the minimum variables
-unfoldable pub freeingKinds : ℕ → ℕ → ℕ
-unfolding freeing
-freeingKinds c t = cond (ltb t firstMinimum) (freeing c t) t
+unfolding numbering rename maximums minimums
+afterKinds a b = rename (numbering (maximums b) (minimums b) (firstVariable + length (maximums a)) (firstMinimum + length (minimums a))) b
 
 -- c further maximum variables have a number each
 abbrev pub Room : ℕ → Tree Atomic → Type 0

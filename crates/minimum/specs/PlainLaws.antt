@@ -1,27 +1,30 @@
--- Without minimum variables the number is the highest leaf; the labels of today have none.
+-- Without minimum variables the number is the highest leaf; a diagram that is plain by its labels has none.
 use mathlib.Core.Path.{_≡_, refl, ap, ap₂, sym, _∙_}
 use mathlib.Core.List.{List, [], _∷_}
 use mathlib.Core.Bool.{Bool, true, false, cond}
-use Prim.Native.Nat.{ℕ, zero, suc, _<_}
+use Prim.Native.Nat.{ℕ, zero, suc, _≤_, _<_}
 use native.Mathlib.Omega.{arith}
 use native.Mathlib.Nat.{le-of-eq, le-trans}
 use lib.ListN.{length, getD, take}
 use lib.Dec.{ltb, eqb}
-use borrow.Author.Tests.{lt-ltb}
-use Rattle.label.specs.Limits.{firstVariable}
+use borrow.Author.Tests.{lt-ltb, eqb-true}
+use Rattle.basics.specs.Members.{clash}
+use Rattle.label.specs.Limits.{firstVariable, firstMinimum, minimumCount, termEnd}
 use Rattle.label.specs.Labels.{isLabel, placesOf, unpacked, termsOf}
 use Rattle.label.specs.LabelLaws.{term-below, used-term, label-fits}
 use Rattle.diagram.specs.Diagram.{Tree, Diagram, leaf, branch, relabel}
 use Rattle.diagram.specs.Listing.{Fine}
+use Rattle.diagram.specs.Variables.{occurs, minimums as minimumsOf, isPlain}
 use Rattle.state.specs.State.{Atomic, atomOf, meaning, State, value, Fits}
 use Rattle.state.specs.Terms.{Each, args, Terms}
-use Rattle.state.specs.ValueLaws.{value-same}
+use Rattle.state.specs.ValueLaws.{by-low, Terms-mono, value-same}
 use Rattle.state.specs.Highest.{Highest, maxVals, insert, varsOf, varsIn, vars, start, highest}
 use Rattle.minimum.specs.Min.{IsMaxMin}
 use Rattle.minimum.specs.MinLaws.{max-min}
-use Rattle.minimum.specs.Number.{firstMinimum, Under, Number, minVals, below, from, maximums, minimums, number}
+use Rattle.minimum.specs.Number.{Under, Number, minVals, below, from, maximums, minimums, number}
 use Rattle.minimum.specs.Operations.{Plain}
 use Rattle.minimum.specs.NumberLaws.{under-self}
+use Rattle.minimum.specs.OccurLaws.{occur-terms, terms-occur, none-occurs}
 
 insert-each : (P : ℕ → Type 0) (t : ℕ) (vs : List ℕ) → P t → Each P vs → Each P (insert t vs)
 unfolding insert
@@ -62,11 +65,6 @@ unfolding from
 from-none m [] w = refl
 from-none m (v ∷ vs) w = rw (lt-ltb v m (w .0)) (from-none m vs (w .1))
 
--- the maximum variables are all
-pub maximums-plain : (d : Tree Atomic) → Plain d → maximums d ≡ vars d
-unfolding maximums
-maximums-plain d w = below-all firstMinimum (vars d) (vars-each (λ t. t < firstMinimum) d w)
-
 pub number-plain : (s : State) (os : List ℕ) (d : Tree Atomic) → Plain d → number s os d ≡ highest s os d
 unfolding number highest maximums minimums
 number-plain s os d w =
@@ -99,14 +97,23 @@ each-take P zero ts f = tt
 each-take P (suc n) [] f = tt
 each-take P (suc n) (t ∷ ts) f = (f 0 (omega arith) (omega arith), each-take P n ts (λ k h i. f (suc k) (omega arith) (omega arith)))
 
--- the terms of a label end where the minimum variables begin
-label-plain : (ar : List ℕ) (l : ℕ) → isLabel ar l ≡ true → Each (λ t. t < firstMinimum) (termsOf ar (unpacked l))
+-- the terms of a label end where the minimum variables do
+label-ends : (ar : List ℕ) (l : ℕ) → isLabel ar l ≡ true → Each (λ t. t < termEnd) (termsOf ar (unpacked l))
 unfolding termsOf
-label-plain ar l h = each-take (λ t. t < firstMinimum) (getD ar (unpacked l .predicate) 0) (placesOf (unpacked l))
+label-ends ar l h = each-take (λ t. t < termEnd) (getD ar (unpacked l .predicate) 0) (placesOf (unpacked l))
     (λ k i j. term-below (getD (placesOf (unpacked l)) k 0) (used-term _ k _ i (label-fits ar l h .places-fit .fits k j)))
 
--- so that what has a listing has no minimum variable
-pub fine-plain : (ar : List ℕ) (d : Diagram) → Fine ar d → Plain (meaning ar d)
+fine-ends : (ar : List ℕ) (d : Diagram) → Fine ar d → Terms (λ t. t < termEnd) (meaning ar d)
 unfolding meaning relabel atomOf
-fine-plain ar (leaf x) w = tt
-fine-plain ar (branch l t f) w = (label-plain ar l (w .0), fine-plain ar t (w .1), fine-plain ar f (w .2))
+fine-ends ar (leaf x) w = tt
+fine-ends ar (branch l t f) w = (label-ends ar l (w .0), fine-ends ar t (w .1), fine-ends ar f (w .2))
+
+plain-occurs : (ar : List ℕ) (d : Diagram) → isPlain ar d ≡ true → (t : ℕ) → firstMinimum ≤ t → t < termEnd → occurs ar t d ≡ false
+unfolding isPlain minimumsOf
+plain-occurs ar d e = none-occurs ar d firstMinimum minimumCount (eqb-true (length (minimumsOf ar d)) 0 e)
+
+-- no minimum variable among the labels of a listing: none in what it says
+pub fine-plain : (ar : List ℕ) (d : Diagram) → Fine ar d → isPlain ar d ≡ true → Plain (meaning ar d)
+fine-plain ar d w e = Terms-mono (λ t. occurs ar t d ≡ true) (λ t. t < firstMinimum) (λ t o. by-low (t < firstMinimum) firstMinimum t (λ h. h)
+    (λ h. clash o (plain-occurs ar d e t h (terms-occur (λ u. u < termEnd) ar t d (fine-ends ar d w) o))))
+    (meaning ar d) (occur-terms ar d)

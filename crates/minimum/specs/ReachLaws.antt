@@ -4,7 +4,7 @@ use mathlib.Core.List.{List, [], _∷_, List·Memᴰ, List·Memᴰ·head, List·
 use Prim.Native.Nat.{ℕ, _≤_, _<_}
 use native.Mathlib.Omega.{arith}
 use native.Mathlib.Nat.{le-refl, le-trans}
-use Rattle.label.specs.Limits.{firstVariable}
+use Rattle.label.specs.Limits.{firstVariable, firstMinimum}
 use Rattle.state.specs.Max.{IsMax}
 use Rattle.state.specs.MaxLaws.{maxTo-is}
 use Rattle.state.specs.State.{State, Fits}
@@ -14,7 +14,7 @@ use Rattle.state.specs.Highest.{put, maxVals}
 use Rattle.state.specs.HighestLaws.{put-same, put-other, by-eq, put-fits}
 use Rattle.minimum.specs.Min.{IsMin}
 use Rattle.minimum.specs.MinLaws.{minTo-is}
-use Rattle.minimum.specs.Number.{firstMinimum, Under, minVals}
+use Rattle.minimum.specs.Number.{Under, minVals}
 
 -- η is θ with objects below n for the variables of the list
 pub data Reach (n : ℕ) : List ℕ → (ℕ → ℕ) → (ℕ → ℕ) → Type 0 where

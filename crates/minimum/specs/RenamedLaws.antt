@@ -8,24 +8,17 @@ use native.Mathlib.Nat.{le-of-eq}
 use lib.Dec.{eqb}
 use borrow.Author.Tests.{eqb-true, eqb-false}
 use Rattle.basics.specs.Tests.{Cmp, below, equal, above, cmp}
-use Rattle.label.specs.Limits.{firstVariable}
-use Rattle.diagram.specs.Diagram.{Tree, leaf, branch}
-use Rattle.state.specs.State.{Atomic, atom, State, Good, value, low, Fits}
+use Rattle.label.specs.Limits.{firstVariable, firstMinimum}
+use Rattle.diagram.specs.Diagram.{Tree}
+use Rattle.state.specs.State.{Atomic, State, value, low, Fits}
 use Rattle.state.specs.Terms.{Terms, rename}
-use Rattle.state.specs.ValueLaws.{low-lt, low-ge, by-low, map-same, Terms-mono, value-same, rename-value, fits-after}
-use Rattle.state.specs.Highest.{vars, Bound}
+use Rattle.state.specs.ValueLaws.{low-lt, low-ge, by-low, Terms-mono, value-same, rename-value, fits-after}
+use Rattle.state.specs.Highest.{vars}
 use Rattle.state.specs.HighestLaws.{vars-in}
 use Rattle.minimum.specs.Min.{IsMaxMin, Met}
-use Rattle.minimum.specs.Number.{firstMinimum, Under, Number, number}
+use Rattle.minimum.specs.Number.{Under, Number}
 use Rattle.minimum.specs.Operations.{SameKind, KindByKind}
-use Rattle.minimum.specs.NumberLaws.{number-is, number-equal, number-by, split, split-low, split-high, split-under}
-
--- maps that agree on the terms of d
-pub rename-same : (P : ℕ → Type 0) (ρ σ : ℕ → ℕ) → ((t : ℕ) → P t → ρ t ≡ σ t) → (d : Tree Atomic) → Terms P d → rename ρ d ≡ rename σ d
-unfolding rename
-rename-same P ρ σ e (leaf x) w = refl
-rename-same P ρ σ e (branch (atom p ts) t f) w =
-    λ i. branch (atom p (map-same P ρ σ e ts (w .0) i)) (rename-same P ρ σ e t (w .1) i) (rename-same P ρ σ e f (w .2) i)
+use Rattle.minimum.specs.NumberLaws.{number-by, split, split-low, split-high, split-under}
 
 -- the variable of the list that ρ turns into t
 back : (ℕ → ℕ) → List ℕ → ℕ → ℕ
@@ -109,9 +102,6 @@ pub number-renamed : {s : State} {os : List ℕ} (d : Tree Atomic) (ρ : ℕ →
 number-renamed {s} {os} d ρ k = number-back s os d ρ (back ρ (vars d)) (k .low)
     (Terms-mono (λ t. firstVariable ≤ t → List·Memᴰ t (vars d)) (λ t. firstVariable ≤ t → SameKind t (ρ t) × (back ρ (vars d) (ρ t) ≡ t))
     (λ t i h. (k .kinds t (i h), back-of ρ (vars d) t (i h) (λ v j e. k .single v t j (i h) e))) d (vars-in d))
-
-pub number-of-renamed : (s : State) (os : List ℕ) → Good s → Bound s os → (d : Tree Atomic) (ρ : ℕ → ℕ) → KindByKind ρ d → number s os (rename ρ d) ≡ number s os d
-number-of-renamed s os good b d ρ k = number-equal s os good b (rename ρ d) _ (number-renamed d ρ k (number-is s os good b d))
 
 -- a map that keeps their order makes no two one
 pub order-single : (ρ : ℕ → ℕ) (vs : List ℕ) → ((t u : ℕ) → List·Memᴰ t vs → List·Memᴰ u vs → t < u → ρ t < ρ u)

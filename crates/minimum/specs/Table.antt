@@ -4,12 +4,13 @@ use mathlib.Core.Bool.{Bool, false}
 use mathlib.Core.List.{List, [], _∷_}
 use Prim.Native.Nat.{ℕ, max}
 use lib.Dec.{eqb}
+use Rattle.label.specs.Renamings.{freeing}
 use Rattle.diagram.specs.Diagram.{Tree, leaf, branch}
 use Rattle.state.specs.State.{Atomic, atom, State}
 use Rattle.state.specs.Terms.{rename}
 use Rattle.state.specs.Highest.{highest}
 use Rattle.minimum.specs.Number.{number}
-use Rattle.minimum.specs.Operations.{closedKinds, afterKinds, freeingKinds}
+use Rattle.minimum.specs.Operations.{closedKinds, afterKinds}
 
 -- two objects, which are vans and shelves at once
 abbrev served : (List ℕ → Bool) → State
@@ -53,6 +54,6 @@ table-number = (refl, refl, refl, refl, refl, refl, refl)
 -- Names kind by kind: closing up (?v3, %v5) gives (?v0, %v0), and a second such operand apart (?v1, %v1); freeing two parameters moves ?v0 up by two and leaves %v0.
 pub table-names : (closedKinds (branch (atom 1 (67 ∷ 133 ∷ [])) (leaf 7) (leaf 3)) ≡ vanShelf)
     × (afterKinds vanShelf (branch (atom 1 (67 ∷ 133 ∷ [])) (leaf 7) (leaf 3)) ≡ branch (atom 1 (65 ∷ 129 ∷ [])) (leaf 7) (leaf 3))
-    × (rename (freeingKinds 2) (branch (atom 1 (16 ∷ 64 ∷ 128 ∷ [])) (leaf 7) (leaf 3)) ≡ branch (atom 1 (64 ∷ 66 ∷ 128 ∷ [])) (leaf 7) (leaf 3))
-unfolding closedKinds afterKinds freeingKinds rename
+    × (rename (freeing 2) (branch (atom 1 (16 ∷ 64 ∷ 128 ∷ [])) (leaf 7) (leaf 3)) ≡ branch (atom 1 (64 ∷ 66 ∷ 128 ∷ [])) (leaf 7) (leaf 3))
+unfolding closedKinds afterKinds freeing rename
 table-names = (refl, refl, refl)

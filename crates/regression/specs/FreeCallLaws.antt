@@ -1,7 +1,7 @@
 -- Laws of what freeing answers: one for each check, and that an accepted call takes the highest number over all tuples.
-use mathlib.Core.Path.{_≡_, refl, ap, ap₂, sym, _∙_}
+use mathlib.Core.Path.{_≡_, refl, ap, ap₂}
 use mathlib.Core.Logic.{_⊎_, inl, inr}
-use mathlib.Core.Bool.{true, false, not, _&&_, _||_}
+use mathlib.Core.Bool.{true, false, not, _||_}
 use mathlib.Core.List.{List, [], _∷_}
 use Prim.Native.Nat.{ℕ, zero, suc, _+_, _-_, _≤_, _<_}
 use native.Mathlib.Omega.{arith}
@@ -10,15 +10,14 @@ use lib.Dec.{ltb, leb}
 use borrow.Author.Tests.{ltb-true, ltb-false, leb-true, le-ltb, lt-ltb, not-false}
 use Rattle.refusal.specs.declared.Refusal.{Refusal}
 use Rattle.refusal.specs.declared.Refusal.the-variants.{Listing, Buffer, Unbound, Range, Variables}
-use Rattle.refusal.specs.Outcome.{refused, Accepted}
+use Rattle.refusal.specs.Outcome.{ok, refused, Accepted}
 use Rattle.refusal.specs.OutcomeLaws.{accepted-cond, accepted-ok}
 use Rattle.basics.specs.Tests.{and-left, and-right, Either, one, other, either, Cmp, below, equal, above, cmp}
 use Rattle.basics.specs.Members.{clash}
-use Rattle.label.specs.Limits.{firstParameter, parameterCount, firstVariable, termEnd}
-use Rattle.label.specs.Terms.{isConstant, isParameter, isVariable, isTerm}
+use Rattle.label.specs.Limits.{firstParameter, parameterCount, firstVariable, variableCount, firstMinimum}
+use Rattle.label.specs.Terms.{isConstant, isParameter, isVariable, isMinimum, isTerm}
 use Rattle.label.specs.Labels.{areArities, placesOf, predicateOf, unpacked, isLabel, termsOf}
-use Rattle.label.specs.Renamings.{mapped, renamed, freeing, Increasing, EachTerm, EachIn}
-use Rattle.label.specs.LabelLaws.{term-below}
+use Rattle.label.specs.Renamings.{mapped, renamed, freeing, Increasing, EachIn}
 use Rattle.label.specs.RenamingLaws.{Freed as Freeable, freeing-increasing, renamed-atom, renamed-terms}
 use Rattle.label.specs.declared.Atom.{Atom}
 use Rattle.diagram.specs.Sizes.{resultWords, spaceWords}
@@ -33,17 +32,16 @@ use Rattle.state.specs.Max.{Tuple, maxTuples}
 use Rattle.state.specs.State.{Atomic, atom, atomOf, meaning, State, Good}
 use Rattle.state.specs.Terms.{Each, args, Terms, renameAtom, rename}
 use Rattle.state.specs.ValueLaws.{Terms-mono}
-use Rattle.minimum.specs.Number.{firstMinimum, Number}
-use Rattle.minimum.specs.Operations.{freeingKinds, Room}
-use Rattle.minimum.specs.RenamedLaws.{rename-same}
-use Rattle.minimum.specs.FreedLaws.{kinds-low, number-freed}
+use Rattle.minimum.specs.Number.{Number}
+use Rattle.minimum.specs.Operations.{Room}
+use Rattle.minimum.specs.OccurLaws.{occur-terms}
+use Rattle.minimum.specs.FreedLaws.{number-freed}
 use Rattle.regression.specs.declared.Freed.the-variants.{Refused}
 use Rattle.regression.specs.Parameters.{Within, Labels}
 use Rattle.regression.specs.ResultLaws.{label-terms}
-use Rattle.regression.specs.NextLaws.{occur-terms}
 use Rattle.regression.specs.FreeingLaws.{within-freed}
 use Rattle.regression.specs.RegressCall.{anyOccurs, freedOutcome, freeOwn, freeOutcome, freeAnswer, freeResult}
-use Rattle.regression.specs.RegressCallLaws.{any-quiet}
+use Rattle.regression.specs.RegressCallLaws.{any-quiet, quiet-any}
 
 -- the terms of a label, place by place
 take-each : (P : ℕ → Type 0) (n : ℕ) (ts : List ℕ) → Each P (take n ts) → (k : ℕ) → k < n → k < length ts → P (getD ts k 0)
@@ -95,36 +93,47 @@ module _ (ar words : List ℕ) (count outLength workLength : ℕ) where
     unfolding freeOutcome
     free-own h = rw (e, le-ltb outLength resultWords room, le-ltb workLength spaceWords space, le-ltb parameterCount count h)
 
+-- 8 is met only by variables that would pass the last: wherever these stay below the minimum variables freeing is accepted, whatever minimum variables there are
+pub free-accepted : (ar : List ℕ) (c : ℕ) (d : Diagram) → c ≤ parameterCount → ((t : ℕ) → firstVariable ≤ t → t < firstMinimum → firstMinimum ≤ t + c → occurs ar t d ≡ false)
+    → freedOutcome ar c d ≡ ok (freed ar c d)
+unfolding freedOutcome
+free-accepted ar c d few h = rw (quiet-any ar d (firstMinimum - c) c (λ u i j. h u (omega arith) (omega arith) (omega arith)))
+
 -- without a parameter past the count 8 is left
 pub own-freed : (ar words : List ℕ) (count : ℕ) → anyOccurs ar (diagramOf words) (firstParameter + count) (parameterCount - count) ≡ false
     → freeOwn ar words count ≡ freedOutcome ar count (diagramOf words)
 unfolding freeOwn
 own-freed ar words count e = rw e
 
--- what an accepted call frees: no parameter past the count occurs, and no variable would pass the last
+-- what an accepted call frees: no parameter past the count occurs, and no variable would pass the last of its kind
 pub record IsFreed (ar : List ℕ) (count : ℕ) (d r : Diagram) : Type 0 where
   pub is : r ≡ relabel (renamed ar (freeing count)) d
   pub few : count ≤ parameterCount
   pub parameters : (t : ℕ) → firstParameter + count ≤ t → t < firstParameter + parameterCount → occurs ar t d ≡ false
-  pub variables : (t : ℕ) → termEnd ≤ t + count → t < termEnd → occurs ar t d ≡ false
-  pub means : meaning ar r ≡ rename (freeingKinds count) (meaning ar d)
+  pub variables : (t : ℕ) → firstMinimum ≤ t + count → t < firstMinimum → occurs ar t d ≡ false
+  pub means : meaning ar r ≡ rename (freeing count) (meaning ar d)
   pub room : Room count (meaning ar d)
 
--- a term is a constant, a parameter or a variable
+-- a term is a constant, a parameter, a variable or a minimum variable
 data Kinds (t : ℕ) : Type 0 where
   constant : t < firstParameter → Kinds t
   parameter : firstParameter ≤ t → t < firstParameter + parameterCount → Kinds t
-  variable : firstVariable ≤ t → t < termEnd → Kinds t
+  variable : firstVariable ≤ t → t < firstMinimum → Kinds t
+  minimum : firstMinimum ≤ t → Kinds t
 
 kinds : (t : ℕ) → isTerm t ≡ true → Kinds t
-unfolding isTerm isConstant isParameter isVariable
+unfolding isTerm isConstant isParameter isVariable isMinimum
 kinds t e = go (either (isConstant t) _ e)
   where
-    rest : Either (isParameter t) (isVariable t) → Kinds t
-    rest (one q) = parameter (leb-true firstParameter t (and-left _ _ q)) (ltb-true t (firstParameter + parameterCount) (and-right (leb firstParameter t) _ q))
-    rest (other q) = variable (leb-true firstVariable t (and-left _ _ q)) (ltb-true t termEnd (and-right (leb firstVariable t) _ q))
+    last : Either (isVariable t) (isMinimum t) → Kinds t
+    last (one q) = variable (leb-true firstVariable t (and-left _ _ q)) (ltb-true t (firstVariable + variableCount) (and-right (leb firstVariable t) _ q))
+    last (other q) = minimum (leb-true firstMinimum t (and-left _ _ q))
 
-    go : Either (isConstant t) (isParameter t || isVariable t) → Kinds t
+    rest : Either (isParameter t) (isVariable t || isMinimum t) → Kinds t
+    rest (one q) = parameter (leb-true firstParameter t (and-left _ _ q)) (ltb-true t (firstParameter + parameterCount) (and-right (leb firstParameter t) _ q))
+    rest (other q) = last (either (isVariable t) _ q)
+
+    go : Either (isConstant t) (isParameter t || (isVariable t || isMinimum t)) → Kinds t
     go (one q) = constant (ltb-true t firstParameter q)
     go (other q) = rest (either (isParameter t) _ q)
 
@@ -143,33 +152,34 @@ terms-two P Q R h (branch a t f) x y = (each-two P Q R h (args a) (x .0) (y .0),
 
 module _ (ar : List ℕ) (count : ℕ) (d : Diagram) (few : count ≤ parameterCount)
     (parameters : (t : ℕ) → firstParameter + count ≤ t → t < firstParameter + parameterCount → occurs ar t d ≡ false)
-    (variables : (t : ℕ) → termEnd ≤ t + count → t < termEnd → occurs ar t d ≡ false) where
+    (variables : (t : ℕ) → firstMinimum ≤ t + count → t < firstMinimum → occurs ar t d ≡ false) where
   freeable : (t : ℕ) → isTerm t ≡ true → occurs ar t d ≡ true → Freeable count t
-  freeable t e o = (e, go (kinds t e) (cmp t (firstParameter + count)) (cmp (t + count) termEnd))
+  freeable t e o = (e, go (kinds t e) (cmp t (firstParameter + count)) (cmp (t + count) firstMinimum))
     where
-      go : Kinds t → Cmp t (firstParameter + count) → Cmp (t + count) termEnd → (t < firstParameter + count) ⊎ ((firstVariable ≤ t) × (t + count < termEnd))
+      go : Kinds t → Cmp t (firstParameter + count) → Cmp (t + count) firstMinimum
+          → (t < firstParameter + count) ⊎ ((firstVariable ≤ t) × (t < firstMinimum → t + count < firstMinimum))
       go (constant h) x y = inl (omega arith)
       go (parameter h k) (below x) y = inl x
       go (parameter h k) (equal x) y = clash o (parameters t (omega arith) k)
       go (parameter h k) (above x) y = clash o (parameters t (omega arith) k)
-      go (variable h k) x (below y) = inr (h, y)
+      go (variable h k) x (below y) = inr (h, λ l. y)
       go (variable h k) x (equal y) = clash o (variables t (omega arith) k)
       go (variable h k) x (above y) = clash o (variables t (omega arith) k)
+      go (minimum h) x y = inr (omega arith, λ l. absurd (omega arith))
 
   freeable-terms : Labels ar d → Terms (Freeable count) (meaning ar d)
   freeable-terms w = terms-two (λ t. isTerm t ≡ true) (λ t. occurs ar t d ≡ true) (Freeable count) freeable (meaning ar d) (terms-isTerm ar d w) (occur-terms ar d)
 
-  pub meaning-freed : areArities ar ≡ true → Labels ar d → meaning ar (relabel (renamed ar (freeing count)) d) ≡ rename (freeingKinds count) (meaning ar d)
-  meaning-freed good w =
-      meaning-renamed (Freeable count) (freeing count) (freeing-increasing count few) ar good d w (freeable-terms w)
-      ∙ rename-same (Freeable count) (freeing count) (freeingKinds count) (λ t f. sym (kinds-low count t (term-below t (f .0)))) (meaning ar d) (freeable-terms w)
+  pub meaning-freed : areArities ar ≡ true → Labels ar d → meaning ar (relabel (renamed ar (freeing count)) d) ≡ rename (freeing count) (meaning ar d)
+  meaning-freed good w = meaning-renamed (Freeable count) (freeing count) (freeing-increasing count few) ar good d w (freeable-terms w)
 
   pub room-freed : Labels ar d → Room count (meaning ar d)
   room-freed w = Terms-mono (Freeable count) (λ t. firstVariable ≤ t → t < firstMinimum → t + count < firstMinimum) (λ t f. go t (f .1)) (meaning ar d) (freeable-terms w)
     where
-      go : (t : ℕ) → (t < firstParameter + count) ⊎ ((firstVariable ≤ t) × (t + count < termEnd)) → firstVariable ≤ t → t < firstMinimum → t + count < firstMinimum
+      go : (t : ℕ) → (t < firstParameter + count) ⊎ ((firstVariable ≤ t) × (t < firstMinimum → t + count < firstMinimum))
+          → firstVariable ≤ t → t < firstMinimum → t + count < firstMinimum
       go t (inl h) k l = absurd (omega arith)
-      go t (inr h) k l = h .1
+      go t (inr h) k l = h .1 l
 
 pub free-is : (ar words : List ℕ) (count outLength workLength : ℕ) → Accepted (IsFreed ar count (diagramOf words)) (freeOutcome ar words count outLength workLength)
 unfolding freeOutcome freeOwn freedOutcome freed
@@ -178,12 +188,12 @@ free-is ar words count outLength workLength =
     accepted-cond (ltb outLength resultWords || ltb workLength spaceWords) Buffer _ (λ b.
     accepted-cond (ltb parameterCount count) Range _ (λ c.
     accepted-cond (anyOccurs ar (diagramOf words) (firstParameter + count) (parameterCount - count)) Unbound _ (λ p.
-    accepted-cond (anyOccurs ar (diagramOf words) (termEnd - count) count) Variables _ (λ v.
+    accepted-cond (anyOccurs ar (diagramOf words) (firstMinimum - count) count) Variables _ (λ v.
     let few = ltb-false parameterCount count c in
     let ps : (t : ℕ) → firstParameter + count ≤ t → t < firstParameter + parameterCount → occurs ar t (diagramOf words) ≡ false =
     λ t h k. any-quiet ar (diagramOf words) (firstParameter + count) (parameterCount - count) p t h (omega arith) in
-    let vs : (t : ℕ) → termEnd ≤ t + count → t < termEnd → occurs ar t (diagramOf words) ≡ false =
-    λ t h k. any-quiet ar (diagramOf words) (termEnd - count) count v t (omega arith) (omega arith) in
+    let vs : (t : ℕ) → firstMinimum ≤ t + count → t < firstMinimum → occurs ar t (diagramOf words) ≡ false =
+    λ t h k. any-quiet ar (diagramOf words) (firstMinimum - count) count v t (omega arith) (omega arith) in
     let g = is-listing-good ar words (not-false _ l) in
     accepted-ok (record {
       is = refl;

@@ -30,10 +30,10 @@
 --
 -- Definitions: the calls
 --   truthCount, truthWords, truthsOf == lent truth diagrams: words one after another, and where each begins
---   areListings, leafAbove, anyOccurs, unboundVariable == the parts of the checks 14, 7, 6
+--   areListings, leafAbove, anyOccurs, unboundVariable == the parts of the checks 14, 7, 6; a variable that is no argument, or a minimum variable, is 6
 --   checkTruth, checkTruths, regressOutcome == 7, then 6, diagram by diagram; the call: 14, 18, 7, 6, then its own
 --   Regressed, regressedAs, writtenAs, regressAnswer, regressResult == the answer, and the result buffer then
---   freedOutcome, freeOwn, freeOutcome == freeing: 8; 6, then 8; the call: 14, 18, 4, then these
+--   freedOutcome, freeOwn, freeOutcome == freeing, which leaves minimum variables: 8; 6, then 8; the call: 14, 18, 4, then these
 --   Freed, freedAs, freeAnswer, freeResult == the answer, and the result buffer then
 --
 -- Theorems

@@ -1,21 +1,19 @@
 -- The regressed diagram says of a state what the old one says of the next state.
 use mathlib.Core.Path.{_≡_, refl, ap, sym, _∙_, subst, fun-ext}
-use mathlib.Core.Bool.{true, cond, _||_}
+use mathlib.Core.Bool.{true, cond}
 use mathlib.Core.List.{List, [], _∷_, map}
 use mathlib.Core.Option.{Option, some, none, Option·map}
 use Prim.Native.Nat.{ℕ, zero, suc, _-_, _≤_, _<_}
 use native.Mathlib.Omega.{arith}
 use lib.ListN.{length, getD, List·getD-map}
 use lib.Dec.{eqb}
-use borrow.Author.Tests.{eqb-true, eq-eqb, ne-eqb}
+use borrow.Author.Tests.{ne-eqb}
 use Rattle.refusal.specs.Outcome.{Accepted}
 use Rattle.refusal.specs.OutcomeLaws.{accepted-mono}
-use Rattle.basics.specs.Tests.{Either, one, other, either, or-one, or-other}
-use Rattle.basics.specs.Members.{mem, clash}
 use Rattle.label.specs.Limits.{firstVariable}
 use Rattle.label.specs.Labels.{areArities, predicateOf, unpacked, isLabel, termsOf}
 use Rattle.diagram.specs.Sizes.{mostRows}
-use Rattle.diagram.specs.Diagram.{Tree, Diagram, leaf, branch, eval, relabel}
+use Rattle.diagram.specs.Diagram.{Tree, Diagram, leaf, branch, eval}
 use Rattle.diagram.specs.Rows.{rows}
 use Rattle.diagram.specs.Listing.{Good as Listed}
 use Rattle.diagram.specs.Variables.{occurs}
@@ -23,8 +21,9 @@ use Rattle.apply.specs.GoodLaws.{fine-every}
 use Rattle.state.specs.Highest.{Bound}
 use Rattle.state.specs.State.{Atomic, atom, atomOf, meaning, State, Good, holds, value, fixed, Fits}
 use Rattle.state.specs.Terms.{Each, args, Terms}
-use Rattle.state.specs.ValueLaws.{low-lt, low-ge, by-low, Each-mono, Terms-mono}
+use Rattle.state.specs.ValueLaws.{low-lt, low-ge, by-low, Terms-mono}
 use Rattle.minimum.specs.Number.{Number}
+pub use Rattle.minimum.specs.OccurLaws.{terms-occur, occur-terms}
 use Rattle.minimum.specs.NextLaws.{number-next}
 use Rattle.regression.specs.StepLaws.{eval-most}
 use Rattle.regression.specs.Regression.{argument, Truths, truthOf, regressed}
@@ -96,44 +95,6 @@ within-regressed c ar good truths g v d w h = record {
 }
 
 -- and no variable but those of the old diagram
-mem-each : (P : ℕ → Type 0) (t : ℕ) (ts : List ℕ) → Each P ts → mem eqb t ts ≡ true → P t
-mem-each P t [] w h = clash h refl
-mem-each P t (u ∷ us) w h = go (either (eqb t u) (mem eqb t us) h) (mem-each P t us (w .1))
-  where
-    go : Either (eqb t u) (mem eqb t us) → (mem eqb t us ≡ true → P t) → P t
-    go (one e) ih = rw (eqb-true t u e) (w .0)
-    go (other e) ih = ih e
-
-each-mem : (ts us : List ℕ) → ((t : ℕ) → mem eqb t ts ≡ true → mem eqb t us ≡ true) → Each (λ t. mem eqb t us ≡ true) ts
-each-mem [] us h = tt
-each-mem (t ∷ ts) us h = (h t (or-one (eqb t t) _ (eq-eqb t t refl)), each-mem ts us (λ u k. h u (or-other (eqb u t) _ k)))
-
-pub terms-occur : (P : ℕ → Type 0) (ar : List ℕ) (t : ℕ) (d : Diagram) → Terms P (meaning ar d) → occurs ar t d ≡ true → P t
-unfolding meaning relabel occurs atomOf
-terms-occur P ar t (leaf v) w h = clash h refl
-terms-occur P ar t (branch l x y) w h =
-    go (either (mem eqb t (termsOf ar (unpacked l))) (occurs ar t x || occurs ar t y) h) (terms-occur P ar t x (w .1)) (terms-occur P ar t y (w .2))
-  where
-    inside : Either (occurs ar t x) (occurs ar t y) → (occurs ar t x ≡ true → P t) → (occurs ar t y ≡ true → P t) → P t
-    inside (one e) p q = p e
-    inside (other e) p q = q e
-
-    go : Either (mem eqb t (termsOf ar (unpacked l))) (occurs ar t x || occurs ar t y) → (occurs ar t x ≡ true → P t) → (occurs ar t y ≡ true → P t) → P t
-    go (one e) p q = mem-each P t (termsOf ar (unpacked l)) (w .0) e
-    go (other e) p q = inside (either (occurs ar t x) (occurs ar t y) e) p q
-
-pub occur-terms : (ar : List ℕ) (d : Diagram) → Terms (λ t. occurs ar t d ≡ true) (meaning ar d)
-unfolding meaning relabel occurs atomOf
-occur-terms ar (leaf v) = tt
-occur-terms ar (branch l x y) = (
-  Each-mono _ (λ t. (mem eqb t (termsOf ar (unpacked l)) || (occurs ar t x || occurs ar t y)) ≡ true) (λ t h. or-one _ _ h) (termsOf ar (unpacked l))
-      (each-mem (termsOf ar (unpacked l)) (termsOf ar (unpacked l)) (λ t h. h)),
-  Terms-mono _ (λ t. (mem eqb t (termsOf ar (unpacked l)) || (occurs ar t x || occurs ar t y)) ≡ true)
-      (λ t h. or-other (mem eqb t (termsOf ar (unpacked l))) _ (or-one _ _ h)) (meaning ar x) (occur-terms ar x),
-  Terms-mono _ (λ t. (mem eqb t (termsOf ar (unpacked l)) || (occurs ar t x || occurs ar t y)) ≡ true)
-      (λ t h. or-other (mem eqb t (termsOf ar (unpacked l))) _ (or-other (occurs ar t x) _ h)) (meaning ar y) (occur-terms ar y),
-)
-
 terms-all : (P : ℕ → Type 0) → ((t : ℕ) → P t) → (d : Tree Atomic) → Terms P d
 terms-all P h (leaf v) = tt
 terms-all P h (branch a t f) = (each (args a), terms-all P h t, terms-all P h f)

@@ -7,7 +7,7 @@ use lib.ListN.{length, getD, take, drop}
 use lib.Dec.{ltb, eqb}
 use Rattle.refusal.specs.declared.Refusal.the-variants.{Listing, Buffer, Truth, Unbound, Range, Variables}
 use Rattle.refusal.specs.Outcome.{Outcome, ok, refused}
-use Rattle.label.specs.Limits.{firstParameter, parameterCount, firstVariable, variableCount, termEnd, predicateCount}
+use Rattle.label.specs.Limits.{firstParameter, parameterCount, firstVariable, variableCount, firstMinimum, minimumCount, predicateCount}
 use Rattle.diagram.specs.Sizes.{resultWords, spaceWords}
 use Rattle.diagram.specs.Diagram.{Diagram, leaf, branch}
 use Rattle.diagram.specs.Rows.{rows}
@@ -51,9 +51,9 @@ unfolding occurs
 anyOccurs ar d t zero = false
 anyOccurs ar d t (suc n) = occurs ar t d || anyOccurs ar d (suc t) n
 
--- a variable that is no argument of a predicate of the arity n: the arguments are the first n variables
+-- a variable that is no argument of a predicate of the arity n: the arguments are the first n variables. The minimum variables follow at once, and none is one (document 02, L12)
 abbrev pub unboundVariable : List ℕ → ℕ → Diagram → Bool
-unboundVariable ar n d = anyOccurs ar d (firstVariable + n) (variableCount - n)
+unboundVariable ar n d = anyOccurs ar d (firstVariable + n) (variableCount + minimumCount - n)
 
 -- 7, then 6, for a lent truth diagram
 abbrev pub checkTruth : {A : Type 0} → List ℕ → ℕ → Option Diagram → Outcome A → Outcome A
@@ -95,10 +95,10 @@ unfoldable pub regressResult : List ℕ → List ℕ → List ℕ → List ℕ �
 unfolding regressOutcome listing
 regressResult ar value truths spans workLength out = writtenAs (regressOutcome ar value truths spans (length out) workLength) out
 
--- freeing turns parameter i into variable i and moves the other variables up by the parameter count; a variable that would pass 127 is 8
+-- freeing turns parameter i into variable i and moves the other variables up by the parameter count; a variable that would pass 127 is 8; minimum variables stay
 unfoldable pub freedOutcome : List ℕ → ℕ → Diagram → Outcome Diagram
 unfolding anyOccurs freed
-freedOutcome ar c d = cond (anyOccurs ar d (termEnd - c) c) (refused Variables) (ok (freed ar c d))
+freedOutcome ar c d = cond (anyOccurs ar d (firstMinimum - c) c) (refused Variables) (ok (freed ar c d))
 
 -- a parameter past the count is 6
 unfoldable pub freeOwn : List ℕ → List ℕ → ℕ → Outcome Diagram
