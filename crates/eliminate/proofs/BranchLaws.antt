@@ -52,7 +52,7 @@ module _ {ar ws above heads space env : List ℕ} {n i next used : ℕ} (b : Bra
 
   pub branch-labelled : Labelled ar (getD ws (i * 3) 0)
   unfolding labelAt
-  branch-labelled = record { arities = b .ready .sets .valid .arities; label = row-is .label }
+  branch-labelled = record { arities = b .ready .sets .valid .arities; label = row-is .label; plain = b .ready .sets .plain i (b .row) (b .branch) }
 
   pub branch-words : i * 3 + 3 ≤ length ws
   branch-words = let r = b .row in let w = b .ready .sets .valid .whole in omega arith

@@ -12,7 +12,7 @@ use lib.Dec.{eqb}
 use borrow.Author.Tests.{eqb-true, eq-eqb}
 use Rattle.basics.specs.Tests.{Flag, isTrue, isFalse, flag, and-left, or-one, or-other}
 use Rattle.basics.specs.Members.{mem, nodup-le, clash}
-use Rattle.label.specs.Limits.{firstVariable, variableCount, termEnd}
+use Rattle.label.specs.Limits.{firstVariable, variableCount, firstMinimum}
 use Rattle.diagram.specs.WordLaws.{number-test}
 use Rattle.rename.specs.Ascending.{Ascending}
 use Rattle.rename.specs.AscendingLaws.{ascending-one, ascending-weaken, ascending-not, ascending-nodup}
@@ -36,7 +36,7 @@ use Rattle.eliminate.proofs.RowLaws.{cases-are, union-names}
 -- ===== shrink =====
 pub record Shrinking (n whole m rest size sum v : ℕ) : Type 0 where
   pub some : 0 < n
-  pub end : v ≤ termEnd
+  pub end : v ≤ firstMinimum
   pub start : firstVariable ≤ v
   pub few : size ≤ mostEntries
   pub sum-few : sum ≤ (v - firstVariable) * mostEntries
@@ -75,9 +75,9 @@ module _ {n whole m rest size sum v : ℕ} (s : Shrinking n whole m rest size su
   }
 
   pub shrink-none : rest ≡ 0 → Shrunk n whole m sum
-  shrink-none e = done (rw e (names-zero (termEnd - v) v))
+  shrink-none e = done (rw e (names-zero (firstMinimum - v) v))
 
-  pub shrink-end : termEnd ≤ v → Shrunk n whole m sum
+  pub shrink-end : firstMinimum ≤ v → Shrunk n whole m sum
   shrink-end h = done (none-onwards v rest h)
 
   divided : size / n ≤ size
@@ -86,7 +86,7 @@ module _ {n whole m rest size sum v : ℕ} (s : Shrinking n whole m rest size su
   pub shrink-small : sum + size / n ≤ (variableCount + 1) * mostEntries
   shrink-small = let a = all-few in let d = divided in let f = s .few in omega arith
 
-  pub shrink-odd : v < termEnd → rest % 2 ≡ 1 → Shrinking n whole m (rest / 2) (size / n) (sum + size / n) (v + 1)
+  pub shrink-odd : v < firstMinimum → rest % 2 ≡ 1 → Shrinking n whole m (rest / 2) (size / n) (sum + size / n) (v + 1)
   unfolding geometric
   shrink-odd h e = record {
     some = s .some;
@@ -120,7 +120,7 @@ module _ {n whole m rest size sum v : ℕ} (s : Shrinking n whole m rest size su
           unfolded : (n small k : ℕ) → geometric n small (suc k) ≡ small * n ^ k + geometric n small k
           unfolded n small k = refl
 
-  pub shrink-even : v < termEnd → (rest % 2 ≡ 1 → ⊥) → Shrinking n whole m (rest / 2) size sum (v + 1)
+  pub shrink-even : v < firstMinimum → (rest % 2 ≡ 1 → ⊥) → Shrinking n whole m (rest / 2) size sum (v + 1)
   shrink-even h e = record {
     some = s .some;
     end = omega arith;

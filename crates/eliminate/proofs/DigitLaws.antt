@@ -7,7 +7,7 @@ use native.Mathlib.Omega.{arith}
 use native.Mathlib.Nat.{pow-zero, pow-succ', mul-one, mul-assoc, mul-add, add-assoc, one-le-pow, mul-le-mul-left}
 use lib.ListN.{length, getD, set, length-set}
 use borrow.Author.Tests.{eq-eqb, ne-eqb}
-use Rattle.label.specs.Limits.{firstVariable, termEnd, variableCount}
+use Rattle.label.specs.Limits.{firstVariable, firstMinimum, termEnd, variableCount}
 use Rattle.elimination.specs.Elimination.{mostEntries}
 use Rattle.eliminate.specs.Masks.{namesFrom, namesOf, envOf, placeOf, decoded}
 use Rattle.eliminate.specs.MaskLaws.{names-step, names-zero}
@@ -16,23 +16,23 @@ use Rattle.eliminate.specs.Calls.{Decodable, Placeable}
 
 -- the variables from v on of the set m
 abbrev pub onwards : ℕ → ℕ → List ℕ
-onwards v m = namesFrom (termEnd - v) v m
+onwards v m = namesFrom (firstMinimum - v) v m
 
-pub none-onwards : (v m : ℕ) → termEnd ≤ v → onwards v m ≡ []
+pub none-onwards : (v m : ℕ) → firstMinimum ≤ v → onwards v m ≡ []
 unfolding namesFrom
-none-onwards v m h = let e : termEnd - v ≡ 0 = omega arith in rw e
+none-onwards v m h = let e : firstMinimum - v ≡ 0 = omega arith in rw e
 
-pub odd-onwards : (v m : ℕ) → v < termEnd → m % 2 ≡ 1 → onwards v m ≡ v ∷ onwards (v + 1) (m / 2)
+pub odd-onwards : (v m : ℕ) → v < firstMinimum → m % 2 ≡ 1 → onwards v m ≡ v ∷ onwards (v + 1) (m / 2)
 odd-onwards v m h e =
-    let z : termEnd - v ≡ suc (termEnd - (v + 1)) = omega arith in
+    let z : firstMinimum - v ≡ suc (firstMinimum - (v + 1)) = omega arith in
     let y : suc v ≡ v + 1 = omega arith in
-    rw (z, names-step (termEnd - (v + 1)) v m, eq-eqb (m % 2) 1 e, y)
+    rw (z, names-step (firstMinimum - (v + 1)) v m, eq-eqb (m % 2) 1 e, y)
 
-pub even-onwards : (v m : ℕ) → v < termEnd → (m % 2 ≡ 1 → ⊥) → onwards v m ≡ onwards (v + 1) (m / 2)
+pub even-onwards : (v m : ℕ) → v < firstMinimum → (m % 2 ≡ 1 → ⊥) → onwards v m ≡ onwards (v + 1) (m / 2)
 even-onwards v m h e =
-    let z : termEnd - v ≡ suc (termEnd - (v + 1)) = omega arith in
+    let z : firstMinimum - v ≡ suc (firstMinimum - (v + 1)) = omega arith in
     let y : suc v ≡ v + 1 = omega arith in
-    rw (z, names-step (termEnd - (v + 1)) v m, ne-eqb (m % 2) 1 e, y)
+    rw (z, names-step (firstMinimum - (v + 1)) v m, ne-eqb (m % 2) 1 e, y)
 
 -- ===== decode =====
 
@@ -41,7 +41,7 @@ pub record Decoding (env₀ : List ℕ) (n m c : ℕ) (env : List ℕ) (rest cod
   pub some : 0 < n
   pub places : termEnd ≤ length env
   pub kept : length env ≡ length env₀
-  pub end : v ≤ termEnd
+  pub end : v ≤ firstMinimum
   pub left : decoded n (onwards v rest) code env ≡ decoded n (namesOf m) c env₀
 
 pub decode-start : (env : List ℕ) (n m c : ℕ) → Decodable env n → Decoding env n m c env m c firstVariable
@@ -52,15 +52,15 @@ module _ {env₀ env : List ℕ} {n m c rest code v : ℕ} (d : Decoding env₀ 
   pub decode-none : rest ≡ 0 → env ≡ decoded n (namesOf m) c env₀
   unfolding decoded
   decode-none e =
-      let z : onwards v rest ≡ [] = rw e (names-zero (termEnd - v) v) in
+      let z : onwards v rest ≡ [] = rw e (names-zero (firstMinimum - v) v) in
       let w : decoded n [] code env ≡ decoded n (namesOf m) c env₀ = rw z at (d .left) in
       w
 
-  pub decode-end : termEnd ≤ v → env ≡ decoded n (namesOf m) c env₀
+  pub decode-end : firstMinimum ≤ v → env ≡ decoded n (namesOf m) c env₀
   unfolding decoded
   decode-end h = let w : decoded n [] code env ≡ decoded n (namesOf m) c env₀ = rw (none-onwards v rest h) at (d .left) in w
 
-  pub decode-odd : v < termEnd → rest % 2 ≡ 1 → Decoding env₀ n m c (set env v (code % n)) (rest / 2) (code / n) (v + 1)
+  pub decode-odd : v < firstMinimum → rest % 2 ≡ 1 → Decoding env₀ n m c (set env v (code % n)) (rest / 2) (code / n) (v + 1)
   unfolding decoded
   decode-odd h e = record {
     some = d .some;
@@ -70,7 +70,7 @@ module _ {env₀ env : List ℕ} {n m c rest code v : ℕ} (d : Decoding env₀ 
     left = let w : decoded n (v ∷ onwards (v + 1) (rest / 2)) code env ≡ decoded n (namesOf m) c env₀ = rw (odd-onwards v rest h e) at (d .left) in w;
   }
 
-  pub decode-even : v < termEnd → (rest % 2 ≡ 1 → ⊥) → Decoding env₀ n m c env (rest / 2) code (v + 1)
+  pub decode-even : v < firstMinimum → (rest % 2 ≡ 1 → ⊥) → Decoding env₀ n m c env (rest / 2) code (v + 1)
   decode-even h e = record {
     some = d .some;
     places = d .places;
@@ -84,7 +84,7 @@ module _ {env₀ env : List ℕ} {n m c rest code v : ℕ} (d : Decoding env₀ 
 -- the digits so far, and what is left
 pub record Placing (env : List ℕ) (n m rest weight at v : ℕ) : Type 0 where
   pub able : Placeable env n m
-  pub end : v ≤ termEnd
+  pub end : v ≤ firstMinimum
   pub left : at + weight * placeOf n (onwards v rest) (envOf env) ≡ placeOf n (namesOf m) (envOf env)
   pub size : weight * n ^ length (onwards v rest) ≡ n ^ length (namesOf m)
 
@@ -104,17 +104,17 @@ module _ {env : List ℕ} {n m rest weight at v : ℕ} (p : Placing env n m rest
   pub place-none : rest ≡ 0 → at ≡ placeOf n (namesOf m) (envOf env)
   unfolding placeOf
   place-none e =
-      let z : onwards v rest ≡ [] = rw e (names-zero (termEnd - v) v) in
+      let z : onwards v rest ≡ [] = rw e (names-zero (firstMinimum - v) v) in
       let w : at + weight * placeOf n [] (envOf env) ≡ placeOf n (namesOf m) (envOf env) = rw z at (p .left) in
       omega arith
 
-  pub place-end : termEnd ≤ v → at ≡ placeOf n (namesOf m) (envOf env)
+  pub place-end : firstMinimum ≤ v → at ≡ placeOf n (namesOf m) (envOf env)
   unfolding placeOf
   place-end h =
       let w : at + weight * placeOf n [] (envOf env) ≡ placeOf n (namesOf m) (envOf env) = rw (none-onwards v rest h) at (p .left) in
       omega arith
 
-  module _ (h : v < termEnd) (e : rest % 2 ≡ 1) where
+  module _ (h : v < firstMinimum) (e : rest % 2 ≡ 1) where
     odd-left : at + weight * (envOf env v + n * placeOf n (onwards (v + 1) (rest / 2)) (envOf env)) ≡ placeOf n (namesOf m) (envOf env)
     unfolding placeOf
     odd-left = let w : at + weight * placeOf n (v ∷ onwards (v + 1) (rest / 2)) (envOf env) ≡ placeOf n (namesOf m) (envOf env) = rw (odd-onwards v rest h e) at (p .left) in w
@@ -149,7 +149,7 @@ module _ {env : List ℕ} {n m rest weight at v : ℕ} (p : Placing env n m rest
       size = odd-size;
     }
 
-  pub place-even : v < termEnd → (rest % 2 ≡ 1 → ⊥) → Placing env n m (rest / 2) weight at (v + 1)
+  pub place-even : v < firstMinimum → (rest % 2 ≡ 1 → ⊥) → Placing env n m (rest / 2) weight at (v + 1)
   place-even h e = record {
     able = p .able;
     end = omega arith;

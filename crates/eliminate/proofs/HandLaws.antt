@@ -66,6 +66,7 @@ module _ {ar ws sets : List ℕ} {i : ℕ} (h : Handing ar ws sets i) where
   unfolding labelAt
   hand-leaf e = record {
     valid = h .sets .valid;
+    plain = h .sets .plain;
     places = h .sets .places;
     sound = h .sets .sound;
     complete = λ c v j k l d t. go c v j (cmp j i) k l d t;
@@ -84,7 +85,7 @@ module _ {ar ws sets : List ℕ} {i : ℕ} (h : Handing ar ws sets i) where
 
     pub hand-labelled : Labelled ar (getD ws (i * 3) 0)
     unfolding labelAt
-    hand-labelled = record { arities = h .sets .valid .arities; label = row-is .label }
+    hand-labelled = record { arities = h .sets .valid .arities; label = row-is .label; plain = h .sets .plain i (h .row) branching }
 
     pub hand-high : getD ws (i * 3 + 1) 0 < rowCount ws
     unfolding highAt
@@ -174,6 +175,7 @@ module _ {ar ws sets : List ℕ} {i : ℕ} (h : Handing ar ws sets i) where
       all-above : Above ar ws sets₂ i
       all-above = record {
         valid = h .sets .valid;
+        plain = h .sets .plain;
         places =
             let p = h .sets .places in
             let a = length-set sets (highAt ws i) (bitOr (getD sets (highAt ws i) 0) m) in

@@ -13,7 +13,7 @@ use lib.Dec.{eqb, leb}
 use borrow.Author.Tests.{eqb-true, leb-true, le-leb, lt-leb, eq-eqb}
 use Rattle.basics.specs.Tests.{and-left, and-right, Flag, isTrue, isFalse, flag, Cmp, below, equal, above, cmp, Either, one, other, either, or-one, or-other}
 use Rattle.basics.specs.Members.{mem, clash}
-use Rattle.label.specs.Limits.{firstVariable, variableCount, termEnd, mostPlaces, predicateCount}
+use Rattle.label.specs.Limits.{firstVariable, variableCount, firstMinimum, termEnd, mostPlaces, predicateCount}
 use Rattle.label.specs.Labels.{predicateOf, placeAt, placesOf, unpacked, termsOf}
 use Rattle.label.specs.LabelLaws.{place-of}
 use Rattle.rename.specs.AscendingLaws.{ascending-one, mem-place}
@@ -27,13 +27,13 @@ use Rattle.eliminate.specs.MaskLaws.{names-zero, of-zero, of-ascending, 
 use Rattle.eliminate.specs.PlaceLaws.{Within, decoded-length, decoded-other, decoded-range, decoded-over}
 use Rattle.eliminate.specs.Calls.{Decodable, Asked, One, Labelled, tells, casesOf, Countable, Moved, Counted}
 use Rattle.eliminate.proofs.DigitLaws.{onwards, none-onwards, odd-onwards, even-onwards}
-use Rattle.eliminate.proofs.TruthLaws.{asked-arity, asked-term, terms-length, term-at}
+use Rattle.eliminate.proofs.TruthLaws.{asked-arity, terms-length, term-at}
 
 -- ===== One variable =====
 pub one-none : (t : ℕ) → t < firstVariable → One t 0
 one-none t h = record { is = λ u. rw (of-zero, lt-leb firstVariable t h) }
 
-pub one-some : (t : ℕ) → t < termEnd → firstVariable ≤ t → One t (1 * 2 ^ (t - firstVariable) % 2 ^ 64)
+pub one-some : (t : ℕ) → t < firstMinimum → firstVariable ≤ t → One t (1 * 2 ^ (t - firstVariable) % 2 ^ 64)
 one-some t h f = record {
   is = λ u.
       let e : firstVariable + (t - firstVariable) ≡ t = omega arith in
@@ -73,8 +73,8 @@ module _ {ar : List ℕ} {l arity set k : ℕ} (g : Gathering ar l arity set k) 
   pub gather-place : k < arity → k < mostPlaces
   gather-place h = let f = g .few in omega arith
 
-  pub gather-term : {t : ℕ} → k < arity → t ≡ placeAt l k → t < termEnd
-  gather-term h e = asked-term (g .labelled) k (gather-place h) e
+  pub gather-term : {t : ℕ} → k < arity → t ≡ placeAt l k → t < firstMinimum
+  gather-term h e = rw e (g .labelled .plain k (rw (← g .arity-is) h))
 
   own : k < arity → firstVariable ≤ placeAt l k → mem eqb (placeAt l k) (labelVariables ar l) ≡ true
   unfolding labelVariables atomOf
@@ -129,7 +129,7 @@ module _ {ar : List ℕ} {l arity set k : ℕ} (g : Gathering ar l arity set k) 
 -- ===== Sizes =====
 pub record Sizing (n m rest size v : ℕ) : Type 0 where
   pub some : 0 < n
-  pub end : v ≤ termEnd
+  pub end : v ≤ firstMinimum
   pub least : 1 ≤ size
   pub few : size ≤ mostEntries
   pub is : size * n ^ length (onwards v rest) ≡ n ^ length (namesOf m)
@@ -148,12 +148,12 @@ module _ {n m rest size v : ℕ} (s : Sizing n m rest size v) where
       omega arith
 
   pub size-none : rest ≡ 0 → size ≡ min (n ^ length (namesOf m)) (mostEntries + 1)
-  size-none e = whole (rw e (names-zero (termEnd - v) v))
+  size-none e = whole (rw e (names-zero (firstMinimum - v) v))
 
-  pub size-end : termEnd ≤ v → size ≡ min (n ^ length (namesOf m)) (mostEntries + 1)
+  pub size-end : firstMinimum ≤ v → size ≡ min (n ^ length (namesOf m)) (mostEntries + 1)
   size-end h = whole (none-onwards v rest h)
 
-  module _ (h : v < termEnd) (e : rest % 2 ≡ 1) where
+  module _ (h : v < firstMinimum) (e : rest % 2 ≡ 1) where
     odd : size * n * n ^ length (onwards (v + 1) (rest / 2)) ≡ n ^ length (namesOf m)
     odd =
         let w : size * n ^ suc (length (onwards (v + 1) (rest / 2))) ≡ n ^ length (namesOf m) = rw (odd-onwards v rest h e) at (s .is) in
@@ -185,7 +185,7 @@ module _ {n m rest size v : ℕ} (s : Sizing n m rest size v) where
   pub size-fits : n ≤ mostEntries → size * n ≤ mostEntries * mostEntries
   size-fits q = le-trans (mul-le-mul-right n (s .few)) (mul-le-mul-left mostEntries q)
 
-  pub size-even : v < termEnd → (rest % 2 ≡ 1 → ⊥) → Sizing n m (rest / 2) size (v + 1)
+  pub size-even : v < firstMinimum → (rest % 2 ≡ 1 → ⊥) → Sizing n m (rest / 2) size (v + 1)
   size-even h e = record {
     some = s .some;
     end = omega arith;

@@ -6,8 +6,8 @@ use Prim.Native.Nat.{ℕ, zero, suc, _+_, _*_, _^_, _≤_, _<_}
 use lib.ListN.{length, getD}
 use lib.Dec.{eqb, leb}
 use Rattle.basics.specs.Members.{mem}
-use Rattle.label.specs.Limits.{termEnd, firstVariable}
-use Rattle.label.specs.Labels.{areArities, isLabel, predicateOf, unpacked, termsOf}
+use Rattle.label.specs.Limits.{termEnd, firstVariable, firstMinimum}
+use Rattle.label.specs.Labels.{areArities, isLabel, predicateOf, placeAt, unpacked, termsOf}
 use Rattle.state.specs.Max.{maxTo}
 use Rattle.state.specs.State.{equated}
 use Rattle.state.specs.Lent.{saidBy}
@@ -41,10 +41,15 @@ unfoldable pub tells : List ℕ → List ℕ → List ℕ → ℕ → Bool
 unfolding objectsOf
 tells ar facts env l = lentTruth ar facts (predicateOf l) (objectsOf ar env l)
 
--- a label under an arity list
+-- no place of the label l has a minimum variable
+abbrev pub PlainLabel : List ℕ → ℕ → Type 0
+PlainLabel ar l = (k : ℕ) → k < getD ar (predicateOf l) 0 → placeAt l k < firstMinimum
+
+-- a label under an arity list, without minimum variables: sets have a bit for each variable, and none for these (document 02, L12)
 pub record Labelled (ar : List ℕ) (l : ℕ) : Type 0 where
   pub arities : areArities ar ≡ true
   pub label : isLabel ar l ≡ true
+  pub plain : PlainLabel ar l
 
 -- and a word for each term
 pub record Asked (ar env : List ℕ) (l : ℕ) : Type 0 where

@@ -1,4 +1,4 @@
--- Variable elimination over lent words (document 02, L6): what the code keeps, asks and promises. What is computed stands in crate elimination.
+-- Variable elimination over lent words (document 02, L6), of listings without minimum variables (L12): what the code keeps, asks and promises. What is computed stands in crate elimination.
 --
 -- Definitions: sets and choices
 --   namesFrom, namesOf == the variables of a set, which is one word: bit i is variable firstVariable + i
@@ -6,6 +6,7 @@
 --   placeOf, decoded == the place of a choice, its objects being digits in base n; the words with the choice that has a place
 --
 -- Definitions: what inner functions ask and promise
+--   PlainLabel == a label without minimum variables
 --   Decodable, Placeable, Labelled, Asked, Countable, Entering, Looking, Filling == what they ask
 --   objectsOf, lentTruth, tells == what a label says of the objects in env, by lent facts
 --   One, Counted, casesOf, Moved == one variable's set; the cases of a label counted; only the variables of a set have other objects

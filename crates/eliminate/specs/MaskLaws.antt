@@ -9,7 +9,7 @@ use lib.Dec.{eqb}
 use borrow.Author.Tests.{eqb-true, eqb-false, eq-eqb, ne-eqb}
 use Rattle.basics.specs.Tests.{Flag, isTrue, isFalse, flag, Either, one, other, either, or-one, or-other}
 use Rattle.basics.specs.Members.{mem, clash}
-use Rattle.label.specs.Limits.{firstVariable, variableCount, termEnd}
+use Rattle.label.specs.Limits.{firstVariable, variableCount, firstMinimum}
 use Rattle.rename.specs.Ascending.{Ascending}
 use Rattle.rename.specs.AscendingLaws.{ascending-weaken, ascending-not}
 use Rattle.eliminate.specs.Masks.{namesFrom, namesOf}
@@ -207,7 +207,7 @@ pub of-ascending : (m : ℕ) → Ascending firstVariable (namesOf m)
 unfolding namesOf
 of-ascending m = names-ascending variableCount firstVariable m
 
-pub of-below : (m t : ℕ) → mem eqb t (namesOf m) ≡ true → t < termEnd
+pub of-below : (m t : ℕ) → mem eqb t (namesOf m) ≡ true → t < firstMinimum
 unfolding namesOf
 of-below m t e = let z = names-below variableCount firstVariable m t e in omega arith
 

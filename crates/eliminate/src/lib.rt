@@ -6,7 +6,7 @@ ghost use mathlib.Core.Path.{_≡_};
 ghost use mathlib.Core.Bool.{cond};
 ghost use Prim.Native.Nat.{_+_, _*_, _^_, _<_, _≤_, min, max};
 ghost use lib.ListN.{length};
-ghost use Rattle.label.specs.Limits.{termEnd};
+ghost use Rattle.label.specs.Limits.{firstMinimum};
 ghost use Rattle.label.specs.Labels.{predicateOf};
 ghost use Rattle.diagram.specs.Words.{rowCount};
 ghost use Rattle.state.specs.Lent.{factWords, saysFact, saidBy};
@@ -41,7 +41,7 @@ fn decode(env: &mut [u64], n: u64, set: u64, c: u64)
     let mut rest = set;
     let mut code = c;
     let mut v = Term::FIRST_VARIABLE as usize;
-    while v < (Term::END as usize) {
+    while v < (Term::FIRST_MINIMUM as usize) {
         if rest == 0 {
             return;
         }
@@ -66,7 +66,7 @@ fn place(env: &[u64], n: u64, set: u64) -> usize
     let mut weight = 1;
     let mut at = 0;
     let mut v = Term::FIRST_VARIABLE as usize;
-    while v < (Term::END as usize) {
+    while v < (Term::FIRST_MINIMUM as usize) {
         if rest == 0 {
             return at as usize;
         }
@@ -138,7 +138,7 @@ fn truth(arities: &[u64], facts: &[u64], env: &[u64], l: u64) -> bool
 
 // The set of the term t, empty if it is no variable.
 fn one(t: u64) -> u64
-    requires { ⌜ t < termEnd ⌝ }
+    requires { ⌜ t < firstMinimum ⌝ }
     ensures { λ r. ⌜ One t r ⌝ }
 {
     if t < Term::FIRST_VARIABLE {
@@ -171,7 +171,7 @@ fn size(n: u64, set: u64) -> u64
     let mut rest = set;
     let mut size = 1;
     let mut v = Term::FIRST_VARIABLE;
-    while v < Term::END {
+    while v < Term::FIRST_MINIMUM {
         if rest == 0 {
             return size;
         }
@@ -356,7 +356,7 @@ fn shrink(n: u64, whole: u64, set: u64) -> u64
     let mut size = whole;
     let mut sum = 0;
     let mut v = Term::FIRST_VARIABLE;
-    while v < Term::END {
+    while v < Term::FIRST_MINIMUM {
         if rest == 0 {
             return sum;
         }

@@ -1,5 +1,5 @@
--- What the value call answers, by its first way of working and with the second: number 15 where both ways are too large (document 02, L6).
-use mathlib.Core.Bool.{Bool, not, _&&_, cond}
+-- What the value call answers, by its first way of working and with the second: number 15 where neither may be taken (document 02, L6 and L12).
+use mathlib.Core.Bool.{Bool, not, _&&_, _||_, cond}
 use mathlib.Core.List.{List, []}
 use Prim.Native.Nat.{ℕ}
 use lib.ListN.{length}
@@ -7,6 +7,7 @@ use lib.Dec.{eqb, ltb}
 use Rattle.refusal.specs.declared.Refusal.the-variants.{Range, Unbound, Listing, Valuations}
 use Rattle.diagram.specs.Words.{isListing}
 use Rattle.diagram.specs.Listing.{diagramOf}
+use Rattle.diagram.specs.Variables.{isPlain}
 use Rattle.state.specs.declared.Valued.{Valued}
 use Rattle.state.specs.declared.Valued.the-variants.{Value, Refused}
 use Rattle.state.specs.State.{State, meaning}
@@ -29,11 +30,13 @@ unfoldable pub firstAnswer : List ℕ → List ℕ → ℕ → List ℕ → List
 unfolding answerBy
 firstAnswer ar ws n constants facts = answerBy (ltb mostValuations (valuations ar n (diagramOf ws))) ar ws n constants facts
 
--- "use it wherever 15 would be given"; "above 8,192 entries .. 15 is still the answer": of a listing in a state, with the objects os for the parameters
+-- "use it wherever 15 would be given"; "above 8,192 entries .. 15 is still the answer"; "with a minimum variable L6's way isn't used" (L12): of a listing in a
+-- state, with the objects os for the parameters
 unfoldable pub isTooLarge : List ℕ → State → List ℕ → List ℕ → Bool
-isTooLarge ar s os ws = ltb mostValuations (valuations ar (s .size) (diagramOf ws)) && ltb mostEntries (allEntries s os ar ws)
+isTooLarge ar s os ws =
+    ltb mostValuations (valuations ar (s .size) (diagramOf ws)) && (not (isPlain ar (diagramOf ws)) || ltb mostEntries (allEntries s os ar ws))
 
--- the checks in their order, then the number: "the highest-leaf definition covers both ways"
+-- the checks in their order, then the number: "the highest-leaf definition covers both ways", read as the number since L12
 unfoldable pub valueAnswer : List ℕ → List ℕ → ℕ → List ℕ → List ℕ → Valued
 unfolding isTooLarge answerBy
 valueAnswer ar ws n constants facts = answerBy (isTooLarge ar (stateOf ar n constants facts) [] ws) ar ws n constants facts

@@ -1,7 +1,7 @@
--- The answer of the value call: as before wherever it was no 15; where it was, the root table's value or still 15 (document 02, L6).
+-- The answer of the value call: as before wherever it was no 15; where it was, the root table's value or still 15 (document 02, L6 and L12).
 use mathlib.Core.Path.{_≡_, refl, ap, sym, _∙_}
 use mathlib.Core.Logic.{_≢_}
-use mathlib.Core.Bool.{Bool, true, false, not, _&&_, cond}
+use mathlib.Core.Bool.{Bool, true, false, not, _&&_, _||_, cond, and-false, or-true}
 use mathlib.Core.List.{List, []}
 use Prim.Native.Nat.{ℕ, _≤_, _<_}
 use native.Mathlib.Omega.{arith}
@@ -13,6 +13,7 @@ use Rattle.label.specs.Limits.{constantCount}
 use Rattle.refusal.specs.declared.Refusal.the-variants.{Range, Unbound, Listing, Valuations}
 use Rattle.diagram.specs.Words.{isListing}
 use Rattle.diagram.specs.Listing.{diagramOf}
+use Rattle.diagram.specs.Variables.{isPlain}
 use Rattle.diagram.specs.WordLaws.{below-every}
 use Rattle.diagram.specs.Listings.{is-listing-good}
 use Rattle.state.specs.declared.Valued.{Valued}
@@ -59,10 +60,10 @@ module _ (ar ws : List ℕ) (n : ℕ) (constants facts : List ℕ) (listed : isL
   pub lent-entries : entries s [] (rootTable s ar ws) ≡ 1
   lent-entries = root-entries s [] good (bound-tuple good none) ar ws listed
 
-  -- a listing has no minimum variable, so that its number is the highest leaf
-  pub lent-value : rootTable s ar ws .value (start s []) ≡ number s [] (meaning ar (diagramOf ws))
-  lent-value = root-value s [] good (bound-tuple good none) ar ws listed
-      ∙ sym (number-plain s [] (meaning ar (diagramOf ws)) (fine-plain ar (diagramOf ws) (is-listing-good ar ws listed .fine)))
+  -- without minimum variables the number is the highest leaf
+  pub lent-value : isPlain ar (diagramOf ws) ≡ true → rootTable s ar ws .value (start s []) ≡ number s [] (meaning ar (diagramOf ws))
+  lent-value plain = root-value s [] good (bound-tuple good none) ar ws listed
+      ∙ sym (number-plain s [] (meaning ar (diagramOf ws)) (fine-plain ar (diagramOf ws) (is-listing-good ar ws listed .fine) plain))
 
 -- ===== The answer =====
 module _ (ar ws : List ℕ) (n : ℕ) (constants facts : List ℕ) where
@@ -82,7 +83,8 @@ module _ (ar ws : List ℕ) (n : ℕ) (constants facts : List ℕ) where
   pub valued-same : firstAnswer ar ws n constants facts ≢ Refused Valuations → valueAnswer ar ws n constants facts ≡ firstAnswer ar ws n constants facts
   unfolding valueAnswer isTooLarge firstAnswer answerBy old-by stateOf
   valued-same h = same-by (isListing ar ws) (isState ar n constants facts) (eqb (length (parameters ar (diagramOf ws))) 0)
-      (ltb mostValuations (valuations ar n (diagramOf ws))) (ltb mostEntries (allEntries (stateOf ar n constants facts) [] ar ws))
+      (ltb mostValuations (valuations ar n (diagramOf ws)))
+      (not (isPlain ar (diagramOf ws)) || ltb mostEntries (allEntries (stateOf ar n constants facts) [] ar ws))
       (Value (number (stateOf ar n constants facts) [] (meaning ar (diagramOf ws)))) h
 
   -- a 15 passed the checks before it
@@ -94,7 +96,7 @@ module _ (ar ws : List ℕ) (n : ℕ) (constants facts : List ℕ) where
   was-by true true true false x h = let z : _≡_ {A = ℕ} 0 1 = cc in absurd (omega arith)
   was-by true true true true x h = (refl, refl, refl, refl)
 
-  -- where it was 15, it is the root table's value if the entries are few enough, and 15 otherwise
+  -- where it was 15, it is the root table's value if there is no minimum variable and the entries are few enough, and 15 otherwise
   module _ (was : firstAnswer ar ws n constants facts ≡ Refused Valuations) where
     passed : (isListing ar ws ≡ true) × (isState ar n constants facts ≡ true) × (eqb (length (parameters ar (diagramOf ws))) 0 ≡ true)
         × (ltb mostValuations (valuations ar n (diagramOf ws)) ≡ true)
@@ -102,17 +104,21 @@ module _ (ar ws : List ℕ) (n : ℕ) (constants facts : List ℕ) where
     passed = was-by (isListing ar ws) (isState ar n constants facts) (eqb (length (parameters ar (diagramOf ws))) 0)
         (ltb mostValuations (valuations ar n (diagramOf ws))) (number (stateOf ar n constants facts) [] (meaning ar (diagramOf ws))) was
 
-    pub valued-tables : allEntries (stateOf ar n constants facts) [] ar ws ≤ mostEntries
+    pub valued-tables : isPlain ar (diagramOf ws) ≡ true → allEntries (stateOf ar n constants facts) [] ar ws ≤ mostEntries
         → valueAnswer ar ws n constants facts ≡ Value (rootTable (stateOf ar n constants facts) ar ws .value (start (stateOf ar n constants facts) []))
     unfolding valueAnswer isTooLarge answerBy stateOf
-    valued-tables h =
-        rw (passed .0, passed .1, passed .2, passed .3, le-ltb mostEntries (allEntries (stateOf ar n constants facts) [] ar ws) h)
-        (ap Value (sym (lent-value ar ws n constants facts (passed .0) (passed .1))))
+    valued-tables plain h =
+        rw (passed .0, passed .1, passed .2, passed .3, plain, le-ltb mostEntries (allEntries (stateOf ar n constants facts) [] ar ws) h)
+        (ap Value (sym (lent-value ar ws n constants facts (passed .0) (passed .1) plain)))
 
     pub valued-refused : mostEntries < allEntries (stateOf ar n constants facts) [] ar ws → valueAnswer ar ws n constants facts ≡ Refused Valuations
     unfolding valueAnswer isTooLarge answerBy stateOf
     valued-refused h =
-        rw (passed .0, passed .1, passed .2, passed .3, lt-ltb mostEntries (allEntries (stateOf ar n constants facts) [] ar ws) h)
+        rw (passed .0, passed .1, passed .2, passed .3, lt-ltb mostEntries (allEntries (stateOf ar n constants facts) [] ar ws) h, or-true (not (isPlain ar (diagramOf ws))))
+
+    pub valued-minimum : isPlain ar (diagramOf ws) ≡ false → valueAnswer ar ws n constants facts ≡ Refused Valuations
+    unfolding valueAnswer isTooLarge answerBy stateOf
+    valued-minimum e = rw (passed .0, passed .1, passed .2, passed .3, e)
 
 -- ===== When it is not too large =====
 
@@ -121,11 +127,7 @@ pub few-not-large : (ar : List ℕ) (s : State) (os ws : List ℕ) → valuation
 unfolding isTooLarge
 few-not-large ar s os ws h = rw (le-ltb mostValuations (valuations ar (s .size) (diagramOf ws)) h)
 
--- few entries are not, whatever the valuations
-pub entries-not-large : (ar : List ℕ) (s : State) (os ws : List ℕ) → allEntries s os ar ws ≤ mostEntries → isTooLarge ar s os ws ≡ false
+-- few entries are not without minimum variables, whatever the valuations
+pub entries-not-large : (ar : List ℕ) (s : State) (os ws : List ℕ) → isPlain ar (diagramOf ws) ≡ true → allEntries s os ar ws ≤ mostEntries → isTooLarge ar s os ws ≡ false
 unfolding isTooLarge
-entries-not-large ar s os ws h = rw (le-ltb mostEntries (allEntries s os ar ws) h) (go (ltb mostValuations (valuations ar (s .size) (diagramOf ws))))
-  where
-    go : (b : Bool) → (b && false) ≡ false
-    go true = refl
-    go false = refl
+entries-not-large ar s os ws plain h = rw (plain, le-ltb mostEntries (allEntries s os ar ws) h, and-false (ltb mostValuations (valuations ar (s .size) (diagramOf ws))))

@@ -21,15 +21,15 @@
 --   mostEntries == 8,192
 --
 -- Definitions: the call
---   isTooLarge == valuations pass 1,000,000 and entries pass 8,192
+--   isTooLarge == valuations pass 1,000,000, and there is a minimum variable (L12) or entries pass 8,192
 --   answerBy, firstAnswer == the value call: its checks in order (14, 4, 6), then 15 where it is too large, else the number; by the first way of working alone
---   valueAnswer == the same with the second way of working
+--   valueAnswer == the same with the second way of working, where there is no minimum variable
 --
 -- Theorems
 --   root-value: in every state the value of the root's table is the highest leaf; it has no names (root-names) and one entry (root-entries)
---   lent-value: so for lent words, which are what the call has; lent-names, lent-entries
+--   lent-value: so for lent words, which are what the call has, and without minimum variables it is their number; lent-names, lent-entries
 --   row-table: a row's table gives for each choice of the variables that rows leading to it test the highest leaf over all choices of the others
---   valued-same: the answer is as before wherever it was no 15; valued-tables, valued-refused: where it was 15
+--   valued-same: the answer is as before wherever it was no 15; valued-tables, valued-refused, valued-minimum: where it was 15
 --   full-entries, join-entries, aggregate-entries: how many entries a full table, a join and an aggregation have
 --   cases-split: the true and the false cases of a label are all choices for its variables; aggregate-sum: the entries of a row's aggregations
 --   entries-grow: the count grows row by row

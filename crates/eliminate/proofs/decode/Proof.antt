@@ -1,6 +1,6 @@
 use borrow.Author.Needs.{needs}
 use Prim.Native.Nat.{_-_}
-use Rattle.label.specs.Limits.{termEnd}
+use Rattle.label.specs.Limits.{firstMinimum}
 use Rattle.eliminate.proofs.DigitLaws.{Decoding, decode-start, decode-none, decode-end, decode-odd, decode-even}
 use Rattle.eliminate.proofs.decode.Statement.{statement}
 use Rattle.eliminate.proofs.decode.Tie as tie
@@ -9,7 +9,7 @@ abbrev Inv-loop : tie.InvT-loop
 Inv-loop env₀ n set c rest₀ code₀ v₀ env rest code v = Decoding env₀ n set c env rest code v
 
 abbrev μ-loop : tie.MeasureT-loop
-μ-loop env₀ n set c rest₀ code₀ v₀ env rest code v = termEnd - v
+μ-loop env₀ n set c rest₀ code₀ v₀ env rest code v = firstMinimum - v
 
 loop-holds : tie.Need-loop-holds Inv-loop μ-loop
 loop-holds c = search decode-start

@@ -1,7 +1,7 @@
 use borrow.Author.Needs.{needs}
 use native.Mathlib.Omega.{arith}
 use Prim.Native.Nat.{_-_}
-use Rattle.label.specs.Limits.{termEnd}
+use Rattle.label.specs.Limits.{firstMinimum}
 use Rattle.eliminate.proofs.DigitLaws.{Placing, place-start, place-none, place-end, place-odd, place-even, place-small, weight-small}
 use Rattle.eliminate.proofs.place.Statement.{statement}
 use Rattle.eliminate.proofs.place.Tie as tie
@@ -10,7 +10,7 @@ abbrev Inv-loop : tie.InvT-loop
 Inv-loop env n set rest₀ weight₀ at₀ v₀ rest weight at v = Placing env n set rest weight at v
 
 abbrev μ-loop : tie.MeasureT-loop
-μ-loop env n set rest₀ weight₀ at₀ v₀ rest weight at v = termEnd - v
+μ-loop env n set rest₀ weight₀ at₀ v₀ rest weight at v = firstMinimum - v
 
 loop-holds : tie.Need-loop-holds Inv-loop μ-loop
 loop-holds c = search place-start

@@ -1,7 +1,7 @@
 use borrow.Author.Needs.{needs}
 use native.Mathlib.Omega.{arith}
 use Prim.Native.Nat.{_-_}
-use Rattle.label.specs.Limits.{termEnd}
+use Rattle.label.specs.Limits.{firstMinimum}
 use Rattle.eliminate.proofs.CountLaws.{Shrinking, shrink-start, shrink-none, shrink-end, shrink-small, shrink-odd, shrink-even}
 use Rattle.eliminate.proofs.shrink.Statement.{statement}
 use Rattle.eliminate.proofs.shrink.Tie as tie
@@ -10,7 +10,7 @@ abbrev Inv-loop : tie.InvT-loop
 Inv-loop n whole set rest₀ size₀ sum₀ v₀ rest size sum v = Shrinking n whole set rest size sum v
 
 abbrev μ-loop : tie.MeasureT-loop
-μ-loop n whole set rest₀ size₀ sum₀ v₀ rest size sum v = termEnd - v
+μ-loop n whole set rest₀ size₀ sum₀ v₀ rest size sum v = firstMinimum - v
 
 loop-holds : tie.Need-loop-holds Inv-loop μ-loop
 loop-holds c = search shrink-start

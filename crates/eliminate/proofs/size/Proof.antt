@@ -1,7 +1,7 @@
 use borrow.Author.Needs.{needs}
 use native.Mathlib.Omega.{arith}
 use Prim.Native.Nat.{_-_}
-use Rattle.label.specs.Limits.{termEnd}
+use Rattle.label.specs.Limits.{firstMinimum}
 use Rattle.eliminate.proofs.SetLaws.{Sizing, size-start, size-none, size-end, size-large, size-over, size-odd, size-even, size-fits}
 use Rattle.eliminate.proofs.size.Statement.{statement}
 use Rattle.eliminate.proofs.size.Tie as tie
@@ -10,7 +10,7 @@ abbrev Inv-loop : tie.InvT-loop
 Inv-loop n set rest₀ size₀ v₀ rest size v = Sizing n set rest size v
 
 abbrev μ-loop : tie.MeasureT-loop
-μ-loop n set rest₀ size₀ v₀ rest size v = termEnd - v
+μ-loop n set rest₀ size₀ v₀ rest size v = firstMinimum - v
 
 loop-holds : tie.Need-loop-holds Inv-loop μ-loop
 loop-holds c = search size-start
