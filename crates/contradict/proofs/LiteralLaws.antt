@@ -113,7 +113,7 @@ module _ (ar table : List ℕ) (x : ℕ) where
 
 -- ===== All of them =====
 
-pub labelled-range : {ar xs : List ℕ} → Labelled ar xs → AllInRange xs
+pub labelled-range : {ar xs : List ℕ} → Labelled ar xs → AllInRange termEnd xs
 labelled-range {ar} {xs} l = record { each = λ i h. label-range ar (getD xs i 0 / 2) (l .labels i h) }
 
 pub clash-is : (ar table xs : List ℕ) → clashUnder ar (mapOf table) (literalsIn xs) ≡ someLiteral (clashes ar (mapOf table) (literalsIn xs)) (literalsIn xs)

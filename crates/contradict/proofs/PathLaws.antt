@@ -4,12 +4,12 @@ use mathlib.Core.Bool.{Bool, true, false, not, _||_, cond}
 use mathlib.Core.List.{List, [], _∷_, map, List·Memᴰ, List·Memᴰ·head, List·Memᴰ·tail}
 use Prim.Native.Nat.{ℕ, zero, suc, pred, _+_, _-_, _*_, _/_, _%_, _≤_, _<_, min}
 use native.Mathlib.Omega.{arith}
-use lib.ListN.{length, getD, take, drop, replicate, length-replicate}
+use lib.ListN.{length, getD, take, replicate, length-replicate}
+use lib.Seq.{length-take-le}
 use lib.Dec.{eqb}
 use borrow.Author.Tests.{eq-eqb, ne-eqb, lt-ltb, le-ltb}
 use Rattle.basics.specs.Tests.{Flag, isTrue, isFalse, flag, or-one, Cmp, cmp, below, equal, above}
 use Rattle.basics.specs.Members.{clash, mem}
-use Rattle.label.specs.Limits.{termEnd}
 use Rattle.label.specs.Labels.{isLabel}
 use Rattle.diagram.specs.Sizes.{mostRows}
 use Rattle.diagram.specs.Diagram.{Diagram}
@@ -72,19 +72,21 @@ module _ {ar ws counts : List ℕ} {n k : ℕ} (r : Route ar ws counts n k) wher
   labelled = path-labels ar (tree ws (n - 1)) (tree-fine ar ws (rowCount ws) (valid-rows ar ws valid) (n - 1) (omega (arith, r .path .row, r .mapped .whole))) P
       (path-in (tree ws (n - 1)) k (r .path .path))
 
-  pub route-into : (x : ℕ) → termEnd + mostPaths ≤ x
-      → Rows ws n × (Counted ws counts n × (At ws n (n - 1) k × (termEnd + mostPaths ≤ length {A = ℕ} (replicate x 0))))
+  pub route-into : (x : ℕ) → 0 + mostPaths ≤ x → Rows ws n × (Counted ws counts n × (At ws n (n - 1) k × (0 + mostPaths ≤ length {A = ℕ} (replicate x 0))))
   route-into x h = (r .mapped .rows, (r .mapped .counted, (r .path, rw length-replicate h)))
 
   pub route-leaf : Rows ws n × (Counted ws counts n × At ws n (n - 1) k)
   route-leaf = (r .mapped .rows, (r .mapped .counted, r .path))
 
-  module _ {out₀ out : List ℕ} {j : ℕ} (e : Entered ws (n - 1) k out₀ out j) where
+  module _ {out₀ out : List ℕ} {j : ℕ} (e : Entered ws (n - 1) k out₀ out 0 j) where
     abbrev Xs : List ℕ
-    Xs = take (termEnd + j - termEnd) (drop termEnd out)
+    Xs = take j out
 
     words-are : Xs ≡ codes P
-    words-are = let q : termEnd + j - termEnd ≡ j = omega arith in ap (λ (i : ℕ). take i (drop termEnd out)) q ∙ e .are
+    words-are = e .are
+
+    pub route-long : (x : ℕ) → mostPaths ≤ x → length out ≡ length {A = ℕ} (replicate x 0) → j ≡ length Xs
+    route-long x h s = sym (length-take-le j out (omega (arith, e .few, s, length-replicate {A = ℕ} x 0)))
 
     pub route-labelled : Labelled ar Xs
     unfolding codes

@@ -96,10 +96,10 @@ atom-predicate : (l : ℕ) → unpacked l .predicate ≡ predicateOf l
 unfolding unpacked predicateOf
 atom-predicate l = refl
 
-pub first-below : {a : Atom} (l : ℕ) → InRange l → a ≡ unpacked l → a .first < termEnd
+pub first-below : {a : Atom} (l : ℕ) → InRange termEnd l → a ≡ unpacked l → a .first < termEnd
 first-below l r e = subst (λ (b : Atom). b .first < termEnd) (sym e) (unfold unpacked in (r .places 0 (omega arith)))
 
-pub second-below : {a : Atom} (l : ℕ) → InRange l → a ≡ unpacked l → a .second < termEnd
+pub second-below : {a : Atom} (l : ℕ) → InRange termEnd l → a ≡ unpacked l → a .second < termEnd
 second-below l r e = subst (λ (b : Atom). b .second < termEnd) (sym e) (unfold unpacked in (r .places 1 (omega arith)))
 
 two-terms : (ar : List ℕ) → areArities ar ≡ true → (b : Atom) → b .predicate ≡ equality → termsOf ar b ≡ b .first ∷ b .second ∷ []
@@ -151,12 +151,12 @@ represented-start xs o = record {
 pub last-below : {n j : ℕ} → 0 < j → j ≤ n → j - 1 < n
 last-below h k = omega arith
 
-pub represented-next : {xs table table′ : List ℕ} {j x : ℕ} → Represented xs j table → 0 < j → j ≤ length xs → x ≡ getD xs (j - 1) 0 → InRange (x / 2) → Taken x table table′
+pub represented-next : {xs table table′ : List ℕ} {j x : ℕ} → Represented xs j table → 0 < j → j ≤ length xs → x ≡ getD xs (j - 1) 0 → InRange termEnd (x / 2) → Taken x table table′
     → Represented xs (j - 1) table′
 represented-next {xs} {table} {table′} {j} {x} r p q e range k = record { each = at }
   where
     small : (ar : List ℕ) (u : ℕ) → List·Memᴰ u (termsOf ar (unpacked (literalAt x .label))) → u < termEnd
-    small ar u m = range-terms ar (x / 2) range u (subst (λ (l : ℕ). List·Memᴰ u (termsOf ar (unpacked l))) (label-at x) m)
+    small ar u m = range-terms termEnd ar (x / 2) range u (subst (λ (l : ℕ). List·Memᴰ u (termsOf ar (unpacked l))) (label-at x) m)
 
     at : (ar : List ℕ) → areArities ar ≡ true → (t : ℕ) → t < termEnd → getD table′ t 0 ≡ representative ar (literalsIn (drop (j - 1) xs)) t
     at ar g t h =

@@ -23,9 +23,6 @@ ghost use Rattle.contradict.specs.Leading.{Routed, Route, leadAnswer};
 // A word for each term.
 const TERMS: usize = Term::END as usize;
 
-// The words of a path: one for each term, which are free here, and behind them at most 255 literals.
-const PATH_WORDS: usize = TERMS + PATHS;
-
 // Where the paths of a diagram lead: to one leaf but where they contradict themselves, to others too, or there are too many paths.
 pub enum Led {
     Only,
@@ -74,7 +71,7 @@ fn join(table: &mut [u64], t: usize, u: usize)
 // Takes in the literal x: a true equality joins the terms that it names.
 fn join_literal(table: &mut [u64], x: u64)
     requires { ⌜ termEnd ≤ length (now table) ⌝ }
-    requires { ⌜ InRange (x / 2) ⌝ }
+    requires { ⌜ InRange termEnd (x / 2) ⌝ }
     ensures { λ _. ⌜ Taken x (now (table .entry)) (now (table .exit)) ⌝ }
 {
     if x % 2 == 0 {
@@ -90,7 +87,7 @@ fn join_literal(table: &mut [u64], x: u64)
 // Finds the representatives under the true equalities among the literals.
 fn join_all(literals: &[u64], table: &mut [u64])
     requires { ⌜ termEnd ≤ length (now table) ⌝ }
-    requires { ⌜ AllInRange (now literals) ⌝ }
+    requires { ⌜ AllInRange termEnd (now literals) ⌝ }
     ensures { λ _. ⌜ Represented (now (literals .entry)) 0 (now (table .exit)) ⌝ }
 {
     separate(table);
@@ -175,9 +172,9 @@ fn is_impossible(arities: &[u64], words: &[u64], counts: &[u64], n: usize, k: u6
     requires { ⌜ Route (now arities) (now words) (now counts) n k ⌝ }
     ensures { λ r. ⌜ r ≡ contradicts (now (arities .entry)) (literals (pathAt (tree (now (words .entry)) (n - 1)) k)) ⌝ }
 {
-    let mut out = [0u64; PATH_WORDS];
-    let j = paths::path_into(words, counts, n, k, &mut out);
-    contradicts(arities, &out[TERMS..TERMS + j])
+    let mut out = [0u64; PATHS];
+    let j = paths::path_into(words, counts, n, k, &mut out, 0);
+    contradicts(arities, &out[..j])
 }
 
 // Whether path k has the leaf w or contradicts itself by equality.

@@ -1,15 +1,17 @@
 -- The ways out of `cut_checked` and of the public call.
-use mathlib.Core.Path.{_≡_, refl, sym, ap, subst, _∙_}
+use mathlib.Core.Path.{_≡_, refl, sym, ap, ap₂, subst, _∙_}
 use mathlib.Core.Bool.{Bool, true, false, not, _||_, cond}
 use mathlib.Core.List.{List}
 use Prim.Native.Nat.{ℕ, zero, suc, pred, _-_, _/_, _≤_, _<_, min}
 use native.Mathlib.Omega.{arith}
 use lib.ListN.{length, getD, replicate, length-replicate, length-map}
-use lib.Dec.{ltb}
+use lib.Dec.{eqb, ltb}
 use borrow.Author.Tests.{lt-ltb, le-ltb}
 use Rattle.basics.specs.Tests.{or-one, or-other}
 use Rattle.refusal.specs.declared.Refusal.{Refusal}
-use Rattle.refusal.specs.declared.Refusal.the-variants.{Listing, Buffer, Paths, Nothing as NoEdge}
+use Rattle.refusal.specs.declared.Refusal.the-variants.{Listing, Buffer, Paths, Minimum, Nothing as NoEdge}
+use Rattle.listing.specs.Used.{Used, markedMinimums}
+use Rattle.listing.specs.UsedLaws.{marked-plain}
 use Rattle.listing.proofs.RowLaws.{not-taken, not-left}
 use Rattle.diagram.specs.Sizes.{mostRows, resultWords, spaceWords}
 use Rattle.diagram.specs.Diagram.{Diagram}
@@ -19,17 +21,19 @@ use Rattle.diagram.specs.Words.{rowCount, upTo, isListing}
 use Rattle.diagram.specs.WordLaws.{length-upTo}
 use Rattle.diagram.specs.Listing.{listing, diagramOf}
 use Rattle.diagram.specs.Validity.{Valid, tree}
+use Rattle.diagram.specs.Variables.{isPlain}
 use Rattle.diagram.specs.DiagramOfListing.{diagram-is, rows-are}
 use Rattle.diagram.specs.ListingValid.{listing-is-valid}
 use Rattle.paths.specs.Paths.{paths, mostPaths}
 use Rattle.cutting.specs.Cut.{Choice, goes, stays, mayGo, choiceBelow, choice, chosenAnswer, diagramAnswer, cutDiagram, written, answerBuffer, cutAnswer, cutBuffer}
+use Rattle.cutting.specs.TruthLaws.{minimum-first}
 use Rattle.paths.specs.Routes.{Rows, Counted}
 use Rattle.cutting.specs.declared.Edge.the-variants.{True, False}
 use Rattle.cutting.specs.declared.Cut.{Cut}
 use Rattle.cutting.specs.declared.Cut.the-variants.{Done, Refused}
 use Rattle.cut.specs.declared.Chosen.{Chosen}
 use Rattle.cut.specs.declared.Chosen.the-variants.{Edge, Nothing}
-use Rattle.cut.specs.Calls.{Cuttable, Writable, Trimmed}
+use Rattle.cut.specs.Calls.{Cuttable, Choosable, Writable, Trimmed}
 use Rattle.cut.specs.Choosing.{Routed, chosenAs}
 use Rattle.paths.specs.PathLaws.{listing-rows}
 
@@ -39,13 +43,13 @@ Answers ar ws out r out′ = (r ≡ diagramAnswer ar (diagramOf ws)) × (out′ 
 
 -- the answers by their cases
 module _ (ar : List ℕ) (d : Diagram) where
-  answer-many : mostPaths < length (paths d) → diagramAnswer ar d ≡ Refused Paths
+  answer-many : isPlain ar d ≡ true → mostPaths < length (paths d) → diagramAnswer ar d ≡ Refused Paths
   unfolding diagramAnswer
-  answer-many h = rw (lt-ltb mostPaths (length (paths d)) h)
+  answer-many p h = rw (p, lt-ltb mostPaths (length (paths d)) h)
 
-  answer-few : length (paths d) ≤ mostPaths → diagramAnswer ar d ≡ chosenAnswer ar d (choice ar d)
+  answer-few : isPlain ar d ≡ true → length (paths d) ≤ mostPaths → diagramAnswer ar d ≡ chosenAnswer ar d (choice ar d)
   unfolding diagramAnswer
-  answer-few h = rw (le-ltb mostPaths (length (paths d)) h)
+  answer-few p h = rw (p, le-ltb mostPaths (length (paths d)) h)
 
   answer-none : chosenAnswer ar d stays ≡ Refused NoEdge
   unfolding chosenAnswer
@@ -91,16 +95,28 @@ chosen-none : (c : Choice) → Nothing ≡ chosenAs c → c ≡ stays
 chosen-none (goes j x) e = absurd (let z : _≡_ {A = ℕ} 0 1 = cc in omega arith)
 chosen-none stays e = refl
 
+-- `is_plain`
+pub plain-is : {ar : List ℕ} {d : Diagram} {marks : List ℕ} {b : Bool} → Used ar d marks → b ≡ eqb (markedMinimums marks) 0 → b ≡ isPlain ar d
+plain-is {ar} {d} {marks} u e = e ∙ marked-plain ar d marks u
+
 -- `cut_checked`
-module _ {ar ws out work : List ℕ} (g : Cuttable ar ws out work) where
+module _ {ar ws out work : List ℕ} (g : Cuttable ar ws out work) {b : Bool} (e : b ≡ isPlain ar (diagramOf ws)) where
+  pub cut-minimum : not b ≡ true → Answers ar ws out (Refused Minimum) out
+  cut-minimum f = (sym (minimum-first ar (diagramOf ws) (sym e ∙ not-taken b f)), sym (buffer-refused ar ws out Minimum))
+
+  pub cut-choosable : not b ≡ false → Choosable ar ws out work
+  cut-choosable f = record { call = g; plain = sym e ∙ not-left b f }
+
+-- `cut_plain`
+module _ {ar ws out work : List ℕ} (g : Choosable ar ws out work) where
   valid : Valid ar ws
-  valid = listing-is-valid ar ws (g .listing)
+  valid = listing-is-valid ar ws (g .call .listing)
 
   abbrev D : Diagram
   D = diagramOf ws
 
   pub cut-rows : Rows ws (length ws / 3)
-  cut-rows = listing-rows ar ws (g .listing)
+  cut-rows = listing-rows ar ws (g .call .listing)
 
   pub cut-some : 1 ≤ length ws / 3
   cut-some = valid .some
@@ -119,7 +135,7 @@ module _ {ar ws out work : List ℕ} (g : Cuttable ar ws out work) where
     count-is = c .each (length ws / 3 - 1) (omega (arith, cut-some)) ∙ ap (λ (d : Diagram). min 257 (length (paths d))) root-is
 
     pub cut-many : 256 < M → Answers ar ws out (Refused Paths) out
-    cut-many h = (sym (answer-many ar D (omega (arith, count-is))), sym (buffer-refused ar ws out Paths))
+    cut-many h = (sym (answer-many ar D (g .plain) (omega (arith, count-is))), sym (buffer-refused ar ws out Paths))
 
     module _ (h : M ≤ 256) where
       few : length (paths D) ≡ M
@@ -135,7 +151,7 @@ module _ {ar ws out work : List ℕ} (g : Cuttable ar ws out work) where
       }
 
       answer-is : diagramAnswer ar D ≡ chosenAnswer ar D (choice ar D)
-      answer-is = answer-few ar D (omega (arith, few))
+      answer-is = answer-few ar D (g .plain) (omega (arith, few))
 
       module _ {x : Chosen} (e : x ≡ chosenAs (choice ar D)) where
         pub cut-nothing : x ≡ Nothing → Answers ar ws out (Refused NoEdge) out
@@ -156,7 +172,7 @@ module _ {ar ws out work : List ℕ} (g : Cuttable ar ws out work) where
               omega (arith, l, z)
 
           pub cut-writable : Writable ar ws out work k
-          cut-writable = record { call = g; few = omega (arith, few); row = row-below }
+          cut-writable = record { call = g .call; few = omega (arith, few); row = row-below }
 
           module _ {r : ℕ} {out′ : List ℕ} (t : Trimmed ar ws k b out r out′) where
             pub cut-true : b ≡ true → Answers ar ws out (Done k True r) out′
@@ -177,7 +193,14 @@ module _ {ar ws out work : List ℕ} (g : Cuttable ar ws out work) where
 abbrev pub Promised : List ℕ → List ℕ → List ℕ → List ℕ → Cut → List ℕ → Type 0
 Promised ar ws out work r out′ = (r ≡ cutAnswer ar ws (length out) (length work)) × (out′ ≡ cutBuffer ar ws out (length work))
 
+abbrev pick : Bool → Bool → Cut → Cut
+pick a b x = cond (not a) (Refused Listing) (cond b (Refused Buffer) x)
+
 module _ (ar ws out work : List ℕ) where
+  call-pick : cutAnswer ar ws (length out) (length work) ≡ pick (isListing ar ws) (ltb (length out) resultWords || ltb (length work) spaceWords) (diagramAnswer ar (diagramOf ws))
+  unfolding cutAnswer
+  call-pick = refl
+
   promise : (r : Cut) {out′ : List ℕ} → r ≡ cutAnswer ar ws (length out) (length work) → out′ ≡ answerBuffer ar ws out r → Promised ar ws out work r out′
   unfolding cutBuffer
   promise r e q = (e, q ∙ ap (answerBuffer ar ws out) e)
@@ -186,16 +209,15 @@ module _ (ar ws out work : List ℕ) where
   refused x e = promise (Refused x) e (sym (buffer-refused ar ws out x))
 
   call-none : isListing ar ws ≡ false → Refused Listing ≡ cutAnswer ar ws (length out) (length work)
-  unfolding cutAnswer
-  call-none e = rw e
+  call-none e = sym (call-pick ∙ ap (λ (a : Bool). pick a (ltb (length out) resultWords || ltb (length work) spaceWords) (diagramAnswer ar (diagramOf ws))) e)
 
   call-small : isListing ar ws ≡ true → (ltb (length out) resultWords || ltb (length work) spaceWords) ≡ true → Refused Buffer ≡ cutAnswer ar ws (length out) (length work)
-  unfolding cutAnswer
-  call-small e f = rw (e, f)
+  call-small e f = sym (call-pick ∙ ap₂ (λ (a b : Bool). pick a b (diagramAnswer ar (diagramOf ws))) e f)
 
   call-all : isListing ar ws ≡ true → resultWords ≤ length out → spaceWords ≤ length work → diagramAnswer ar (diagramOf ws) ≡ cutAnswer ar ws (length out) (length work)
-  unfolding cutAnswer
-  call-all e h k = rw (e, le-ltb (length out) resultWords h, le-ltb (length work) spaceWords k)
+  call-all e h k =
+      let l : (ltb (length out) resultWords || ltb (length work) spaceWords) ≡ false = rw (le-ltb (length out) resultWords h) (le-ltb (length work) spaceWords k) in
+      sym (call-pick ∙ ap₂ (λ (a b : Bool). pick a b (diagramAnswer ar (diagramOf ws))) e l)
 
   module _ {b : Bool} (e : b ≡ isListing ar ws) where
     pub call-listing : not b ≡ true → Promised ar ws out work (Refused Listing) out

@@ -14,6 +14,7 @@ use Rattle.diagram.specs.Words.{labelAt, highAt, rowCount, upTo, isListing}
 use Rattle.diagram.specs.WordLaws.{length-upTo}
 use Rattle.diagram.specs.Listing.{diagramOf}
 use Rattle.diagram.specs.Validity.{Valid, tree}
+use Rattle.diagram.specs.Variables.{isPlain}
 use Rattle.diagram.specs.DiagramOfListing.{diagram-is, rows-are}
 use Rattle.diagram.specs.ListingValid.{listing-is-valid}
 use Rattle.cutting.specs.Cut.{goes, stays, mayGo, choiceBelow, choice}
@@ -107,8 +108,8 @@ module _ (ar ws : List ℕ) (n : ℕ) (l : isListing ar ws ≡ true) (w : n ≡ 
       let e : length (rows D) ≡ rowCount ws = ap length (rows-are ar ws valid) ∙ length-map (upTo (rowCount ws)) (tree ws) ∙ length-upTo (rowCount ws) in
       ap (choiceBelow ar D (rows D)) (e ∙ sym w)
 
-  pub choose-charted : {counts leaves : List ℕ} {m : ℕ} → Routed ws counts n m → Leaves ws leaves n m → Charted ar ws counts leaves n m
-  choose-charted r s = record { listed = l; whole = w; routed = r; ends = s }
+  pub choose-charted : {counts leaves : List ℕ} {m : ℕ} → isPlain ar D ≡ true → Routed ws counts n m → Leaves ws leaves n m → Charted ar ws counts leaves n m
+  choose-charted p r s = record { listed = l; plain = p; whole = w; routed = r; ends = s }
 
   module _ {i e : ℕ} {memo′ : List ℕ} (o : choice ar D ≡ choiceBelow ar D (rows D) i) (p : 0 < i) (q : i ≤ n) (f : EdgeFound ar ws n (i - 1) e memo′) where
     abbrev High : Bool

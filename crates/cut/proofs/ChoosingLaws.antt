@@ -139,6 +139,7 @@ module _ {ar ws counts leaves sides memo : List ℕ} {n m : ℕ} (a : Asking ar 
     pub ask-coverable : Coverable ar ws counts n p q
     ask-coverable = record {
       listed = a .charted .listed;
+      plain = a .charted .plain;
       whole = a .charted .whole;
       rows = a .charted .routed .rows;
       counted = a .charted .routed .counted;

@@ -8,6 +8,7 @@ use Rattle.diagram.specs.Sizes.{resultWords, spaceWords}
 use Rattle.diagram.specs.Rows.{rows}
 use Rattle.diagram.specs.Words.{rowCount, isListing}
 use Rattle.diagram.specs.Listing.{listing, diagramOf}
+use Rattle.diagram.specs.Variables.{isPlain}
 use Rattle.paths.specs.Paths.{paths, mostPaths}
 use Rattle.cutting.specs.Cut.{cutDiagram, written}
 
@@ -16,6 +17,11 @@ pub record Cuttable (ar ws out work : List ℕ) : Type 0 where
   pub listing : isListing ar ws ≡ true
   pub out-room : resultWords ≤ length out
   pub work-room : spaceWords ≤ length work
+
+-- .. and it has no minimum variable
+pub record Choosable (ar ws out work : List ℕ) : Type 0 where
+  pub call : Cuttable ar ws out work
+  pub plain : isPlain ar (diagramOf ws) ≡ true
 
 -- what writing what is left requires: few paths, and the number of a row
 pub record Writable (ar ws out work : List ℕ) (k : ℕ) : Type 0 where

@@ -8,7 +8,9 @@ use lib.ListN.{length, getD}
 use lib.Dec.{eqb, leb}
 use Rattle.label.specs.Limits.{leafMark}
 use Rattle.diagram.specs.Words.{labelAt, rowCount, isListing}
+use Rattle.diagram.specs.Listing.{diagramOf}
 use Rattle.diagram.specs.Validity.{tree}
+use Rattle.diagram.specs.Variables.{isPlain}
 use Rattle.paths.specs.Paths.{Path, paths, mostPaths}
 use Rattle.cutting.specs.Cut.{Choice, goes, stays, covers, mayGo}
 use Rattle.paths.specs.Routes.{Rows, Counted, Sided, pathAt}
@@ -40,6 +42,7 @@ pub record Sides (ws sides : List ℕ) (n m r : ℕ) : Type 0 where
 -- all that is known of a listing's paths before an edge is asked about
 pub record Charted (ar ws counts leaves : List ℕ) (n m : ℕ) : Type 0 where
   pub listed : isListing ar ws ≡ true
+  pub plain : isPlain ar (diagramOf ws) ≡ true
   pub whole : n ≡ rowCount ws
   pub routed : Routed ws counts n m
   pub ends : Leaves ws leaves n m

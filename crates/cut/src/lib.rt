@@ -2,6 +2,7 @@
 use cutting::Cut;
 use cutting::Edge;
 use label::Label;
+use label::Term;
 use paths::PATHS;
 use refusal::Refusal;
 use store::Formed;
@@ -15,14 +16,18 @@ ghost use Rattle.diagram.specs.Diagram.{leaf, same};
 ghost use Rattle.diagram.specs.Words.{rowCount, isListing};
 ghost use Rattle.diagram.specs.Listing.{diagramOf};
 ghost use Rattle.diagram.specs.Validity.{tree};
+ghost use Rattle.diagram.specs.Variables.{isPlain};
 ghost use Rattle.apply.specs.Formed.{add};
 ghost use Rattle.store.specs.Space.{diagramsOf, Formation};
 ghost use Rattle.cutting.specs.Cut.{covers, mayGo, choice, diagramAnswer, answerBuffer, cutAnswer, cutBuffer};
 ghost use Rattle.paths.specs.Routes.{Rows};
 ghost use Rattle.matcher.specs.Covering.{Coverable};
 ghost use Rattle.cut.specs.Choosing.{pathOf, Routed, Leaves, Sides, Known, Asking, Charted, Edged, Tested, EdgeFound, isCoverOn, coverBelow, isFreeOn, chosenAs};
-ghost use Rattle.cut.specs.Calls.{Cuttable, Writable, Trimmed};
+ghost use Rattle.cut.specs.Calls.{Cuttable, Choosable, Writable, Trimmed};
 ghost use Rattle.cut.specs.Leaving.{leftOf, Leaving, Leavable, Left};
+
+// A mark for each term.
+const TERMS: usize = Term::END as usize;
 
 // A place for each pair of paths.
 const MEMO: usize = 65536;
@@ -261,6 +266,7 @@ fn edge_of(
 // The highest row, true edge first, whose edge may go.
 fn choose(arities: &[u64], words: &[u64], counts: &[u64], n: usize, m: usize) -> Chosen
     requires { ⌜ isListing (now arities) (now words) ≡ true ⌝ }
+    requires { ⌜ isPlain (now arities) (diagramOf (now words)) ≡ true ⌝ }
     requires { ⌜ n ≡ rowCount (now words) ⌝ }
     requires { ⌜ Routed (now words) (now counts) n m ⌝ }
     ensures { λ r. ⌜ r ≡ chosenAs (choice (now (arities .entry)) (diagramOf (now (words .entry)))) ⌝ }
@@ -392,9 +398,9 @@ fn write_left(
     m
 }
 
-// Cuts a listing that is one: 17 over 256 paths, 16 if no edge may go, else the edge and the rows left.
-pub fn cut_checked(arities: &[u64], words: &[u64], out: &mut [u64], work: &mut [u64]) -> Cut
-    requires { ⌜ Cuttable (now arities) (now words) (now out) (now work) ⌝ }
+// Cuts a listing without minimum variables: 17 over 256 paths, 16 if no edge may go, else the edge and the rows left.
+fn cut_plain(arities: &[u64], words: &[u64], out: &mut [u64], work: &mut [u64]) -> Cut
+    requires { ⌜ Choosable (now arities) (now words) (now out) (now work) ⌝ }
     ensures { λ r. ⌜ r ≡ diagramAnswer (now (arities .entry)) (diagramOf (now (words .entry))) ⌝ }
     ensures { λ r. ⌜ now (out .exit) ≡ answerBuffer (now (arities .entry)) (now (words .entry)) (now (out .entry)) r ⌝ }
 {
@@ -415,7 +421,29 @@ pub fn cut_checked(arities: &[u64], words: &[u64], out: &mut [u64], work: &mut [
     Cut::Done(k, Edge::False, left)
 }
 
-// Cuts a lent listing: the result is written to `out`, `work` is the working space. Refused: 14, 18, then 17, 16.
+// Whether a listing has no minimum variable.
+fn is_plain(arities: &[u64], words: &[u64]) -> bool
+    requires { ⌜ isListing (now arities) (now words) ≡ true ⌝ }
+    ensures { λ r. ⌜ r ≡ isPlain (now (arities .entry)) (diagramOf (now (words .entry))) ⌝ }
+{
+    let mut marks = [0u64; TERMS];
+    listing::used(arities, words, &mut marks);
+    listing::is_plain(&marks)
+}
+
+// Cuts a listing that is one: 25 with a minimum variable, 17 over 256 paths, 16 if no edge may go, else the edge and the rows left.
+pub fn cut_checked(arities: &[u64], words: &[u64], out: &mut [u64], work: &mut [u64]) -> Cut
+    requires { ⌜ Cuttable (now arities) (now words) (now out) (now work) ⌝ }
+    ensures { λ r. ⌜ r ≡ diagramAnswer (now (arities .entry)) (diagramOf (now (words .entry))) ⌝ }
+    ensures { λ r. ⌜ now (out .exit) ≡ answerBuffer (now (arities .entry)) (now (words .entry)) (now (out .entry)) r ⌝ }
+{
+    if !is_plain(arities, words) {
+        return Cut::Refused(Refusal::Minimum);
+    }
+    cut_plain(arities, words, out, work)
+}
+
+// Cuts a lent listing: the result is written to `out`, `work` is the working space. Refused: 14, 18, then 25, 17, 16.
 pub fn cut(arities: &[u64], words: &[u64], out: &mut [u64], work: &mut [u64]) -> Cut
     ensures { λ r. ⌜ r ≡ cutAnswer (now (arities .entry)) (now (words .entry)) (length (now (out .entry))) (length (now (work .entry))) ⌝ }
     ensures { λ _. ⌜ now (out .exit) ≡ cutBuffer (now (arities .entry)) (now (words .entry)) (now (out .entry)) (length (now (work .entry))) ⌝ }

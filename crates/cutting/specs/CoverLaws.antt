@@ -1,46 +1,54 @@
 -- The test by which an edge goes is document 01's condition, both ways; and 16 is said exactly where no edge may go.
-use mathlib.Core.Path.{_≡_, refl, sym, ap, _∙_}
+use mathlib.Core.Path.{_≡_, refl, sym, ap, subst, _∙_}
 use mathlib.Core.Logic.{_⊎_, inl, inr}
 use mathlib.Core.Bool.{Bool, true, false, not, _||_, cond}
 use mathlib.Core.List.{List, [], _∷_, _++_, map, List·Memᴰ, List·Memᴰ·head, List·Memᴰ·tail, Memᴰ·append-left, List·Memᴰ·append-cases, List·Memᴰ·not-nil}
 use mathlib.Core.Option.{some, none}
 use Prim.Native.Nat.{ℕ, zero, suc, _<_}
 use native.Mathlib.Omega.{arith}
-use lib.ListN.{length}
+use lib.ListN.{length, getD}
 use lib.Dec.{eqb, leb}
 use borrow.Author.Tests.{eqb-false, ne-eqb, leb-true, le-leb, not-true}
 use Rattle.basics.specs.Tests.{and-left, and-right, Flag, isTrue, isFalse, flag, Either, one, other, either, or-one, or-other, Cmp, cmp, below, equal, above}
 use Rattle.basics.specs.Members.{clash}
-use Rattle.label.specs.Limits.{termBase}
+use Rattle.label.specs.Limits.{firstMinimum, termBase, mostPlaces}
 use Rattle.label.specs.Terms.{isVariable}
-use Rattle.label.specs.Labels.{areArities, isLabel, unpacked, termsOf}
-use Rattle.diagram.specs.Diagram.{Diagram, leaf, branch, same}
+use Rattle.label.specs.Labels.{areArities, isLabel, placeIn, placeAt, unpacked, termsOf}
+use Rattle.label.specs.declared.Atom.{Atom}
+use Rattle.label.specs.LabelLaws.{place-of, place-from, label-fits}
+use Rattle.diagram.specs.Diagram.{Diagram, leaf, branch, same, relabel}
 use Rattle.diagram.specs.Listing.{Fine}
 use Rattle.diagram.specs.DiagramLaws.{same-eq, same-ne}
 use Rattle.diagram.specs.Rows.{rows}
 use Rattle.diagram.specs.RowLists.{rowTree}
+use Rattle.diagram.specs.Variables.{isPlain}
+use Rattle.apply.specs.GoodLaws.{EveryLabel, fine-every}
+use Rattle.state.specs.State.{atomOf, meaning}
+use Rattle.state.specs.Terms.{Each}
+use Rattle.minimum.specs.Operations.{Plain}
+use Rattle.minimum.specs.PlainLaws.{fine-plain}
 use Rattle.paths.specs.Paths.{Literal, Step, Path, stepBefore, paths, literals, literalOf, termsIn, through}
 use Rattle.cutting.specs.Match.{start}
 use Rattle.cutting.specs.Cut.{Replacement, Cover, target, MayGo, may, covers, isCover, somePath, everyPath, isFree, mayGo, Choice, goes, stays, choiceBelow, choice}
-use Rattle.label.specs.ArityLaws.{terms-below}
+use Rattle.label.specs.ArityLaws.{terms-below, terms-atom}
 use Rattle.cutting.specs.MatchLaws.{matches-sound, matches-complete}
 use Rattle.cutting.specs.Searchable.{PathLabels, AllLabels, Searchable}
-use Rattle.paths.specs.PathLaws.{mem-unmap}
+use Rattle.paths.specs.Routes.{InRange}
+use Rattle.paths.specs.PathLaws.{mem-unmap, label-range}
 
 -- ===== Literals of a path have labels =====
-step-labels : (ar : List ℕ) (s : Step) (p : Path) → isLabel ar (s .label) ≡ true → PathLabels ar p → PathLabels ar (stepBefore s p)
+step-each : (P : ℕ → Type 0) (s : Step) (p : Path) → P (s .label) → ((l : Literal) → List·Memᴰ l (literals p) → P (l .label))
+    → (l : Literal) → List·Memᴰ l (literals (stepBefore s p)) → P (l .label)
 unfolding stepBefore literals
-step-labels ar s p e k = record { each = record { each = at } }
-  where
-    at : (l : Literal) → List·Memᴰ l (literalOf s ∷ map literalOf (p .steps)) → isLabel ar (l .label) ≡ true
-    at l (List·Memᴰ·head q) = rw q e
-    at l (List·Memᴰ·tail m) = k .each .each l m
+step-each P s p e k l (List·Memᴰ·head q) = subst (λ (x : Literal). P (x .label)) (sym q) e
+step-each P s p e k l (List·Memᴰ·tail m) = k l m
 
-pub path-labels : (ar : List ℕ) (d : Diagram) → Fine ar d → (p : Path) → List·Memᴰ p (paths d) → PathLabels ar p
+-- what is so of every label of a diagram is so on its paths
+pub path-each : (P : ℕ → Type 0) (d : Diagram) → EveryLabel P d → (p : Path) → List·Memᴰ p (paths d) → (l : Literal) → List·Memᴰ l (literals p) → P (l .label)
 unfolding paths literals
-path-labels ar (leaf v) f p (List·Memᴰ·head e) = rw e (record { each = record { each = λ l m. absurd (List·Memᴰ·not-nil m) } })
-path-labels ar (branch l t g) f p m =
-    go (List·Memᴰ·append-cases (map (stepBefore high) (paths t)) m) (path-labels ar t (f .1)) (path-labels ar g (f .2))
+path-each P (leaf v) f p (List·Memᴰ·head e) = rw e (λ l m. absurd (List·Memᴰ·not-nil m))
+path-each P (branch l t g) f p m =
+    go (List·Memᴰ·append-cases (map (stepBefore high) (paths t)) m) (path-each P t (f .1)) (path-each P g (f .2))
   where
     high : Step
     high = record { from = branch l t g; label = l; side = true }
@@ -48,10 +56,40 @@ path-labels ar (branch l t g) f p m =
     low : Step
     low = record { from = branch l t g; label = l; side = false }
 
+    On : Path → Type 0
+    On q = (k : Literal) → List·Memᴰ k (literals q) → P (k .label)
+
     go : List·Memᴰ p (map (stepBefore high) (paths t)) ⊎ List·Memᴰ p (map (stepBefore low) (paths g))
-        → ((q : Path) → List·Memᴰ q (paths t) → PathLabels ar q) → ((q : Path) → List·Memᴰ q (paths g) → PathLabels ar q) → PathLabels ar p
-    go (inl n) rt rf = let u = mem-unmap (stepBefore high) (paths t) p n in rw (u .2) (step-labels ar high (u .0) (f .0) (rt (u .0) (u .1)))
-    go (inr n) rt rf = let u = mem-unmap (stepBefore low) (paths g) p n in rw (u .2) (step-labels ar low (u .0) (f .0) (rf (u .0) (u .1)))
+        → ((q : Path) → List·Memᴰ q (paths t) → On q) → ((q : Path) → List·Memᴰ q (paths g) → On q) → On p
+    go (inl n) rt rf = let u = mem-unmap (stepBefore high) (paths t) p n in rw (u .2) (step-each P high (u .0) (f .0) (rt (u .0) (u .1)))
+    go (inr n) rt rf = let u = mem-unmap (stepBefore low) (paths g) p n in rw (u .2) (step-each P low (u .0) (f .0) (rf (u .0) (u .1)))
+
+pub path-labels : (ar : List ℕ) (d : Diagram) → Fine ar d → (p : Path) → List·Memᴰ p (paths d) → PathLabels ar p
+path-labels ar d f p m = record { each = record { each = path-each (λ l. isLabel ar l ≡ true) d (fine-every ar d f) p m } }
+
+-- no place of a label on the paths of a plain diagram has a minimum variable
+getD-each : (P : ℕ → Type 0) (ts : List ℕ) (k : ℕ) → P 0 → Each P ts → P (getD ts k 0)
+getD-each P [] k z w = z
+getD-each P (t ∷ ts) zero z w = w .0
+getD-each P (t ∷ ts) (suc k) z w = getD-each P ts k z (w .1)
+
+plain-label : (ar : List ℕ) (l : ℕ) → isLabel ar l ≡ true → Each (λ t. t < firstMinimum) (termsOf ar (unpacked l)) → InRange firstMinimum l
+plain-label ar l e w = record { predicate = label-range ar l e .predicate; places = places }
+  where
+    places : (k : ℕ) → k < mostPlaces → placeAt l k < firstMinimum
+    places k h =
+        subst (λ (t : ℕ). t < firstMinimum)
+        (sym (place-from (unpacked l .predicate) (termsOf ar (unpacked l)) k h) ∙ ap (λ (a : Atom). placeIn a k) (terms-atom ar (unpacked l) (label-fits ar l e .places-fit)) ∙ place-of l k h)
+        (getD-each (λ t. t < firstMinimum) (termsOf ar (unpacked l)) k (omega arith) w)
+
+plain-every : (ar : List ℕ) (d : Diagram) → Fine ar d → Plain (meaning ar d) → EveryLabel (InRange firstMinimum) d
+unfolding meaning relabel atomOf
+plain-every ar (leaf v) f w = tt
+plain-every ar (branch l t g) f w = (plain-label ar l (f .0) (w .0), plain-every ar t (f .1) (w .1), plain-every ar g (f .2) (w .2))
+
+pub path-plain : (ar : List ℕ) (d : Diagram) → Fine ar d → isPlain ar d ≡ true → (p : Path) → List·Memᴰ p (paths d)
+    → (l : Literal) → List·Memᴰ l (literals p) → InRange firstMinimum (l .label)
+path-plain ar d f e = path-each (InRange firstMinimum) d (plain-every ar d f (fine-plain ar d f e))
 
 -- ===== Covers =====
 pub in-small : (ar : List ℕ) (ls : List Literal) (t : ℕ) → List·Memᴰ t (termsIn ar ls) → t < termBase

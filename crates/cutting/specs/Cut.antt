@@ -6,7 +6,7 @@ use mathlib.Core.List.{List, [], _∷_, _++_, List·Memᴰ}
 use Prim.Native.Nat.{ℕ, zero, suc, _≤_, _<_}
 use lib.ListN.{length, drop}
 use lib.Dec.{eqb, ltb, leb}
-use Rattle.refusal.specs.declared.Refusal.the-variants.{Listing, Buffer, Nothing, Paths}
+use Rattle.refusal.specs.declared.Refusal.the-variants.{Listing, Buffer, Nothing, Paths, Minimum}
 use Rattle.label.specs.Terms.{isVariable}
 use Rattle.label.specs.Labels.{unpacked, termsOf}
 use Rattle.label.specs.Renamings.{moved}
@@ -17,7 +17,7 @@ use Rattle.diagram.specs.Rows.{rows}
 use Rattle.diagram.specs.RowLists.{rowTree}
 use Rattle.diagram.specs.Words.{isListing}
 use Rattle.diagram.specs.Listing.{listing, diagramOf}
-use Rattle.diagram.specs.Variables.{closed}
+use Rattle.diagram.specs.Variables.{isPlain, closed}
 use Rattle.apply.specs.Apply.{node}
 use Rattle.paths.specs.Paths.{Literal, Path, paths, literals, termsIn, through, mostPaths}
 use Rattle.cutting.specs.Match.{start, matches}
@@ -141,10 +141,13 @@ unfolding cutDiagram
 chosenAnswer ar d (goes k b) = Done k (edgeOf b) (length (rows (cutDiagram ar d k b)))
 chosenAnswer ar d stays = Refused Nothing
 
--- over 256 paths: 17, checked first
+-- "25, a cut on a diagram with a minimum variable, checked first" (document 02, L12); over 256 paths: 17, checked next
 unfoldable pub diagramAnswer : List ℕ → Diagram → Cut
-unfolding chosenAnswer choice paths
-diagramAnswer ar d = cond (ltb mostPaths (length (paths d))) (Refused Paths) (chosenAnswer ar d (choice ar d))
+unfolding chosenAnswer choice paths isPlain
+diagramAnswer ar d =
+    cond (not (isPlain ar d)) (Refused Minimum)
+    (cond (ltb mostPaths (length (paths d))) (Refused Paths)
+    (chosenAnswer ar d (choice ar d)))
 
 -- what a cut of the words ws under the arity list ar answers, with n words of result buffer and m of working space
 unfoldable pub cutAnswer : List ℕ → List ℕ → ℕ → ℕ → Cut

@@ -1,4 +1,4 @@
--- Cuts (document 01, section 'Cut').
+-- Cuts (document 01, section 'Cut'; of diagrams without minimum variables, document 02, L12).
 --
 -- Definitions: when an edge may go, in document 01's words
 --   Matched == under a replacement a literal is one of the first path's, or is t = t true
@@ -22,16 +22,18 @@
 --
 -- Definitions: the call
 --   Edge, edgeOf, isTrueEdge == the true edge or the false one
---   Cut, chosenAnswer, diagramAnswer == row, edge and rows left, or the refusal: 17, then 16
+--   Cut, chosenAnswer, diagramAnswer == row, edge and rows left, or the refusal: 25, 17, then 16
 --   cutAnswer == the call on lent words: 14, 18, then its own
 --   written, answerBuffer, cutBuffer == the result buffer then
 --
 -- Theorems
+--   minimum-first: with a minimum variable the answer is 25; done-plain: so a cut that is done had none
 --   cut-keeps: a cut leaves the number in every state
 --   mayGo-sound: the test says no more than document 01's condition; mayGo-complete: and no less
 --   matches-sound: what the search finds is a replacement; matches-complete: and it finds one where there is one
 --   matches-order: whatever the order of the literals
 --   chosen: the edge that goes is the highest that may go, true edge first; 16 is said exactly where there is none
+--   path-plain: no place of a label on its paths has a minimum variable
 --   cut-good: with at most 256 paths what is left is a good diagram, of few rows (cut-few), so that a cut never meets 9
 --
 -- Searchable is for proofs: what laws of the search suppose.

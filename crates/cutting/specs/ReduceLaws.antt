@@ -7,10 +7,12 @@ use Prim.Native.Nat.{ℕ, suc, _≤_}
 use native.Mathlib.Omega.{arith}
 use lib.ListN.{length}
 use Rattle.basics.specs.Tests.{Flag, isTrue, isFalse, flag}
-use Rattle.diagram.specs.Diagram.{Diagram, leaf, branch, same, From, Reduced}
+use Rattle.diagram.specs.Diagram.{Diagram, leaf, branch, same, From, Reduced, relabel}
 use Rattle.diagram.specs.DiagramLaws.{same-ne, from-weaken}
 use Rattle.diagram.specs.Rows.{rows}
 use Rattle.diagram.specs.Listing.{Fine, Good}
+use Rattle.state.specs.State.{meaning}
+use Rattle.state.specs.Terms.{Terms}
 use Rattle.apply.specs.Apply.{node}
 use Rattle.apply.specs.ApplyLaws.{node-same, node-differ}
 use Rattle.paths.specs.Paths.{paths, mostPaths}
@@ -64,6 +66,26 @@ cut-fine ar r b (branch l t f) h = (
   by-pick (Fine ar) (same r (branch l t f) && b) (leaf 0) (cutAt r b t) (omega arith) (cut-fine ar r b t (h .1)),
   by-pick (Fine ar) (same r (branch l t f) && not b) (leaf 0) (cutAt r b f) (omega arith) (cut-fine ar r b f (h .2)),
 )
+
+-- its terms are terms of the diagram
+reduced-terms : (P : ℕ → Type 0) (ar : List ℕ) (d : Diagram) → Terms P (meaning ar d) → Terms P (meaning ar (reduced d))
+unfolding reduced meaning relabel
+reduced-terms P ar (leaf v) h = h
+reduced-terms P ar (branch l t f) h =
+    by-node (λ x. Terms P (meaning ar x)) l (reduced t) (reduced f) (reduced-terms P ar t (h .1))
+    (λ z. (h .0, reduced-terms P ar t (h .1), reduced-terms P ar f (h .2)))
+
+cut-terms : (P : ℕ → Type 0) (ar : List ℕ) (r : Diagram) (b : Bool) (d : Diagram) → Terms P (meaning ar d) → Terms P (meaning ar (cutAt r b d))
+unfolding cutAt meaning relabel
+cut-terms P ar r b (leaf v) h = h
+cut-terms P ar r b (branch l t f) h = (
+  h .0,
+  by-pick (λ x. Terms P (meaning ar x)) (same r (branch l t f) && b) (leaf 0) (cutAt r b t) tt (cut-terms P ar r b t (h .1)),
+  by-pick (λ x. Terms P (meaning ar x)) (same r (branch l t f) && not b) (leaf 0) (cutAt r b f) tt (cut-terms P ar r b f (h .2)),
+)
+
+pub left-terms : (P : ℕ → Type 0) (ar : List ℕ) (r : Diagram) (b : Bool) (d : Diagram) → Terms P (meaning ar d) → Terms P (meaning ar (reduced (cutAt r b d)))
+left-terms P ar r b d h = reduced-terms P ar (cutAt r b d) (cut-terms P ar r b d h)
 
 -- ===== Counts =====
 reduced-paths : (d : Diagram) → length (paths (reduced d)) ≤ length (paths d)

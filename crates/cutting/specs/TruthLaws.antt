@@ -6,16 +6,18 @@ use mathlib.Core.List.{List, [], _∷_, map, List·Memᴰ, List·Memᴰ·head, L
 use Prim.Native.Nat.{ℕ, zero, suc, _≤_, _<_}
 use native.Mathlib.Omega.{arith}
 use native.Mathlib.Nat.{le-of-eq, le-trans}
-use lib.ListN.{length-map}
-use lib.Dec.{eqb}
+use lib.ListN.{length, length-map}
+use lib.Dec.{eqb, ltb}
 use borrow.Author.Tests.{eqb-true, eqb-false, eq-eqb, ne-eqb, lt-leb}
+use Rattle.refusal.specs.declared.Refusal.the-variants.{Paths, Minimum}
 use Rattle.basics.specs.Tests.{Flag, isTrue, isFalse, flag}
-use Rattle.label.specs.Limits.{termBase, firstVariable}
+use Rattle.label.specs.Limits.{termBase, firstVariable, firstMinimum}
 use Rattle.label.specs.Terms.{isVariable}
 use Rattle.label.specs.Labels.{areArities, predicateOf, unpacked, termsOf}
 use Rattle.label.specs.Renamings.{moved}
 use Rattle.label.specs.declared.Test.the-variants.{Always, Is}
 use Rattle.diagram.specs.Diagram.{Diagram, leaf, branch, eval, relabel}
+use Rattle.diagram.specs.Variables.{isPlain}
 use Rattle.state.specs.State.{atomOf, meaning, State, truth, holds, value, Fits}
 use Rattle.state.specs.Highest.{Highest}
 use Rattle.state.specs.HighestLaws.{highest-by, highest-same}
@@ -24,13 +26,17 @@ use Rattle.minimum.specs.Operations.{Plain}
 use Rattle.minimum.specs.PlainLaws.{highest-number, number-highest}
 use Rattle.state.specs.ValueLaws.{map-map, fits-after}
 use Rattle.apply.specs.ApplyLaws.{eval-node}
-use Rattle.paths.specs.Paths.{Literal, Step, Path, stepBefore, paths, literals, literalOf, termsIn, isEdge, through}
+use Rattle.paths.specs.Paths.{Literal, Step, Path, stepBefore, paths, literals, literalOf, termsIn, isEdge, through, mostPaths}
 use Rattle.cutting.specs.Match.{turned}
-use Rattle.cutting.specs.Cut.{Matched, plain, found, Replacement, MayGo, may, reduced, cutAt}
+use Rattle.cutting.specs.Cut.{Matched, plain, found, Replacement, MayGo, may, choice, reduced, cutAt, chosenAnswer, diagramAnswer}
+use Rattle.cutting.specs.declared.Edge.{Edge}
+use Rattle.cutting.specs.declared.Cut.{Cut}
+use Rattle.cutting.specs.declared.Cut.the-variants.{Done, Refused}
 use Rattle.label.specs.ArityLaws.{terms-length}
 use Rattle.cutting.specs.MovedLaws.{moved-asks, Asked, straight, across, ask-is, ask-always}
 use Rattle.paths.specs.PathLaws.{mem-map, mem-unmap}
 use Rattle.cutting.specs.CoverLaws.{in-small}
+use Rattle.cutting.specs.ReduceLaws.{left-terms}
 
 -- ===== Truths of labels =====
 
@@ -252,9 +258,25 @@ eval-reduced c (leaf v) = refl
 eval-reduced c (branch l t f) = eval-node c l (reduced t) (reduced f) ∙ ap₂ (cond (c l)) (eval-reduced c t) (eval-reduced c f)
 
 -- a cut leaves the number in every state; closing up is left
-pub cut-keeps : (ar : List ℕ) → areArities ar ≡ true → (d r : Diagram) (b : Bool) → MayGo ar d b r → Plain (meaning ar d) → Plain (meaning ar (reduced (cutAt r b d)))
+pub cut-keeps : (ar : List ℕ) → areArities ar ≡ true → (d r : Diagram) (b : Bool) → MayGo ar d b r → Plain (meaning ar d)
     → (s : State) (os : List ℕ) (x : ℕ) → Number s os (meaning ar d) x → Number s os (meaning ar (reduced (cutAt r b d))) x
-cut-keeps ar good d r b m p q s os x h =
-    highest-number s os (meaning ar (reduced (cutAt r b d))) q x
+cut-keeps ar good d r b m p s os x h =
+    highest-number s os (meaning ar (reduced (cutAt r b d))) (left-terms (λ t. t < firstMinimum) ar r b d p) x
     (highest-same (meaning ar (cutAt r b d)) (meaning ar (reduced (cutAt r b d))) (cut-highest ar good d r b m s os x (number-highest s os (meaning ar d) p x h))
     (λ θ f. value-says ar s θ (cutAt r b d) ∙ sym (eval-reduced (says ar s θ) (cutAt r b d)) ∙ sym (value-says ar s θ (reduced (cutAt r b d)))))
+
+-- with a minimum variable 25 is said, whatever else there is; so where a cut is done there is none
+pub minimum-first : (ar : List ℕ) (d : Diagram) → isPlain ar d ≡ false → diagramAnswer ar d ≡ Refused Minimum
+unfolding diagramAnswer
+minimum-first ar d e = rw e
+
+pub done-plain : (ar : List ℕ) (d : Diagram) {k : ℕ} {e : Edge} {n : ℕ} → diagramAnswer ar d ≡ Done k e n → isPlain ar d ≡ true
+unfolding diagramAnswer
+done-plain ar d {k} {e} {n} a = go (isPlain ar d) refl a
+  where
+    rest : Cut
+    rest = cond (ltb mostPaths (length (paths d))) (Refused Paths) (chosenAnswer ar d (choice ar d))
+
+    go : (b : Bool) → isPlain ar d ≡ b → cond (not b) (Refused Minimum) rest ≡ Done k e n → isPlain ar d ≡ true
+    go true q z = q
+    go false q z = let f : _≡_ {A = ℕ} 0 1 = cc in absurd (omega arith)

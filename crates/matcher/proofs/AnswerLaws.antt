@@ -6,7 +6,7 @@ use Prim.Native.Nat.{ℕ, _+_, _-_, _≤_, _<_}
 use native.Mathlib.Omega.{arith}
 use lib.ListN.{length, getD, take, drop, replicate, length-take, length-replicate, getD-replicate}
 use lib.Seq.{length-take-le, take-add, drop-at, getD-take}
-use Rattle.label.specs.Limits.{termEnd}
+use Rattle.label.specs.Limits.{firstMinimum}
 use Rattle.label.specs.Labels.{areArities}
 use Rattle.diagram.specs.Validity.{tree}
 use Rattle.diagram.specs.ListingValid.{listing-is-valid}
@@ -22,24 +22,24 @@ use Rattle.matcher.specs.Stored.{Marks, Enterable, Stored, Ready, BothSt
 use Rattle.matcher.specs.Parts.{PartsPost, WaysPost}
 use Rattle.matcher.proofs.StoreLaws.{codes-are, listed-labels}
 use Rattle.matcher.proofs.SomeWayLaws.{ways-fail}
-use Rattle.matcher.proofs.CoversLaws.{terms-below, bothTerms, covers-setting, covers-order}
+use Rattle.matcher.proofs.CoversLaws.{bothTerms, covers-setting, covers-order}
 
 -- the literals behind the marks
-front-literals : (into : List ℕ) (a : ℕ) → termEnd + a ≤ length into → literalsIn (drop termEnd (take (termEnd + a) into)) ≡ literalsIn (take a (drop termEnd into))
+front-literals : (into : List ℕ) (a : ℕ) → firstMinimum + a ≤ length into → literalsIn (drop firstMinimum (take (firstMinimum + a) into)) ≡ literalsIn (take a (drop firstMinimum into))
 front-literals into a h =
     ap literalsIn
-    (ap (drop termEnd) (take-add termEnd a into) ∙ drop-at (take termEnd into) (take a (drop termEnd into)) termEnd (length-take-le termEnd into (omega arith)))
+    (ap (drop firstMinimum) (take-add firstMinimum a into) ∙ drop-at (take firstMinimum into) (take a (drop firstMinimum into)) firstMinimum (length-take-le firstMinimum into (omega arith)))
 
-pub front-long : (into : List ℕ) (a : ℕ) → termEnd + a ≤ length into → termEnd + a ≡ length (take (termEnd + a) into)
-front-long into a h = sym (length-take-le (termEnd + a) into h)
+pub front-long : (into : List ℕ) (a : ℕ) → firstMinimum + a ≤ length into → firstMinimum + a ≡ length (take (firstMinimum + a) into)
+front-long into a h = sym (length-take-le (firstMinimum + a) into h)
 
 -- ===== search =====
 module _ {into from : List ℕ} {a b : ℕ} (g : BothStored into a from b) where
-  pub search-ready : {tab theta : List ℕ} → length tab ≡ termEnd + termEnd → length theta ≡ termEnd → ((v : ℕ) → v < termEnd → getD theta v 0 ≡ v)
-      → Ready (take (termEnd + b - termEnd) (drop termEnd from)) (take (termEnd + a) into) tab theta
+  pub search-ready : {tab theta : List ℕ} → length tab ≡ firstMinimum + firstMinimum → length theta ≡ firstMinimum → ((v : ℕ) → v < firstMinimum → getD theta v 0 ≡ v)
+      → Ready (take (firstMinimum + b - firstMinimum) (drop firstMinimum from)) (take (firstMinimum + a) into) tab theta
   search-ready x y same = record {
-    few = omega (arith, length-take (termEnd + b - termEnd) (drop termEnd from), g .few);
-    ranged = let e : b ≡ termEnd + b - termEnd = omega arith in subst (λ (i : ℕ). AllInRange (take i (drop termEnd from))) e (g .ranged);
+    few = omega (arith, length-take (firstMinimum + b - firstMinimum) (drop firstMinimum from), g .few);
+    ranged = let e : b ≡ firstMinimum + b - firstMinimum = omega arith in subst (λ (i : ℕ). AllInRange firstMinimum (take i (drop firstMinimum from))) e (g .ranged);
     sorted = g .sorted;
     tab-room = omega arith;
     theta-room = omega arith;
@@ -47,51 +47,54 @@ module _ {into from : List ℕ} {a b : ℕ} (g : BothStored into a from b) where
   }
 
   -- the literals behind the marks
-  into-literals : literalsIn (drop termEnd (take (termEnd + a) into)) ≡ literalsIn (take a (drop termEnd into))
+  into-literals : literalsIn (drop firstMinimum (take (firstMinimum + a) into)) ≡ literalsIn (take a (drop firstMinimum into))
   into-literals = front-literals into a (g .into-room)
 
-  module _ (ar : List ℕ) (good : areArities ar ≡ true) (p : Path) (np : PathLabels ar p) (sp : Stored ar p into a) where
-    into-marks : Marks ar (λ t. getD (take (termEnd + a) into) t 0) (literals p)
-    into-marks = record { has = has; of = of }
+  module _ (ar : List ℕ) (p : Path) (sp : Stored ar p into a) where
+    into-marks : Marks ar (λ t. getD (take (firstMinimum + a) into) t 0) (literals p)
+    into-marks = record { below = sp .marks .below; has = has; of = of }
       where
-        same : (t : ℕ) → t < termEnd → getD (take (termEnd + a) into) t 0 ≡ getD into t 0
-        same t h = getD-take (termEnd + a) into t 0 (omega arith)
+        same : (t : ℕ) → t < firstMinimum → getD (take (firstMinimum + a) into) t 0 ≡ getD into t 0
+        same t h = getD-take (firstMinimum + a) into t 0 (omega arith)
 
-        has : (t : ℕ) → List·Memᴰ t (termsIn ar (literals p)) → 0 < getD (take (termEnd + a) into) t 0
-        has t m = omega (arith, same t (terms-below ar good (literals p) (np .each) t m), sp .marks .has t m)
+        has : (t : ℕ) → List·Memᴰ t (termsIn ar (literals p)) → 0 < getD (take (firstMinimum + a) into) t 0
+        has t m = omega (arith, same t (sp .marks .below t m), sp .marks .has t m)
 
-        of : (t : ℕ) → t < termEnd → 0 < getD (take (termEnd + a) into) t 0 → List·Memᴰ t (termsIn ar (literals p))
+        of : (t : ℕ) → t < firstMinimum → 0 < getD (take (firstMinimum + a) into) t 0 → List·Memᴰ t (termsIn ar (literals p))
         of t h m = sp .marks .of t h (omega (arith, same t h))
 
-  tab-marks : (tab : List ℕ) → ((t : ℕ) → t < termEnd → getD tab (termEnd + t) 0 ≡ getD from t 0) → (ar : List ℕ) → areArities ar ≡ true → (q : Path) → PathLabels ar q → Stored ar q from b
-      → Marks ar (λ t. getD tab (termEnd + t) 0) (literals q)
-  tab-marks tab copied ar good q nq sq = record {
-    has = λ t m. omega (arith, copied t (terms-below ar good (literals q) (nq .each) t m), sq .marks .has t m);
+  tab-marks : (tab : List ℕ) → ((t : ℕ) → t < firstMinimum → getD tab (firstMinimum + t) 0 ≡ getD from t 0) → (ar : List ℕ) (q : Path) → Stored ar q from b
+      → Marks ar (λ t. getD tab (firstMinimum + t) 0) (literals q)
+  tab-marks tab copied ar q sq = record {
+    below = sq .marks .below;
+    has = λ t m. omega (arith, copied t (sq .marks .below t m), sq .marks .has t m);
     of = λ t h m. sq .marks .of t h (omega (arith, copied t h));
   }
 
-  module _ {tab : List ℕ} (copied : (t : ℕ) → t < termEnd → getD tab (termEnd + t) 0 ≡ getD from t 0) where
-    pub search-answers : {r : Bool} → PartsPost (take (termEnd + b - termEnd) (drop termEnd from)) (take (termEnd + a) into) tab r → Answers into a from b r
+  module _ {tab : List ℕ} (copied : (t : ℕ) → t < firstMinimum → getD tab (firstMinimum + t) 0 ≡ getD from t 0) where
+    pub search-answers : {r : Bool} → PartsPost (take (firstMinimum + b - firstMinimum) (drop firstMinimum from)) (take (firstMinimum + a) into) tab r → Answers into a from b r
     search-answers {r} s = record { each = each }
       where
         each : (ar : List ℕ) → areArities ar ≡ true → (p q : Path) → PathLabels ar p → PathLabels ar q → Stored ar p into a → Stored ar q from b → r ≡ covers ar p q
         each ar good p q np nq sp sq =
             s .answer ar (bothTerms ar good p q np nq)
-            (covers-setting ar good p q np nq first (λ l m. subst (List·Memᴰ l) second m) (into-marks ar good p np sp) (tab-marks tab copied ar good q nq sq))
-            ∙ ap (λ (ls : List Literal). matches ar ls (bothTerms ar good p q np nq) (literalsIn (take (termEnd + b - termEnd) (drop termEnd from))) start) first
-            ∙ covers-order ar good p q np nq (literalsIn (take (termEnd + b - termEnd) (drop termEnd from))) (λ l m. subst (List·Memᴰ l) second m) (λ l m. subst (List·Memᴰ l) (sym second) m)
+            (covers-setting ar good p q np nq first (λ l m. subst (List·Memᴰ l) second m) (into-marks ar p sp) (tab-marks tab copied ar q sq))
+            ∙ ap (λ (ls : List Literal). matches ar ls (bothTerms ar good p q np nq) (literalsIn (take (firstMinimum + b - firstMinimum) (drop firstMinimum from))) start) first
+            ∙ covers-order ar good p q np nq (literalsIn (take (firstMinimum + b - firstMinimum) (drop firstMinimum from)))
+            (λ l m. subst (List·Memᴰ l) second m) (λ l m. subst (List·Memᴰ l) (sym second) m)
           where
-            first : literalsIn (drop termEnd (take (termEnd + a) into)) ≡ literals p
+            first : literalsIn (drop firstMinimum (take (firstMinimum + a) into)) ≡ literals p
             first = into-literals ∙ sp .are
 
-            second : literalsIn (take (termEnd + b - termEnd) (drop termEnd from)) ≡ literals q
-            second = let e : termEnd + b - termEnd ≡ b = omega arith in ap (λ (i : ℕ). literalsIn (take i (drop termEnd from))) e ∙ sq .are
+            second : literalsIn (take (firstMinimum + b - firstMinimum) (drop firstMinimum from)) ≡ literals q
+            second = let e : firstMinimum + b - firstMinimum ≡ b = omega arith in ap (λ (i : ℕ). literalsIn (take i (drop firstMinimum from))) e ∙ sq .are
 
 -- ===== covers =====
 module _ {ar ws counts : List ℕ} {n p q : ℕ} (g : Coverable ar ws counts n p q) where
-  pub covers-first : (m : ℕ) → termEnd + mostPaths ≤ m → Enterable ar ws counts n p (replicate m 0)
+  pub covers-first : (m : ℕ) → firstMinimum + mostPaths ≤ m → Enterable ar ws counts n p (replicate m 0)
   covers-first m h = record {
     listed = g .listed;
+    plain = g .plain;
     whole = g .whole;
     rows = g .rows;
     counted = g .counted;
@@ -100,9 +103,10 @@ module _ {ar ws counts : List ℕ} {n p q : ℕ} (g : Coverable ar ws counts n p
     clear = λ t k. getD-replicate m t 0 0 (omega arith);
   }
 
-  pub covers-second : (m : ℕ) → termEnd + mostPaths ≤ m → Enterable ar ws counts n q (replicate m 0)
+  pub covers-second : (m : ℕ) → firstMinimum + mostPaths ≤ m → Enterable ar ws counts n q (replicate m 0)
   covers-second m h = record {
     listed = g .listed;
+    plain = g .plain;
     whole = g .whole;
     rows = g .rows;
     counted = g .counted;
@@ -121,8 +125,8 @@ module _ {ar ws counts : List ℕ} {n p q : ℕ} (g : Coverable ar ws counts n p
   good = listing-is-valid ar ws (g .listed) .arities
 
   -- a literal without a way: nothing is covered
-  pub covers-none : {into₀ into from₀ from : List ℕ} {a b : ℕ} {r : Bool} → Entered ws (n - 1) p into₀ into a → termEnd + a ≤ length into
-      → Entered ws (n - 1) q from₀ from b → WaysPost (take (termEnd + b - termEnd) (drop termEnd from)) (take (termEnd + a) into) r → not r ≡ true
+  pub covers-none : {into₀ into from₀ from : List ℕ} {a b : ℕ} {r : Bool} → Entered ws (n - 1) p into₀ into firstMinimum a → firstMinimum + a ≤ length into
+      → Entered ws (n - 1) q from₀ from firstMinimum b → WaysPost (take (firstMinimum + b - firstMinimum) (drop firstMinimum from)) (take (firstMinimum + a) into) r → not r ≡ true
       → false ≡ covers ar (pathAt (tree ws (n - 1)) p) (pathAt (tree ws (n - 1)) q)
   covers-none {into₀} {into} {from₀} {from} {a} {b} x room y w z =
       ways-fail w z ar T (subst (λ (ls : List Literal). Searchable ar ls T) (sym first) (searchable ar (literals first-path) (literals second-path) good (np .each)))
@@ -139,19 +143,19 @@ module _ {ar ws counts : List ℕ} {n p q : ℕ} (g : Coverable ar ws counts n p
       T = bothTerms ar good first-path second-path np nq
 
       ord : List Literal
-      ord = literalsIn (take (termEnd + b - termEnd) (drop termEnd from))
+      ord = literalsIn (take (firstMinimum + b - firstMinimum) (drop firstMinimum from))
 
-      first : literalsIn (drop termEnd (take (termEnd + a) into)) ≡ literals first-path
+      first : literalsIn (drop firstMinimum (take (firstMinimum + a) into)) ≡ literals first-path
       first = front-literals into a room ∙ ap literalsIn (x .are) ∙ codes-are first-path
 
-      second : literalsIn (take (termEnd + b - termEnd) (drop termEnd from)) ≡ literals second-path
+      second : literalsIn (take (firstMinimum + b - firstMinimum) (drop firstMinimum from)) ≡ literals second-path
       second =
-          let e : termEnd + b - termEnd ≡ b = omega arith in
-          ap (λ (i : ℕ). literalsIn (take i (drop termEnd from))) e ∙ ap literalsIn (y .are) ∙ codes-are second-path
+          let e : firstMinimum + b - firstMinimum ≡ b = omega arith in
+          ap (λ (i : ℕ). literalsIn (take i (drop firstMinimum from))) e ∙ ap literalsIn (y .are) ∙ codes-are second-path
 
   -- both paths are stored
   pub covers-stored : {into from : List ℕ} {a b : ℕ} → Stored ar (pathAt (tree ws (n - 1)) p) into a → Stored ar (pathAt (tree ws (n - 1)) q) from b
-      → termEnd + a ≤ length into → termEnd + b ≤ length from → BothStored into a from b
+      → firstMinimum + a ≤ length into → firstMinimum + b ≤ length from → BothStored into a from b
   covers-stored sp sq h k = record { into-room = h; sorted = sp .sorted; from-room = k; ranged = sq .ranged; few = sq .few }
 
   pub covers-answer : {into from : List ℕ} {a b : ℕ} {r : Bool} → Stored ar (pathAt (tree ws (n - 1)) p) into a → Stored ar (pathAt (tree ws (n - 1)) q) from b

@@ -12,7 +12,7 @@ use lib.Dec.{eqb}
 use borrow.Author.Tests.{lt-ltb, le-ltb, le-leb, lt-leb, eqb-true, eqb-false, eq-eqb, ne-eqb}
 use Rattle.basics.specs.Tests.{Flag, isTrue, isFalse, flag, Cmp, cmp, below, equal, above}
 use Rattle.basics.specs.Members.{clash}
-use Rattle.label.specs.Limits.{termEnd, mostPlaces}
+use Rattle.label.specs.Limits.{firstMinimum, mostPlaces}
 use Rattle.label.specs.Labels.{placeAt}
 use Rattle.cutting.specs.Match.{assign, agree, bindTerm, thenBind, bindTerms}
 use Rattle.matcher.specs.Search.{along, known, slotFits, slotAfter, Slots, wayPlace, isNothing, BindPost, TryPost, no-way, a-way}
@@ -38,41 +38,41 @@ module _ (tab theta : List ℕ) (m t u : ℕ) where
   unfolding slotAfter
   again-after e q = rw (ne-eqb (getD tab t 0) (m + 1) (λ z. q (e ∙ z)))
 
-pub known-some : (tab theta : List ℕ) (m t : ℕ) → t < termEnd → getD tab t 0 ≤ m → known tab theta m t ≡ some (getD theta t 0)
+pub known-some : (tab theta : List ℕ) (m t : ℕ) → t < firstMinimum → getD tab t 0 ≤ m → known tab theta m t ≡ some (getD theta t 0)
 unfolding known
-known-some tab theta m t h k = rw (lt-ltb t termEnd h, le-leb (getD tab t 0) m k)
+known-some tab theta m t h k = rw (lt-ltb t firstMinimum h, le-leb (getD tab t 0) m k)
 
-pub known-none : (tab theta : List ℕ) (m t : ℕ) → t < termEnd → m < getD tab t 0 → known tab theta m t ≡ none
+pub known-none : (tab theta : List ℕ) (m t : ℕ) → t < firstMinimum → m < getD tab t 0 → known tab theta m t ≡ none
 unfolding known
-known-none tab theta m t h k = rw (lt-ltb t termEnd h, lt-leb (getD tab t 0) m k)
+known-none tab theta m t h k = rw (lt-ltb t firstMinimum h, lt-leb (getD tab t 0) m k)
 
-pub known-past : (tab theta : List ℕ) (m t : ℕ) → termEnd ≤ t → known tab theta m t ≡ some t
+pub known-past : (tab theta : List ℕ) (m t : ℕ) → firstMinimum ≤ t → known tab theta m t ≡ some t
 unfolding known
-known-past tab theta m t h = rw (le-ltb t termEnd h)
+known-past tab theta m t h = rw (le-ltb t firstMinimum h)
 
 -- what is known sees only the terms that came before
-pub known-same : (tab theta theta′ : List ℕ) (m m′ : ℕ) → m ≤ m′ → ((v : ℕ) → v < termEnd → getD tab v 0 ≤ m → getD theta′ v 0 ≡ getD theta v 0)
-    → ((v : ℕ) → v < termEnd → m < getD tab v 0 → m′ < getD tab v 0) → known tab theta m ≡ known tab theta′ m′
-known-same tab theta theta′ m m′ l h k = fun-ext (λ v. go v (cmp v termEnd) (cmp (getD tab v 0) (suc m)))
+pub known-same : (tab theta theta′ : List ℕ) (m m′ : ℕ) → m ≤ m′ → ((v : ℕ) → v < firstMinimum → getD tab v 0 ≤ m → getD theta′ v 0 ≡ getD theta v 0)
+    → ((v : ℕ) → v < firstMinimum → m < getD tab v 0 → m′ < getD tab v 0) → known tab theta m ≡ known tab theta′ m′
+known-same tab theta theta′ m m′ l h k = fun-ext (λ v. go v (cmp v firstMinimum) (cmp (getD tab v 0) (suc m)))
   where
-    at : (v : ℕ) → v < termEnd → getD tab v 0 ≤ m → known tab theta m v ≡ known tab theta′ m′ v
+    at : (v : ℕ) → v < firstMinimum → getD tab v 0 ≤ m → known tab theta m v ≡ known tab theta′ m′ v
     at v p q = known-some tab theta m v p q ∙ ap some (sym (h v p q)) ∙ sym (known-some tab theta′ m′ v p (omega arith))
 
-    off : (v : ℕ) → v < termEnd → m < getD tab v 0 → known tab theta m v ≡ known tab theta′ m′ v
+    off : (v : ℕ) → v < firstMinimum → m < getD tab v 0 → known tab theta m v ≡ known tab theta′ m′ v
     off v p q = known-none tab theta m v p q ∙ sym (known-none tab theta′ m′ v p (k v p q))
 
-    past : (v : ℕ) → termEnd ≤ v → known tab theta m v ≡ known tab theta′ m′ v
+    past : (v : ℕ) → firstMinimum ≤ v → known tab theta m v ≡ known tab theta′ m′ v
     past v p = known-past tab theta m v p ∙ sym (known-past tab theta′ m′ v p)
 
-    go : (v : ℕ) → Cmp v termEnd → Cmp (getD tab v 0) (suc m) → known tab theta m v ≡ known tab theta′ m′ v
+    go : (v : ℕ) → Cmp v firstMinimum → Cmp (getD tab v 0) (suc m) → known tab theta m v ≡ known tab theta′ m′ v
     go v (below p) (below q) = at v p (omega arith)
     go v (below p) (equal q) = off v p (omega arith)
     go v (below p) (above q) = off v p (omega arith)
     go v (equal p) c = past v (omega arith)
     go v (above p) c = past v (omega arith)
 
-module _ (tab theta : List ℕ) (m t u : ℕ) (small : t < termEnd) (room : termEnd ≤ length theta) (seen : getD tab t 0 ≤ m + 1)
-    (only : (v : ℕ) → v < termEnd → getD tab v 0 ≡ m + 1 → v ≡ t) where
+module _ (tab theta : List ℕ) (m t u : ℕ) (small : t < firstMinimum) (room : firstMinimum ≤ length theta) (seen : getD tab t 0 ≤ m + 1)
+    (only : (v : ℕ) → v < firstMinimum → getD tab v 0 ≡ m + 1 → v ≡ t) where
   assign-known : getD tab t 0 ≡ m + 1 → assign (known tab theta m) t u ≡ known tab (set theta t u) (m + 1)
   unfolding assign
   assign-known e = fun-ext (λ v. go v (cmp v t))
@@ -82,7 +82,7 @@ module _ (tab theta : List ℕ) (m t u : ℕ) (small : t < termEnd) (room : term
           let z : known tab (set theta t u) (m + 1) t ≡ some u = known-some tab (set theta t u) (m + 1) t small (omega arith) ∙ ap some (getD-set-same theta t u 0 (omega arith)) in
           rw (eq-eqb v t q) (sym z ∙ ap (known tab (set theta t u) (m + 1)) (sym q))
 
-      there : (v : ℕ) → (v ≡ t → ⊥) → Cmp v termEnd → Cmp (getD tab v 0) (m + 1) → cond (eqb v t) (some u) (known tab theta m v) ≡ known tab (set theta t u) (m + 1) v
+      there : (v : ℕ) → (v ≡ t → ⊥) → Cmp v firstMinimum → Cmp (getD tab v 0) (m + 1) → cond (eqb v t) (some u) (known tab theta m v) ≡ known tab (set theta t u) (m + 1) v
       there v q (below p) (below c) =
           rw (ne-eqb v t q) (known-some tab theta m v p (omega arith) ∙ ap some (sym (getD-set-other theta t v u 0 q)) ∙ sym (known-some tab (set theta t u) (m + 1) v p (omega arith)))
       there v q (below p) (equal c) = absurd (q (only v p c))
@@ -91,9 +91,9 @@ module _ (tab theta : List ℕ) (m t u : ℕ) (small : t < termEnd) (room : term
       there v q (above p) c = rw (ne-eqb v t q) (known-past tab theta m v (omega arith) ∙ sym (known-past tab (set theta t u) (m + 1) v (omega arith)))
 
       go : (v : ℕ) → Cmp v t → cond (eqb v t) (some u) (known tab theta m v) ≡ known tab (set theta t u) (m + 1) v
-      go v (below p) = there v (omega arith) (cmp v termEnd) (cmp (getD tab v 0) (m + 1))
+      go v (below p) = there v (omega arith) (cmp v firstMinimum) (cmp (getD tab v 0) (m + 1))
       go v (equal p) = here v p
-      go v (above p) = there v (omega arith) (cmp v termEnd) (cmp (getD tab v 0) (m + 1))
+      go v (above p) = there v (omega arith) (cmp v firstMinimum) (cmp (getD tab v 0) (m + 1))
 
   pub slot-yes : slotFits tab theta m t u ≡ true → bindTerm (known tab theta m) t u ≡ some (known tab (slotAfter tab theta m t u) (m + 1))
   unfolding bindTerm slotFits slotAfter
@@ -110,7 +110,7 @@ module _ (tab theta : List ℕ) (m t u : ℕ) (small : t < termEnd) (room : term
           rw (e, known-some tab theta m t small (omega arith), w)
           (ap some (known-same tab theta theta m (m + 1) (omega arith) (λ v p k. refl) (λ v p k. more v p k (cmp (getD tab v 0) (m + 1)) q)))
         where
-          more : (v : ℕ) → v < termEnd → m < getD tab v 0 → Cmp (getD tab v 0) (m + 1) → (getD tab t 0 ≡ m + 1 → ⊥) → m + 1 < getD tab v 0
+          more : (v : ℕ) → v < firstMinimum → m < getD tab v 0 → Cmp (getD tab v 0) (m + 1) → (getD tab t 0 ≡ m + 1 → ⊥) → m + 1 < getD tab v 0
           more v p k (below c) q = absurd (omega arith)
           more v p k (equal c) q = absurd (q (ap (λ (x : ℕ). getD tab x 0) (sym (only v p c)) ∙ c))
           more v p k (above c) q = c
@@ -147,7 +147,7 @@ pub record Binding (tab theta₀ : List ℕ) (m l : ℕ) (w : Way) (theta : List
   pub most : k ≤ mostPlaces
   pub length-kept : length theta ≡ length theta₀
   pub bound : bindTerms (known tab theta₀ m) (along (placeAt l) k) (along (wayPlace w) k) ≡ some (known tab theta (m + k))
-  pub kept : (v : ℕ) → v < termEnd → getD tab v 0 ≤ m → getD theta v 0 ≡ getD theta₀ v 0
+  pub kept : (v : ℕ) → v < firstMinimum → getD tab v 0 ≤ m → getD theta v 0 ≡ getD theta₀ v 0
 
 pub binding-start : (tab theta : List ℕ) (m l : ℕ) (w : Way) → Binding tab theta m l w theta 0
 unfolding along bindTerms
@@ -158,18 +158,18 @@ binding-start tab theta m l w = record {
   kept = λ v h q. refl;
 }
 
-module _ {tab theta₀ : List ℕ} {m l : ℕ} {w : Way} {theta : List ℕ} {k t u : ℕ} (s : Slots tab m l) (room : termEnd ≤ length theta₀)
+module _ {tab theta₀ : List ℕ} {m l : ℕ} {w : Way} {theta : List ℕ} {k t u : ℕ} (s : Slots tab m l) (room : firstMinimum ≤ length theta₀)
     (b : Binding tab theta₀ m l w theta k) (h : k < mostPlaces) (e : t ≡ placeAt l k) (f : u ≡ wayPlace w k) where
-  small : t < termEnd
+  small : t < firstMinimum
   small = omega (arith, s .range .places k h)
 
-  now-room : termEnd ≤ length theta
+  now-room : firstMinimum ≤ length theta
   now-room = omega (arith, b .length-kept)
 
   seen : getD tab t 0 ≤ m + k + 1
   seen = subst (λ (v : ℕ). getD tab v 0 ≤ m + k + 1) (sym e) (s .seen k h)
 
-  only : (v : ℕ) → v < termEnd → getD tab v 0 ≡ m + k + 1 → v ≡ t
+  only : (v : ℕ) → v < firstMinimum → getD tab v 0 ≡ m + k + 1 → v ≡ t
   only v p q = s .only k v h p q ∙ sym e
 
   one-more : bindTerms (known tab theta₀ m) (along (placeAt l) (suc k)) (along (wayPlace w) (suc k)) ≡ bindTerm (known tab theta (m + k)) t u
@@ -178,7 +178,7 @@ module _ {tab theta₀ : List ℕ} {m l : ℕ} {w : Way} {theta : List ℕ} {k t
       ∙ sym (ap₂ (bindTerm (known tab theta (m + k))) e f)
 
   module _ {r : Bool} {theta′ : List ℕ} (p : r ≡ slotFits tab theta (m + k) t u) (q : theta′ ≡ slotAfter tab theta (m + k) t u) where
-    still : (v : ℕ) → v < termEnd → getD tab v 0 ≤ m → getD theta′ v 0 ≡ getD theta₀ v 0
+    still : (v : ℕ) → v < firstMinimum → getD tab v 0 ≤ m → getD theta′ v 0 ≡ getD theta₀ v 0
     still v a z = ap (λ (xs : List ℕ). getD xs v 0) q ∙ slot-kept tab theta (m + k) t u small now-room seen only v (omega arith) ∙ b .kept v a z
 
     pub binding-fails : not r ≡ true → BindPost tab theta₀ m l w false theta′

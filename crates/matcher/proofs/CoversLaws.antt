@@ -11,13 +11,13 @@ use lib.Seq.{take-all}
 use borrow.Author.Tests.{lt-ltb, le-ltb, le-leb, lt-leb}
 use Rattle.basics.specs.Tests.{Cmp, cmp, below, equal, above, Flag, isTrue, isFalse, flag}
 use Rattle.basics.specs.Members.{clash}
-use Rattle.label.specs.Limits.{firstVariable, termEnd, mostPlaces}
+use Rattle.label.specs.Limits.{firstVariable, firstMinimum, mostPlaces}
 use Rattle.label.specs.Terms.{isVariable}
 use Rattle.label.specs.Labels.{areArities, unpacked, termsOf}
 use Rattle.paths.specs.Paths.{Literal, Path, literals, termsIn}
 use Rattle.cutting.specs.Match.{Partial, start, matches}
 use Rattle.cutting.specs.Cut.{covers}
-use Rattle.cutting.specs.Searchable.{AllLabels, Searchable}
+use Rattle.cutting.specs.Searchable.{Searchable}
 use Rattle.cutting.specs.MatchLaws.{in-terms, matches-sound, matches-order}
 use Rattle.cutting.specs.Searchable.{PathLabels}
 use Rattle.cutting.specs.CoverLaws.{searchable}
@@ -26,8 +26,6 @@ use Rattle.matcher.specs.Search.{literalsIn, segment, known, Replacing, 
 use Rattle.matcher.specs.Failure.{storeWords, rowOf, Remembers, isFound, isWeary, Solving, SolvePost, Decidable, Decided}
 use Rattle.matcher.specs.declared.Answer.{Answer}
 use Rattle.matcher.specs.declared.Answer.the-variants.{Found, Failed, Weary}
-use Rattle.paths.specs.PathLaws.{label-range}
-use Rattle.matcher.proofs.TermLaws.{in-place}
 use Rattle.matcher.proofs.MaskLaws.{zero-none}
 use Rattle.matcher.proofs.SolveLaws.{replacing-kept}
 use Rattle.matcher.proofs.BindLaws.{known-some, known-none, known-past}
@@ -44,38 +42,31 @@ of-terms ar (l ∷ ls) t m = go (List·Memᴰ·append-cases (termsOf ar (unpacke
     go (inl n) rec = (l, List·Memᴰ·head refl, n)
     go (inr n) rec = let r = rec n in (r .0, List·Memᴰ·tail (r .1), r .2)
 
--- terms of labels are below the end of the terms
-pub terms-below : (ar : List ℕ) → areArities ar ≡ true → (ls : List Literal) → AllLabels ar ls → (t : ℕ) → List·Memᴰ t (termsIn ar ls) → t < termEnd
-terms-below ar good ls labels t m =
-    let o = of-terms ar ls t m in
-    let p = in-place ar (o .0 .label) good t (o .2) in
-    subst (λ (v : ℕ). v < termEnd) (sym (p .2)) (label-range ar (o .0 .label) (labels .each (o .0) (o .1)) .places (p .0) (p .1))
-
 -- at the start only what is no variable is known
 pub variable-not : (t : ℕ) → t < firstVariable → isVariable t ≡ false
 unfolding isVariable
 variable-not t h = rw (lt-leb firstVariable t h)
 
-variable-is : (t : ℕ) → firstVariable ≤ t → t < termEnd → isVariable t ≡ true
+variable-is : (t : ℕ) → firstVariable ≤ t → t < firstMinimum → isVariable t ≡ true
 unfolding isVariable
-variable-is t h k = rw (le-leb firstVariable t h, lt-ltb t termEnd k)
+variable-is t h k = rw (le-leb firstVariable t h, lt-ltb t firstMinimum k)
 
-variable-past : (t : ℕ) → termEnd ≤ t → isVariable t ≡ false
+variable-past : (t : ℕ) → firstMinimum ≤ t → isVariable t ≡ false
 unfolding isVariable
-variable-past t h = rw (le-leb firstVariable t (omega arith), le-ltb t termEnd h)
+variable-past t h = rw (le-leb firstVariable t (omega arith), le-ltb t firstMinimum h)
 
 module _ {ord tab theta : List ℕ} {n : ℕ} (t : Tabled ord tab n) (r : Replacing tab theta 0) where
   pub known-start : known tab theta 0 ≡ start
   unfolding start
-  known-start = fun-ext (λ v. go v (cmp v firstVariable) (cmp v termEnd))
+  known-start = fun-ext (λ v. go v (cmp v firstVariable) (cmp v firstMinimum))
     where
-      past : (v : ℕ) → termEnd ≤ v → known tab theta 0 v ≡ cond (isVariable v) none (some v)
+      past : (v : ℕ) → firstMinimum ≤ v → known tab theta 0 v ≡ cond (isVariable v) none (some v)
       past v q = known-past tab theta 0 v q ∙ sym (ap (λ (b : Bool). cond b none (some v)) (variable-past v q))
 
-      free : (v : ℕ) → firstVariable ≤ v → v < termEnd → known tab theta 0 v ≡ cond (isVariable v) none (some v)
+      free : (v : ℕ) → firstVariable ≤ v → v < firstMinimum → known tab theta 0 v ≡ cond (isVariable v) none (some v)
       free v p q = known-none tab theta 0 v q (t .free v p q) ∙ sym (ap (λ (b : Bool). cond b none (some v)) (variable-is v p q))
 
-      go : (v : ℕ) → Cmp v firstVariable → Cmp v termEnd → known tab theta 0 v ≡ cond (isVariable v) none (some v)
+      go : (v : ℕ) → Cmp v firstVariable → Cmp v firstMinimum → known tab theta 0 v ≡ cond (isVariable v) none (some v)
       go v (below p) c = known-some tab theta 0 v (omega arith) (omega (arith, t .fixed v p)) ∙ ap some (r .stays v p) ∙ sym (ap (λ (b : Bool). cond b none (some v)) (variable-not v p))
       go v (equal p) (below q) = free v (omega arith) q
       go v (equal p) (equal q) = past v (omega arith)
@@ -124,22 +115,22 @@ module _ {ord into tab theta : List ℕ} (g : Decidable ord into tab theta) wher
       stays = λ v h. s .kept v (omega arith) (omega (arith, g .tabled .fixed v h)) ∙ g .replacing .stays v h;
     }
       where
-        all : (ar T : List ℕ) → matches ar (literalsIn (drop termEnd into)) T (segment ord 0 (length ord)) (known tab theta 0)
-            ≡ matches ar (literalsIn (drop termEnd into)) T (literalsIn ord) start
-        all ar T = ap₂ (λ (qs : List Literal) (τ : Partial). matches ar (literalsIn (drop termEnd into)) T qs τ) (segment-all ord) (known-start (g .tabled) (g .replacing))
+        all : (ar T : List ℕ) → matches ar (literalsIn (drop firstMinimum into)) T (segment ord 0 (length ord)) (known tab theta 0)
+            ≡ matches ar (literalsIn (drop firstMinimum into)) T (literalsIn ord) start
+        all ar T = ap₂ (λ (qs : List Literal) (τ : Partial). matches ar (literalsIn (drop firstMinimum into)) T qs τ) (segment-all ord) (known-start (g .tabled) (g .replacing))
 
-        fails : (ar T : List ℕ) → Setting ar T ord into tab → (q : ℕ) → r ≡ Failed q → matches ar (literalsIn (drop termEnd into)) T (literalsIn ord) start ≡ false
-        fails ar T z q o = at (flag (matches ar (literalsIn (drop termEnd into)) T (literalsIn ord) start))
+        fails : (ar T : List ℕ) → Setting ar T ord into tab → (q : ℕ) → r ≡ Failed q → matches ar (literalsIn (drop firstMinimum into)) T (literalsIn ord) start ≡ false
+        fails ar T z q o = at (flag (matches ar (literalsIn (drop firstMinimum into)) T (literalsIn ord) start))
           where
-            at : Flag (matches ar (literalsIn (drop termEnd into)) T (literalsIn ord) start) → matches ar (literalsIn (drop termEnd into)) T (literalsIn ord) start ≡ false
+            at : Flag (matches ar (literalsIn (drop firstMinimum into)) T (literalsIn ord) start) → matches ar (literalsIn (drop firstMinimum into)) T (literalsIn ord) start ≡ false
             at (isFalse w) = w
             at (isTrue w) =
                 absurd (s .failed q o .nothing ar T z
-                (matches-sound ar (literalsIn (drop termEnd into)) T (z .search) (segment ord 0 (length ord)) start
-                (ap (λ (qs : List Literal). matches ar (literalsIn (drop termEnd into)) T qs start) (segment-all ord) ∙ w))
+                (matches-sound ar (literalsIn (drop firstMinimum into)) T (z .search) (segment ord 0 (length ord)) start
+                (ap (λ (qs : List Literal). matches ar (literalsIn (drop firstMinimum into)) T qs start) (segment-all ord) ∙ w))
                 (λ i h u. absurd (zero-none i (s .within q o i u))))
 
-        go : (ar T : List ℕ) → Setting ar T ord into tab → (a : Answer) → r ≡ a → b ≡ matches ar (literalsIn (drop termEnd into)) T (literalsIn ord) start
+        go : (ar T : List ℕ) → Setting ar T ord into tab → (a : Answer) → r ≡ a → b ≡ matches ar (literalsIn (drop firstMinimum into)) T (literalsIn ord) start
         go ar T z Found o = e ∙ ap isFound o ∙ sym (s .found o ar T z (none-inside (g .tabled) (g .replacing) T)) ∙ all ar T
         go ar T z (Failed q) o = e ∙ ap isFound o ∙ sym (fails ar T z q o)
         go ar T z Weary o = absurd (f o)
@@ -153,7 +144,7 @@ pub unweary : {r : Answer} {b : Bool} → b ≡ isWeary r → b ≡ false → r 
 unweary e f z = clash (e ∙ ap isWeary z) f
 
 -- ===== match_part =====
-module _ {ord into tab theta : List ℕ} (g : Ready ord into tab theta) {tab₁ tab₂ : List ℕ} (u : Unplaced tab₁) (k : (v : ℕ) → termEnd ≤ v → getD tab₁ v 0 ≡ getD tab v 0)
+module _ {ord into tab theta : List ℕ} (g : Ready ord into tab theta) {tab₁ tab₂ : List ℕ} (u : Unplaced tab₁) (k : (v : ℕ) → firstMinimum ≤ v → getD tab₁ v 0 ≡ getD tab v 0)
     (l : length tab₁ ≡ length tab) (p : Placing ord tab₁ tab₂ (length ord * mostPlaces)) where
   part-tabled : Tabled ord tab₂ (length ord)
   part-tabled = record {
@@ -169,7 +160,7 @@ module _ {ord into tab theta : List ℕ} (g : Ready ord into tab theta) {tab₁ 
   part-replacing : Replacing tab₂ theta 0
   part-replacing = record { room = g .theta-room; stays = g .stays; terms = λ v h z. low v h z (cmp v firstVariable) }
     where
-      low : (v : ℕ) → v < termEnd → getD tab₂ v 0 ≤ 0 → Cmp v firstVariable → getD theta v 0 < termEnd
+      low : (v : ℕ) → v < firstMinimum → getD tab₂ v 0 ≤ 0 → Cmp v firstVariable → getD theta v 0 < firstMinimum
       low v h z (below c) = omega (arith, g .stays v c)
       low v h z (equal c) = absurd (omega (arith, p .free v (omega arith) h))
       low v h z (above c) = absurd (omega (arith, p .free v (omega arith) h))
@@ -178,8 +169,8 @@ module _ {ord into tab theta : List ℕ} (g : Ready ord into tab theta) {tab₁ 
   part-decidable = record { tabled = part-tabled; ranged = g .ranged; sorted = g .sorted; replacing = part-replacing }
 
   module _ {theta′ : List ℕ} {r : Bool} (s : Decided ord into tab₂ r theta′) where
-    same : (t : ℕ) → getD tab₂ (termEnd + t) 0 ≡ getD tab (termEnd + t) 0
-    same t = p .kept (termEnd + t) (omega arith) ∙ k (termEnd + t) (omega arith)
+    same : (t : ℕ) → getD tab₂ (firstMinimum + t) 0 ≡ getD tab (firstMinimum + t) 0
+    same t = p .kept (firstMinimum + t) (omega arith) ∙ k (firstMinimum + t) (omega arith)
 
     placed : (ar T : List ℕ) → Setting ar T ord into tab → Setting ar T ord into tab₂
     placed ar T e = record {
@@ -203,39 +194,39 @@ module _ (ar : List ℕ) (good : areArities ar ≡ true) (p q : Path) (np : Path
   abbrev pub bothTerms : List ℕ
   bothTerms = termsIn ar (literals p) ++ termsIn ar (literals q)
 
-  both-below : (t : ℕ) → List·Memᴰ t bothTerms → t < termEnd
-  both-below t m = go (List·Memᴰ·append-cases (termsIn ar (literals p)) m)
-    where
-      go : List·Memᴰ t (termsIn ar (literals p)) ⊎ List·Memᴰ t (termsIn ar (literals q)) → t < termEnd
-      go (inl n) = terms-below ar good (literals p) (np .each) t n
-      go (inr n) = terms-below ar good (literals q) (nq .each) t n
-
   covers-searchable : Searchable ar (literals p) bothTerms
   covers-searchable = searchable ar (literals p) (literals q) good (np .each)
 
   -- the first path's literals stand behind their terms' marks, some of the second's in ord, the marks of its terms behind tab's first places
-  pub covers-setting : {ord into tab : List ℕ} → literalsIn (drop termEnd into) ≡ literals p → ((l : Literal) → List·Memᴰ l (literalsIn ord) → List·Memᴰ l (literals q))
-      → Marks ar (λ t. getD into t 0) (literals p) → Marks ar (λ t. getD tab (termEnd + t) 0) (literals q) → Setting ar bothTerms ord into tab
+  pub covers-setting : {ord into tab : List ℕ} → literalsIn (drop firstMinimum into) ≡ literals p → ((l : Literal) → List·Memᴰ l (literalsIn ord) → List·Memᴰ l (literals q))
+      → Marks ar (λ t. getD into t 0) (literals p) → Marks ar (λ t. getD tab (firstMinimum + t) 0) (literals q) → Setting ar bothTerms ord into tab
   covers-setting {ord} {into} {tab} e f mp mq = record {
     search = subst (λ (ls : List Literal). Searchable ar ls bothTerms) (sym e) covers-searchable;
     labels = record { each = λ l m. nq .each .each l (f l m) };
-    below = both-below;
+    below = small;
     own = own;
     has = has;
     of = of;
   }
     where
+      small : (u : ℕ) → List·Memᴰ u bothTerms → u < firstMinimum
+      small u m = go (List·Memᴰ·append-cases (termsIn ar (literals p)) m)
+        where
+          go : List·Memᴰ u (termsIn ar (literals p)) ⊎ List·Memᴰ u (termsIn ar (literals q)) → u < firstMinimum
+          go (inl n) = mp .below u n
+          go (inr n) = mq .below u n
+
       own : (u : ℕ) → List·Memᴰ u (termsIn ar (literalsIn ord)) → List·Memᴰ u bothTerms
       own u m = let o = of-terms ar (literalsIn ord) u m in Memᴰ·append-right (termsIn ar (literals p)) (in-terms ar (literals q) (o .0) u (f (o .0) (o .1)) (o .2))
 
-      has : (u : ℕ) → List·Memᴰ u bothTerms → 0 < getD into u 0 + getD tab (termEnd + u) 0
+      has : (u : ℕ) → List·Memᴰ u bothTerms → 0 < getD into u 0 + getD tab (firstMinimum + u) 0
       has u m = go (List·Memᴰ·append-cases (termsIn ar (literals p)) m)
         where
-          go : List·Memᴰ u (termsIn ar (literals p)) ⊎ List·Memᴰ u (termsIn ar (literals q)) → 0 < getD into u 0 + getD tab (termEnd + u) 0
+          go : List·Memᴰ u (termsIn ar (literals p)) ⊎ List·Memᴰ u (termsIn ar (literals q)) → 0 < getD into u 0 + getD tab (firstMinimum + u) 0
           go (inl n) = omega (arith, mp .has u n)
           go (inr n) = omega (arith, mq .has u n)
 
-      of : (u : ℕ) → u < termEnd → 0 < getD into u 0 + getD tab (termEnd + u) 0 → List·Memᴰ u bothTerms
+      of : (u : ℕ) → u < firstMinimum → 0 < getD into u 0 + getD tab (firstMinimum + u) 0 → List·Memᴰ u bothTerms
       of u h k = go (cmp 0 (getD into u 0))
         where
           second : getD into u 0 ≤ 0 → List·Memᴰ u bothTerms

@@ -10,7 +10,7 @@ use lib.Dec.{eqb, leb}
 use borrow.Author.Tests.{le-leb, lt-leb, leb-true}
 use Rattle.basics.specs.Tests.{Cmp, cmp, below, equal, above}
 use Rattle.basics.specs.Members.{clash}
-use Rattle.label.specs.Limits.{termEnd, termBase, predicateCount, mostPlaces, equality}
+use Rattle.label.specs.Limits.{firstMinimum, termBase, predicateCount, mostPlaces, equality}
 use Rattle.label.specs.Labels.{predicateOf, placeAt, atomFrom, packed, equates}
 use Rattle.label.specs.declared.Label.{Label}
 use Rattle.label.specs.declared.Test.{Test}
@@ -69,8 +69,8 @@ packing-most : packingEnd mostPlaces ≤ labelEnd
 unfolding packingEnd
 packing-most = omega arith
 
-pub image-small : {theta : List ℕ} {l t : ℕ} → Images theta l → (k : ℕ) → k < mostPlaces → t ≡ placeAt l k → getD theta t 0 < termEnd
-image-small {theta} i k h e = subst (λ (v : ℕ). getD theta v 0 < termEnd) (sym e) (i .terms k h)
+pub image-small : {theta : List ℕ} {l t : ℕ} → Images theta l → (k : ℕ) → k < mostPlaces → t ≡ placeAt l k → getD theta t 0 < firstMinimum
+image-small {theta} i k h e = subst (λ (v : ℕ). getD theta v 0 < firstMinimum) (sym e) (i .terms k h)
 
 -- the places before k are packed
 pub record Packing (theta : List ℕ) (l n k : ℕ) : Type 0 where
@@ -87,8 +87,8 @@ module _ {theta : List ℕ} {l : ℕ} (i : Images theta l) where
     pub packing-index : t < length theta
     packing-index = omega (arith, i .range .places k h, i .room)
 
-    term : getD theta t 0 < termEnd
-    term = subst (λ (v : ℕ). getD theta v 0 < termEnd) (sym e) (i .terms k h)
+    term : getD theta t 0 < firstMinimum
+    term = subst (λ (v : ℕ). getD theta v 0 < firstMinimum) (sym e) (i .terms k h)
 
     next-below : n * termBase + getD theta t 0 < packingEnd (suc k)
     unfolding packingEnd
@@ -127,7 +127,7 @@ module _ {into theta : List ℕ} {x : ℕ} {b : Bool} (q : b ≡ isEquality x) w
     met-equal {l} v g = matched (l .packed) (sym q ∙ unleft h) (sym (asked theta x e f z) ∙ v) g
 
 -- the label of an equality is small
-packed-small : (t u : ℕ) → t < termEnd → u < termEnd → packed (atomFrom equality (t ∷ u ∷ [])) < labelEnd
+packed-small : (t u : ℕ) → t < firstMinimum → u < firstMinimum → packed (atomFrom equality (t ∷ u ∷ [])) < labelEnd
 unfolding packed
 packed-small t u h k = omega arith
 
@@ -135,7 +135,7 @@ abbrev number : Test → ℕ
 number Always = 0
 number (Is y) = y .packed
 
-pub equates-small : {t u : ℕ} {w : Test} {l : Label} → t < termEnd → u < termEnd → w ≡ equates t u → w ≡ Is l → l .packed < labelEnd
+pub equates-small : {t u : ℕ} {w : Test} {l : Label} → t < firstMinimum → u < firstMinimum → w ≡ equates t u → w ≡ Is l → l .packed < labelEnd
 equates-small {t} {u} {w} {l} h k e f = go (cmp t u)
   where
     is : equates t u ≡ Is l
@@ -150,35 +150,35 @@ equates-small {t} {u} {w} {l} h k e f = go (cmp t u)
 
 -- literals before `low` are smaller than y, those from `high` on greater
 pub record Between (into : List ℕ) (y low high : ℕ) : Type 0 where
-  pub from : termEnd ≤ low
+  pub from : firstMinimum ≤ low
   pub to : low ≤ high
   pub room : high ≤ length into
-  pub before : (i : ℕ) → termEnd ≤ i → i < low → getD into i 0 < y
+  pub before : (i : ℕ) → firstMinimum ≤ i → i < low → getD into i 0 < y
   pub behind : (i : ℕ) → high ≤ i → i < length into → y < getD into i 0
 
-sorted-at : (into : List ℕ) (i j : ℕ) → Sorted into → termEnd ≤ i → i < j → j < length into → getD into i 0 < getD into j 0
+sorted-at : (into : List ℕ) (i j : ℕ) → Sorted into → firstMinimum ≤ i → i < j → j < length into → getD into i 0 < getD into j 0
 sorted-at into i j s h k l =
-    let e : termEnd + (i - termEnd) ≡ i = omega arith in
-    let f : termEnd + (j - termEnd) ≡ j = omega arith in
-    let w = s .order (i - termEnd) (j - termEnd) (omega arith) (omega arith) in
-    subst (λ (a : ℕ). getD into a 0 < getD into j 0) e (subst (λ (b : ℕ). getD into (termEnd + (i - termEnd)) 0 < getD into b 0) f w)
+    let e : firstMinimum + (i - firstMinimum) ≡ i = omega arith in
+    let f : firstMinimum + (j - firstMinimum) ≡ j = omega arith in
+    let w = s .order (i - firstMinimum) (j - firstMinimum) (omega arith) (omega arith) in
+    subst (λ (a : ℕ). getD into a 0 < getD into j 0) e (subst (λ (b : ℕ). getD into (firstMinimum + (i - firstMinimum)) 0 < getD into b 0) f w)
 
-pub find-start : {into : List ℕ} (y : ℕ) → Sorted into → Between into y termEnd (length into)
+pub find-start : {into : List ℕ} (y : ℕ) → Sorted into → Between into y firstMinimum (length into)
 find-start y s = record { from = omega arith; to = s .room; room = omega arith; before = λ i h k. absurd (omega arith); behind = λ i h k. absurd (omega arith) }
 
 module _ {into : List ℕ} {y low high : ℕ} (b : Between into y low high) (h : low < high) {x : ℕ} (e : x ≡ getD into (low + (high - low) / 2) 0) where
   pub find-hit : x ≡ y → Finds into y true
-  find-hit q = record { yes = λ z. (low + (high - low) / 2 - termEnd, omega (arith, b .from, b .room), found); no = λ z. clash refl z }
+  find-hit q = record { yes = λ z. (low + (high - low) / 2 - firstMinimum, omega (arith, b .from, b .room), found); no = λ z. clash refl z }
     where
-      found : getD into (termEnd + (low + (high - low) / 2 - termEnd)) 0 ≡ y
+      found : getD into (firstMinimum + (low + (high - low) / 2 - firstMinimum)) 0 ≡ y
       found =
-          let k : termEnd + (low + (high - low) / 2 - termEnd) ≡ low + (high - low) / 2 = omega (arith, b .from) in
+          let k : firstMinimum + (low + (high - low) / 2 - firstMinimum) ≡ low + (high - low) / 2 = omega (arith, b .from) in
           ap (λ (i : ℕ). getD into i 0) k ∙ sym e ∙ q
 
   pub find-up : Sorted into → x < y → Between into y (low + (high - low) / 2 + 1) high
   find-up s q = record { from = omega (arith, b .from); to = omega arith; room = b .room; before = λ i k l. more i k l (cmp i (low + (high - low) / 2)); behind = b .behind }
     where
-      more : (i : ℕ) → termEnd ≤ i → i < low + (high - low) / 2 + 1 → Cmp i (low + (high - low) / 2) → getD into i 0 < y
+      more : (i : ℕ) → firstMinimum ≤ i → i < low + (high - low) / 2 + 1 → Cmp i (low + (high - low) / 2) → getD into i 0 < y
       more i k l (below c) = omega (arith, sorted-at into i (low + (high - low) / 2) s k c (omega (arith, b .room)))
       more i k l (equal c) = rw c (omega arith)
       more i k l (above c) = absurd (omega arith)
@@ -192,9 +192,9 @@ module _ {into : List ℕ} {y low high : ℕ} (b : Between into y low high) (h :
       more i k l (above c) = omega (arith, sorted-at into (low + (high - low) / 2) i s (omega (arith, b .from)) c l)
 
 pub find-none : {into : List ℕ} {y low high : ℕ} → Between into y low high → high ≤ low → Finds into y false
-find-none {into} {y} {low} b h = record { yes = λ z. clash z refl; no = λ z i k e. at i k e (cmp (termEnd + i) low) }
+find-none {into} {y} {low} b h = record { yes = λ z. clash z refl; no = λ z i k e. at i k e (cmp (firstMinimum + i) low) }
   where
-    at : (i : ℕ) → i < length into - termEnd → getD into (termEnd + i) 0 ≡ y → Cmp (termEnd + i) low → ⊥
-    at i k e (below c) = omega (arith, b .before (termEnd + i) (omega arith) c)
-    at i k e (equal c) = omega (arith, b .behind (termEnd + i) (omega arith) (omega arith))
-    at i k e (above c) = omega (arith, b .behind (termEnd + i) (omega arith) (omega arith))
+    at : (i : ℕ) → i < length into - firstMinimum → getD into (firstMinimum + i) 0 ≡ y → Cmp (firstMinimum + i) low → ⊥
+    at i k e (below c) = omega (arith, b .before (firstMinimum + i) (omega arith) c)
+    at i k e (equal c) = omega (arith, b .behind (firstMinimum + i) (omega arith) (omega arith))
+    at i k e (above c) = omega (arith, b .behind (firstMinimum + i) (omega arith) (omega arith))

@@ -6,7 +6,7 @@ use Prim.Native.Nat.{ℕ, _+_, _-_, _*_, _/_, _≤_, _<_}
 use native.Mathlib.Omega.{arith}
 use lib.ListN.{length, getD, drop}
 use Rattle.basics.specs.Tests.{Cmp, cmp, below, equal, above}
-use Rattle.label.specs.Limits.{firstVariable, variableCount, termEnd, mostPlaces}
+use Rattle.label.specs.Limits.{firstVariable, variableCount, firstMinimum, mostPlaces}
 use Rattle.label.specs.Labels.{isLabel, placeAt, termsOf, unpacked}
 use Rattle.cutting.specs.Match.{Partial, start, matches}
 use Rattle.cutting.specs.MatchLaws.{Solves}
@@ -28,7 +28,7 @@ module _ {ord into tab theta store : List ℕ} {k x bound : ℕ} (g : Solving or
   low : k < length ord
   low = omega (arith, g .most, h)
 
-  range : InRange (x / 2)
+  range : InRange firstMinimum (x / 2)
   range = slots-at (g .tabled) (g .ranged) low e .range
 
   early-in : (i : ℕ) → i < variableCount → (j : ℕ) → j < mostPlaces → placeAt (x / 2) j ≡ firstVariable + i → In bound i
@@ -41,7 +41,7 @@ module _ {ord into tab theta store : List ℕ} {k x bound : ℕ} (g : Solving or
       within : (i : ℕ) → In vars i → In bound i
       within i o = let p = v .only i o in early-in i (omega (arith, range .places (p .0) (p .1), p .2)) (p .0) (p .1) (p .2)
 
-      nothing : (ar T : List ℕ) → Setting ar T ord into tab → (z : Solves ar (literalsIn (drop termEnd into)) T (segment ord 0 (length ord)) start)
+      nothing : (ar T : List ℕ) → Setting ar T ord into tab → (z : Solves ar (literalsIn (drop firstMinimum into)) T (segment ord 0 (length ord)) start)
           → Agrees vars theta firstVariable (z .σ) → ⊥
       nothing ar T s z a =
           unmet ar T ord into tab s (segment ord 0 (length ord)) z x lab member theta same
@@ -59,8 +59,8 @@ module _ {ord into tab theta store : List ℕ} {k x bound : ℕ} (g : Solving or
               place : (j : ℕ) × (j < mostPlaces) × (u ≡ placeAt (x / 2) j)
               place = in-place ar (x / 2) (s .search .arities) u m
 
-              small : u < termEnd
-              small = subst (λ (i : ℕ). i < termEnd) (sym (place .2)) (range .places (place .0) (place .1))
+              small : u < firstMinimum
+              small = subst (λ (i : ℕ). i < firstMinimum) (sym (place .2)) (range .places (place .0) (place .1))
 
               variable : firstVariable ≤ u → z .σ u ≡ getD theta u 0
               variable l =
@@ -97,7 +97,7 @@ module _ {ord into tab theta store : List ℕ} {k x bound : ℕ} (g : Solving or
   met-post w n z = record {
     found = λ o ar T s i.
         is-met into (g .tabled) (g .ranged) (g .replacing) low e q f ar T s i w (unleft n)
-        ∙ ap (λ (τ : Partial). matches ar (literalsIn (drop termEnd into)) T (segment ord (k + 1) (length ord)) τ) (same-known into (g .tabled) (g .ranged) (g .replacing) low e q f)
+        ∙ ap (λ (τ : Partial). matches ar (literalsIn (drop firstMinimum into)) T (segment ord (k + 1) (length ord)) τ) (same-known into (g .tabled) (g .ranged) (g .replacing) low e q f)
         ∙ z .found o ar T s (subst (λ (τ : Partial). Inside T τ) (same-known into (g .tabled) (g .ranged) (g .replacing) low e q f) i);
     failed = z .failed;
     within = z .within;

@@ -9,7 +9,7 @@ use lib.ListN.{length, getD, drop}
 use lib.Bits.{bitOr}
 use Rattle.basics.specs.Tests.{Cmp, cmp, below, equal, above}
 use Rattle.basics.specs.Members.{clash}
-use Rattle.label.specs.Limits.{firstVariable, variableCount, termEnd, mostPlaces}
+use Rattle.label.specs.Limits.{firstVariable, variableCount, firstMinimum, mostPlaces}
 use Rattle.label.specs.Labels.{placeAt}
 use Rattle.paths.specs.Paths.{Literal}
 use Rattle.cutting.specs.Match.{matches}
@@ -41,7 +41,7 @@ found-weary e = let z : _≡_ {A = ℕ} 0 1 = cc in absurd (omega arith)
 
 -- a failure with its promise
 pub failed-post : {ord into tab theta store theta′ store′ : List ℕ} {k bound q : ℕ} → Nogood ord into tab q theta firstVariable → ((i : ℕ) → In q i → In bound i)
-    → ((v : ℕ) → v < termEnd → getD tab v 0 ≤ k * mostPlaces → getD theta′ v 0 ≡ getD theta v 0) → Remembers ord into tab store′
+    → ((v : ℕ) → v < firstMinimum → getD tab v 0 ≤ k * mostPlaces → getD theta′ v 0 ≡ getD theta v 0) → Remembers ord into tab store′
     → SolvePost ord into tab theta store k bound (Failed q) theta′ store′
 failed-post {ord} {into} {tab} {theta} {q = q} g w k m = record {
   found = λ e. not-found q e;
@@ -57,7 +57,7 @@ pub solve-end : {ord into tab theta store : List ℕ} {k bound : ℕ} → k ≡ 
 unfolding matches
 solve-end {ord} {into} {tab} {theta} {store} {k} {bound} e g = record {
   found = λ z ar T s i.
-      ap (λ (qs : List Literal). matches ar (literalsIn (drop termEnd into)) T qs (known tab theta (k * mostPlaces)))
+      ap (λ (qs : List Literal). matches ar (literalsIn (drop firstMinimum into)) T qs (known tab theta (k * mostPlaces)))
       (ap (λ (m : ℕ). segment ord m (length ord)) e ∙ segment-end ord (length ord));
   failed = λ q z. not-failed q z;
   within = λ q z. not-failed q z;

@@ -10,7 +10,7 @@ use lib.Dec.{eqb}
 use borrow.Author.Tests.{eqb-true, eqb-false, eq-eqb}
 use Rattle.basics.specs.Tests.{and-left, and-right, Flag, isTrue, isFalse, flag}
 use Rattle.basics.specs.Members.{clash}
-use Rattle.label.specs.Limits.{termEnd}
+use Rattle.label.specs.Limits.{firstMinimum}
 use Rattle.label.specs.Labels.{predicateOf}
 use Rattle.paths.specs.Paths.{Literal}
 use Rattle.matcher.specs.Search.{literalAt, literalsIn, isEquality, alike, intoCount, intoAt}
@@ -29,16 +29,17 @@ drop-length zero xs = omega arith
 drop-length (suc n) [] = omega arith
 drop-length (suc n) (x ∷ xs) = omega (arith, drop-length n xs)
 
-pub into-mem : (into : List ℕ) (i : ℕ) → i < intoCount into → List·Memᴰ (literalAt (intoAt into i)) (literalsIn (drop termEnd into))
+pub into-mem : (into : List ℕ) (i : ℕ) → i < intoCount into → List·Memᴰ (literalAt (intoAt into i)) (literalsIn (drop firstMinimum into))
 unfolding literalsIn
 into-mem into i h =
-    subst (λ (y : ℕ). List·Memᴰ (literalAt y) (map literalAt (drop termEnd into))) (getD-drop termEnd into i 0) (mem-at literalAt (drop termEnd into) i (omega (arith, drop-length termEnd into)))
+    subst (λ (y : ℕ). List·Memᴰ (literalAt y) (map literalAt (drop firstMinimum into))) (getD-drop firstMinimum into i 0)
+    (mem-at literalAt (drop firstMinimum into) i (omega (arith, drop-length firstMinimum into)))
 
-pub mem-into : (into : List ℕ) (m : Literal) → List·Memᴰ m (literalsIn (drop termEnd into)) → (i : ℕ) × (i < intoCount into) × (m ≡ literalAt (intoAt into i))
+pub mem-into : (into : List ℕ) (m : Literal) → List·Memᴰ m (literalsIn (drop firstMinimum into)) → (i : ℕ) × (i < intoCount into) × (m ≡ literalAt (intoAt into i))
 unfolding literalsIn
 mem-into into m w =
-    let r = at-mem literalAt (drop termEnd into) m w in
-    (r .0, omega (arith, r .1, drop-length termEnd into), r .2 ∙ ap literalAt (getD-drop termEnd into (r .0) 0))
+    let r = at-mem literalAt (drop firstMinimum into) m w in
+    (r .0, omega (arith, r .1, drop-length firstMinimum into), r .2 ∙ ap literalAt (getD-drop firstMinimum into (r .0) 0))
 
 -- one predicate and one sign
 pub alike-is : (x y : ℕ) → alike x y ≡ true → (predicateOf (x / 2) ≡ predicateOf (y / 2)) × (eqb (x % 2) 1 ≡ eqb (y % 2) 1)

@@ -1,7 +1,6 @@
 -- Marking the terms of literals, and the tables that a search starts from.
 use mathlib.Core.Path.{_≡_, refl, sym, ap, ap₂, subst, _∙_}
 use mathlib.Core.Logic.{_⊎_, inl, inr}
-use mathlib.Core.Bool.{true}
 use mathlib.Core.List.{List, [], _∷_, List·Memᴰ, List·Memᴰ·head, List·Memᴰ·tail}
 use Prim.Native.Nat.{ℕ, _+_, _-_, _/_, _≤_, _<_}
 use native.Mathlib.Omega.{arith}
@@ -9,33 +8,33 @@ use native.Mathlib.Numerals.{add-one}
 use lib.ListN.{length, getD, set, drop, length-set}
 use lib.Seq.{getD-set-same, getD-set-other, drop-set-lt, getD-drop}
 use Rattle.basics.specs.Tests.{Cmp, cmp, below, equal, above}
-use Rattle.label.specs.Limits.{termEnd, firstVariable, mostPlaces}
-use Rattle.label.specs.Labels.{areArities, isLabel, predicateOf, placeAt}
+use Rattle.label.specs.Limits.{firstMinimum, firstVariable, mostPlaces}
+use Rattle.label.specs.Labels.{predicateOf, placeAt}
 use Rattle.label.specs.ArityLaws.{arity-most}
 use Rattle.label.proofs.CodeLaws.{under-all}
 use Rattle.listing.specs.Used.{marked}
 use Rattle.paths.specs.Routes.{InRange}
 use Rattle.matcher.specs.Search.{along, late, Unplaced}
 use Rattle.matcher.specs.Stored.{termsOfCode, Markable, Unmarked, Marking}
-use Rattle.paths.specs.PathLaws.{label-range}
+use Rattle.paths.specs.PathLaws.{range-terms}
 use Rattle.matcher.proofs.AlongLaws.{along-suc, marked-snoc}
-use Rattle.matcher.proofs.TermLaws.{terms-along, in-place}
+use Rattle.matcher.proofs.TermLaws.{terms-along}
 
 -- ===== Marks after terms were marked =====
 abbrev AllTerms : List ℕ → Type 0
-AllTerms ts = (t : ℕ) → List·Memᴰ t ts → t < termEnd
+AllTerms ts = (t : ℕ) → List·Memᴰ t ts → t < firstMinimum
 
-code-terms : (ar : List ℕ) (x : ℕ) → areArities ar ≡ true → isLabel ar (x / 2) ≡ true → AllTerms (termsOfCode ar x)
+code-terms : (ar : List ℕ) (x : ℕ) → InRange firstMinimum (x / 2) → AllTerms (termsOfCode ar x)
 unfolding termsOfCode
-code-terms ar x g e t w = let p = in-place ar (x / 2) g t w in subst (λ (v : ℕ). v < termEnd) (sym (p .2)) (label-range ar (x / 2) e .places (p .0) (p .1))
+code-terms ar x r = range-terms firstMinimum ar (x / 2) r
 
 pub length-marked : (ts ms : List ℕ) → length (marked ts ms) ≡ length ms
 length-marked [] ms = refl
 length-marked (t ∷ ts) ms = length-marked ts (set ms t 1) ∙ length-set ms t 1
 
-drop-marked : (ts ms : List ℕ) → AllTerms ts → drop termEnd (marked ts ms) ≡ drop termEnd ms
+drop-marked : (ts ms : List ℕ) → AllTerms ts → drop firstMinimum (marked ts ms) ≡ drop firstMinimum ms
 drop-marked [] ms h = refl
-drop-marked (t ∷ ts) ms h = drop-marked ts (set ms t 1) (λ u m. h u (List·Memᴰ·tail m)) ∙ drop-set-lt termEnd ms t 1 (h t (List·Memᴰ·head refl))
+drop-marked (t ∷ ts) ms h = drop-marked ts (set ms t 1) (λ u m. h u (List·Memᴰ·tail m)) ∙ drop-set-lt firstMinimum ms t 1 (h t (List·Memᴰ·head refl))
 
 -- a mark that is set stays
 pub marked-stays : (ts ms : List ℕ) (t : ℕ) → t < length ms → 0 < getD ms t 0 → 0 < getD (marked ts ms) t 0
@@ -76,7 +75,7 @@ pub places-start : (ms : List ℕ) (l n : ℕ) → MarkingPlaces ms l n ms 0
 unfolding along
 places-start ms l n = record { most = omega arith; is = refl }
 
-pub places-term : {l n k t : ℕ} → InRange l → n ≤ mostPlaces → k < n → t ≡ placeAt l k → t < termEnd
+pub places-term : {l n k t : ℕ} → InRange firstMinimum l → n ≤ mostPlaces → k < n → t ≡ placeAt l k → t < firstMinimum
 places-term {k = k} r h q e = omega (arith, r .places k (omega arith))
 
 pub places-next : {ms₀ : List ℕ} {l n : ℕ} {ms : List ℕ} {k t : ℕ} → MarkingPlaces ms₀ l n ms k → k < n → t ≡ placeAt l k → MarkingPlaces ms₀ l n (set ms t 1) (k + 1)
@@ -94,11 +93,8 @@ places-length {ms₀} {l} {k = k} m = ap length (m .is) ∙ length-marked (along
 
 -- ===== mark_literal =====
 module _ {ar ms : List ℕ} {x : ℕ} (m : Markable ar ms x) where
-  pub literal-range : InRange (x / 2)
-  literal-range = label-range ar (x / 2) (m .label)
-
   pub predicate-within : {p : ℕ} → p ≡ predicateOf (x / 2) → p < length ar
-  predicate-within e = omega (arith, literal-range .predicate, under-all ar (sym (m .arities)) refl)
+  predicate-within e = omega (arith, m .range .predicate, under-all ar (sym (m .arities)) refl)
 
   pub literal-few : {p : ℕ} → p ≡ predicateOf (x / 2) → getD ar p 0 ≤ mostPlaces
   literal-few {p} e = omega (arith, arity-most ar p (m .arities))
@@ -114,16 +110,16 @@ module _ {ar out₀ : List ℕ} {n : ℕ} (u : Unmarked ar out₀ n) where
   marking-start = record { length-kept = refl; behind = refl; has = λ j t h. absurd (omega arith); of = λ t h k. absurd (omega (arith, u .clear t h)) }
 
   module _ {out : List ℕ} {i : ℕ} (m : Marking ar out₀ out i) (h : i < n) where
-    pub marking-room : termEnd + i < length out
+    pub marking-room : firstMinimum + i < length out
     marking-room = omega (arith, u .room, m .length-kept)
 
-    same-code : getD out (termEnd + i) 0 ≡ getD out₀ (termEnd + i) 0
-    same-code = sym (getD-drop termEnd out i 0) ∙ ap (λ (xs : List ℕ). getD xs i 0) (m .behind) ∙ getD-drop termEnd out₀ i 0
+    same-code : getD out (firstMinimum + i) 0 ≡ getD out₀ (firstMinimum + i) 0
+    same-code = sym (getD-drop firstMinimum out i 0) ∙ ap (λ (xs : List ℕ). getD xs i 0) (m .behind) ∙ getD-drop firstMinimum out₀ i 0
 
-    module _ {x : ℕ} (e : x ≡ getD out (termEnd + i) 0) where
+    module _ {x : ℕ} (e : x ≡ getD out (firstMinimum + i) 0) where
       pub marking-markable : Markable ar out x
       marking-markable =
-          record { arities = u .arities; room = omega (arith, u .room, m .length-kept); label = rw (e, same-code) (u .labels i h) }
+          record { arities = u .arities; room = omega (arith, u .room, m .length-kept); range = rw (e, same-code) (u .ranged i h) }
 
       pub marking-next : {out′ : List ℕ} → out′ ≡ marked (termsOfCode ar x) out → Marking ar out₀ out′ (i + 1)
       marking-next {out′} q = subst (λ (xs : List ℕ). Marking ar out₀ xs (i + 1)) (sym (q ∙ ap (λ (y : ℕ). marked (termsOfCode ar y) out) (e ∙ same-code))) (record {
@@ -134,20 +130,20 @@ module _ {ar out₀ : List ℕ} {n : ℕ} (u : Unmarked ar out₀ n) where
       })
         where
           ts : List ℕ
-          ts = termsOfCode ar (getD out₀ (termEnd + i) 0)
+          ts = termsOfCode ar (getD out₀ (firstMinimum + i) 0)
 
-          small : (j t : ℕ) → j < n → List·Memᴰ t (termsOfCode ar (getD out₀ (termEnd + j) 0)) → t < termEnd
-          small j t k = code-terms ar (getD out₀ (termEnd + j) 0) (u .arities) (u .labels j k) t
+          small : (j t : ℕ) → j < n → List·Memᴰ t (termsOfCode ar (getD out₀ (firstMinimum + j) 0)) → t < firstMinimum
+          small j t k = code-terms ar (getD out₀ (firstMinimum + j) 0) (u .ranged j k) t
 
-          has : (j t : ℕ) → j < i + 1 → List·Memᴰ t (termsOfCode ar (getD out₀ (termEnd + j) 0)) → Cmp j i → 0 < getD (marked ts out) t 0
+          has : (j t : ℕ) → j < i + 1 → List·Memᴰ t (termsOfCode ar (getD out₀ (firstMinimum + j) 0)) → Cmp j i → 0 < getD (marked ts out) t 0
           has j t k w (below c) = marked-stays ts out t (omega (arith, small j t (omega arith) w, u .room, m .length-kept)) (m .has j t c w)
           has j t k w (equal c) =
               marked-set ts out t (omega (arith, small j t (omega arith) w, u .room, m .length-kept))
-              (subst (λ (l : ℕ). List·Memᴰ t (termsOfCode ar (getD out₀ (termEnd + l) 0))) c w)
+              (subst (λ (l : ℕ). List·Memᴰ t (termsOfCode ar (getD out₀ (firstMinimum + l) 0))) c w)
           has j t k w (above c) = absurd (omega arith)
 
-          of : (t : ℕ) → t < termEnd → (0 < getD out t 0) ⊎ List·Memᴰ t ts
-              → (j : ℕ) × (j < i + 1) × List·Memᴰ t (termsOfCode ar (getD out₀ (termEnd + j) 0))
+          of : (t : ℕ) → t < firstMinimum → (0 < getD out t 0) ⊎ List·Memᴰ t ts
+              → (j : ℕ) × (j < i + 1) × List·Memᴰ t (termsOfCode ar (getD out₀ (firstMinimum + j) 0))
           of t k (inl w) = let r = m .of t k w in (r .0, omega (arith, r .1), r .2)
           of t k (inr w) = (i, omega arith, w)
 
@@ -159,27 +155,27 @@ module _ {ar out₀ : List ℕ} {n : ℕ} (u : Unmarked ar out₀ n) where
 -- the marks before t are copied
 pub record Copying (marks tab₀ tab : List ℕ) (t : ℕ) : Type 0 where
   pub length-kept : length tab ≡ length tab₀
-  pub most : t ≤ termEnd
-  pub same : (v : ℕ) → v < t → getD tab (termEnd + v) 0 ≡ getD marks v 0
+  pub most : t ≤ firstMinimum
+  pub same : (v : ℕ) → v < t → getD tab (firstMinimum + v) 0 ≡ getD marks v 0
 
 module _ {marks tab₀ : List ℕ} where
   pub copying-start : Copying marks tab₀ tab₀ 0
   copying-start = record { length-kept = refl; most = omega arith; same = λ v h. absurd (omega arith) }
 
-  pub copying-next : {tab : List ℕ} {t : ℕ} → termEnd + termEnd ≤ length tab₀ → Copying marks tab₀ tab t → t < termEnd
-      → Copying marks tab₀ (set tab (termEnd + t) (getD marks t 0)) (t + 1)
+  pub copying-next : {tab : List ℕ} {t : ℕ} → firstMinimum + firstMinimum ≤ length tab₀ → Copying marks tab₀ tab t → t < firstMinimum
+      → Copying marks tab₀ (set tab (firstMinimum + t) (getD marks t 0)) (t + 1)
   copying-next {tab} {t} room c h = record {
-    length-kept = length-set tab (termEnd + t) (getD marks t 0) ∙ c .length-kept;
+    length-kept = length-set tab (firstMinimum + t) (getD marks t 0) ∙ c .length-kept;
     most = omega arith;
     same = λ v k. go v k (cmp v t);
   }
     where
-      go : (v : ℕ) → v < t + 1 → Cmp v t → getD (set tab (termEnd + t) (getD marks t 0)) (termEnd + v) 0 ≡ getD marks v 0
-      go v k (below q) = getD-set-other tab (termEnd + t) (termEnd + v) (getD marks t 0) 0 (omega arith) ∙ c .same v q
-      go v k (equal q) = rw q (getD-set-same tab (termEnd + t) (getD marks t 0) 0 (omega (arith, c .length-kept)))
+      go : (v : ℕ) → v < t + 1 → Cmp v t → getD (set tab (firstMinimum + t) (getD marks t 0)) (firstMinimum + v) 0 ≡ getD marks v 0
+      go v k (below q) = getD-set-other tab (firstMinimum + t) (firstMinimum + v) (getD marks t 0) 0 (omega arith) ∙ c .same v q
+      go v k (equal q) = rw q (getD-set-same tab (firstMinimum + t) (getD marks t 0) 0 (omega (arith, c .length-kept)))
       go v k (above q) = absurd (omega arith)
 
-  pub copying-end : {tab : List ℕ} {t : ℕ} → Copying marks tab₀ tab t → termEnd ≤ t → (v : ℕ) → v < termEnd → getD tab (termEnd + v) 0 ≡ getD marks v 0
+  pub copying-end : {tab : List ℕ} {t : ℕ} → Copying marks tab₀ tab t → firstMinimum ≤ t → (v : ℕ) → v < firstMinimum → getD tab (firstMinimum + v) 0 ≡ getD marks v 0
   copying-end c h v k = c .same v (omega arith)
 
 -- ===== keep_terms =====
@@ -187,13 +183,13 @@ module _ {marks tab₀ : List ℕ} where
 -- the terms before t become themselves
 pub record Keeping (theta₀ theta : List ℕ) (t : ℕ) : Type 0 where
   pub length-kept : length theta ≡ length theta₀
-  pub most : t ≤ termEnd
+  pub most : t ≤ firstMinimum
   pub same : (v : ℕ) → v < t → getD theta v 0 ≡ v
 
 pub keeping-start : (theta : List ℕ) → Keeping theta theta 0
 keeping-start theta = record { length-kept = refl; most = omega arith; same = λ v h. absurd (omega arith) }
 
-pub keeping-next : {theta₀ theta : List ℕ} {t : ℕ} → termEnd ≤ length theta₀ → Keeping theta₀ theta t → t < termEnd → Keeping theta₀ (set theta t t) (t + 1)
+pub keeping-next : {theta₀ theta : List ℕ} {t : ℕ} → firstMinimum ≤ length theta₀ → Keeping theta₀ theta t → t < firstMinimum → Keeping theta₀ (set theta t t) (t + 1)
 keeping-next {theta₀} {theta} {t} room c h = record { length-kept = length-set theta t t ∙ c .length-kept; most = omega arith; same = λ v k. go v k (cmp v t) }
   where
     go : (v : ℕ) → v < t + 1 → Cmp v t → getD (set theta t t) v 0 ≡ v
@@ -201,7 +197,7 @@ keeping-next {theta₀} {theta} {t} room c h = record { length-kept = length-set
     go v k (equal q) = rw q (getD-set-same theta t t 0 (omega (arith, c .length-kept)))
     go v k (above q) = absurd (omega arith)
 
-pub keeping-end : {theta₀ theta : List ℕ} {t : ℕ} → Keeping theta₀ theta t → termEnd ≤ t → (v : ℕ) → v < termEnd → getD theta v 0 ≡ v
+pub keeping-end : {theta₀ theta : List ℕ} {t : ℕ} → Keeping theta₀ theta t → firstMinimum ≤ t → (v : ℕ) → v < firstMinimum → getD theta v 0 ≡ v
 keeping-end c h v k = c .same v (omega arith)
 
 -- ===== unplace =====
@@ -212,12 +208,12 @@ pub record Unplacing (tab₀ tab : List ℕ) (v : ℕ) : Type 0 where
   pub most : v ≤ firstVariable
   pub fixed : (u : ℕ) → u < v → getD tab u 0 ≡ 0
   pub free : (u : ℕ) → u < v → getD tab (firstVariable + u) 0 ≡ late
-  pub kept : (u : ℕ) → termEnd ≤ u → getD tab u 0 ≡ getD tab₀ u 0
+  pub kept : (u : ℕ) → firstMinimum ≤ u → getD tab u 0 ≡ getD tab₀ u 0
 
 pub unplacing-start : (tab : List ℕ) → Unplacing tab tab 0
 unplacing-start tab = record { length-kept = refl; most = omega arith; fixed = λ u h. absurd (omega arith); free = λ u h. absurd (omega arith); kept = λ u h. refl }
 
-pub unplacing-next : {tab₀ tab : List ℕ} {v : ℕ} → termEnd + termEnd ≤ length tab₀ → Unplacing tab₀ tab v → v < firstVariable
+pub unplacing-next : {tab₀ tab : List ℕ} {v : ℕ} → firstMinimum + firstMinimum ≤ length tab₀ → Unplacing tab₀ tab v → v < firstVariable
     → Unplacing tab₀ (set (set tab v 0) (firstVariable + v) late) (v + 1)
 unplacing-next {tab₀} {tab} {v} room c h = record {
   length-kept = length-set one (firstVariable + v) late ∙ length-set tab v 0 ∙ c .length-kept;
@@ -243,8 +239,8 @@ unplacing-next {tab₀} {tab} {v} room c h = record {
         ∙ getD-set-same one (firstVariable + v) late 0 (omega (arith, length-set tab v 0, c .length-kept))
     free u k (above q) = absurd (omega arith)
 
-pub unplacing-end : {tab₀ tab : List ℕ} {v : ℕ} → termEnd + termEnd ≤ length tab₀ → Unplacing tab₀ tab v → firstVariable ≤ v → Unplaced tab
+pub unplacing-end : {tab₀ tab : List ℕ} {v : ℕ} → firstMinimum + firstMinimum ≤ length tab₀ → Unplacing tab₀ tab v → firstVariable ≤ v → Unplaced tab
 unplacing-end {tab₀} {tab} {v} room c h = record { room = omega (arith, c .length-kept); fixed = λ u k. c .fixed u (omega arith); free = free }
   where
-    free : (u : ℕ) → firstVariable ≤ u → u < termEnd → getD tab u 0 ≡ late
+    free : (u : ℕ) → firstVariable ≤ u → u < firstMinimum → getD tab u 0 ≡ late
     free u l k = let e : firstVariable + (u - firstVariable) ≡ u = omega arith in subst (λ (i : ℕ). getD tab i 0 ≡ late) e (c .free (u - firstVariable) (omega arith))

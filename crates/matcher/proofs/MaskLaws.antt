@@ -9,7 +9,7 @@ use lib.Bits.{bitAnd, bitOr, and-step, or-step, shifted-half, shifted-even}
 use lib.Dec.{eqb}
 use borrow.Author.Tests.{eqb-true}
 use Rattle.basics.specs.Tests.{Cmp, cmp, below, equal, above}
-use Rattle.label.specs.Limits.{firstVariable, variableCount, termEnd, mostPlaces}
+use Rattle.label.specs.Limits.{firstVariable, variableCount, firstMinimum, mostPlaces}
 use Rattle.label.specs.Labels.{placeAt}
 use Rattle.matcher.specs.Failure.{bitAt, In, One, Variables}
 
@@ -110,7 +110,7 @@ zero-none (suc i) h = zero-none i h
 pub one-none : (t : ℕ) → t < firstVariable → One t 0
 one-none t h = record { has = λ i e. absurd (omega arith); only = λ i e. absurd (zero-none i e) }
 
-pub one-some : (t : ℕ) → firstVariable ≤ t → t < termEnd → One t (1 * 2 ^ (t - firstVariable) % 2 ^ 64)
+pub one-some : (t : ℕ) → firstVariable ≤ t → t < firstMinimum → One t (1 * 2 ^ (t - firstVariable) % 2 ^ 64)
 one-some t f h = record {
   has = λ i e. let o : t - firstVariable ≡ i = omega arith in ap (λ (m : ℕ). bitAt m i) (exact ∙ ap (λ (j : ℕ). 1 * 2 ^ j) o) ∙ power-in i;
   only = λ i e. let o = power-bit (t - firstVariable) i (ap (λ (m : ℕ). bitAt m i) (sym exact) ∙ e) in omega arith;

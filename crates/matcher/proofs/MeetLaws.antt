@@ -7,7 +7,7 @@ use native.Mathlib.Omega.{arith}
 use lib.ListN.{getD, drop, length-map}
 use lib.Dec.{eqb}
 use Rattle.basics.specs.Members.{clash}
-use Rattle.label.specs.Limits.{termEnd, termBase, mostPlaces}
+use Rattle.label.specs.Limits.{firstMinimum, termBase, mostPlaces}
 use Rattle.label.specs.Labels.{areArities, isLabel, predicateOf, atomFrom, unpacked, termsOf, packed, equates, testOf}
 use Rattle.label.specs.ArityLaws.{terms-length, arity-two}
 use Rattle.label.specs.Renamings.{moved}
@@ -69,15 +69,15 @@ module _ (ar T ord into tab : List ℕ) (set : Setting ar T ord into tab) (x : �
 
     -- the (replacedBy theta) is the label k: it is met exactly if k is found with the sign of x
     module _ (k : ℕ) (is : moved ar (replacedBy theta) (x / 2) ≡ Is (record { packed = k })) where
-      found-matched : (r : Bool) → Finds into (k * 2 + x % 2) r → r ≡ true → Matched ar (replacedBy theta) (literalsIn (drop termEnd into)) (literalAt x)
+      found-matched : (r : Bool) → Finds into (k * 2 + x % 2) r → r ≡ true → Matched ar (replacedBy theta) (literalsIn (drop firstMinimum into)) (literalAt x)
       unfolding literalAt
       found-matched r f e =
           let w = f .yes e in
           let h : intoAt into (w .0) / 2 ≡ k = ap (λ (y : ℕ). y / 2) (w .2) ∙ omega arith in
           let g : intoAt into (w .0) % 2 ≡ x % 2 = ap (λ (y : ℕ). y % 2) (w .2) ∙ omega arith in
-          found k is (subst (λ (m : Literal). List·Memᴰ m (literalsIn (drop termEnd into))) (λ i. record { label = h i; sign = eqb (g i) 1 }) (into-mem into (w .0) (w .1)))
+          found k is (subst (λ (m : Literal). List·Memᴰ m (literalsIn (drop firstMinimum into))) (λ i. record { label = h i; sign = eqb (g i) 1 }) (into-mem into (w .0) (w .1)))
 
-      matched-found : (r : Bool) → Finds into (k * 2 + x % 2) r → r ≡ false → Matched ar (replacedBy theta) (literalsIn (drop termEnd into)) (literalAt x) → ⊥
+      matched-found : (r : Bool) → Finds into (k * 2 + x % 2) r → r ≡ false → Matched ar (replacedBy theta) (literalsIn (drop firstMinimum into)) (literalAt x) → ⊥
       unfolding literalAt
       matched-found r f e (plain q z) = always-is k (sym q ∙ is)
       matched-found r f e (found y q m) =
@@ -91,8 +91,8 @@ module _ (ar T ord into tab : List ℕ) (set : Setting ar T ord into tab) (x : �
           f .no e (s .0) (s .1) c
 
     pub record Meets (r : Bool) : Type 0 where
-      pub yes : r ≡ true → Matched ar (replacedBy theta) (literalsIn (drop termEnd into)) (literalAt x)
-      pub no : r ≡ false → Matched ar (replacedBy theta) (literalsIn (drop termEnd into)) (literalAt x) → ⊥
+      pub yes : r ≡ true → Matched ar (replacedBy theta) (literalsIn (drop firstMinimum into)) (literalAt x)
+      pub no : r ≡ false → Matched ar (replacedBy theta) (literalsIn (drop firstMinimum into)) (literalAt x) → ⊥
 
     equal-us : isEquality x ≡ true → us ≡ imageOf theta (x / 2) 0 ∷ imageOf theta (x / 2) 1 ∷ []
     unfolding us
@@ -121,7 +121,7 @@ module _ (ar T ord into tab : List ℕ) (set : Setting ar T ord into tab) (x : �
     unfolding literalAt
     meets {r} (truth h e q) = record { yes = λ z. plain (equal-asked h ∙ e) (sym q ∙ z); no = λ z m. not-plain z m }
       where
-        not-plain : r ≡ false → Matched ar (replacedBy theta) (literalsIn (drop termEnd into)) (literalAt x) → ⊥
+        not-plain : r ≡ false → Matched ar (replacedBy theta) (literalsIn (drop firstMinimum into)) (literalAt x) → ⊥
         not-plain z (plain w s) = clash s (sym q ∙ z)
         not-plain z (found y w m) = always-is y (sym (equal-asked h ∙ e) ∙ w)
     meets {r} (matched y h e f) =

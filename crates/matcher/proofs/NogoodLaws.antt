@@ -7,7 +7,7 @@ use Prim.Native.Nat.{ℕ, _/_, _<_}
 use native.Mathlib.Omega.{arith}
 use lib.ListN.{drop}
 use borrow.Author.Tests.{eq-eqb, lt-leb}
-use Rattle.label.specs.Limits.{firstVariable, termEnd, mostPlaces}
+use Rattle.label.specs.Limits.{firstVariable, firstMinimum, mostPlaces}
 use Rattle.label.specs.Terms.{isVariable}
 use Rattle.label.specs.Labels.{isLabel, placeAt, termsOf, unpacked}
 use Rattle.paths.specs.Paths.{Literal}
@@ -76,7 +76,7 @@ pub list-takes : (σ : ℕ → ℕ) (l : ℕ) (w : Way) → map σ (placesIn l) 
 list-takes σ l w e = along-equal (λ k. σ (placeAt l k)) (wayPlace w) mostPlaces (sym (along-map σ (placeAt l) mostPlaces) ∙ e)
 
 -- a match takes literal x by one of its ways
-module _ (ar T ord into tab : List ℕ) (s : Setting ar T ord into tab) (qs : List Literal) (z : Solves ar (literalsIn (drop termEnd into)) T qs start) where
+module _ (ar T ord into tab : List ℕ) (s : Setting ar T ord into tab) (qs : List Literal) (z : Solves ar (literalsIn (drop firstMinimum into)) T qs start) where
   pub constant-stays : (v : ℕ) → v < firstVariable → z .σ v ≡ v
   unfolding start isVariable
   constant-stays v h = z .extends .known v v (start-is v h)
@@ -91,7 +91,7 @@ module _ (ar T ord into tab : List ℕ) (s : Setting ar T ord into tab) (qs : Li
     pub taken : WayOf ar T ord into tab s x label (map (z .σ) (termsOf ar (unpacked (x / 2))))
     unfolding literalAt
     taken = way-out ar T ord into tab s x label (map (z .σ) (termsOf ar (unpacked (x / 2))))
-        (target-complete ar (s .search .arities) (z .σ) (literalsIn (drop termEnd into)) T (literalAt x) (s .search .small) (z .image (literalAt x) m) (z .matched (literalAt x) m))
+        (target-complete ar (s .search .arities) (z .σ) (literalsIn (drop firstMinimum into)) T (literalAt x) (s .search .small) (z .image (literalAt x) m) (z .matched (literalAt x) m))
 
     pub taken-is : (w : WayOf ar T ord into tab s x label (map (z .σ) (termsOf ar (unpacked (x / 2))))) → Takes (z .σ) (x / 2) (w .way)
     taken-is w =
@@ -102,11 +102,11 @@ module _ (ar T ord into tab : List ℕ) (s : Setting ar T ord into tab) (qs : Li
 
     -- a literal whose terms are all known and that is not met: no match agrees with theta on its terms
     pub unmet : (theta : List ℕ) → ((t : ℕ) → List·Memᴰ t (termsOf ar (unpacked (x / 2))) → z .σ t ≡ replacedBy theta t)
-        → (Matched ar (replacedBy theta) (literalsIn (drop termEnd into)) (literalAt x) → ⊥) → ⊥
+        → (Matched ar (replacedBy theta) (literalsIn (drop firstMinimum into)) (literalAt x) → ⊥) → ⊥
     unfolding literalAt
     unmet theta h f =
-        f (target-sound ar (s .search .arities) (replacedBy theta) (literalsIn (drop termEnd into)) T (literalAt x) (s .search .labels)
-        (subst (λ (us : List ℕ). List·Memᴰ us (targets ar (literalsIn (drop termEnd into)) T (literalAt x)))
+        f (target-sound ar (s .search .arities) (replacedBy theta) (literalsIn (drop firstMinimum into)) T (literalAt x) (s .search .labels)
+        (subst (λ (us : List ℕ). List·Memᴰ us (targets ar (literalsIn (drop firstMinimum into)) T (literalAt x)))
         (map-same (z .σ) (replacedBy theta) (termsOf ar (unpacked (x / 2))) h)
-        (target-complete ar (s .search .arities) (z .σ) (literalsIn (drop termEnd into)) T (literalAt x) (s .search .small) (z .image (literalAt x) m)
+        (target-complete ar (s .search .arities) (z .σ) (literalsIn (drop firstMinimum into)) T (literalAt x) (s .search .small) (z .image (literalAt x) m)
         (z .matched (literalAt x) m))))

@@ -10,7 +10,7 @@ use lib.Dec.{ltb, leb}
 use borrow.Author.Tests.{lt-leb, le-leb, ltb-false}
 use Rattle.basics.specs.Tests.{Cmp, cmp, below, equal, above}
 use Rattle.listing.specs.Used.{marked}
-use Rattle.label.specs.Limits.{firstVariable, termEnd, mostPlaces}
+use Rattle.label.specs.Limits.{firstVariable, firstMinimum, mostPlaces}
 use Rattle.label.specs.Labels.{placeAt}
 use Rattle.paths.specs.Routes.{InRange, AllInRange}
 use Rattle.matcher.specs.Search.{placesIn, anyOf}
@@ -191,14 +191,14 @@ module _ {ord seen : List ℕ} {k at : ℕ} (g : Takable ord seen k at) where
       each i j a b (above c) = absurd (omega arith)
 
 -- the literals in another order are still in range
-pub reordered-range : {k : ℕ} {ord ord′ : List ℕ} → Reordered k ord ord′ → AllInRange ord → AllInRange ord′
+pub reordered-range : {k : ℕ} {ord ord′ : List ℕ} → Reordered k ord ord′ → AllInRange firstMinimum ord → AllInRange firstMinimum ord′
 reordered-range {k} {ord} {ord′} r g = record { each = λ i h. at i (omega (arith, r .length-same)) (cmp i k) }
   where
-    later : (i : ℕ) → k ≤ i → i < length ord → InRange (getD ord′ i 0 / 2)
-    later i a h = let x = r .back i a h in subst (λ (y : ℕ). InRange (y / 2)) (sym (x .3)) (g .each (x .0) (x .2))
+    later : (i : ℕ) → k ≤ i → i < length ord → InRange firstMinimum (getD ord′ i 0 / 2)
+    later i a h = let x = r .back i a h in subst (λ (y : ℕ). InRange firstMinimum (y / 2)) (sym (x .3)) (g .each (x .0) (x .2))
 
-    at : (i : ℕ) → i < length ord → Cmp i k → InRange (getD ord′ i 0 / 2)
-    at i h (below c) = subst (λ (y : ℕ). InRange (y / 2)) (sym (r .front i c)) (g .each i h)
+    at : (i : ℕ) → i < length ord → Cmp i k → InRange firstMinimum (getD ord′ i 0 / 2)
+    at i h (below c) = subst (λ (y : ℕ). InRange firstMinimum (y / 2)) (sym (r .front i c)) (g .each i h)
     at i h (equal c) = later i (omega arith) h
     at i h (above c) = later i (omega arith) h
 
@@ -236,7 +236,7 @@ reordered-after {k} {e} {ord} {ord₁} {ord₂} h r s = record {
 pub record Parting (ord₀ : List ℕ) (k : ℕ) (ord seen : List ℕ) (e : ℕ) : Type 0 where
   pub more : k < e
   pub most : e ≤ length ord₀
-  pub ranged : AllInRange ord
+  pub ranged : AllInRange firstMinimum ord
   pub reordered : Reordered k ord₀ ord
   pub seen-to : SeenTo ord seen e
 
@@ -300,7 +300,7 @@ getD-zeros zero t = refl
 getD-zeros (suc m) zero = refl
 getD-zeros (suc m) (suc t) = getD-zeros m t
 
-pub seen-start : (ord : List ℕ) (m : ℕ) → termEnd ≤ m → SeenTo ord (replicate m 0) 0 × Strangers ord (replicate m 0) 0
+pub seen-start : (ord : List ℕ) (m : ℕ) → firstMinimum ≤ m → SeenTo ord (replicate m 0) 0 × Strangers ord (replicate m 0) 0
 seen-start ord m h = (
   record { room = omega (arith, length-replicate {A = ℕ} m 0); each = λ i j a b. absurd (omega arith) },
   record { each = λ i a b. zero-shares (replicate m 0) (getD-zeros m) (getD ord i 0) },

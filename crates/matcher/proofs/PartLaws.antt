@@ -8,7 +8,7 @@ use lib.ListN.{length, getD, take, drop, replicate, length-take, length-drop, le
 use lib.Seq.{take-add, take-all, getD-take, getD-drop}
 use Rattle.basics.specs.Tests.{Flag, isTrue, isFalse, flag, Cmp, cmp, below, equal, above}
 use Rattle.basics.specs.Members.{clash}
-use Rattle.label.specs.Limits.{termEnd}
+use Rattle.label.specs.Limits.{firstMinimum}
 use Rattle.label.specs.Labels.{unpacked, termsOf}
 use Rattle.paths.specs.Paths.{Literal}
 use Rattle.cutting.specs.Match.{start, matches}
@@ -73,25 +73,25 @@ front-at ord k l n =
     (x .0, h, omega (arith, x .1, length-take k ord), x .2 ∙ ap literalAt (getD-take k ord (x .0) 0 h))
 
 -- a part's labels are in range
-pub part-range : (ord : List ℕ) (k m : ℕ) → AllInRange ord → AllInRange (take m (drop k ord))
+pub part-range : (ord : List ℕ) (k m : ℕ) → AllInRange firstMinimum ord → AllInRange firstMinimum (take m (drop k ord))
 part-range ord k m g = record { each = at }
   where
-    at : (i : ℕ) → i < length (take m (drop k ord)) → InRange (getD (take m (drop k ord)) i 0 / 2)
+    at : (i : ℕ) → i < length (take m (drop k ord)) → InRange firstMinimum (getD (take m (drop k ord)) i 0 / 2)
     at i h =
         let q : i < m = omega (arith, length-take m (drop k ord)) in
-        subst (λ (y : ℕ). InRange (y / 2)) (sym (getD-take m (drop k ord) i 0 q ∙ getD-drop k ord i 0))
+        subst (λ (y : ℕ). InRange firstMinimum (y / 2)) (sym (getD-take m (drop k ord) i 0 q ∙ getD-drop k ord i 0))
         (g .each (k + i) (omega (arith, length-take m (drop k ord), length-drop k ord)))
 
 -- fewer literals, and a table with the same marks
 setting-part : {ar T ord₀ into tab₀ : List ℕ} (xs tab : List ℕ) → Setting ar T ord₀ into tab₀ → Among xs ord₀
-    → ((v : ℕ) → termEnd ≤ v → getD tab v 0 ≡ getD tab₀ v 0) → Setting ar T xs into tab
+    → ((v : ℕ) → firstMinimum ≤ v → getD tab v 0 ≡ getD tab₀ v 0) → Setting ar T xs into tab
 setting-part {ar} {T} {ord₀} {into} {tab₀} xs tab s f k = record {
   search = s .search;
   labels = record { each = λ l m. s .labels .each l (f l m) };
   below = s .below;
   own = λ t m. let o = of-terms ar (literalsIn xs) t m in s .own t (in-terms ar (literalsIn ord₀) (o .0) t (f (o .0) (o .1)) (o .2));
-  has = λ t m. omega (arith, s .has t m, k (termEnd + t) (omega arith));
-  of = λ t h m. s .of t h (omega (arith, k (termEnd + t) (omega arith)));
+  has = λ t m. omega (arith, s .has t m, k (firstMinimum + t) (omega arith));
+  of = λ t h m. s .of t h (omega (arith, k (firstMinimum + t) (omega arith)));
 }
 
 -- ===== match_parts =====
@@ -103,13 +103,13 @@ pub record Parted (ord₀ into tab₀ theta₀ ord tab theta seen : List ℕ) (k
   pub ready : Ready ord into tab theta
   pub tab-count : length tab ≡ length tab₀
   pub theta-count : length theta ≡ length theta₀
-  pub seen-count : length seen ≡ termEnd
-  pub tab-kept : (v : ℕ) → termEnd ≤ v → getD tab v 0 ≡ getD tab₀ v 0
+  pub seen-count : length seen ≡ firstMinimum
+  pub tab-kept : (v : ℕ) → firstMinimum ≤ v → getD tab v 0 ≡ getD tab₀ v 0
   pub seen-to : SeenTo ord seen k
   pub strangers : Strangers ord seen k
-  pub so-far : (ar T : List ℕ) → Setting ar T ord₀ into tab₀ → matches ar (literalsIn (drop termEnd into)) T (literalsIn (take k ord)) start ≡ true
+  pub so-far : (ar T : List ℕ) → Setting ar T ord₀ into tab₀ → matches ar (literalsIn (drop firstMinimum into)) T (literalsIn (take k ord)) start ≡ true
 
-pub parted-start : {ord into tab theta : List ℕ} → Ready ord into tab theta → (m : ℕ) → m ≡ termEnd → Parted ord into tab theta ord tab theta (replicate m 0) 0
+pub parted-start : {ord into tab theta : List ℕ} → Ready ord into tab theta → (m : ℕ) → m ≡ firstMinimum → Parted ord into tab theta ord tab theta (replicate m 0) 0
 parted-start {ord} {into} {tab} {theta} g m e = let s = seen-start ord m (omega arith) in record {
   most = omega arith;
   reordered = record { length-same = refl; front = λ i h. refl; back = λ i a b. (i, a, b, refl); forth = λ i a b. (i, a, b, refl) };
@@ -130,8 +130,8 @@ module _ {ord₀ into tab₀ theta₀ ord tab theta seen : List ℕ} {k : ℕ} (
   pub parted-end : length ord ≤ k → PartsPost ord₀ into tab₀ true
   parted-end h = record {
     answer = λ ar T s.
-        sym (p .so-far ar T s) ∙ ap (λ (xs : List ℕ). matches ar (literalsIn (drop termEnd into)) T (literalsIn xs) start) (take-all k ord h)
-        ∙ matches-order ar (literalsIn (drop termEnd into)) T (s .search) (literalsIn ord) (literalsIn ord₀) start (reordered-in (p .reordered)) (reordered-out (p .reordered));
+        sym (p .so-far ar T s) ∙ ap (λ (xs : List ℕ). matches ar (literalsIn (drop firstMinimum into)) T (literalsIn xs) start) (take-all k ord h)
+        ∙ matches-order ar (literalsIn (drop firstMinimum into)) T (s .search) (literalsIn ord) (literalsIn ord₀) start (reordered-in (p .reordered)) (reordered-out (p .reordered));
   }
 
   module _ {e : ℕ} {ord′ seen′ : List ℕ} (t : PartTaken ord k e ord′ seen′) where
@@ -197,13 +197,13 @@ module _ {ord₀ into tab₀ theta₀ ord tab theta seen : List ℕ} {k : ℕ} (
 
     module _ {r : Bool} {tab′ theta′ : List ℕ} (a : PartPost (take (e - k) (drop k ord′)) into tab r tab′ theta′) where
       pub parted-fail : not r ≡ true → PartsPost ord₀ into tab₀ false
-      parted-fail q = record { answer = λ ar T s. go ar T s (flag (matches ar (literalsIn (drop termEnd into)) T (literalsIn ord₀) start)) }
+      parted-fail q = record { answer = λ ar T s. go ar T s (flag (matches ar (literalsIn (drop firstMinimum into)) T (literalsIn ord₀) start)) }
         where
-          go : (ar T : List ℕ) → Setting ar T ord₀ into tab₀ → Flag (matches ar (literalsIn (drop termEnd into)) T (literalsIn ord₀) start)
-              → false ≡ matches ar (literalsIn (drop termEnd into)) T (literalsIn ord₀) start
+          go : (ar T : List ℕ) → Setting ar T ord₀ into tab₀ → Flag (matches ar (literalsIn (drop firstMinimum into)) T (literalsIn ord₀) start)
+              → false ≡ matches ar (literalsIn (drop firstMinimum into)) T (literalsIn ord₀) start
           go ar T s (isFalse z) = sym z
           go ar T s (isTrue z) =
-              clash (matches-fewer ar (literalsIn (drop termEnd into)) T (s .search) (literalsIn ord₀) (literalsIn (take (e - k) (drop k ord′))) part-among z)
+              clash (matches-fewer ar (literalsIn (drop firstMinimum into)) T (s .search) (literalsIn ord₀) (literalsIn (take (e - k) (drop k ord′))) part-among z)
               (sym (a .answer ar T (part-setting ar T s)) ∙ untaken q)
 
       disjoint : (ar : List ℕ) (ls : List Literal) (T : List ℕ) (ok : Searchable ar ls T)
@@ -252,10 +252,10 @@ module _ {ord₀ into tab₀ theta₀ ord tab theta seen : List ℕ} {k : ℕ} (
               (ap literalAt (getD-take k ord (x .0) 0 (x .1)) ∙ sym (x .3 ∙ ap literalAt (t .reordered .front (x .0) (x .1))))
               (literal-at (take k ord) (x .0) (omega (arith, x .1, x .2, length-take k ord, t .reordered .length-same)))
 
-          so-far : (ar T : List ℕ) → Setting ar T ord₀ into tab₀ → matches ar (literalsIn (drop termEnd into)) T (literalsIn (take e ord′)) start ≡ true
+          so-far : (ar T : List ℕ) → Setting ar T ord₀ into tab₀ → matches ar (literalsIn (drop firstMinimum into)) T (literalsIn (take e ord′)) start ≡ true
           so-far ar T s =
-              ap (λ (qs : List Literal). matches ar (literalsIn (drop termEnd into)) T qs start) joined
-              ∙ matches-join ar (literalsIn (drop termEnd into)) T (s .search) (literalsIn (take k ord′)) (literalsIn (take (e - k) (drop k ord′)))
-              (disjoint ar (literalsIn (drop termEnd into)) T (s .search))
-              (matches-fewer ar (literalsIn (drop termEnd into)) T (s .search) (literalsIn (take k ord)) (literalsIn (take k ord′)) before (p .so-far ar T s))
+              ap (λ (qs : List Literal). matches ar (literalsIn (drop firstMinimum into)) T qs start) joined
+              ∙ matches-join ar (literalsIn (drop firstMinimum into)) T (s .search) (literalsIn (take k ord′)) (literalsIn (take (e - k) (drop k ord′)))
+              (disjoint ar (literalsIn (drop firstMinimum into)) T (s .search))
+              (matches-fewer ar (literalsIn (drop firstMinimum into)) T (s .search) (literalsIn (take k ord)) (literalsIn (take k ord′)) before (p .so-far ar T s))
               (sym (a .answer ar T (part-setting ar T s)) ∙ unleft q)

@@ -13,7 +13,7 @@ use lib.Dec.{eqb, ltb}
 use borrow.Author.Tests.{eqb-true}
 use Rattle.basics.specs.Tests.{Flag, isTrue, isFalse, flag, Cmp, cmp, below, equal, above}
 use Rattle.basics.specs.Members.{clash}
-use Rattle.label.specs.Limits.{firstVariable, termEnd, mostPlaces, equalityArity}
+use Rattle.label.specs.Limits.{firstVariable, firstMinimum, mostPlaces, equalityArity}
 use Rattle.label.specs.Labels.{isLabel, placeAt, termsOf, unpacked}
 use Rattle.diagram.specs.RowLaws.{same-tests}
 use Rattle.paths.specs.Paths.{Literal, termsIn}
@@ -61,10 +61,10 @@ module _ {ord tab : List ℕ} {n : ℕ} (t : Tabled ord tab n) where
       let b : (k * mostPlaces + j) % mostPlaces ≡ j = omega arith in
       ap₂ (λ (i q : ℕ). placeAt (getD ord i 0 / 2) q) a b
 
-  pub slots-at : {k x : ℕ} → AllInRange ord → k < n → x ≡ getD ord k 0 → Slots tab (k * mostPlaces) (x / 2)
+  pub slots-at : {k x : ℕ} → AllInRange firstMinimum ord → k < n → x ≡ getD ord k 0 → Slots tab (k * mostPlaces) (x / 2)
   slots-at {k} {x} g h e = record {
     room = omega (arith, t .tab-room);
-    range = subst (λ (y : ℕ). InRange (y / 2)) (sym e) (g .each k (omega (arith, t .room)));
+    range = subst (λ (y : ℕ). InRange firstMinimum (y / 2)) (sym e) (g .each k (omega (arith, t .room)));
     seen = λ j l. subst (λ (v : ℕ). getD tab v 0 ≤ k * mostPlaces + j + 1) (at j l) (t .seen (k * mostPlaces + j) (omega arith));
     only = λ j v l p q. t .only (k * mostPlaces + j) v (omega arith) p q ∙ at j l;
   }
@@ -151,17 +151,17 @@ known-bind (t ∷ ts) (u ∷ us) τ τ′ f k e = go (eqb (f t) u) refl (sym (ap
 module _ {ord into tab theta : List ℕ} {n k x : ℕ} (t : Tabled ord tab n) (r : Replacing tab theta (k * mostPlaces)) (h : k < n) (e : x ≡ getD ord k 0) where
   module _ (ar T : List ℕ) (s : Setting ar T ord into tab) where
     abbrev pub rest : Partial → Bool
-    rest τ = matches ar (literalsIn (drop termEnd into)) T (segment ord (k + 1) n) τ
+    rest τ = matches ar (literalsIn (drop firstMinimum into)) T (segment ord (k + 1) n) τ
 
     pub label-x : isLabel ar (x / 2) ≡ true
     label-x = ap (λ (y : ℕ). isLabel ar (y / 2)) e ∙ label-at k s (omega (arith, t .room))
 
-    pub step : (τ : Partial) → matches ar (literalsIn (drop termEnd into)) T (segment ord k n) τ
-        ≡ someOf (targets ar (literalsIn (drop termEnd into)) T (literalAt x)) (λ us. goOn (bindTerms τ (termsOf ar (unpacked (x / 2))) us) rest)
+    pub step : (τ : Partial) → matches ar (literalsIn (drop firstMinimum into)) T (segment ord k n) τ
+        ≡ someOf (targets ar (literalsIn (drop firstMinimum into)) T (literalAt x)) (λ us. goOn (bindTerms τ (termsOf ar (unpacked (x / 2))) us) rest)
     unfolding matches literalAt
     step τ =
-        ap (λ (qs : List Literal). matches ar (literalsIn (drop termEnd into)) T qs τ) (segment-cons ord k n h (t .room))
-        ∙ ap (λ (y : ℕ). matches ar (literalsIn (drop termEnd into)) T (literalAt y ∷ segment ord (k + 1) n) τ) (sym e)
+        ap (λ (qs : List Literal). matches ar (literalsIn (drop firstMinimum into)) T qs τ) (segment-cons ord k n h (t .room))
+        ∙ ap (λ (y : ℕ). matches ar (literalsIn (drop firstMinimum into)) T (literalAt y ∷ segment ord (k + 1) n) τ) (sym e)
 
     zero-known : known tab theta (k * mostPlaces) 0 ≡ some 0
     zero-known = known-zero theta (k * mostPlaces) t (r .stays 0 (omega arith))
@@ -169,10 +169,10 @@ module _ {ord into tab theta : List ℕ} {n k x : ℕ} (t : Tabled ord tab n) (r
     -- a way that goes on to the end
     pub way-hits : (j : ℕ) (w : Way) → j < wayCount into x → wayAt into tab x j ≡ w → isNothing w ≡ false
         → goOn (bindTerms (known tab theta (k * mostPlaces)) (placesIn (x / 2)) (wayPlaces w)) rest ≡ true
-        → matches ar (literalsIn (drop termEnd into)) T (segment ord k n) (known tab theta (k * mostPlaces)) ≡ true
+        → matches ar (literalsIn (drop firstMinimum into)) T (segment ord k n) (known tab theta (k * mostPlaces)) ≡ true
     way-hits j w l q f z =
         let v = way-in ar T ord into tab s x label-x (subst (WayView into tab x) q (way-view into tab x j l)) f in
-        step (known tab theta (k * mostPlaces)) ∙ some-in (targets ar (literalsIn (drop termEnd into)) T (literalAt x)) _ (v .terms) (v .one-of)
+        step (known tab theta (k * mostPlaces)) ∙ some-in (targets ar (literalsIn (drop firstMinimum into)) T (literalAt x)) _ (v .terms) (v .one-of)
         (ap (λ o. goOn o rest) (v .same (known tab theta (k * mostPlaces)) zero-known) ∙ z)
 
     -- what is known stays within T
@@ -184,30 +184,30 @@ module _ {ord into tab theta : List ℕ} {n k x : ℕ} (t : Tabled ord tab n) (r
               (o .same (known tab theta (k * mostPlaces)) zero-known ∙ z) v y p);
         }
       where
-        o : WayTo ar (literalsIn (drop termEnd into)) T x w
+        o : WayTo ar (literalsIn (drop firstMinimum into)) T x w
         o = way-in ar T ord into tab s x label-x (subst (WayView into tab x) q (way-view into tab x j l)) f
 
-        at : (v y : ℕ) → firstVariable ≤ v → v < termEnd → (known tab theta (k * mostPlaces) v ≡ some y) ⊎ List·Memᴰ y (o .terms) → List·Memᴰ y T
+        at : (v y : ℕ) → firstVariable ≤ v → v < firstMinimum → (known tab theta (k * mostPlaces) v ≡ some y) ⊎ List·Memᴰ y (o .terms) → List·Memᴰ y T
         at v y lo hi (inl p) = i .each v y lo hi p
-        at v y lo hi (inr m) = target-image ar (literalsIn (drop termEnd into)) T (literalAt x) (s .search .holds-terms) (o .terms) (o .one-of) y m
+        at v y lo hi (inr m) = target-image ar (literalsIn (drop firstMinimum into)) T (literalAt x) (s .search .holds-terms) (o .terms) (o .one-of) y m
 
 pub some-inj : (a b : ℕ) → some a ≡ some b → a ≡ b
 some-inj a b e = cc
 
 -- a way has terms
-pub view-terms : {into tab : List ℕ} {x : ℕ} {w : Way} → Sorted into → WayView into tab x w → (k : ℕ) → k < mostPlaces → wayPlace w k < termEnd
+pub view-terms : {into tab : List ℕ} {x : ℕ} {w : Way} → Sorted into → WayView into tab x w → (k : ℕ) → k < mostPlaces → wayPlace w k < firstMinimum
 unfolding wayPlace
 view-terms s no-view k h = omega arith
 view-terms s (one-view i l q) k h = s .ranged i l .places k h
 view-terms s (turned-view i l p q) k h = s .ranged i l .places (turn k) (turn-below k h)
 view-terms s (twice-view t l p q o) k h = go (flag (ltb k equalityArity))
   where
-    go : Flag (ltb k equalityArity) → cond (ltb k equalityArity) t 0 < termEnd
+    go : Flag (ltb k equalityArity) → cond (ltb k equalityArity) t 0 < firstMinimum
     go (isTrue e) = rw e l
     go (isFalse e) = rw e (omega arith)
 
 pub replacing-kept : {tab theta theta′ : List ℕ} {m : ℕ} → ((v : ℕ) → v < firstVariable → getD tab v 0 ≡ 0) → Replacing tab theta m → length theta′ ≡ length theta
-    → ((v : ℕ) → v < termEnd → getD tab v 0 ≤ m → getD theta′ v 0 ≡ getD theta v 0) → Replacing tab theta′ m
+    → ((v : ℕ) → v < firstMinimum → getD tab v 0 ≤ m → getD theta′ v 0 ≡ getD theta v 0) → Replacing tab theta′ m
 replacing-kept {m = m} fixed r l k = record {
   room = omega (arith, r .room);
   stays = λ v h. k v (omega arith) (omega (arith, fixed v h)) ∙ r .stays v h;
@@ -215,7 +215,8 @@ replacing-kept {m = m} fixed r l k = record {
 }
 
 -- ===== A literal whose terms are known =====
-module _ {ord : List ℕ} (into : List ℕ) {tab theta : List ℕ} {n k x : ℕ} (t : Tabled ord tab n) (g : AllInRange ord) (r : Replacing tab theta (k * mostPlaces)) (h : k < n) (e : x ≡ getD ord k 0)
+module _ {ord : List ℕ} (into : List ℕ) {tab theta : List ℕ} {n k x : ℕ} (t : Tabled ord tab n) (g : AllInRange firstMinimum ord)
+    (r : Replacing tab theta (k * mostPlaces)) (h : k < n) (e : x ≡ getD ord k 0)
     {b : Bool} (q : b ≡ allKnown tab (k * mostPlaces) (x / 2)) (f : b ≡ true) where
   pub known-early : (j : ℕ) → j < mostPlaces → getD tab (placeAt (x / 2) j) 0 ≤ k * mostPlaces
   known-early = known-at tab (k * mostPlaces) (x / 2) (sym q ∙ f)
@@ -224,7 +225,7 @@ module _ {ord : List ℕ} (into : List ℕ) {tab theta : List ℕ} {n k x : ℕ}
   slots = slots-at t g h e
 
   -- no term comes first here
-  pub none-here : (v : ℕ) → v < termEnd → k * mostPlaces < getD tab v 0 → (k + 1) * mostPlaces < getD tab v 0
+  pub none-here : (v : ℕ) → v < firstMinimum → k * mostPlaces < getD tab v 0 → (k + 1) * mostPlaces < getD tab v 0
   none-here v p l = go (cmp ((k + 1) * mostPlaces) (getD tab v 0))
     where
       not-here : getD tab v 0 ≤ (k + 1) * mostPlaces → ⊥
@@ -246,7 +247,7 @@ module _ {ord : List ℕ} (into : List ℕ) {tab theta : List ℕ} {n k x : ℕ}
   pub known-replacing : Replacing tab theta ((k + 1) * mostPlaces)
   known-replacing = record { room = r .room; stays = r .stays; terms = λ v p l. r .terms v p (back v p l (cmp (getD tab v 0) (k * mostPlaces + 1))) }
     where
-      back : (v : ℕ) → v < termEnd → getD tab v 0 ≤ (k + 1) * mostPlaces → Cmp (getD tab v 0) (k * mostPlaces + 1) → getD tab v 0 ≤ k * mostPlaces
+      back : (v : ℕ) → v < firstMinimum → getD tab v 0 ≤ (k + 1) * mostPlaces → Cmp (getD tab v 0) (k * mostPlaces + 1) → getD tab v 0 ≤ k * mostPlaces
       back v p l (below c) = omega arith
       back v p l (equal c) = absurd (omega (arith, none-here v p (omega arith)))
       back v p l (above c) = absurd (omega (arith, none-here v p (omega arith)))
@@ -255,8 +256,8 @@ module _ {ord : List ℕ} (into : List ℕ) {tab theta : List ℕ} {n k x : ℕ}
   known-images = record { room = r .room; range = slots .range; terms = λ j p. r .terms (placeAt (x / 2) j) (slots .range .places j p) (known-early j p) }
 
   module _ (ar T : List ℕ) (s : Setting ar T ord into tab) (ins : Inside T (known tab theta (k * mostPlaces))) where
-    term-below : (u : ℕ) → List·Memᴰ u (termsOf ar (unpacked (x / 2))) → u < termEnd
-    term-below u m = let p = in-place ar (x / 2) (s .search .arities) u m in subst (λ (v : ℕ). v < termEnd) (sym (p .2)) (slots .range .places (p .0) (p .1))
+    term-below : (u : ℕ) → List·Memᴰ u (termsOf ar (unpacked (x / 2))) → u < firstMinimum
+    term-below u m = let p = in-place ar (x / 2) (s .search .arities) u m in subst (λ (v : ℕ). v < firstMinimum) (sym (p .2)) (slots .range .places (p .0) (p .1))
 
     terms-known : (u : ℕ) → List·Memᴰ u (termsOf ar (unpacked (x / 2))) → known tab theta (k * mostPlaces) u ≡ some (replacedBy theta u)
     terms-known u m =
@@ -306,18 +307,18 @@ module _ {ord : List ℕ} (into : List ℕ) {tab theta : List ℕ} {n k x : ℕ}
     met w = meets ar T ord into tab s x (label-x t r h e ar T s) theta (r .stays 0 (omega arith)) w
 
     pub is-met : {m : Bool} → Met into theta x m → m ≡ true
-        → matches ar (literalsIn (drop termEnd into)) T (segment ord k n) (known tab theta (k * mostPlaces)) ≡ rest t r h e ar T s (known tab theta (k * mostPlaces))
+        → matches ar (literalsIn (drop firstMinimum into)) T (segment ord k n) (known tab theta (k * mostPlaces)) ≡ rest t r h e ar T s (known tab theta (k * mostPlaces))
     unfolding us
     is-met w g = same-tests _ _ forth back
       where
-        forth : matches ar (literalsIn (drop termEnd into)) T (segment ord k n) (known tab theta (k * mostPlaces)) ≡ true → rest t r h e ar T s (known tab theta (k * mostPlaces)) ≡ true
+        forth : matches ar (literalsIn (drop firstMinimum into)) T (segment ord k n) (known tab theta (k * mostPlaces)) ≡ true → rest t r h e ar T s (known tab theta (k * mostPlaces)) ≡ true
         forth z =
-            let u = some-out (targets ar (literalsIn (drop termEnd into)) T (literalAt x)) _ (sym (step t r h e ar T s (known tab theta (k * mostPlaces))) ∙ z) in
+            let u = some-out (targets ar (literalsIn (drop firstMinimum into)) T (literalAt x)) _ (sym (step t r h e ar T s (known tab theta (k * mostPlaces))) ∙ z) in
             bound (u .0) (u .2) .1
 
-        back : rest t r h e ar T s (known tab theta (k * mostPlaces)) ≡ true → matches ar (literalsIn (drop termEnd into)) T (segment ord k n) (known tab theta (k * mostPlaces)) ≡ true
+        back : rest t r h e ar T s (known tab theta (k * mostPlaces)) ≡ true → matches ar (literalsIn (drop firstMinimum into)) T (segment ord k n) (known tab theta (k * mostPlaces)) ≡ true
         back z =
             step t r h e ar T s (known tab theta (k * mostPlaces))
-            ∙ some-in (targets ar (literalsIn (drop termEnd into)) T (literalAt x)) _ (map (replacedBy theta) (termsOf ar (unpacked (x / 2))))
-            (unfold literalAt in (target-complete ar (s .search .arities) (replacedBy theta) (literalsIn (drop termEnd into)) T (literalAt x) (s .search .small) terms-inside (met w .yes g)))
+            ∙ some-in (targets ar (literalsIn (drop firstMinimum into)) T (literalAt x)) _ (map (replacedBy theta) (termsOf ar (unpacked (x / 2))))
+            (unfold literalAt in (target-complete ar (s .search .arities) (replacedBy theta) (literalsIn (drop firstMinimum into)) T (literalAt x) (s .search .small) terms-inside (met w .yes g)))
             (ap (λ o. goOn o (rest t r h e ar T s)) (bind-known (termsOf ar (unpacked (x / 2))) (known tab theta (k * mostPlaces)) (replacedBy theta) terms-known) ∙ z)

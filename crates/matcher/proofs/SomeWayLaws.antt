@@ -11,7 +11,7 @@ use lib.Dec.{eqb, ltb}
 use borrow.Author.Tests.{eqb-true, eqb-false, ltb-false}
 use Rattle.basics.specs.Tests.{and-left, and-right, Flag, isTrue, isFalse, flag, Cmp, cmp, below, equal, above}
 use Rattle.basics.specs.Members.{clash}
-use Rattle.label.specs.Limits.{termEnd}
+use Rattle.label.specs.Limits.{firstMinimum}
 use Rattle.label.specs.Labels.{predicateOf}
 use Rattle.paths.specs.Paths.{Literal}
 use Rattle.cutting.specs.Match.{start, waysAmong, plainWays, targets, matches}
@@ -29,10 +29,10 @@ unfolding literalAt
 like x y p s = is-alike x y p s
 
 -- such a literal has no target
-no-target : (ar T into : List ℕ) (x : ℕ) → NoWay into x → (us : List ℕ) → List·Memᴰ us (targets ar (literalsIn (drop termEnd into)) T (literalAt x)) → ⊥
+no-target : (ar T into : List ℕ) (x : ℕ) → NoWay into x → (us : List ℕ) → List·Memᴰ us (targets ar (literalsIn (drop firstMinimum into)) T (literalAt x)) → ⊥
 unfolding targets
 no-target ar T into x n us m =
-    go (List·Memᴰ·append-cases (waysAmong ar (predicateOf (literalAt x .label)) (literalAt x .sign) (literalsIn (drop termEnd into))) m)
+    go (List·Memᴰ·append-cases (waysAmong ar (predicateOf (literalAt x .label)) (literalAt x .sign) (literalsIn (drop firstMinimum into))) m)
   where
     equalities : (p : ℕ) (b : Bool) → predicateOf (literalAt x .label) ≡ p → literalAt x .sign ≡ b → List·Memᴰ us (plainWays p b T) → ⊥
     equalities zero true e s w =
@@ -40,34 +40,34 @@ no-target ar T into x n us m =
     equalities zero false e s w = List·Memᴰ·not-nil w
     equalities (suc p) b e s w = List·Memᴰ·not-nil w
 
-    go : List·Memᴰ us (waysAmong ar (predicateOf (literalAt x .label)) (literalAt x .sign) (literalsIn (drop termEnd into)))
+    go : List·Memᴰ us (waysAmong ar (predicateOf (literalAt x .label)) (literalAt x .sign) (literalsIn (drop firstMinimum into)))
         ⊎ List·Memᴰ us (plainWays (predicateOf (literalAt x .label)) (literalAt x .sign) T) → ⊥
     go (inl w) =
-        let r = among-out ar (predicateOf (literalAt x .label)) (literalAt x .sign) (literalsIn (drop termEnd into)) us w in
-        let i = at-literal (drop termEnd into) _ (r .one-of) in
-        let y = getD (drop termEnd into) (i .0) 0 in
+        let r = among-out ar (predicateOf (literalAt x .label)) (literalAt x .sign) (literalsIn (drop firstMinimum into)) us w in
+        let i = at-literal (drop firstMinimum into) _ (r .one-of) in
+        let y = getD (drop firstMinimum into) (i .0) 0 in
         clash (like x y (r .same-predicate ∙ ap (λ (l : Literal). predicateOf (l .label)) (i .2)) (ap (λ (l : Literal). l .sign) (i .2)))
-        (ap (alike x) (getD-drop termEnd into (i .0) 0) ∙ n .others (termEnd + i .0) (omega arith) (omega (arith, i .1, length-drop termEnd into)))
+        (ap (alike x) (getD-drop firstMinimum into (i .0) 0) ∙ n .others (firstMinimum + i .0) (omega arith) (omega (arith, i .1, length-drop firstMinimum into)))
     go (inr w) = equalities (predicateOf (literalAt x .label)) (literalAt x .sign) refl refl w
 
-one-fails : (ar T into : List ℕ) (x : ℕ) → NoWay into x → matches ar (literalsIn (drop termEnd into)) T (literalAt x ∷ []) start ≡ true → ⊥
+one-fails : (ar T into : List ℕ) (x : ℕ) → NoWay into x → matches ar (literalsIn (drop firstMinimum into)) T (literalAt x ∷ []) start ≡ true → ⊥
 unfolding matches
-one-fails ar T into x n e = let r = some-out (targets ar (literalsIn (drop termEnd into)) T (literalAt x)) _ e in no-target ar T into x n (r .0) (r .1)
+one-fails ar T into x n e = let r = some-out (targets ar (literalsIn (drop firstMinimum into)) T (literalAt x)) _ e in no-target ar T into x n (r .0) (r .1)
 
-pub ways-fail : {ord into : List ℕ} {r : Bool} → WaysPost ord into r → not r ≡ true → (ar T : List ℕ) → Searchable ar (literalsIn (drop termEnd into)) T
-    → false ≡ matches ar (literalsIn (drop termEnd into)) T (literalsIn ord) start
-ways-fail {ord} {into} {r} w q ar T s = go (flag (matches ar (literalsIn (drop termEnd into)) T (literalsIn ord) start))
+pub ways-fail : {ord into : List ℕ} {r : Bool} → WaysPost ord into r → not r ≡ true → (ar T : List ℕ) → Searchable ar (literalsIn (drop firstMinimum into)) T
+    → false ≡ matches ar (literalsIn (drop firstMinimum into)) T (literalsIn ord) start
+ways-fail {ord} {into} {r} w q ar T s = go (flag (matches ar (literalsIn (drop firstMinimum into)) T (literalsIn ord) start))
   where
     only : (i : ℕ) → i < length ord → (l : Literal) → List·Memᴰ l (literalAt (getD ord i 0) ∷ []) → List·Memᴰ l (literalsIn ord)
     only i h l (List·Memᴰ·head e) = subst (λ (k : Literal). List·Memᴰ k (literalsIn ord)) (sym e) (literal-at ord i h)
     only i h l (List·Memᴰ·tail m) = absurd (List·Memᴰ·not-nil m)
 
-    go : Flag (matches ar (literalsIn (drop termEnd into)) T (literalsIn ord) start) → false ≡ matches ar (literalsIn (drop termEnd into)) T (literalsIn ord) start
+    go : Flag (matches ar (literalsIn (drop firstMinimum into)) T (literalsIn ord) start) → false ≡ matches ar (literalsIn (drop firstMinimum into)) T (literalsIn ord) start
     go (isFalse z) = sym z
     go (isTrue z) =
         let n = w .no (untaken q) in
         absurd (one-fails ar T into (getD ord (n .0) 0) (n .2)
-        (matches-fewer ar (literalsIn (drop termEnd into)) T s (literalsIn ord) (literalAt (getD ord (n .0) 0) ∷ []) (only (n .0) (n .1)) z))
+        (matches-fewer ar (literalsIn (drop firstMinimum into)) T s (literalsIn ord) (literalAt (getD ord (n .0) 0) ∷ []) (only (n .0) (n .1)) z))
 
 -- ===== is_equal, has_way =====
 pub equal-yes : (x : ℕ) {b : Bool} → b ≡ isEquality x → not b ≡ true → false ≡ false → isEquality x ≡ true → x % 2 ≡ 1 → ⊥
@@ -97,7 +97,7 @@ kind-is x e = ap (λ (q : ℕ). q * 2 + x % 2) e
 
 -- ===== mark_kinds =====
 module _ {into : List ℕ} where
-  pub kinds-start : {kinds : List ℕ} → kindCount ≤ length kinds → Kinds into kinds termEnd
+  pub kinds-start : {kinds : List ℕ} → kindCount ≤ length kinds → Kinds into kinds firstMinimum
   kinds-start h = record { room = h; each = λ i a b. absurd (omega arith) }
 
   module _ {kinds : List ℕ} {j w k : ℕ} (s : Kinds into kinds j) (e : w ≡ getD into j 0) (q : k ≡ kindOf w) where
@@ -112,7 +112,7 @@ module _ {into : List ℕ} where
         old v p (equal c) = omega (arith, ap (λ (i : ℕ). getD (set kinds k 1) i 0) c, here)
         old v p (above c) = omega (arith, getD-set-other kinds k v 1 0 (omega arith))
 
-        go : (i : ℕ) → termEnd ≤ i → i < j + 1 → kindOf (getD into i 0) < kindCount → Cmp i j → 0 < getD (set kinds k 1) (kindOf (getD into i 0)) 0
+        go : (i : ℕ) → firstMinimum ≤ i → i < j + 1 → kindOf (getD into i 0) < kindCount → Cmp i j → 0 < getD (set kinds k 1) (kindOf (getD into i 0)) 0
         go i a b c (below d) = old (kindOf (getD into i 0)) (s .each i a d c) (cmp (kindOf (getD into i 0)) k)
         go i a b c (equal d) =
             let z : kindOf (getD into i 0) ≡ k = ap (λ (v : ℕ). kindOf (getD into v 0)) d ∙ sym (q ∙ ap kindOf e) in
@@ -122,7 +122,7 @@ module _ {into : List ℕ} where
     pub kinds-other : kindCount ≤ k → Kinds into kinds (j + 1)
     kinds-other h = record { room = s .room; each = λ i a b c. go i a b c (cmp i j) }
       where
-        go : (i : ℕ) → termEnd ≤ i → i < j + 1 → kindOf (getD into i 0) < kindCount → Cmp i j → 0 < getD kinds (kindOf (getD into i 0)) 0
+        go : (i : ℕ) → firstMinimum ≤ i → i < j + 1 → kindOf (getD into i 0) < kindCount → Cmp i j → 0 < getD kinds (kindOf (getD into i 0)) 0
         go i a b c (below d) = s .each i a d c
         go i a b c (equal d) =
             let z : kindOf (getD into i 0) ≡ k = ap (λ (v : ℕ). kindOf (getD into v 0)) d ∙ sym (q ∙ ap kindOf e) in
@@ -148,7 +148,7 @@ pub ways-no : {ord into kinds : List ℕ} {i x : ℕ} {r : Bool} → Kinds into 
     → WaysPost ord into false
 ways-no {ord} {into} {kinds} {i} {x} {r} s h e w q = record { no = λ z. (i, h, subst (NoWay into) e (record { others = others; equality = w .equality (untaken q) })) }
   where
-    others : (j : ℕ) → termEnd ≤ j → j < length into → alike x (getD into j 0) ≡ false
+    others : (j : ℕ) → firstMinimum ≤ j → j < length into → alike x (getD into j 0) ≡ false
     others j a b = go (flag (alike x (getD into j 0)))
       where
         go : Flag (alike x (getD into j 0)) → alike x (getD into j 0) ≡ false

@@ -2,25 +2,27 @@
 use mathlib.Core.Path.{_≡_, refl, sym, ap, ap₂, subst, _∙_}
 use mathlib.Core.Bool.{Bool, true, false}
 use mathlib.Core.List.{List, [], _∷_, map, List·Memᴰ, List·Memᴰ·head, List·Memᴰ·tail}
-use Prim.Native.Nat.{ℕ, zero, suc, _+_, _-_, _*_, _/_, _%_, _≤_, _<_}
+use Prim.Native.Nat.{ℕ, zero, suc, pred, _+_, _-_, _*_, _/_, _%_, _≤_, _<_}
 use native.Mathlib.Omega.{arith}
 use lib.ListN.{length, getD, take, drop, length-take, length-drop}
 use lib.Seq.{getD-take, getD-drop}
 use lib.Dec.{eqb}
 use Rattle.basics.specs.Tests.{Cmp, cmp, below, equal, above}
-use Rattle.label.specs.Limits.{termEnd}
-use Rattle.label.specs.Labels.{isLabel, unpacked, termsOf}
+use Rattle.label.specs.Limits.{firstMinimum}
+use Rattle.label.specs.Labels.{unpacked, termsOf}
 use Rattle.diagram.specs.Diagram.{Diagram, leaf, branch, From}
 use Rattle.diagram.specs.Words.{labelAt, rowCount, isListing}
+use Rattle.diagram.specs.Listing.{diagramOf}
+use Rattle.diagram.specs.Variables.{isPlain}
 use Rattle.diagram.specs.Validity.{Valid, tree}
 use Rattle.diagram.specs.ListingValid.{listing-is-valid}
-use Rattle.diagram.specs.DiagramOfListing.{valid-rows}
+use Rattle.diagram.specs.DiagramOfListing.{valid-rows, diagram-is}
 use Rattle.diagram.specs.RowDiagrams.{tree-from, tree-fine}
 use Rattle.paths.specs.Paths.{Literal, Path, paths, literals, termsIn}
 use Rattle.cutting.specs.MatchLaws.{in-terms}
 use Rattle.cutting.specs.Searchable.{PathLabels}
-use Rattle.cutting.specs.CoverLaws.{path-labels}
-use Rattle.paths.specs.PathLaws.{label-range, paths-branch}
+use Rattle.cutting.specs.CoverLaws.{path-labels, path-plain}
+use Rattle.paths.specs.PathLaws.{range-terms, paths-branch}
 use Rattle.paths.specs.Routes.{bit, codeOf, codes, stepOn, pathAt, At, Entered, InRange}
 use Rattle.matcher.specs.Search.{literalAt, literalsIn}
 use Rattle.matcher.specs.Stored.{termsOfCode, Unmarked, Marking, Enterable, Stored}
@@ -106,7 +108,7 @@ listed-labels {ar} {ws} {n} {k} e w a =
     path-labels ar (tree ws (n - 1)) (tree-fine ar ws (rowCount ws) (valid-rows ar ws (listing-is-valid ar ws e)) (n - 1) (omega (arith, a .row)))
     (pathAt (tree ws (n - 1)) k) (path-in (tree ws (n - 1)) k (a .path))
 
-module _ {ar ws counts : List ℕ} {n k : ℕ} {out out₁ : List ℕ} {j : ℕ} (g : Enterable ar ws counts n k out) (e : Entered ws (n - 1) k out out₁ j)
+module _ {ar ws counts : List ℕ} {n k : ℕ} {out out₁ : List ℕ} {j : ℕ} (g : Enterable ar ws counts n k out) (e : Entered ws (n - 1) k out out₁ firstMinimum j)
     (same : length out₁ ≡ length out) where
   valid : Valid ar ws
   valid = listing-is-valid ar ws (g .listed)
@@ -117,16 +119,20 @@ module _ {ar ws counts : List ℕ} {n k : ℕ} {out out₁ : List ℕ} {j : ℕ}
   abbrev p : Path
   p = pathAt (tree ws (n - 1)) k
 
-  labelled : PathLabels ar p
-  labelled = listed-labels (g .listed) (g .whole) (g .path)
+  -- no place of its labels has a minimum variable
+  plain : (l : Literal) → List·Memᴰ l (literals p) → InRange firstMinimum (l .label)
+  plain =
+      let r : n - 1 ≡ pred (rowCount ws) = omega (arith, g .whole) in
+      path-plain ar (tree ws (n - 1)) (tree-fine ar ws (rowCount ws) (valid-rows ar ws valid) (n - 1) root)
+      (ap (isPlain ar) (ap (tree ws) r ∙ sym (diagram-is ar ws valid)) ∙ g .plain) p (path-in (tree ws (n - 1)) k (g .path .path))
 
   long : length (codes p) ≡ j
-  long = sym (ap length (e .are)) ∙ length-take j (drop termEnd out₁) ∙ omega (arith, length-drop termEnd out₁, same, g .room, e .few)
+  long = sym (ap length (e .are)) ∙ length-take j (drop firstMinimum out₁) ∙ omega (arith, length-drop firstMinimum out₁, same, g .room, e .few)
 
-  at : (i : ℕ) → i < j → getD out₁ (termEnd + i) 0 ≡ getD (codes p) i 0
-  at i h = sym (getD-take j (drop termEnd out₁) i 0 h ∙ getD-drop termEnd out₁ i 0) ∙ ap (λ (xs : List ℕ). getD xs i 0) (e .are)
+  at : (i : ℕ) → i < j → getD out₁ (firstMinimum + i) 0 ≡ getD (codes p) i 0
+  at i h = sym (getD-take j (drop firstMinimum out₁) i 0 h ∙ getD-drop firstMinimum out₁ i 0) ∙ ap (λ (xs : List ℕ). getD xs i 0) (e .are)
 
-  pub enter-room : termEnd + j ≤ length out₁
+  pub enter-room : firstMinimum + j ≤ length out₁
   enter-room = omega (arith, same, g .room, e .few)
 
   pub enter-unmarked : Unmarked ar out₁ j
@@ -136,40 +142,40 @@ module _ {ar ws counts : List ℕ} {n k : ℕ} {out out₁ : List ℕ} {j : ℕ}
     room = omega (arith, same, g .room, e .few);
     few = e .few;
     clear = λ t h. e .kept t h ∙ g .clear t h;
-    labels = labels;
+    ranged = ranged;
   }
     where
-      labels : (i : ℕ) → i < j → isLabel ar (getD out₁ (termEnd + i) 0 / 2) ≡ true
-      labels i h =
+      ranged : (i : ℕ) → i < j → InRange firstMinimum (getD out₁ (firstMinimum + i) 0 / 2)
+      ranged i h =
           let r = code-label ar (literals p) i (omega (arith, long)) in
-          ap (isLabel ar) (ap (λ (x : ℕ). x / 2) (at i h) ∙ r .2) ∙ labelled .each .each (r .0) (r .1)
+          subst (InRange firstMinimum) (sym (ap (λ (x : ℕ). x / 2) (at i h) ∙ r .2)) (plain (r .0) (r .1))
 
   module _ {out₂ : List ℕ} (m : Marking ar out₁ out₂ j) where
-    behind-at : (i : ℕ) → getD out₂ (termEnd + i) 0 ≡ getD out₁ (termEnd + i) 0
-    behind-at i = sym (getD-drop termEnd out₂ i 0) ∙ ap (λ (xs : List ℕ). getD xs i 0) (m .behind) ∙ getD-drop termEnd out₁ i 0
+    behind-at : (i : ℕ) → getD out₂ (firstMinimum + i) 0 ≡ getD out₁ (firstMinimum + i) 0
+    behind-at i = sym (getD-drop firstMinimum out₂ i 0) ∙ ap (λ (xs : List ℕ). getD xs i 0) (m .behind) ∙ getD-drop firstMinimum out₁ i 0
 
-    count : length (take (termEnd + j) out₂) ≡ termEnd + j
-    count = length-take (termEnd + j) out₂ ∙ omega (arith, m .length-kept, same, g .room, e .few)
+    count : length (take (firstMinimum + j) out₂) ≡ firstMinimum + j
+    count = length-take (firstMinimum + j) out₂ ∙ omega (arith, m .length-kept, same, g .room, e .few)
 
-    into-code : (i : ℕ) → i < j → getD (take (termEnd + j) out₂) (termEnd + i) 0 ≡ getD (codes p) i 0
-    into-code i h = getD-take (termEnd + j) out₂ (termEnd + i) 0 (omega arith) ∙ behind-at i ∙ at i h
+    into-code : (i : ℕ) → i < j → getD (take (firstMinimum + j) out₂) (firstMinimum + i) 0 ≡ getD (codes p) i 0
+    into-code i h = getD-take (firstMinimum + j) out₂ (firstMinimum + i) 0 (omega arith) ∙ behind-at i ∙ at i h
 
-    same-code : (i : ℕ) → i < j → getD (take (termEnd + j) out₂) (termEnd + i) 0 ≡ getD out₁ (termEnd + i) 0
-    same-code i h = getD-take (termEnd + j) out₂ (termEnd + i) 0 (omega arith) ∙ behind-at i
+    same-code : (i : ℕ) → i < j → getD (take (firstMinimum + j) out₂) (firstMinimum + i) 0 ≡ getD out₁ (firstMinimum + i) 0
+    same-code i h = getD-take (firstMinimum + j) out₂ (firstMinimum + i) 0 (omega arith) ∙ behind-at i
 
-    code-range : (i : ℕ) → i < j → InRange (getD out₁ (termEnd + i) 0 / 2)
-    code-range i h = label-range ar (getD out₁ (termEnd + i) 0 / 2) (enter-unmarked .labels i h)
+    code-range : (i : ℕ) → i < j → InRange firstMinimum (getD out₁ (firstMinimum + i) 0 / 2)
+    code-range i h = enter-unmarked .ranged i h
 
-    ranged : (i : ℕ) → i < length (take j (drop termEnd out₂)) → InRange (getD (take j (drop termEnd out₂)) i 0 / 2)
+    ranged : (i : ℕ) → i < length (take j (drop firstMinimum out₂)) → InRange firstMinimum (getD (take j (drop firstMinimum out₂)) i 0 / 2)
     ranged i h =
-        let q : i < j = omega (arith, length-take j (drop termEnd out₂)) in
-        subst (λ (y : ℕ). InRange (y / 2)) (sym (getD-take j (drop termEnd out₂) i 0 q ∙ getD-drop termEnd out₂ i 0 ∙ behind-at i)) (code-range i q)
+        let q : i < j = omega (arith, length-take j (drop firstMinimum out₂)) in
+        subst (λ (y : ℕ). InRange firstMinimum (y / 2)) (sym (getD-take j (drop firstMinimum out₂) i 0 q ∙ getD-drop firstMinimum out₂ i 0 ∙ behind-at i)) (code-range i q)
 
-    terms-code : (i : ℕ) (l : Literal) → i < j → getD (codes p) i 0 / 2 ≡ l .label → termsOfCode ar (getD out₁ (termEnd + i) 0) ≡ termsOf ar (unpacked (l .label))
+    terms-code : (i : ℕ) (l : Literal) → i < j → getD (codes p) i 0 / 2 ≡ l .label → termsOfCode ar (getD out₁ (firstMinimum + i) 0) ≡ termsOf ar (unpacked (l .label))
     unfolding termsOfCode
     terms-code i l h q = ap (λ (x : ℕ). termsOf ar (unpacked x)) (ap (λ (x : ℕ). x / 2) (at i h) ∙ q)
 
-    pub stored-room : termEnd + j ≤ length out₂
+    pub stored-room : firstMinimum + j ≤ length out₂
     stored-room = omega (arith, enter-room, m .length-kept)
 
     pub enter-stored : Stored ar (pathAt (tree ws (n - 1)) k) out₂ j
@@ -180,14 +186,14 @@ module _ {ar ws counts : List ℕ} {n k : ℕ} {out out₁ : List ℕ} {j : ℕ}
       sorted = record {
         room = omega (arith, count);
         order = order;
-        ranged = λ i h. subst (λ (y : ℕ). InRange (y / 2)) (sym (same-code i (omega (arith, count)))) (code-range i (omega (arith, count)));
+        ranged = λ i h. subst (λ (y : ℕ). InRange firstMinimum (y / 2)) (sym (same-code i (omega (arith, count)))) (code-range i (omega (arith, count)));
       };
       ranged = record { each = ranged };
-      marks = record { has = has; of = of };
+      marks = record { below = small; has = has; of = of };
     }
       where
-        order : (x y : ℕ) → x < y → y < length (take (termEnd + j) out₂) - termEnd
-            → getD (take (termEnd + j) out₂) (termEnd + x) 0 < getD (take (termEnd + j) out₂) (termEnd + y) 0
+        order : (x y : ℕ) → x < y → y < length (take (firstMinimum + j) out₂) - firstMinimum
+            → getD (take (firstMinimum + j) out₂) (firstMinimum + x) 0 < getD (take (firstMinimum + j) out₂) (firstMinimum + y) 0
         order x y l h =
             let u : y < j = omega (arith, count) in
             omega (
@@ -198,6 +204,9 @@ module _ {ar ws counts : List ℕ} {n k : ℕ} {out out₁ : List ℕ} {j : ℕ}
                   (codes-ascend (labelAt ws (n - 1)) (tree ws (n - 1)) k (tree-from ar ws (rowCount ws) (valid-rows ar ws valid) (n - 1) root) (g .path .path)) l (omega (arith, long)),
             )
 
+        small : (t : ℕ) → List·Memᴰ t (termsIn ar (literals p)) → t < firstMinimum
+        small t w = let o = of-terms ar (literals p) t w in range-terms firstMinimum ar (o .0 .label) (plain (o .0) (o .1)) t (o .2)
+
         has : (t : ℕ) → List·Memᴰ t (termsIn ar (literals p)) → 0 < getD out₂ t 0
         has t w =
             let o = of-terms ar (literals p) t w in
@@ -205,7 +214,7 @@ module _ {ar ws counts : List ℕ} {n k : ℕ} {out out₁ : List ℕ} {j : ℕ}
             let h : r .0 < j = omega (arith, r .1, long) in
             m .has (r .0) t h (subst (List·Memᴰ t) (sym (terms-code (r .0) (o .0) h (r .2))) (o .2))
 
-        of : (t : ℕ) → t < termEnd → 0 < getD out₂ t 0 → List·Memᴰ t (termsIn ar (literals p))
+        of : (t : ℕ) → t < firstMinimum → 0 < getD out₂ t 0 → List·Memᴰ t (termsIn ar (literals p))
         of t h w =
             let r = m .of t h w in
             let c = code-label ar (literals p) (r .0) (omega (arith, r .1, long)) in

@@ -11,7 +11,7 @@ use lib.Dec.{eqb, ltb}
 use borrow.Author.Tests.{ltb-true, ltb-false, eqb-true, eqb-false, eq-eqb}
 use Rattle.basics.specs.Tests.{and-left, and-right, Flag, isTrue, isFalse, flag}
 use Rattle.basics.specs.Members.{clash}
-use Rattle.label.specs.Limits.{termEnd, mostPlaces}
+use Rattle.label.specs.Limits.{firstMinimum, mostPlaces}
 use Rattle.label.specs.Labels.{areArities, isLabel, predicateOf, unpacked, termsOf}
 use Rattle.label.specs.ArityLaws.{terms-length, arity-two}
 use Rattle.paths.specs.Paths.{Literal}
@@ -68,7 +68,7 @@ pub data WayView (into tab : List ℕ) (x : ℕ) : Way → Type 0 where
   no-view : WayView into tab x Nothing
   one-view : (i : ℕ) → i < intoCount into → alike x (intoAt into i) ≡ true → WayView into tab x (Straight (intoAt into i / 2))
   turned-view : (i : ℕ) → i < intoCount into → isEquality x ≡ true → alike x (intoAt into i) ≡ true → WayView into tab x (Turned (intoAt into i / 2))
-  twice-view : (t : ℕ) → t < termEnd → isEquality x ≡ true → x % 2 ≡ 1 → 0 < getD into t 0 + getD tab (termEnd + t) 0 → WayView into tab x (Twice t)
+  twice-view : (t : ℕ) → t < firstMinimum → isEquality x ≡ true → x % 2 ≡ 1 → 0 < getD into t 0 + getD tab (firstMinimum + t) 0 → WayView into tab x (Twice t)
 
 by-way : (P : Way → Type 0) (b : Bool) (u v : Way) → (b ≡ true → P u) → (b ≡ false → P v) → P (cond b u v)
 by-way P true u v f g = f refl
@@ -97,9 +97,9 @@ way-view into tab x j h = by-way P (isEquality x) (equalWay into tab x j) (plain
             (λ z. one-view (j / 2) (omega arith) q) (λ z. turned-view (j / 2) (omega arith) e q)) (λ q. no-view)
 
         high : ltb j (intoCount into * 2) ≡ false
-            → P (cond (eqb (x % 2) 1 && ltb 0 (getD into (j - intoCount into * 2) 0 + getD tab (termEnd + (j - intoCount into * 2)) 0))
+            → P (cond (eqb (x % 2) 1 && ltb 0 (getD into (j - intoCount into * 2) 0 + getD tab (firstMinimum + (j - intoCount into * 2)) 0))
             (Twice (j - intoCount into * 2)) Nothing)
-        high k = by-way P (eqb (x % 2) 1 && ltb 0 (getD into (j - intoCount into * 2) 0 + getD tab (termEnd + (j - intoCount into * 2)) 0)) _ Nothing
+        high k = by-way P (eqb (x % 2) 1 && ltb 0 (getD into (j - intoCount into * 2) 0 + getD tab (firstMinimum + (j - intoCount into * 2)) 0)) _ Nothing
             (λ q. twice-view (j - intoCount into * 2) (omega (arith, ltb-false j (intoCount into * 2) k, count-equal into x refl e)) e
             (eqb-true (x % 2) 1 (and-left (eqb (x % 2) 1) _ q)) (ltb-true 0 _ (and-right (eqb (x % 2) 1) _ q))) (λ q. no-view)
 
@@ -133,13 +133,13 @@ module _ (ar T ord into tab : List ℕ) (set : Setting ar T ord into tab) (x : �
 
   -- a literal of the first path that is alike is one of ls with the sign of x
   among-at : (i : ℕ) → i < intoCount into → alike x (intoAt into i) ≡ true → (us : List ℕ) → List·Memᴰ us (ways (predicateOf (x / 2)) (termsOf ar (unpacked (intoAt into i / 2))))
-      → List·Memᴰ us (targets ar (literalsIn (drop termEnd into)) T (literalAt x))
+      → List·Memᴰ us (targets ar (literalsIn (drop firstMinimum into)) T (literalAt x))
   unfolding targets literalAt
   among-at i h e us w =
       let q = alike-is x (intoAt into i) e in
       Memᴰ·append-left (plainWays (predicateOf (x / 2)) (eqb (x % 2) 1) T)
-      (among-in ar (predicateOf (x / 2)) (eqb (x % 2) 1) (literalsIn (drop termEnd into)) (intoAt into i / 2) us
-      (subst (λ (b : Bool). List·Memᴰ (lit (intoAt into i / 2) b) (literalsIn (drop termEnd into))) (sym (q .1)) (into-mem into i h)) (q .0) w)
+      (among-in ar (predicateOf (x / 2)) (eqb (x % 2) 1) (literalsIn (drop firstMinimum into)) (intoAt into i / 2) us
+      (subst (λ (b : Bool). List·Memᴰ (lit (intoAt into i / 2) b) (literalsIn (drop firstMinimum into))) (sym (q .1)) (into-mem into i h)) (q .0) w)
 
   count-of : (i : ℕ) → i < intoCount into → alike x (intoAt into i) ≡ true → length (termsOf ar (unpacked (intoAt into i / 2))) ≡ getD ar (predicateOf (x / 2)) 0
   count-of i h e = terms-length ar (intoAt into i / 2) good ∙ ap (λ (p : ℕ). getD ar p 0) (sym (alike-is x (intoAt into i) e .0))
@@ -187,7 +187,7 @@ module _ (ar T ord into tab : List ℕ) (set : Setting ar T ord into tab) (x : �
       ∙ ap (bindTerms τ (placesIn (x / 2))) (twice-places t)
 
   -- a way is a target
-  pub way-in : {w : Way} → WayView into tab x w → isNothing w ≡ false → WayTo ar (literalsIn (drop termEnd into)) T x w
+  pub way-in : {w : Way} → WayView into tab x w → isNothing w ≡ false → WayTo ar (literalsIn (drop firstMinimum into)) T x w
   way-in no-view e = clash refl e
   way-in (one-view i h q) e = record {
     terms = termsOf ar (unpacked (intoAt into i / 2));
@@ -203,7 +203,7 @@ module _ (ar T ord into tab : List ℕ) (set : Setting ar T ord into tab) (x : �
   }
   way-in (twice-view t h s q k) e = record {
     terms = t ∷ t ∷ [];
-    one-of = unfold targets literalAt in (Memᴰ·append-right (waysAmong ar (predicateOf (x / 2)) (eqb (x % 2) 1) (literalsIn (drop termEnd into)))
+    one-of = unfold targets literalAt in (Memᴰ·append-right (waysAmong ar (predicateOf (x / 2)) (eqb (x % 2) 1) (literalsIn (drop firstMinimum into)))
         (subst (λ (r : ℕ). List·Memᴰ (t ∷ t ∷ []) (plainWays r (eqb (x % 2) 1) T)) (sym (predicate-zero x s))
         (subst (λ (r : Bool). List·Memᴰ (t ∷ t ∷ []) (plainWays 0 r T)) (sym (eq-eqb (x % 2) 1 q)) (twice-in T t (set .of t h k)))));
     same = twice-binds t s;
@@ -227,7 +227,7 @@ module _ (ar T ord into tab : List ℕ) (set : Setting ar T ord into tab) (x : �
         counted = omega (arith, count-equal into x refl l);
         way = Straight (intoAt into i / 2);
         is = sym (way-equal into tab x (i * 2) refl l
-            (equal-straight into tab x (i * 2) (omega arith) {y = intoAt into i} {b = true} (ap (λ (m : ℕ). getD into (termEnd + m) 0) (omega arith)) (sym q) refl (omega arith)));
+            (equal-straight into tab x (i * 2) (omega arith) {y = intoAt into i} {b = true} (ap (λ (m : ℕ). getD into (firstMinimum + m) 0) (omega arith)) (sym q) refl (omega arith)));
         some-way = refl;
         same = straight-binds i h q;
       }
@@ -246,7 +246,7 @@ module _ (ar T ord into tab : List ℕ) (set : Setting ar T ord into tab) (x : �
     counted = omega (arith, count-equal into x refl l);
     way = Turned (intoAt into i / 2);
     is = sym (way-equal into tab x (i * 2 + 1) refl l
-        (equal-turned into tab x (i * 2 + 1) (omega arith) {y = intoAt into i} {b = true} (ap (λ (m : ℕ). getD into (termEnd + m) 0) (omega arith)) (sym q) refl (omega arith)));
+        (equal-turned into tab x (i * 2 + 1) (omega arith) {y = intoAt into i} {b = true} (ap (λ (m : ℕ). getD into (firstMinimum + m) 0) (omega arith)) (sym q) refl (omega arith)));
     some-way = refl;
     same = turned-binds i h l q;
   }
@@ -264,24 +264,24 @@ module _ (ar T ord into tab : List ℕ) (set : Setting ar T ord into tab) (x : �
       back : intoCount into * 2 + t - intoCount into * 2 ≡ t
       back = omega arith
 
-      has : (u : ℕ) → u ≡ t → (getD into u 0 ≡ 0 → ⊥) ⊎ (getD tab (termEnd + u) 0 ≡ 0 → ⊥)
+      has : (u : ℕ) → u ≡ t → (getD into u 0 ≡ 0 → ⊥) ⊎ (getD tab (firstMinimum + u) 0 ≡ 0 → ⊥)
       has u e = at (flag (eqb (getD into u 0) 0))
         where
-          w : 0 < getD into u 0 + getD tab (termEnd + u) 0
+          w : 0 < getD into u 0 + getD tab (firstMinimum + u) 0
           w = rw e (set .has t m)
 
-          at : Flag (eqb (getD into u 0) 0) → (getD into u 0 ≡ 0 → ⊥) ⊎ (getD tab (termEnd + u) 0 ≡ 0 → ⊥)
+          at : Flag (eqb (getD into u 0) 0) → (getD into u 0 ≡ 0 → ⊥) ⊎ (getD tab (firstMinimum + u) 0 ≡ 0 → ⊥)
           at (isTrue p) = let z = eqb-true (getD into u 0) 0 p in inr (λ n. omega (arith, w))
           at (isFalse p) = inl (eqb-false (getD into u 0) 0 p)
 
-      go : (getD into (intoCount into * 2 + t - intoCount into * 2) 0 ≡ 0 → ⊥) ⊎ (getD tab (termEnd + (intoCount into * 2 + t - intoCount into * 2)) 0 ≡ 0 → ⊥)
+      go : (getD into (intoCount into * 2 + t - intoCount into * 2) 0 ≡ 0 → ⊥) ⊎ (getD tab (firstMinimum + (intoCount into * 2 + t - intoCount into * 2)) 0 ≡ 0 → ⊥)
           → wayAt into tab x (intoCount into * 2 + t) ≡ Twice t
       go (inl n) = sym (way-equal into tab x (intoCount into * 2 + t) refl l (equal-into into tab x (intoCount into * 2 + t) (omega arith) q refl n)) ∙ ap Twice back
       go (inr n) = sym (way-equal into tab x (intoCount into * 2 + t) refl l (equal-tab into tab x (intoCount into * 2 + t) (omega arith) q refl n)) ∙ ap Twice back
 
-  pub way-out : (us : List ℕ) → List·Memᴰ us (targets ar (literalsIn (drop termEnd into)) T (literalAt x)) → WayOf us
+  pub way-out : (us : List ℕ) → List·Memᴰ us (targets ar (literalsIn (drop firstMinimum into)) T (literalAt x)) → WayOf us
   unfolding targets literalAt
-  way-out us w = go (List·Memᴰ·append-cases (waysAmong ar (predicateOf (x / 2)) (eqb (x % 2) 1) (literalsIn (drop termEnd into))) w)
+  way-out us w = go (List·Memᴰ·append-cases (waysAmong ar (predicateOf (x / 2)) (eqb (x % 2) 1) (literalsIn (drop firstMinimum into))) w)
     where
       ways-of : (p i : ℕ) → i < intoCount into → alike x (intoAt into i) ≡ true → predicateOf (x / 2) ≡ p
           → List·Memᴰ us (ways p (termsOf ar (unpacked (intoAt into i / 2)))) → WayOf us
@@ -295,9 +295,9 @@ module _ (ar T ord into tab : List ℕ) (set : Setting ar T ord into tab) (x : �
       truly zero false z q m = absurd (List·Memᴰ·not-nil m)
       truly (suc p) b z q m = absurd (List·Memᴰ·not-nil m)
 
-      go : List·Memᴰ us (waysAmong ar (predicateOf (x / 2)) (eqb (x % 2) 1) (literalsIn (drop termEnd into))) ⊎ List·Memᴰ us (plainWays (predicateOf (x / 2)) (eqb (x % 2) 1) T) → WayOf us
+      go : List·Memᴰ us (waysAmong ar (predicateOf (x / 2)) (eqb (x % 2) 1) (literalsIn (drop firstMinimum into))) ⊎ List·Memᴰ us (plainWays (predicateOf (x / 2)) (eqb (x % 2) 1) T) → WayOf us
       go (inl m) =
-          let r = among-out ar (predicateOf (x / 2)) (eqb (x % 2) 1) (literalsIn (drop termEnd into)) us m in
+          let r = among-out ar (predicateOf (x / 2)) (eqb (x % 2) 1) (literalsIn (drop firstMinimum into)) us m in
           let s = mem-into into (lit (r .label) (eqb (x % 2) 1)) (r .one-of) in
           let k : r .label ≡ intoAt into (s .0) / 2 = ap (λ (l : Literal). l .label) (s .2) in
           let b : eqb (x % 2) 1 ≡ eqb (intoAt into (s .0) % 2) 1 = ap (λ (l : Literal). l .sign) (s .2) in

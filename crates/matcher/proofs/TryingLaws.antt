@@ -10,7 +10,7 @@ use lib.ListN.{length, getD, drop}
 use lib.Bits.{bitAnd, bitOr}
 use Rattle.basics.specs.Tests.{Cmp, cmp, below, equal, above}
 use Rattle.basics.specs.Members.{clash}
-use Rattle.label.specs.Limits.{firstVariable, variableCount, termEnd, mostPlaces}
+use Rattle.label.specs.Limits.{firstVariable, variableCount, firstMinimum, mostPlaces}
 use Rattle.label.specs.Labels.{placeAt}
 use Rattle.cutting.specs.Match.{Partial, start, bindTerms, goOn, matches}
 use Rattle.cutting.specs.MatchLaws.{Solves}
@@ -31,13 +31,13 @@ use Rattle.matcher.proofs.LevelLaws.{failed-post, Level, level-in, leve
 -- theta now, and no match that has the words of theta on the mask takes literal x by a way before j
 pub record Trying (ord into tab theta store : List ℕ) (k x bound vars total : ℕ) (theta′ store′ : List ℕ) (mask j : ℕ) : Type 0 where
   pub level : Level ord into tab theta store k x bound vars total
-  pub kept : (v : ℕ) → v < termEnd → getD tab v 0 ≤ k * mostPlaces → getD theta′ v 0 ≡ getD theta v 0
+  pub kept : (v : ℕ) → v < firstMinimum → getD tab v 0 ≤ k * mostPlaces → getD theta′ v 0 ≡ getD theta v 0
   pub length-kept : length theta′ ≡ length theta
   pub store-kept : length store′ ≡ length store
   pub within : (i : ℕ) → In mask i → In bound i
   pub old : (i : ℕ) → In vars i → In bound i → In mask i
   pub remembers : Remembers ord into tab store′
-  pub failed : (i : ℕ) → i < j → (ar T : List ℕ) → Setting ar T ord into tab → (z : Solves ar (literalsIn (drop termEnd into)) T (segment ord 0 (length ord)) start)
+  pub failed : (i : ℕ) → i < j → (ar T : List ℕ) → Setting ar T ord into tab → (z : Solves ar (literalsIn (drop firstMinimum into)) T (segment ord 0 (length ord)) start)
       → Agrees mask theta firstVariable (z .σ) → isNothing (wayAt into tab x i) ≡ false → Takes (z .σ) (x / 2) (wayAt into tab x i) → ⊥
 
 pub trying-start : {ord into tab theta store : List ℕ} {k x bound vars total : ℕ} → Solving ord into tab theta store k bound → (k ≡ length ord → ⊥)
@@ -65,7 +65,7 @@ module _ {ord into tab theta store : List ℕ} {k x bound vars total : ℕ} {the
   now-known : known tab theta′ (k * mostPlaces) ≡ known tab theta (k * mostPlaces)
   now-known = sym (known-same tab theta theta′ (k * mostPlaces) (k * mostPlaces) (omega arith) (y .kept) (λ v p q. q))
 
-  pub trying-room : termEnd ≤ length theta′
+  pub trying-room : firstMinimum ≤ length theta′
   trying-room = omega (arith, y .length-kept, replacing .room)
 
   all-failed : total ≤ j → Nogood ord into tab mask theta firstVariable
@@ -85,15 +85,15 @@ module _ {ord into tab theta store : List ℕ} {k x bound vars total : ℕ} {the
   trying-end l p e = failed-post (all-failed l) (y .within) (y .kept) (remembers-more (y .remembers) (now-failed l) e p)
 
   -- a match that agrees on the mask agrees with what is known of the literal's terms
-  agrees-old : (ar T : List ℕ) (s : Setting ar T ord into tab) (z : Solves ar (literalsIn (drop termEnd into)) T (segment ord 0 (length ord)) start)
+  agrees-old : (ar T : List ℕ) (s : Setting ar T ord into tab) (z : Solves ar (literalsIn (drop firstMinimum into)) T (segment ord 0 (length ord)) start)
       → Agrees mask theta firstVariable (z .σ) → (u w : ℕ) → List·Memᴰ u (placesIn (x / 2)) → known tab theta′ (k * mostPlaces) u ≡ some w → z .σ u ≡ w
   agrees-old ar T s z a u w m e = go (cmp u firstVariable) (cmp (getD tab u 0) (k * mostPlaces + 1))
     where
       place : (j : ℕ) × (j < mostPlaces) × (u ≡ placeAt (x / 2) j)
       place = along-of (placeAt (x / 2)) mostPlaces u m
 
-      small : u < termEnd
-      small = subst (λ (i : ℕ). i < termEnd) (sym (place .2)) (level-slots (y .level) .range .places (place .0) (place .1))
+      small : u < firstMinimum
+      small = subst (λ (i : ℕ). i < firstMinimum) (sym (place .2)) (level-slots (y .level) .range .places (place .0) (place .1))
 
       word : getD tab u 0 ≤ k * mostPlaces → getD theta u 0 ≡ w
       word l = sym (y .kept u small l) ∙ some-inj _ _ (sym (known-some tab theta′ (k * mostPlaces) u small l) ∙ e)
@@ -122,11 +122,11 @@ module _ {ord into tab theta store : List ℕ} {k x bound vars total : ℕ} {the
     j-less : j < wayCount into x
     j-less = omega (arith, y .level .count)
 
-    try-kept : (w : Way) → TryPost tab theta′ (k * mostPlaces) x b theta₁ w → (v : ℕ) → v < termEnd → getD tab v 0 ≤ k * mostPlaces → getD theta₁ v 0 ≡ getD theta′ v 0
+    try-kept : (w : Way) → TryPost tab theta′ (k * mostPlaces) x b theta₁ w → (v : ℕ) → v < firstMinimum → getD tab v 0 ≤ k * mostPlaces → getD theta₁ v 0 ≡ getD theta′ v 0
     try-kept w (no-way n f g) v q z = ap (λ (th : List ℕ). getD th v 0) g
     try-kept w (a-way n f) v q z = f .kept v q z
 
-    kept-on : (v : ℕ) → v < termEnd → getD tab v 0 ≤ k * mostPlaces → getD theta₁ v 0 ≡ getD theta v 0
+    kept-on : (v : ℕ) → v < firstMinimum → getD tab v 0 ≤ k * mostPlaces → getD theta₁ v 0 ≡ getD theta v 0
     kept-on v q z = try-kept (wayAt into tab x j) p v q z ∙ y .kept v q z
 
     -- the way does not fit
@@ -142,7 +142,7 @@ module _ {ord into tab theta store : List ℕ} {k x bound vars total : ℕ} {the
       failed = λ i q. more i q (cmp i j);
     }
       where
-        miss : (ar T : List ℕ) (s : Setting ar T ord into tab) (z : Solves ar (literalsIn (drop termEnd into)) T (segment ord 0 (length ord)) start)
+        miss : (ar T : List ℕ) (s : Setting ar T ord into tab) (z : Solves ar (literalsIn (drop firstMinimum into)) T (segment ord 0 (length ord)) start)
             → Agrees mask theta firstVariable (z .σ) → TryPost tab theta′ (k * mostPlaces) x b theta₁ (wayAt into tab x j)
             → isNothing (wayAt into tab x j) ≡ false → Takes (z .σ) (x / 2) (wayAt into tab x j) → ⊥
         miss ar T s z ag (no-way n g o) q e = clash n q
@@ -151,7 +151,7 @@ module _ {ord into tab theta store : List ℕ} {k x bound vars total : ℕ} {the
             (agrees-old ar T s z ag)
 
         more : (i : ℕ) → i < j + 1 → Cmp i j → (ar T : List ℕ) → Setting ar T ord into tab
-            → (z : Solves ar (literalsIn (drop termEnd into)) T (segment ord 0 (length ord)) start) → Agrees mask theta firstVariable (z .σ)
+            → (z : Solves ar (literalsIn (drop firstMinimum into)) T (segment ord 0 (length ord)) start) → Agrees mask theta firstVariable (z .σ)
             → isNothing (wayAt into tab x i) ≡ false → Takes (z .σ) (x / 2) (wayAt into tab x i) → ⊥
         more i q (below o) = y .failed i o
         more i q (equal o) = λ ar T s z ag n e.
@@ -180,19 +180,19 @@ module _ {ord into tab theta store : List ℕ} {k x bound vars total : ℕ} {the
           ap (λ (τ : Partial). bindTerms τ (placesIn (x / 2)) (wayPlaces (wayAt into tab x j))) (sym now-known) ∙ binds .yes f
           ∙ ap (λ (o : ℕ). some (known tab theta₁ o)) i
 
-      new-terms : (v : ℕ) → v < termEnd → getD tab v 0 ≤ (k + 1) * mostPlaces → getD theta₁ v 0 < termEnd
+      new-terms : (v : ℕ) → v < firstMinimum → getD tab v 0 ≤ (k + 1) * mostPlaces → getD theta₁ v 0 < firstMinimum
       new-terms v q u =
           go (bind-values (placesIn (x / 2)) (wayPlaces (wayAt into tab x j)) (known tab theta (k * mostPlaces)) (known tab theta₁ ((k + 1) * mostPlaces)) fits
           v (getD theta₁ v 0) (known-some tab theta₁ ((k + 1) * mostPlaces) v q u))
         where
-          old : Cmp (getD tab v 0) (k * mostPlaces + 1) → known tab theta (k * mostPlaces) v ≡ some (getD theta₁ v 0) → getD theta₁ v 0 < termEnd
+          old : Cmp (getD tab v 0) (k * mostPlaces + 1) → known tab theta (k * mostPlaces) v ≡ some (getD theta₁ v 0) → getD theta₁ v 0 < firstMinimum
           old (below c) z =
               let m : getD theta v 0 ≡ getD theta₁ v 0 = some-inj _ _ (sym (known-some tab theta (k * mostPlaces) v q (omega arith)) ∙ z) in
               omega (arith, replacing .terms v q (omega arith))
           old (equal c) z = none-some _ (sym (known-none tab theta (k * mostPlaces) v q (omega arith)) ∙ z)
           old (above c) z = none-some _ (sym (known-none tab theta (k * mostPlaces) v q (omega arith)) ∙ z)
 
-          go : (known tab theta (k * mostPlaces) v ≡ some (getD theta₁ v 0)) ⊎ List·Memᴰ (getD theta₁ v 0) (wayPlaces (wayAt into tab x j)) → getD theta₁ v 0 < termEnd
+          go : (known tab theta (k * mostPlaces) v ≡ some (getD theta₁ v 0)) ⊎ List·Memᴰ (getD theta₁ v 0) (wayPlaces (wayAt into tab x j)) → getD theta₁ v 0 < firstMinimum
           go (inl z) = old (cmp (getD tab v 0) (k * mostPlaces + 1)) z
           go (inr m) =
               let r = along-of (wayPlace (wayAt into tab x j)) mostPlaces (getD theta₁ v 0) m in
@@ -214,14 +214,14 @@ module _ {ord into tab theta store : List ℕ} {k x bound vars total : ℕ} {the
       }
 
       module _ {r : Answer} {theta₂ store₂ : List ℕ} (z : SolvePost ord into tab theta₁ store′ (k + 1) (bitOr bound vars) r theta₂ store₂) where
-        kept₂ : (v : ℕ) → v < termEnd → getD tab v 0 ≤ k * mostPlaces → getD theta₂ v 0 ≡ getD theta v 0
+        kept₂ : (v : ℕ) → v < firstMinimum → getD tab v 0 ≤ k * mostPlaces → getD theta₂ v 0 ≡ getD theta v 0
         kept₂ v q u = z .kept v q (omega arith) ∙ kept-on v q u
 
         hit : r ≡ Found → (ar T : List ℕ) (s : Setting ar T ord into tab) → Inside T (known tab theta (k * mostPlaces))
-            → matches ar (literalsIn (drop termEnd into)) T (segment ord k (length ord)) (known tab theta (k * mostPlaces)) ≡ true
+            → matches ar (literalsIn (drop firstMinimum into)) T (segment ord k (length ord)) (known tab theta (k * mostPlaces)) ≡ true
         hit g ar T s ins =
             way-hits tabled replacing (y .level .low) (y .level .is) ar T s j (wayAt into tab x j) j-less refl is-way
-            (ap (λ u. goOn u (λ τ. matches ar (literalsIn (drop termEnd into)) T (segment ord (k + 1) (length ord)) τ)) fits
+            (ap (λ u. goOn u (λ τ. matches ar (literalsIn (drop firstMinimum into)) T (segment ord (k + 1) (length ord)) τ)) fits
             ∙ z .found g ar T s (inside-after tabled replacing (y .level .low) (y .level .is) ar T s j (wayAt into tab x j) j-less refl is-way ins
             (known tab theta₁ ((k + 1) * mostPlaces)) fits))
 
@@ -257,7 +257,7 @@ module _ {ord into tab theta store : List ℕ} {k x bound vars total : ℕ} {the
             late : (i : ℕ) → i < variableCount → In q i → getD tab (firstVariable + i) 0 ≤ (k + 1) * mostPlaces
             late i h o = level-bound (y .level) .early i h (z .within q is-q i o)
 
-            here : (ar T : List ℕ) (s : Setting ar T ord into tab) (zs : Solves ar (literalsIn (drop termEnd into)) T (segment ord 0 (length ord)) start)
+            here : (ar T : List ℕ) (s : Setting ar T ord into tab) (zs : Solves ar (literalsIn (drop firstMinimum into)) T (segment ord 0 (length ord)) start)
                 → Agrees (bitOr mask (bitAnd q bound)) theta firstVariable (zs .σ) → Takes (zs .σ) (x / 2) (wayAt into tab x j) → ⊥
             here ar T s zs ag m = z .failed q is-q .nothing ar T s zs (λ i h o. word i h o (cmp (getD tab (firstVariable + i) 0) (k * mostPlaces + 1)))
               where
@@ -280,7 +280,7 @@ module _ {ord into tab theta store : List ℕ} {k x bound vars total : ℕ} {the
                 word i h o (above n) = new i h o (omega arith)
 
             more : (i : ℕ) → i < j + 1 → Cmp i j → (ar T : List ℕ) → Setting ar T ord into tab
-                → (zs : Solves ar (literalsIn (drop termEnd into)) T (segment ord 0 (length ord)) start) → Agrees (bitOr mask (bitAnd q bound)) theta firstVariable (zs .σ)
+                → (zs : Solves ar (literalsIn (drop firstMinimum into)) T (segment ord 0 (length ord)) start) → Agrees (bitOr mask (bitAnd q bound)) theta firstVariable (zs .σ)
                 → isNothing (wayAt into tab x i) ≡ false → Takes (zs .σ) (x / 2) (wayAt into tab x i) → ⊥
             more i h (below o) = λ ar T s zs ag. y .failed i o ar T s zs (λ v g m. ag v g (in-left v mask (bitAnd q bound) m))
             more i h (equal o) = λ ar T s zs ag n m. here ar T s zs ag (subst (λ (a : ℕ). Takes (zs .σ) (x / 2) (wayAt into tab x a)) o m)

@@ -9,7 +9,7 @@ use lib.Dec.{eqb, ltb}
 use borrow.Author.Tests.{lt-ltb, le-ltb, eq-eqb, ne-eqb}
 use Rattle.basics.specs.Tests.{Cmp, cmp, below, equal, above}
 use Rattle.basics.specs.Members.{clash}
-use Rattle.label.specs.Limits.{termEnd, mostPlaces, equality, equalityArity}
+use Rattle.label.specs.Limits.{firstMinimum, mostPlaces, equality, equalityArity}
 use Rattle.label.specs.Labels.{predicateOf, placeAt}
 use Rattle.matcher.specs.Search.{isEquality, turn, wayPlace, alike, intoCount, intoAt, plainWay, equalWay, wayAt, wayCount}
 use Rattle.matcher.specs.declared.Way.{Way}
@@ -43,17 +43,17 @@ module _ (x y : ℕ) {p q : ℕ} (e : p ≡ predicateOf (x / 2)) (f : q ≡ pred
   unfolding alike
   alike-sign h = rw (eq-eqb (predicateOf (x / 2)) (predicateOf (y / 2)) (sym e ∙ h ∙ f))
 
-pub plain-nothing : (into : List ℕ) (x j : ℕ) {y : ℕ} {b : Bool} → y ≡ getD into (termEnd + j) 0 → b ≡ alike x y → not b ≡ true → Nothing ≡ plainWay into x j
+pub plain-nothing : (into : List ℕ) (x j : ℕ) {y : ℕ} {b : Bool} → y ≡ getD into (firstMinimum + j) 0 → b ≡ alike x y → not b ≡ true → Nothing ≡ plainWay into x j
 unfolding plainWay
 plain-nothing into x j e q f =
-    let z : alike x (getD into (termEnd + j) 0) ≡ false = ap (alike x) (sym e) ∙ sym q ∙ untaken f in rw z
+    let z : alike x (getD into (firstMinimum + j) 0) ≡ false = ap (alike x) (sym e) ∙ sym q ∙ untaken f in rw z
 
-pub plain-terms : (into : List ℕ) (x j : ℕ) {y : ℕ} {b : Bool} → y ≡ getD into (termEnd + j) 0 → b ≡ alike x y → not b ≡ false
+pub plain-terms : (into : List ℕ) (x j : ℕ) {y : ℕ} {b : Bool} → y ≡ getD into (firstMinimum + j) 0 → b ≡ alike x y → not b ≡ false
     → Straight (y / 2) ≡ plainWay into x j
 unfolding plainWay
 plain-terms into x j e q f =
-    let z : alike x (getD into (termEnd + j) 0) ≡ true = ap (alike x) (sym e) ∙ sym q ∙ unleft f in
-    ap (λ (i : ℕ). Straight (i / 2)) e ∙ sym (ap (λ (t : Bool). cond t (Straight (getD into (termEnd + j) 0 / 2)) Nothing) z)
+    let z : alike x (getD into (firstMinimum + j) 0) ≡ true = ap (alike x) (sym e) ∙ sym q ∙ unleft f in
+    ap (λ (i : ℕ). Straight (i / 2)) e ∙ sym (ap (λ (t : Bool). cond t (Straight (getD into (firstMinimum + j) 0 / 2)) Nothing) z)
 
 module _ (into tab : List ℕ) (x j : ℕ) where
   equal-low : j < intoCount into * 2 → equalWay into tab x j ≡ cond (alike x (intoAt into (j / 2)))
@@ -62,12 +62,12 @@ module _ (into tab : List ℕ) (x j : ℕ) where
   equal-low h = rw (lt-ltb j (intoCount into * 2) h)
 
   equal-high : intoCount into * 2 ≤ j → equalWay into tab x j
-      ≡ cond (eqb (x % 2) 1 && ltb 0 (getD into (j - intoCount into * 2) 0 + getD tab (termEnd + (j - intoCount into * 2)) 0))
+      ≡ cond (eqb (x % 2) 1 && ltb 0 (getD into (j - intoCount into * 2) 0 + getD tab (firstMinimum + (j - intoCount into * 2)) 0))
       (Twice (j - intoCount into * 2)) Nothing
   unfolding equalWay
   equal-high h = rw (le-ltb j (intoCount into * 2) h)
 
-  module _ (h : j < (length into - termEnd) * 2) {y : ℕ} {b : Bool} (e : y ≡ getD into (termEnd + j / 2) 0) (q : b ≡ alike x y) where
+  module _ (h : j < (length into - firstMinimum) * 2) {y : ℕ} {b : Bool} (e : y ≡ getD into (firstMinimum + j / 2) 0) (q : b ≡ alike x y) where
     pub equal-nothing : not b ≡ true → Nothing ≡ equalWay into tab x j
     equal-nothing f = sym (equal-low h ∙ ap (λ (t : Bool). cond t (cond (eqb (j % 2) 0) (Straight (intoAt into (j / 2) / 2)) (Turned (intoAt into (j / 2) / 2))) Nothing)
         (ap (alike x) (sym e) ∙ sym q ∙ untaken f))
@@ -80,27 +80,27 @@ module _ (into tab : List ℕ) (x j : ℕ) where
     equal-turned f z = sym (equal-low h ∙ ap₂ (λ (t u : Bool). cond t (cond u (Straight (intoAt into (j / 2) / 2)) (Turned (intoAt into (j / 2) / 2))) Nothing)
         (ap (alike x) (sym e) ∙ sym q ∙ unleft f) (ne-eqb (j % 2) 0 z) ∙ ap (λ (i : ℕ). Turned (i / 2)) (sym e))
 
-  module _ (h : (length into - termEnd) * 2 ≤ j) where
+  module _ (h : (length into - firstMinimum) * 2 ≤ j) where
     pub equal-false : (x % 2 ≡ 1 → ⊥) → Nothing ≡ equalWay into tab x j
-    equal-false z = sym (equal-high h ∙ ap (λ (t : Bool). cond (t && ltb 0 (getD into (j - intoCount into * 2) 0 + getD tab (termEnd + (j - intoCount into * 2)) 0))
+    equal-false z = sym (equal-high h ∙ ap (λ (t : Bool). cond (t && ltb 0 (getD into (j - intoCount into * 2) 0 + getD tab (firstMinimum + (j - intoCount into * 2)) 0))
         (Twice (j - intoCount into * 2)) Nothing) (ne-eqb (x % 2) 1 z))
 
-    equal-true : x % 2 ≡ 1 → 0 < getD into (j - intoCount into * 2) 0 + getD tab (termEnd + (j - intoCount into * 2)) 0
+    equal-true : x % 2 ≡ 1 → 0 < getD into (j - intoCount into * 2) 0 + getD tab (firstMinimum + (j - intoCount into * 2)) 0
         → Twice (j - intoCount into * 2) ≡ equalWay into tab x j
     equal-true z k = sym (equal-high h ∙ ap₂ (λ (t u : Bool). cond (t && u) (Twice (j - intoCount into * 2)) Nothing) (eq-eqb (x % 2) 1 z) (lt-ltb 0 _ k))
 
-    pub equal-into : x % 2 ≡ 1 → {y : ℕ} → y ≡ getD into (j - (length into - termEnd) * 2) 0 → (y ≡ 0 → ⊥)
-        → Twice (j - (length into - termEnd) * 2) ≡ equalWay into tab x j
+    pub equal-into : x % 2 ≡ 1 → {y : ℕ} → y ≡ getD into (j - (length into - firstMinimum) * 2) 0 → (y ≡ 0 → ⊥)
+        → Twice (j - (length into - firstMinimum) * 2) ≡ equalWay into tab x j
     equal-into z e k = equal-true z (omega arith)
 
-    pub equal-tab : x % 2 ≡ 1 → {y : ℕ} → y ≡ getD tab (termEnd + (j - (length into - termEnd) * 2)) 0 → (y ≡ 0 → ⊥)
-        → Twice (j - (length into - termEnd) * 2) ≡ equalWay into tab x j
+    pub equal-tab : x % 2 ≡ 1 → {y : ℕ} → y ≡ getD tab (firstMinimum + (j - (length into - firstMinimum) * 2)) 0 → (y ≡ 0 → ⊥)
+        → Twice (j - (length into - firstMinimum) * 2) ≡ equalWay into tab x j
     equal-tab z e k = equal-true z (omega arith)
 
-    pub equal-none : {y w : ℕ} → y ≡ getD into (j - (length into - termEnd) * 2) 0 → y ≡ 0 → w ≡ getD tab (termEnd + (j - (length into - termEnd) * 2)) 0 → w ≡ 0
+    pub equal-none : {y w : ℕ} → y ≡ getD into (j - (length into - firstMinimum) * 2) 0 → y ≡ 0 → w ≡ getD tab (firstMinimum + (j - (length into - firstMinimum) * 2)) 0 → w ≡ 0
         → Nothing ≡ equalWay into tab x j
     equal-none e k f i =
-        let z : getD into (j - intoCount into * 2) 0 + getD tab (termEnd + (j - intoCount into * 2)) 0 ≤ 0 = omega arith in
+        let z : getD into (j - intoCount into * 2) 0 + getD tab (firstMinimum + (j - intoCount into * 2)) 0 ≤ 0 = omega arith in
         sym (equal-high h ∙ ap (λ (u : Bool). cond (eqb (x % 2) 1 && u) (Twice (j - intoCount into * 2)) Nothing) (le-ltb 0 _ z) ∙ last (eqb (x % 2) 1))
       where
         last : (t : Bool) → cond (t && false) (Twice (j - intoCount into * 2)) Nothing ≡ Nothing
@@ -117,18 +117,18 @@ module _ (into tab : List ℕ) (x j : ℕ) {b : Bool} (q : b ≡ isEquality x) w
   way-plain h e = rw (sym q ∙ h) e
 
 module _ (into : List ℕ) (x : ℕ) {b : Bool} (q : b ≡ isEquality x) where
-  pub count-equal : b ≡ true → (length into - termEnd) * 2 + termEnd ≡ wayCount into x
+  pub count-equal : b ≡ true → (length into - firstMinimum) * 2 + firstMinimum ≡ wayCount into x
   unfolding wayCount
   count-equal h = rw (sym q ∙ h)
 
-  pub count-plain : b ≡ false → length into - termEnd ≡ wayCount into x
+  pub count-plain : b ≡ false → length into - firstMinimum ≡ wayCount into x
   unfolding wayCount
   count-plain h = rw (sym q ∙ h)
 
-  pub count-below : {j : ℕ} → b ≡ true → j < wayCount into x → j < (length into - termEnd) * 2 + termEnd
+  pub count-below : {j : ℕ} → b ≡ true → j < wayCount into x → j < (length into - firstMinimum) * 2 + firstMinimum
   count-below h k = omega (arith, count-equal h)
 
-  pub count-room : {j : ℕ} → b ≡ false → j < wayCount into x → termEnd + j < length into
+  pub count-room : {j : ℕ} → b ≡ false → j < wayCount into x → firstMinimum + j < length into
   count-room h k = omega (arith, count-plain h)
 
 -- ===== Places of ways =====

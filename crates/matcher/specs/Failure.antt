@@ -5,7 +5,7 @@ use mathlib.Core.Bool.{Bool, true, false}
 use mathlib.Core.List.{List}
 use Prim.Native.Nat.{ℕ, zero, suc, _+_, _*_, _/_, _%_, _≤_, _<_}
 use lib.ListN.{length, getD, drop}
-use Rattle.label.specs.Limits.{firstVariable, variableCount, termEnd, mostPlaces}
+use Rattle.label.specs.Limits.{firstVariable, variableCount, firstMinimum, mostPlaces}
 use Rattle.label.specs.Labels.{placeAt}
 use Rattle.cutting.specs.Match.{start, matches}
 use Rattle.cutting.specs.MatchLaws.{Solves}
@@ -48,7 +48,7 @@ Agrees mask s at σ = (i : ℕ) → i < variableCount → In mask i → σ (firs
 
 -- no match at all has these words for the variables of the mask
 pub record Nogood (ord into tab : List ℕ) (mask : ℕ) (s : List ℕ) (at : ℕ) : Type 0 where
-  pub nothing : (ar T : List ℕ) → Setting ar T ord into tab → (z : Solves ar (literalsIn (drop termEnd into)) T (segment ord 0 (length ord)) start)
+  pub nothing : (ar T : List ℕ) → Setting ar T ord into tab → (z : Solves ar (literalsIn (drop firstMinimum into)) T (segment ord 0 (length ord)) start)
       → Agrees mask s at (z .σ) → ⊥
 
 -- ===== The store =====
@@ -133,7 +133,7 @@ pub record HandedUp (a : Answer) (bound : ℕ) (r : Bool) : Type 0 where
 -- what the search of the literals from k on starts from
 pub record Solving (ord into tab theta store : List ℕ) (k bound : ℕ) : Type 0 where
   pub tabled : Tabled ord tab (length ord)
-  pub ranged : AllInRange ord
+  pub ranged : AllInRange firstMinimum ord
   pub sorted : Sorted into
   pub replacing : Replacing tab theta (k * mostPlaces)
   pub most : k ≤ length ord
@@ -143,20 +143,20 @@ pub record Solving (ord into tab theta store : List ℕ) (k bound : ℕ) : Type 
 -- a match of the literals from k on, beyond what is known; or no match at all has the words of theta on the mask; or the store has no rows
 pub record SolvePost (ord into tab theta store : List ℕ) (k bound : ℕ) (r : Answer) (theta′ store′ : List ℕ) : Type 0 where
   pub found : r ≡ Found → (ar T : List ℕ) → Setting ar T ord into tab → Inside T (known tab theta (k * mostPlaces))
-      → matches ar (literalsIn (drop termEnd into)) T (segment ord k (length ord)) (known tab theta (k * mostPlaces)) ≡ true
+      → matches ar (literalsIn (drop firstMinimum into)) T (segment ord k (length ord)) (known tab theta (k * mostPlaces)) ≡ true
   pub failed : (q : ℕ) → r ≡ Failed q → Nogood ord into tab q theta firstVariable
   pub within : (q : ℕ) → r ≡ Failed q → (i : ℕ) → In q i → In bound i
   pub weary : r ≡ Weary → length store < storeWords
-  pub kept : (v : ℕ) → v < termEnd → getD tab v 0 ≤ k * mostPlaces → getD theta′ v 0 ≡ getD theta v 0
+  pub kept : (v : ℕ) → v < firstMinimum → getD tab v 0 ≤ k * mostPlaces → getD theta′ v 0 ≡ getD theta v 0
   pub remembers : Remembers ord into tab store′
 
 -- what the search of all literals starts from, and what it gives
 pub record Decidable (ord into tab theta : List ℕ) : Type 0 where
   pub tabled : Tabled ord tab (length ord)
-  pub ranged : AllInRange ord
+  pub ranged : AllInRange firstMinimum ord
   pub sorted : Sorted into
   pub replacing : Replacing tab theta 0
 
 pub record Decided (ord into tab : List ℕ) (r : Bool) (theta′ : List ℕ) : Type 0 where
-  pub answer : (ar T : List ℕ) → Setting ar T ord into tab → r ≡ matches ar (literalsIn (drop termEnd into)) T (literalsIn ord) start
+  pub answer : (ar T : List ℕ) → Setting ar T ord into tab → r ≡ matches ar (literalsIn (drop firstMinimum into)) T (literalsIn ord) start
   pub stays : (v : ℕ) → v < firstVariable → getD theta′ v 0 ≡ v

@@ -6,7 +6,7 @@ use mathlib.Core.List.{List}
 use Prim.Native.Nat.{ℕ, _+_, _*_, _/_, _%_, _≤_, _<_}
 use lib.ListN.{length, getD, drop}
 use lib.Dec.{ltb, leb}
-use Rattle.label.specs.Limits.{firstVariable, termEnd, predicateCount, mostPlaces}
+use Rattle.label.specs.Limits.{firstVariable, firstMinimum, predicateCount, mostPlaces}
 use Rattle.label.specs.Labels.{predicateOf, placeAt}
 use Rattle.paths.specs.Paths.{mostPaths}
 use Rattle.cutting.specs.Match.{start, matches}
@@ -46,7 +46,7 @@ pub record Best (ord seen : List ℕ) (k : ℕ) (b : Pick) : Type 0 where
 
 -- the terms of the first k literals are seen
 pub record SeenTo (ord seen : List ℕ) (k : ℕ) : Type 0 where
-  pub room : termEnd ≤ length seen
+  pub room : firstMinimum ≤ length seen
   pub each : (i j : ℕ) → i < k → j < mostPlaces → 0 < getD seen (placeAt (getD ord i 0 / 2) j) 0
 
 -- the same literals from k on in another order, those before k as they were
@@ -58,7 +58,7 @@ pub record Reordered (k : ℕ) (ord ord′ : List ℕ) : Type 0 where
 
 -- what taking the literal `at` at place k requires and gives
 pub record Takable (ord seen : List ℕ) (k at : ℕ) : Type 0 where
-  pub ranged : AllInRange ord
+  pub ranged : AllInRange firstMinimum ord
   pub seen-to : SeenTo ord seen k
   pub from : k ≤ at
   pub below : at < length ord
@@ -69,7 +69,7 @@ pub record Taken (ord : List ℕ) (k : ℕ) (ord′ seen′ : List ℕ) : Type 0
 
 -- from k on there is a part, as far as e: no literal from e on shares a variable with one before
 pub record Separable (ord seen : List ℕ) (k : ℕ) : Type 0 where
-  pub ranged : AllInRange ord
+  pub ranged : AllInRange firstMinimum ord
   pub seen-to : SeenTo ord seen k
   pub some : k < length ord
   pub few : length ord < mostPaths
@@ -83,11 +83,11 @@ pub record PartTaken (ord : List ℕ) (k : ℕ) (e : ℕ) (ord′ seen′ : List
 
 -- what the search of all parts answers
 pub record PartsPost (ord into tab : List ℕ) (r : Bool) : Type 0 where
-  pub answer : (ar T : List ℕ) → Setting ar T ord into tab → r ≡ matches ar (literalsIn (drop termEnd into)) T (literalsIn ord) start
+  pub answer : (ar T : List ℕ) → Setting ar T ord into tab → r ≡ matches ar (literalsIn (drop firstMinimum into)) T (literalsIn ord) start
 
 -- no literal of the first path has the predicate and sign of x, and x is no true equality
 pub record NoWay (into : List ℕ) (x : ℕ) : Type 0 where
-  pub others : (j : ℕ) → termEnd ≤ j → j < length into → alike x (getD into j 0) ≡ false
+  pub others : (j : ℕ) → firstMinimum ≤ j → j < length into → alike x (getD into j 0) ≡ false
   pub equality : isEquality x ≡ true → x % 2 ≡ 1 → ⊥
 
 -- the kind of a literal: its predicate and sign
@@ -100,7 +100,7 @@ kindCount = predicateCount * 2
 -- kinds marks the kinds of the literals of the first path, as far as j
 pub record Kinds (into kinds : List ℕ) (j : ℕ) : Type 0 where
   pub room : kindCount ≤ length kinds
-  pub each : (i : ℕ) → termEnd ≤ i → i < j → kindOf (getD into i 0) < kindCount → 0 < getD kinds (kindOf (getD into i 0)) 0
+  pub each : (i : ℕ) → firstMinimum ≤ i → i < j → kindOf (getD into i 0) < kindCount → 0 < getD kinds (kindOf (getD into i 0)) 0
 
 -- what the tests for ways say
 pub record WayPost (kinds : List ℕ) (x : ℕ) (r : Bool) : Type 0 where

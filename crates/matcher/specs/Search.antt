@@ -1,4 +1,5 @@
--- The search as the code makes it: literals as numbers, a table of the places where terms come first, and the ways to go on, numbered.
+-- The search as the code makes it: literals as numbers, a table of the places where terms come first, and the ways to go on, numbered. There are no
+-- minimum variables (document 02, L12), so that terms are below firstMinimum, and those from firstVariable on are variables.
 use mathlib.Core.Path.{_≡_}
 use mathlib.Core.Bool.{Bool, true, false, _&&_, _||_, cond}
 use mathlib.Core.List.{List, [], _∷_, _++_, map, List·Memᴰ}
@@ -6,7 +7,7 @@ use mathlib.Core.Option.{some, none}
 use Prim.Native.Nat.{ℕ, zero, suc, _+_, _-_, _*_, _/_, _%_, _≤_, _<_}
 use lib.ListN.{length, getD, set, take, drop}
 use lib.Dec.{eqb, ltb, leb}
-use Rattle.label.specs.Limits.{firstVariable, termEnd, termBase, predicateCount, mostPlaces, equality, equalityArity}
+use Rattle.label.specs.Limits.{firstVariable, firstMinimum, termBase, predicateCount, mostPlaces, equality, equalityArity}
 use Rattle.label.specs.Labels.{predicateOf, placeAt, equates}
 use Rattle.label.specs.declared.Test.the-variants.{Always, Is}
 use Rattle.paths.specs.Paths.{mostPaths, Literal, termsIn}
@@ -44,7 +45,7 @@ segment ord k n = literalsIn (take (n - k) (drop k ord))
 -- tab tells of each term the place, counted from 1, where it comes first; 0 for what is no variable. What is known before place m: the terms that came first
 -- before it, as theta has them.
 unfoldable pub known : List ℕ → List ℕ → ℕ → Partial
-known tab theta m t = cond (ltb t termEnd) (cond (leb (getD tab t 0) m) (some (getD theta t 0)) none) (some t)
+known tab theta m t = cond (ltb t firstMinimum) (cond (leb (getD tab t 0) m) (some (getD theta t 0)) none) (some t)
 
 -- the term t, met at place m, is to become u: it is written where it comes first, else compared
 unfoldable pub slotFits : List ℕ → List ℕ → ℕ → ℕ → ℕ → Bool
@@ -55,16 +56,16 @@ slotAfter tab theta m t u = cond (eqb (getD tab t 0) (m + 1)) (set theta t u) th
 
 -- the places of the label l stand from place m on
 pub record Slots (tab : List ℕ) (m l : ℕ) : Type 0 where
-  pub room : termEnd ≤ length tab
-  pub range : InRange l
+  pub room : firstMinimum ≤ length tab
+  pub range : InRange firstMinimum l
   pub seen : (k : ℕ) → k < mostPlaces → getD tab (placeAt l k) 0 ≤ m + k + 1
-  pub only : (k v : ℕ) → k < mostPlaces → v < termEnd → getD tab v 0 ≡ m + k + 1 → v ≡ placeAt l k
+  pub only : (k v : ℕ) → k < mostPlaces → v < firstMinimum → getD tab v 0 ≡ m + k + 1 → v ≡ placeAt l k
 
 -- theta replaces terms by terms, as far as they are known before place m, and what is no variable stays
 pub record Replacing (tab theta : List ℕ) (m : ℕ) : Type 0 where
-  pub room : termEnd ≤ length theta
+  pub room : firstMinimum ≤ length theta
   pub stays : (v : ℕ) → v < firstVariable → getD theta v 0 ≡ v
-  pub terms : (v : ℕ) → v < termEnd → getD tab v 0 ≤ m → getD theta v 0 < termEnd
+  pub terms : (v : ℕ) → v < firstMinimum → getD tab v 0 ≤ m → getD theta v 0 < firstMinimum
 
 -- ===== The ways to go on =====
 
@@ -97,7 +98,7 @@ isNothing Nothing = true
 pub record BindPost (tab theta : List ℕ) (m l : ℕ) (w : Way) (r : Bool) (theta′ : List ℕ) : Type 0 where
   pub yes : r ≡ true → bindTerms (known tab theta m) (placesIn l) (wayPlaces w) ≡ some (known tab theta′ (m + mostPlaces))
   pub no : r ≡ false → bindTerms (known tab theta m) (placesIn l) (wayPlaces w) ≡ none
-  pub kept : (v : ℕ) → v < termEnd → getD tab v 0 ≤ m → getD theta′ v 0 ≡ getD theta v 0
+  pub kept : (v : ℕ) → v < firstMinimum → getD tab v 0 ≤ m → getD theta′ v 0 ≡ getD theta v 0
 
 -- two literals have one predicate and one sign
 unfoldable pub alike : ℕ → ℕ → Bool
@@ -105,10 +106,10 @@ alike x y = eqb (predicateOf (x / 2)) (predicateOf (y / 2)) && eqb (x % 2) (y % 
 
 -- the literals of the first path stand behind a table of its terms
 abbrev pub intoCount : List ℕ → ℕ
-intoCount into = length into - termEnd
+intoCount into = length into - firstMinimum
 
 abbrev pub intoAt : List ℕ → ℕ → ℕ
-intoAt into j = getD into (termEnd + j) 0
+intoAt into j = getD into (firstMinimum + j) 0
 
 -- way j for a literal of a predicate that is not equality: literal j of the first path
 unfoldable pub plainWay : List ℕ → ℕ → ℕ → Way
@@ -123,7 +124,7 @@ equalWay into tab x j =
     (cond (alike x (intoAt into (j / 2)))
     (cond (eqb (j % 2) 0) (Straight (intoAt into (j / 2) / 2)) (Turned (intoAt into (j / 2) / 2)))
     Nothing)
-    (cond (eqb (x % 2) 1 && ltb 0 (getD into (j - intoCount into * 2) 0 + getD tab (termEnd + (j - intoCount into * 2)) 0))
+    (cond (eqb (x % 2) 1 && ltb 0 (getD into (j - intoCount into * 2) 0 + getD tab (firstMinimum + (j - intoCount into * 2)) 0))
     (Twice (j - intoCount into * 2))
     Nothing)
 
@@ -133,7 +134,7 @@ wayAt into tab x j = cond (isEquality x) (equalWay into tab x j) (plainWay into 
 
 unfoldable pub wayCount : List ℕ → ℕ → ℕ
 unfolding isEquality
-wayCount into x = cond (isEquality x) (intoCount into * 2 + termEnd) (intoCount into)
+wayCount into x = cond (isEquality x) (intoCount into * 2 + firstMinimum) (intoCount into)
 
 -- what trying a way gives: its places bound, or nothing
 pub data TryPost (tab theta : List ℕ) (m x : ℕ) (r : Bool) (theta′ : List ℕ) (w : Way) : Type 0 where
@@ -165,9 +166,9 @@ imageOf theta l k = getD theta (placeAt l k) 0
 
 -- theta gives the places of l terms
 pub record Images (theta : List ℕ) (l : ℕ) : Type 0 where
-  pub room : termEnd ≤ length theta
-  pub range : InRange l
-  pub terms : (k : ℕ) → k < mostPlaces → imageOf theta l k < termEnd
+  pub room : firstMinimum ≤ length theta
+  pub range : InRange firstMinimum l
+  pub terms : (k : ℕ) → k < mostPlaces → imageOf theta l k < firstMinimum
 
 -- the label of predicate p and places f 0, .., f (n - 1), if there were n places
 unfoldable pub packing : ℕ → (ℕ → ℕ) → ℕ → ℕ
@@ -189,48 +190,48 @@ pub data Met (into theta : List ℕ) (x : ℕ) (r : Bool) : Type 0 where
 
 -- the first path's literals are in order behind their terms, their labels in range
 pub record Sorted (into : List ℕ) : Type 0 where
-  pub room : termEnd ≤ length into
+  pub room : firstMinimum ≤ length into
   pub order : (i j : ℕ) → i < j → j < intoCount into → intoAt into i < intoAt into j
-  pub ranged : (i : ℕ) → i < intoCount into → InRange (intoAt into i / 2)
+  pub ranged : (i : ℕ) → i < intoCount into → InRange firstMinimum (intoAt into i / 2)
 
 -- the n literals of the second path, and the table of the places where their terms come first; behind it that of its terms
 pub record Tabled (ord tab : List ℕ) (n : ℕ) : Type 0 where
   pub room : n ≤ length ord
   pub few : n < mostPaths
-  pub tab-room : termEnd + termEnd ≤ length tab
+  pub tab-room : firstMinimum + firstMinimum ≤ length tab
   pub fixed : (v : ℕ) → v < firstVariable → getD tab v 0 ≡ 0
-  pub free : (v : ℕ) → firstVariable ≤ v → v < termEnd → 0 < getD tab v 0
+  pub free : (v : ℕ) → firstVariable ≤ v → v < firstMinimum → 0 < getD tab v 0
   pub seen : (m : ℕ) → m < n * mostPlaces → getD tab (termAt ord m) 0 ≤ m + 1
-  pub only : (m v : ℕ) → m < n * mostPlaces → v < termEnd → getD tab v 0 ≡ m + 1 → v ≡ termAt ord m
+  pub only : (m v : ℕ) → m < n * mostPlaces → v < firstMinimum → getD tab v 0 ≡ m + 1 → v ≡ termAt ord m
 
 -- the terms of T, the labels of both paths, and their tables of terms
 pub record Setting (ar : List ℕ) (T ord into tab : List ℕ) : Type 0 where
-  pub search : Searchable ar (literalsIn (drop termEnd into)) T
+  pub search : Searchable ar (literalsIn (drop firstMinimum into)) T
   pub labels : AllLabels ar (literalsIn ord)
-  pub below : (t : ℕ) → List·Memᴰ t T → t < termEnd
+  pub below : (t : ℕ) → List·Memᴰ t T → t < firstMinimum
   pub own : (t : ℕ) → List·Memᴰ t (termsIn ar (literalsIn ord)) → List·Memᴰ t T
-  pub has : (t : ℕ) → List·Memᴰ t T → 0 < getD into t 0 + getD tab (termEnd + t) 0
-  pub of : (t : ℕ) → t < termEnd → 0 < getD into t 0 + getD tab (termEnd + t) 0 → List·Memᴰ t T
+  pub has : (t : ℕ) → List·Memᴰ t T → 0 < getD into t 0 + getD tab (firstMinimum + t) 0
+  pub of : (t : ℕ) → t < firstMinimum → 0 < getD into t 0 + getD tab (firstMinimum + t) 0 → List·Memᴰ t T
 
 -- what is known of the variables are terms of T
 pub record Inside (T : List ℕ) (τ : Partial) : Type 0 where
-  pub each : (v w : ℕ) → firstVariable ≤ v → v < termEnd → τ v ≡ some w → List·Memᴰ w T
+  pub each : (v w : ℕ) → firstVariable ≤ v → v < firstMinimum → τ v ≡ some w → List·Memᴰ w T
 
 -- before any place: what is no variable is 0, variables come behind all places
 abbrev pub late : ℕ
 late = mostPaths * mostPlaces
 
 pub record Unplaced (tab : List ℕ) : Type 0 where
-  pub room : termEnd ≤ length tab
+  pub room : firstMinimum ≤ length tab
   pub fixed : (v : ℕ) → v < firstVariable → getD tab v 0 ≡ 0
-  pub free : (v : ℕ) → firstVariable ≤ v → v < termEnd → getD tab v 0 ≡ late
+  pub free : (v : ℕ) → firstVariable ≤ v → v < firstMinimum → getD tab v 0 ≡ late
 
 -- the terms of the places before m have their first places
 pub record Placing (ord tab₀ tab : List ℕ) (m : ℕ) : Type 0 where
   pub length-kept : length tab ≡ length tab₀
   pub fixed : (v : ℕ) → v < firstVariable → getD tab v 0 ≡ 0
-  pub free : (v : ℕ) → firstVariable ≤ v → v < termEnd → 0 < getD tab v 0
-  pub early : (v : ℕ) → v < termEnd → (getD tab v 0 ≡ late → ⊥) → getD tab v 0 ≤ m
+  pub free : (v : ℕ) → firstVariable ≤ v → v < firstMinimum → 0 < getD tab v 0
+  pub early : (v : ℕ) → v < firstMinimum → (getD tab v 0 ≡ late → ⊥) → getD tab v 0 ≤ m
   pub seen : (i : ℕ) → i < m → getD tab (termAt ord i) 0 ≤ i + 1
-  pub only : (i v : ℕ) → i < m → v < termEnd → getD tab v 0 ≡ i + 1 → v ≡ termAt ord i
-  pub kept : (v : ℕ) → termEnd ≤ v → getD tab v 0 ≡ getD tab₀ v 0
+  pub only : (i v : ℕ) → i < m → v < firstMinimum → getD tab v 0 ≡ i + 1 → v ≡ termAt ord i
+  pub kept : (v : ℕ) → firstMinimum ≤ v → getD tab v 0 ≡ getD tab₀ v 0

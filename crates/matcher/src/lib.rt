@@ -8,7 +8,7 @@ ghost use mathlib.Core.Bool.{true, false, cond};
 ghost use Prim.Native.Nat.{ℕ, _+_, _-_, _*_, _/_, _%_, _<_, _≤_};
 ghost use lib.ListN.{length, getD};
 ghost use lib.Dec.{eqb, ltb};
-ghost use Rattle.label.specs.Limits.{termEnd, variableCount, mostPlaces, equalityArity};
+ghost use Rattle.label.specs.Limits.{variableCount, firstMinimum, mostPlaces, equalityArity};
 ghost use Rattle.label.specs.Labels.{placeAt};
 ghost use Rattle.diagram.specs.Validity.{tree};
 ghost use Rattle.listing.specs.Used.{marked};
@@ -24,8 +24,8 @@ ghost use Rattle.matcher.specs.Search.{Unplaced, Placing};
 ghost use Rattle.matcher.specs.Failure.{bitAt, In, One, Variables, Same, storeRows, storeWords, RecallPost, Copied, Rewritten, RememberPost};
 ghost use Rattle.matcher.specs.Failure.{isFound, isWeary, maskOf, HandedUp, Solving, SolvePost, Decidable, Decided};
 
-// A word for each term.
-const TERMS: usize = Term::END as usize;
+// A word for each term that may stand here: there are no minimum variables, which come last.
+const TERMS: usize = Term::FIRST_MINIMUM as usize;
 
 const FIRST_VARIABLE: usize = Term::FIRST_VARIABLE as usize;
 
@@ -154,7 +154,7 @@ fn place(tab: &[u64], theta: &mut [u64], m: u64, t: usize, u: u64) -> bool
 // The places of the label l, from place m on, are to go the way.
 fn bind(tab: &[u64], theta: &mut [u64], m: u64, l: u64, way: Way) -> bool
     requires { ⌜ Slots (now tab) m l ⌝ }
-    requires { ⌜ termEnd ≤ length (now theta) ⌝ }
+    requires { ⌜ firstMinimum ≤ length (now theta) ⌝ }
     requires { ⌜ m < late ⌝ }
     ensures { λ r. ⌜ BindPost (now (tab .entry)) (now (theta .entry)) m l way r (now (theta .exit)) ⌝ }
 {
@@ -184,7 +184,7 @@ fn alike(x: u64, y: u64) -> bool
 
 // Way j of the literal x of another predicate than equality.
 fn plain_way(into: &[u64], x: u64, j: usize) -> Way
-    requires { ⌜ termEnd + j < length (now into) ⌝ }
+    requires { ⌜ firstMinimum + j < length (now into) ⌝ }
     ensures { λ r. ⌜ r ≡ plainWay (now (into .entry)) x j ⌝ }
 {
     let y = into[TERMS + j];
@@ -196,9 +196,9 @@ fn plain_way(into: &[u64], x: u64, j: usize) -> Way
 
 // Way j of an equality: literal j / 2, turned round for odd j; behind these t = t for each term.
 fn equal_way(into: &[u64], tab: &[u64], x: u64, j: usize) -> Way
-    requires { ⌜ termEnd ≤ length (now into) ⌝ }
-    requires { ⌜ termEnd + termEnd ≤ length (now tab) ⌝ }
-    requires { ⌜ j < (length (now into) - termEnd) * 2 + termEnd ⌝ }
+    requires { ⌜ firstMinimum ≤ length (now into) ⌝ }
+    requires { ⌜ firstMinimum + firstMinimum ≤ length (now tab) ⌝ }
+    requires { ⌜ j < (length (now into) - firstMinimum) * 2 + firstMinimum ⌝ }
     ensures { λ r. ⌜ r ≡ equalWay (now (into .entry)) (now (tab .entry)) x j ⌝ }
 {
     let n = into.len() - TERMS;
@@ -227,8 +227,8 @@ fn equal_way(into: &[u64], tab: &[u64], x: u64, j: usize) -> Way
 
 // Way j of the literal x.
 fn way_at(into: &[u64], tab: &[u64], x: u64, j: usize) -> Way
-    requires { ⌜ termEnd ≤ length (now into) ⌝ }
-    requires { ⌜ termEnd + termEnd ≤ length (now tab) ⌝ }
+    requires { ⌜ firstMinimum ≤ length (now into) ⌝ }
+    requires { ⌜ firstMinimum + firstMinimum ≤ length (now tab) ⌝ }
     requires { ⌜ j < wayCount (now into) x ⌝ }
     ensures { λ r. ⌜ r ≡ wayAt (now (into .entry)) (now (tab .entry)) x j ⌝ }
 {
@@ -240,7 +240,7 @@ fn way_at(into: &[u64], tab: &[u64], x: u64, j: usize) -> Way
 
 // How many ways there are for the literal x.
 fn way_count(into: &[u64], x: u64) -> usize
-    requires { ⌜ termEnd ≤ length (now into) ⌝ }
+    requires { ⌜ firstMinimum ≤ length (now into) ⌝ }
     ensures { λ r. ⌜ r ≡ wayCount (now (into .entry)) x ⌝ }
 {
     if is_equality(x) {
@@ -251,11 +251,11 @@ fn way_count(into: &[u64], x: u64) -> usize
 
 // Tries way j for the literal x, whose places stand from m on.
 fn attempt(into: &[u64], tab: &[u64], theta: &mut [u64], m: u64, x: u64, j: usize) -> bool
-    requires { ⌜ termEnd ≤ length (now into) ⌝ }
-    requires { ⌜ termEnd + termEnd ≤ length (now tab) ⌝ }
+    requires { ⌜ firstMinimum ≤ length (now into) ⌝ }
+    requires { ⌜ firstMinimum + firstMinimum ≤ length (now tab) ⌝ }
     requires { ⌜ j < wayCount (now into) x ⌝ }
     requires { ⌜ Slots (now tab) m (x / 2) ⌝ }
-    requires { ⌜ termEnd ≤ length (now theta) ⌝ }
+    requires { ⌜ firstMinimum ≤ length (now theta) ⌝ }
     requires { ⌜ m < late ⌝ }
     ensures { λ r. ⌜ TryPost (now (tab .entry)) (now (theta .entry)) m x r (now (theta .exit)) (wayAt (now (into .entry)) (now (tab .entry)) x j) ⌝ }
 {
@@ -268,8 +268,8 @@ fn attempt(into: &[u64], tab: &[u64], theta: &mut [u64], m: u64, x: u64, j: usiz
 
 // Whether the terms of the label l are all known before place m.
 fn all_known(tab: &[u64], m: u64, l: u64) -> bool
-    requires { ⌜ termEnd ≤ length (now tab) ⌝ }
-    requires { ⌜ InRange l ⌝ }
+    requires { ⌜ firstMinimum ≤ length (now tab) ⌝ }
+    requires { ⌜ InRange firstMinimum l ⌝ }
     ensures { λ r. ⌜ r ≡ allKnown (now (tab .entry)) m l ⌝ }
 {
     let mut k = 0;
@@ -339,7 +339,7 @@ fn image(theta: &[u64], l: u64) -> u64
 
 // The variable t alone as a set; a term that is no variable is in no set.
 fn one(t: usize) -> u64
-    requires { ⌜ t < termEnd ⌝ }
+    requires { ⌜ t < firstMinimum ⌝ }
     ensures { λ r. ⌜ One t r ⌝ }
 {
     if t < FIRST_VARIABLE {
@@ -365,7 +365,7 @@ fn part_of(a: u64, b: u64) -> bool
 
 // The variables of the label l.
 fn variables_of(l: u64) -> u64
-    requires { ⌜ InRange l ⌝ }
+    requires { ⌜ InRange firstMinimum l ⌝ }
     ensures { λ r. ⌜ Variables l mostPlaces r ⌝ }
 {
     let mut mask = 0;
@@ -379,7 +379,7 @@ fn variables_of(l: u64) -> u64
 
 // The row for a failure of literal k on the mask. Nothing but time depends on it.
 fn slot(theta: &[u64], mask: u64, k: usize) -> usize
-    requires { ⌜ termEnd ≤ length (now theta) ⌝ }
+    requires { ⌜ firstMinimum ≤ length (now theta) ⌝ }
     ensures { λ r. ⌜ r < storeRows ⌝ }
 {
     let mut h = (k % ROWS) as u64 * HASH_FACTOR % HASHES;
@@ -401,7 +401,7 @@ fn slot(theta: &[u64], mask: u64, k: usize) -> usize
 
 // Whether the words from `at` on are those of theta on the variables of the mask.
 fn agrees(theta: &[u64], store: &[u64], at: usize, mask: u64) -> bool
-    requires { ⌜ termEnd ≤ length (now theta) ⌝ }
+    requires { ⌜ firstMinimum ≤ length (now theta) ⌝ }
     requires { ⌜ at + variableCount ≤ length (now store) ⌝ }
     ensures { λ r. ⌜ (r ≡ true → Same (now (theta .entry)) (now (store .entry)) at mask variableCount) ⌝ }
 {
@@ -421,7 +421,7 @@ fn agrees(theta: &[u64], store: &[u64], at: usize, mask: u64) -> bool
 
 // The failure of a row, if it holds here; else Found: nothing is known.
 fn row_answer(theta: &[u64], store: &[u64], bound: u64, row: usize) -> Answer
-    requires { ⌜ termEnd ≤ length (now theta) ⌝ }
+    requires { ⌜ firstMinimum ≤ length (now theta) ⌝ }
     requires { ⌜ storeWords ≤ length (now store) ⌝ }
     requires { ⌜ row < storeRows ⌝ }
     ensures { λ r. ⌜ RecallPost (now (theta .entry)) (now (store .entry)) bound r ⌝ }
@@ -442,7 +442,7 @@ fn row_answer(theta: &[u64], store: &[u64], bound: u64, row: usize) -> Answer
 
 // A failure that was remembered and holds here. Else Found: nothing is known; or Weary: too much has failed for a store without rows.
 fn recall(theta: &[u64], store: &[u64], bound: u64, k: usize) -> Answer
-    requires { ⌜ termEnd ≤ length (now theta) ⌝ }
+    requires { ⌜ firstMinimum ≤ length (now theta) ⌝ }
     requires { ⌜ 0 < length (now store) ⌝ }
     requires { ⌜ k < storeRows ⌝ }
     ensures { λ r. ⌜ RecallPost (now (theta .entry)) (now (store .entry)) bound r ⌝ }
@@ -458,7 +458,7 @@ fn recall(theta: &[u64], store: &[u64], bound: u64, k: usize) -> Answer
 
 // Copies the words of the variables to those from `at` on.
 fn copy(theta: &[u64], store: &mut [u64], at: usize)
-    requires { ⌜ termEnd ≤ length (now theta) ⌝ }
+    requires { ⌜ firstMinimum ≤ length (now theta) ⌝ }
     requires { ⌜ at + variableCount ≤ length (now store) ⌝ }
     ensures { λ _. ⌜ Copied (now (theta .entry)) (now (store .entry)) (now (store .exit)) at variableCount ⌝ }
 {
@@ -471,7 +471,7 @@ fn copy(theta: &[u64], store: &mut [u64], at: usize)
 
 // Writes a failure on the mask to a row.
 fn write_row(theta: &[u64], store: &mut [u64], mask: u64, row: usize)
-    requires { ⌜ termEnd ≤ length (now theta) ⌝ }
+    requires { ⌜ firstMinimum ≤ length (now theta) ⌝ }
     requires { ⌜ storeWords ≤ length (now store) ⌝ }
     requires { ⌜ row < storeRows ⌝ }
     ensures { λ _. ⌜ Rewritten (now (theta .entry)) (now (store .entry)) mask row (now (store .exit)) ⌝ }
@@ -484,7 +484,7 @@ fn write_row(theta: &[u64], store: &mut [u64], mask: u64, row: usize)
 
 // Remembers that literal k failed on the mask. A store without rows counts the failures.
 fn remember(theta: &[u64], store: &mut [u64], mask: u64, k: usize)
-    requires { ⌜ termEnd ≤ length (now theta) ⌝ }
+    requires { ⌜ firstMinimum ≤ length (now theta) ⌝ }
     requires { ⌜ 0 < length (now store) ⌝ }
     requires { ⌜ k < storeRows ⌝ }
     ensures { λ _. ⌜ RememberPost (now (theta .entry)) (now (store .entry)) mask (now (store .exit)) ⌝ }
@@ -615,8 +615,8 @@ fn decide(ord: &[u64], into: &[u64], tab: &[u64], theta: &mut [u64]) -> bool
 // Place m of literals one after the other, as many places to each as a label has.
 fn term_at(ord: &[u64], m: usize) -> usize
     requires { ⌜ m < length (now ord) * mostPlaces ⌝ }
-    requires { ⌜ AllInRange (now ord) ⌝ }
-    ensures { λ r. ⌜ (r ≡ termAt (now (ord .entry)) m) × (r < termEnd) ⌝ }
+    requires { ⌜ AllInRange firstMinimum (now ord) ⌝ }
+    ensures { λ r. ⌜ (r ≡ termAt (now (ord .entry)) m) × (r < firstMinimum) ⌝ }
 {
     let x = ord[m / PLACES];
     Label { packed: x / 2 }.place((m % PLACES) as u64) as usize
@@ -626,7 +626,7 @@ fn term_at(ord: &[u64], m: usize) -> usize
 fn first_places(ord: &[u64], n: usize, tab: &mut [u64])
     requires { ⌜ n ≤ length (now ord) ⌝ }
     requires { ⌜ n < mostPaths ⌝ }
-    requires { ⌜ AllInRange (now ord) ⌝ }
+    requires { ⌜ AllInRange firstMinimum (now ord) ⌝ }
     requires { ⌜ Unplaced (now tab) ⌝ }
     ensures { λ _. ⌜ Placing (now (ord .entry)) (now (tab .entry)) (now (tab .exit)) (n * mostPlaces) ⌝ }
 {
@@ -644,8 +644,8 @@ fn first_places(ord: &[u64], n: usize, tab: &mut [u64])
 
 // Marks the terms in the first n places of the label l.
 fn mark_places(marks: &mut [u64], l: u64, n: u64)
-    requires { ⌜ termEnd ≤ length (now marks) ⌝ }
-    requires { ⌜ InRange l ⌝ }
+    requires { ⌜ firstMinimum ≤ length (now marks) ⌝ }
+    requires { ⌜ InRange firstMinimum l ⌝ }
     requires { ⌜ n ≤ mostPlaces ⌝ }
     ensures { λ _. ⌜ now (marks .exit) ≡ marked (along (placeAt l) n) (now (marks .entry)) ⌝ }
 {
@@ -681,9 +681,9 @@ fn mark_path(arities: &[u64], out: &mut [u64], n: usize)
 
 // Copies the marks of the terms behind the table.
 fn copy_marks(marks: &[u64], tab: &mut [u64])
-    requires { ⌜ termEnd ≤ length (now marks) ⌝ }
-    requires { ⌜ termEnd + termEnd ≤ length (now tab) ⌝ }
-    ensures { λ _. ⌜ ((t : ℕ) → t < termEnd → getD (now (tab .exit)) (termEnd + t) 0 ≡ getD (now (marks .entry)) t 0) ⌝ }
+    requires { ⌜ firstMinimum ≤ length (now marks) ⌝ }
+    requires { ⌜ firstMinimum + firstMinimum ≤ length (now tab) ⌝ }
+    ensures { λ _. ⌜ ((t : ℕ) → t < firstMinimum → getD (now (tab .exit)) (firstMinimum + t) 0 ≡ getD (now (marks .entry)) t 0) ⌝ }
 {
     let mut t = 0;
     while t < TERMS {
@@ -694,8 +694,8 @@ fn copy_marks(marks: &[u64], tab: &mut [u64])
 
 // Each term becomes itself.
 fn keep_terms(theta: &mut [u64])
-    requires { ⌜ termEnd ≤ length (now theta) ⌝ }
-    ensures { λ _. ⌜ ((v : ℕ) → v < termEnd → getD (now (theta .exit)) v 0 ≡ v) ⌝ }
+    requires { ⌜ firstMinimum ≤ length (now theta) ⌝ }
+    ensures { λ _. ⌜ ((v : ℕ) → v < firstMinimum → getD (now (theta .exit)) v 0 ≡ v) ⌝ }
 {
     let mut v = 0;
     while v < TERMS {
@@ -706,9 +706,9 @@ fn keep_terms(theta: &mut [u64])
 
 // No variable has a place yet.
 fn unplace(tab: &mut [u64])
-    requires { ⌜ termEnd + termEnd ≤ length (now tab) ⌝ }
+    requires { ⌜ firstMinimum + firstMinimum ≤ length (now tab) ⌝ }
     ensures { λ _. ⌜ Unplaced (now (tab .exit)) ⌝ }
-    ensures { λ _. ⌜ ((v : ℕ) → termEnd ≤ v → getD (now (tab .exit)) v 0 ≡ getD (now (tab .entry)) v 0) ⌝ }
+    ensures { λ _. ⌜ ((v : ℕ) → firstMinimum ≤ v → getD (now (tab .exit)) v 0 ≡ getD (now (tab .entry)) v 0) ⌝ }
 {
     let mut v = 0;
     while v < FIRST_VARIABLE {
@@ -747,8 +747,8 @@ fn is_seen(seen: &[u64], t: usize) -> bool
 
 // Whether the literal x has a variable that was seen.
 fn shares(seen: &[u64], x: u64) -> bool
-    requires { ⌜ termEnd ≤ length (now seen) ⌝ }
-    requires { ⌜ InRange (x / 2) ⌝ }
+    requires { ⌜ firstMinimum ≤ length (now seen) ⌝ }
+    requires { ⌜ InRange firstMinimum (x / 2) ⌝ }
     ensures { λ r. ⌜ r ≡ shares (now (seen .entry)) x ⌝ }
 {
     let mut k = 0;
@@ -778,8 +778,8 @@ fn is_new(seen: &[u64], t: usize) -> u64
 
 // How many places of the literal x have variables that were not seen.
 fn new_places(seen: &[u64], x: u64) -> u64
-    requires { ⌜ termEnd ≤ length (now seen) ⌝ }
-    requires { ⌜ InRange (x / 2) ⌝ }
+    requires { ⌜ firstMinimum ≤ length (now seen) ⌝ }
+    requires { ⌜ InRange firstMinimum (x / 2) ⌝ }
     ensures { λ r. ⌜ r ≤ mostPlaces ⌝ }
 {
     let mut n = 0;
@@ -795,8 +795,8 @@ fn new_places(seen: &[u64], x: u64) -> u64
 // The rank of the literal x: without a new variable it comes at once. Fewer new variables come first, equalities behind others, and behind all the
 // literals that share no variable.
 fn rank(seen: &[u64], x: u64) -> u64
-    requires { ⌜ termEnd ≤ length (now seen) ⌝ }
-    requires { ⌜ InRange (x / 2) ⌝ }
+    requires { ⌜ firstMinimum ≤ length (now seen) ⌝ }
+    requires { ⌜ InRange firstMinimum (x / 2) ⌝ }
     ensures { λ r. ⌜ Ranked (now (seen .entry)) x r ⌝ }
 {
     let n = new_places(seen, x) * 2;
@@ -815,8 +815,8 @@ fn rank(seen: &[u64], x: u64) -> u64
 // The literal of lowest rank from k on.
 fn best(ord: &[u64], seen: &[u64], k: usize) -> Pick
     requires { ⌜ k < length (now ord) ⌝ }
-    requires { ⌜ termEnd ≤ length (now seen) ⌝ }
-    requires { ⌜ AllInRange (now ord) ⌝ }
+    requires { ⌜ firstMinimum ≤ length (now seen) ⌝ }
+    requires { ⌜ AllInRange firstMinimum (now ord) ⌝ }
     ensures { λ r. ⌜ Best (now (ord .entry)) (now (seen .entry)) k r ⌝ }
 {
     let mut i = k;
@@ -975,8 +975,8 @@ pub fn covers(arities: &[u64], words: &[u64], counts: &[u64], n: usize, p: u64, 
 {
     let mut into = [0u64; PATH_WORDS];
     let mut from = [0u64; PATH_WORDS];
-    let a = paths::path_into(words, counts, n, p, &mut into);
-    let b = paths::path_into(words, counts, n, q, &mut from);
+    let a = paths::path_into(words, counts, n, p, &mut into, TERMS);
+    let b = paths::path_into(words, counts, n, q, &mut from, TERMS);
     if !have_ways(&from[TERMS..TERMS + b], &into[..TERMS + a]) {
         return false;
     }

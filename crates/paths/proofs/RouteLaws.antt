@@ -10,7 +10,7 @@ use lib.Seq.{getD-set-same, getD-set-other, drop-set-add, take-suc-set}
 use lib.Dec.{eqb}
 use borrow.Author.Tests.{ne-eqb, eqb-true, eqb-false}
 use Rattle.basics.specs.Tests.{Cmp, cmp, below, equal, above, Flag, isTrue, isFalse, flag}
-use Rattle.label.specs.Limits.{termEnd, leafMark}
+use Rattle.label.specs.Limits.{leafMark}
 use Rattle.diagram.specs.Diagram.{Diagram, leaf, branch, same}
 use Rattle.diagram.specs.DiagramLaws.{same-refl}
 use Rattle.diagram.specs.Words.{labelAt, highAt, lowAt}
@@ -285,10 +285,10 @@ module _ {ws : List ℕ} {n : ℕ} (w : Rows ws n) where
 
 -- ===== The literals of a path =====
 module _ {ws : List ℕ} {n : ℕ} (w : Rows ws n) where
-  pub coming-start : {k : ℕ} (out : List ℕ) → At ws n (n - 1) k → Coming ws n (n - 1) k out out (n - 1) k 0
+  pub coming-start : {k first : ℕ} (out : List ℕ) → At ws n (n - 1) k → Coming ws n (n - 1) k out out first (n - 1) k 0
   coming-start out a = record { at = a; so-far = refl; length-kept = refl; kept = λ t h. refl }
 
-  module _ {r k : ℕ} {out₀ out : List ℕ} {i m j : ℕ} (q : Coming ws n r k out₀ out i m j) (room : termEnd + mostPaths ≤ length out₀) (a : At ws n r k) where
+  module _ {r k : ℕ} {out₀ out : List ℕ} {first i m j : ℕ} (q : Coming ws n r k out₀ out first i m j) (room : first + mostPaths ≤ length out₀) (a : At ws n r k) where
     short : j + length (codes (pathAt (tree ws i) m)) < mostPaths
     short =
         let e = ap length (q .so-far) in
@@ -296,17 +296,17 @@ module _ {ws : List ℕ} {n : ℕ} (w : Rows ws n) where
         omega (
           arith,
           e,
-          length-append (take j (drop termEnd out)) (codes (pathAt (tree ws i) m)),
+          length-append (take j (drop first out)) (codes (pathAt (tree ws i) m)),
           codes-length (pathAt (tree ws r) k),
           p,
           a .few,
-          length-take j (drop termEnd out),
-          length-drop termEnd out,
+          length-take j (drop first out),
+          length-drop first out,
           q .length-kept,
         )
 
-    pub coming-end : getD ws (i * 3) 0 ≡ leafMark → Entered ws r k out₀ out j
-    coming-end e = record { are = sym (append-nil (take j (drop termEnd out))) ∙ ap (λ (xs : List ℕ). take j (drop termEnd out) ++ xs) (sym none) ∙ q .so-far; few = omega (arith, short); kept = q .kept }
+    pub coming-end : getD ws (i * 3) 0 ≡ leafMark → Entered ws r k out₀ out first j
+    coming-end e = record { are = sym (append-nil (take j (drop first out))) ∙ ap (λ (xs : List ℕ). take j (drop first out) ++ xs) (sym none) ∙ q .so-far; few = omega (arith, short); kept = q .kept }
       where
         none : codes (pathAt (tree ws i) m) ≡ []
         none = ap (λ (d : Diagram). codes (pathAt d m)) (leaf-tree w (q .at .row) e) ∙ (unfold codes pathAt literals in refl)
@@ -315,22 +315,22 @@ module _ {ws : List ℕ} {n : ℕ} (w : Rows ws n) where
       codes-next : codes (pathAt (tree ws i) m) ≡ s .code ∷ codes (pathAt (tree ws (s .row)) (s .rest))
       codes-next = ap codes (t .is) ∙ codes-step _ (pathAt (tree ws (s .row)) (s .rest)) ∙ ap (λ (c : ℕ). c ∷ codes (pathAt (tree ws (s .row)) (s .rest))) (sym (t .code))
 
-      pub coming-room : termEnd + j < length out
+      pub coming-room : first + j < length out
       coming-room = omega (arith, short, q .length-kept)
 
       pub coming-few : j < mostPaths
       coming-few = omega (arith, short)
 
-      pub coming-next : Coming ws n r k out₀ (set out (termEnd + j) (s .code)) (s .row) (s .rest) (j + 1)
+      pub coming-next : Coming ws n r k out₀ (set out (first + j) (s .code)) first (s .row) (s .rest) (j + 1)
       coming-next = record {
         at = t .at;
         so-far = ap (λ (xs : List ℕ). xs ++ codes (pathAt (tree ws (s .row)) (s .rest))) taken
-            ∙ append-assoc (take j (drop termEnd out)) (s .code ∷ []) (codes (pathAt (tree ws (s .row)) (s .rest)))
-            ∙ ap (λ (xs : List ℕ). take j (drop termEnd out) ++ xs) (sym codes-next) ∙ q .so-far;
-        length-kept = length-set out (termEnd + j) (s .code) ∙ q .length-kept;
-        kept = λ v h. getD-set-other out (termEnd + j) v (s .code) 0 (omega arith) ∙ q .kept v h;
+            ∙ append-assoc (take j (drop first out)) (s .code ∷ []) (codes (pathAt (tree ws (s .row)) (s .rest)))
+            ∙ ap (λ (xs : List ℕ). take j (drop first out) ++ xs) (sym codes-next) ∙ q .so-far;
+        length-kept = length-set out (first + j) (s .code) ∙ q .length-kept;
+        kept = λ v h. getD-set-other out (first + j) v (s .code) 0 (omega arith) ∙ q .kept v h;
       }
         where
-          taken : take (j + 1) (drop termEnd (set out (termEnd + j) (s .code))) ≡ take j (drop termEnd out) ++ (s .code ∷ [])
-          taken = ap₂ (λ (i : ℕ) (xs : List ℕ). take i xs) (add-one j) (drop-set-add termEnd out j (s .code))
-              ∙ take-suc-set (drop termEnd out) j (s .code) (omega (arith, length-drop termEnd out, coming-room))
+          taken : take (j + 1) (drop first (set out (first + j) (s .code))) ≡ take j (drop first out) ++ (s .code ∷ [])
+          taken = ap₂ (λ (i : ℕ) (xs : List ℕ). take i xs) (add-one j) (drop-set-add first out j (s .code))
+              ∙ take-suc-set (drop first out) j (s .code) (omega (arith, length-drop first out, coming-room))

@@ -185,16 +185,16 @@ paths-are d =
 
 -- ===== Labels in range =====
 
--- a label under an arity list is in range
-pub label-range : (ar : List ℕ) (l : ℕ) → isLabel ar l ≡ true → InRange l
+-- a label under an arity list is in range of the terms
+pub label-range : (ar : List ℕ) (l : ℕ) → isLabel ar l ≡ true → InRange termEnd l
 label-range ar l e = record {
   predicate = subst (λ (p : ℕ). p < predicateCount) (predicate-of l) (label-fits ar l e .predicate-fits);
   places = λ k h. place-end ar l k e h;
 }
 
--- the terms of a label in range are below the end of the terms, under every list of arities
-pub range-terms : (ar : List ℕ) (l : ℕ) → InRange l → (t : ℕ) → List·Memᴰ t (termsOf ar (unpacked l)) → t < termEnd
-range-terms ar l r = terms-are (λ t. t < termEnd) ar (unpacked l) (λ k h i. subst (λ (t : ℕ). t < termEnd) (sym (place-of l k i)) (r .places k i))
+-- the terms of a label in range are below its end, under every list of arities
+pub range-terms : (e : ℕ) (ar : List ℕ) (l : ℕ) → InRange e l → (t : ℕ) → List·Memᴰ t (termsOf ar (unpacked l)) → t < e
+range-terms e ar l r = terms-are (λ t. t < e) ar (unpacked l) (λ k h i. subst (λ (t : ℕ). t < e) (sym (place-of l k i)) (r .places k i))
 
 -- ===== The rows of a listing =====
 -- a label has one of 32 predicates

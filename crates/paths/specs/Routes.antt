@@ -5,7 +5,7 @@ use mathlib.Core.List.{List, [], map}
 use Prim.Native.Nat.{ℕ, suc, _+_, _-_, _*_, _/_, _≤_, _<_, min}
 use lib.ListN.{length, getD, take, drop}
 use lib.Dec.{ltb, eqb}
-use Rattle.label.specs.Limits.{termEnd, predicateCount, mostPlaces, predicateWeight, leafMark}
+use Rattle.label.specs.Limits.{predicateCount, mostPlaces, predicateWeight, leafMark}
 use Rattle.label.specs.Labels.{predicateOf, placeAt}
 use Rattle.diagram.specs.Diagram.{Diagram, leaf, branch}
 use Rattle.diagram.specs.Words.{labelAt}
@@ -25,14 +25,14 @@ unfoldable pub codes : Path → List ℕ
 unfolding codeOf literals
 codes p = map codeOf (literals p)
 
--- the predicate and the places of the label l are numbers of predicates and of terms
-pub record InRange (l : ℕ) : Type 0 where
+-- the label l has the number of a predicate, and in its places numbers below e
+pub record InRange (e l : ℕ) : Type 0 where
   pub predicate : predicateOf l < predicateCount
-  pub places : (k : ℕ) → k < mostPlaces → placeAt l k < termEnd
+  pub places : (k : ℕ) → k < mostPlaces → placeAt l k < e
 
--- so are those of each literal's label
-pub record AllInRange (xs : List ℕ) : Type 0 where
-  pub each : (i : ℕ) → i < length xs → InRange (getD xs i 0 / 2)
+-- so has each literal's label
+pub record AllInRange (e : ℕ) (xs : List ℕ) : Type 0 where
+  pub each : (i : ℕ) → i < length xs → InRange e (getD xs i 0 / 2)
 
 -- the branch row's step to one side
 abbrev pub stepOn : Bool → ℕ → Diagram → Diagram → Step
@@ -72,8 +72,8 @@ pub record Sided (r : Diagram) (p : Path) (s : ℕ) : Type 0 where
   pub on-true : through r true p ≡ eqb s 1
   pub on-false : through r false p ≡ eqb s 2
 
--- the literals of path k of row r stand behind the marks
-pub record Entered (ws : List ℕ) (r k : ℕ) (out₀ out : List ℕ) (j : ℕ) : Type 0 where
-  pub are : take j (drop termEnd out) ≡ codes (pathAt (tree ws r) k)
+-- the j literals of path k of row r stand from place `first` on, and what is before it stays
+pub record Entered (ws : List ℕ) (r k : ℕ) (out₀ out : List ℕ) (first j : ℕ) : Type 0 where
+  pub are : take j (drop first out) ≡ codes (pathAt (tree ws r) k)
   pub few : j < mostPaths
-  pub kept : (t : ℕ) → t < termEnd → getD out t 0 ≡ getD out₀ t 0
+  pub kept : (t : ℕ) → t < first → getD out t 0 ≡ getD out₀ t 0

@@ -4,7 +4,6 @@ use mathlib.Core.Bool.{Bool}
 use mathlib.Core.List.{List, _++_}
 use Prim.Native.Nat.{ℕ, _+_, _*_, _<_}
 use lib.ListN.{length, getD, take, drop}
-use Rattle.label.specs.Limits.{termEnd}
 use Rattle.diagram.specs.Words.{labelAt}
 use Rattle.diagram.specs.Validity.{tree}
 use Rattle.paths.specs.Paths.{stepBefore, through}
@@ -30,9 +29,9 @@ pub record RestOver (ws : List ℕ) (n x r k i m : ℕ) : Type 0 where
   pub at : At ws n i m
   pub same : (b : Bool) → through (tree ws x) b (pathAt (tree ws i) m) ≡ through (tree ws x) b (pathAt (tree ws r) k)
 
--- the first j literals stand behind the marks, those of row i on path m are still to come
-pub record Coming (ws : List ℕ) (n r k : ℕ) (out₀ out : List ℕ) (i m j : ℕ) : Type 0 where
+-- the first j literals stand from place `first` on, those of row i on path m are still to come
+pub record Coming (ws : List ℕ) (n r k : ℕ) (out₀ out : List ℕ) (first i m j : ℕ) : Type 0 where
   pub at : At ws n i m
-  pub so-far : take j (drop termEnd out) ++ codes (pathAt (tree ws i) m) ≡ codes (pathAt (tree ws r) k)
+  pub so-far : take j (drop first out) ++ codes (pathAt (tree ws i) m) ≡ codes (pathAt (tree ws r) k)
   pub length-kept : length out ≡ length out₀
-  pub kept : (t : ℕ) → t < termEnd → getD out t 0 ≡ getD out₀ t 0
+  pub kept : (t : ℕ) → t < first → getD out t 0 ≡ getD out₀ t 0

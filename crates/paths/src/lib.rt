@@ -1,10 +1,9 @@
 // The paths of a listing by their numbers, true branch first: how many there are, their leaves, sides and literals.
 use label::Label;
-use label::Term;
 ghost use mathlib.Core.Path.{_≡_};
 ghost use Prim.Native.Nat.{suc, _+_, _-_, _*_, _<_, _≤_, min};
 ghost use lib.ListN.{length};
-ghost use Rattle.label.specs.Limits.{termEnd, leafMark};
+ghost use Rattle.label.specs.Limits.{leafMark};
 ghost use Rattle.diagram.specs.Words.{labelAt};
 ghost use Rattle.diagram.specs.Validity.{tree};
 ghost use Rattle.paths.specs.Paths.{mostPaths, paths};
@@ -15,8 +14,6 @@ ghost use Rattle.paths.specs.Walking.{Stepped};
 pub const PATHS: usize = 256;
 // What is counted where there are more.
 const MANY: u64 = PATHS as u64 + 1;
-// A mark for each term stands before the literals of a path.
-const MARKS: usize = Term::END as usize;
 
 // A place on a path: a row, which of its paths, and the literal that led to it.
 struct Here {
@@ -128,20 +125,27 @@ pub fn side_of(words: &[u64], counts: &[u64], n: usize, k: u64, r: usize) -> u64
     2
 }
 
-// Writes the literals of path k behind the marks, and answers how many they are.
-pub fn path_into(words: &[u64], counts: &[u64], n: usize, k: u64, out: &mut [u64]) -> usize
+// Writes the literals of path k from place `first` on, and answers how many they are.
+pub fn path_into(
+    words: &[u64],
+    counts: &[u64],
+    n: usize,
+    k: u64,
+    out: &mut [u64],
+    first: usize,
+) -> usize
     requires { ⌜ Rows (now words) n ⌝ }
     requires { ⌜ Counted (now words) (now counts) n ⌝ }
     requires { ⌜ At (now words) n (n - 1) k ⌝ }
-    requires { ⌜ termEnd + mostPaths ≤ length (now out) ⌝ }
-    ensures { λ j. ⌜ Entered (now (words .entry)) (n - 1) k (now (out .entry)) (now (out .exit)) j ⌝ }
+    requires { ⌜ first + mostPaths ≤ length (now out) ⌝ }
+    ensures { λ j. ⌜ Entered (now (words .entry)) (n - 1) k (now (out .entry)) (now (out .exit)) first j ⌝ }
 {
     let mut i = n - 1;
     let mut m = k;
     let mut j = 0;
     while words[i * 3] != Label::LEAF {
         let s = step_on(words, counts, n, i, m);
-        out[MARKS + j] = s.code;
+        out[first + j] = s.code;
         i = s.row;
         m = s.rest;
         j += 1;

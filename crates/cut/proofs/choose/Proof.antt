@@ -21,12 +21,12 @@ abbrev μ-loop : tie.MeasureT-loop
 μ-loop arities words counts n m leaves memo₀ i₀ memo i = i
 
 find-leaves-requires : tie.Need-find-leaves-requires Inv-loop μ-loop
-find-leaves-requires c κs = (c .before .before .before .before .pre .1 .1, choose-room (c .before .before .before .before .pre .1 .1) 256 (lit≤ tt))
+find-leaves-requires c κs = (c .before .before .before .before .pre .1 .1 .1, choose-room (c .before .before .before .before .pre .1 .1 .1) 256 (lit≤ tt))
 
 loop-holds : tie.Need-loop-holds Inv-loop μ-loop
 loop-holds c =
     let entry = c .before .before .before .before .before .before .pre in
-    (search needs, omega arith, known-none _ _ _ 65536 (lit≤ tt), choose-start _ _ _ (entry .0) (entry .1 .0))
+    (search needs, omega arith, known-none _ _ _ 65536 (lit≤ tt), choose-start _ _ _ (entry .0) (entry .1 .1 .0))
 
 slice-aggregate-edge-of-2 : tie.Need-slice-aggregate-edge-of-2 Inv-loop μ-loop
 slice-aggregate-edge-of-2 c = sym (c .before .before .before .loop .inv .0)
@@ -40,7 +40,7 @@ edge-of-requires c κs =
     let loop = c .before .before .before .loop in
     let find-leaves = c .before .before .before .before .before .find-leaves in
     let entry = c .before .before .before .before .before .before .before .before .before .before .pre in
-    (choose-charted _ _ _ (entry .0) (entry .1 .0) (entry .1 .1) (find-leaves .ensures), (loop .inv .2, omega (arith, loop-test .taken, loop .inv .1)))
+    (choose-charted _ _ _ (entry .0) (entry .1 .1 .0) (entry .1 .0) (entry .1 .1 .1) (find-leaves .ensures), (loop .inv .2, omega (arith, loop-test .taken, loop .inv .1)))
 
 sub-t19 : tie.Need-sub-t19 Inv-loop μ-loop
 sub-t19 c = c .before .before .before .before .before .loop-test .taken
@@ -51,7 +51,7 @@ returns c =
     let loop-test = c .before .before .before .before .before .loop-test in
     let loop = c .before .before .before .before .before .before .loop in
     let entry = c .before .before .before .before .before .before .before .before .before .before .before .before .before .pre in
-    choose-true _ _ _ (entry .0) (entry .1 .0) (loop .inv .3) (loop-test .taken) (loop .inv .1) (edge-of .ensures) (c .if1 .taken)
+    choose-true _ _ _ (entry .0) (entry .1 .1 .0) (loop .inv .3) (loop-test .taken) (loop .inv .1) (edge-of .ensures) (c .if1 .taken)
 
 sub-t20 : tie.Need-sub-t20 Inv-loop μ-loop
 sub-t20 c = c .before .before .before .before .before .before .loop-test .taken
@@ -62,7 +62,7 @@ returns-2 c =
     let loop-test = c .before .before .before .before .before .before .loop-test in
     let loop = c .before .before .before .before .before .before .before .loop in
     let entry = c .before .before .before .before .before .before .before .before .before .before .before .before .before .before .pre in
-    choose-false _ _ _ (entry .0) (entry .1 .0) (loop .inv .3) (loop-test .taken) (loop .inv .1) (edge-of .ensures) (c .if2 .taken)
+    choose-false _ _ _ (entry .0) (entry .1 .1 .0) (loop .inv .3) (loop-test .taken) (loop .inv .1) (edge-of .ensures) (c .if2 .taken)
 
 sub-i : tie.Need-sub-i Inv-loop μ-loop
 sub-i c = c .before .before .before .before .before .before .loop-test .taken
@@ -79,13 +79,13 @@ loop-again c =
       edge-of .kept .1 .1 .1 .1 .1 .1 .0 ∙ loop .inv .0,
       omega (arith, loop .inv .1),
       edge-of .ensures .known,
-      choose-on _ _ _ (entry .0) (entry .1 .0) (loop .inv .3) (loop-test .taken) (loop .inv .1) (edge-of .ensures) (c .before .if1 .left) (c .if2 .left),
+      choose-on _ _ _ (entry .0) (entry .1 .1 .0) (loop .inv .3) (loop-test .taken) (loop .inv .1) (edge-of .ensures) (c .before .if1 .left) (c .if2 .left),
     )
 
 returns-3 : tie.Need-returns-3 Inv-loop μ-loop
 returns-3 c =
     let entry = c .before .before .before .before .before .before .before .before .pre in
-    choose-none _ _ _ (entry .0) (entry .1 .0) (c .before .loop .inv .3) (c .loop-test .left)
+    choose-none _ _ _ (entry .0) (entry .1 .1 .0) (c .before .loop .inv .3) (c .loop-test .left)
 
 pub choose-spec : {M : Type 1} → statement M
 choose-spec =

@@ -1,4 +1,4 @@
-use Rattle.label.specs.Limits.{termEnd}
+use Rattle.label.specs.Limits.{firstMinimum}
 use borrow.Author.Needs.{needs}
 use native.Mathlib.Omega.{arith}
 use Prim.Native.Nat.{_-_, _≤_}
@@ -10,7 +10,7 @@ abbrev Inv-loop : tie.InvT-loop
 Inv-loop marks tab₀ t₀ tab t = Copying marks tab₀ tab t
 
 abbrev μ-loop : tie.MeasureT-loop
-μ-loop marks tab₀ t₀ tab t = termEnd - t
+μ-loop marks tab₀ t₀ tab t = firstMinimum - t
 
 loop-holds : tie.Need-loop-holds Inv-loop μ-loop
 loop-holds c = copying-start

@@ -1,7 +1,7 @@
 use lib.Dec.{lit≤}
 use Prim.Native.Nat.{_+_}
 use borrow.Author.Needs.{needs}
-use Rattle.label.specs.Limits.{termEnd}
+use Rattle.label.specs.Limits.{firstMinimum}
 use Rattle.paths.specs.Paths.{mostPaths}
 use Rattle.matcher.proofs.StoreLaws.{enter-room, enter-unmarked, stored-room, enter-stored}
 use Rattle.matcher.proofs.AnswerLaws.{front-long, covers-first, covers-second, covers-none, covers-stored, covers-answer}
@@ -12,7 +12,7 @@ slice-aggregate-have-ways : tie.Need-slice-aggregate-have-ways
 slice-aggregate-have-ways c =
     let path-into = c .before .before .before .before .before .before .before .path-into in
     let entry = c .before .before .before .before .before .before .before .before .before .before .before .before .pre in
-    let first = covers-first entry (termEnd + mostPaths) (lit≤ tt) in
+    let first = covers-first entry (firstMinimum + mostPaths) (lit≤ tt) in
     front-long _ _ (enter-room first (path-into .ensures) (path-into .kept .1 .1 .1 .1 .0))
 
 returns : tie.Need-returns
@@ -20,14 +20,14 @@ returns c =
     let path-into = c .before .before .before .before .before .before .before .before .before .path-into in
     let path-into2 = c .before .before .before .before .before .before .path-into2 in
     let entry = c .before .before .before .before .before .before .before .before .before .before .before .before .before .before .pre in
-    let first = covers-first entry (termEnd + mostPaths) (lit≤ tt) in
+    let first = covers-first entry (firstMinimum + mostPaths) (lit≤ tt) in
     covers-none entry (path-into .ensures) (enter-room first (path-into .ensures) (path-into .kept .1 .1 .1 .1 .0)) (path-into2 .ensures) (c .before .have-ways .ensures) (c .if1 .taken)
 
 mark-path-requires : tie.Need-mark-path-requires
 mark-path-requires c κs =
     let path-into = c .before .before .before .before .before .before .before .before .before .before .path-into in
     let entry = c .before .before .before .before .before .before .before .before .before .before .before .before .before .before .before .pre in
-    let first = covers-first entry (termEnd + mostPaths) (lit≤ tt) in
+    let first = covers-first entry (firstMinimum + mostPaths) (lit≤ tt) in
     enter-unmarked first (path-into .ensures) (path-into .kept .1 .1 .1 .1 .0)
 
 mark-path-requires-2 : tie.Need-mark-path-requires-2
@@ -35,7 +35,7 @@ mark-path-requires-2 c κs =
     let past = c .before .before .before .before .before .before .before .before .before .before .before .before .before .before .before .before in
     let path-into2 = c .before .before .before .before .before .before .before .before .before .before .path-into2 in
     let entry = past .before .before .pre in
-    let second = covers-second entry (termEnd + mostPaths) (lit≤ tt) in
+    let second = covers-second entry (firstMinimum + mostPaths) (lit≤ tt) in
     enter-unmarked second (path-into2 .ensures) (path-into2 .kept .1 .1 .1 .1 .0)
 
 search-requires : tie.Need-search-requires
@@ -46,8 +46,8 @@ search-requires c κs =
     let path-into = past .before .path-into in
     let path-into2 = c .before .before .before .before .before .before .before .before .before .before .before .before .before .before .path-into2 in
     let entry = past .before .before .before .before .before .before .pre in
-    let first = covers-first entry (termEnd + mostPaths) (lit≤ tt) in
-    let second = covers-second entry (termEnd + mostPaths) (lit≤ tt) in
+    let first = covers-first entry (firstMinimum + mostPaths) (lit≤ tt) in
+    let second = covers-second entry (firstMinimum + mostPaths) (lit≤ tt) in
     covers-stored entry (enter-stored first (path-into .ensures) (path-into .kept .1 .1 .1 .1 .0) (mark-path .ensures))
     (enter-stored second (path-into2 .ensures) (path-into2 .kept .1 .1 .1 .1 .0) (mark-path2 .ensures))
     (stored-room first (path-into .ensures) (path-into .kept .1 .1 .1 .1 .0) (mark-path .ensures)) (stored-room second (path-into2 .ensures) (path-into2 .kept .1 .1 .1 .1 .0) (mark-path2 .ensures))
@@ -60,8 +60,8 @@ returns-2 c =
     let path-into = past .before .before .before .path-into in
     let path-into2 = c .before .before .before .before .before .before .before .before .before .before .before .before .before .before .before .before .path-into2 in
     let entry = past .before .before .before .before .before .before .before .before .pre in
-    let first = covers-first entry (termEnd + mostPaths) (lit≤ tt) in
-    let second = covers-second entry (termEnd + mostPaths) (lit≤ tt) in
+    let first = covers-first entry (firstMinimum + mostPaths) (lit≤ tt) in
+    let second = covers-second entry (firstMinimum + mostPaths) (lit≤ tt) in
     covers-answer entry (enter-stored first (path-into .ensures) (path-into .kept .1 .1 .1 .1 .0) (mark-path .ensures))
     (enter-stored second (path-into2 .ensures) (path-into2 .kept .1 .1 .1 .1 .0) (mark-path2 .ensures)) (c .before .search .ensures)
 

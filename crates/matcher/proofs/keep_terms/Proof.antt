@@ -1,4 +1,4 @@
-use Rattle.label.specs.Limits.{termEnd}
+use Rattle.label.specs.Limits.{firstMinimum}
 use borrow.Author.Needs.{needs}
 use native.Mathlib.Omega.{arith}
 use Prim.Native.Nat.{_-_, _≤_}
@@ -10,7 +10,7 @@ abbrev Inv-loop : tie.InvT-loop
 Inv-loop theta₀ v₀ theta v = Keeping theta₀ theta v
 
 abbrev μ-loop : tie.MeasureT-loop
-μ-loop theta₀ v₀ theta v = termEnd - v
+μ-loop theta₀ v₀ theta v = firstMinimum - v
 
 loop-holds : tie.Need-loop-holds Inv-loop μ-loop
 loop-holds c = keeping-start _

@@ -1,5 +1,5 @@
 use native.Mathlib.Omega.{arith}
-use Rattle.matcher.proofs.MarkLaws.{literal-range, predicate-within, literal-few, literal-marked}
+use Rattle.matcher.proofs.MarkLaws.{predicate-within, literal-few, literal-marked}
 use borrow.Author.Needs.{needs}
 use Rattle.matcher.proofs.mark_literal.Statement.{statement}
 use Rattle.matcher.proofs.mark_literal.Tie as tie
@@ -14,7 +14,7 @@ mark-places-requires : tie.Need-mark-places-requires
 mark-places-requires c κs =
     let predicate = c .before .before .predicate in
     let entry = c .before .before .before .before .before .pre in
-    (entry .room, (literal-range (entry), literal-few (entry) (predicate .ensures)))
+    (entry .room, (entry .range, literal-few (entry) (predicate .ensures)))
 
 returns : tie.Need-returns
 returns c =

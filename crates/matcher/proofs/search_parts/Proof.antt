@@ -1,4 +1,4 @@
-use Rattle.label.specs.Limits.{termEnd}
+use Rattle.label.specs.Limits.{firstMinimum}
 use lib.ListN.{length}
 use Prim.Native.Nat.{_-_}
 use native.Mathlib.Omega.{arith}
@@ -14,7 +14,7 @@ abbrev μ-loop : tie.MeasureT-loop
 μ-loop ord₀ into tab₀ theta₀ seen₀ k₀ ord tab theta seen k = length ord₀ - k
 
 loop-holds : tie.Need-loop-holds Inv-loop μ-loop
-loop-holds c = parted-start (c .before .before .before .before .pre) termEnd refl
+loop-holds c = parted-start (c .before .before .before .before .pre) firstMinimum refl
 
 slice-aggregate-next-part : tie.Need-slice-aggregate-next-part Inv-loop μ-loop
 slice-aggregate-next-part c = sym (c .before .before .before .loop .inv .seen-count)

@@ -7,10 +7,10 @@ use Rattle.paths.proofs.path_into.Statement.{statement}
 use Rattle.paths.proofs.path_into.Tie as tie
 
 abbrev Inv-loop : tie.InvT-loop
-Inv-loop words counts n k out₀ i₀ m₀ j₀ out i m j = Coming words n (n - 1) k out₀ out i m j
+Inv-loop words counts n k out₀ first i₀ m₀ j₀ out i m j = Coming words n (n - 1) k out₀ out first i m j
 
 abbrev μ-loop : tie.MeasureT-loop
-μ-loop words counts n k out₀ i₀ m₀ j₀ out i m j = i
+μ-loop words counts n k out₀ first i₀ m₀ j₀ out i m j = i
 
 sub-i : tie.Need-sub-i Inv-loop μ-loop
 sub-i c = omega (arith, c .before .before .before .pre .1 .1 .0 .row)
