@@ -155,7 +155,9 @@ module _ {ar ws marks facts₀ : List ℕ} {n v all : ℕ} (g : Tabling ar ws ma
             let a = mul-le-mul-right n (let z : suc k ≤ i = omega arith in z) in
             let c : suc k * n ≡ n + k * n = omega arith in
             w .front (k * n + r) (omega (arith, a, c)) ∙ t .each k r p q e
-        each k r u q e (equal p) = ap (λ (y : ℕ). getD facts′ (y + r) 0) (ap (λ (y : ℕ). y * n) p ∙ sym b) ∙ w .each r q e ∙ ap (λ (y : ℕ). factOf ar (usedVariables marks) (digits v v y) (labelAt ws r)) (sym p)
+        each k r u q e (equal p) =
+            ap (λ (y : ℕ). getD facts′ (y + r) 0) (ap (λ (y : ℕ). y * n) p ∙ sym b) ∙ w .each r q e
+            ∙ ap (λ (y : ℕ). factOf ar (usedVariables marks) (digits v v y) (labelAt ws r)) (sym p)
         each k r u q e (above p) = absurd (omega arith)
 
   pub table-end : {facts : List ℕ} {i : ℕ} → i ≤ all → all ≤ i → Tabled ar ws marks n v i facts → Tabled ar ws marks n v all facts

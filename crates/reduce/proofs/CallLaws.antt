@@ -27,7 +27,7 @@ use Rattle.paths.specs.Routes.{pathAt}
 use Rattle.cutting.specs.Cut.{reduced, written}
 use Rattle.reduction.specs.declared.Reduced.the-variants.{Done, Refused}
 use Rattle.reduction.specs.Combinations.{someOf, formed, winners}
-use Rattle.reduction.specs.Reduction.{isOn, keeping, reducedDiagram, isPlain, mostRuns, runs, mostFormed, reduceAnswer, answerOf, bufferOf}
+use Rattle.reduction.specs.Reduction.{isOn, keeping, reducedDiagram, hasKinds, mostRuns, runs, mostFormed, reduceAnswer, answerOf, bufferOf}
 use Rattle.reduce.specs.Routing.{Routed, winning, staysIn}
 use Rattle.reduce.specs.FormedLaws.{winner-below}
 use Rattle.reduce.specs.Keeping.{keptOf, Writable, Shortened}
@@ -82,7 +82,8 @@ unfolding winning
 winning-in wins zero k h e = absurd (omega arith)
 winning-in wins (suc m) k h e = go (flag (eqb (getD wins m 0) 0)) (cmp k m) (winning-in wins m k)
   where
-    go : Flag (eqb (getD wins m 0) 0) → Cmp k m → (k < m → isMarked wins k ≡ true → mem eqb k (winning wins m) ≡ true) → mem eqb k (cond (eqb (getD wins m 0) 0) (winning wins m) (m ∷ winning wins m)) ≡ true
+    go : Flag (eqb (getD wins m 0) 0) → Cmp k m → (k < m → isMarked wins k ≡ true → mem eqb k (winning wins m) ≡ true)
+        → mem eqb k (cond (eqb (getD wins m 0) 0) (winning wins m) (m ∷ winning wins m)) ≡ true
     go (isTrue q) (below l) ih = rw q (ih l e)
     go (isTrue q) (equal l) ih = clash e (rw (l, q))
     go (isFalse q) (below l) ih = rw q (or-other (eqb k m) _ (ih l e))
@@ -94,7 +95,8 @@ unfolding winning
 in-winning wins zero k e = clash e refl
 in-winning wins (suc m) k e = go (flag (eqb (getD wins m 0) 0)) (in-winning wins m k)
   where
-    last : eqb (getD wins m 0) 0 ≡ false → Either (eqb k m) (mem eqb k (winning wins m)) → (mem eqb k (winning wins m) ≡ true → (k < m) × (isMarked wins k ≡ true)) → (k < suc m) × (isMarked wins k ≡ true)
+    last : eqb (getD wins m 0) 0 ≡ false → Either (eqb k m) (mem eqb k (winning wins m))
+        → (mem eqb k (winning wins m) ≡ true → (k < m) × (isMarked wins k ≡ true)) → (k < suc m) × (isMarked wins k ≡ true)
     last q (one x) ih = let y = eqb-true k m x in (omega arith, rw (y, q))
     last q (other x) ih = let r = ih x in (omega (arith, r .0), r .1)
 
@@ -104,35 +106,35 @@ in-winning wins (suc m) k e = go (flag (eqb (getD wins m 0) 0)) (in-winning wins
 
 -- ===== Answers =====
 abbrev pick : Bool → Bool → Bool → Bool → Diagram → Outcome Diagram
-pick a b c e x = cond a (refused Paths) (cond (not b) (refused Kinds) (cond c (refused Runs) (cond e (refused Combinations) (ok x))))
+pick a b c e x = cond a (refused Paths) (cond b (refused Kinds) (cond c (refused Runs) (cond e (refused Combinations) (ok x))))
 
 module _ (ar : List ℕ) (d : Diagram) where
-  answer-pick : reduceAnswer ar d ≡ pick (ltb mostPaths (length (paths d))) (isPlain ar d) (ltb mostRuns (runs ar d)) (ltb mostFormed (formed ar d)) (reducedDiagram ar d)
+  answer-pick : reduceAnswer ar d ≡ pick (ltb mostPaths (length (paths d))) (hasKinds ar d) (ltb mostRuns (runs ar d)) (ltb mostFormed (formed ar d)) (reducedDiagram ar d)
   unfolding reduceAnswer
   answer-pick = refl
 
   pub answer-paths : mostPaths < length (paths d) → reduceAnswer ar d ≡ refused Paths
   answer-paths h =
       answer-pick
-      ∙ ap (λ (a : Bool). pick a (isPlain ar d) (ltb mostRuns (runs ar d)) (ltb mostFormed (formed ar d)) (reducedDiagram ar d)) (lt-ltb mostPaths (length (paths d)) h)
+      ∙ ap (λ (a : Bool). pick a (hasKinds ar d) (ltb mostRuns (runs ar d)) (ltb mostFormed (formed ar d)) (reducedDiagram ar d)) (lt-ltb mostPaths (length (paths d)) h)
 
   module _ (h : length (paths d) ≤ mostPaths) where
     few : ltb mostPaths (length (paths d)) ≡ false
     few = le-ltb mostPaths (length (paths d)) h
 
-    pub answer-kinds : isPlain ar d ≡ false → reduceAnswer ar d ≡ refused Kinds
+    pub answer-kinds : hasKinds ar d ≡ true → reduceAnswer ar d ≡ refused Kinds
     answer-kinds p = answer-pick ∙ ap₂ (λ (a b : Bool). pick a b (ltb mostRuns (runs ar d)) (ltb mostFormed (formed ar d)) (reducedDiagram ar d)) few p
 
-    module _ (p : isPlain ar d ≡ true) where
+    module _ (p : hasKinds ar d ≡ false) where
       pub answer-runs : mostRuns < runs ar d → reduceAnswer ar d ≡ refused Runs
       answer-runs l =
           answer-pick ∙ ap₂ (λ (a b : Bool). pick a b (ltb mostRuns (runs ar d)) (ltb mostFormed (formed ar d)) (reducedDiagram ar d)) few p
-          ∙ ap (λ (c : Bool). pick false true c (ltb mostFormed (formed ar d)) (reducedDiagram ar d)) (lt-ltb mostRuns (runs ar d) l)
+          ∙ ap (λ (c : Bool). pick false false c (ltb mostFormed (formed ar d)) (reducedDiagram ar d)) (lt-ltb mostRuns (runs ar d) l)
 
       answer-plain : runs ar d ≤ mostRuns → reduceAnswer ar d ≡ cond (ltb mostFormed (formed ar d)) (refused Combinations) (ok (reducedDiagram ar d))
       answer-plain l =
           answer-pick ∙ ap₂ (λ (a b : Bool). pick a b (ltb mostRuns (runs ar d)) (ltb mostFormed (formed ar d)) (reducedDiagram ar d)) few p
-          ∙ ap (λ (c : Bool). pick false true c (ltb mostFormed (formed ar d)) (reducedDiagram ar d)) (le-ltb mostRuns (runs ar d) l)
+          ∙ ap (λ (c : Bool). pick false false c (ltb mostFormed (formed ar d)) (reducedDiagram ar d)) (le-ltb mostRuns (runs ar d) l)
 
 -- ===== `reduce_plain` =====
 module _ {ar ws counts used : List ℕ} {n m v all : ℕ} {out work : List ℕ} (g : Plain ar ws counts used n m v all out work) where
@@ -164,13 +166,15 @@ module _ {ar ws counts used : List ℕ} {n m v all : ℕ} {out work : List ℕ} 
   unfolding runs
   runs-are = ap₂ (λ (x y : ℕ). x ^ x * y) (sym (g .count)) paths-are ∙ ap (λ (x : ℕ). x * m) (sym (g .power))
 
-  answer-is : reduceAnswer ar d ≡ cond (ltb mostFormed (formed ar d)) (refused Combinations) (ok (reducedDiagram ar d))
-  answer-is = answer-plain ar d (omega (arith, paths-are, g .routed .few)) (g .plain) (omega (arith, runs-are, g .few))
+  answer-at : (c : Bool) → ltb mostFormed (formed ar d) ≡ c → reduceAnswer ar d ≡ cond c (refused Combinations) (ok (reducedDiagram ar d))
+  answer-at c e =
+      answer-plain ar d (omega (arith, paths-are, g .routed .few)) (g .kinds) (omega (arith, runs-are, g .few))
+      ∙ ap (λ (c : Bool). cond c (refused Combinations) (ok (reducedDiagram ar d))) e
 
   module _ {wins wins′ : List ℕ} {x : ℕ} (w : Winning ar ws m wins wins′ x) where
     pub plain-many : mostFormed < x → Answered ar ws out (Refused Combinations) out
     plain-many h =
-        let e : reduceAnswer ar d ≡ refused Combinations = answer-is ∙ ap (λ (c : Bool). cond c (refused Combinations) (ok (reducedDiagram ar d))) (lt-ltb mostFormed (formed ar d) (omega (arith, w .answer))) in
+        let e : reduceAnswer ar d ≡ refused Combinations = answer-at true (lt-ltb mostFormed (formed ar d) (omega (arith, w .answer))) in
         record { answer = sym (ap answerOf e); words = sym (ap (bufferOf out) e) }
 
     pub plain-writable : (k : ℕ) → mostPaths ≤ k → length wins′ ≡ length {A = ℕ} (replicate k 0) → Writable ar ws counts wins′ m out work
@@ -199,7 +203,7 @@ module _ {ar ws counts used : List ℕ} {n m v all : ℕ} {out work : List ℕ} 
 
       pub plain-done : {k : ℕ} {out′ : List ℕ} → Shortened ar ws wins′ m out k out′ → Answered ar ws out (Done k) out′
       plain-done {k} {out′} t =
-          let e : reduceAnswer ar d ≡ ok (reducedDiagram ar d) = answer-is ∙ ap (λ (c : Bool). cond c (refused Combinations) (ok (reducedDiagram ar d))) (le-ltb mostFormed (formed ar d) (omega (arith, w .answer))) in
+          let e : reduceAnswer ar d ≡ ok (reducedDiagram ar d) = answer-at false (le-ltb mostFormed (formed ar d) (omega (arith, w .answer))) in
           record {
             answer = ap Done (t .answer ∙ ap (λ (y : Diagram). length (rows y)) left-is) ∙ sym (ap answerOf e);
             words = t .words ∙ ap (λ (y : Diagram). written (listing y) out) left-is ∙ sym (ap (bufferOf out) e);

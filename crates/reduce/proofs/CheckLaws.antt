@@ -30,7 +30,7 @@ use Rattle.paths.specs.PathLaws.{listing-rows, paths-some}
 use Rattle.paths.specs.Routes.{Rows, Counted}
 use Rattle.reduction.specs.declared.Reduced.{Reduced}
 use Rattle.reduction.specs.declared.Reduced.the-variants.{Refused}
-use Rattle.reduction.specs.Reduction.{isPlain, mostRuns, runs, reduceAnswer, answerOf, bufferOf, hasParameter, reduceCall}
+use Rattle.reduction.specs.Reduction.{hasKinds, mostRuns, runs, reduceAnswer, answerOf, bufferOf, hasParameter, reduceCall}
 use Rattle.reduce.specs.Routing.{Routed}
 use Rattle.reduce.specs.Winning.{Plain, Answered, Reducible}
 use Rattle.reduce.proofs.CallLaws.{answer-paths, answer-kinds, answer-runs}
@@ -83,13 +83,13 @@ module _ {ar ws out work : List ℕ} (g : Reducible ar ws out work) where
         few = h;
       }
 
-      module _ {b : Bool} (q : b ≡ isPlain ar d) where
-        pub check-kinds : not b ≡ true → Answered ar ws out (Refused Kinds) out
-        check-kinds e = answered ar ws out Kinds (answer-kinds ar d (omega (arith, few)) (sym q ∙ not-taken b e))
+      module _ {b : Bool} (q : b ≡ hasKinds ar d) where
+        pub check-kinds : b ≡ true → Answered ar ws out (Refused Kinds) out
+        check-kinds e = answered ar ws out Kinds (answer-kinds ar d (omega (arith, few)) (sym q ∙ e))
 
-        module _ (e : not b ≡ false) {used : List ℕ} (u : Used ar d used) {v : ℕ} (k : v ≡ markedVariables used) where
-          plain : isPlain ar d ≡ true
-          plain = sym q ∙ not-left b e
+        module _ (e : b ≡ false) {used : List ℕ} (u : Used ar d used) {v : ℕ} (k : v ≡ markedVariables used) where
+          kinds : hasKinds ar d ≡ false
+          kinds = sym q ∙ e
 
           count : v ≡ length (variables ar d)
           count = k ∙ marked-variables ar d used u
@@ -106,7 +106,7 @@ module _ {ar ws out work : List ℕ} (g : Reducible ar ws out work) where
             check-small = mul-le-mul (let z : all ≤ suc mostRuns = omega arith in z) h
 
             pub check-runs : mostRuns < all * M → Answered ar ws out (Refused Runs) out
-            check-runs l = answered ar ws out Runs (answer-runs ar d (omega (arith, few)) plain (subst (λ (x : ℕ). mostRuns < x) (sym runs-are) (go (cmp mostRuns (v ^ v)))))
+            check-runs l = answered ar ws out Runs (answer-runs ar d (omega (arith, few)) kinds (subst (λ (x : ℕ). mostRuns < x) (sym runs-are) (go (cmp mostRuns (v ^ v)))))
               where
                 same : v ^ v ≤ mostRuns → mostRuns < v ^ v * M
                 same s = subst (λ (x : ℕ). mostRuns < x * M) (let z : all ≡ v ^ v = omega arith in z) l
@@ -127,7 +127,7 @@ module _ {ar ws out work : List ℕ} (g : Reducible ar ws out work) where
                   count = count;
                   power = omega (arith, z);
                   few = l;
-                  plain = plain;
+                  kinds = kinds;
                   out-room = g .out-room;
                   work-room = g .work-room;
                 }
@@ -153,7 +153,10 @@ module _ (ar ws out work : List ℕ) where
   module _ {b : Bool} (e : b ≡ isListing ar ws) where
     pub call-listing : not b ≡ true → Promised ar ws out work (Refused Listing) out
     unfolding pick
-    call-listing f = not-made Listing (call-pick ∙ ap (λ (a : Bool). pick a (ltb (length out) resultWords || ltb (length work) spaceWords) (hasParameter ar (diagramOf ws)) (reduceAnswer ar (diagramOf ws))) (sym e ∙ not-taken b f))
+    call-listing f = not-made Listing
+        (call-pick
+        ∙ ap (λ (a : Bool). pick a (ltb (length out) resultWords || ltb (length work) spaceWords) (hasParameter ar (diagramOf ws)) (reduceAnswer ar (diagramOf ws)))
+        (sym e ∙ not-taken b f))
 
     module _ (f : not b ≡ false) where
       pub call-listed : isListing ar ws ≡ true

@@ -7,5 +7,5 @@ pub mod TableLaws
 pub mod BlockLaws
 pub mod WinningLaws
 pub mod CallLaws
-pub mod PlainLaws
+pub mod KindLaws
 pub mod CheckLaws

@@ -13,12 +13,13 @@ use lib.Dec.{eqb, ltb}
 use borrow.Author.Tests.{eq-eqb, ne-eqb, le-ltb}
 use Rattle.basics.specs.Tests.{Flag, isTrue, isFalse, flag, Cmp, cmp, below, equal, above}
 use Rattle.basics.specs.Members.{mem}
-use Rattle.label.specs.Limits.{leafMark, termEnd, firstVariable}
+use Rattle.label.specs.Limits.{leafMark, termEnd, firstVariable, variableCount, firstMinimum}
 use Rattle.label.specs.Labels.{isLabel}
 use Rattle.label.specs.Renamings.{rank, renamed, mapOf}
 use Rattle.label.specs.Callers.{TermMap, Movable}
 use Rattle.diagram.specs.Words.{labelAt}
-use Rattle.rename.specs.Maps.{usedVariables, isUsed}
+use Rattle.diagram.specs.Variables.{pickList}
+use Rattle.rename.specs.Maps.{usedFrom, usedVariables, isUsed}
 use Rattle.rename.specs.MapLaws.{rank-next, used-variable, used-variables-ascending}
 use Rattle.rename.specs.AscendingLaws.{ascending-not, rank-none}
 use Rattle.reduce.specs.Tables.{digits, Divided, Placed, Dividing, Ranked, Mapping, Mapped, factWord, Labelled, Filled}
@@ -100,6 +101,16 @@ used-is : (marks : List ℕ) (t : ℕ) → isUsed marks t ≡ not (eqb (getD mar
 unfolding isUsed
 used-is marks t = refl
 
+-- behind the last of them there is no variable
+used-beyond : (marks : List ℕ) (t n u : ℕ) → t + n ≤ u → mem eqb u (usedFrom marks t n) ≡ false
+unfolding usedFrom
+used-beyond marks t zero u h = refl
+used-beyond marks t (suc n) u h = go (isUsed marks t) (used-beyond marks (suc t) n u (omega arith))
+  where
+    go : (b : Bool) → mem eqb u (usedFrom marks (suc t) n) ≡ false → mem eqb u (pickList b (t ∷ usedFrom marks (suc t) n) (usedFrom marks (suc t) n)) ≡ false
+    go true e = rw (ne-eqb u t (omega arith)) e
+    go false e = e
+
 module _ (marks : List ℕ) (t : ℕ) where
   abbrev U : List ℕ
   U = usedVariables marks
@@ -107,21 +118,24 @@ module _ (marks : List ℕ) (t : ℕ) where
   next-rank : rank U (t + 1) ≡ rank U t + cond (mem eqb t U) 1 0
   next-rank = ap (rank U) (add-one t) ∙ rank-next firstVariable U t (used-variables-ascending marks)
 
-  pub rank-low : {c : ℕ} → t < firstVariable → Ranked marks t c → Ranked marks (t + 1) c
-  rank-low {c} h g = record {
-    is = sym (next-rank ∙ ap (λ (b : Bool). rank U t + cond b 1 0) (ascending-not firstVariable U t (used-variables-ascending marks) h) ∙ omega (arith, g .is));
+  rank-same : {c : ℕ} → mem eqb t U ≡ false → Ranked marks t c → Ranked marks (t + 1) c
+  rank-same {c} e g = record {
+    is = sym (next-rank ∙ ap (λ (b : Bool). rank U t + cond b 1 0) e ∙ omega (arith, g .is));
     most = omega (arith, g .most);
   }
 
-  module _ (h : firstVariable ≤ t) (l : t < termEnd) where
+  pub rank-low : {c : ℕ} → t < firstVariable → Ranked marks t c → Ranked marks (t + 1) c
+  rank-low h g = rank-same (ascending-not firstVariable U t (used-variables-ascending marks) h) g
+
+  pub rank-high : {c : ℕ} → firstMinimum ≤ t → Ranked marks t c → Ranked marks (t + 1) c
+  rank-high h g = rank-same (unfold usedVariables in used-beyond marks firstVariable variableCount t (omega arith)) g
+
+  module _ (h : firstVariable ≤ t) (l : t < firstMinimum) where
     used-here : (b : Bool) → eqb (getD marks t 0) 0 ≡ b → mem eqb t U ≡ not b
     used-here b e = used-variable marks t h l ∙ used-is marks t ∙ ap not e
 
     pub rank-unused : {c : ℕ} → getD marks t 0 ≡ 0 → Ranked marks t c → Ranked marks (t + 1) c
-    rank-unused {c} z g = record {
-      is = sym (next-rank ∙ ap (λ (b : Bool). rank U t + cond b 1 0) (used-here true (eq-eqb (getD marks t 0) 0 z)) ∙ omega (arith, g .is));
-      most = omega (arith, g .most);
-    }
+    rank-unused z g = rank-same (used-here true (eq-eqb (getD marks t 0) 0 z)) g
 
     pub rank-used : {c : ℕ} → (getD marks t 0 ≡ 0 → ⊥) → Ranked marks t c → Ranked marks (t + 1) (c + 1)
     rank-used {c} z g = record {

@@ -441,4 +441,5 @@ module _ {ws counts facts leaves known wins : List ℕ} {n m base left best form
                     ∙ or-assoc (isMarked wins p) (mem eqb p (winnersFrom (tree ws (n - 1)) m rest best hi)) (mem eqb p (winnersFrom (tree ws (n - 1)) m rest best lo))
                     ∙ ap (λ (b : Bool). isMarked wins p || b)
                     (sym
-                    (ap (mem eqb p) (winners-append (tree ws (n - 1)) m rest best hi lo) ∙ mem-append eqb p (winnersFrom (tree ws (n - 1)) m rest best hi) (winnersFrom (tree ws (n - 1)) m rest best lo)))
+                    (ap (mem eqb p) (winners-append (tree ws (n - 1)) m rest best hi lo)
+                    ∙ mem-append eqb p (winnersFrom (tree ws (n - 1)) m rest best hi) (winnersFrom (tree ws (n - 1)) m rest best lo)))

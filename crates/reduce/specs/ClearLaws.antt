@@ -222,7 +222,11 @@ unfolding learnt
 learnt-none known = refl
 
 pub all-allowed : (cs known : List ℕ) → Quiet known → Allowed cs known
-all-allowed [] known q = record { test = allowed-none known ∙ sym (quiet-clear known q); learns = λ z x m. ap (mem eqb x) (sym (learnt-none known)) ∙ m; keeps = λ z x m. ap (mem eqb x) (learnt-none known) ∙ m }
+all-allowed [] known q = record {
+  test = allowed-none known ∙ sym (quiet-clear known q);
+  learns = λ z x m. ap (mem eqb x) (sym (learnt-none known)) ∙ m;
+  keeps = λ z x m. ap (mem eqb x) (learnt-none known) ∙ m;
+}
 all-allowed (c ∷ cs) known q = go (signOf known (c / 2)) refl (all-allowed cs known q) (all-allowed cs (c ∷ known))
   where
     allowed-is : allowed (c ∷ cs) known ≡ pickKnown (signOf known (c / 2)) (cond (eqb (c % 2) 0) (allowed cs known) false) (cond (eqb (c % 2) 0) false (allowed cs known)) (allowed cs (c ∷ known))
@@ -282,7 +286,8 @@ waysOver (cs ∷ css) known k = cond (allowed cs known) (record { known = learnt
 
 over-append : (ds bs : List (List ℕ)) (known : List ℕ) (k : ℕ) → waysOver (ds ++ bs) known k ≡ waysOver ds known k ++ waysOver bs known (k + length ds)
 over-append [] bs known k = ap (waysOver bs known) (sym (add-zero k))
-over-append (a ∷ ds) bs known k = go (allowed a known) (over-append ds bs known (suc k) ∙ ap (λ (j : ℕ). waysOver ds known (suc k) ++ waysOver bs known j) (let e : suc k + length ds ≡ k + suc (length ds) = omega arith in e))
+over-append (a ∷ ds) bs known k = go (allowed a known)
+    (over-append ds bs known (suc k) ∙ ap (λ (j : ℕ). waysOver ds known (suc k) ++ waysOver bs known j) (let e : suc k + length ds ≡ k + suc (length ds) = omega arith in e))
   where
     go : (b : Bool) → waysOver (ds ++ bs) known (suc k) ≡ waysOver ds known (suc k) ++ waysOver bs known (k + suc (length ds))
         → cond b (record { known = learnt a known; path = k } ∷ waysOver (ds ++ bs) known (suc k)) (waysOver (ds ++ bs) known (suc k))

@@ -158,7 +158,8 @@ module _ (ar : List ℕ) where
       let ih = horner-below (p * termBase + t) ts (l .1) in
       let a : suc (p * termBase + t) ≤ suc p * termBase = omega (arith, l .0) in
       let b = mul-le-mul-right (termBase ^ length ts) a in
-      let c : suc p * termBase * termBase ^ length ts ≡ suc p * termBase ^ suc (length ts) = mul-assoc (suc p) termBase (termBase ^ length ts) ∙ ap (λ (x : ℕ). suc p * x) (sym (pow-succ' termBase (length ts))) in
+      let c : suc p * termBase * termBase ^ length ts ≡ suc p * termBase ^ suc (length ts)
+      = mul-assoc (suc p) termBase (termBase ^ length ts) ∙ ap (λ (x : ℕ). suc p * x) (sym (pow-succ' termBase (length ts))) in
       omega (arith, ih, b, c)
 
   pub fact-below : (ρ : ℕ → ℕ) (l : ℕ) → isLabel ar l ≡ true → ((t : ℕ) → ρ t < termBase) → renamed ar ρ l < predicateCount * predicateWeight

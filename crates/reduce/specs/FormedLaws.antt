@@ -198,7 +198,9 @@ module _ (ar : List ℕ) (d : Diagram) where
     paths-over k (suc n) = go (allowed (codesAt k) (p .known)) (paths-over (suc k) n)
       where
         go : (b : Bool) → map (λ (w : Way). w .path) (waysOver (map codesAt (count (suc k) n)) (p .known) (suc k)) ≡ those (λ j. allowed (codesAt j) (p .known)) (count (suc k) n)
-            → map (λ (w : Way). w .path) (cond b (record { known = learnt (codesAt k) (p .known); path = k } ∷ waysOver (map codesAt (count (suc k) n)) (p .known) (suc k)) (waysOver (map codesAt (count (suc k) n)) (p .known) (suc k)))
+            → map (λ (w : Way). w .path)
+            (cond b (record { known = learnt (codesAt k) (p .known); path = k } ∷ waysOver (map codesAt (count (suc k) n)) (p .known) (suc k))
+            (waysOver (map codesAt (count (suc k) n)) (p .known) (suc k)))
             ≡ cond b (k ∷ those (λ j. allowed (codesAt j) (p .known)) (count (suc k) n)) (those (λ j. allowed (codesAt j) (p .known)) (count (suc k) n))
         go true ih = ap (λ (l : List ℕ). k ∷ l) ih
         go false ih = ih
@@ -238,7 +240,9 @@ module _ (ar : List ℕ) (d : Diagram) where
         each k (suc n) = go (allowed (codesAt k) (p .known)) refl (each (suc k) n)
           where
             go : (b : Bool) → allowed (codesAt k) (p .known) ≡ b → AllOf (Related (os ∷ us)) (map (pairOf (p .choice)) (waysOver (map codesAt (count (suc k) n)) (p .known) (suc k)))
-                → AllOf (Related (os ∷ us)) (map (pairOf (p .choice)) (cond b (record { known = learnt (codesAt k) (p .known); path = k } ∷ waysOver (map codesAt (count (suc k) n)) (p .known) (suc k)) (waysOver (map codesAt (count (suc k) n)) (p .known) (suc k))))
+                → AllOf (Related (os ∷ us)) (map (pairOf (p .choice))
+                (cond b (record { known = learnt (codesAt k) (p .known); path = k } ∷ waysOver (map codesAt (count (suc k) n)) (p .known) (suc k))
+                (waysOver (map codesAt (count (suc k) n)) (p .known) (suc k))))
             go true e ih = (one-more k e, ih)
             go false e ih = ih
 

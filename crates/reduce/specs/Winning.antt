@@ -12,7 +12,7 @@ use Rattle.diagram.specs.Variables.{variables}
 use Rattle.listing.specs.Used.{Used}
 use Rattle.reduction.specs.Combinations.{formed, winners}
 use Rattle.reduction.specs.declared.Reduced.{Reduced}
-use Rattle.reduction.specs.Reduction.{mostRuns, mostFormed, isPlain, reduceAnswer, answerOf, bufferOf}
+use Rattle.reduction.specs.Reduction.{mostRuns, mostFormed, hasKinds, reduceAnswer, answerOf, bufferOf}
 use Rattle.diagram.specs.Sizes.{resultWords, spaceWords}
 use Rattle.reduce.specs.Routing.{Routed}
 use Rattle.reduce.specs.Searching.{isMarked}
@@ -42,7 +42,7 @@ pub record Plain (ar ws counts used : List ℕ) (n m v all : ℕ) (out work : Li
   pub count : v ≡ length (variables ar (diagramOf ws))
   pub power : all ≡ v ^ v
   pub few : all * m ≤ mostRuns
-  pub plain : isPlain ar (diagramOf ws) ≡ true
+  pub kinds : hasKinds ar (diagramOf ws) ≡ false
   pub out-room : resultWords ≤ length out
   pub work-room : spaceWords ≤ length work
 

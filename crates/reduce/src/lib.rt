@@ -17,7 +17,7 @@ ghost use Rattle.diagram.specs.Words.{labelAt};
 ghost use Rattle.diagram.specs.Validity.{tree};
 ghost use Rattle.apply.specs.Formed.{add};
 ghost use Rattle.store.specs.Space.{diagramsOf, Formation};
-ghost use Rattle.reduction.specs.Reduction.{isOn, mostRuns, isPlain, hasParameter, reduceCall, answerOf, bufferOf};
+ghost use Rattle.reduction.specs.Reduction.{isOn, mostRuns, hasKinds, hasParameter, reduceCall, answerOf, bufferOf};
 ghost use Rattle.diagram.specs.Words.{isListing};
 ghost use Rattle.diagram.specs.Listing.{diagramOf};
 ghost use Rattle.reduce.specs.Routing.{Routed, winning, isOnPath, staysIn, Won, Edged};
@@ -322,7 +322,7 @@ fn objects_into(v: usize, all: usize, i: usize, out: &mut [u64])
     }
 }
 
-// How many variables are marked up to the term t, where c are below it.
+// How many variables are marked up to the term t, where c are below it. A minimum variable is not counted.
 fn rank_after(marks: &[u64], t: usize, c: usize) -> usize
     requires { ⌜ termEnd ≤ length (now marks) ⌝ }
     requires { ⌜ t < termEnd ⌝ }
@@ -330,6 +330,9 @@ fn rank_after(marks: &[u64], t: usize, c: usize) -> usize
     ensures { λ r. ⌜ Ranked (now (marks .entry)) (t + 1) r ⌝ }
 {
     if t < (Term::FIRST_VARIABLE as usize) {
+        return c;
+    }
+    if t >= (Term::FIRST_MINIMUM as usize) {
         return c;
     }
     if marks[t] == 0 {
@@ -708,18 +711,21 @@ fn has_marked(used: &[u64], first: usize, n: usize) -> bool
     false
 }
 
-// Whether neither an equality nor a constant is present; used[t] marks the terms that occur. Labels grow from the root down, and those of equalities are the lowest.
-fn is_plain(arities: &[u64], words: &[u64], used: &[u64], n: usize) -> bool
+// Whether an equality, a constant or a minimum variable is present; used[t] marks the terms that occur. Labels grow from the root down, and those of equalities are the lowest.
+fn has_kinds(arities: &[u64], words: &[u64], used: &[u64], n: usize) -> bool
     requires { ⌜ Markable (now arities) (now words) (now used) n ⌝ }
-    ensures { λ r. ⌜ r ≡ isPlain (now (arities .entry)) (diagramOf (now (words .entry))) ⌝ }
+    ensures { λ r. ⌜ r ≡ hasKinds (now (arities .entry)) (diagramOf (now (words .entry))) ⌝ }
 {
     if words[(n - 1) * 3] < Label::PREDICATE_WEIGHT {
-        return false;
+        return true;
     }
     if has_marked(used, 0, Term::CONSTANTS as usize) {
-        return false;
+        return true;
     }
-    true
+    if !listing::is_plain(used) {
+        return true;
+    }
+    false
 }
 
 // Reduces a listing that is one: 17 over 256 paths, 26, 27, 28, else the rows left.
@@ -736,7 +742,7 @@ pub fn reduce_checked(arities: &[u64], words: &[u64], out: &mut [u64], work: &mu
         return Reduced::Refused(Refusal::Paths);
     }
     listing::used(arities, words, &mut used);
-    if !is_plain(arities, words, &used, n) {
+    if has_kinds(arities, words, &used, n) {
         return Reduced::Refused(Refusal::Kinds);
     }
     let v = listing::count_variables(&used);

@@ -11,8 +11,8 @@ use Rattle.refusal.specs.declared.Refusal.the-variants.{Listing, Buffer, Unboun
 use Rattle.refusal.specs.Outcome.{ok, refused}
 use Rattle.basics.specs.Tests.{and-left, and-right, Either, one, other, either, Cmp, below, equal, above, cmp}
 use Rattle.basics.specs.Members.{clash}
-use Rattle.label.specs.Limits.{constantCount, firstParameter, parameterCount, firstVariable}
-use Rattle.label.specs.Terms.{isConstant, isParameter, isVariable, isTerm}
+use Rattle.label.specs.Limits.{constantCount, firstParameter, parameterCount, firstVariable, firstMinimum}
+use Rattle.label.specs.Terms.{isConstant, isParameter, isVariable, isMinimum, isTerm}
 use Rattle.diagram.specs.Sizes.{resultWords, spaceWords}
 use Rattle.diagram.specs.Diagram.{Diagram}
 use Rattle.diagram.specs.Words.{isListing}
@@ -24,7 +24,7 @@ use Rattle.state.specs.State.{meaning, State, Good}
 use Rattle.minimum.specs.Number.{number}
 use Rattle.state.specs.ValueLaws.{Terms-mono}
 use Rattle.regression.specs.Parameters.{Allowed, Within}
-use Rattle.regression.specs.NextLaws.{occur-terms}
+use Rattle.minimum.specs.OccurLaws.{occur-terms}
 use Rattle.regression.specs.RegressCallLaws.{any-quiet, quiet-any}
 use Rattle.reduction.specs.Reduction.{reduceAnswer, hasParameter, reduceCall}
 use Rattle.reduction.specs.Claims.{Called}
@@ -34,14 +34,18 @@ use Rattle.reduction.specs.ReductionLaws.{reduce-keeps}
 
 -- between parameters and variables there is no term
 past-parameters : (t : ℕ) → isTerm t ≡ true → firstParameter + parameterCount ≤ t → firstVariable ≤ t
-unfolding isTerm isConstant isParameter isVariable
+unfolding isTerm isConstant isParameter isVariable isMinimum
 past-parameters t e h = go (either (isConstant t) _ e)
   where
-    rest : Either (isParameter t) (isVariable t) → firstVariable ≤ t
-    rest (one q) = absurd (omega (arith, ltb-true t (firstParameter + parameterCount) (and-right (leb firstParameter t) _ q)))
-    rest (other q) = leb-true firstVariable t (and-left _ _ q)
+    last : Either (isVariable t) (isMinimum t) → firstVariable ≤ t
+    last (one q) = leb-true firstVariable t (and-left _ _ q)
+    last (other q) = omega (arith, leb-true firstMinimum t (and-left _ _ q))
 
-    go : Either (isConstant t) (isParameter t || isVariable t) → firstVariable ≤ t
+    rest : Either (isParameter t) (isVariable t || isMinimum t) → firstVariable ≤ t
+    rest (one q) = absurd (omega (arith, ltb-true t (firstParameter + parameterCount) (and-right (leb firstParameter t) _ q)))
+    rest (other q) = last (either (isVariable t) _ q)
+
+    go : Either (isConstant t) (isParameter t || (isVariable t || isMinimum t)) → firstVariable ≤ t
     go (one q) = absurd (omega (arith, ltb-true t constantCount q))
     go (other q) = rest (either (isParameter t) _ q)
 

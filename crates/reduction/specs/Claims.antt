@@ -11,14 +11,14 @@ use Rattle.diagram.specs.Sizes.{resultWords, spaceWords}
 use Rattle.diagram.specs.Diagram.{Diagram}
 use Rattle.diagram.specs.Words.{isListing}
 use Rattle.diagram.specs.Listing.{diagramOf, Good as Listed}
-use Rattle.diagram.specs.Variables.{closed}
+use Rattle.diagram.specs.Variables.{isPlain, closed}
 use Rattle.state.specs.State.{meaning, State, Good}
 use Rattle.minimum.specs.Number.{Number}
 use Rattle.regression.specs.Parameters.{Within}
 use Rattle.paths.specs.Paths.{Step, paths, mostPaths}
 use Rattle.paths.specs.Routes.{stepOn, pathAt}
 use Rattle.reduction.specs.Combinations.{Ground, formed}
-use Rattle.reduction.specs.Reduction.{reducedDiagram, isPlain, runs, mostRuns, mostFormed, reduceAnswer, hasParameter}
+use Rattle.reduction.specs.Reduction.{reducedDiagram, isGeneral, runs, mostRuns, mostFormed, reduceAnswer, hasParameter}
 
 -- ===== Lists =====
 
@@ -66,6 +66,7 @@ pub record Clash (gs : List Ground) : Type 0 where
 -- none of 17, 26, 27 and 28 is met, and r is the reduced diagram
 pub record Answered (ar : List ℕ) (d r : Diagram) : Type 0 where
   pub paths-few : length (paths d) ≤ mostPaths
+  pub general : isGeneral ar d ≡ true
   pub plain : isPlain ar d ≡ true
   pub runs-few : runs ar d ≤ mostRuns
   pub formed-few : formed ar d ≤ mostFormed

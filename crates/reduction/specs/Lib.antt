@@ -23,7 +23,7 @@
 --   reducedDiagram == the edges on winning paths stay, then the diagram is reduced and closed up
 --
 -- Definitions: what refuses it
---   isPlain == no equality and no constant is present (26)
+--   isGeneral, hasKinds == neither equality nor a constant is present; one of them or a minimum variable is (26)
 --   mostRuns, runs == 512; valuations times paths (27)
 --   mostFormed == 100,000 (28)
 --   reduceAnswer == the diagram left, or the first of 17, 26, 27, 28
@@ -44,7 +44,8 @@
 --   call-keeps: so does every reduction that the call on lent words accepts
 --   reduce-is: it leaves a value diagram one of the same values, as backups, cuts and reductions want it: with a listing, closed up, without parameters
 --   within-closed, closed-number: closing up adds no parameter and keeps the number
---   closed-kinds, after-kinds: closing up and moving apart are those of crate minimum, kind by kind (document 02, L12)
+--   maximums-variables, minimums-minimums: the variables of each kind by labels are those of what the diagram says (document 02, L12)
+--   closed-kinds, after-kinds: so closing up and moving apart are those of crate minimum, kind by kind
 --   reduced-few: at most 511 rows are left, so that 9 is never met
 --   answered: an answer is given only if none of 17, 26, 27 and 28 is met
 --   called: the call gives it only for a listing without parameters, with room for result and work

@@ -6,18 +6,16 @@ use mathlib.Core.List.{List, [], _∷_, map, reverse, List·Memᴰ, List·Memᴰ
 use Prim.Native.Nat.{ℕ, _≤_, _<_}
 use native.Mathlib.Nat.{le-of-eq, le-trans}
 use lib.ListN.{length, getD}
-use Rattle.label.specs.Limits.{firstVariable}
-use Rattle.label.specs.LabelLaws.{term-below}
+use Rattle.label.specs.Limits.{firstVariable, firstMinimum}
 use Rattle.label.specs.Labels.{predicateOf, unpacked, termsOf}
 use Rattle.label.specs.Renamings.{rank}
 use Rattle.label.specs.RenamingLaws.{rank-below}
 use Rattle.diagram.specs.Diagram.{Diagram, leaf, branch, eval}
 use Rattle.diagram.specs.Words.{upTo}
 use Rattle.diagram.specs.WordLaws.{length-upTo, getD-upTo}
-use Rattle.diagram.specs.Listing.{Fine}
 use Rattle.diagram.specs.Variables.{occurs, variables}
 use Rattle.rename.specs.AscendingLaws.{place-rank}
-use Rattle.rename.specs.VariableLaws.{occurs-variable, occurs-term, variables-ascending}
+use Rattle.rename.specs.VariableLaws.{occurs-variable, variables-ascending}
 use Rattle.apply.specs.GoodLaws.{EveryLabel}
 use Rattle.state.specs.Max.{Tuple, none, more}
 use Rattle.state.specs.State.{atomOf, meaning, State, truth, holds, value, low, Fits}
@@ -26,8 +24,8 @@ use Rattle.state.specs.ValueLaws.{low-lt, low-ge, by-low, map-same, map-map, va
 use Rattle.state.specs.HighestLaws.{highest-by, highest-same}
 use Rattle.minimum.specs.Number.{Number}
 use Rattle.minimum.specs.Operations.{Plain}
-use Rattle.minimum.specs.PlainLaws.{fine-plain, highest-number, number-highest}
-use Rattle.regression.specs.NextLaws.{occur-terms}
+use Rattle.minimum.specs.OccurLaws.{occur-terms, terms-occur}
+use Rattle.minimum.specs.PlainLaws.{highest-number, number-highest}
 use Rattle.paths.specs.Paths.{Literal, Step, Path, stepBefore, paths, literals, literalOf}
 use Rattle.paths.specs.PathLaws.{mem-map, mem-unmap, path-in, path-number}
 use Rattle.paths.specs.Routes.{stepOn, pathAt}
@@ -162,18 +160,18 @@ module _ (ar : List ℕ) (d : Diagram) (s : State) (θ : ℕ → ℕ) where
       (subst (λ n. Tuple (length (variables ar d)) n (upTo (length (variables ar d)))) (length-upTo (length (variables ar d)))
       (tuple-of (length (variables ar d)) (upTo (length (variables ar d))) (λ o m. in-upTo (length (variables ar d)) o m))))
 
-  own-same : Fine ar d → (t : ℕ) → occurs ar t d ≡ true → valuation own t ≡ θ t
+  own-same : Plain (meaning ar d) → (t : ℕ) → occurs ar t d ≡ true → valuation own t ≡ θ t
   unfolding valuation stands own objectOf
-  own-same f t e = by-low (valuation own t ≡ θ t) firstVariable t
+  own-same plain t e = by-low (valuation own t ≡ θ t) firstVariable t
       (λ h. low-lt firstVariable t (θ t) (stands (objectOf (variables ar d) own t)) h)
-      (λ h. let m = occurs-variable ar d t e h (term-below t (occurs-term ar d t f e)) in
+      (λ h. let m = occurs-variable ar d t e h (terms-occur (λ u. u < firstMinimum) ar t d plain e) in
       low-ge firstVariable t (θ t) (stands (objectOf (variables ar d) own t)) h
       ∙ ap (λ k. θ (getD (variables ar d) k 0)) (getD-upTo (length (variables ar d)) (rank (variables ar d) t) (rank-below (variables ar d) t m))
       ∙ ap θ (place-rank firstVariable (variables ar d) t (variables-ascending ar d) m))
 
   -- under it the diagram has θ's leaf
-  own-value : Fine ar d → value s (meaning ar d) (valuation own) ≡ value s (meaning ar d) θ
-  own-value f = value-same (λ t. occurs ar t d ≡ true) s (meaning ar d) (valuation own) θ (occur-terms ar d) (own-same f)
+  own-value : Plain (meaning ar d) → value s (meaning ar d) (valuation own) ≡ value s (meaning ar d) θ
+  own-value plain = value-same (λ t. occurs ar t d ≡ true) s (meaning ar d) (valuation own) θ (occur-terms ar d) (own-same plain)
 
   run-value : (os : List ℕ) → value s (meaning ar d) (valuation os) ≡ pathAt d (numberOf os) .end
   unfolding numberOf
@@ -187,9 +185,9 @@ module _ (ar : List ℕ) (d : Diagram) (s : State) (θ : ℕ → ℕ) where
     pub inside : Fits s ps point
     pub high : value s (meaning ar d) θ ≤ value s (meaning ar (keeping (isOn d (winners ar d)) d)) point
 
-  pub reached : Fine ar d → EveryLabel (Varied ar) d → (ps : List ℕ) → Fits s ps θ → Reached ps
+  pub reached : Plain (meaning ar d) → EveryLabel (Varied ar) d → (ps : List ℕ) → Fits s ps θ → Reached ps
   unfolding winners
-  reached f varied ps fit =
+  reached plain varied ps fit =
       let us = reverse (valuations ar d) in
       let ks = map numberOf us in
       let k = mem-map numberOf us own own-in in
@@ -201,7 +199,7 @@ module _ (ar : List ℕ) (d : Diagram) (s : State) (θ : ℕ → ℕ) where
       record {
         point = valuation os;
         inside = valuation-fits ps os fit;
-        high = le-trans (le-of-eq (sym (own-value f) ∙ run-value own))
+        high = le-trans (le-of-eq (sym (own-value plain) ∙ run-value own))
             (le-trans (at-least-leaf d (winner d ks) (numberOf own) (winner-first d ks (numberOf own) k))
             (le-of-eq (ap (λ n. pathAt d n .end) (u .2)
             ∙ sym (value-says ar s (valuation os) (keeping (isOn d (winners ar d)) d) ∙ kept os w′))));
@@ -212,18 +210,18 @@ module _ (ar : List ℕ) (d : Diagram) (s : State) (θ : ℕ → ℕ) where
           (path-in d (run os .number) (run os .below)) (run os .follows) (on-stays d (winners ar d) (numberOf os) m))
 
 -- the number stays, before closing up: it is the highest leaf, since there is no minimum variable
-pub keeping-number : (ar : List ℕ) (d : Diagram) → Fine ar d → EveryLabel (Varied ar) d → Plain (meaning ar (reduced (keeping (isOn d (winners ar d)) d)))
+pub keeping-number : (ar : List ℕ) (d : Diagram) → Plain (meaning ar d) → EveryLabel (Varied ar) d → Plain (meaning ar (reduced (keeping (isOn d (winners ar d)) d)))
     → (s : State) (ps : List ℕ) (x : ℕ) → Number s ps (meaning ar d) x → Number s ps (meaning ar (reduced (keeping (isOn d (winners ar d)) d))) x
-keeping-number ar d f varied plain s ps x m = highest-number s ps (meaning ar (reduced kept)) plain x
+keeping-number ar d plain varied plain′ s ps x m = highest-number s ps (meaning ar (reduced kept)) plain′ x
     (highest-same (meaning ar kept) (meaning ar (reduced kept))
-    (highest-by (meaning ar d) (meaning ar kept) (number-highest s ps (meaning ar d) (fine-plain ar d f) x m) up down)
+    (highest-by (meaning ar d) (meaning ar kept) (number-highest s ps (meaning ar d) plain x m) up down)
     (λ θ g. value-says ar s θ kept ∙ sym (eval-reduced (says ar s θ) kept) ∙ sym (value-says ar s θ (reduced kept))))
   where
     kept : Diagram
     kept = keeping (isOn d (winners ar d)) d
 
     up : (θ : ℕ → ℕ) → Fits s ps θ → (η : ℕ → ℕ) × Fits s ps η × (value s (meaning ar d) θ ≤ value s (meaning ar kept) η)
-    up θ g = let r = reached ar d s θ f varied ps g in (r .point, r .inside, r .high)
+    up θ g = let r = reached ar d s θ plain varied ps g in (r .point, r .inside, r .high)
 
     down : (θ : ℕ → ℕ) → Fits s ps θ → (η : ℕ → ℕ) × Fits s ps η × (value s (meaning ar kept) θ ≤ value s (meaning ar d) η)
     down θ g = (θ, g, rw (value-says ar s θ kept, value-says ar s θ d) (keeping-low (isOn d (winners ar d)) (says ar s θ) d))

@@ -14,7 +14,7 @@ use Rattle.diagram.specs.Rows.{rows}
 use Rattle.diagram.specs.Sizes.{resultWords, spaceWords}
 use Rattle.diagram.specs.Words.{isListing}
 use Rattle.diagram.specs.Listing.{listing, diagramOf}
-use Rattle.diagram.specs.Variables.{variables, closed}
+use Rattle.diagram.specs.Variables.{variables, isPlain, closed}
 use Rattle.regression.specs.RegressCall.{anyOccurs}
 use Rattle.paths.specs.Paths.{paths, mostPaths, through}
 use Rattle.paths.specs.Routes.{pathAt}
@@ -44,11 +44,16 @@ reducedDiagram ar d = closed ar (reduced (keeping (isOn d (winners ar d)) d))
 
 -- ===== What refuses it =====
 
--- 26: "equality, a constant or a minimum variable is present" (minimum variables come with L12)
-unfoldable pub isPlain : List ℕ → Diagram → Bool
-isPlain ar (leaf v) = true
-isPlain ar (branch l t f) =
-    not (eqb (predicateOf l) equality) && (not (someOf isConstant (termsOf ar (unpacked l))) && (isPlain ar t && isPlain ar f))
+-- neither equality nor a constant is present
+unfoldable pub isGeneral : List ℕ → Diagram → Bool
+isGeneral ar (leaf v) = true
+isGeneral ar (branch l t f) =
+    not (eqb (predicateOf l) equality) && (not (someOf isConstant (termsOf ar (unpacked l))) && (isGeneral ar t && isGeneral ar f))
+
+-- 26: "equality, a constant or a minimum variable is present"
+unfoldable pub hasKinds : List ℕ → Diagram → Bool
+unfolding isGeneral isPlain
+hasKinds ar d = not (isGeneral ar d && isPlain ar d)
 
 -- 27: "valuations times paths pass 512"
 abbrev pub mostRuns : ℕ
@@ -64,10 +69,10 @@ mostFormed = 100000
 
 -- the diagram that is left, or why there is none: 26, 27 and 28 "in this order and after 17"
 unfoldable pub reduceAnswer : List ℕ → Diagram → Outcome Diagram
-unfolding isPlain runs formed reducedDiagram paths
+unfolding hasKinds runs formed reducedDiagram paths
 reduceAnswer ar d =
     cond (ltb mostPaths (length (paths d))) (refused Paths)
-    (cond (not (isPlain ar d)) (refused Kinds)
+    (cond (hasKinds ar d) (refused Kinds)
     (cond (ltb mostRuns (runs ar d)) (refused Runs)
     (cond (ltb mostFormed (formed ar d)) (refused Combinations)
     (ok (reducedDiagram ar d)))))

@@ -3,7 +3,7 @@ use mathlib.Core.Bool.{false}
 use Prim.Native.Nat.{_-_, _≤_}
 use borrow.Author.Needs.{needs}
 use Rattle.reduce.specs.Winning.{someUsed}
-use Rattle.reduce.proofs.PlainLaws.{used-start, used-found, used-on, used-none}
+use Rattle.reduce.proofs.KindLaws.{used-start, used-found, used-on, used-none}
 use Rattle.reduce.proofs.has_marked.Statement.{statement}
 use Rattle.reduce.proofs.has_marked.Tie as tie
 

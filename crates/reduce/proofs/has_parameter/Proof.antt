@@ -1,6 +1,6 @@
 use mathlib.Core.Path.{refl}
 use Rattle.diagram.specs.ListingValid.{listing-is-valid}
-use Rattle.reduce.proofs.PlainLaws.{parameter-yes, parameter-no}
+use Rattle.reduce.proofs.KindLaws.{parameter-yes, parameter-no}
 use borrow.Author.Needs.{needs}
 use Rattle.reduce.proofs.has_parameter.Statement.{statement}
 use Rattle.reduce.proofs.has_parameter.Tie as tie

@@ -57,7 +57,8 @@ returns-5 c =
     let check = c .before .before .before .before .before .before .before .before .before .before .before .before .check in
     let past-12 = c .before .before .before .before .before .before .before .before .before .before .before .before in
     let args = past-12 .before .before .before .before .before .args in
-    call-done (args .arities .now) (args .words .now) (args .out .now) (args .work .now) (check .ensures) (if1 .left) (if2 .left) (if3 .left) (has-parameter .ensures) (if4 .left) (reduce-checked .ensures)
+    call-done (args .arities .now) (args .words .now) (args .out .now) (args .work .now) (check .ensures) (if1 .left) (if2 .left) (if3 .left)
+    (has-parameter .ensures) (if4 .left) (reduce-checked .ensures)
 
 pub reduce-spec : {M : Type 1} → statement M
 reduce-spec =

@@ -29,42 +29,42 @@ returns-2 c =
     let count-paths = c .before .before .before .before .before .before .before .before .count-paths in
     let past-12 = c .before .before .before .before .before .before .before .before .before .before .before .before in
     let entry = past-12 .before .before .pre in
-    check-kinds (entry) (count-paths .ensures) (if1 .left) (c .before .is-plain .ensures) (c .if2 .taken)
+    check-kinds (entry) (count-paths .ensures) (if1 .left) (c .before .has-kinds .ensures) (c .if2 .taken)
 
 count-valuations-requires : tie.Need-count-valuations-requires
 count-valuations-requires c κs =
     let if2 = c .before .before .if2 in
-    let is-plain = c .before .before .before .is-plain in
+    let has-kinds = c .before .before .before .has-kinds in
     let used2 = c .before .before .before .before .before .before .used2 in
     let if1 = c .before .before .before .before .before .before .before .before .if1 in
     let count-paths = c .before .before .before .before .before .before .before .before .before .before .count-paths in
     let past-12 = c .before .before .before .before .before .before .before .before .before .before .before .before in
     let entry = past-12 .before .before .before .before .pre in
-    check-variables (entry) (count-paths .ensures) (if1 .left) (is-plain .ensures) (if2 .left) (used2 .ensures) (c .count-variables .ensures)
+    check-variables (entry) (count-paths .ensures) (if1 .left) (has-kinds .ensures) (if2 .left) (used2 .ensures) (c .count-variables .ensures)
 
 mul-if3 : tie.Need-mul-if3
 mul-if3 c =
     let if2 = c .before .before .before .if2 in
-    let is-plain = c .before .before .before .before .is-plain in
+    let has-kinds = c .before .before .before .before .has-kinds in
     let used2 = c .before .before .before .before .before .before .before .used2 in
     let if1 = c .before .before .before .before .before .before .before .before .before .if1 in
     let count-paths = c .before .before .before .before .before .before .before .before .before .before .before .count-paths in
     let past-12 = c .before .before .before .before .before .before .before .before .before .before .before .before in
     let entry = past-12 .before .before .before .before .before .pre in
     omega
-    (arith, check-small (entry) (count-paths .ensures) (if1 .left) (is-plain .ensures) (if2 .left) (used2 .ensures) (c .before .count-variables .ensures) (c .count-valuations .ensures))
+    (arith, check-small (entry) (count-paths .ensures) (if1 .left) (has-kinds .ensures) (if2 .left) (used2 .ensures) (c .before .count-variables .ensures) (c .count-valuations .ensures))
 
 returns-3 : tie.Need-returns-3
 returns-3 c =
     let count-variables = c .before .before .count-variables in
     let if2 = c .before .before .before .before .if2 in
-    let is-plain = c .before .before .before .before .before .is-plain in
+    let has-kinds = c .before .before .before .before .before .has-kinds in
     let used2 = c .before .before .before .before .before .before .before .before .used2 in
     let if1 = c .before .before .before .before .before .before .before .before .before .before .if1 in
     let count-paths = c .before .before .before .before .before .before .before .before .before .before .before .before .count-paths in
     let past-12 = c .before .before .before .before .before .before .before .before .before .before .before .before in
     let entry = past-12 .before .before .before .before .before .before .pre in
-    check-runs (entry) (count-paths .ensures) (if1 .left) (is-plain .ensures) (if2 .left) (used2 .ensures) (count-variables .ensures) (c .before .count-valuations .ensures) (c .if3 .taken)
+    check-runs (entry) (count-paths .ensures) (if1 .left) (has-kinds .ensures) (if2 .left) (used2 .ensures) (count-variables .ensures) (c .before .count-valuations .ensures) (c .if3 .taken)
 
 reduce-plain-requires : tie.Need-reduce-plain-requires
 reduce-plain-requires c κs =
@@ -72,13 +72,13 @@ reduce-plain-requires c κs =
     let count-valuations = c .before .before .before .before .before .count-valuations in
     let count-variables = c .before .before .before .before .before .before .count-variables in
     let if2 = c .before .before .before .before .before .before .before .before .if2 in
-    let is-plain = c .before .before .before .before .before .before .before .before .before .is-plain in
+    let has-kinds = c .before .before .before .before .before .before .before .before .before .has-kinds in
     let used2 = c .before .before .before .before .before .before .before .before .before .before .before .before .used2 in
     let past-12 = c .before .before .before .before .before .before .before .before .before .before .before .before in
     let if1 = past-12 .before .before .if1 in
     let count-paths = past-12 .before .before .before .before .count-paths in
     let entry = past-12 .before .before .before .before .before .before .before .before .before .before .pre in
-    check-plain (entry) (count-paths .ensures) (if1 .left) (is-plain .ensures) (if2 .left) (used2 .ensures) (count-variables .ensures) (count-valuations .ensures) (if3 .left)
+    check-plain (entry) (count-paths .ensures) (if1 .left) (has-kinds .ensures) (if2 .left) (used2 .ensures) (count-variables .ensures) (count-valuations .ensures) (if3 .left)
 
 pub reduce-checked-spec : {M : Type 1} → statement M
 reduce-checked-spec =

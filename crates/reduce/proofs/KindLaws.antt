@@ -1,5 +1,6 @@
--- Laws of `has_marked`, `is_plain` and `has_parameter`.
+-- Laws of `has_marked`, `has_kinds` and `has_parameter`.
 use mathlib.Core.Path.{_≡_, refl, sym, ap, ap₂, subst, _∙_}
+use mathlib.Core.Logic.{_⊎_, inl, inr, ⊎-elim}
 use mathlib.Core.Bool.{Bool, true, false, not, _||_, _&&_, cond}
 use mathlib.Core.List.{List, [], _∷_}
 use Prim.Native.Nat.{ℕ, zero, suc, pred, _+_, _-_, _*_, _/_, _≤_, _<_}
@@ -18,12 +19,14 @@ use Rattle.diagram.specs.Diagram.{Diagram, leaf, branch, From}
 use Rattle.diagram.specs.Words.{labelAt, highAt, lowAt, rowCount, isListing}
 use Rattle.diagram.specs.Listing.{diagramOf, Good}
 use Rattle.diagram.specs.Validity.{Valid, tree}
-use Rattle.diagram.specs.Variables.{occurs}
+use Rattle.diagram.specs.Variables.{occurs, isPlain}
 use Rattle.diagram.specs.DiagramOfListing.{diagram-is, good-diagram, shown-rows}
 use Rattle.diagram.specs.ListingValid.{listing-is-valid}
-use Rattle.listing.specs.Used.{Used}
+use Rattle.listing.proofs.RowLaws.{not-taken, not-left}
+use Rattle.listing.specs.Used.{Used, markedMinimums}
+use Rattle.listing.specs.UsedLaws.{marked-plain}
 use Rattle.reduction.specs.Combinations.{someOf}
-use Rattle.reduction.specs.Reduction.{isPlain, hasParameter}
+use Rattle.reduction.specs.Reduction.{isGeneral, hasKinds, hasParameter}
 use Rattle.reduction.specs.CallLaws.{parameter-quiet, quiet-parameter}
 use Rattle.reduce.specs.Winning.{someUsed, Markable}
 
@@ -66,7 +69,7 @@ module _ (used : List ℕ) (first : ℕ) where
           (r .0, omega (arith, r .1), r .2)
       go (isFalse q) ih = (n, omega arith, eqb-false (getD used (first + n) 0) 0 q)
 
--- ===== What is plain =====
+-- ===== Neither equality nor a constant =====
 some-term : (t : ℕ) (ts : List ℕ) → mem eqb t ts ≡ true → isConstant t ≡ true → someOf isConstant ts ≡ true
 some-term t [] m e = clash m refl
 some-term t (x ∷ ts) m e = go (either (eqb t x) (mem eqb t ts) m) (some-term t ts)
@@ -87,10 +90,10 @@ term-some (x ∷ ts) e = go (either (isConstant x) (someOf isConstant ts) e) (te
 abbrev node : Bool → Bool → Bool → Bool → Bool
 node a b x y = not a && (not b && (x && y))
 
-plain-branch : (ar : List ℕ) (l : ℕ) (t f : Diagram)
-    → isPlain ar (branch l t f) ≡ node (eqb (predicateOf l) equality) (someOf isConstant (termsOf ar (unpacked l))) (isPlain ar t) (isPlain ar f)
-unfolding isPlain
-plain-branch ar l t f = refl
+general-branch : (ar : List ℕ) (l : ℕ) (t f : Diagram)
+    → isGeneral ar (branch l t f) ≡ node (eqb (predicateOf l) equality) (someOf isConstant (termsOf ar (unpacked l))) (isGeneral ar t) (isGeneral ar f)
+unfolding isGeneral
+general-branch ar l t f = refl
 
 occurs-branch : (ar : List ℕ) (u l : ℕ) (t f : Diagram) → occurs ar u (branch l t f) ≡ (mem eqb u (termsOf ar (unpacked l)) || (occurs ar u t || occurs ar u f))
 unfolding occurs
@@ -105,9 +108,10 @@ unfolding predicateOf
 low-label l h = eq-eqb (l / predicateWeight) equality (omega arith)
 
 -- no equality, for labels from the weight of a predicate on, and no constant
-plain-true : (ar : List ℕ) (d : Diagram) (n : ℕ) → From n d → predicateWeight ≤ n → ((t : ℕ) → isConstant t ≡ true → occurs ar t d ≡ false) → isPlain ar d ≡ true
-plain-true ar (leaf v) n o h c = (unfold isPlain in refl)
-plain-true ar (branch l t f) n o h c = go (flag (someOf isConstant (termsOf ar (unpacked l)))) (plain-true ar t (suc l) (o .1) (omega (arith, o .0))) (plain-true ar f (suc l) (o .2) (omega (arith, o .0)))
+general-true : (ar : List ℕ) (d : Diagram) (n : ℕ) → From n d → predicateWeight ≤ n → ((t : ℕ) → isConstant t ≡ true → occurs ar t d ≡ false) → isGeneral ar d ≡ true
+general-true ar (leaf v) n o h c = (unfold isGeneral in refl)
+general-true ar (branch l t f) n o h c = go (flag (someOf isConstant (termsOf ar (unpacked l))))
+    (general-true ar t (suc l) (o .1) (omega (arith, o .0))) (general-true ar f (suc l) (o .2) (omega (arith, o .0)))
   where
     none-high : (u : ℕ) → isConstant u ≡ true → occurs ar u t ≡ false
     none-high u e = off (flag (occurs ar u t))
@@ -123,42 +127,58 @@ plain-true ar (branch l t f) n o h c = go (flag (someOf isConstant (termsOf ar (
         off (isTrue q) = clash (occurs-branch ar u l t f ∙ or-other (mem eqb u (termsOf ar (unpacked l))) _ (or-other (occurs ar u t) _ q)) (c u e)
         off (isFalse q) = q
 
-    go : Flag (someOf isConstant (termsOf ar (unpacked l))) → (((u : ℕ) → isConstant u ≡ true → occurs ar u t ≡ false) → isPlain ar t ≡ true)
-        → (((u : ℕ) → isConstant u ≡ true → occurs ar u f ≡ false) → isPlain ar f ≡ true) → isPlain ar (branch l t f) ≡ true
+    go : Flag (someOf isConstant (termsOf ar (unpacked l))) → (((u : ℕ) → isConstant u ≡ true → occurs ar u t ≡ false) → isGeneral ar t ≡ true)
+        → (((u : ℕ) → isConstant u ≡ true → occurs ar u f ≡ false) → isGeneral ar f ≡ true) → isGeneral ar (branch l t f) ≡ true
     go (isTrue q) x y = let r = term-some (termsOf ar (unpacked l)) q in clash (occurs-branch ar (r .0) l t f ∙ or-one _ (occurs ar (r .0) t || occurs ar (r .0) f) (r .1)) (c (r .0) (r .2))
     go (isFalse q) x y =
-        plain-branch ar l t f ∙ ap₂ (λ (a b : Bool). node a b (isPlain ar t) (isPlain ar f)) (high-label l (omega (arith, o .0))) q
+        general-branch ar l t f ∙ ap₂ (λ (a b : Bool). node a b (isGeneral ar t) (isGeneral ar f)) (high-label l (omega (arith, o .0))) q
         ∙ ap₂ (λ (a b : Bool). a && b) (x none-high) (y none-low)
 
-not-plain : (a b x y : Bool) → (a ≡ true → node a b x y ≡ false) × (b ≡ true → node a b x y ≡ false) × (x ≡ false → node a b x y ≡ false) × (y ≡ false → node a b x y ≡ false)
-not-plain true b x y = ((λ e. refl), (λ e. refl), (λ e. refl), (λ e. refl))
-not-plain false true x y = ((λ e. clash e refl), (λ e. refl), (λ e. refl), (λ e. refl))
-not-plain false false true y = ((λ e. clash e refl), (λ e. clash e refl), (λ e. clash refl e), (λ e. e))
-not-plain false false false y = ((λ e. clash e refl), (λ e. clash e refl), (λ e. refl), (λ e. refl))
+not-general : (a b x y : Bool) → (a ≡ true → node a b x y ≡ false) × (b ≡ true → node a b x y ≡ false) × (x ≡ false → node a b x y ≡ false) × (y ≡ false → node a b x y ≡ false)
+not-general true b x y = ((λ e. refl), (λ e. refl), (λ e. refl), (λ e. refl))
+not-general false true x y = ((λ e. clash e refl), (λ e. refl), (λ e. refl), (λ e. refl))
+not-general false false true y = ((λ e. clash e refl), (λ e. clash e refl), (λ e. clash refl e), (λ e. e))
+not-general false false false y = ((λ e. clash e refl), (λ e. clash e refl), (λ e. refl), (λ e. refl))
 
 -- a constant
-plain-constant : (ar : List ℕ) (u : ℕ) → isConstant u ≡ true → (d : Diagram) → occurs ar u d ≡ true → isPlain ar d ≡ false
-plain-constant ar u c (leaf v) e = clash e (unfold occurs in refl)
-plain-constant ar u c (branch l t f) e =
-    plain-branch ar l t f ∙ go (either (mem eqb u (termsOf ar (unpacked l))) _ (sym (occurs-branch ar u l t f) ∙ e)) (plain-constant ar u c t) (plain-constant ar u c f)
+general-constant : (ar : List ℕ) (u : ℕ) → isConstant u ≡ true → (d : Diagram) → occurs ar u d ≡ true → isGeneral ar d ≡ false
+general-constant ar u c (leaf v) e = clash e (unfold occurs in refl)
+general-constant ar u c (branch l t f) e =
+    general-branch ar l t f ∙ go (either (mem eqb u (termsOf ar (unpacked l))) _ (sym (occurs-branch ar u l t f) ∙ e)) (general-constant ar u c t) (general-constant ar u c f)
   where
-    all : (eqb (predicateOf l) equality ≡ true → node (eqb (predicateOf l) equality) (someOf isConstant (termsOf ar (unpacked l))) (isPlain ar t) (isPlain ar f) ≡ false)
-        × (someOf isConstant (termsOf ar (unpacked l)) ≡ true → node (eqb (predicateOf l) equality) (someOf isConstant (termsOf ar (unpacked l))) (isPlain ar t) (isPlain ar f) ≡ false)
-        × (isPlain ar t ≡ false → node (eqb (predicateOf l) equality) (someOf isConstant (termsOf ar (unpacked l))) (isPlain ar t) (isPlain ar f) ≡ false)
-        × (isPlain ar f ≡ false → node (eqb (predicateOf l) equality) (someOf isConstant (termsOf ar (unpacked l))) (isPlain ar t) (isPlain ar f) ≡ false)
-    all = not-plain (eqb (predicateOf l) equality) (someOf isConstant (termsOf ar (unpacked l))) (isPlain ar t) (isPlain ar f)
+    all : (eqb (predicateOf l) equality ≡ true → node (eqb (predicateOf l) equality) (someOf isConstant (termsOf ar (unpacked l))) (isGeneral ar t) (isGeneral ar f) ≡ false)
+        × (someOf isConstant (termsOf ar (unpacked l)) ≡ true → node (eqb (predicateOf l) equality) (someOf isConstant (termsOf ar (unpacked l))) (isGeneral ar t) (isGeneral ar f) ≡ false)
+        × (isGeneral ar t ≡ false → node (eqb (predicateOf l) equality) (someOf isConstant (termsOf ar (unpacked l))) (isGeneral ar t) (isGeneral ar f) ≡ false)
+        × (isGeneral ar f ≡ false → node (eqb (predicateOf l) equality) (someOf isConstant (termsOf ar (unpacked l))) (isGeneral ar t) (isGeneral ar f) ≡ false)
+    all = not-general (eqb (predicateOf l) equality) (someOf isConstant (termsOf ar (unpacked l))) (isGeneral ar t) (isGeneral ar f)
 
-    below-it : Either (occurs ar u t) (occurs ar u f) → (occurs ar u t ≡ true → isPlain ar t ≡ false) → (occurs ar u f ≡ true → isPlain ar f ≡ false)
-        → node (eqb (predicateOf l) equality) (someOf isConstant (termsOf ar (unpacked l))) (isPlain ar t) (isPlain ar f) ≡ false
+    below-it : Either (occurs ar u t) (occurs ar u f) → (occurs ar u t ≡ true → isGeneral ar t ≡ false) → (occurs ar u f ≡ true → isGeneral ar f ≡ false)
+        → node (eqb (predicateOf l) equality) (someOf isConstant (termsOf ar (unpacked l))) (isGeneral ar t) (isGeneral ar f) ≡ false
     below-it (one q) x y = all .2 (x q)
     below-it (other q) x y = all .3 (y q)
 
-    go : Either (mem eqb u (termsOf ar (unpacked l))) (occurs ar u t || occurs ar u f) → (occurs ar u t ≡ true → isPlain ar t ≡ false) → (occurs ar u f ≡ true → isPlain ar f ≡ false)
-        → node (eqb (predicateOf l) equality) (someOf isConstant (termsOf ar (unpacked l))) (isPlain ar t) (isPlain ar f) ≡ false
+    go : Either (mem eqb u (termsOf ar (unpacked l))) (occurs ar u t || occurs ar u f) → (occurs ar u t ≡ true → isGeneral ar t ≡ false) → (occurs ar u f ≡ true → isGeneral ar f ≡ false)
+        → node (eqb (predicateOf l) equality) (someOf isConstant (termsOf ar (unpacked l))) (isGeneral ar t) (isGeneral ar f) ≡ false
     go (one q) x y = all .1 (some-term u (termsOf ar (unpacked l)) q c)
     go (other q) x y = below-it (either (occurs ar u t) _ q) x y
 
--- `is_plain`
+-- `has_kinds`
+module _ (ar : List ℕ) (d : Diagram) where
+  kinds-are : hasKinds ar d ≡ not (isGeneral ar d && isPlain ar d)
+  unfolding hasKinds
+  kinds-are = refl
+
+  some-kind : (a b : Bool) → (a ≡ false) ⊎ (b ≡ false) → not (a && b) ≡ true
+  some-kind false b h = refl
+  some-kind true false h = refl
+  some-kind true true h = ⊎-elim (λ (e : true ≡ false). clash refl e) (λ (e : true ≡ false). clash refl e) h
+
+  kinds-some : (isGeneral ar d ≡ false) ⊎ (isPlain ar d ≡ false) → true ≡ hasKinds ar d
+  kinds-some h = sym (kinds-are ∙ some-kind (isGeneral ar d) (isPlain ar d) h)
+
+  kinds-none : isGeneral ar d ≡ true → isPlain ar d ≡ true → false ≡ hasKinds ar d
+  kinds-none g p = sym (kinds-are ∙ ap₂ (λ (a b : Bool). not (a && b)) g p)
+
 module _ {ar ws used : List ℕ} {n : ℕ} (g : Markable ar ws used n) where
   valid : Valid ar ws
   valid = listing-is-valid ar ws (g .listing)
@@ -186,12 +206,12 @@ module _ {ar ws used : List ℕ} {n : ℕ} (g : Markable ar ws used n) where
   unfolding labelAt highAt
   leaf-is e = sym root-is ∙ shown-rows ar ws valid .leaves (n - 1) (omega (arith, g .whole, valid .some)) e
 
-  pub plain-equality : L < predicateWeight → false ≡ isPlain ar d
-  plain-equality h =
+  pub kinds-equality : L < predicateWeight → true ≡ hasKinds ar d
+  kinds-equality h =
       let t = tree ws (getD ws ((n - 1) * 3 + 1) 0) in
       let f = tree ws (getD ws ((n - 1) * 3 + 2) 0) in
-      sym (ap (isPlain ar) (branch-is (λ z. omega arith)) ∙ plain-branch ar L t f
-      ∙ not-plain (eqb (predicateOf L) equality) (someOf isConstant (termsOf ar (unpacked L))) (isPlain ar t) (isPlain ar f) .0 (low-label L h))
+      kinds-some ar d (inl (ap (isGeneral ar) (branch-is (λ z. omega arith)) ∙ general-branch ar L t f
+      ∙ not-general (eqb (predicateOf L) equality) (someOf isConstant (termsOf ar (unpacked L))) (isGeneral ar t) (isGeneral ar f) .0 (low-label L h)))
 
   occurs-used : (t : ℕ) → t < termEnd → (getD used t 0 ≡ 0 → ⊥) → occurs ar t d ≡ true
   occurs-used t h e = go (flag (occurs ar t d))
@@ -212,13 +232,14 @@ module _ {ar ws used : List ℕ} {n : ℕ} (g : Markable ar ws used n) where
   constant-below t e = ltb-true t constantCount e
 
   module _ {b : Bool} (q : b ≡ someUsed used 0 constantCount) where
-    pub plain-kinds : b ≡ true → false ≡ isPlain ar d
-    plain-kinds e =
+    pub kinds-constant : b ≡ true → true ≡ hasKinds ar d
+    kinds-constant e =
         let r = used-from used 0 constantCount (sym q ∙ e) in
-        sym (plain-constant ar (r .0) (constant-is (r .0) (r .1)) d (occurs-used (r .0) (omega (arith, r .1)) (λ z. r .2 (ap (λ (k : ℕ). getD used k 0) (zero-add (r .0)) ∙ z))))
+        let o = occurs-used (r .0) (omega (arith, r .1)) (λ z. r .2 (ap (λ (k : ℕ). getD used k 0) (zero-add (r .0)) ∙ z)) in
+        kinds-some ar d (inl (general-constant ar (r .0) (constant-is (r .0) (r .1)) d o))
 
-    pub plain-yes : predicateWeight ≤ L → b ≡ false → true ≡ isPlain ar d
-    plain-yes h e = sym (plain-true ar d predicateWeight (from (flag (eqb L leafMark))) (omega arith) none)
+    general-yes : predicateWeight ≤ L → b ≡ false → isGeneral ar d ≡ true
+    general-yes h e = general-true ar d predicateWeight (from (flag (eqb L leafMark))) (omega arith) none
       where
         none : (t : ℕ) → isConstant t ≡ true → occurs ar t d ≡ false
         none t c = off (flag (occurs ar t d))
@@ -240,6 +261,16 @@ module _ {ar ws used : List ℕ} {n : ℕ} (g : Markable ar ws used n) where
         from : Flag (eqb L leafMark) → From predicateWeight d
         from (isTrue z) = flat d (getD ws ((n - 1) * 3 + 1) 0) (leaf-is (eqb-true L leafMark z))
         from (isFalse z) = raised d L (tree ws (getD ws ((n - 1) * 3 + 1) 0)) (tree ws (getD ws ((n - 1) * 3 + 2) 0)) (branch-is (eqb-false L leafMark z)) (good-diagram ar ws valid .ordered) h
+
+    module _ {p : Bool} (w : p ≡ eqb (markedMinimums used) 0) where
+      plain-is : p ≡ isPlain ar d
+      plain-is = w ∙ marked-plain ar d used (g .marks)
+
+      pub kinds-minimum : not p ≡ true → true ≡ hasKinds ar d
+      kinds-minimum e = kinds-some ar d (inr (sym plain-is ∙ not-taken p e))
+
+      pub kinds-no : predicateWeight ≤ L → b ≡ false → not p ≡ false → false ≡ hasKinds ar d
+      kinds-no h z e = kinds-none ar d (general-yes h z) (sym plain-is ∙ not-left p e)
 
 -- `has_parameter`
 module _ (ar used : List ℕ) (x : Diagram) (u : Used ar x used) where
