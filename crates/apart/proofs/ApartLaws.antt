@@ -1,16 +1,17 @@
 -- Laws of `combine_moved` and `combine_apart`: both operands' rows are formed as renamed, and their last rows combined.
-use mathlib.Core.Path.{_≡_, refl, sym, ap, _∙_, subst}
-use mathlib.Core.Bool.{true}
+use mathlib.Core.Path.{_≡_, refl, sym, ap, ap₂, _∙_, subst}
+use mathlib.Core.Bool.{Bool, true, false, cond, _||_}
 use mathlib.Core.List.{List, []}
-use Prim.Native.Nat.{ℕ, _+_, _≤_, _<_}
+use Prim.Native.Nat.{ℕ, zero, suc, _+_, _≤_, _<_}
 use native.Mathlib.Omega.{arith}
 use mir.Val.{Fits}
 use mir.Syntax.{w64}
-use lib.ListN.{length, replicate, length-replicate}
-use borrow.Author.Tests.{lt-ltb, le-ltb}
-use Rattle.basics.specs.Tests.{Either, one, other}
+use lib.ListN.{length, getD, replicate, length-replicate}
+use lib.Dec.{eqb, ltb}
+use borrow.Author.Tests.{ltb-false, lt-ltb, le-ltb}
+use Rattle.basics.specs.Tests.{Flag, isTrue, isFalse, flag, Either, one, other}
 use Rattle.basics.specs.Members.{mem, clash}
-use Rattle.label.specs.Limits.{firstVariable, variableCount}
+use Rattle.label.specs.Limits.{firstVariable, variableCount, firstMinimum, minimumCount}
 use Rattle.refusal.specs.declared.Refusal.the-variants.{Variables, Space}
 use Rattle.table.specs.Table.{buckets}
 use Rattle.table.proofs.TableLaws.{clean-made}
@@ -19,15 +20,14 @@ use Rattle.diagram.specs.Diagram.{Diagram, same}
 use Rattle.diagram.specs.Rows.{onto}
 use Rattle.diagram.specs.Listing.{listing, diagramOf, Fine, Good}
 use Rattle.diagram.specs.Validity.{tree}
-use Rattle.diagram.specs.Variables.{variables, closedFrom, closed, after}
+use Rattle.diagram.specs.Variables.{variables, minimums, closedFrom, closed, after}
 use Rattle.diagram.specs.RowLists.{isPart}
 use Rattle.diagram.specs.RowLaws.{onto-mem, onto-from, onto-most, onto-kept, kept-none, row-mem}
 use Rattle.diagram.specs.ListingOfDiagram.{part-fine}
 use Rattle.diagram.specs.DiagramOfListing.{good-diagram}
-use Rattle.listing.specs.Used.{Used, markedVariables}
-use Rattle.listing.specs.UsedLaws.{marked-variables}
-use Rattle.rename.specs.VariableLaws.{variables-few}
-use Rattle.rename.specs.ClosingLaws.{closed-good, after-good}
+use Rattle.listing.specs.Used.{Used, setFrom, markedVariables, markedMinimums}
+use Rattle.listing.specs.UsedLaws.{marked-variables, marked-minimums}
+use Rattle.rename.specs.ClosingLaws.{closed-fit, closed-good, after-fit, after-good}
 use Rattle.apply.specs.declared.Operation.{Operation}
 use Rattle.apply.specs.declared.Names.the-variants.{Apart}
 use Rattle.apply.specs.declared.Combined.{Combined}
@@ -35,37 +35,45 @@ use Rattle.apply.specs.declared.Combined.the-variants.{Refused}
 use Rattle.apply.specs.Apply.{apply}
 use Rattle.apply.specs.RowLaws.{onto-begins}
 use Rattle.apply.specs.Snoc.{Begins}
-use Rattle.apply.specs.Combination.{operate, combination, operandRows, diagramAnswer, written}
+use Rattle.apply.specs.Combination.{operate, combination, tooMany, operandRows, diagramAnswer, written}
 use Rattle.apply.specs.CombinationLaws.{rows-formed, diagrams-variables}
 use Rattle.store.specs.declared.Formed.{Formed}
 use Rattle.store.specs.declared.Formed.the-variants.{Row, Full}
 use Rattle.store.specs.Space.{diagramsOf, Formation}
 use Rattle.store.proofs.SpaceLaws.{length-diagrams, diagram-at, diagrams-none, holds-none, formation-row, formation-full, formation-tree, formation-old}
 use Rattle.combine.specs.Calls.{Callable, Answered}
-use Rattle.apart.specs.Operands.{Enterable, Separable}
+use Rattle.apart.specs.declared.Aside.{Aside}
+use Rattle.apart.specs.declared.Aside.the-variants.{From, TooMany}
+use Rattle.apart.specs.Operands.{Enterable, asideOf, Separable}
 use Rattle.apart.specs.Results.{Joinable, resultAnswer, joinedAnswer, JoinedUp}
 
 -- the laws of closing up and moving apart by name
-closed-is : (ar : List ℕ) (d : Diagram) → closedFrom ar firstVariable d ≡ closed ar d
+closed-is : (ar : List ℕ) (d : Diagram) → closedFrom ar firstVariable firstMinimum d ≡ closed ar d
 unfolding closed
 closed-is ar d = refl
 
-after-is : (ar : List ℕ) (a b : Diagram) → closedFrom ar (firstVariable + length (variables ar a)) b ≡ after ar a b
+after-is : (ar : List ℕ) (a b : Diagram) → closedFrom ar (firstVariable + length (variables ar a)) (firstMinimum + length (minimums ar a)) b ≡ after ar a b
 unfolding after
 after-is ar a b = refl
 
--- what is left of the checks once the variables are counted
+-- what is left of the checks once the variables of each kind are counted
 answer-joined : (op : Operation) (ar : List ℕ) (a b : Diagram) → length (variables ar a) + length (variables ar b) ≤ variableCount
+    → length (minimums ar a) + length (minimums ar b) ≤ minimumCount
     → joinedAnswer op ar (closed ar a) (after ar a b) (operandRows Apart ar a b) ≡ diagramAnswer op Apart ar a b
 unfolding joinedAnswer resultAnswer diagramAnswer combination
-answer-joined op ar a b h = rw (le-ltb variableCount (length (variables ar a) + length (variables ar b)) h, rows-formed op Apart ar a b)
+answer-joined op ar a b h k =
+    rw (
+      le-ltb variableCount (length (variables ar a) + length (variables ar b)) h,
+      le-ltb minimumCount (length (minimums ar a) + length (minimums ar b)) k,
+      rows-formed op Apart ar a b,
+    )
 
 result-is : (op : Operation) (ar : List ℕ) (a b : Diagram) → closed ar (apply (operate op) (closed ar a) (after ar a b)) ≡ combination op Apart ar a b
 unfolding combination
 result-is op ar a b = refl
 
 -- `combine_moved`
-module _ {ar x y usedX usedY : List ℕ} {first : ℕ} {out work : List ℕ} (g : Separable ar x y usedX usedY first out work) where
+module _ {ar x y usedX usedY : List ℕ} {first minimum : ℕ} {out work : List ℕ} (g : Separable ar x y usedX usedY first minimum out work) where
   abbrev D : Diagram
   D = diagramOf x
 
@@ -89,7 +97,7 @@ module _ {ar x y usedX usedY : List ℕ} {first : ℕ} {out work : List ℕ} (g 
   good-a = closed-good ar D good-x
 
   good-b : Good ar B
-  good-b = after-good ar D E good-x good-y (g .few)
+  good-b = after-good ar D E good-x good-y (g .few) (g .few-minimums)
 
   few-a : length (onto A []) ≤ mostRows
   few-a = omega (arith, onto-most A [] kept-none, good-a .few)
@@ -98,22 +106,21 @@ module _ {ar x y usedX usedY : List ℕ} {first : ℕ} {out work : List ℕ} (g 
   few-b = omega (arith, few-a, onto-most B (onto A []) (onto-kept A [] kept-none), good-b .few)
 
   pub moved-first : (n₁ n₂ n₃ : ℕ) → buckets ≤ n₁ → spaceRows ≤ n₂ → mostRows ≤ n₃
-      → Enterable ar x usedX firstVariable work (replicate n₁ 0) (replicate n₂ 0) 0 (replicate n₃ 0)
+      → Enterable ar x usedX firstVariable firstMinimum work (replicate n₁ 0) (replicate n₂ 0) 0 (replicate n₃ 0)
   moved-first n₁ n₂ n₃ h k l = record {
     valid = g .call .first;
     marks = g .first-marks;
-    low = omega arith;
-    room = omega (arith, variables-few ar D);
+    fit = closed-fit ar D good-x;
     places = rw length-replicate l;
     holds = holds-none work (replicate n₁ 0) (replicate n₂ 0) (omega (arith, g .call .work-room)) (rw length-replicate k) (clean-made n₁ h);
   }
 
   module _ {r₁ : Formed} {s₁ h₁ l₁ : List ℕ}
-      (f : Formation (closedFrom ar firstVariable D) (onto (closedFrom ar firstVariable D) (diagramsOf work 0)) r₁ s₁ h₁ l₁) where
+      (f : Formation (closedFrom ar firstVariable firstMinimum D) (onto (closedFrom ar firstVariable firstMinimum D) (diagramsOf work 0)) r₁ s₁ h₁ l₁) where
     first-formed : Formation A (onto A []) r₁ s₁ h₁ l₁
     first-formed =
         subst (λ (d : Diagram). Formation d (onto d []) r₁ s₁ h₁ l₁) (closed-is ar D)
-        (subst (λ (rs : List Diagram). Formation (closedFrom ar firstVariable D) (onto (closedFrom ar firstVariable D) rs) r₁ s₁ h₁ l₁) (diagrams-none work) f)
+        (subst (λ (rs : List Diagram). Formation (closedFrom ar firstVariable firstMinimum D) (onto (closedFrom ar firstVariable firstMinimum D) rs) r₁ s₁ h₁ l₁) (diagrams-none work) f)
 
     pub moved-full : (op : Operation) → r₁ ≡ Full → Answered op Apart ar x y out (Refused Space) out
     moved-full op e =
@@ -127,22 +134,21 @@ module _ {ar x y usedX usedY : List ℕ} {first : ℕ} {out work : List ℕ} (g 
       first-rows : diagramsOf s₁ n ≡ onto A []
       first-rows = formation-row first-row .3
 
-      pub moved-second : {numbers : List ℕ} (n₃ : ℕ) → length numbers ≡ n₃ → mostRows ≤ n₃ → Enterable ar y usedY first s₁ h₁ l₁ n numbers
+      pub moved-second : {numbers : List ℕ} (n₃ : ℕ) → length numbers ≡ n₃ → mostRows ≤ n₃ → Enterable ar y usedY first minimum s₁ h₁ l₁ n numbers
       moved-second n₃ k h = record {
         valid = g .call .second;
         marks = g .second-marks;
-        low = omega (arith, g .first-is);
-        room = omega (arith, g .first-is, g .few);
+        fit = rw (g .first-is, g .minimum-is) (after-fit ar D E (g .few) (g .few-minimums));
         places = omega (arith, k);
         holds = first-row .holds;
       }
 
       module _ {r₂ : Formed} {s₂ h₂ l₂ : List ℕ}
-          (f′ : Formation (closedFrom ar first E) (onto (closedFrom ar first E) (diagramsOf s₁ n)) r₂ s₂ h₂ l₂) where
+          (f′ : Formation (closedFrom ar first minimum E) (onto (closedFrom ar first minimum E) (diagramsOf s₁ n)) r₂ s₂ h₂ l₂) where
         second-formed : Formation B (onto B (onto A [])) r₂ s₂ h₂ l₂
         second-formed =
-            subst (λ (d : Diagram). Formation d (onto d (onto A [])) r₂ s₂ h₂ l₂) (ap (λ (m : ℕ). closedFrom ar m E) (g .first-is) ∙ after-is ar D E)
-            (subst (λ (rs : List Diagram). Formation (closedFrom ar first E) (onto (closedFrom ar first E) rs) r₂ s₂ h₂ l₂) first-rows f′)
+            subst (λ (d : Diagram). Formation d (onto d (onto A [])) r₂ s₂ h₂ l₂) (ap₂ (λ (m n : ℕ). closedFrom ar m n E) (g .first-is) (g .minimum-is) ∙ after-is ar D E)
+            (subst (λ (rs : List Diagram). Formation (closedFrom ar first minimum E) (onto (closedFrom ar first minimum E) rs) r₂ s₂ h₂ l₂) first-rows f′)
 
         pub moved-full-2 : (op : Operation) → r₂ ≡ Full → Answered op Apart ar x y out (Refused Space) out
         moved-full-2 op e′ =
@@ -204,34 +210,101 @@ module _ {ar x y usedX usedY : List ℕ} {first : ℕ} {out work : List ℕ} (g 
               (subst (λ (b : Diagram). JoinedUp op ar A b (diagramsOf s₂ m) out r out′) (second-tree .1)
               (subst (λ (a : Diagram). JoinedUp op ar a (tree s₂ j) (diagramsOf s₂ m) out r out′) (first-tree .1) w)) in
               record {
-                answer = z .answer ∙ answer-joined op ar D E (g .few);
+                answer = z .answer ∙ answer-joined op ar D E (g .few) (g .few-minimums);
                 words = z .words ∙ ap (λ (d : Diagram). written r (listing d) out) (result-is op ar D E);
               }
 
+-- at most n of n marks are set
+set-most : (ms : List ℕ) (t n : ℕ) → setFrom ms t n ≤ n
+unfolding setFrom
+set-most ms t zero = omega arith
+set-most ms t (suc n) = go (flag (eqb (getD ms t 0) 0)) (set-most ms (suc t) n)
+  where
+    go : Flag (eqb (getD ms t 0) 0) → setFrom ms (suc t) n ≤ n → cond (eqb (getD ms t 0) 0) 0 1 + setFrom ms (suc t) n ≤ suc n
+    go (isTrue p) ih = rw p (omega arith)
+    go (isFalse p) ih = rw p (omega arith)
+
+variables-most : (ms : List ℕ) → markedVariables ms ≤ variableCount
+unfolding markedVariables
+variables-most ms = set-most ms firstVariable variableCount
+
+minimums-most : (ms : List ℕ) → markedMinimums ms ≤ minimumCount
+unfolding markedMinimums
+minimums-most ms = set-most ms firstMinimum minimumCount
+
+-- `set_aside`: the tests of each kind, and where the second operand's variables begin
+module _ (usedX usedY : List ℕ) where
+  pub variables-fit : {n m : ℕ} → n ≡ markedVariables usedX → m ≡ markedVariables usedY → Fits w64 (n + m)
+  variables-fit p q = omega (arith, variables-most usedX, variables-most usedY)
+
+  pub minimums-fit : {n m : ℕ} → n ≡ markedMinimums usedX → m ≡ markedMinimums usedY → Fits w64 (n + m)
+  minimums-fit p q = omega (arith, minimums-most usedX, minimums-most usedY)
+
+  pub aside-variables : {n m : ℕ} → n ≡ markedVariables usedX → m ≡ markedVariables usedY → variableCount < n + m → TooMany ≡ asideOf usedX usedY
+  unfolding asideOf
+  aside-variables p q h = rw (lt-ltb variableCount (markedVariables usedX + markedVariables usedY) (omega arith))
+
+  pub aside-minimums : {n m k l : ℕ} → n ≡ markedVariables usedX → m ≡ markedVariables usedY → n + m ≤ variableCount
+      → k ≡ markedMinimums usedX → l ≡ markedMinimums usedY → minimumCount < k + l → TooMany ≡ asideOf usedX usedY
+  unfolding asideOf
+  aside-minimums p q h r s i = rw (
+    le-ltb variableCount (markedVariables usedX + markedVariables usedY) (omega arith),
+    lt-ltb minimumCount (markedMinimums usedX + markedMinimums usedY) (omega arith),
+  )
+
+  pub aside-from : {n m k l : ℕ} → n ≡ markedVariables usedX → m ≡ markedVariables usedY → n + m ≤ variableCount
+      → k ≡ markedMinimums usedX → l ≡ markedMinimums usedY → k + l ≤ minimumCount → From (firstVariable + n) (firstMinimum + k) ≡ asideOf usedX usedY
+  unfolding asideOf
+  aside-from p q h r s i = rw (
+    le-ltb variableCount (markedVariables usedX + markedVariables usedY) (omega arith),
+    le-ltb minimumCount (markedMinimums usedX + markedMinimums usedY) (omega arith),
+    p,
+    r,
+  )
+
+-- both tests say no
+neither : (a b : Bool) → (a || b) ≡ false → (a ≡ false) × (b ≡ false)
+neither true b e = clash refl e
+neither false b e = (refl, e)
+
 -- `combine_apart`
 module _ {ar x y out work : List ℕ} (g : Callable ar x y out work) {usedX usedY : List ℕ} (u : Used ar (diagramOf x) usedX) (v : Used ar (diagramOf y) usedY)
-    {n m : ℕ} (p : n ≡ markedVariables usedX) (q : m ≡ markedVariables usedY) where
-  count-x : n ≡ length (variables ar (diagramOf x))
-  count-x = p ∙ marked-variables ar (diagramOf x) usedX u
+    {s : Aside} (p : s ≡ asideOf usedX usedY) where
+  abbrev many : Bool
+  many = tooMany Apart ar (diagramOf x) (diagramOf y)
 
-  count-y : m ≡ length (variables ar (diagramOf y))
-  count-y = q ∙ marked-variables ar (diagramOf y) usedY v
+  -- the marks judge as the diagrams do
+  judged : s ≡ cond many TooMany (From (firstVariable + length (variables ar (diagramOf x))) (firstMinimum + length (minimums ar (diagramOf x))))
+  unfolding asideOf
+  judged =
+      p ∙ rw (
+        marked-variables ar (diagramOf x) usedX u,
+        marked-variables ar (diagramOf y) usedY v,
+        marked-minimums ar (diagramOf x) usedX u,
+        marked-minimums ar (diagramOf y) usedY v,
+      )
 
-  pub apart-fits : Fits w64 (n + m)
-  apart-fits = omega (arith, count-x, count-y, variables-few ar (diagramOf x), variables-few ar (diagramOf y))
+  pub apart-many : (op : Operation) → s ≡ TooMany → Answered op Apart ar x y out (Refused Variables) out
+  apart-many op e = go (flag many)
+    where
+      go : Flag many → Answered op Apart ar x y out (Refused Variables) out
+      go (isTrue h) = record { answer = sym (diagrams-variables op Apart ar (diagramOf x) (diagramOf y) h); words = refl }
+      go (isFalse h) = absurd (let d : s ≡ From _ _ = rw h at judged in let z : _≡_ {A = ℕ} 0 1 = cc in omega arith)
 
-  pub apart-many : (op : Operation) → variableCount < n + m → Answered op Apart ar x y out (Refused Variables) out
-  apart-many op h = record {
-    answer = sym (diagrams-variables op Apart ar (diagramOf x) (diagramOf y)
-        (lt-ltb variableCount (length (variables ar (diagramOf x)) + length (variables ar (diagramOf y))) (omega (arith, count-x, count-y))));
-    words = refl;
-  }
-
-  pub apart-separable : n + m ≤ variableCount → Separable ar x y usedX usedY (firstVariable + n) out work
-  apart-separable h = record {
-    call = g;
-    first-marks = u;
-    second-marks = v;
-    few = omega (arith, count-x, count-y);
-    first-is = ap (λ (k : ℕ). firstVariable + k) count-x;
-  }
+  pub apart-separable : {first minimum : ℕ} → s ≡ From first minimum → Separable ar x y usedX usedY first minimum out work
+  apart-separable {first} {minimum} e = go (flag many)
+    where
+      go : Flag many → Separable ar x y usedX usedY first minimum out work
+      go (isTrue h) = absurd (let d : s ≡ TooMany = rw h at judged in let z : _≡_ {A = ℕ} 0 1 = cc in omega arith)
+      go (isFalse h) =
+          let n = neither (ltb variableCount (length (variables ar (diagramOf x)) + length (variables ar (diagramOf y)))) _ h in
+          let d : From first minimum ≡ From (firstVariable + length (variables ar (diagramOf x))) (firstMinimum + length (minimums ar (diagramOf x))) = sym e ∙ (rw h at judged) in
+          record {
+            call = g;
+            first-marks = u;
+            second-marks = v;
+            few = ltb-false variableCount (length (variables ar (diagramOf x)) + length (variables ar (diagramOf y))) (n .0);
+            few-minimums = ltb-false minimumCount (length (minimums ar (diagramOf x)) + length (minimums ar (diagramOf y))) (n .1);
+            first-is = cc;
+            minimum-is = cc;
+          }

@@ -1,5 +1,5 @@
 -- The map that `close_map` writes closes up, or moves apart, the diagram whose terms are marked. Laws of `enter` and `close_up`.
-use mathlib.Core.Path.{_≡_, sym, ap, _∙_, subst}
+use mathlib.Core.Path.{_≡_, sym, ap, ap₂, _∙_, subst}
 use mathlib.Core.Logic.{_⊎_, inl, inr}
 use mathlib.Core.Bool.{true}
 use mathlib.Core.List.{List, _++_, map}
@@ -9,23 +9,24 @@ use lib.ListN.{length, take, drop}
 use lib.Seq.{length-take-le}
 use lib.Dec.{eqb}
 use Rattle.basics.specs.Members.{mem}
-use Rattle.label.specs.Limits.{firstVariable, termEnd}
+use Rattle.label.specs.Limits.{firstVariable, firstMinimum, termEnd}
 use Rattle.label.specs.LabelLaws.{term-below}
 use Rattle.label.specs.Renamings.{mapOf, renamed, numbering, Increasing, EachIn}
-use Rattle.label.specs.RenamingLaws.{Numbered, numbering-increasing}
+use Rattle.label.specs.RenamingLaws.{Numbered}
 use Rattle.diagram.specs.Diagram.{Diagram}
 use Rattle.diagram.specs.Rows.{onto, rows}
 use Rattle.diagram.specs.Listing.{listing, diagramOf, Good}
-use Rattle.diagram.specs.Variables.{variables, closedFrom, closed}
+use Rattle.diagram.specs.Variables.{variables, minimums, closedFrom, closed}
 use Rattle.diagram.specs.ListingValid.{valid-is-listing}
 use Rattle.diagram.specs.DiagramOfListing.{good-diagram}
 use Rattle.listing.specs.Used.{Used}
-use Rattle.rename.specs.Relabelling.{Named}
+use Rattle.rename.specs.Relabelling.{Named, KindsFit}
 use Rattle.rename.specs.RelabelLaws.{labels-weaken, relabel-agree, relabel-rows}
 use Rattle.rename.specs.TermLaws.{each-weaken, renamed-agree}
-use Rattle.rename.specs.VariableLaws.{variable-occurs, variables-few, terms-numbered, named-labels, renaming-keeps}
+use Rattle.rename.specs.VariableLaws.{variable-occurs, minimum-occurs, terms-numbered, named-labels, renaming-keeps}
+use Rattle.rename.specs.ClosingLaws.{closing-increasing, closed-fit}
 use Rattle.rename.specs.Maps.{tabled, isUsed, Marks, closeAt}
-use Rattle.rename.specs.MapLaws.{used-occurs, used-variables, close-terms, close-numbers, marks-closable}
+use Rattle.rename.specs.MapLaws.{used-occurs, used-variables, used-minimums, close-terms, close-numbers, marks-closable}
 use Rattle.rename.specs.Calls as rename
 use Rattle.store.specs.declared.Formed.{Formed}
 use Rattle.store.specs.Space.{diagramsOf, Formation, addAll}
@@ -40,39 +41,44 @@ use Rattle.apart.specs.Results.{Closable}
 pub used-marks : {ar : List ℕ} {d : Diagram} {used : List ℕ} → Used ar d used → Marks ar d used
 used-marks u = record { whole = omega (arith, u .whole); mark = u .each }
 
-module _ (ar : List ℕ) (d : Diagram) (good : Good ar d) (used : List ℕ) (marks : Marks ar d used) (m : ℕ) (low : firstVariable ≤ m)
-    (room : m + length (variables ar d) ≤ termEnd) (rest : List ℕ) where
+module _ (ar : List ℕ) (d : Diagram) (good : Good ar d) (used : List ℕ) (marks : Marks ar d used) (m n : ℕ) (fit : KindsFit ar m n d)
+    (rest : List ℕ) where
   abbrev Ts : List ℕ
-  Ts = tabled (closeAt used m) termEnd ++ rest
+  Ts = tabled (closeAt used m n) termEnd ++ rest
 
   abbrev P : ℕ → Type 0
-  P = Numbered (variables ar d)
+  P = Numbered (variables ar d) (minimums ar d)
 
-  agrees : (t : ℕ) → P t → mapOf Ts t ≡ numbering (variables ar d) m t
-  agrees t p = close-numbers used m rest t (term-below t (p .0)) (go (p .1)) ∙ ap (λ (vs : List ℕ). numbering vs m t) (used-variables ar d used marks)
+  agrees : (t : ℕ) → P t → mapOf Ts t ≡ numbering (variables ar d) (minimums ar d) m n t
+  agrees t p =
+      close-numbers used m n rest t (term-below t (p .0)) (go (p .1))
+      ∙ ap₂ (λ (us vs : List ℕ). numbering us vs m n t) (used-variables ar d used marks) (used-minimums ar d used marks)
     where
-      go : (t < firstVariable) ⊎ (mem eqb t (variables ar d) ≡ true) → (t < firstVariable) ⊎ (isUsed used t ≡ true)
+      go : (t < firstVariable) ⊎ (((t < firstMinimum) × (mem eqb t (variables ar d) ≡ true)) ⊎ ((firstMinimum ≤ t) × (mem eqb t (minimums ar d) ≡ true)))
+          → (t < firstVariable) ⊎ (isUsed used t ≡ true)
       go (inl x) = inl x
-      go (inr x) = inr (used-occurs ar d used marks t (term-below t (p .0)) ∙ variable-occurs ar d t x .0)
+      go (inr (inl x)) = inr (used-occurs ar d used marks t (term-below t (p .0)) ∙ variable-occurs ar d t (x .1) .0)
+      go (inr (inr x)) = inr (used-occurs ar d used marks t (term-below t (p .0)) ∙ minimum-occurs ar d t (x .1) .0)
 
   increasing : Increasing P (mapOf Ts)
   increasing =
-      let inc = numbering-increasing (variables ar d) m low room in
+      let inc = closing-increasing ar m n d fit good in
       record {
         terms = λ t p. rw (agrees t p) (inc .terms t p);
         order = λ t u p q k. rw (agrees t p, agrees u q) (inc .order t u p q k);
       }
 
   -- the written map is one of terms
-  pub map-terms : rename.Closable used m used
-  map-terms = marks-closable ar d used m used marks (marks .whole) room
+  pub map-terms : rename.Closable used m n used
+  map-terms = marks-closable ar d used m n used marks (marks .whole) fit
 
   -- it renames the diagram to the closed one
-  pub map-closes : renamedOf ar Ts d ≡ closedFrom ar m d
+  pub map-closes : renamedOf ar Ts d ≡ closedFrom ar m n d
   unfolding closedFrom
   map-closes =
-      relabel-agree (renamed ar (mapOf Ts)) (renamed ar (numbering (variables ar d) m)) d
-      (labels-weaken (EachIn ar P) _ d (λ l e. renamed-agree ar (mapOf Ts) (numbering (variables ar d) m) l (each-weaken P _ _ _ agrees e)) (terms-numbered ar d (good .fine)))
+      relabel-agree (renamed ar (mapOf Ts)) (renamed ar (numbering (variables ar d) (minimums ar d) m n)) d
+      (labels-weaken (EachIn ar P) _ d (λ l e. renamed-agree ar (mapOf Ts) (numbering (variables ar d) (minimums ar d) m n) l (each-weaken P _ _ _ agrees e))
+      (terms-numbered ar d (good .fine)))
 
   -- and keeps its rows apart
   pub map-keeps : rows (renamedOf ar Ts d) ≡ map (renamedOf ar Ts) (rows d)
@@ -81,32 +87,33 @@ module _ (ar : List ℕ) (d : Diagram) (good : Good ar d) (used : List ℕ) (mar
       (named-labels ar P d (good .fine) (terms-numbered ar d (good .fine)))
 
 -- `enter`
-module _ {ar ws used : List ℕ} {first : ℕ} {s heads links : List ℕ} {count : ℕ} {numbers : List ℕ} (g : Enterable ar ws used first s heads links count numbers) where
+module _ {ar ws used : List ℕ} {first minimum : ℕ} {s heads links : List ℕ} {count : ℕ} {numbers : List ℕ}
+    (g : Enterable ar ws used first minimum s heads links count numbers) where
   good : Good ar (diagramOf ws)
   good = good-diagram ar ws (g .valid)
 
-  pub enter-closable : (ts : List ℕ) → termEnd ≤ length ts → rename.Closable used first ts
-  enter-closable ts h = marks-closable ar (diagramOf ws) used first ts (used-marks (g .marks)) h (g .room)
+  pub enter-closable : (ts : List ℕ) → termEnd ≤ length ts → rename.Closable used first minimum ts
+  enter-closable ts h = marks-closable ar (diagramOf ws) used first minimum ts (used-marks (g .marks)) h (g .fit)
 
-  module _ (rest : List ℕ) {ts : List ℕ} (p : ts ≡ tabled (closeAt used first) termEnd ++ rest) where
+  module _ (rest : List ℕ) {ts : List ℕ} (p : ts ≡ tabled (closeAt used first minimum) termEnd ++ rest) where
     pub enter-loadable : Loadable ar ws ts s heads links count numbers
     enter-loadable = record {
       listing = valid-is-listing ar ws (g .valid);
-      terms = rw p (close-terms used first used rest (enter-closable used (omega (arith, g .marks .whole))));
+      terms = rw p (close-terms used first minimum used rest (enter-closable used (omega (arith, g .marks .whole))));
       places = omega (arith, g .valid .few, g .places);
       holds = g .holds;
     }
 
     pub enter-formed : {r : Formed} {s′ h′ l′ n′ : List ℕ} → Loaded ar ws ts s count r s′ h′ l′ n′
-        → Formation (closedFrom ar first (diagramOf ws)) (onto (closedFrom ar first (diagramOf ws)) (diagramsOf s count)) r s′ h′ l′
+        → Formation (closedFrom ar first minimum (diagramOf ws)) (onto (closedFrom ar first minimum (diagramOf ws)) (diagramsOf s count)) r s′ h′ l′
     enter-formed {r} {s′} {h′} {l′} f =
         let d = diagramOf ws in
         let ms = used-marks (g .marks) in
-        let e : renamedOf ar ts d ≡ closedFrom ar first d = rw p (map-closes ar d good used ms first (g .low) (g .room) rest) in
-        let k : rows (renamedOf ar ts d) ≡ map (renamedOf ar ts) (rows d) = rw p (map-keeps ar d good used ms first (g .low) (g .room) rest) in
-        let a : addAll (diagramsOf s count) (map (renamedOf ar ts) (rows d)) ≡ onto (closedFrom ar first d) (diagramsOf s count)
+        let e : renamedOf ar ts d ≡ closedFrom ar first minimum d = rw p (map-closes ar d good used ms first minimum (g .fit) rest) in
+        let k : rows (renamedOf ar ts d) ≡ map (renamedOf ar ts) (rows d) = rw p (map-keeps ar d good used ms first minimum (g .fit) rest) in
+        let a : addAll (diagramsOf s count) (map (renamedOf ar ts) (rows d)) ≡ onto (closedFrom ar first minimum d) (diagramsOf s count)
         = add-all-relabelled (renamed ar (mapOf ts)) d (diagramsOf s count) (holds-closed (g .holds)) k ∙ ap (λ (x : Diagram). onto x (diagramsOf s count)) e in
-        subst (λ (x : Diagram). Formation x (onto (closedFrom ar first d) (diagramsOf s count)) r s′ h′ l′) e
+        subst (λ (x : Diagram). Formation x (onto (closedFrom ar first minimum d) (diagramsOf s count)) r s′ h′ l′) e
         (subst (λ (x : List Diagram). Formation (renamedOf ar ts d) x r s′ h′ l′) a (f .formation))
 
 -- `close_up`
@@ -117,25 +124,25 @@ module _ {ar out : List ℕ} {m : ℕ} (g : Closable ar out m) {used : List ℕ}
   listed-good : Good ar (listedIn out m)
   listed-good = good-diagram ar (take (m * 3) out) (g .valid)
 
-  few : firstVariable + length (variables ar (listedIn out m)) ≤ termEnd
-  few = omega (arith, variables-few ar (listedIn out m))
+  fit : KindsFit ar firstVariable firstMinimum (listedIn out m)
+  fit = closed-fit ar (listedIn out m) listed-good
 
-  pub close-closable : (ts : List ℕ) → termEnd ≤ length ts → rename.Closable used firstVariable ts
-  close-closable ts h = marks-closable ar (listedIn out m) used firstVariable ts (used-marks u) h few
+  pub close-closable : (ts : List ℕ) → termEnd ≤ length ts → rename.Closable used firstVariable firstMinimum ts
+  close-closable ts h = marks-closable ar (listedIn out m) used firstVariable firstMinimum ts (used-marks u) h fit
 
-  module _ (rest : List ℕ) {ts : List ℕ} (p : ts ≡ tabled (closeAt used firstVariable) termEnd ++ rest) where
+  module _ (rest : List ℕ) {ts : List ℕ} (p : ts ≡ tabled (closeAt used firstVariable firstMinimum) termEnd ++ rest) where
     pub close-renamable : write.Renamable ar ts out m
     close-renamable = record {
       listing = valid-is-listing ar (take (m * 3) out) (g .valid);
-      terms = rw p (close-terms used firstVariable used rest (close-closable used (omega (arith, u .whole))));
+      terms = rw p (close-terms used firstVariable firstMinimum used rest (close-closable used (omega (arith, u .whole))));
       room = g .room;
-      keeps = rw p (map-keeps ar (listedIn out m) listed-good used (used-marks u) firstVariable (omega arith) few rest);
+      keeps = rw p (map-keeps ar (listedIn out m) listed-good used (used-marks u) firstVariable firstMinimum fit rest);
     }
 
     pub close-written : {out′ : List ℕ} → out′ ≡ listing (renamedOf ar ts (listedIn out m)) ++ drop (m * 3) out
         → out′ ≡ listing (closed ar (listedIn out m)) ++ drop (m * 3) out
     unfolding closed
     close-written q =
-        let e : renamedOf ar ts (listedIn out m) ≡ closedFrom ar firstVariable (listedIn out m)
-        = rw p (map-closes ar (listedIn out m) listed-good used (used-marks u) firstVariable (omega arith) few rest) in
+        let e : renamedOf ar ts (listedIn out m) ≡ closedFrom ar firstVariable firstMinimum (listedIn out m)
+        = rw p (map-closes ar (listedIn out m) listed-good used (used-marks u) firstVariable firstMinimum fit rest) in
         q ∙ ap (λ (x : Diagram). listing x ++ drop (m * 3) out) e

@@ -9,7 +9,7 @@ use write::Listed;
 ghost use mathlib.Core.Path.{_≡_};
 ghost use mathlib.Core.List.{_++_};
 ghost use Prim.Native.Nat.{_*_};
-ghost use lib.ListN.{drop};
+ghost use lib.ListN.{length, drop};
 ghost use Rattle.diagram.specs.Rows.{onto};
 ghost use Rattle.diagram.specs.Listing.{listing, diagramOf};
 ghost use Rattle.diagram.specs.Validity.{tree};
@@ -18,7 +18,8 @@ ghost use Rattle.apply.specs.declared.Names.the-variants.{Apart};
 ghost use Rattle.store.specs.Space.{diagramsOf, Formation};
 ghost use Rattle.write.specs.Renaming.{listedIn};
 ghost use Rattle.combine.specs.Calls.{Callable, Answered};
-ghost use Rattle.apart.specs.Operands.{Enterable, Separable};
+ghost use Rattle.label.specs.Limits.{termEnd};
+ghost use Rattle.apart.specs.Operands.{Enterable, asideOf, Separable};
 ghost use Rattle.apart.specs.Results.{Closable, Writable, ResultWritten, Joinable, JoinedUp};
 
 // Pairs that room is first made for, and the words of such a plan.
@@ -31,23 +32,25 @@ pub const PLAN_WORDS: usize = 20480;
 // A word for each term.
 const TERMS: usize = Term::END as usize;
 
-// Forms the rows of a listing with its used variables renamed to `first`, first + 1, .. in their order; used[t] marks the terms that occur in it.
+// Forms the rows of a listing with its used variables renamed to `first`, first + 1, .. and its used minimum variables to `minimum`, minimum + 1, ..,
+// each kind in its order; used[t] marks the terms that occur in it.
 fn enter(
     arities: &[u64],
     words: &[u64],
     used: &[u64],
     first: u64,
+    minimum: u64,
     space: &mut [u64],
     heads: &mut [u16],
     links: &mut [u16],
     count: usize,
     numbers: &mut [u16],
 ) -> Formed
-    requires { ⌜ Enterable (now arities) (now words) (now used) first (now space) (now heads) (now links) count (now numbers) ⌝ }
-    ensures { λ r. ⌜ Formation (closedFrom (now (arities .entry)) first (diagramOf (now (words .entry)))) (onto (closedFrom (now (arities .entry)) first (diagramOf (now (words .entry)))) (diagramsOf (now (space .entry)) count)) r (now (space .exit)) (now (heads .exit)) (now (links .exit)) ⌝ }
+    requires { ⌜ Enterable (now arities) (now words) (now used) first minimum (now space) (now heads) (now links) count (now numbers) ⌝ }
+    ensures { λ r. ⌜ Formation (closedFrom (now (arities .entry)) first minimum (diagramOf (now (words .entry)))) (onto (closedFrom (now (arities .entry)) first minimum (diagramOf (now (words .entry)))) (diagramsOf (now (space .entry)) count)) r (now (space .exit)) (now (heads .exit)) (now (links .exit)) ⌝ }
 {
     let mut map = [0u64; TERMS];
-    rename::close_map(used, first, &mut map);
+    rename::close_map(used, first, minimum, &mut map);
     store::load(arities, words, &map, space, heads, links, count, numbers)
 }
 
@@ -59,7 +62,7 @@ pub fn close_up(arities: &[u64], out: &mut [u64], m: usize)
     let mut marks = [0u64; TERMS];
     let mut map = [0u64; TERMS];
     listing::used(arities, &out[..m * 3], &mut marks);
-    rename::close_map(&marks, Term::FIRST_VARIABLE, &mut map);
+    rename::close_map(&marks, Term::FIRST_VARIABLE, Term::FIRST_MINIMUM, &mut map);
     write::rename(arities, &map, out, m);
 }
 
@@ -162,7 +165,8 @@ fn join(
     }
 }
 
-// Combines two listings of at most 64 variables together: the first closed up, the second's variables from `first` on. Marked terms occur.
+// Combines two listings of at most 64 variables of each kind together: the first closed up, the second's variables from `first` on and its minimum variables
+// from `minimum` on. Marked terms occur.
 fn combine_moved(
     op: Operation,
     arities: &[u64],
@@ -171,10 +175,11 @@ fn combine_moved(
     usedx: &[u64],
     usedy: &[u64],
     first: u64,
+    minimum: u64,
     out: &mut [u64],
     work: &mut [u64],
 ) -> Combined
-    requires { ⌜ Separable (now arities) (now x) (now y) (now usedx) (now usedy) first (now out) (now work) ⌝ }
+    requires { ⌜ Separable (now arities) (now x) (now y) (now usedx) (now usedy) first minimum (now out) (now work) ⌝ }
     ensures { λ r. ⌜ Answered op Apart (now (arities .entry)) (now (x .entry)) (now (y .entry)) (now (out .entry)) r (now (out .exit)) ⌝ }
 {
     let mut heads = [0u16; table::BUCKETS];
@@ -185,6 +190,7 @@ fn combine_moved(
         x,
         usedx,
         Term::FIRST_VARIABLE,
+        Term::FIRST_MINIMUM,
         work,
         &mut heads,
         &mut links,
@@ -198,6 +204,7 @@ fn combine_moved(
         y,
         usedy,
         first,
+        minimum,
         work,
         &mut heads,
         &mut links,
@@ -207,6 +214,29 @@ fn combine_moved(
         return Combined::Refused(Refusal::Space);
     };
     join(op, arities, i, j, work, &mut heads, &mut links, m, out)
+}
+
+// Where the second operand's variables and minimum variables begin, unless a kind has more than 64 of both operands.
+pub enum Aside {
+    From(u64, u64),
+    TooMany,
+}
+
+// The first numbers of the second operand's variables: those of each kind follow after the first operand's. Marked terms occur.
+fn set_aside(usedx: &[u64], usedy: &[u64]) -> Aside
+    requires { ⌜ length (now usedx) ≡ termEnd ⌝ }
+    requires { ⌜ length (now usedy) ≡ termEnd ⌝ }
+    ensures { λ r. ⌜ r ≡ asideOf (now (usedx .entry)) (now (usedy .entry)) ⌝ }
+{
+    let n = listing::count_variables(usedx) as u64;
+    let k = listing::count_minimums(usedx) as u64;
+    if n + (listing::count_variables(usedy) as u64) > Term::VARIABLES {
+        return Aside::TooMany;
+    }
+    if k + (listing::count_minimums(usedy) as u64) > Term::MINIMUMS {
+        return Aside::TooMany;
+    }
+    Aside::From(Term::FIRST_VARIABLE + n, Term::FIRST_MINIMUM + k)
 }
 
 // Combines two listings with names apart.
@@ -225,20 +255,8 @@ pub fn combine_apart(
     let mut usedy = [0u64; TERMS];
     listing::used(arities, x, &mut usedx);
     listing::used(arities, y, &mut usedy);
-    let n = listing::count_variables(&usedx) as u64;
-    let m = listing::count_variables(&usedy) as u64;
-    if n + m > Term::VARIABLES {
+    let Aside::From(first, minimum) = set_aside(&usedx, &usedy) else {
         return Combined::Refused(Refusal::Variables);
-    }
-    combine_moved(
-        op,
-        arities,
-        x,
-        y,
-        &usedx,
-        &usedy,
-        Term::FIRST_VARIABLE + n,
-        out,
-        work,
-    )
+    };
+    combine_moved(op, arities, x, y, &usedx, &usedy, first, minimum, out, work)
 }

@@ -17,13 +17,13 @@ use Rattle.model.specs.Layout.{actionWords, variantPlace, weightWords, variants
 abbrev pub ownParameters : List ℕ → ℕ → Diagram → Bool
 ownParameters ar c d = not (anyOccurs ar d (firstParameter + c) (firstVariable - (firstParameter + c)))
 
--- the truth diagram of a predicate of n places, of an action of c parameters: leaves 0 and 1, no variable but the arguments, no parameter but the action's
+-- the truth diagram of a predicate of n places, of an action of c parameters: leaves 0 and 1, no variable of either kind but the arguments, no parameter but the action's
 unfoldable pub isTruth : List ℕ → ℕ → ℕ → List ℕ → Bool
 unfolding isListing diagramOf leafAbove anyOccurs
 isTruth ar c n ws =
     isListing ar ws && (not (leafAbove 1 (diagramOf ws)) && (not (unboundVariable ar n (diagramOf ws)) && ownParameters ar c (diagramOf ws)))
 
--- a weight of an action of c parameters: no variable, no parameter but the action's
+-- a weight of an action of c parameters: no variable of either kind, no parameter but the action's
 unfoldable pub isWeight : List ℕ → ℕ → List ℕ → Bool
 unfolding isListing diagramOf anyOccurs
 isWeight ar c ws = isListing ar ws && not (anyOccurs ar (diagramOf ws) (firstParameter + c) (termEnd - (firstParameter + c)))

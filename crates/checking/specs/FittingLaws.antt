@@ -9,7 +9,7 @@ use lib.Dec.{ltb, eqb}
 use borrow.Author.Tests.{ltb-true, ltb-false, le-ltb, eqb-false, ne-eqb, not-true}
 use Rattle.basics.specs.Tests.{Flag, isTrue, isFalse, flag}
 use Rattle.basics.specs.Members.{clash}
-use Rattle.label.specs.Limits.{firstParameter, parameterCount, firstVariable, variableCount, termEnd, predicateCount, equality}
+use Rattle.label.specs.Limits.{firstParameter, parameterCount, firstVariable, variableCount, minimumCount, termEnd, predicateCount, equality}
 use Rattle.label.specs.LabelLaws.{term-below}
 use Rattle.diagram.specs.Diagram.{Diagram, leaf, branch, same}
 use Rattle.diagram.specs.DiagramLaws.{same-eq, same-refl}
@@ -101,7 +101,7 @@ truth-is ar c n ws =
   where
     arguments : isListing ar ws ≡ true → Decides (not (unboundVariable ar n (diagramOf ws))) (Terms (λ t. t < firstVariable + n) (meaning ar (diagramOf ws)))
     arguments e =
-        let z : termEnd - (firstVariable + n) ≡ variableCount - n = omega arith in
+        let z : termEnd - (firstVariable + n) ≡ variableCount + minimumCount - n = omega arith in
         subst (λ (k : ℕ). Decides (not (anyOccurs ar (diagramOf ws) (firstVariable + n) k)) (Terms (λ t. t < firstVariable + n) (meaning ar (diagramOf ws)))) z
         (terms-are ar ws (firstVariable + n) e)
 

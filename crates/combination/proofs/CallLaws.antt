@@ -1,32 +1,34 @@
 -- The ways out of the public call.
 use mathlib.Core.Path.{_≡_, refl, sym, ap, subst, _∙_}
-use mathlib.Core.Bool.{Bool, true, false, not, _||_}
+use mathlib.Core.Bool.{Bool, true, false, not, cond, _&&_, _||_}
 use mathlib.Core.List.{List}
 use Prim.Native.Nat.{ℕ, _≤_, _<_}
 use native.Mathlib.Omega.{arith}
 use lib.ListN.{length}
-use lib.Dec.{ltb}
+use lib.Dec.{eqb, ltb}
 use borrow.Author.Tests.{lt-ltb}
 use Rattle.basics.specs.Tests.{or-one, or-other}
 use Rattle.refusal.specs.declared.Refusal.{Refusal}
 use Rattle.refusal.specs.declared.Refusal.the-variants.{Listing, Buffer}
 use Rattle.diagram.specs.Sizes.{resultWords, spaceWords}
+use Rattle.diagram.specs.Diagram.{Diagram}
 use Rattle.diagram.specs.Words.{isListing}
 use Rattle.diagram.specs.Listing.{diagramOf, listing}
 use Rattle.diagram.specs.ListingValid.{listing-is-valid}
+use Rattle.diagram.specs.Variables.{isPlain}
+use Rattle.listing.specs.Used.{Used, markedMinimums}
+use Rattle.listing.specs.UsedLaws.{marked-plain}
 use Rattle.apply.specs.declared.Operation.{Operation}
+use Rattle.apply.specs.declared.Operation.the-variants.{Max}
 use Rattle.apply.specs.declared.Names.{Names}
+use Rattle.apply.specs.declared.Names.the-variants.{Apart, Shared}
 use Rattle.apply.specs.declared.Combined.{Combined}
 use Rattle.apply.specs.declared.Combined.the-variants.{Done, Refused}
-use Rattle.apply.specs.Combination.{combination, combineAnswer, combineResult, written}
+use Rattle.apply.specs.Combination.{combination, doneAs, combineAnswer, combineResult, written}
 use Rattle.apply.specs.CombinationLaws.{answer-first, answer-second, answer-buffer, answer-diagrams, result-refused}
 use Rattle.combine.specs.Calls.{Callable, Answered}
 
--- what the call promises: the answer, and the result buffer
-abbrev pub Promised : Operation → Names → List ℕ → List ℕ → List ℕ → List ℕ → List ℕ → Combined → List ℕ → Type 0
-Promised op names ar x y out work r out′ = (r ≡ combineAnswer op names ar x y (length out) (length work)) × (out′ ≡ combineResult op names ar x y (length work) out)
-
--- `if !check(..)`
+-- `if !test(..)`
 passed : {b x : Bool} → b ≡ x → not b ≡ false → x ≡ true
 passed {b} {x} e f = sym e ∙ go b f
   where
@@ -40,6 +42,33 @@ failed {b} {x} e f = sym e ∙ go b f
     go : (y : Bool) → not y ≡ true → y ≡ false
     go true q = sym q
     go false q = refl
+
+-- what the marks say of a listing
+pub plain-is : {b : Bool} {ar : List ℕ} {d : Diagram} {ms : List ℕ} → Used ar d ms → b ≡ eqb (markedMinimums ms) 0 → b ≡ isPlain ar d
+plain-is {b} {ar} {d} {ms} u e = e ∙ marked-plain ar d ms u
+
+-- max_as
+module _ (ar : List ℕ) (a b : Diagram) {names : Names} (e : names ≡ Shared) {p : Bool} (q : p ≡ isPlain ar a) where
+  as-shared : doneAs Max names ar a b ≡ cond (isPlain ar a && isPlain ar b) Shared Apart
+  as-shared = ap (λ (n : Names). doneAs Max n ar a b) e
+
+  pub as-first : not p ≡ true → Apart ≡ doneAs Max names ar a b
+  as-first f = sym (as-shared ∙ rw (failed q f))
+
+  module _ (f : not p ≡ false) {r : Bool} (s : r ≡ isPlain ar b) where
+    pub as-second : not r ≡ true → Apart ≡ doneAs Max names ar a b
+    as-second g = sym (as-shared ∙ rw (passed q f, failed s g))
+
+    pub as-plain : not r ≡ false → Shared ≡ doneAs Max names ar a b
+    as-plain g = sym (as-shared ∙ rw (passed q f, passed s g))
+
+-- done_as
+pub as-max : {op : Operation} (names : Names) (ar : List ℕ) (a b : Diagram) {n : Names} → op ≡ Max → n ≡ doneAs Max names ar a b → n ≡ doneAs op names ar a b
+as-max names ar a b e q = q ∙ ap (λ (o : Operation). doneAs o names ar a b) (sym e)
+
+-- what the call promises: the answer, and the result buffer
+abbrev pub Promised : Operation → Names → List ℕ → List ℕ → List ℕ → List ℕ → List ℕ → Combined → List ℕ → Type 0
+Promised op names ar x y out work r out′ = (r ≡ combineAnswer op names ar x y (length out) (length work)) × (out′ ≡ combineResult op names ar x y (length work) out)
 
 module _ (op : Operation) (names : Names) (ar x y out work : List ℕ) where
   refused : (r : Refusal) → combineAnswer op names ar x y (length out) (length work) ≡ Refused r → Promised op names ar x y out work (Refused r) out
@@ -66,13 +95,16 @@ module _ (op : Operation) (names : Names) (ar x y out work : List ℕ) where
           pub call-able : Callable ar x y out work
           call-able = record { first = listing-is-valid ar x (passed e f); second = listing-is-valid ar y (passed d g); out-room = h; work-room = k }
 
-          pub call-done : {r : Combined} {out′ : List ℕ} → Answered op names ar x y out r out′ → Promised op names ar x y out work r out′
+          pub call-done : {r : Combined} {out′ : List ℕ} → Answered op (doneAs op names ar (diagramOf x) (diagramOf y)) ar x y out r out′
+              → Promised op names ar x y out work r out′
           unfolding combineResult
           call-done {r} {out′} a =
               let z : r ≡ combineAnswer op names ar x y (length out) (length work) =
               a .answer ∙ sym (answer-diagrams op names ar x y (length out) (length work) (passed e f) (passed d g) h k) in
-              (z, a .words ∙ ap (λ (q : Combined). written q (listing (combination op names ar (diagramOf x) (diagramOf y))) out) z)
+              let n = doneAs op names ar (diagramOf x) (diagramOf y) in
+              (z, a .words ∙ ap (λ (q : Combined). written q (listing (combination op n ar (diagramOf x) (diagramOf y))) out) z)
 
-          -- the arm of the match that names n
-          pub call-named : {n : Names} → names ≡ n → {r : Combined} {out′ : List ℕ} → Answered op n ar x y out r out′ → Promised op names ar x y out work r out′
-          call-named {n} q {r} {out′} a = call-done (subst (λ (m : Names). Answered op m ar x y out r out′) (sym q) a)
+-- the arm of the match that names n
+pub call-named : {op : Operation} {m n p : Names} {ar x y out : List ℕ} {r : Combined} {out′ : List ℕ} → m ≡ p → m ≡ n → Answered op n ar x y out r out′
+    → Answered op p ar x y out r out′
+call-named {op} {m} {n} {p} {ar} {x} {y} {out} {r} {out′} q e a = subst (λ (k : Names). Answered op k ar x y out r out′) (sym e ∙ q) a

@@ -3,10 +3,15 @@ use apply::Combined;
 use apply::Names;
 use apply::Operation;
 use combine::Joined;
+use label::Term;
 use refusal::Refusal;
 ghost use mathlib.Core.Path.{_≡_};
 ghost use lib.ListN.{length};
-ghost use Rattle.apply.specs.Combination.{combineAnswer, combineResult};
+ghost use Rattle.diagram.specs.Listing.{diagramOf};
+ghost use Rattle.diagram.specs.Validity.{Valid};
+ghost use Rattle.diagram.specs.Variables.{isPlain};
+ghost use Rattle.apply.specs.Combination.{doneAs, combineAnswer, combineResult};
+ghost use Rattle.apply.specs.declared.Operation.the-variants.{Max};
 ghost use Rattle.apply.specs.declared.Names.the-variants.{Shared};
 ghost use Rattle.combine.specs.declared.Joined.the-variants.{At};
 ghost use Rattle.combine.specs.Calls.{Callable, Answered};
@@ -137,7 +142,68 @@ pub fn combine_shared(
     }
 }
 
-// The sum, product or max of two lent listings, written to `out`; `work` is the working space. Refused: 14 by operand, 18, then 8, 10, 11, 9.
+// Whether a listing has no minimum variable.
+fn is_plain(arities: &[u64], words: &[u64]) -> bool
+    requires { ⌜ Valid (now arities) (now words) ⌝ }
+    ensures { λ r. ⌜ r ≡ isPlain (now (arities .entry)) (diagramOf (now (words .entry))) ⌝ }
+{
+    let mut marks = [0u64; Term::END as usize];
+    listing::used(arities, words, &mut marks);
+    listing::is_plain(&marks)
+}
+
+// The names that a max is done with: apart if it is asked for with shared names and either operand has a minimum variable.
+fn max_as(names: Names, arities: &[u64], x: &[u64], y: &[u64]) -> Names
+    requires { ⌜ Valid (now arities) (now x) ⌝ }
+    requires { ⌜ Valid (now arities) (now y) ⌝ }
+    ensures { λ r. ⌜ r ≡ doneAs Max names (now (arities .entry)) (diagramOf (now (x .entry))) (diagramOf (now (y .entry))) ⌝ }
+{
+    let Names::Shared = names else {
+        return Names::Apart;
+    };
+    if !is_plain(arities, x) {
+        return Names::Apart;
+    }
+    if !is_plain(arities, y) {
+        return Names::Apart;
+    }
+    Names::Shared
+}
+
+// The names that a call is done with. A sum or product looks for no minimum variable.
+fn done_as(op: Operation, names: Names, arities: &[u64], x: &[u64], y: &[u64]) -> Names
+    requires { ⌜ Valid (now arities) (now x) ⌝ }
+    requires { ⌜ Valid (now arities) (now y) ⌝ }
+    ensures { λ r. ⌜ r ≡ doneAs op names (now (arities .entry)) (diagramOf (now (x .entry))) (diagramOf (now (y .entry))) ⌝ }
+{
+    match op {
+        Operation::Sum => names,
+        Operation::Product => names,
+        Operation::Max => max_as(names, arities, x, y),
+    }
+}
+
+// Combines two listings, with the names that such a call is done with.
+pub fn combine_named(
+    op: Operation,
+    names: Names,
+    arities: &[u64],
+    x: &[u64],
+    y: &[u64],
+    out: &mut [u64],
+    work: &mut [u64],
+) -> Combined
+    requires { ⌜ Callable (now arities) (now x) (now y) (now out) (now work) ⌝ }
+    ensures { λ r. ⌜ Answered op (doneAs op names (now (arities .entry)) (diagramOf (now (x .entry))) (diagramOf (now (y .entry)))) (now (arities .entry)) (now (x .entry)) (now (y .entry)) (now (out .entry)) r (now (out .exit)) ⌝ }
+{
+    match done_as(op, names, arities, x, y) {
+        Names::Apart => apart::combine_apart(op, arities, x, y, out, work),
+        Names::Shared => combine_shared(op, arities, x, y, out, work),
+    }
+}
+
+// The sum, product or max of two lent listings, written to `out`; `work` is the working space. A max asked for with shared names is done apart where an operand has a
+// minimum variable. Refused: 14 by operand, 18, then 8, 10, 11, 9.
 pub fn combine(
     op: Operation,
     names: Names,
@@ -162,8 +228,5 @@ pub fn combine(
     if work.len() < diagram::SPACE_WORDS {
         return Combined::Refused(Refusal::Buffer);
     }
-    match names {
-        Names::Apart => apart::combine_apart(op, arities, x, y, out, work),
-        Names::Shared => combine_shared(op, arities, x, y, out, work),
-    }
+    combine_named(op, names, arities, x, y, out, work)
 }

@@ -12,9 +12,8 @@ use Rattle.refusal.specs.declared.Refusal.the-variants.{Listing, Buffer, Unboun
 use Rattle.refusal.specs.Outcome.{ok, refused}
 use Rattle.basics.specs.Tests.{Cmp, below, equal, above, cmp, Either, one, other, either, and-left, and-right, or-one, or-other}
 use Rattle.basics.specs.Members.{clash}
-use Rattle.label.specs.Limits.{constantCount, firstParameter, parameterCount, firstVariable, termEnd}
-use Rattle.label.specs.Terms.{isConstant, isParameter, isVariable, isTerm}
-use Rattle.label.specs.LabelLaws.{term-below}
+use Rattle.label.specs.Limits.{constantCount, firstParameter, parameterCount, firstVariable, firstMinimum, termEnd}
+use Rattle.label.specs.Terms.{isConstant, isParameter, isVariable, isMinimum, isTerm}
 use Rattle.label.specs.Renamings.{renamed, freeing, mapOf}
 use Rattle.diagram.specs.Sizes.{resultWords, spaceWords}
 use Rattle.diagram.specs.Diagram.{relabel}
@@ -29,7 +28,7 @@ use Rattle.diagram.specs.Listings.{is-listing-good, is-listing-diagram}
 use Rattle.diagram.specs.Variables.{occurs}
 use Rattle.listing.specs.Used.{Used}
 use Rattle.rename.specs.Calls.{Countable, Renamable}
-use Rattle.rename.specs.Maps.{tabled, freeAt}
+use Rattle.rename.specs.Maps.{tabled}
 use Rattle.rename.specs.MapLaws.{free-terms}
 use Rattle.rename.specs.Relabelling.{relabelled}
 use Rattle.rename.specs.Freeing.{freed, Freeable}
@@ -46,14 +45,18 @@ use Rattle.freeing.specs.MarkLaws.{used-any}
 
 -- a term below the variables is a constant or a parameter
 low-term : (t : ℕ) → isTerm t ≡ true → t < firstVariable → t < firstParameter + parameterCount
-unfolding isTerm isConstant isParameter isVariable
+unfolding isTerm isConstant isParameter isVariable isMinimum
 low-term t e h = go (either (isConstant t) _ e)
   where
-    rest : Either (isParameter t) (isVariable t) → t < firstParameter + parameterCount
-    rest (one q) = ltb-true t (firstParameter + parameterCount) (and-right (leb firstParameter t) _ q)
-    rest (other q) = absurd (omega (arith, leb-true firstVariable t (and-left _ _ q)))
+    last : Either (isVariable t) (isMinimum t) → t < firstParameter + parameterCount
+    last (one q) = absurd (omega (arith, leb-true firstVariable t (and-left _ _ q)))
+    last (other q) = absurd (omega (arith, leb-true firstMinimum t (and-left _ _ q)))
 
-    go : Either (isConstant t) (isParameter t || isVariable t) → t < firstParameter + parameterCount
+    rest : Either (isParameter t) (isVariable t || isMinimum t) → t < firstParameter + parameterCount
+    rest (one q) = ltb-true t (firstParameter + parameterCount) (and-right (leb firstParameter t) _ q)
+    rest (other q) = last (either (isVariable t) _ q)
+
+    go : Either (isConstant t) (isParameter t || (isVariable t || isMinimum t)) → t < firstParameter + parameterCount
     go (one q) = omega (arith, ltb-true t constantCount q)
     go (other q) = rest (either (isParameter t) _ q)
 
@@ -68,10 +71,10 @@ module _ {ar words : List ℕ} {count : ℕ} {out : List ℕ} (task : FreeTask a
   pub task-countable : (map : List ℕ) → termEnd ≤ length map → Countable count map
   task-countable map h = record { few = task .few; whole = h }
 
-  pub task-renamable : (rest : List ℕ) {map : List ℕ} → map ≡ tabled (freeAt count) termEnd ++ rest → Renamable ar words map out
-  task-renamable rest {map} e = record { listing = task .listing; terms = rw e (free-terms count rest); room = task .room }
+  pub task-renamable : (rest : List ℕ) {map : List ℕ} → map ≡ tabled (freeing count) termEnd ++ rest → Renamable ar words map out
+  task-renamable rest {map} e = record { listing = task .listing; terms = rw e (free-terms count rest (task .few)); room = task .room }
 
-  pub task-written : (rest : List ℕ) {map out′ : List ℕ} → Freeable ar count (diagramOf words) → map ≡ tabled (freeAt count) termEnd ++ rest
+  pub task-written : (rest : List ℕ) {map out′ : List ℕ} → Freeable ar count (diagramOf words) → map ≡ tabled (freeing count) termEnd ++ rest
       → out′ ≡ relabelled (renamed ar (mapOf map)) words ++ drop (length words) out → out′ ≡ writtenAs (ok (freed ar count (diagramOf words))) out
   task-written rest {map} {out′} free e w =
       w ∙ (λ i. is i ++ drop (size i) out)
@@ -79,7 +82,7 @@ module _ {ar words : List ℕ} {count : ℕ} {out : List ℕ} (task : FreeTask a
       is : relabelled (renamed ar (mapOf map)) words ≡ listing (freed ar count (diagramOf words))
       is =
           ap (λ (m : List ℕ). relabelled (renamed ar (mapOf m)) words) e
-          ∙ ap (relabelled (renamed ar (mapOf (tabled (freeAt count) termEnd ++ rest)))) (sym (is-listing-diagram ar words (task .listing)))
+          ∙ ap (relabelled (renamed ar (mapOf (tabled (freeing count) termEnd ++ rest)))) (sym (is-listing-diagram ar words (task .listing)))
           ∙ freed-words ar count (diagramOf words) (is-listing-good ar words (task .listing)) free rest
 
       size : length words ≡ length (listing (freed ar count (diagramOf words)))
@@ -97,9 +100,9 @@ module _ {ar words : List ℕ} {count : ℕ} {out : List ℕ} (task : FreeTask a
     unfolding freeOwn
     own-unbound e = let q = sym unbound ∙ sym p ∙ e in record { answer = rw q; result = rw q }
 
-    module _ (e : b ≡ false) {c : Bool} (r : c ≡ anySet ms (termEnd - count) count) where
-      past : anySet ms (termEnd - count) count ≡ anyOccurs ar (diagramOf words) (termEnd - count) count
-      past = used-any ar (diagramOf words) ms u (termEnd - count) count (omega (arith, task .few))
+    module _ (e : b ≡ false) {c : Bool} (r : c ≡ anySet ms (firstMinimum - count) count) where
+      past : anySet ms (firstMinimum - count) count ≡ anyOccurs ar (diagramOf words) (firstMinimum - count) count
+      past = used-any ar (diagramOf words) ms u (firstMinimum - count) count (omega (arith, task .few))
 
       pub own-variables : c ≡ true → FreedWith (freeOwn ar words count) (Refused Variables) out out
       unfolding freeOwn freedOutcome
@@ -109,7 +112,7 @@ module _ {ar words : List ℕ} {count : ℕ} {out : List ℕ} (task : FreeTask a
       own-freeable h = record {
         count = task .few;
         parameters = λ t o l. parameter t o l (kind t o);
-        variables = λ t o l. variable t o (cmp (t + count) termEnd);
+        variables = λ t o l m. variable t o m (cmp (t + count) firstMinimum);
       }
         where
           good : Good ar (diagramOf words)
@@ -130,12 +133,12 @@ module _ {ar words : List ℕ} {count : ℕ} {out : List ℕ} (task : FreeTask a
               go (equal x) = clash o (quiet t (omega arith) (low-term t k l))
               go (above x) = clash o (quiet t (omega arith) (low-term t k l))
 
-          variable : (t : ℕ) → occurs ar t (diagramOf words) ≡ true → Cmp (t + count) termEnd → t + count < termEnd
-          variable t o (below x) = x
-          variable t o (equal x) =
-              clash o (any-quiet ar (diagramOf words) (termEnd - count) count (sym past ∙ sym r ∙ h) t (omega arith) (omega (arith, task .few, term-below t (kind t o))))
-          variable t o (above x) =
-              clash o (any-quiet ar (diagramOf words) (termEnd - count) count (sym past ∙ sym r ∙ h) t (omega arith) (omega (arith, task .few, term-below t (kind t o))))
+          variable : (t : ℕ) → occurs ar t (diagramOf words) ≡ true → t < firstMinimum → Cmp (t + count) firstMinimum → t + count < firstMinimum
+          variable t o m (below x) = x
+          variable t o m (equal x) =
+              clash o (any-quiet ar (diagramOf words) (firstMinimum - count) count (sym past ∙ sym r ∙ h) t (omega arith) (omega (arith, task .few)))
+          variable t o m (above x) =
+              clash o (any-quiet ar (diagramOf words) (firstMinimum - count) count (sym past ∙ sym r ∙ h) t (omega arith) (omega (arith, task .few)))
 
       pub own-done : c ≡ false → {out′ : List ℕ} → out′ ≡ writtenAs (ok (freed ar count (diagramOf words))) out
           → FreedWith (freeOwn ar words count) (Done (length words / 3)) out out′

@@ -37,7 +37,7 @@ fn write_freed(arities: &[u64], words: &[u64], count: u64, out: &mut [u64])
     rename::relabel_rows(arities, words, &map, out);
 }
 
-// Frees a listing: no parameter past the count (6), no variable that would pass the last (8).
+// Frees a listing: no parameter past the count (6), no variable that would pass the last (8); minimum variables stay.
 pub fn free_checked(arities: &[u64], words: &[u64], count: u64, out: &mut [u64]) -> Freed
     requires { ⌜ FreeTask (now arities) (now words) count (now out) ⌝ }
     ensures { λ r. ⌜ FreedWith (freeOwn (now (arities .entry)) (now (words .entry)) count) r (now (out .entry)) (now (out .exit)) ⌝ }
@@ -49,7 +49,7 @@ pub fn free_checked(arities: &[u64], words: &[u64], count: u64, out: &mut [u64])
     if any_set(&marks, (Term::FIRST_PARAMETER as usize) + n, parameters) {
         return Freed::Refused(Refusal::Unbound);
     }
-    if any_set(&marks, (Term::END as usize) - n, n) {
+    if any_set(&marks, (Term::FIRST_MINIMUM as usize) - n, n) {
         return Freed::Refused(Refusal::Variables);
     }
     write_freed(arities, words, count, out);

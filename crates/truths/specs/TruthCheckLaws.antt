@@ -14,7 +14,7 @@ use Rattle.refusal.specs.declared.Refusal.the-variants.{Truth, Unbound}
 use Rattle.refusal.specs.Outcome.{Outcome, refused}
 use Rattle.basics.specs.Tests.{and-left, and-right, Flag, isTrue, isFalse, flag, Cmp, below, equal, above, cmp, or-one, or-other}
 use Rattle.basics.specs.Members.{mem, clash}
-use Rattle.label.specs.Limits.{firstVariable, variableCount, predicateCount, mostPlaces, leafMark}
+use Rattle.label.specs.Limits.{firstVariable, variableCount, minimumCount, predicateCount, mostPlaces, leafMark}
 use Rattle.label.specs.ArityLaws.{arity-most, arity-words}
 use Rattle.diagram.specs.Diagram.{Diagram, leaf, branch, same}
 use Rattle.diagram.specs.Rows.{rows}
@@ -170,9 +170,9 @@ module _ {ar ws : List ℕ} (v : Valid ar ws) where
           absurd (omega arith)
 
 -- `has_unbound`
-pub unbound-is : (ar ws : List ℕ) (n : ℕ) {ms : List ℕ} {b : Bool} → n ≤ mostPlaces → Used ar (diagramOf ws) ms → b ≡ anySet ms (firstVariable + n) (variableCount - n)
-    → b ≡ unboundVariable ar n (diagramOf ws)
-unbound-is ar ws n {ms} h u e = e ∙ used-any ar (diagramOf ws) ms u (firstVariable + n) (variableCount - n) (omega arith)
+pub unbound-is : (ar ws : List ℕ) (n : ℕ) {ms : List ℕ} {b : Bool} → n ≤ mostPlaces → Used ar (diagramOf ws) ms
+    → b ≡ anySet ms (firstVariable + n) (variableCount + minimumCount - n) → b ≡ unboundVariable ar n (diagramOf ws)
+unbound-is ar ws n {ms} h u e = e ∙ used-any ar (diagramOf ws) ms u (firstVariable + n) (variableCount + minimumCount - n) (omega arith)
 
 -- `judge`
 module _ (ar ws : List ℕ) (n : ℕ) {b : Bool} (e : b ≡ leafAbove 1 (diagramOf ws)) where

@@ -115,7 +115,7 @@ pub fn has_high_leaf(arities: &[u64], words: &[u64]) -> bool
     false
 }
 
-// Whether a listing has a variable that is no argument of a predicate of arity n.
+// Whether a listing has a variable that is no argument of a predicate of arity n, or a minimum variable.
 fn has_unbound(arities: &[u64], words: &[u64], n: usize) -> bool
     requires { ⌜ Valid (now arities) (now words) ⌝ }
     requires { ⌜ n ≤ mostPlaces ⌝ }
@@ -124,7 +124,7 @@ fn has_unbound(arities: &[u64], words: &[u64], n: usize) -> bool
     let mut marks = [0u64; Term::END as usize];
     listing::used(arities, words, &mut marks);
     let first = (Term::FIRST_VARIABLE as usize) + n;
-    let left = (Term::VARIABLES as usize) - n;
+    let left = (Term::VARIABLES as usize) + (Term::MINIMUMS as usize) - n;
     freeing::any_set(&marks, first, left)
 }
 

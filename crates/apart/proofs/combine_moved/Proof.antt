@@ -19,7 +19,7 @@ enter-requires-2 c κs =
     let i-at = c .before .before .before .before .before in
     let entered = i-at .before .before .before .before .before .before .before in
     let start = entered .before .before .before .before .before .before .before .before .before .before .before .before in
-    moved-second (start .pre) (entered .enter .ensures) (i-at .i .given .1) 1024 (entered .enter .kept .1 .1 .1 .1 .1 .1 .1 .1 .0) (lit≤ tt)
+    moved-second (start .pre) (entered .enter .ensures) (i-at .i .given .1) 1024 (entered .enter .kept .1 .1 .1 .1 .1 .1 .1 .1 .1 .0) (lit≤ tt)
 
 returns-2 : tie.Need-returns-2
 returns-2 c =
@@ -43,7 +43,7 @@ same-length-4 c =
     let joined = c .before .before .before .before .before .before in
     let entered = joined .before .before .before .before .before .before .before .before .before .before .before .before .before in
     let entered′ = entered .before .before .before .before .before .before .before .before .before .before .before .before .before in
-    joined .join .kept .1 .1 .1 .1 .0 ∙ entered .enter2 .kept .1 .1 .1 .1 .0 ∙ entered′ .enter .kept .1 .1 .1 .1 .0
+    joined .join .kept .1 .1 .1 .1 .0 ∙ entered .enter2 .kept .1 .1 .1 .1 .1 .0 ∙ entered′ .enter .kept .1 .1 .1 .1 .1 .0
 
 returns-3 : tie.Need-returns-3
 returns-3 c =

@@ -1,4 +1,4 @@
-use Rattle.combination.proofs.CallLaws.{call-first, call-second, call-out, call-work, call-able, call-named}
+use Rattle.combination.proofs.CallLaws.{call-first, call-second, call-out, call-work, call-able, call-done}
 use borrow.Author.Needs.{needs}
 use Rattle.combination.proofs.combine.Statement.{statement}
 use Rattle.combination.proofs.combine.Tie as tie
@@ -36,22 +36,9 @@ returns-4 c =
     call-work (a .op) (a .names) (a .arities .now) (a .x .now) (a .y .now) (a .out .now) (a .work .now) (check-at′ .check .ensures)
     (tested .if1 .left) (check-at .check2 .ensures) (c .before .before .if2 .left) (c .if4 .taken)
 
-combine-apart-requires : tie.Need-combine-apart-requires
-combine-apart-requires c κs =
-    let if-at = c .before .before .before .before in
-    let if-at′ = if-at .before in
-    let if-at′′ = if-at′ .before in
-    let check-at = if-at′′ .before in
-    let tested = check-at .before in
-    let check-at′ = tested .before in
-    let given = check-at′ .before .before .before .before .before .before in
-    let a = given .args in
-    call-able (a .op) (a .names) (a .arities .now) (a .x .now) (a .y .now) (a .out .now) (a .work .now) (check-at′ .check .ensures)
-    (tested .if1 .left) (check-at .check2 .ensures) (if-at′′ .if2 .left) (if-at′ .if3 .left) (if-at .if4 .left)
-
-combine-shared-requires : tie.Need-combine-shared-requires
-combine-shared-requires c κs =
-    let if-at = c .before .before .before .before in
+combine-named-requires : tie.Need-combine-named-requires
+combine-named-requires c κs =
+    let if-at = c .before .before in
     let if-at′ = if-at .before in
     let if-at′′ = if-at′ .before in
     let check-at = if-at′′ .before in
@@ -65,8 +52,7 @@ combine-shared-requires c κs =
 returns-5 : tie.Need-returns-5
 returns-5 c =
     let combined = c .before .before .before .before in
-    let enum-told-at = combined .before .before .before in
-    let if-at = enum-told-at .before .before in
+    let if-at = combined .before .before .before in
     let if-at′ = if-at .before in
     let if-at′′ = if-at′ .before in
     let check-at = if-at′′ .before in
@@ -74,28 +60,11 @@ returns-5 c =
     let check-at′ = tested .before in
     let given = check-at′ .before .before .before .before .before .before in
     let a = given .args in
-    call-named (a .op) (a .names) (a .arities .now) (a .x .now) (a .y .now) (a .out .now) (a .work .now) (check-at′ .check .ensures)
-    (tested .if1 .left) (check-at .check2 .ensures) (if-at′′ .if2 .left) (if-at′ .if3 .left) (if-at .if4 .left) (enum-told-at .enum-told .given .1)
-    (combined .combine-apart .ensures)
-
-returns-6 : tie.Need-returns-6
-returns-6 c =
-    let combined = c .before .before .before .before in
-    let enum-told-at = combined .before .before .before in
-    let if-at = enum-told-at .before .before in
-    let if-at′ = if-at .before in
-    let if-at′′ = if-at′ .before in
-    let check-at = if-at′′ .before in
-    let tested = check-at .before in
-    let check-at′ = tested .before in
-    let given = check-at′ .before .before .before .before .before .before in
-    let a = given .args in
-    call-named (a .op) (a .names) (a .arities .now) (a .x .now) (a .y .now) (a .out .now) (a .work .now) (check-at′ .check .ensures)
-    (tested .if1 .left) (check-at .check2 .ensures) (if-at′′ .if2 .left) (if-at′ .if3 .left) (if-at .if4 .left) (enum-told-at .enum-told2 .given .1)
-    (combined .combine-shared .ensures)
+    call-done (a .op) (a .names) (a .arities .now) (a .x .now) (a .y .now) (a .out .now) (a .work .now) (check-at′ .check .ensures)
+    (tested .if1 .left) (check-at .check2 .ensures) (if-at′′ .if2 .left) (if-at′ .if3 .left) (if-at .if4 .left) (combined .combine-named .ensures)
 
 pub combine-spec : {M : Type 1} → statement M
 combine-spec =
     tie.close
-    (tie.spec (λ c κs. search needs) returns (λ c κs. search needs) returns-2 returns-3 returns-4 (λ c. search needs) combine-apart-requires
-    (λ c. search needs) combine-shared-requires (λ c. search needs) (λ c. search needs) returns-5 (λ c. search needs) (λ c. search needs) returns-6)
+    (tie.spec (λ c κs. search needs) returns (λ c κs. search needs) returns-2 returns-3 returns-4 combine-named-requires (λ c. search needs)
+    (λ c. search needs) returns-5)
