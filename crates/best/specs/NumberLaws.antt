@@ -23,7 +23,7 @@ use Rattle.apply.specs.declared.Names.the-variants.{Apart, Shared}
 use Rattle.apply.specs.declared.Combined.{Combined}
 use Rattle.apply.specs.declared.Combined.the-variants.{Done, Refused}
 use Rattle.apply.specs.Pairs.{pairs, pairCount, overflows}
-use Rattle.apply.specs.Combination.{operate, leftOperand, rightOperand, tooMany, rowsFormed, combination, diagramAnswer}
+use Rattle.apply.specs.Combination.{operate, leftOperand, rightOperand, tooMany, rowsFormed, combination, diagramAnswer, doneAs}
 use Rattle.state.specs.State.{State}
 use Rattle.regression.specs.Calls.{Run, pure, bind, form, combine}
 use Rattle.regression.specs.Step.{exchanged, rowStep}
@@ -122,13 +122,16 @@ given-cond false x o d p q = q
 
 combined-calls : (op : Operation) (names : Names) (ar : List ℕ) (a b : Diagram) → Refuses OfCall (combined op names ar a b)
 unfolding combined diagramAnswer
-combined-calls op names ar a b =
-    given-cond (tooMany names ar a b) Variables _ (combination op names ar a b) (omega arith)
-    (given-cond (ltb mostPairs (pairCount op (leftOperand names ar a b) (rightOperand names ar a b))) Pairs _ (combination op names ar a b) (omega arith)
-    (given-cond (overflows (operate op) (pairs op (leftOperand names ar a b) (rightOperand names ar a b))) Value _ (combination op names ar a b) (omega arith)
-    (given-cond (ltb spaceRows (rowsFormed op names ar a b)) Space _ (combination op names ar a b) (omega arith)
-    (given-cond (ltb mostRows (length (rows (combination op names ar a b)))) Space _ (combination op names ar a b) (omega arith)
-    refuses-ok))))
+combined-calls op names ar a b = go (doneAs op names ar a b)
+  where
+    go : (n : Names) → Refuses OfCall (given (diagramAnswer op n ar a b) (combination op n ar a b))
+    go n =
+        given-cond (tooMany n ar a b) Variables _ (combination op n ar a b) (omega arith)
+        (given-cond (ltb mostPairs (pairCount op (leftOperand n ar a b) (rightOperand n ar a b))) Pairs _ (combination op n ar a b) (omega arith)
+        (given-cond (overflows (operate op) (pairs op (leftOperand n ar a b) (rightOperand n ar a b))) Value _ (combination op n ar a b) (omega arith)
+        (given-cond (ltb spaceRows (rowsFormed op n ar a b)) Space _ (combination op n ar a b) (omega arith)
+        (given-cond (ltb mostRows (length (rows (combination op n ar a b)))) Space _ (combination op n ar a b) (omega arith)
+        refuses-ok))))
 
 variants-calls : (ar : List ℕ) (g : ℕ) (d sum : Diagram) (vs : List Variant) → Refuses OfCall (variantsSum ar g d sum vs)
 unfolding variantsSum

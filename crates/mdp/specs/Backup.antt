@@ -7,14 +7,14 @@ use Rattle.refusal.specs.declared.Refusal.the-variants.{Scale}
 use Rattle.refusal.specs.Outcome.{Outcome, ok, refused, andThen}
 use Rattle.diagram.specs.Sizes.{highestValue}
 use Rattle.diagram.specs.Diagram.{Diagram, leaf}
-use Rattle.diagram.specs.Variables.{closed}
+use Rattle.diagram.specs.Variables.{isPlain, closed}
 use Rattle.apply.specs.declared.Operation.{Operation}
 use Rattle.apply.specs.declared.Operation.the-variants.{Sum, Product, Max}
 use Rattle.apply.specs.declared.Names.{Names}
 use Rattle.apply.specs.declared.Names.the-variants.{Apart, Shared}
 use Rattle.apply.specs.declared.Combined.{Combined}
 use Rattle.apply.specs.declared.Combined.the-variants.{Done, Refused}
-use Rattle.apply.specs.Combination.{combination, diagramAnswer}
+use Rattle.apply.specs.Combination.{combination, diagramAnswer, doneAs}
 use Rattle.regression.specs.Regression.{regressed}
 use Rattle.regression.specs.RegressCall.{freedOutcome}
 use Rattle.mdp.specs.Model.{Variant, Action, Model, scale}
@@ -24,9 +24,10 @@ abbrev pub given : Combined → Diagram → Outcome Diagram
 given (Done n pairs) d = ok d
 given (Refused r) d = refused r
 
+-- "A max asked for with shared names is done apart if either side has" a minimum variable, "in the backup too" (document 02, L12)
 unfoldable pub combined : Operation → Names → List ℕ → Diagram → Diagram → Outcome Diagram
-unfolding diagramAnswer combination
-combined op names ar a b = given (diagramAnswer op names ar a b) (combination op names ar a b)
+unfolding diagramAnswer combination isPlain
+combined op names ar a b = given (diagramAnswer op (doneAs op names ar a b) ar a b) (combination op (doneAs op names ar a b) ar a b)
 
 -- for each variant come four calls: its value regressed; its weight times leaf G, names shared; the product of these two, names shared; the sum so far
 -- plus that product, apart

@@ -27,8 +27,7 @@ use Rattle.state.specs.Highest.{Bound, start}
 use Rattle.state.specs.HighestLaws.{start-fits, bound-tuple}
 use Rattle.minimum.specs.Number.{Number, number}
 use Rattle.minimum.specs.NumberLaws.{number-is, number-scale}
-use Rattle.minimum.specs.PlainLaws.{fine-plain}
-use Rattle.minimum.specs.ApartLaws.{number-max-shared, number-fixed}
+use Rattle.minimum.specs.ApartLaws.{number-fixed}
 use Rattle.regression.specs.Regression.{regressed}
 use Rattle.regression.specs.Parameters.{Allowed, Within, GoodTruths, WithinTruths}
 use Rattle.regression.specs.Next.{meanings}
@@ -39,7 +38,7 @@ use Rattle.reduction.specs.ClosedLaws.{within-closed, closed-number}
 use Rattle.mdp.specs.Model.{Variant, Action, Model, scale, Every, GoodVariant, GoodAction, GoodModel}
 use Rattle.mdp.specs.Bellman.{weightIn, stateAfter, rewardIn, bellman}
 use Rattle.mdp.specs.Backup.{combined, variantsSum, actionsBest, highestScale, mostSteps, scaleEnds, backup, rowOfCalls}
-use Rattle.mdp.specs.CallLaws.{within-more, leaf-listed, leaf-within, leaf-value, shared-made, apart-added, freed-to}
+use Rattle.mdp.specs.CallLaws.{within-more, leaf-listed, leaf-within, leaf-value, shared-made, apart-joined, max-higher, freed-to}
 
 -- ===== Variants =====
 
@@ -118,9 +117,9 @@ module _ (ar : List ℕ) (good : areArities ar ≡ true) (g : ℕ) (g-few : g �
   variants-sum c few [] gs y sum h = accepted-ok (has-same h (λ s os. omega arith))
   variants-sum c few (v ∷ vs) gs y sum h =
       accepted-then (regressed ar (v .truths) d) (regressed-tells ar (v .truths) d (truths-good ar c v (gs .0)) (vals .listed)) (λ r hr.
-      accepted-then (combined Product Shared ar (v .weight) (leaf g)) (shared-made Product ar (v .weight) (leaf g) (gs .0 .listed) (leaf-listed ar g good g-few)) (λ w hw.
-      accepted-then (combined Product Shared ar r w) (shared-made Product ar r w (hr .good) (hw .listed)) (λ p hp.
-      accepted-then (combined Sum Apart ar sum p) (apart-added ar sum p (h .listed) (hp .listed)) (λ sum′ ha.
+      accepted-then (combined Product Shared ar (v .weight) (leaf g)) (shared-made Product Shared ar (v .weight) (leaf g) refl (gs .0 .listed) (leaf-listed ar g good g-few)) (λ w hw.
+      accepted-then (combined Product Shared ar r w) (shared-made Product Shared ar r w refl (hr .good) (hw .listed)) (λ p hp.
+      accepted-then (combined Sum Apart ar sum p) (apart-joined Sum Apart ar sum p refl (h .listed) (hp .listed)) (λ sum′ ha.
       accepted-mono
       (variants-sum c few vs (gs .1) (λ s os. y s os + x (stateAfter ar s os v) * (weightIn ar s os v * g)) sum′ (record {
         listed = ha .listed;
@@ -142,14 +141,12 @@ module _ (ar : List ℕ) (good : areArities ar ≡ true) (g : ℕ) (g-few : g �
       accepted-then (variantsSum ar g d (leaf 0) (a .variants))
       (variants-sum (a .count) (gs .0 .few) (a .variants) (gs .0 .variants) (λ s os. 0) (leaf 0) (leaf-has ar (a .count) 0 good (omega arith))) (λ q hq.
       accepted-then (freedOutcome ar (a .count) q) (freed-to ar (a .count) q (hq .listed) (gs .0 .few) (hq .within)) (λ f hf.
-      accepted-then (combined Max Shared ar best (closed ar f)) (shared-made Max ar best (closed ar f) (h .listed) (closed-good ar f (hf .listed))) (λ best′ hb.
+      accepted-then (combined Max Shared ar best (closed ar f)) (max-higher ar best (closed ar f) (h .listed) (closed-good ar f (hf .listed))) (λ best′ hb.
       accepted-mono
       (actions-best l (gs .1) (λ s. max (z s) (maxTuples (s .size) (a .count) (λ os. gain ar g x s os (a .variants)))) best′ (has-none ar _ best′
       (hb .listed)
       (hb .within 0 (h .within) (within-closed 0 ar f (hf .listed) (hf .within)))
-      (λ s gd. number-max-shared (meaning ar best) (meaning ar (closed ar f)) (meaning ar best′)
-      (fine-plain ar best (h .listed .fine)) (fine-plain ar (closed ar f) (closed-good ar f (hf .listed) .fine)) (fine-plain ar best′ (hb .listed .fine))
-      (λ θ e. hb .values s θ)
+      (λ s gd. hb .numbers s [] _ _
       (h .numbers s gd [] none)
       (closed-number ar f (hf .listed) s [] _ (hf .numbers s gd (λ os. gain ar g x s os (a .variants))
       (λ os t. has-same hq (λ s os. zero-add (gain ar g x s os (a .variants))) .numbers s gd os t))))))
@@ -190,8 +187,8 @@ backup-steps m gm k x d vals =
     (actions-best ar (gm .arities) (m .numerator) (let u = gm .numerator-few in let v = gm .denominator-few in omega arith) x d vals (m .actions) (gm .actions)
     (λ s. 0) (leaf 0) (leaf-has ar 0 0 (gm .arities) (omega arith))) (λ best hb.
     accepted-then (combined Product Shared ar (m .reward) (leaf p))
-    (shared-made Product ar (m .reward) (leaf p) (gm .reward-listed) (leaf-listed ar p (gm .arities) (scale-room m k e))) (λ r hr.
-    accepted-mono (apart-added ar best r (hb .listed) (hr .listed)) (λ c hc. record {
+    (shared-made Product Shared ar (m .reward) (leaf p) refl (gm .reward-listed) (leaf-listed ar p (gm .arities) (scale-room m k e))) (λ r hr.
+    accepted-mono (apart-joined Sum Apart ar best r refl (hb .listed) (hr .listed)) (λ c hc. record {
       listed = hc .listed;
       is-closed = hc .is-closed;
       within = hc .within 0 (hb .within) (hr .within 0 (gm .reward) (leaf-within 0 ar p));

@@ -6,12 +6,13 @@ use Prim.Native.Nat.{ℕ, _≤_}
 use lib.ListN.{length}
 use lib.Dec.{ltb}
 use borrow.Author.Tests.{ltb-false}
-use Rattle.refusal.specs.declared.Refusal.the-variants.{Paths}
+use Rattle.refusal.specs.declared.Refusal.the-variants.{Paths, Minimum}
 use Rattle.refusal.specs.Outcome.{Accepted}
 use Rattle.refusal.specs.OutcomeLaws.{accepted-ok, accepted-refused}
 use Rattle.diagram.specs.Diagram.{Diagram, leaf, branch, same}
 use Rattle.diagram.specs.Rows.{rows}
 use Rattle.diagram.specs.RowLists.{rowTree}
+use Rattle.diagram.specs.Variables.{isPlain}
 use Rattle.rename.specs.ClosingLaws.{closed-good, closed-twice}
 use Rattle.apply.specs.GoodLaws.{EveryLabel}
 use Rattle.state.specs.State.{atomOf, meaning, State}
@@ -54,10 +55,10 @@ edge-side : (b : Bool) → isTrueEdge (edgeOf b) ≡ b
 edge-side true = refl
 edge-side false = refl
 
-cut-values : (ar : List ℕ) (y : State → ℕ) (d : Diagram) → Values ar y d → length (paths d) ≤ mostPaths → (k : ℕ) (b : Bool) → MayGo ar d b (rowTree (rows d) k)
-    → Values ar y (cutDiagram ar d k b)
+cut-values : (ar : List ℕ) (y : State → ℕ) (d : Diagram) → Values ar y d → isPlain ar d ≡ true → length (paths d) ≤ mostPaths → (k : ℕ) (b : Bool)
+    → MayGo ar d b (rowTree (rows d) k) → Values ar y (cutDiagram ar d k b)
 unfolding cutDiagram
-cut-values ar y d v few k b mg =
+cut-values ar y d v plain few k b mg =
     let r = rowTree (rows d) k in
     let good = cut-good ar d r b (v .listed) few in
     record {
@@ -65,16 +66,18 @@ cut-values ar y d v few k b mg =
       is-closed = closed-twice ar (reduced (cutAt r b d)) good;
       within = within-closed 0 ar (reduced (cutAt r b d)) good (within-cut 0 ar r b d (v .within));
       numbers = λ s g. closed-number ar (reduced (cutAt r b d)) good s [] (y s)
-          (cut-keeps ar (v .listed .arities) d r b mg (fine-plain ar d (v .listed .fine)) (fine-plain ar (reduced (cutAt r b d)) (good .fine)) s [] (y s) (v .numbers s g));
+          (cut-keeps ar (v .listed .arities) d r b mg (fine-plain ar d (v .listed .fine) plain) s [] (y s) (v .numbers s g));
     }
 
 pub cut-is : (ar : List ℕ) (y : State → ℕ) (d : Diagram) → Values ar y d → Accepted (Values ar y) (cutOutcome ar d)
 unfolding cutOutcome diagramAnswer chosenAnswer
-cut-is ar y d v = go (ltb mostPaths (length (paths d))) refl (chosen ar d (v .listed .arities) (v .listed .fine))
+cut-is ar y d v = go (isPlain ar d) refl (ltb mostPaths (length (paths d))) refl (chosen ar d (v .listed .arities) (v .listed .fine))
   where
-    go : (x : Bool) → ltb mostPaths (length (paths d)) ≡ x → {c : Choice} → Chosen ar d (v .listed .arities) (v .listed .fine) (rows d) (length (rows d)) c
-        → Accepted (Values ar y) (leaves ar d (cond x (Refused Paths) (chosenAnswer ar d c)))
-    go true e c = accepted-refused
-    go false e (nothing n) = accepted-refused
-    go false e (highest k b h mg t a) =
-        accepted-ok (subst (λ (x : Bool). Values ar y (cutDiagram ar d k x)) (sym (edge-side b)) (cut-values ar y d v (ltb-false mostPaths (length (paths d)) e) k b mg))
+    go : (p : Bool) → isPlain ar d ≡ p → (x : Bool) → ltb mostPaths (length (paths d)) ≡ x
+        → {c : Choice} → Chosen ar d (v .listed .arities) (v .listed .fine) (rows d) (length (rows d)) c
+        → Accepted (Values ar y) (leaves ar d (cond (not p) (Refused Minimum) (cond x (Refused Paths) (chosenAnswer ar d c))))
+    go false q x e c = accepted-refused
+    go true q true e c = accepted-refused
+    go true q false e (nothing n) = accepted-refused
+    go true q false e (highest k b h mg t a) =
+        accepted-ok (subst (λ (x : Bool). Values ar y (cutDiagram ar d k x)) (sym (edge-side b)) (cut-values ar y d v q (ltb-false mostPaths (length (paths d)) e) k b mg))

@@ -1,11 +1,11 @@
--- Document 01's run (section 'A run, whole'): its model and its two states.
+-- Document 01's run (section 'A run, whole'): its model and its two states; and its model with a minimum variable in the reward.
 use mathlib.Core.Bool.{Bool, false, _&&_}
 use mathlib.Core.List.{List, [], _∷_}
 use mathlib.Core.Option.{some, none}
 use Prim.Native.Nat.{ℕ, zero, suc, _-_}
 use lib.ListN.{replicate}
 use lib.Dec.{eqb}
-use Rattle.label.specs.Limits.{predicateCount, equalityArity, firstParameter, firstVariable}
+use Rattle.label.specs.Limits.{predicateCount, equalityArity, firstParameter, firstVariable, firstMinimum}
 use Rattle.label.specs.Labels.{atomFrom, equalAtom, packed}
 use Rattle.diagram.specs.Diagram.{Diagram, leaf, branch}
 use Rattle.state.specs.State.{State}
@@ -49,6 +49,17 @@ runModel = record {
         ∷ record { weight = leaf 1; truths = noTruths }
         ∷ [];
   } ∷ [];
+}
+
+-- the same with the reward 10 where the stock is everywhere, instead of at hub: (if (stock %v0) 10 0) (document 02, L12)
+abbrev pub everywhere : Model
+everywhere = record {
+  arities = runModel .arities;
+  total = runModel .total;
+  numerator = runModel .numerator;
+  denominator = runModel .denominator;
+  reward = branch (stock firstMinimum) (leaf 10) (leaf 0);
+  actions = runModel .actions;
 }
 
 -- two objects, hub is object 0; nothing is true, then the stock of object 0

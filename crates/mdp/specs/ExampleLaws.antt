@@ -1,12 +1,12 @@
--- The model of document 01's run is one that reading can accept.
+-- The model of document 01's run is one that reading can accept, and so it is with a minimum variable in the reward.
 use mathlib.Core.Path.{_≡_, refl, subst}
 use mathlib.Core.List.{List, [], _∷_}
 use mathlib.Core.Option.{Option, some, none}
 use Prim.Native.Nat.{ℕ, zero, suc, _<_}
 use native.Mathlib.Omega.{arith}
 use lib.ListN.{getD}
-use Rattle.label.specs.Limits.{firstParameter, firstVariable, leafMark, predicateCount}
-use Rattle.label.specs.Terms.{isTerm, isConstant, isParameter, isVariable}
+use Rattle.label.specs.Limits.{firstParameter, firstVariable, firstMinimum, leafMark, predicateCount}
+use Rattle.label.specs.Terms.{isTerm, isConstant, isParameter, isVariable, isMinimum}
 use Rattle.label.specs.Labels.{areArities, isLabel, isAtom, placeFits, inOrder, packed, unpacked, predicateOf, termsOf}
 use Rattle.label.specs.Renamings.{renamed, mapped, placed, numbering}
 use Rattle.diagram.specs.Diagram.{Diagram, leaf, relabel}
@@ -16,7 +16,7 @@ use Rattle.diagram.specs.Listings.{is-listing-good}
 use Rattle.diagram.specs.Variables.{closed}
 use Rattle.state.specs.State.{atomOf, meaning}
 use Rattle.mdp.specs.Model.{GoodTruthDiagram, GoodModel}
-use Rattle.mdp.specs.Example.{forFirst, hub, stock, equals, runTruth, runModel}
+use Rattle.mdp.specs.Example.{forFirst, hub, stock, equals, runTruth, runModel, everywhere}
 
 abbrev ar : List ℕ
 ar = runModel .arities
@@ -80,3 +80,25 @@ run-model-good = record {
     done zero d h k e = absurd (omega arith)
     done (suc zero) d h k e = let q : runTruth ≡ d = cc in subst (GoodTruthDiagram ar 1 1) q truth-diagram-good
     done (suc (suc p)) d h k e = nothing e
+
+everywhere-reward : Good ar (everywhere .reward)
+unfolding isListing areArities isLabel isAtom packed unpacked placeFits isTerm isConstant isParameter isVariable isMinimum inOrder isLeafRow isBranchRow labelAt highAt lowAt areDistinct equalRows areNumbered finish diagramOf treeAt
+everywhere-reward = is-listing-good ar (leafMark ∷ 10 ∷ 0 ∷ leafMark ∷ 0 ∷ 0 ∷ stock firstMinimum ∷ 0 ∷ 1 ∷ []) refl
+
+pub everywhere-good : GoodModel everywhere
+unfolding meaning relabel atomOf unpacked termsOf predicateOf closed renamed packed mapped placed numbering
+everywhere-good =
+    let g = run-model-good in
+    record {
+      arities = g .arities;
+      total-some = g .total-some;
+      total-few = g .total-few;
+      denominator-some = g .denominator-some;
+      denominator-few = g .denominator-few;
+      numerator-few = g .numerator-few;
+      reward-listed = everywhere-reward;
+      reward-closed = refl;
+      reward = record { terms = (((λ h. omega arith), tt), tt, tt) };
+      actions-few = g .actions-few;
+      actions = g .actions;
+    }

@@ -59,8 +59,8 @@ abbrev pub Every : {A : Type 0} → (A → Type 0) → List A → Type 0
 Every P [] = Unit {0}
 Every P (a ∷ l) = P a × Every P l
 
--- a truth diagram of a predicate of n places, of an action with c parameters: leaves 0 and 1, the arguments, the first variable onward, and no other variable, and
--- the action's parameters only
+-- a truth diagram of a predicate of n places, of an action with c parameters: leaves 0 and 1, the arguments, the first variable onward, and no other variable of either
+-- kind, and the action's parameters only
 pub record GoodTruthDiagram (ar : List ℕ) (c n : ℕ) (d : Diagram) : Type 0 where
   pub listed : Good ar d
   pub bits : AtMost 1 d
@@ -78,7 +78,7 @@ pub record GoodAction (ar : List ℕ) (a : Action) : Type 0 where
   pub variants-few : length (a .variants) ≤ mostVariants
   pub variants : Every (GoodVariant ar (a .count)) (a .variants)
 
--- no parameter in the reward. That an action's weights add up to W (13) plays no part in what follows.
+-- no parameter in the reward; it may have variables of both kinds. That an action's weights add up to W (13) plays no part in what follows.
 pub record GoodModel (m : Model) : Type 0 where
   pub arities : areArities (m .arities) ≡ true
   pub total-some : 1 ≤ m .total

@@ -20,7 +20,7 @@ pub record Held : Type 0 where
   pub diagram : Diagram
   pub steps : ℕ
 
--- a cut that is answered leaves its diagram; over 256 paths is 17, no edge 16
+-- a cut that is answered leaves its diagram; a minimum variable is 25, over 256 paths 17, no edge 16
 abbrev pub leaves : List ℕ → Diagram → Cut → Outcome Diagram
 leaves ar d (Done k e n) = ok (cutDiagram ar d k (isTrueEdge e))
 leaves ar d (Refused r) = refused r

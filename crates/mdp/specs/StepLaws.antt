@@ -21,7 +21,7 @@ use Rattle.apply.specs.declared.Operation.the-variants.{Sum, Product, Max}
 use Rattle.apply.specs.declared.Names.{Names}
 use Rattle.apply.specs.declared.Names.the-variants.{Apart, Shared}
 use Rattle.apply.specs.declared.Combined.the-variants.{Done, Refused}
-use Rattle.apply.specs.Combination.{combination, diagramAnswer}
+use Rattle.apply.specs.Combination.{combination, diagramAnswer, doneAs}
 use Rattle.state.specs.State.{meaning}
 use Rattle.regression.specs.Regression.{regressed}
 use Rattle.regression.specs.Parameters.{Within}
@@ -40,11 +40,12 @@ use Rattle.mdp.specs.CallLaws.{each-within}
 -- ===== Combination and freeing =====
 
 module _ (op : Operation) (names : Names) (ar : List ℕ) (a b : Diagram) where
-  pub combined-done : (n pairs : ℕ) → diagramAnswer op names ar a b ≡ Done n pairs → combined op names ar a b ≡ ok (combination op names ar a b)
+  pub combined-done : (n pairs : ℕ) → diagramAnswer op (doneAs op names ar a b) ar a b ≡ Done n pairs
+      → combined op names ar a b ≡ ok (combination op (doneAs op names ar a b) ar a b)
   unfolding combined
   combined-done n pairs e = rw e
 
-  pub combined-refused : (r : Refusal) → diagramAnswer op names ar a b ≡ Refused r → combined op names ar a b ≡ refused r
+  pub combined-refused : (r : Refusal) → diagramAnswer op (doneAs op names ar a b) ar a b ≡ Refused r → combined op names ar a b ≡ refused r
   unfolding combined
   combined-refused r e = rw e
 

@@ -1,11 +1,11 @@
--- The ten marked cases of document 01's checklist, and one of document 02, L13, computed from the definitions.
+-- The ten marked cases of document 01's checklist, and cases of document 02, L13 and L12, computed from the definitions.
 use mathlib.Core.Path.{_≡_, refl}
 use mathlib.Core.List.{List, [], _∷_}
 use Prim.Native.Nat.{ℕ, _+_, _-_, _^_}
 use lib.ListN.{replicate}
-use Rattle.refusal.specs.declared.Refusal.the-variants.{Value, Scale, Nothing}
+use Rattle.refusal.specs.declared.Refusal.the-variants.{Value, Scale, Nothing, Minimum, Kinds}
 use Rattle.refusal.specs.Outcome.{ok, refused, andThen}
-use Rattle.label.specs.Limits.{predicateCount, equalityArity, firstVariable, leafMark}
+use Rattle.label.specs.Limits.{predicateCount, equalityArity, firstVariable, firstMinimum, leafMark}
 use Rattle.label.specs.Terms.{isConstant, isVariable}
 use Rattle.label.specs.Labels.{atomFrom, termsOf, unpacked, predicateOf, packed, testOf, equates}
 use Rattle.label.specs.Renamings.{moved, renamed, mapped, placed, numbering, freeing}
@@ -16,7 +16,7 @@ use Rattle.diagram.specs.Variables.{variables, closed, after}
 use Rattle.apply.specs.Apply.{apply}
 use Rattle.apply.specs.Pairs.{ends, pairs, pairCount, overflows}
 use Rattle.apply.specs.Formed.{formed}
-use Rattle.apply.specs.declared.Operation.the-variants.{Sum}
+use Rattle.apply.specs.declared.Operation.the-variants.{Sum, Max}
 use Rattle.apply.specs.declared.Names.the-variants.{Shared}
 use Rattle.apply.specs.declared.Combined.the-variants.{Done, Refused}
 use Rattle.apply.specs.Combination.{rowsFormed, combination, diagramAnswer}
@@ -28,10 +28,10 @@ use Rattle.cutting.specs.declared.Edge.the-variants.{False}
 use Rattle.cutting.specs.declared.Cut.the-variants.{Done as CutDone, Refused as CutRefused}
 use Rattle.cutting.specs.Cut.{diagramAnswer as cutAnswer}
 use Rattle.reduction.specs.Combinations.{formed as combinationsFormed}
-use Rattle.reduction.specs.Reduction.{reducedDiagram}
+use Rattle.reduction.specs.Reduction.{reducedDiagram, reduceAnswer}
 use Rattle.mdp.specs.Model.{Model, scale}
-use Rattle.mdp.specs.Example.{forFirst, noTruths, runModel, nothingTrue, stockAtHub}
-use Rattle.mdp.specs.Backup.{backup}
+use Rattle.mdp.specs.Example.{forFirst, noTruths, stock, runModel, everywhere, nothingTrue, stockAtHub}
+use Rattle.mdp.specs.Backup.{combined, backup}
 use Rattle.mdp.specs.Runs.{Call, aBackup, aCut, aReduce, run}
 
 -- what (value) prints: value, k, S^k
@@ -121,3 +121,17 @@ pub run-rows : listing (run runModel (aBackup ∷ []) .diagram)
     ∷ []
 unfolding listing run scale diagramAnswer combination rowsFormed formed ends pairs pairCount overflows apply backup truthAt variables closed after moved testOf equates renamed numbering freeing mapped placed packed unpacked predicateOf termsOf isVariable
 run-rows = refl
+
+-- Minimum variables (document 02, L12). A max asked for with shared names is done apart if either side has one: 7 if stock(%v0), else 3 if stock(%v1), else 7; shared it would
+-- be 7. Without them it is shared. With stock at one of two objects the higher of 3 and 3 is 3. A cut is 25, a reduction 26. One backup fills the other object with 3 chances
+-- of 4, of 10 each; with stock nowhere it fills one of two in vain.
+pub table-minimum : (combined Max Shared (runModel .arities) (branch (stock firstMinimum) (leaf 7) (leaf 3)) (branch (stock firstMinimum) (leaf 3) (leaf 7))
+    ≡ ok (branch (stock firstMinimum) (leaf 7) (branch (stock (firstMinimum + 1)) (leaf 3) (leaf 7))))
+    × (combined Max Shared (runModel .arities) (branch (stock firstVariable) (leaf 7) (leaf 3)) (branch (stock firstVariable) (leaf 3) (leaf 7)) ≡ ok (leaf 7))
+    × (number stockAtHub [] (meaning (runModel .arities) (branch (stock firstMinimum) (leaf 7) (branch (stock (firstMinimum + 1)) (leaf 3) (leaf 7)))) ≡ 3)
+    × (cutAnswer (runModel .arities) (everywhere .reward) ≡ CutRefused Minimum)
+    × (reduceAnswer (runModel .arities) (everywhere .reward) ≡ refused Kinds)
+    × (shown everywhere (aBackup ∷ []) stockAtHub ≡ (30, 1, 8))
+    × (shown everywhere (aBackup ∷ []) nothingTrue ≡ (0, 1, 8))
+unfolding run number meaning scale cutAnswer reduceAnswer combined diagramAnswer combination rowsFormed formed ends pairs pairCount overflows apply backup truthAt variables closed after moved testOf equates renamed numbering freeing mapped placed packed unpacked predicateOf termsOf isConstant isVariable
+table-minimum = (refl, refl, refl, refl, refl, refl, refl)

@@ -1,6 +1,6 @@
 -- Laws of what is held: behind a backup, behind a cut or a reduction, and where a run begins.
 use mathlib.Core.Path.{_≡_, refl, sym, ap, subst, _∙_}
-use mathlib.Core.Bool.{Bool, true, false, cond}
+use mathlib.Core.Bool.{Bool, true, false, not, cond}
 use mathlib.Core.List.{List, _++_}
 use Prim.Native.Nat.{ℕ, suc, _+_, _*_, _/_, _^_, _≤_}
 use native.Mathlib.Omega.{arith}
@@ -11,7 +11,7 @@ use lib.Seq.{take-at, take-all, length-take-le}
 use lib.Dec.{ltb}
 use borrow.Author.Tests.{ltb-false}
 use Rattle.refusal.specs.declared.Refusal.{Refusal}
-use Rattle.refusal.specs.declared.Refusal.the-variants.{Paths}
+use Rattle.refusal.specs.declared.Refusal.the-variants.{Paths, Minimum}
 use Rattle.refusal.specs.Outcome.{Outcome, ok, refused, Accepted}
 use Rattle.refusal.specs.OutcomeLaws.{accepted-ok, accepted-refused}
 use Rattle.diagram.specs.Sizes.{resultWords}
@@ -20,6 +20,7 @@ use Rattle.diagram.specs.Rows.{rows}
 use Rattle.diagram.specs.RowLists.{rowTree}
 use Rattle.diagram.specs.Words.{isListing}
 use Rattle.diagram.specs.Listing.{listing, diagramOf, Good}
+use Rattle.diagram.specs.Variables.{isPlain}
 use Rattle.diagram.specs.ListingValid.{listing-is-valid}
 use Rattle.diagram.specs.Listings.{is-listing-good}
 use Rattle.rename.specs.ClosingLaws.{closed-good}
@@ -125,12 +126,14 @@ module _ {ar : List ℕ} {h : Held} {value work : List ℕ} (t : ReplaceTask ar 
 
 cut-fits : (ar : List ℕ) (d : Diagram) → Good ar d → Accepted (Good ar) (cutOutcome ar d)
 unfolding cutOutcome diagramAnswer chosenAnswer cutDiagram
-cut-fits ar d g = go (ltb mostPaths (length (paths d))) refl (choice ar d)
+cut-fits ar d g = go (isPlain ar d) (ltb mostPaths (length (paths d))) refl (choice ar d)
   where
-    go : (b : Bool) → ltb mostPaths (length (paths d)) ≡ b → (c : Choice) → Accepted (Good ar) (leaves ar d (cond b (NotCut Paths) (chosenAnswer ar d c)))
-    go true e c = accepted-refused
-    go false e stays = accepted-refused
-    go false e (goes k b) = accepted-ok (closed-good ar (reduced (cutAt (rowTree (rows d) k) (isTrueEdge (edgeOf b)) d))
+    go : (p b : Bool) → ltb mostPaths (length (paths d)) ≡ b → (c : Choice)
+        → Accepted (Good ar) (leaves ar d (cond (not p) (NotCut Minimum) (cond b (NotCut Paths) (chosenAnswer ar d c))))
+    go false b e c = accepted-refused
+    go true true e c = accepted-refused
+    go true false e stays = accepted-refused
+    go true false e (goes k b) = accepted-ok (closed-good ar (reduced (cutAt (rowTree (rows d) k) (isTrueEdge (edgeOf b)) d))
         (cut-good ar d (rowTree (rows d) k) (isTrueEdge (edgeOf b)) g (ltb-false mostPaths (length (paths d)) e)))
 
 edge-side : (b : Bool) → isTrueEdge (edgeOf b) ≡ b
@@ -139,12 +142,14 @@ edge-side false = refl
 
 cut-rows : (ar : List ℕ) (d : Diagram) (k : ℕ) (e : Edge) (n : ℕ) → diagramAnswer ar d ≡ CutDone k e n → length (rows (cutDiagram ar d k (isTrueEdge e))) ≡ n
 unfolding diagramAnswer chosenAnswer
-cut-rows ar d k e n h = go (ltb mostPaths (length (paths d))) (choice ar d) h
+cut-rows ar d k e n h = go (isPlain ar d) (ltb mostPaths (length (paths d))) (choice ar d) h
   where
-    go : (b : Bool) (c : Choice) → cond b (NotCut Paths) (chosenAnswer ar d c) ≡ CutDone k e n → length (rows (cutDiagram ar d k (isTrueEdge e))) ≡ n
-    go true c q = let z : _≡_ {A = ℕ} 0 1 = cc in absurd (omega arith)
-    go false stays q = let z : _≡_ {A = ℕ} 0 1 = cc in absurd (omega arith)
-    go false (goes j b) q =
+    go : (p b : Bool) (c : Choice) → cond (not p) (NotCut Minimum) (cond b (NotCut Paths) (chosenAnswer ar d c)) ≡ CutDone k e n
+        → length (rows (cutDiagram ar d k (isTrueEdge e))) ≡ n
+    go false b c q = let z : _≡_ {A = ℕ} 0 1 = cc in absurd (omega arith)
+    go true true c q = let z : _≡_ {A = ℕ} 0 1 = cc in absurd (omega arith)
+    go true false stays q = let z : _≡_ {A = ℕ} 0 1 = cc in absurd (omega arith)
+    go true false (goes j b) q =
         let p : j ≡ k = cc in
         let s : edgeOf b ≡ e = cc in
         let l : length (rows (cutDiagram ar d j b)) ≡ n = cc in

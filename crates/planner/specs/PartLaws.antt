@@ -22,7 +22,7 @@ use Rattle.mdp.specs.Model.{Variant, Action, Every, GoodVariant, GoodAction}
 use Rattle.mdp.specs.Backup.{combined, variantsSum, actionsBest}
 use Rattle.mdp.specs.StepLaws.{sum-none, sum-next, best-none, best-next}
 use Rattle.mdp.specs.BackupLaws.{truths-good, truths-within, weight-within}
-use Rattle.mdp.specs.CallLaws.{within-more, leaf-listed, leaf-within, shared-made, apart-added}
+use Rattle.mdp.specs.CallLaws.{within-more, leaf-listed, leaf-within, shared-made, apart-joined}
 use Rattle.planner.specs.Parts.{variantProduct, variantAdded, freedUp, actionValue, actionTried}
 use Rattle.steps.specs.GivenLaws.{then-then, then-same}
 
@@ -88,9 +88,9 @@ module _ (ar : List ℕ) (good : areArities ar ≡ true) (g : ℕ) (few : g ≤ 
   sums-fit c [] gs sum h = accepted-ok h
   sums-fit c (v ∷ vs) gs sum h =
       accepted-then (regressed ar (v .truths) d) (regressed-tells ar (v .truths) d (truths-good ar c v (gs .0)) (value .listed)) (λ r hr.
-      accepted-then (combined Product Shared ar (v .weight) (leaf g)) (shared-made Product ar (v .weight) (leaf g) (gs .0 .listed) (leaf-listed ar g good few)) (λ w hw.
-      accepted-then (combined Product Shared ar r w) (shared-made Product ar r w (hr .good) (hw .listed)) (λ p hp.
-      accepted-then (combined Sum Apart ar sum p) (apart-added ar sum p (h .listed) (hp .listed)) (λ sum′ ha.
+      accepted-then (combined Product Shared ar (v .weight) (leaf g)) (shared-made Product Shared ar (v .weight) (leaf g) refl (gs .0 .listed) (leaf-listed ar g good few)) (λ w hw.
+      accepted-then (combined Product Shared ar r w) (shared-made Product Shared ar r w refl (hr .good) (hw .listed)) (λ p hp.
+      accepted-then (combined Sum Apart ar sum p) (apart-joined Sum Apart ar sum p refl (h .listed) (hp .listed)) (λ sum′ ha.
       sums-fit c vs (gs .1) sum′ (record {
         listed = ha .listed;
         within = ha .within c (h .within) (hp .within c

@@ -8,7 +8,6 @@ use lib.ListN.{length, set, take, drop, length-append}
 use lib.Seq.{take-at, length-take-le}
 use Rattle.refusal.specs.declared.Refusal.{Refusal}
 use Rattle.refusal.specs.Outcome.{Outcome, ok, refused, andThen, Accepted}
-use Rattle.refusal.specs.OutcomeLaws.{accepted-mono}
 use Rattle.label.specs.Limits.{leafMark}
 use Rattle.label.specs.Labels.{areArities}
 use Rattle.diagram.specs.Sizes.{highestValue, resultWords}
@@ -21,17 +20,18 @@ use Rattle.diagram.specs.ListingOfDiagram.{diagram-listing}
 use Rattle.diagram.specs.ListingValid.{listing-is-valid}
 use Rattle.diagram.specs.Listings.{is-listing-diagram, is-listing-good, good-is-listing}
 use Rattle.apply.specs.declared.Operation.{Operation}
-use Rattle.apply.specs.declared.Operation.the-variants.{Sum, Product}
+use Rattle.apply.specs.declared.Operation.the-variants.{Product}
 use Rattle.apply.specs.declared.Names.{Names}
-use Rattle.apply.specs.declared.Names.the-variants.{Apart, Shared}
+use Rattle.apply.specs.declared.Names.the-variants.{Shared}
 use Rattle.apply.specs.declared.Combined.{Combined}
 use Rattle.apply.specs.declared.Combined.the-variants.{Done, Refused as NotCombined}
+use Rattle.apply.specs.Combination.{doneAs}
 use Rattle.apply.specs.CombinationLaws.{done-accepted}
 use Rattle.regression.specs.RegressCall.{writtenAs}
 use Rattle.combine.specs.Calls.{Callable, Answered}
 use Rattle.mdp.specs.Backup.{combined}
 use Rattle.mdp.specs.StepLaws.{combined-done, combined-refused}
-use Rattle.mdp.specs.CallLaws.{leaf-listed, shared-made, apart-added}
+use Rattle.mdp.specs.CallLaws.{leaf-listed, combined-listed}
 use Rattle.steps.specs.declared.Step.{Step}
 use Rattle.steps.specs.declared.Step.the-variants.{Rows, Refused}
 use Rattle.steps.specs.Steps.{stepAs, toldAs, Result, Given, Wrote, Begun, Operands, Scalable, Folding}
@@ -53,11 +53,11 @@ callable {ar} {x} {y} o = record { first = listing-is-valid ar x (o .first); sec
 
 -- the answer and the words of a combination, as those of a step
 module _ (op : Operation) (names : Names) (ar x y out : List ℕ) where
-  combined-wrote : (r : Combined) (out′ : List ℕ) → Answered op names ar x y out r out′ → Accepted (Good ar) (combined op names ar (diagramOf x) (diagramOf y))
-      → Wrote ar (combined op names ar (diagramOf x) (diagramOf y)) (toldAs r) out out′
+  combined-wrote : (r : Combined) (out′ : List ℕ) → Answered op (doneAs op names ar (diagramOf x) (diagramOf y)) ar x y out r out′
+      → Accepted (Good ar) (combined op names ar (diagramOf x) (diagramOf y)) → Wrote ar (combined op names ar (diagramOf x) (diagramOf y)) (toldAs r) out out′
   combined-wrote (Done n pairs) out′ a g =
       let e = combined-done op names ar (diagramOf x) (diagramOf y) n pairs (sym (a .answer)) in
-      let d = done-accepted op names ar (diagramOf x) (diagramOf y) n pairs (sym (a .answer)) in
+      let d = done-accepted op (doneAs op names ar (diagramOf x) (diagramOf y)) ar (diagramOf x) (diagramOf y) n pairs (sym (a .answer)) in
       record {
         answer = ap Rows (d .rows-are) ∙ ap stepAs (sym e);
         words = a .words ∙ ap (λ (o : Outcome Diagram). writtenAs o out) (sym e);
@@ -71,19 +71,13 @@ module _ (op : Operation) (names : Names) (ar x y out : List ℕ) where
         good = g;
       }
 
-pub shared-wrote : {op : Operation} {ar x y out work : List ℕ} → Operands ar x y out work → {r : Combined} {out′ : List ℕ} → Answered op Shared ar x y out r out′
-    → {q : Step} → q ≡ toldAs r → Wrote ar (combined op Shared ar (diagramOf x) (diagramOf y)) q out out′
-shared-wrote {op} {ar} {x} {y} {out} o {r} {out′} a {q} e =
-    subst (λ (z : Step). Wrote ar (combined op Shared ar (diagramOf x) (diagramOf y)) z out out′) (sym e)
-    (combined-wrote op Shared ar x y out r out′ a
-    (accepted-mono (shared-made op ar (diagramOf x) (diagramOf y) (is-listing-good ar x (o .first)) (is-listing-good ar y (o .second))) (λ d m. m .listed)))
-
-pub apart-wrote : {ar x y out work : List ℕ} → Operands ar x y out work → {r : Combined} {out′ : List ℕ} → Answered Sum Apart ar x y out r out′
-    → {q : Step} → q ≡ toldAs r → Wrote ar (combined Sum Apart ar (diagramOf x) (diagramOf y)) q out out′
-apart-wrote {ar} {x} {y} {out} o {r} {out′} a {q} e =
-    subst (λ (z : Step). Wrote ar (combined Sum Apart ar (diagramOf x) (diagramOf y)) z out out′) (sym e)
-    (combined-wrote Sum Apart ar x y out r out′ a
-    (accepted-mono (apart-added ar (diagramOf x) (diagramOf y) (is-listing-good ar x (o .first)) (is-listing-good ar y (o .second))) (λ d m. m .listed)))
+pub named-wrote : {op : Operation} (names : Names) {ar x y out work : List ℕ} → Operands ar x y out work
+    → {r : Combined} {out′ : List ℕ} → Answered op (doneAs op names ar (diagramOf x) (diagramOf y)) ar x y out r out′
+    → {q : Step} → q ≡ toldAs r → Wrote ar (combined op names ar (diagramOf x) (diagramOf y)) q out out′
+named-wrote {op} names {ar} {x} {y} {out} o {r} {out′} a {q} e =
+    subst (λ (z : Step). Wrote ar (combined op names ar (diagramOf x) (diagramOf y)) z out out′) (sym e)
+    (combined-wrote op names ar x y out r out′ a
+    (combined-listed op names ar (diagramOf x) (diagramOf y) (is-listing-good ar x (o .first)) (is-listing-good ar y (o .second))))
 
 -- ===== A leaf as a listing =====
 

@@ -1,5 +1,6 @@
 // The calls that backups and sums of weights are made of, each with its result in a buffer.
 use apply::Combined;
+use apply::Names;
 use apply::Operation;
 use label::Label;
 use refusal::Refusal;
@@ -30,7 +31,7 @@ fn told(r: Combined) -> Step
     }
 }
 
-// Combines two listings, names shared.
+// Combines two listings, names shared; a max is done apart if either has a minimum variable.
 pub fn shared(
     op: Operation,
     arities: &[u64],
@@ -42,7 +43,7 @@ pub fn shared(
     requires { ⌜ Operands (now arities) (now x) (now y) (now out) (now work) ⌝ }
     ensures { λ r. ⌜ Wrote (now (arities .entry)) (combined op Shared (now (arities .entry)) (diagramOf (now (x .entry))) (diagramOf (now (y .entry)))) r (now (out .entry)) (now (out .exit)) ⌝ }
 {
-    told(combination::combine_shared(op, arities, x, y, out, work))
+    told(combination::combine_named(op, Names::Shared, arities, x, y, out, work))
 }
 
 // Adds two listings, names apart.

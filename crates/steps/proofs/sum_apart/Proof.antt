@@ -1,4 +1,5 @@
-use Rattle.steps.specs.GivenLaws.{callable, apart-wrote}
+use Rattle.steps.specs.GivenLaws.{callable, named-wrote}
+use Rattle.apply.specs.declared.Names.the-variants.{Apart}
 use borrow.Author.Needs.{needs}
 use Rattle.steps.proofs.sum_apart.Statement.{statement}
 use Rattle.steps.proofs.sum_apart.Tie as tie
@@ -10,7 +11,7 @@ returns : tie.Need-returns
 returns c =
     let at-combine-apart = c .before .before .before .before .before in
     let entry = at-combine-apart .before .before .before .before .before .before .before .before in
-    apart-wrote (entry .pre) (at-combine-apart .combine-apart .ensures) (c .told .ensures)
+    named-wrote Apart (entry .pre) (at-combine-apart .combine-apart .ensures) (c .told .ensures)
 
 pub sum-apart-spec : {M : Type 1} → statement M
 sum-apart-spec =
