@@ -12,6 +12,8 @@ ghost use lib.ListN.{length, drop};
 ghost use Rattle.refusal.specs.Outcome.{ok, andThen};
 ghost use Rattle.label.specs.Limits.{parameterCount};
 ghost use Rattle.diagram.specs.Words.{isListing};
+ghost use Rattle.diagram.specs.Listing.{diagramOf};
+ghost use Rattle.diagram.specs.Variables.{isPlain};
 ghost use Rattle.model.specs.Layout.{Laid};
 ghost use Rattle.planner.specs.Tasks.{ActionTask};
 ghost use Rattle.valuing.specs.Walks.{isFew, Prepared};
@@ -106,6 +108,7 @@ fn try_binding(
     facts: &[u64],
     index: &[u16],
     few: bool,
+    plain: bool,
     action: usize,
     count: usize,
     i: u64,
@@ -115,6 +118,7 @@ fn try_binding(
     requires { ⌜ few ≡ isFew (now arities) n (now words) ⌝ }
     requires { ⌜ Tupled n count ⌝ }
     requires { ⌜ Leading l ⌝ }
+    requires { ⌜ plain ≡ isPlain (now arities) (diagramOf (now words)) ⌝ }
     ensures { λ r. ⌜ Rates n (bindingLent (now (arities .entry)) (now (words .entry)) n (now (constants .entry)) (now (facts .entry)) action count i l) r ⌝ }
 {
     let best = l.best;
@@ -130,6 +134,7 @@ fn try_binding(
         index,
         &objects[..count],
         few,
+        plain,
         best,
     );
     taken(v, l, action, count, i)
@@ -157,6 +162,7 @@ fn try_bindings(
     facts: &[u64],
     index: &[u16],
     few: bool,
+    plain: bool,
     action: usize,
     count: usize,
     total: u64,
@@ -167,6 +173,7 @@ fn try_bindings(
     requires { ⌜ Tupled n count ⌝ }
     requires { ⌜ total ≡ n ^ count ⌝ }
     requires { ⌜ Leading first ⌝ }
+    requires { ⌜ plain ≡ isPlain (now arities) (diagramOf (now words)) ⌝ }
     ensures { λ r. ⌜ Rates n (bindingsLent (now (arities .entry)) (now (words .entry)) n (now (constants .entry)) (now (facts .entry)) action count first) r ⌝ }
 {
     let mut l = first;
@@ -185,6 +192,7 @@ fn try_bindings(
             facts,
             index,
             few,
+            plain,
             action,
             count,
             i,
@@ -220,6 +228,7 @@ fn try_sum(
     let mut high = [0u64; diagram::ROWS];
     valuing::tops(words, &mut high);
     let few = valuing::is_few(arities, words, n);
+    let plain = valuing::is_plain(arities, words);
     let total = tuple_count(n, count);
     try_bindings(
         arities,
@@ -230,6 +239,7 @@ fn try_sum(
         facts,
         index,
         few,
+        plain,
         action,
         count,
         total,

@@ -14,6 +14,8 @@ use Rattle.refusal.specs.declared.Refusal.the-variants.{Ground as TooManyGround
 use Rattle.refusal.specs.Outcome.{Outcome, ok, refused}
 use Rattle.diagram.specs.Sizes.{mostRows}
 use Rattle.diagram.specs.Words.{rowCount}
+use Rattle.diagram.specs.Listing.{diagramOf}
+use Rattle.diagram.specs.Variables.{isPlain}
 use Rattle.diagram.specs.ListingValid.{listing-is-valid}
 use Rattle.state.specs.declared.Valued.{Valued}
 use Rattle.state.specs.declared.Valued.the-variants.{Value, Refused}
@@ -40,9 +42,9 @@ use Rattle.count_states.proofs.TableLaws.{entries-words}
 use Rattle.count_states.proofs.EntryLaws.{entries-step, entries-count, entries-enterable}
 
 -- ===== value_facts =====
-pub facts-prepared : {ar ws high : List ℕ} {few : Bool} {n : ℕ} {constants facts index : List ℕ} → Valuing ar ws high few n → isState ar n constants facts ≡ true
+pub facts-prepared : {ar ws high : List ℕ} {few plain : Bool} {n : ℕ} {constants facts index : List ℕ} → Valuing ar ws high few plain n → isState ar n constants facts ≡ true
     → Indexed ar facts index (indexedCount facts) → Prepared ar ws high n constants facts index
-facts-prepared {ar} {ws} {high} {few} {n} {constants} {facts} {index} v s i = prepared ar ws high n constants facts index (v .listed) s (v .places) (v .tops) i
+facts-prepared {ar} {ws} {high} {few} {plain} {n} {constants} {facts} {index} v s i = prepared ar ws high n constants facts index (v .listed) s (v .places) (v .tops) i
 
 -- ===== value_choice =====
 pub choices-choosing : {ar : List ℕ} {n : ℕ} {constants rows : List ℕ} {g : ℕ} {facts : List ℕ} → Choices ar n constants rows g facts → Choosing rows facts g
@@ -197,9 +199,9 @@ module _ {ar : List ℕ} {count n : ℕ} {constants ws table : List ℕ} (h : Co
   pub high-room : (m : ℕ) → mostRows ≤ m → Topping ws (replicate m 0)
   high-room m o = topping-room ar ws (replicate m 0) (h .listed) (omega (arith, length-replicate {A = ℕ} m 0))
 
-  pub count-valuing : {high : List ℕ} {few : Bool} (m : ℕ) → mostRows ≤ m → length high ≡ length (replicate {A = ℕ} m 0) → Tops ws high (rowCount ws) → few ≡ isFew ar n ws
-      → Valuing ar ws high few n
-  count-valuing m o s t f = record { listed = h .listed; places = omega (arith, length-replicate {A = ℕ} m 0); tops = t; fits = f }
+  pub count-valuing : {high : List ℕ} {few plain : Bool} (m : ℕ) → mostRows ≤ m → length high ≡ length (replicate {A = ℕ} m 0) → Tops ws high (rowCount ws) → few ≡ isFew ar n ws
+      → plain ≡ isPlain ar (diagramOf ws) → Valuing ar ws high few plain n
+  count-valuing m o s t f k = record { listed = h .listed; places = omega (arith, length-replicate {A = ℕ} m 0); tops = t; fits = f; kinds = k }
 
   module _ {g : ℕ} (e : g ≡ groundCount ar count n) where
     pub count-many : mostGround < g → Counts (spread ar count n constants ws) (Counted.Refused TooManyGround) table

@@ -8,6 +8,8 @@ use Rattle.refusal.specs.declared.Refusal.the-variants.{Valuations}
 use Rattle.refusal.specs.Outcome.{Outcome, ok, refused}
 use Rattle.diagram.specs.Sizes.{mostRows}
 use Rattle.diagram.specs.Words.{rowCount, isListing}
+use Rattle.diagram.specs.Listing.{diagramOf}
+use Rattle.diagram.specs.Variables.{isPlain}
 use Rattle.state.specs.Lent.{factWords, someBelow, stateOf, isState}
 use Rattle.elimination.specs.Answer.{isTooLarge}
 use Rattle.spread.specs.Ground.{mostGround}
@@ -17,12 +19,13 @@ use Rattle.valuing.specs.Walks.{boundNumber, isFew}
 use Rattle.count_states.specs.Counted.{tableWords}
 use Rattle.count_states.specs.Facts.{picked}
 
--- a listing with its rows' highest leaves, and whether the first way of working may be taken
-pub record Valuing (ar ws high : List ℕ) (few : Bool) (n : ℕ) : Type 0 where
+-- a listing with its rows' highest leaves, whether the first way of working may be taken, and whether there is no minimum variable
+pub record Valuing (ar ws high : List ℕ) (few plain : Bool) (n : ℕ) : Type 0 where
   pub listed : isListing ar ws ≡ true
   pub places : mostRows ≤ length high
   pub tops : Tops ws high (rowCount ws)
   pub fits : few ≡ isFew ar n ws
+  pub kinds : plain ≡ isPlain ar (diagramOf ws)
 
 -- every choice of the first g rows is a state
 pub record Choices (ar : List ℕ) (n : ℕ) (constants rows : List ℕ) (g : ℕ) (facts : List ℕ) : Type 0 where

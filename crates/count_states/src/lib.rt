@@ -217,18 +217,19 @@ fn enter(table: &mut [u64], count: usize, v: u64) -> usize
     count + 1
 }
 
-// One more than the value in the state of the facts; 15 where both ways of working are too large. The index is clean before and after.
+// One more than the value in the state of the facts; 15 where no way of working may be taken. The index is clean before and after.
 fn value_facts(
     arities: &[u64],
     words: &[u64],
     high: &[u64],
     few: bool,
+    plain: bool,
     n: u64,
     constants: &[u64],
     facts: &[u64],
     index: &mut [u16],
 ) -> Valued
-    requires { ⌜ Valuing (now arities) (now words) (now high) few n ⌝ }
+    requires { ⌜ Valuing (now arities) (now words) (now high) few plain n ⌝ }
     requires { ⌜ isState (now arities) n (now constants) (now facts) ≡ true ⌝ }
     requires { ⌜ Clean (now index) ⌝ }
     ensures { λ r. ⌜ r ≡ climbed 0 (boundAnswer (now (arities .entry)) (now (words .entry)) n (now (constants .entry)) (now (facts .entry)) []) ⌝ }
@@ -245,6 +246,7 @@ fn value_facts(
         index,
         &constants[..0],
         few,
+        plain,
         0,
     );
     valuing::clear_index(arities, facts, index);
@@ -257,6 +259,7 @@ fn value_choice(
     words: &[u64],
     high: &[u64],
     few: bool,
+    plain: bool,
     n: u64,
     constants: &[u64],
     rows: &[u64],
@@ -265,14 +268,24 @@ fn value_choice(
     facts: &mut [u64],
     index: &mut [u16],
 ) -> Valued
-    requires { ⌜ Valuing (now arities) (now words) (now high) few n ⌝ }
+    requires { ⌜ Valuing (now arities) (now words) (now high) few plain n ⌝ }
     requires { ⌜ Choices (now arities) n (now constants) (now rows) g (now facts) ⌝ }
     requires { ⌜ Clean (now index) ⌝ }
     ensures { λ r. ⌜ r ≡ climbed 0 (boundAnswer (now (arities .entry)) (now (words .entry)) n (now (constants .entry)) (picked (now (rows .entry)) g c) []) ⌝ }
     ensures { λ _. ⌜ Clean (now (index .exit)) ⌝ }
 {
     let m = choose(rows, g, c, facts);
-    value_facts(arities, words, high, few, n, constants, &facts[..m], index)
+    value_facts(
+        arities,
+        words,
+        high,
+        few,
+        plain,
+        n,
+        constants,
+        &facts[..m],
+        index,
+    )
 }
 
 // Enters the value of each choice.
@@ -281,6 +294,7 @@ fn count_choices(
     words: &[u64],
     high: &[u64],
     few: bool,
+    plain: bool,
     n: u64,
     constants: &[u64],
     rows: &[u64],
@@ -289,7 +303,7 @@ fn count_choices(
     index: &mut [u16],
     table: &mut [u64],
 ) -> Counted
-    requires { ⌜ Valuing (now arities) (now words) (now high) few n ⌝ }
+    requires { ⌜ Valuing (now arities) (now words) (now high) few plain n ⌝ }
     requires { ⌜ Choices (now arities) n (now constants) (now rows) g (now facts) ⌝ }
     requires { ⌜ Clean (now index) ⌝ }
     requires { ⌜ Spreading (now arities) (now words) n (now constants) (now rows) g (now table) ⌝ }
@@ -304,6 +318,7 @@ fn count_choices(
             words,
             high,
             few,
+            plain,
             n,
             constants,
             rows,
@@ -341,6 +356,7 @@ pub fn count(
     let mut high = [0u64; diagram::ROWS];
     valuing::tops(words, &mut high);
     let few = valuing::is_few(arities, words, n);
+    let plain = valuing::is_plain(arities, words);
     let mut facts = [0u64; GROUND * FACT_WORDS];
     let mut index = [0u16; valuing::INDEX_WORDS];
     count_choices(
@@ -348,6 +364,7 @@ pub fn count(
         words,
         &high,
         few,
+        plain,
         n,
         constants,
         &rows,

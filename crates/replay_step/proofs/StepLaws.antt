@@ -34,7 +34,7 @@ use Rattle.replay_step.specs.declared.Stepped.{Stepped}
 use Rattle.replay_step.specs.declared.Stepped.the-variants.{Done, Refused}
 use Rattle.replay_step.specs.Stepped.{lentReplay, lentDid, lentStep, StepTask, Steps}
 use Rattle.replay_step.specs.Inside.{WeighingAt, rewardBefore, bothAdded, rewardsMet, talliedAs, toldAs, movedAs, Moves}
-use Rattle.replay_step.proofs.WeightLaws.{weight-few, weight-number}
+use Rattle.replay_step.proofs.WeightLaws.{weight-few, weight-plain, weight-number}
 
 -- ===== The checks, in their order =====
 
@@ -155,6 +155,7 @@ module _ {ar listings table : List ℕ} {h : Head} {a v n : ℕ} {constants fact
       lent = t .lent;
       objects = t .objects;
       few = weight-few (good-action .few) good-variant n (weightWords listings table (variantPlace a v)) weight-is;
+      plain = weight-plain (good-action .few) good-variant (weightWords listings table (variantPlace a v)) weight-is;
     };
   }
 

@@ -1,21 +1,21 @@
--- A weight has no variable: its value is not refused, and its highest leaf is the leaf that it has.
-use mathlib.Core.Path.{_≡_, refl, sym, ap, subst, _∙_}
-use mathlib.Core.Bool.{Bool, true, false, _&&_, cond}
+-- A weight has no variable of either kind: its value is not refused, and its highest leaf is the leaf that it has.
+use mathlib.Core.Path.{_≡_, refl, sym, ap, ap₂, subst, _∙_}
+use mathlib.Core.Bool.{Bool, true, false, not, _&&_, _||_, cond}
 use mathlib.Core.List.{List, []}
 use Prim.Native.Nat.{ℕ, zero, suc, _+_, _^_, _≤_, _<_}
 use native.Mathlib.Omega.{arith}
 use native.Mathlib.Nat.{pow-zero}
 use lib.ListN.{length, replicate, length-replicate}
 use lib.Dec.{eqb, ltb}
-use borrow.Author.Tests.{le-ltb, ne-eqb, not-true}
+use borrow.Author.Tests.{le-ltb, eq-eqb, ne-eqb, not-true}
 use Rattle.basics.specs.Tests.{Flag, isTrue, isFalse, flag}
-use Rattle.label.specs.Limits.{firstParameter, parameterCount, firstVariable, variableCount}
+use Rattle.label.specs.Limits.{firstParameter, parameterCount, firstVariable, variableCount, firstMinimum, minimumCount}
 use Rattle.refusal.specs.declared.Refusal.{Refusal}
 use Rattle.refusal.specs.declared.Refusal.the-variants.{Valuations}
 use Rattle.diagram.specs.Sizes.{mostRows}
 use Rattle.diagram.specs.Diagram.{Diagram}
 use Rattle.diagram.specs.Listing.{diagramOf}
-use Rattle.diagram.specs.Variables.{occurs, occurring, variables}
+use Rattle.diagram.specs.Variables.{occurs, occurring, variables, minimums, isPlain}
 use Rattle.state.specs.declared.Valued.{Valued}
 use Rattle.state.specs.declared.Valued.the-variants.{Value, Refused}
 use Rattle.state.specs.Lent.{stateOf}
@@ -43,19 +43,25 @@ none-occurring ar d t zero h = refl
 none-occurring ar d t (suc n) h = rw (h t (omega arith)) (none-occurring ar d (suc t) n (λ u i. h u (omega arith)))
 
 module _ {ar : List ℕ} {c : ℕ} {v : Variant} (few : c ≤ parameterCount) (g : GoodVariant ar c v) where
-  weight-none : variables ar (v .weight) ≡ []
-  unfolding variables
-  weight-none = none-occurring ar (v .weight) firstVariable variableCount (λ t h. quiet t h (flag (occurs ar t (v .weight))))
+  weight-none : (t m : ℕ) → firstVariable ≤ t → occurring ar (v .weight) t m ≡ []
+  weight-none t m l = none-occurring ar (v .weight) t m (λ u h. quiet u (omega arith) (flag (occurs ar u (v .weight))))
     where
       quiet : (t : ℕ) → firstVariable ≤ t → Flag (occurs ar t (v .weight)) → occurs ar t (v .weight) ≡ false
       quiet t h (isFalse e) = e
       quiet t h (isTrue e) = let z = terms-occur (λ x. x < firstParameter + c) ar t (v .weight) (g .weight) e in absurd (omega arith)
 
   pub weight-few : (n : ℕ) (ws : List ℕ) → diagramOf ws ≡ v .weight → isFew ar n ws ≡ true
-  unfolding isFew valuations
+  unfolding isFew valuations variables minimums
   weight-few n ws q =
-      let e : n ^ length (variables ar (diagramOf ws)) ≡ 1 = ap (λ (d : Diagram). n ^ length (variables ar d)) q ∙ ap (λ (l : List ℕ). n ^ length l) weight-none ∙ pow-zero n in
-      rw (le-ltb mostValuations (n ^ length (variables ar (diagramOf ws))) (omega (arith, e)))
+      let e : n ^ (length (variables ar (diagramOf ws)) + length (minimums ar (diagramOf ws))) ≡ 1
+      = ap (λ (d : Diagram). n ^ (length (variables ar d) + length (minimums ar d))) q
+      ∙ ap₂ (λ (us vs : List ℕ). n ^ (length us + length vs)) (weight-none firstVariable variableCount (omega arith)) (weight-none firstMinimum minimumCount (omega arith)) ∙ pow-zero n in
+      rw (le-ltb mostValuations (n ^ (length (variables ar (diagramOf ws)) + length (minimums ar (diagramOf ws)))) (omega (arith, e)))
+
+  pub weight-plain : (ws : List ℕ) → diagramOf ws ≡ v .weight → isPlain ar (diagramOf ws) ≡ true
+  unfolding isPlain minimums
+  weight-plain ws q =
+      eq-eqb (length (minimums ar (diagramOf ws))) 0 (ap (λ (d : Diagram). length (minimums ar d)) q ∙ ap length (weight-none firstMinimum minimumCount (omega arith)))
 
   pub weight-number : (s : State) → Good s → (os : List ℕ) → Bound s os → number s os (meaning ar (v .weight)) ≡ weightIn ar s os v
   unfolding weightIn
@@ -81,7 +87,7 @@ module _ (ar ws : List ℕ) (n : ℕ) (constants facts os : List ℕ) (few : isF
   unfolding boundAnswer isTooLarge isFew stateOf
   weight-answer =
       let e = not-true (ltb mostValuations (valuations ar n (diagramOf ws))) few in
-      ap (λ (b : Bool). climbed 0 (cond (b && ltb mostEntries (allEntries (stateOf ar n constants facts) os ar ws)) (Refused Valuations)
+      ap (λ (b : Bool). climbed 0 (cond (b && (not (isPlain ar (diagramOf ws)) || ltb mostEntries (allEntries (stateOf ar n constants facts) os ar ws))) (Refused Valuations)
       (Value (boundNumber ar ws n constants facts os)))) e ∙ climbed-first (boundNumber ar ws n constants facts os)
 
   module _ {r : Valued} (q : r ≡ climbed 0 (boundAnswer ar ws n constants facts os)) where

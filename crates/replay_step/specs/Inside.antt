@@ -8,6 +8,8 @@ use lib.Dec.{eqb, ltb}
 use Rattle.refusal.specs.declared.Refusal.the-variants.{Crowded, Tally}
 use Rattle.diagram.specs.Sizes.{highestValue}
 use Rattle.diagram.specs.Words.{isListing}
+use Rattle.diagram.specs.Listing.{diagramOf}
+use Rattle.diagram.specs.Variables.{isPlain}
 use Rattle.state.specs.Lent.{factWords, factCount, isState, allBelow, mostFacts}
 use Rattle.state.specs.declared.Valued.{Valued}
 use Rattle.state.specs.declared.Valued.the-variants.{Value, Refused as Unvalued}
@@ -16,12 +18,13 @@ use Rattle.valuing.specs.Walks.{boundAnswer, isFew}
 use Rattle.replay_step.specs.declared.Stepped.{Stepped}
 use Rattle.replay_step.specs.declared.Stepped.the-variants.{Done, Refused}
 
--- a weight's listing, which has no variable, a state, and objects for the parameters
+-- a weight's listing, which has no variable of either kind, a state, and objects for the parameters
 pub record Weighing (ar ws : List ℕ) (n : ℕ) (constants facts os : List ℕ) : Type 0 where
   pub listed : isListing ar ws ≡ true
   pub lent : isState ar n constants facts ≡ true
   pub objects : allBelow n os ≡ true
   pub few : isFew ar n ws ≡ true
+  pub plain : isPlain ar (diagramOf ws) ≡ true
 
 -- the weight of the variant at a place of the table
 pub record WeighingAt (ar listings table : List ℕ) (place n : ℕ) (constants facts os : List ℕ) : Type 0 where

@@ -24,7 +24,7 @@ pub enum Stepped {
     Refused(Refusal),
 }
 
-// Whether a weight is 0 in the state, with objects for the parameters. It has no variable: 15 is not met.
+// Whether a weight is 0 in the state, with objects for the parameters. It has no variable of either kind: 15 is not met.
 fn is_weightless(
     arities: &[u64],
     words: &[u64],
@@ -49,6 +49,7 @@ fn is_weightless(
         facts,
         &index,
         objects,
+        true,
         true,
         0,
     );

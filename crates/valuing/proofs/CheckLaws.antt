@@ -1,8 +1,8 @@
 -- Laws of the checks before valuing: objects within range, terms counted, valuations within the limit.
-use mathlib.Core.Path.{_≡_, refl, sym, ap, _∙_}
+use mathlib.Core.Path.{_≡_, refl, sym, ap, ap₂, _∙_}
 use mathlib.Core.Bool.{Bool, true, false, not, cond}
 use mathlib.Core.List.{List, []}
-use Prim.Native.Nat.{ℕ, suc, _+_, _-_, _*_, _/_, _^_, _≤_, _<_, min}
+use Prim.Native.Nat.{ℕ, zero, suc, _+_, _-_, _*_, _/_, _^_, _≤_, _<_, min}
 use native.Mathlib.Nat.{pow-zero, pow-suc, pow-le-pow-right, mul-le-mul}
 use native.Mathlib.Numerals.{add-one}
 use native.Mathlib.Omega.{arith}
@@ -11,18 +11,18 @@ use lib.ListN.{length, getD, take, length-take}
 use lib.Seq.{getD-take}
 use lib.Dec.{eqb, ltb, leb}
 use Rattle.basics.specs.Tests.{Cmp, below, equal, above, cmp, and-left}
-use Rattle.label.specs.Limits.{constantCount, firstParameter, parameterCount, mostPlaces}
+use Rattle.label.specs.Limits.{constantCount, firstParameter, parameterCount, firstVariable, variableCount, firstMinimum, minimumCount, mostPlaces}
 use Rattle.diagram.specs.Words.{everyBelow, isListing}
 use Rattle.diagram.specs.WordLaws.{every-below, below-every}
 use Rattle.diagram.specs.RowLaws.{same-tests}
 use Rattle.diagram.specs.Listing.{diagramOf}
-use Rattle.diagram.specs.Variables.{variables}
+use Rattle.diagram.specs.Variables.{variables, minimums, isPlain}
 use Rattle.diagram.specs.Validity.{Valid}
 use Rattle.diagram.specs.ListingValid.{listing-is-valid}
 use Rattle.state.specs.Lent.{factCount, factWords, predicateAt, objectsAt, allBelow, namesBelow, constantsBelow, stateOf, isState}
 use Rattle.refusal.specs.declared.Refusal.the-variants.{Range, Unbound, Listing}
-use Rattle.listing.specs.Used.{Used, setFrom, markedVariables}
-use Rattle.listing.specs.UsedLaws.{set-occurring, marked-variables}
+use Rattle.listing.specs.Used.{Used, setFrom, markedVariables, markedMinimums}
+use Rattle.listing.specs.UsedLaws.{set-occurring, marked-variables, marked-minimums, marked-plain}
 use Rattle.state.specs.declared.Valued.{Valued}
 use Rattle.state.specs.declared.Valued.the-variants.{Value, Refused}
 use Rattle.state.specs.ValueCall.{mostValuations, parameters, valuations}
@@ -228,21 +228,49 @@ module _ (ar ws : List ℕ) (n : ℕ) (constants facts : List ℕ) where
       unfolding valueAnswer answerBy boundAnswer
       value-4 z o = rw (sym e ∙ not-false b f, sym g ∙ not-false c h, has-parameters ∙ z) o
 
--- few valuations, by the marks
-pub few-marks : (ar ws : List ℕ) (n : ℕ) {marks : List ℕ} {v : ℕ} {q : Bool} → Used ar (diagramOf ws) marks → v ≡ markedVariables marks → q ≡ leb (n ^ v) mostValuations
-    → q ≡ isFew ar n ws
-unfolding isFew valuations
-few-marks ar ws n {marks} {v} {q} u j w =
-    w ∙ ap (λ x. leb x mostValuations) (ap (λ x. n ^ x) (j ∙ marked-variables ar (diagramOf ws) marks u))
-    ∙ le-not-lt (n ^ length (variables ar (diagramOf ws))) mostValuations
+le-not-lt : (a b : ℕ) → leb a b ≡ not (ltb b a)
+le-not-lt a b = go (cmp b a)
   where
-    le-not-lt : (a b : ℕ) → leb a b ≡ not (ltb b a)
-    le-not-lt a b = go (cmp b a)
-      where
-        go : Cmp b a → leb a b ≡ not (ltb b a)
-        go (below c) = rw (lt-leb a b c, lt-ltb b a c)
-        go (equal c) = rw (le-leb a b (omega arith), le-ltb b a (omega arith))
-        go (above c) = rw (le-leb a b (omega arith), le-ltb b a (omega arith))
+    go : Cmp b a → leb a b ≡ not (ltb b a)
+    go (below c) = rw (lt-leb a b c, lt-ltb b a c)
+    go (equal c) = rw (le-leb a b (omega arith), le-ltb b a (omega arith))
+    go (above c) = rw (le-leb a b (omega arith), le-ltb b a (omega arith))
+
+-- there are no more marks than terms
+set-most : (ms : List ℕ) (t n : ℕ) → setFrom ms t n ≤ n
+unfolding setFrom
+set-most ms t zero = omega arith
+set-most ms t (suc n) = go (eqb (getD ms t 0) 0) (set-most ms (suc t) n)
+  where
+    go : (b : Bool) → setFrom ms (suc t) n ≤ n → cond b 0 1 + setFrom ms (suc t) n ≤ suc n
+    go true h = omega arith
+    go false h = omega arith
+
+variables-most : (ms : List ℕ) → markedVariables ms ≤ variableCount
+unfolding markedVariables
+variables-most ms = set-most ms firstVariable variableCount
+
+minimums-most : (ms : List ℕ) → markedMinimums ms ≤ minimumCount
+unfolding markedMinimums
+minimums-most ms = set-most ms firstMinimum minimumCount
+
+module _ (marks : List ℕ) {a b : ℕ} (e : a ≡ markedVariables marks) (f : b ≡ markedMinimums marks) where
+  pub both-room : a + b < 18446744073709551616
+  both-room = omega (arith, variables-most marks, minimums-most marks)
+
+  pub both-few : (n : ℕ) {q : Bool} → q ≡ leb (n ^ (a + b)) mostValuations → q ≡ leb (n ^ (markedVariables marks + markedMinimums marks)) mostValuations
+  both-few n w = w ∙ ap₂ (λ x y. leb (n ^ (x + y)) mostValuations) e f
+
+-- few valuations, and no minimum variable, by the marks
+module _ (ar ws : List ℕ) {marks : List ℕ} (u : Used ar (diagramOf ws) marks) where
+  pub plain-marks : {q : Bool} → q ≡ eqb (markedMinimums marks) 0 → q ≡ isPlain ar (diagramOf ws)
+  plain-marks w = w ∙ marked-plain ar (diagramOf ws) marks u
+
+  pub few-marks : (n : ℕ) {q : Bool} → q ≡ leb (n ^ (markedVariables marks + markedMinimums marks)) mostValuations → q ≡ isFew ar n ws
+  unfolding isFew valuations
+  few-marks n w =
+      w ∙ ap₂ (λ x y. leb (n ^ (x + y)) mostValuations) (marked-variables ar (diagramOf ws) marks u) (marked-minimums ar (diagramOf ws) marks u)
+      ∙ le-not-lt (n ^ (length (variables ar (diagramOf ws)) + length (minimums ar (diagramOf ws)))) mostValuations
 
 -- the two ways of working
 module _ (ar ws : List ℕ) (n : ℕ) (constants facts os : List ℕ) {few : Bool} (e : few ≡ isFew ar n ws) where

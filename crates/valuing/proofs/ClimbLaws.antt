@@ -1,6 +1,6 @@
 -- Laws of the best so far after one answer more, in the words of the code.
-use mathlib.Core.Path.{_≡_, refl, sym, ap, subst, _∙_}
-use mathlib.Core.Bool.{Bool, true, false, cond}
+use mathlib.Core.Path.{_≡_, refl, sym, ap, _∙_}
+use mathlib.Core.Bool.{Bool, true, false, not, _||_, cond}
 use mathlib.Core.List.{List}
 use Prim.Native.Nat.{ℕ, suc, _+_, _≤_, _<_, max}
 use native.Mathlib.Omega.{arith}
@@ -8,21 +8,22 @@ use lib.Dec.{ltb}
 use Rattle.refusal.specs.declared.Refusal.{Refusal}
 use Rattle.refusal.specs.declared.Refusal.the-variants.{Valuations}
 use Rattle.diagram.specs.Sizes.{highestValue}
-use Rattle.diagram.specs.Diagram.{Diagram, leaf, branch, eval, relabel}
 use Rattle.diagram.specs.Words.{isListing}
-use Rattle.diagram.specs.Listing.{diagramOf, Fine}
-use Rattle.diagram.specs.DiagramOfListing.{good-diagram}
+use Rattle.diagram.specs.Listing.{diagramOf}
+use Rattle.diagram.specs.Variables.{isPlain}
 use Rattle.diagram.specs.ListingValid.{listing-is-valid}
 use Rattle.state.specs.declared.Valued.{Valued}
 use Rattle.state.specs.declared.Valued.the-variants.{Value, Refused}
-use Rattle.state.specs.State.{State, atomOf, meaning, holds, value}
+use Rattle.state.specs.State.{meaning}
 use Rattle.minimum.specs.NumberLaws.{number-is, number-attained}
 use Rattle.state.specs.Lent.{allBelow, stateOf, isState}
 use Rattle.elimination.specs.Elimination.{mostEntries, allEntries}
 use Rattle.elimination.specs.AnswerLaws.{lent-good}
+use Rattle.valuing.specs.Rising.{leafOf}
 use Rattle.valuing.specs.Tables.{tablesAnswer, Liftable}
 use Rattle.valuing.specs.Walks.{boundNumber, boundAnswer, climbed, isFew}
-use Rattle.valuing.proofs.StartLaws.{lent-bound}
+use Rattle.valuing.proofs.StartLaws.{lent-bound, lent-value}
+use Rattle.valuing.proofs.RisingLaws.{leaf-most}
 use Rattle.valuing.proofs.CheckLaws.{bound-few, bound-many}
 
 -- ===== One answer more =====
@@ -41,27 +42,18 @@ module _ {r : Valued} (best : ℕ) where
     lifted-new h = ap Value (omega arith) ∙ sym (ap (climbed best) e)
 
 -- ===== A listing's values have room for one more =====
-value-most : (s : State) (ar : List ℕ) (θ : ℕ → ℕ) (d : Diagram) → Fine ar d → value s (meaning ar d) θ ≤ highestValue
-unfolding value meaning relabel eval
-value-most s ar θ (leaf v) f = f
-value-most s ar θ (branch l t e) f = go (holds s θ (atomOf ar l)) (value-most s ar θ t (f .1)) (value-most s ar θ e (f .2))
-  where
-    go : (b : Bool) {x y : ℕ} → x ≤ highestValue → y ≤ highestValue → cond b x y ≤ highestValue
-    go true p q = p
-    go false p q = q
-
 module _ (ar ws : List ℕ) (n : ℕ) (constants facts os : List ℕ) (listed : isListing ar ws ≡ true) (lent : isState ar n constants facts ≡ true)
     (below : allBelow n os ≡ true) where
   number-most : boundNumber ar ws n constants facts os ≤ highestValue
+  unfolding leafOf
   number-most =
       let h = number-attained (meaning ar (diagramOf ws))
       (number-is (stateOf ar n constants facts) os (lent-good ar n constants facts lent) (lent-bound ar n constants facts os lent below) (meaning ar (diagramOf ws))) in
-      subst (λ x. x ≤ highestValue) (h .2)
-      (value-most (stateOf ar n constants facts) ar (h .0) (diagramOf ws) (good-diagram ar ws (listing-is-valid ar ws listed) .fine))
+      omega (arith, h .2, lent-value ar n constants facts (h .0) (diagramOf ws), leaf-most ar facts ws (listing-is-valid ar ws listed) (h .0))
 
   pub tables-liftable : {r : Valued} → r ≡ tablesAnswer ar ws n constants facts os → Liftable r
   unfolding tablesAnswer
-  tables-liftable {r} e = record { few = λ v q. go v (ltb mostEntries (allEntries (stateOf ar n constants facts) os ar ws)) (sym e ∙ q) }
+  tables-liftable {r} e = record { few = λ v q. go v (not (isPlain ar (diagramOf ws)) || ltb mostEntries (allEntries (stateOf ar n constants facts) os ar ws)) (sym e ∙ q) }
     where
       go : (v : ℕ) (b : Bool) → cond b (Refused Valuations) (Value (boundNumber ar ws n constants facts os)) ≡ Value v → v ≤ highestValue
       go v true q = let z : _≡_ {A = ℕ} 0 1 = cc in absurd (omega arith)

@@ -3,5 +3,6 @@ pub mod FactLaws
 pub mod SearchLaws
 pub mod StartLaws
 pub mod CheckLaws
+mod RisingLaws
 mod TablesLaws
 mod ClimbLaws

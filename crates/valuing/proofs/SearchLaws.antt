@@ -3,7 +3,6 @@ use mathlib.Core.Path.{_≡_, refl, sym, ap, ap₂, subst, _∙_}
 use mathlib.Core.Bool.{Bool, true, false, _&&_, cond}
 use mathlib.Core.List.{List, [], _∷_, map}
 use Prim.Native.Nat.{ℕ, zero, suc, _+_, _-_, _*_, _≤_, _<_}
-use native.Mathlib.Numerals.{add-one}
 use native.Mathlib.Omega.{arith}
 use borrow.Author.Tests.{eqb-true, eqb-false, eq-eqb, ne-eqb}
 use lib.ListN.{length, getD, set, take, length-set, length-map, List·getD-eq-default}
@@ -11,24 +10,24 @@ use lib.Seq.{getD-set-same, getD-set-other, set-getD, set-set, length-take-le, g
 use lib.Dec.{eqb}
 use Rattle.basics.specs.Tests.{Cmp, below, equal, above, cmp, Flag, isTrue, isFalse, flag, and-left, and-right}
 use Rattle.label.specs.Limits.{termEnd, leafMark, predicateCount, mostPlaces, equality, equalityArity}
-use Rattle.label.specs.Labels.{predicateOf, placeAt, unpacked, placesOf, termsOf}
+use Rattle.label.specs.Labels.{areArities, predicateOf, placeAt, unpacked, placesOf, termsOf}
 use Rattle.label.specs.LabelLaws.{label-fits, place-of, place-end}
 use Rattle.label.specs.ArityLaws.{arity-most, arity-two, arity-words, terms-length}
 use Rattle.diagram.specs.Sizes.{highestValue}
-use Rattle.diagram.specs.Diagram.{leaf, eval}
+use Rattle.diagram.specs.Diagram.{eval}
 use Rattle.diagram.specs.Words.{labelAt, highAt, lowAt, rowCount, everyBelow, equalLists}
 use Rattle.diagram.specs.WordLaws.{every-below, below-every, lists-equal, equal-lists, getD-map}
 use Rattle.diagram.specs.RowLaws.{same-tests}
-use Rattle.diagram.specs.Validity.{Valid}
-use Rattle.diagram.specs.RowDiagrams.{leaf-row, branch-row, shown}
-use Rattle.diagram.specs.DiagramOfListing.{valid-rows}
+use Rattle.diagram.specs.Validity.{Valid, tree}
+use Rattle.diagram.specs.RowDiagrams.{leaf-row, branch-row}
+use Rattle.diagram.specs.DiagramOfListing.{valid-rows, shown-rows}
 use Rattle.valuing.specs.declared.Lookup.{Lookup}
 use Rattle.valuing.specs.declared.Lookup.the-variants.{Free, Bucket}
 use Rattle.state.specs.State.{equated}
 use Rattle.state.specs.Lent.{factCount, predicateAt, objectsAt, someBelow, saidBy, saysFact}
 use Rattle.state.specs.LentLaws.{objects-length, object-at, some-same}
 use Rattle.valuing.specs.Index.{buckets, placeCount, objectAt, givenAt, hashEnd, hashGap, hashStart, hashStep, hashOf, bucketFor, bucketOf, says, Placed, Asked}
-use Rattle.valuing.specs.Search.{free, lentTruth, lentHolds, leafFrom, Extends, given, Env, freeCount, Labelled, LooksUp, Telling, Hit, old, new, Best, Ready}
+use Rattle.valuing.specs.Search.{free, TopsBy, Numbered, lentTruth, lentHolds, endRow, leafFrom, Extends, given, Env, freeCount, Labelled, LooksUp, Telling, Hit, old, new, Best, Ready}
 use Rattle.valuing.proofs.FactLaws.{Hashing, hashing-start, hashing-on, placed-place, placed-term}
 
 -- reading an answer's row
@@ -41,6 +40,10 @@ unfolding lowAt
 follow-false ws r b e = rw e
 
 -- ===== The places of a label =====
+
+pub place-term : (ar : List ℕ) (l : ℕ) → areArities ar ≡ true → (j : ℕ) → j < getD ar (predicateOf l) 0 → getD (termsOf ar (unpacked l)) j 0 ≡ placeAt l j
+unfolding termsOf predicateOf unpacked
+place-term ar l e j h = getD-take (getD ar (predicateOf l) 0) (placesOf (unpacked l)) j 0 h ∙ place-of l j (omega (arith, arity-most ar (predicateOf l) e))
 
 module _ {ar env : List ℕ} {l : ℕ} (a : Labelled ar env l) where
   pub labelled-predicate : predicateOf l < predicateCount
@@ -61,8 +64,7 @@ module _ {ar env : List ℕ} {l : ℕ} (a : Labelled ar env l) where
 
   -- its terms, one by one
   term-at : (j : ℕ) → j < getD ar (predicateOf l) 0 → getD (termsOf ar (unpacked l)) j 0 ≡ placeAt l j
-  unfolding termsOf predicateOf unpacked
-  term-at j h = getD-take (getD ar (predicateOf l) 0) (placesOf (unpacked l)) j 0 h ∙ place-of l j (omega (arith, places-most))
+  term-at = place-term ar l (a .arities)
 
   objects-length′ : (θ : ℕ → ℕ) → length (map θ (termsOf ar (unpacked l))) ≡ getD ar (predicateOf l) 0
   objects-length′ θ = length-map (termsOf ar (unpacked l)) θ ∙ terms-length ar l (a .arities)
@@ -225,17 +227,6 @@ holds-given {ar} {env} {l} facts n θ a x b =
     let h : j < getD ar (predicateOf l) 0 = omega (arith, size θ) in
     object-of a θ j h ∙ x .agrees (placeAt l j) (label-placed a .below j h) (b j h) ∙ sym (object-of a (given env) j h)))
 
--- the leaf from a row, by what its label says
-module _ (ar facts ws : List ℕ) (v : Valid ar ws) (θ : ℕ → ℕ) (r : ℕ) (h : r < rowCount ws) where
-  from-leaf : labelAt ws r ≡ leafMark → leafFrom ar facts ws θ r ≡ highAt ws r
-  unfolding leafFrom eval
-  from-leaf e = ap (eval (lentHolds ar facts θ)) (shown ar ws (rowCount ws) (valid-rows ar ws v) .leaves r h e)
-
-  from-branch : (labelAt ws r ≡ leafMark → ⊥) → leafFrom ar facts ws θ r
-      ≡ cond (lentHolds ar facts θ (labelAt ws r)) (leafFrom ar facts ws θ (highAt ws r)) (leafFrom ar facts ws θ (lowAt ws r))
-  unfolding leafFrom eval
-  from-branch e = ap (eval (lentHolds ar facts θ)) (shown ar ws (rowCount ws) (valid-rows ar ws v) .branches r h e)
-
 cond-pick : (b : Bool) (g : ℕ → ℕ) (x y : ℕ) → cond b (g x) (g y) ≡ g (cond b x y)
 cond-pick true g x y = refl
 cond-pick false g x y = refl
@@ -243,6 +234,94 @@ cond-pick false g x y = refl
 pick-below : (b : Bool) (x y m : ℕ) → x < m → y < m → cond b x y < m
 pick-below true x y m p q = p
 pick-below false x y m p q = q
+
+-- ===== The leaf's row, by what its label says =====
+end-leaf : (ws : List ℕ) (c : ℕ → Bool) (m r : ℕ) → labelAt ws r ≡ leafMark → endRow ws c m r ≡ r
+unfolding endRow
+end-leaf ws c zero r e = refl
+end-leaf ws c (suc m) r e = rw (eq-eqb (labelAt ws r) leafMark e)
+
+module _ (ar ws : List ℕ) (v : Valid ar ws) (c : ℕ → Bool) where
+  -- the row below, by the choice
+  abbrev nextRow : ℕ → ℕ
+  nextRow r = cond (c (labelAt ws r)) (highAt ws r) (lowAt ws r)
+
+  next-before : (r : ℕ) → r < rowCount ws → (labelAt ws r ≡ leafMark → ⊥) → nextRow r < r
+  next-before r h n =
+      let row = branch-row ar ws (rowCount ws) (valid-rows ar ws v) r h n in
+      pick-below (c (labelAt ws r)) (highAt ws r) (lowAt ws r) r (row .high-before) (row .low-before)
+
+  -- more depth than the row's number changes nothing
+  abbrev Deep : ℕ → ℕ → Type 0
+  Deep m k = (r : ℕ) → r ≤ m → r ≤ k → r < rowCount ws → endRow ws c m r ≡ endRow ws c k r
+
+  deep-leaf : (m k r : ℕ) → r < rowCount ws → ((labelAt ws r ≡ leafMark → ⊥) → endRow ws c m r ≡ endRow ws c k r) → endRow ws c m r ≡ endRow ws c k r
+  deep-leaf m k r h f = go (flag (eqb (labelAt ws r) leafMark))
+    where
+      go : Flag (eqb (labelAt ws r) leafMark) → endRow ws c m r ≡ endRow ws c k r
+      go (isTrue e) = end-leaf ws c m r (eqb-true _ _ e) ∙ sym (end-leaf ws c k r (eqb-true _ _ e))
+      go (isFalse e) = f (eqb-false _ _ e)
+
+  end-deep : (m k : ℕ) → Deep m k
+  unfolding endRow
+  end-deep zero k r p q h = deep-leaf zero k r h (λ n. absurd (omega (arith, next-before r h n)))
+  end-deep (suc m) zero r p q h = deep-leaf (suc m) zero r h (λ n. absurd (omega (arith, next-before r h n)))
+  end-deep (suc m) (suc k) r p q h = deep-leaf (suc m) (suc k) r h (λ n.
+      let b = next-before r h n in
+      rw (ne-eqb (labelAt ws r) leafMark n) (end-deep m k (nextRow r) (omega arith) (omega arith) (omega arith)))
+
+  pub end-on : (r : ℕ) → r < rowCount ws → (labelAt ws r ≡ leafMark → ⊥) → endRow ws c r r ≡ endRow ws c (nextRow r) (nextRow r)
+  unfolding endRow
+  end-on zero h n = absurd (omega (arith, next-before zero h n))
+  end-on (suc r) h n =
+      let b = next-before (suc r) h n in
+      rw (ne-eqb (labelAt ws (suc r)) leafMark n) (end-deep r (nextRow (suc r)) (nextRow (suc r)) (omega arith) (omega arith) (omega arith))
+
+-- the leaf's number is g of the leaf
+module _ {g : ℕ → ℕ} {ws high : List ℕ} (ar : List ℕ) (v : Valid ar ws) (t : TopsBy g ws high (rowCount ws)) (c : ℕ → Bool) where
+  abbrev Ended : ℕ → Type 0
+  Ended m = (r : ℕ) → r < m → r < rowCount ws → getD high (endRow ws c r r) 0 ≡ g (eval c (tree ws r))
+
+  ended-step : (m : ℕ) → Ended m → Ended (suc m)
+  unfolding eval
+  ended-step m ih r l h = go (flag (eqb (labelAt ws r) leafMark))
+    where
+      go : Flag (eqb (labelAt ws r) leafMark) → getD high (endRow ws c r r) 0 ≡ g (eval c (tree ws r))
+      go (isTrue e) =
+          let e′ = eqb-true _ _ e in
+          ap (λ (k : ℕ). getD high k 0) (end-leaf ws c r r e′) ∙ t .leaves r h e′ ∙ ap (λ d. g (eval c d)) (sym (shown-rows ar ws v .leaves r h e′))
+      go (isFalse e) =
+          let e′ = eqb-false _ _ e in
+          let b = next-before ar ws v c r h e′ in
+          ap (λ (k : ℕ). getD high k 0) (end-on ar ws v c r h e′)
+          ∙ ih (nextRow ar ws v c r) (omega arith) (omega arith)
+          ∙ ap g (sym (cond-pick (c (labelAt ws r)) (λ k. eval c (tree ws k)) (highAt ws r) (lowAt ws r)))
+          ∙ ap (λ d. g (eval c d)) (sym (shown-rows ar ws v .branches r h e′))
+
+  ended : (m : ℕ) → Ended m
+  ended zero r l h = absurd (omega arith)
+  ended (suc m) r l h = ended-step m (ended m) r l h
+
+  pub end-number : (r : ℕ) → r < rowCount ws → getD high (endRow ws c r r) 0 ≡ g (eval c (tree ws r))
+  end-number r h = ended (suc r) r (omega arith) h
+
+pub tops-numbered : {g : ℕ → ℕ} {ws high : List ℕ} (ar : List ℕ) → Valid ar ws → TopsBy g ws high (rowCount ws)
+    → ((x : ℕ) → x ≤ highestValue → g x ≤ highestValue) → Numbered ws high
+tops-numbered {g} {ws} {high} ar v t few = record {
+  bound = λ r h c. omega (arith, end-number ar v t c r h, t .bound r h c);
+  few = λ r h e. omega (arith, t .leaves r h e, few (highAt ws r) (leaf-row ar ws (rowCount ws) (valid-rows ar ws v) r h e .value));
+}
+
+-- the number from a row
+module _ (ar facts ws high : List ℕ) (v : Valid ar ws) (θ : ℕ → ℕ) (r : ℕ) (h : r < rowCount ws) where
+  from-leaf : labelAt ws r ≡ leafMark → leafFrom ar facts ws high θ r ≡ getD high r 0
+  unfolding leafFrom
+  from-leaf e = ap (λ (k : ℕ). getD high k 0) (end-leaf ws (lentHolds ar facts θ) r r e)
+
+  from-branch : (labelAt ws r ≡ leafMark → ⊥)
+      → leafFrom ar facts ws high θ r ≡ leafFrom ar facts ws high θ (cond (lentHolds ar facts θ (labelAt ws r)) (highAt ws r) (lowAt ws r))
+  unfolding leafFrom
+  from-branch e = ap (λ (k : ℕ). getD high k 0) (end-on ar ws v (lentHolds ar facts θ) r h e)
 
 -- an environment has an extension: object 0 for what has none
 unfoldable pub filled : List ℕ → ℕ → ℕ
@@ -271,14 +350,14 @@ filled-extends {n} {env} f = record {
 pub record Along (ws high ar facts index env : List ℕ) (n r₀ r : ℕ) : Type 0 where
   pub ready : Ready ws high ar facts index env n
   pub within : r < rowCount ws
-  pub same : (θ : ℕ → ℕ) → Extends n env θ → leafFrom ar facts ws θ r₀ ≡ leafFrom ar facts ws θ r
+  pub same : (θ : ℕ → ℕ) → Extends n env θ → leafFrom ar facts ws high θ r₀ ≡ leafFrom ar facts ws high θ r
 
 module _ {ws high ar facts index env : List ℕ} {n r₀ : ℕ} where
   pub along-start : Ready ws high ar facts index env n → r₀ < rowCount ws → Along ws high ar facts index env n r₀ r₀
   along-start q h = record { ready = q; within = h; same = λ θ x. refl }
 
 module _ {ws high ar facts index env : List ℕ} {n r₀ r : ℕ} (w : Along ws high ar facts index env n r₀ r) where
-  top-bound : (θ : ℕ → ℕ) → leafFrom ar facts ws θ r ≤ getD high r 0
+  top-bound : (θ : ℕ → ℕ) → leafFrom ar facts ws high θ r ≤ getD high r 0
   unfolding leafFrom
   top-bound θ = w .ready .tops .bound r (w .within) (lentHolds ar facts θ)
 
@@ -289,7 +368,7 @@ module _ {ws high ar facts index env : List ℕ} {n r₀ r : ℕ} (w : Along ws 
     words = w .ready .env-fits .places;
   }
 
-  pub along-cut : {best : ℕ} → getD high r 0 < best → Best ar facts ws env n r₀ best best env
+  pub along-cut : {best : ℕ} → getD high r 0 < best → Best ar facts ws high env n r₀ best best env
   along-cut h = record {
     restored = refl;
     kept = omega arith;
@@ -297,18 +376,18 @@ module _ {ws high ar facts index env : List ℕ} {n r₀ r : ℕ} (w : Along ws 
     hit = old refl;
   }
 
-  pub along-leaf : {best : ℕ} → best ≤ getD high r 0 → labelAt ws r ≡ leafMark → Best ar facts ws env n r₀ best (highAt ws r + 1) env
+  pub along-leaf : {best : ℕ} → best ≤ getD high r 0 → labelAt ws r ≡ leafMark → Best ar facts ws high env n r₀ best (getD high r 0 + 1) env
   along-leaf h e =
       let v = w .ready .valid in
       let θ₁ = filled env in
       record {
         restored = refl;
-        kept = omega (arith, w .ready .tops .leaves r (w .within) e);
-        above = λ θ x. omega (arith, w .same θ x, from-leaf ar facts ws v θ r (w .within) e);
-        hit = new θ₁ (filled-extends (w .ready .env-fits)) (add-one (highAt ws r) ∙ ap suc (sym (w .same θ₁ (filled-extends (w .ready .env-fits)) ∙ from-leaf ar facts ws v θ₁ r (w .within) e)));
+        kept = omega arith;
+        above = λ θ x. omega (arith, w .same θ x, from-leaf ar facts ws high v θ r (w .within) e);
+        hit = new θ₁ (filled-extends (w .ready .env-fits)) (omega (arith, w .same θ₁ (filled-extends (w .ready .env-fits)), from-leaf ar facts ws high v θ₁ r (w .within) e));
       }
 
-  pub along-bind : {best b : ℕ} {env′ : List ℕ} → Best ar facts ws env n r best b env′ → Best ar facts ws env n r₀ best b env′
+  pub along-bind : {best b : ℕ} {env′ : List ℕ} → Best ar facts ws high env n r best b env′ → Best ar facts ws high env n r₀ best b env′
   along-bind {best} {b} t = record {
     restored = t .restored;
     kept = t .kept;
@@ -316,7 +395,7 @@ module _ {ws high ar facts index env : List ℕ} {n r₀ r : ℕ} (w : Along ws 
     hit = go (t .hit);
   }
     where
-      go : Hit ar facts ws env n r best b → Hit ar facts ws env n r₀ best b
+      go : Hit ar facts ws high env n r best b → Hit ar facts ws high env n r₀ best b
       go (old e) = old e
       go (new θ x e) = new θ x (e ∙ ap suc (sym (w .same θ x)))
 
@@ -330,14 +409,12 @@ module _ {ws high ar facts index env : List ℕ} {n r₀ r : ℕ} (w : Along ws 
     along-on {b} {x} {v} e ev ex =
         let valid = w .ready .valid in
         let row = branch-row ar ws (rowCount ws) (valid-rows ar ws valid) r (w .within) nl in
-        let g : (ℕ → ℕ) → ℕ → ℕ = λ θ. leafFrom ar facts ws θ in
         record {
           ready = w .ready;
           within = rw ex (pick-below v (highAt ws r) (lowAt ws r) (rowCount ws) (omega (arith, row .high-before, w .within)) (omega (arith, row .low-before, w .within)));
           same = λ θ y.
-              w .same θ y ∙ from-branch ar facts ws valid θ r (w .within) nl
-              ∙ ap (λ c. cond c (g θ (highAt ws r)) (g θ (lowAt ws r))) (holds-given facts n θ (row-labelled nl) y (q .bound b e .0) ∙ sym ev)
-              ∙ cond-pick v (g θ) (highAt ws r) (lowAt ws r) ∙ ap (g θ) (sym ex);
+              w .same θ y ∙ from-branch ar facts ws high valid θ r (w .within) nl
+              ∙ ap (leafFrom ar facts ws high θ) (ap (λ c. cond c (highAt ws r) (lowAt ws r)) (holds-given facts n θ (row-labelled nl) y (q .bound b e .0) ∙ sym ev) ∙ sym ex);
         }
 
     -- or one without
@@ -351,44 +428,36 @@ module _ {ws high ar facts index env : List ℕ} {n r₀ r : ℕ} (w : Along ws 
           omega (arith, u .2, label-placed (row-labelled nl) .below (u .0) (u .1))
 
 -- objects given in turn
-module _ {ws high ar facts index env : List ℕ} {n t : ℕ} (q : Ready ws high ar facts index env n) (l : t < termEnd) (e : getD env t 0 ≡ free) where
-  set-ready : (v : ℕ) → v < n → Ready ws high ar facts index (set env t v) n
-  set-ready v h =
-      let f = q .env-fits in
-      record {
-        valid = q .valid;
-        places = q .places;
-        tops = q .tops;
-        indexed = q .indexed;
-        env-fits = record {
-          places = length-set env t v ∙ f .places;
-          some = f .some;
-          most = f .most;
-          range = λ u m y. inside u m y (flag (eqb u t));
-        };
-      }
+module _ {env : List ℕ} {n t : ℕ} (f : Env n env) (l : t < termEnd) (e : getD env t 0 ≡ free) where
+  pub set-env : (v : ℕ) → v < n → Env n (set env t v)
+  set-env v h = record {
+    places = length-set env t v ∙ f .places;
+    some = f .some;
+    most = f .most;
+    range = λ u m y. inside u m y (flag (eqb u t));
+  }
     where
       inside : (u : ℕ) → u < termEnd → (getD (set env t v) u 0 ≡ free → ⊥) → Flag (eqb u t) → getD (set env t v) u 0 < n
       inside u m y (isTrue p) =
           let p′ = eqb-true u t p in
-          subst (λ (x : ℕ). getD (set env t v) x 0 < n) (sym p′) (rw (getD-set-same env t v 0 (omega (arith, q .env-fits .places))) h)
+          subst (λ (x : ℕ). getD (set env t v) x 0 < n) (sym p′) (rw (getD-set-same env t v 0 (omega (arith, f .places))) h)
       inside u m y (isFalse p) =
           let z = getD-set-other env t u v 0 (eqb-false u t p) in
-          rw z (q .env-fits .range u m (λ x. y (z ∙ x)))
+          rw z (f .range u m (λ x. y (z ∙ x)))
 
   -- an extension that gives t the object v
-  extends-in : (v : ℕ) (θ : ℕ → ℕ) → Extends n env θ → θ t ≡ v → Extends n (set env t v) θ
+  pub extends-in : (v : ℕ) (θ : ℕ → ℕ) → Extends n env θ → θ t ≡ v → Extends n (set env t v) θ
   extends-in v θ x p = record { agrees = λ u m y. go u m y (flag (eqb u t)); range = x .range }
     where
       go : (u : ℕ) → u < termEnd → (getD (set env t v) u 0 ≡ free → ⊥) → Flag (eqb u t) → θ u ≡ getD (set env t v) u 0
       go u m y (isTrue d) =
           let d′ = eqb-true u t d in
-          subst (λ (w : ℕ). θ w ≡ getD (set env t v) w 0) (sym d′) (p ∙ sym (getD-set-same env t v 0 (omega (arith, q .env-fits .places))))
+          subst (λ (w : ℕ). θ w ≡ getD (set env t v) w 0) (sym d′) (p ∙ sym (getD-set-same env t v 0 (omega (arith, f .places))))
       go u m y (isFalse d) =
           let z = getD-set-other env t u v 0 (eqb-false u t d) in
           x .agrees u m (λ w. y (z ∙ w)) ∙ sym z
 
-  extends-out : (v : ℕ) (θ : ℕ → ℕ) → Extends n (set env t v) θ → Extends n env θ
+  pub extends-out : (v : ℕ) (θ : ℕ → ℕ) → Extends n (set env t v) θ → Extends n env θ
   extends-out v θ x = record { agrees = λ u m y. go u m y (flag (eqb u t)); range = x .range }
     where
       go : (u : ℕ) → u < termEnd → (getD env u 0 ≡ free → ⊥) → Flag (eqb u t) → θ u ≡ getD env u 0
@@ -396,6 +465,10 @@ module _ {ws high ar facts index env : List ℕ} {n t : ℕ} (q : Ready ws high 
       go u m y (isFalse d) =
           let z = getD-set-other env t u v 0 (eqb-false u t d) in
           x .agrees u m (λ w. y (sym z ∙ w)) ∙ z
+
+set-ready : {ws high ar facts index env : List ℕ} {n t : ℕ} → Ready ws high ar facts index env n → t < termEnd → getD env t 0 ≡ free → (v : ℕ) → v < n
+    → Ready ws high ar facts index (set env t v) n
+set-ready q l e v h = record { valid = q .valid; places = q .places; tops = q .tops; indexed = q .indexed; env-fits = set-env (q .env-fits) l e v h }
 
 -- the objects below v were given to t, and b is the best
 pub record Giving (ws high ar facts index env₀ env : List ℕ) (n r t best v b : ℕ) : Type 0 where
@@ -406,8 +479,8 @@ pub record Giving (ws high ar facts index env₀ env : List ℕ) (n r t best v b
   pub word : set env t free ≡ env₀
   pub most : v ≤ n
   pub kept : best ≤ b
-  pub above : (θ : ℕ → ℕ) → Extends n env₀ θ → θ t < v → leafFrom ar facts ws θ r < b
-  pub hit : Hit ar facts ws env₀ n r best b
+  pub above : (θ : ℕ → ℕ) → Extends n env₀ θ → θ t < v → leafFrom ar facts ws high θ r < b
+  pub hit : Hit ar facts ws high env₀ n r best b
 
 pub giving-start : {ws high ar facts index env : List ℕ} {n r t best : ℕ} → Ready ws high ar facts index env n → r < rowCount ws → t < termEnd → getD env t 0 ≡ free
     → Giving ws high ar facts index env env n r t best 0 best
@@ -436,7 +509,7 @@ module _ {ws high ar facts index env₀ env : List ℕ} {n r t best v b : ℕ} (
   pub giving-ready : v < n → Ready ws high ar facts index (set env t v) n
   giving-ready h = rw word-set (set-ready (g .ready) (g .term) (g .unbound) v h)
 
-  pub giving-on : {b′ : ℕ} {env′ : List ℕ} → v < n → Best ar facts ws (set env t v) n r b b′ env′ → Giving ws high ar facts index env₀ env′ n r t best (v + 1) b′
+  pub giving-on : {b′ : ℕ} {env′ : List ℕ} → v < n → Best ar facts ws high (set env t v) n r b b′ env′ → Giving ws high ar facts index env₀ env′ n r t best (v + 1) b′
   giving-on {b′} {env′} h s = record {
     ready = g .ready;
     row = g .row;
@@ -449,20 +522,20 @@ module _ {ws high ar facts index env₀ env : List ℕ} {n r t best v b : ℕ} (
     hit = reached (s .hit);
   }
     where
-      higher : (θ : ℕ → ℕ) → Extends n env₀ θ → θ t < v + 1 → Cmp (θ t) v → leafFrom ar facts ws θ r < b′
+      higher : (θ : ℕ → ℕ) → Extends n env₀ θ → θ t < v + 1 → Cmp (θ t) v → leafFrom ar facts ws high θ r < b′
       higher θ x m (below c) = omega (arith, g .above θ x c, s .kept)
-      higher θ x m (equal c) = s .above θ (rw word-set (extends-in (g .ready) (g .term) (g .unbound) v θ x c))
+      higher θ x m (equal c) = s .above θ (rw word-set (extends-in (g .ready .env-fits) (g .term) (g .unbound) v θ x c))
       higher θ x m (above c) = absurd (omega arith)
 
-      same-best : Hit ar facts ws env₀ n r best b → b′ ≡ b → Hit ar facts ws env₀ n r best b′
+      same-best : Hit ar facts ws high env₀ n r best b → b′ ≡ b → Hit ar facts ws high env₀ n r best b′
       same-best (old e) q = old (q ∙ e)
       same-best (new θ x e) q = new θ x (q ∙ e)
 
-      reached : Hit ar facts ws (set env t v) n r b b′ → Hit ar facts ws env₀ n r best b′
+      reached : Hit ar facts ws high (set env t v) n r b b′ → Hit ar facts ws high env₀ n r best b′
       reached (old e) = same-best (g .hit) e
-      reached (new θ x e) = new θ (extends-out (g .ready) (g .term) (g .unbound) v θ (rw word-set at x)) e
+      reached (new θ x e) = new θ (extends-out (g .ready .env-fits) (g .term) (g .unbound) v θ (rw word-set at x)) e
 
-  pub giving-cut : getD high r 0 < b → Best ar facts ws env₀ n r best b (set env t free)
+  pub giving-cut : getD high r 0 < b → Best ar facts ws high env₀ n r best b (set env t free)
   giving-cut h = record {
     restored = g .word;
     kept = g .kept;
@@ -470,10 +543,10 @@ module _ {ws high ar facts index env₀ env : List ℕ} {n r t best v b : ℕ} (
     hit = g .hit;
   }
     where
-      top : (θ : ℕ → ℕ) → leafFrom ar facts ws θ r ≤ getD high r 0
+      top : (θ : ℕ → ℕ) → leafFrom ar facts ws high θ r ≤ getD high r 0
       top θ = top-bound (along-start (g .ready) (g .row)) θ
 
-  pub giving-end : n ≤ v → Best ar facts ws env₀ n r best b (set env t free)
+  pub giving-end : n ≤ v → Best ar facts ws high env₀ n r best b (set env t free)
   giving-end h = record {
     restored = g .word;
     kept = g .kept;
@@ -514,21 +587,21 @@ pub going-start : {ws high ar facts index env : List ℕ} {n r₀ : ℕ} → Rea
 going-start q h = record { still = refl; along = along-start q h }
 
 module _ {ws high ar facts index env₀ env : List ℕ} {n r₀ r : ℕ} (g : Going ws high ar facts index env₀ env n r₀ r) where
-  pub going-cut : {best : ℕ} → getD high r 0 < best → Best ar facts ws env₀ n r₀ best best env
-  going-cut {best} h = subst (λ (e : List ℕ). Best ar facts ws e n r₀ best best env) (g .still) (along-cut (g .along) h)
+  pub going-cut : {best : ℕ} → getD high r 0 < best → Best ar facts ws high env₀ n r₀ best best env
+  going-cut {best} h = subst (λ (e : List ℕ). Best ar facts ws high e n r₀ best best env) (g .still) (along-cut (g .along) h)
 
-  pub going-value : getD ws (r * 3) 0 ≡ leafMark → getD ws (r * 3 + 1) 0 ≤ highestValue
-  unfolding labelAt highAt
-  going-value e = leaf-row ar ws (rowCount ws) (valid-rows ar ws (g .along .ready .valid)) r (g .along .within) e .value
+  pub going-value : getD ws (r * 3) 0 ≡ leafMark → getD high r 0 ≤ highestValue
+  unfolding labelAt
+  going-value e = g .along .ready .tops .few r (g .along .within) e
 
-  pub going-leaf : {best : ℕ} → best ≤ getD high r 0 → getD ws (r * 3) 0 ≡ leafMark → Best ar facts ws env₀ n r₀ best (getD ws (r * 3 + 1) 0 + 1) env
-  unfolding labelAt highAt
-  going-leaf {best} h e = subst (λ (z : List ℕ). Best ar facts ws z n r₀ best (getD ws (r * 3 + 1) 0 + 1) env) (g .still) (along-leaf (g .along) h e)
+  pub going-leaf : {best : ℕ} → best ≤ getD high r 0 → getD ws (r * 3) 0 ≡ leafMark → Best ar facts ws high env₀ n r₀ best (getD high r 0 + 1) env
+  unfolding labelAt
+  going-leaf {best} h e = subst (λ (z : List ℕ). Best ar facts ws high z n r₀ best (getD high r 0 + 1) env) (g .still) (along-leaf (g .along) h e)
 
-  pub going-bind : {best b : ℕ} {env′ : List ℕ} → Best ar facts ws env n r best b env′ → Best ar facts ws env₀ n r₀ best b env′
-  going-bind {best} {b} {env′} t = subst (λ (z : List ℕ). Best ar facts ws z n r₀ best b env′) (g .still) (along-bind (g .along) t)
+  pub going-bind : {best b : ℕ} {env′ : List ℕ} → Best ar facts ws high env n r best b env′ → Best ar facts ws high env₀ n r₀ best b env′
+  going-bind {best} {b} {env′} t = subst (λ (z : List ℕ). Best ar facts ws high z n r₀ best b env′) (g .still) (along-bind (g .along) t)
 
-  pub going-kept : {best b : ℕ} {env′ : List ℕ} → Best ar facts ws env n r best b env′ → length env′ ≡ length env₀
+  pub going-kept : {best b : ℕ} {env′ : List ℕ} → Best ar facts ws high env n r best b env′ → length env′ ≡ length env₀
   going-kept t = ap length (t .restored ∙ g .still)
 
   pub going-count : {m : ℕ} → freeCount env₀ * 2 ≡ m → freeCount env * 2 ≡ m

@@ -17,6 +17,7 @@ use Rattle.diagram.specs.Words.{labelAt, highAt, lowAt, rowCount, isListing}
 use Rattle.diagram.specs.WordLaws.{below-every}
 use Rattle.diagram.specs.Listing.{diagramOf}
 use Rattle.diagram.specs.Validity.{Valid, tree}
+use Rattle.diagram.specs.Variables.{isPlain}
 use Rattle.diagram.specs.RowDiagrams.{branch-row}
 use Rattle.diagram.specs.DiagramOfListing.{valid-rows, shown-rows, diagram-is}
 use Rattle.diagram.specs.ListingValid.{listing-is-valid}
@@ -25,27 +26,35 @@ use Rattle.state.specs.State.{atomOf, meaning, State, truth, holds, value, low,
 use Rattle.state.specs.ValueLaws.{low-lt, low-ge, by-low}
 use Rattle.state.specs.Highest.{Highest, Bound}
 use Rattle.state.specs.Lent.{allBelow, constantsBelow, stateOf, isState}
-use Rattle.minimum.specs.NumberLaws.{number-is}
+use Rattle.minimum.specs.Number.{Under, Number}
+use Rattle.minimum.specs.NumberLaws.{number-is, number-attained}
 use Rattle.minimum.specs.PlainLaws.{fine-plain, number-highest}
 use Rattle.elimination.specs.AnswerLaws.{lent-good}
 use Rattle.valuing.specs.Index.{Indexed, indexedCount}
-use Rattle.valuing.specs.Search.{free, Topping, Tops, topAt, fixedIn, Placing, Started, lentTruth, lentHolds, leafFrom, Extends, Hit, old, new, Best, Ready}
+use Rattle.valuing.specs.Search.{free, Topping, TopsBy, Tops, topBy, fixedIn, Placing, Started, lentTruth, lentHolds, leafFrom, Extends, Hit, old, new, Best, Ready}
+use Rattle.valuing.proofs.SearchLaws.{end-number, tops-numbered}
+use Rattle.valuing.specs.Rising.{leafOf, Beneath, Held, Risen, Topmost, Chosen}
+use Rattle.valuing.specs.Rising as rising
 use Rattle.valuing.specs.Walks.{boundNumber, Prepared}
 use Rattle.valuing.specs.WalkLaws.{bound-below, topping-room, prepared}
 
 -- a row's number, test by test
-module _ (ws high : List ℕ) (i : ℕ) where
-  pub top-leaf : getD ws (i * 3) 0 ≡ leafMark → getD ws (i * 3 + 1) 0 ≡ topAt ws high i
-  unfolding topAt labelAt highAt
-  top-leaf e = rw (eq-eqb _ leafMark e)
+module _ (g : ℕ → ℕ) (ws high : List ℕ) (i : ℕ) where
+  pub top-leaf : {x : ℕ} → getD ws (i * 3) 0 ≡ leafMark → x ≡ g (getD ws (i * 3 + 1) 0) → x ≡ topBy g ws high i
+  unfolding topBy labelAt highAt
+  top-leaf e q = q ∙ rw (eq-eqb _ leafMark e)
 
   module _ (n : getD ws (i * 3) 0 ≡ leafMark → ⊥) where
-    pub top-low : getD high (getD ws (i * 3 + 1) 0) 0 < getD high (getD ws (i * 3 + 2) 0) 0 → getD high (getD ws (i * 3 + 2) 0) 0 ≡ topAt ws high i
-    unfolding topAt labelAt highAt lowAt
+    pub top-low : getD high (getD ws (i * 3 + 1) 0) 0 < getD high (getD ws (i * 3 + 2) 0) 0 → getD high (getD ws (i * 3 + 2) 0) 0 ≡ topBy g ws high i
+    unfolding topBy labelAt highAt lowAt
     top-low l = rw (ne-eqb _ leafMark n) (omega arith)
 
-    pub top-high : getD high (getD ws (i * 3 + 2) 0) 0 ≤ getD high (getD ws (i * 3 + 1) 0) 0 → getD high (getD ws (i * 3 + 1) 0) 0 ≡ topAt ws high i
-    unfolding topAt labelAt highAt lowAt
+    pub top-branch : (f : ℕ → ℕ) {x : ℕ} → x ≡ topBy f ws high i → x ≡ topBy g ws high i
+    unfolding topBy labelAt
+    top-branch f q = q ∙ rw (ne-eqb _ leafMark n)
+
+    pub top-high : getD high (getD ws (i * 3 + 2) 0) 0 ≤ getD high (getD ws (i * 3 + 1) 0) 0 → getD high (getD ws (i * 3 + 1) 0) 0 ≡ topBy g ws high i
+    unfolding topBy labelAt highAt lowAt
     top-high l = rw (ne-eqb _ leafMark n) (omega arith)
 
 -- a branch's children have numbers
@@ -59,21 +68,17 @@ module _ {ws high : List ℕ} (t : Topping ws high) {i : ℕ} (h : i < rowCount 
   top-false = omega (arith, branch-row (t .arities) ws (rowCount ws) (valid-rows (t .arities) ws (t .valid)) i h n .low-before, t .places)
 
 -- rows numbered one by one
-pub record Topped (ws high : List ℕ) (i : ℕ) : Type 0 where
+pub record Topped (g : ℕ → ℕ) (ws high : List ℕ) (i : ℕ) : Type 0 where
   pub topping : Topping ws high
   pub most : i ≤ rowCount ws
-  pub done : Tops ws high i
+  pub done : TopsBy g ws high i
 
-pub topped-start : {ws high : List ℕ} → Topping ws high → Topped ws high 0
+pub topped-start : {g : ℕ → ℕ} {ws high : List ℕ} → Topping ws high → Topped g ws high 0
 topped-start t = record { topping = t; most = omega arith; done = record { bound = λ r l c. absurd (omega arith); leaves = λ r l e. absurd (omega arith) } }
 
-cond-most : (b : Bool) (x y m k : ℕ) → x ≤ m → y ≤ k → cond b x y ≤ max m k
-cond-most true x y m k p q = omega arith
-cond-most false x y m k p q = omega arith
-
-pub topped-on : {ws high : List ℕ} {i x : ℕ} → Topped ws high i → i < rowCount ws → x ≡ topAt ws high i → Topped ws (set high i x) (i + 1)
-unfolding topAt eval
-topped-on {ws} {high} {i} {x} t l e = record {
+pub topped-on : {g : ℕ → ℕ} {ws high : List ℕ} {i x : ℕ} → Topped g ws high i → i < rowCount ws → x ≡ topBy g ws high i → Topped g ws (set high i x) (i + 1)
+unfolding topBy eval
+topped-on {g} {ws} {high} {i} {x} t l e = record {
   topping = record { arities = t .topping .arities; valid = t .topping .valid; places = rw length-set (t .topping .places) };
   most = omega arith;
   done = record {
@@ -88,40 +93,44 @@ topped-on {ws} {high} {i} {x} t l e = record {
     v : Valid (t .topping .arities) ws
     v = t .topping .valid
 
-    at-leaf : labelAt ws i ≡ leafMark → x ≡ highAt ws i
-    at-leaf q = e ∙ ap (λ b. cond b (highAt ws i) (max (getD high (highAt ws i) 0) (getD high (lowAt ws i) 0))) (eq-eqb _ leafMark q)
+    at-leaf : labelAt ws i ≡ leafMark → x ≡ g (highAt ws i)
+    at-leaf q = e ∙ ap (λ b. cond b (g (highAt ws i)) (max (getD high (highAt ws i) 0) (getD high (lowAt ws i) 0))) (eq-eqb _ leafMark q)
 
-    top : (c : ℕ → Bool) → Flag (eqb (labelAt ws i) leafMark) → eval c (tree ws i) ≤ x
+    cond-most : (b : Bool) (y z m k : ℕ) → g y ≤ m → g z ≤ k → g (cond b y z) ≤ max m k
+    cond-most true y z m k p q = omega arith
+    cond-most false y z m k p q = omega arith
+
+    top : (c : ℕ → Bool) → Flag (eqb (labelAt ws i) leafMark) → g (eval c (tree ws i)) ≤ x
     top c (isTrue q) =
         let z = shown-rows (t .topping .arities) ws v .leaves i l (eqb-true _ _ q) in
-        omega (arith, ap (eval c) z, at-leaf (eqb-true _ _ q))
+        omega (arith, ap (λ d. g (eval c d)) z, at-leaf (eqb-true _ _ q))
     top c (isFalse q) =
         let n = eqb-false _ _ q in
         let z = shown-rows (t .topping .arities) ws v .branches i l n in
         let row = branch-row (t .topping .arities) ws (rowCount ws) (valid-rows (t .topping .arities) ws v) i l n in
-        let k = e ∙ ap (λ b. cond b (highAt ws i) (max (getD high (highAt ws i) 0) (getD high (lowAt ws i) 0))) q in
+        let k = e ∙ ap (λ b. cond b (g (highAt ws i)) (max (getD high (highAt ws i) 0) (getD high (lowAt ws i) 0))) q in
         omega (
           arith,
           k,
-          ap (eval c) z,
+          ap (λ d. g (eval c d)) z,
           cond-most (c (labelAt ws i)) (eval c (tree ws (highAt ws i))) (eval c (tree ws (lowAt ws i))) (getD high (highAt ws i) 0) (getD high (lowAt ws i) 0)
               (t .done .bound (highAt ws i) (row .high-before) c) (t .done .bound (lowAt ws i) (row .low-before) c),
         )
 
-    bounded : (r : ℕ) (c : ℕ → Bool) → Cmp r i → r < i + 1 → eval c (tree ws r) ≤ getD (set high i x) r 0
+    bounded : (r : ℕ) (c : ℕ → Bool) → Cmp r i → r < i + 1 → g (eval c (tree ws r)) ≤ getD (set high i x) r 0
     bounded r c (below q) h = rw (getD-set-other high i r x 0 (omega arith)) (t .done .bound r q c)
-    bounded r c (equal q) h = subst (λ (y : ℕ). eval c (tree ws y) ≤ getD (set high i x) y 0) (sym q) (rw here (top c (flag (eqb (labelAt ws i) leafMark))))
+    bounded r c (equal q) h = subst (λ (y : ℕ). g (eval c (tree ws y)) ≤ getD (set high i x) y 0) (sym q) (rw here (top c (flag (eqb (labelAt ws i) leafMark))))
     bounded r c (above q) h = absurd (omega arith)
 
-    leafy : (r : ℕ) → labelAt ws r ≡ leafMark → Cmp r i → r < i + 1 → getD (set high i x) r 0 ≡ highAt ws r
+    leafy : (r : ℕ) → labelAt ws r ≡ leafMark → Cmp r i → r < i + 1 → getD (set high i x) r 0 ≡ g (highAt ws r)
     leafy r m (below q) h = getD-set-other high i r x 0 (omega arith) ∙ t .done .leaves r q m
     leafy r m (equal q) h =
         let m′ : labelAt ws i ≡ leafMark = sym (ap (labelAt ws) q) ∙ m in
-        subst (λ (y : ℕ). getD (set high i x) y 0 ≡ highAt ws y) (sym q) (here ∙ at-leaf m′)
+        subst (λ (y : ℕ). getD (set high i x) y 0 ≡ g (highAt ws y)) (sym q) (here ∙ at-leaf m′)
     leafy r m (above q) h = absurd (omega arith)
 
-pub topped-end : {ws high : List ℕ} {i : ℕ} → Topped ws high i → rowCount ws ≤ i → Tops ws high (rowCount ws)
-topped-end {ws} {high} t h = subst (Tops ws high) (omega (arith, t .most)) (t .done)
+pub topped-end : {g : ℕ → ℕ} {ws high : List ℕ} {i : ℕ} → Topped g ws high i → rowCount ws ≤ i → TopsBy g ws high (rowCount ws)
+topped-end {g} {ws} {high} t h = subst (TopsBy g ws high) (omega (arith, t .most)) (t .done)
 
 -- the terms' first objects
 module _ (constants os : List ℕ) (t : ℕ) where
@@ -229,10 +238,20 @@ module _ (ar : List ℕ) (n : ℕ) (constants facts : List ℕ) where
   lent-truth zero os = refl
   lent-truth (suc p) os = refl
 
-  lent-value : (θ : ℕ → ℕ) (d : Diagram) → value (stateOf ar n constants facts) (meaning ar d) θ ≡ eval (lentHolds ar facts θ) d
+  pub lent-value : (θ : ℕ → ℕ) (d : Diagram) → value (stateOf ar n constants facts) (meaning ar d) θ ≡ eval (lentHolds ar facts θ) d
   unfolding value meaning relabel eval holds atomOf lentHolds
   lent-value θ (leaf v) = refl
   lent-value θ (branch l t g) = rw (lent-truth (predicateOf l) (map θ (termsOf ar (unpacked l))), lent-value θ t, lent-value θ g)
+
+root-tree : (ar ws : List ℕ) → Valid ar ws → diagramOf ws ≡ tree ws (rowCount ws - 1)
+root-tree ar ws v = diagram-is ar ws v ∙ ap (tree ws) (omega arith)
+
+-- the number from the root is that of the leaf
+pub root-number : {g : ℕ → ℕ} {ws high : List ℕ} (ar facts : List ℕ) → Valid ar ws → TopsBy g ws high (rowCount ws) → (θ : ℕ → ℕ)
+    → leafFrom ar facts ws high θ (rowCount ws - 1) ≡ g (leafOf ar facts ws θ)
+unfolding leafFrom leafOf
+root-number {g} {ws} {high} ar facts v t θ =
+    end-number ar v t (lentHolds ar facts θ) (rowCount ws - 1) (omega (arith, v .some)) ∙ ap (λ d. g (eval (lentHolds ar facts θ) d)) (sym (root-tree ar ws v))
 
 pub topping-start : (ar ws : List ℕ) (m : ℕ) → isListing ar ws ≡ true → mostRows ≤ m → Topping ws (replicate m 0)
 topping-start ar ws m e h = topping-room ar ws (replicate m 0) e (rw length-replicate h)
@@ -254,25 +273,27 @@ module _ {ar ws high : List ℕ} {n : ℕ} {constants facts index : List ℕ} (p
   pub root-read : rowCount ws - 1 < length high
   root-read = omega (arith, root-some, p .places)
 
-  leaf-value : (θ : ℕ → ℕ) → value (stateOf ar n constants facts) (meaning ar (diagramOf ws)) θ ≡ leafFrom ar facts ws θ (rowCount ws - 1)
-  unfolding leafFrom
-  leaf-value θ =
-      lent-value ar n constants facts θ (diagramOf ws)
-      ∙ ap (eval (lentHolds ar facts θ)) (diagram-is ar ws (listing-is-valid ar ws (p .listed)) ∙ ap (tree ws) (omega arith))
+  leaf-value : (θ : ℕ → ℕ) → value (stateOf ar n constants facts) (meaning ar (diagramOf ws)) θ ≡ leafOf ar facts ws θ
+  unfolding leafOf
+  leaf-value θ = lent-value ar n constants facts θ (diagramOf ws)
 
   module _ (os : List ℕ) (o : allBelow n os ≡ true) where
-    -- a listing has no minimum variable, so that its number is the highest leaf
-    best-is : Highest (stateOf ar n constants facts) os (meaning ar (diagramOf ws)) (boundNumber ar ws n constants facts os)
-    best-is = number-highest (stateOf ar n constants facts) os (meaning ar (diagramOf ws)) (fine-plain ar (diagramOf ws) (is-listing-good ar ws (p .listed) .fine)) _
-        (number-is (stateOf ar n constants facts) os (lent-good ar n constants facts (p .lent)) (lent-bound ar n constants facts os (p .lent) o) (meaning ar (diagramOf ws)))
+    the-number : Number (stateOf ar n constants facts) os (meaning ar (diagramOf ws)) (boundNumber ar ws n constants facts os)
+    the-number = number-is (stateOf ar n constants facts) os (lent-good ar n constants facts (p .lent)) (lent-bound ar n constants facts os (p .lent) o) (meaning ar (diagramOf ws))
+
+    -- where no leaf passes the best so far, neither does the number, which is a leaf
+    number-cut : {best : ℕ} → ((θ : ℕ → ℕ) → Fits (stateOf ar n constants facts) os θ → leafOf ar facts ws θ < best)
+        → best ≡ max best (suc (boundNumber ar ws n constants facts os))
+    number-cut {best} h =
+        let a = number-attained (meaning ar (diagramOf ws)) the-number in
+        omega (arith, leaf-value (a .0), a .2, h (a .0) (a .1))
 
     -- no leaf below the root passes the best so far
     pub root-cut : {best : ℕ} → getD high (rowCount ws - 1) 0 < best → best ≡ max best (suc (boundNumber ar ws n constants facts os))
-    unfolding leafFrom
+    unfolding leafOf
     root-cut {best} h =
-        let θ = best-is .point in
-        let v = best-is .value in
-        omega (arith, leaf-value θ, p .tops .bound (rowCount ws - 1) (omega (arith, root-some)) (lentHolds ar facts θ))
+        let v = listing-is-valid ar ws (p .listed) in
+        number-cut (λ θ f. omega (arith, ap (eval (lentHolds ar facts θ)) (root-tree ar ws v), p .tops .bound (rowCount ws - 1) (omega (arith, v .some)) (lentHolds ar facts θ)))
 
     module _ {env : List ℕ} (s : Started constants os env) (m : n ≤ free) where
       -- the search may begin
@@ -280,7 +301,7 @@ module _ {ar ws high : List ℕ} {n : ℕ} {constants facts index : List ℕ} (p
       start-ready = record {
         valid = listing-is-valid ar ws (p .listed);
         places = p .places;
-        tops = p .tops;
+        tops = tops-numbered ar (listing-is-valid ar ws (p .listed)) (p .tops) (λ x h. h);
         indexed = p .indexed;
         env-fits = record {
           places = s .places;
@@ -292,17 +313,71 @@ module _ {ar ws high : List ℕ} {n : ℕ} {constants facts index : List ℕ} (p
         };
       }
 
-      -- and its end is the higher of the best so far and the value
-      pub found-number : {best b : ℕ} {env′ : List ℕ} → Best ar facts ws env n (rowCount ws - 1) best b env′ → b ≡ max best (suc (boundNumber ar ws n constants facts os))
-      found-number {best} {b} t =
-          let θ = best-is .point in
-          let v = best-is .value in
-          let k = t .kept in
-          let l = t .above θ (fits-extends ar n constants facts os (p .lent) o env s θ (best-is .inside)) in
-          omega (arith, leaf-value θ, top (t .hit))
+      module _ {best b : ℕ} {env′ : List ℕ} (t : Best ar facts ws high env n (rowCount ws - 1) best b env′) where
+        root-leaf : (θ : ℕ → ℕ) → leafFrom ar facts ws high θ (rowCount ws - 1) ≡ leafOf ar facts ws θ
+        root-leaf θ = root-number ar facts (listing-is-valid ar ws (p .listed)) (p .tops) θ
+
+        -- its end is the highest leaf
+        most : Topmost ar facts ws env n b
+        most θ x = omega (arith, root-leaf θ, t .above θ x)
+
+        pub found-most : Topmost ar facts ws env′ n b
+        found-most = subst (λ (e : List ℕ). Topmost ar facts ws e n b) (sym (t .restored)) most
+
+        -- which is the number where there is no minimum variable
+        pub found-number : {plain : Bool} → plain ≡ isPlain ar (diagramOf ws) → plain ≡ true → b ≡ max best (suc (boundNumber ar ws n constants facts os))
+        found-number e q =
+            let θ = best-is .point in
+            let v = best-is .value in
+            let k = t .kept in
+            let l = t .above θ (fits-extends ar n constants facts os (p .lent) o env s θ (best-is .inside)) in
+            omega (arith, leaf-value θ, root-leaf θ, top (t .hit))
+          where
+            best-is : Highest (stateOf ar n constants facts) os (meaning ar (diagramOf ws)) (boundNumber ar ws n constants facts os)
+            best-is = number-highest (stateOf ar n constants facts) os (meaning ar (diagramOf ws))
+                (fine-plain ar (diagramOf ws) (is-listing-good ar ws (p .listed) .fine) (sym e ∙ q)) _ the-number
+
+            top : Hit ar facts ws high env n (rowCount ws - 1) best b → b ≤ max best (suc (boundNumber ar ws n constants facts os))
+            top (old z) = omega arith
+            top (new θ x z) =
+                let f = best-is .bound θ (extends-fits ar n constants facts os (p .lent) o env s θ m x) in
+                omega (arith, leaf-value θ, root-leaf θ)
+
+        -- and where it is the best so far, the number does not pass that either
+        pub found-none : b ≡ best → best ≡ max best (suc (boundNumber ar ws n constants facts os))
+        found-none e = number-cut (λ θ f. omega (arith, most θ (fits-extends ar n constants facts os (p .lent) o env s θ f)))
+
+        -- the search over the maximum variables may begin
+        pub found-chosen : Chosen ws ar facts index env′ n firstVariable
+        found-chosen = subst (λ (e : List ℕ). Chosen ws ar facts index e n firstVariable) (sym (t .restored)) (record {
+          valid = listing-is-valid ar ws (p .listed);
+          indexed = p .indexed;
+          env-fits = start-ready .env-fits;
+          end = omega arith;
+          bound = λ u h z e. omega (arith, s .bound u h, fixed-below ar n constants facts os (p .lent) o u);
+          unbound = s .unbound;
+        })
+
+      -- and its end is the number: the highest of the lowest leaves
+      under : (θ η : ℕ → ℕ) → Fits (stateOf ar n constants facts) os θ → Beneath n θ η → Under (stateOf ar n constants facts) os θ η
+      unfolding stateOf
+      under θ η f u = record { fits = record { low = λ t h. u .same t (omega arith) ∙ f .low t h; range = u .range }; same = u .same }
+
+      beneath : (θ η : ℕ → ℕ) → Under (stateOf ar n constants facts) os θ η → Beneath n θ η
+      unfolding stateOf
+      beneath θ η u = record { same = u .same; range = u .fits .range }
+
+      pub risen-number : {best b r : ℕ} {env′ : List ℕ} → Best ar facts ws high env n (rowCount ws - 1) best b env′ → Risen ar facts ws env′ n best r
+          → r ≡ max best (suc (boundNumber ar ws n constants facts os))
+      risen-number {best} {b} {r} t w = ends (subst (λ (e : List ℕ). Risen ar facts ws e n best r) (t .restored) w)
         where
-          top : Hit ar facts ws env n (rowCount ws - 1) best b → b ≤ max best (suc (boundNumber ar ws n constants facts os))
-          top (old z) = omega arith
-          top (new θ x z) =
-              let f = best-is .bound θ (extends-fits ar n constants facts os (p .lent) o env s θ m x) in
-              omega (arith, leaf-value θ)
+          top : Held ar facts ws env n best r → r ≤ max best (suc (boundNumber ar ws n constants facts os))
+          top (rising.old z) = omega arith
+          top (rising.new θ x f) =
+              let h = the-number .bound θ (extends-fits ar n constants facts os (p .lent) o env s θ m x) in
+              omega (arith, h .2, leaf-value (h .0), f (h .0) (beneath θ (h .0) (h .1)))
+
+          ends : Risen ar facts ws env n best r → r ≡ max best (suc (boundNumber ar ws n constants facts os))
+          ends w =
+              let a = w .above (the-number .point) (fits-extends ar n constants facts os (p .lent) o env s (the-number .point) (the-number .inside)) in
+              omega (arith, w .kept, a .2, leaf-value (a .0), the-number .lowest .bound (a .0) (under (the-number .point) (a .0) (the-number .inside) (a .1)), top (w .held))

@@ -1,6 +1,7 @@
--- What the value call's parts keep and answer: its index of facts, its search, its second way of working, and values with objects for the parameters.
+-- What the value call's parts keep and answer: its index of facts, its search, its search with minimum variables, its second way of working, and values with objects for the parameters.
 pub mod Index
 pub mod Search
+pub mod Rising
 pub mod Tables
 pub mod Walks
 -- laws

@@ -7,6 +7,7 @@ use lib.ListN.{length, getD}
 use lib.Dec.{eqb}
 use Rattle.label.specs.Limits.{termEnd, leafMark, firstParameter, firstVariable}
 use Rattle.label.specs.Labels.{areArities, isLabel, predicateOf, placeAt, unpacked, termsOf}
+use Rattle.diagram.specs.Sizes.{highestValue}
 use Rattle.diagram.specs.Diagram.{eval}
 use Rattle.diagram.specs.Words.{labelAt, highAt, lowAt, rowCount}
 use Rattle.diagram.specs.Validity.{Valid, tree}
@@ -20,10 +21,14 @@ use Rattle.valuing.specs.Index.{indexedCount, givenAt, bucketOf, Indexed
 abbrev pub free : ℕ
 free = 18446744073709551615
 
--- `high` has for each of the first n rows a number that no leaf below the row passes, and for a leaf its value
-pub record Tops (ws high : List ℕ) (n : ℕ) : Type 0 where
-  pub bound : (r : ℕ) → r < n → (c : ℕ → Bool) → eval c (tree ws r) ≤ getD high r 0
-  pub leaves : (r : ℕ) → r < n → labelAt ws r ≡ leafMark → getD high r 0 ≡ highAt ws r
+-- `high` has for each of the first n rows a number that g of no leaf below the row passes, and for a leaf g of its value
+pub record TopsBy (g : ℕ → ℕ) (ws high : List ℕ) (n : ℕ) : Type 0 where
+  pub bound : (r : ℕ) → r < n → (c : ℕ → Bool) → g (eval c (tree ws r)) ≤ getD high r 0
+  pub leaves : (r : ℕ) → r < n → labelAt ws r ≡ leafMark → getD high r 0 ≡ g (highAt ws r)
+
+-- of the leaves themselves
+abbrev pub Tops : List ℕ → List ℕ → ℕ → Type 0
+Tops ws high n = TopsBy (λ x. x) ws high n
 
 -- room for a number for each row
 pub record Topping (ws high : List ℕ) : Type 0 where
@@ -32,8 +37,8 @@ pub record Topping (ws high : List ℕ) : Type 0 where
   pub places : rowCount ws ≤ length high
 
 -- the number of row i, by those of its children
-unfoldable pub topAt : List ℕ → List ℕ → ℕ → ℕ
-topAt ws high i = cond (eqb (labelAt ws i) leafMark) (highAt ws i) (max (getD high (highAt ws i) 0) (getD high (lowAt ws i) 0))
+unfoldable pub topBy : (ℕ → ℕ) → List ℕ → List ℕ → ℕ → ℕ
+topBy g ws high i = cond (eqb (labelAt ws i) leafMark) (g (highAt ws i)) (max (getD high (highAt ws i) 0) (getD high (lowAt ws i) 0))
 
 -- whether p holds of the objects os, by lent facts
 abbrev pub lentTruth : List ℕ → List ℕ → ℕ → List ℕ → Bool
@@ -44,9 +49,15 @@ lentTruth ar facts (suc p) os = saidBy ar facts (suc p) os
 unfoldable pub lentHolds : List ℕ → List ℕ → (ℕ → ℕ) → ℕ → Bool
 lentHolds ar facts θ l = lentTruth ar facts (predicateOf l) (map θ (termsOf ar (unpacked l)))
 
--- the leaf to which θ leads from row r
-unfoldable pub leafFrom : List ℕ → List ℕ → List ℕ → (ℕ → ℕ) → ℕ → ℕ
-leafFrom ar facts ws θ r = eval (lentHolds ar facts θ) (tree ws r)
+-- the leaf's row to which the choice c leads from row r, at most `depth` rows deep: children stand before their parents, so that r rows are enough
+unfoldable pub endRow : List ℕ → (ℕ → Bool) → ℕ → ℕ → ℕ
+endRow ws c zero r = r
+endRow ws c (suc depth) r = cond (eqb (labelAt ws r) leafMark) r (endRow ws c depth (cond (c (labelAt ws r)) (highAt ws r) (lowAt ws r)))
+
+-- the number of the leaf to which θ leads from row r
+unfoldable pub leafFrom : List ℕ → List ℕ → List ℕ → List ℕ → (ℕ → ℕ) → ℕ → ℕ
+unfolding endRow
+leafFrom ar facts ws high θ r = getD high (endRow ws (lentHolds ar facts θ) r r) 0
 
 -- θ gives every term one of n objects, and terms that have one in env that one
 pub record Extends (n : ℕ) (env : List ℕ) (θ : ℕ → ℕ) : Type 0 where
@@ -102,22 +113,27 @@ pub record Telling (ar facts index env : List ℕ) (l b : ℕ) : Type 0 where
   pub indexed : Indexed ar facts index (indexedCount facts)
   pub bucket : b ≡ bucketOf env l (getD ar (predicateOf l) 0)
 
--- b is the best so far, or one more than a leaf that is reached from row r
-pub data Hit (ar facts ws env : List ℕ) (n r best b : ℕ) : Type 0 where
-  old : b ≡ best → Hit ar facts ws env n r best b
-  new : (θ : ℕ → ℕ) → Extends n env θ → b ≡ suc (leafFrom ar facts ws θ r) → Hit ar facts ws env n r best b
+-- b is the best so far, or one more than the number of a leaf that is reached from row r
+pub data Hit (ar facts ws high env : List ℕ) (n r best b : ℕ) : Type 0 where
+  old : b ≡ best → Hit ar facts ws high env n r best b
+  new : (θ : ℕ → ℕ) → Extends n env θ → b ≡ suc (leafFrom ar facts ws high θ r) → Hit ar facts ws high env n r best b
 
--- b is the highest of `best` and one more than each leaf that is reached from row r; env is as it was
-pub record Best (ar facts ws env : List ℕ) (n r best b : ℕ) (env′ : List ℕ) : Type 0 where
+-- b is the highest of `best` and one more than the number of each leaf that is reached from row r; env is as it was
+pub record Best (ar facts ws high env : List ℕ) (n r best b : ℕ) (env′ : List ℕ) : Type 0 where
   pub restored : env′ ≡ env
   pub kept : best ≤ b
-  pub above : (θ : ℕ → ℕ) → Extends n env θ → leafFrom ar facts ws θ r < b
-  pub hit : Hit ar facts ws env n r best b
+  pub above : (θ : ℕ → ℕ) → Extends n env θ → leafFrom ar facts ws high θ r < b
+  pub hit : Hit ar facts ws high env n r best b
+
+-- the rows' numbers: that of no leaf below a row passes the row's, and a leaf's has room for one more
+pub record Numbered (ws high : List ℕ) : Type 0 where
+  pub bound : (r : ℕ) → r < rowCount ws → (c : ℕ → Bool) → getD high (endRow ws c r r) 0 ≤ getD high r 0
+  pub few : (r : ℕ) → r < rowCount ws → labelAt ws r ≡ leafMark → getD high r 0 ≤ highestValue
 
 -- what the search needs
 pub record Ready (ws high ar facts index env : List ℕ) (n : ℕ) : Type 0 where
   pub valid : Valid ar ws
   pub places : rowCount ws ≤ length high
-  pub tops : Tops ws high (rowCount ws)
+  pub tops : Numbered ws high
   pub indexed : Indexed ar facts index (indexedCount facts)
   pub env-fits : Env n env

@@ -24,13 +24,13 @@ use Rattle.valuing.specs.Search.{Tops}
 abbrev pub boundNumber : List ℕ → List ℕ → ℕ → List ℕ → List ℕ → List ℕ → ℕ
 boundNumber ar ws n constants facts os = number (stateOf ar n constants facts) os (meaning ar (diagramOf ws))
 
--- 15 where both ways of working are too large, else the number: "with 15 judged for each binding" (L9), "for each state" (L11)
+-- 15 where no way of working may be taken, else the number: "with 15 judged for each binding" (L9), "for each state" (L11)
 unfoldable pub boundAnswer : List ℕ → List ℕ → ℕ → List ℕ → List ℕ → List ℕ → Valued
 unfolding isTooLarge stateOf
 boundAnswer ar ws n constants facts os =
     cond (isTooLarge ar (stateOf ar n constants facts) os ws) (Refused Valuations) (Value (boundNumber ar ws n constants facts os))
 
--- the best so far after one answer more: one more than the best leaf, 0 for none
+-- the best so far after one answer more: one more than the best number, 0 for none
 unfoldable pub climbed : ℕ → Valued → Valued
 climbed best (Value v) = Value (max best (suc v))
 climbed best (Refused r) = Refused r

@@ -5,16 +5,20 @@ ghost use mathlib.Core.List.{[]};
 ghost use Prim.Native.Nat.{suc, _+_, _-_, _*_, _^_, _<_, _≤_, max};
 ghost use lib.ListN.{length, getD};
 ghost use lib.Dec.{eqb, ltb, leb};
-ghost use Rattle.label.specs.Limits.{mostPlaces, termEnd, firstParameter, parameterCount, firstVariable};
+ghost use Rattle.label.specs.Limits.{mostPlaces, termEnd, firstParameter, parameterCount, firstVariable, firstMinimum};
+ghost use Rattle.diagram.specs.Sizes.{highestValue};
+ghost use Rattle.diagram.specs.Listing.{diagramOf};
+ghost use Rattle.diagram.specs.Variables.{isPlain};
 ghost use Rattle.diagram.specs.Words.{highAt, lowAt, rowCount, isListing, everyBelow};
-ghost use Rattle.listing.specs.Used.{setFrom};
+ghost use Rattle.listing.specs.Used.{Used, setFrom, markedVariables, markedMinimums};
 ghost use Rattle.state.specs.Lent.{factWords, factCount, someBelow, allBelow, namesBelow, constantsBelow, isState};
 ghost use Rattle.state.specs.ValueCall.{mostValuations};
 ghost use Rattle.elimination.specs.Answer.{valueAnswer};
 ghost use Rattle.valuing.specs.Index.{buckets, mostIndexed, indexedCount, placeCount, hashEnd, hashGap, hashStart, hashStep, bucketFor, bucketAt, says, Indexed, Clean, Placed, Asked, Sought};
 ghost use Rattle.valuing.specs.Tables.{tablesAnswer, Liftable};
 ghost use Rattle.valuing.specs.Walks.{boundNumber, boundAnswer, climbed, isFew, Prepared};
-ghost use Rattle.valuing.specs.Search.{free, Topping, Tops, topAt, fixedIn, Placing, lentHolds, given, Labelled, LooksUp, Telling, Best, Ready};
+ghost use Rattle.valuing.specs.Search.{free, Topping, TopsBy, Tops, topBy, fixedIn, Placing, lentHolds, given, Labelled, LooksUp, Telling, Best, Ready};
+ghost use Rattle.valuing.specs.Rising.{turned, Risen, Settled, Topmost, Chosen, Rising, Next};
 use eliminate::Reached;
 use label::Label;
 use label::Term;
@@ -262,13 +266,13 @@ fn go(
 ) -> u64
     requires { ⌜ Ready (now words) (now high) (now arities) (now facts) (now index) (now env) n ⌝ }
     requires { ⌜ r0 < rowCount (now words) ⌝ }
-    ensures { λ b. ⌜ Best (now (arities .entry)) (now (facts .entry)) (now (words .entry)) (now (env .entry)) n r0 best b (now (env .exit)) ⌝ }
+    ensures { λ b. ⌜ Best (now (arities .entry)) (now (facts .entry)) (now (words .entry)) (now (high .entry)) (now (env .entry)) n r0 best b (now (env .exit)) ⌝ }
 {
     let mut r = r0;
     while high[r] >= best {
         let w = words[r * 3];
         if w == Label::LEAF {
-            return words[r * 3 + 1] + 1;
+            return high[r] + 1;
         }
         let l = Label { packed: w };
         match look_up(arities, env, l) {
@@ -300,7 +304,7 @@ fn bind(
     requires { ⌜ r < rowCount (now words) ⌝ }
     requires { ⌜ t < termEnd ⌝ }
     requires { ⌜ getD (now env) t 0 ≡ free ⌝ }
-    ensures { λ b. ⌜ Best (now (arities .entry)) (now (facts .entry)) (now (words .entry)) (now (env .entry)) n r best b (now (env .exit)) ⌝ }
+    ensures { λ b. ⌜ Best (now (arities .entry)) (now (facts .entry)) (now (words .entry)) (now (high .entry)) (now (env .entry)) n r best b (now (env .exit)) ⌝ }
 {
     let mut b = best;
     let mut v = 0;
@@ -321,7 +325,7 @@ fn bind(
 fn top(words: &[u64], high: &[u64], i: usize) -> u64
     requires { ⌜ Topping (now words) (now high) ⌝ }
     requires { ⌜ i < rowCount (now words) ⌝ }
-    ensures { λ r. ⌜ r ≡ topAt (now (words .entry)) (now (high .entry)) i ⌝ }
+    ensures { λ r. ⌜ r ≡ topBy (λ x. x) (now (words .entry)) (now (high .entry)) i ⌝ }
 {
     if words[i * 3] == Label::LEAF {
         return words[i * 3 + 1];
@@ -348,6 +352,169 @@ pub fn tops(words: &[u64], high: &mut [u64])
         high[i] = x;
         i += 1;
     }
+}
+
+// What stands for the leaf x where the lowest leaf is sought: the lower it is, the higher, and what is below best as high as can be.
+fn turned_leaf(best: u64, x: u64) -> u64
+    requires { ⌜ x ≤ highestValue ⌝ }
+    ensures { λ r. ⌜ r ≡ turned best x ⌝ }
+{
+    if x < best {
+        return diagram::VALUE;
+    }
+    diagram::VALUE - x
+}
+
+// The highest that stands for a leaf below row i, where its children's are known.
+fn low_top(words: &[u64], low: &[u64], best: u64, i: usize) -> u64
+    requires { ⌜ Topping (now words) (now low) ⌝ }
+    requires { ⌜ i < rowCount (now words) ⌝ }
+    ensures { λ r. ⌜ r ≡ topBy (turned best) (now (words .entry)) (now (low .entry)) i ⌝ }
+{
+    if words[i * 3] == Label::LEAF {
+        return turned_leaf(best, words[i * 3 + 1]);
+    }
+    top(words, low, i)
+}
+
+// Each row's.
+fn turn(words: &[u64], best: u64, low: &mut [u64])
+    requires { ⌜ Topping (now words) (now low) ⌝ }
+    ensures { λ _. ⌜ TopsBy (turned best) (now (words .entry)) (now (low .exit)) (rowCount (now (words .entry))) ⌝ }
+{
+    let rows = words.len() / 3;
+    let mut i = 0;
+    while i < rows {
+        let x = low_top(words, low, best, i);
+        low[i] = x;
+        i += 1;
+    }
+}
+
+// The lowest leaf where all maximum variables have objects: the higher of best and one more than it.
+fn settle(
+    words: &[u64],
+    low: &mut [u64],
+    arities: &[u64],
+    facts: &[u64],
+    index: &[u16],
+    env: &mut [u64],
+    n: u64,
+    best: u64,
+) -> u64
+    requires { ⌜ Rising (now words) (now low) (now arities) (now facts) (now index) (now env) n firstMinimum best ⌝ }
+    ensures { λ b. ⌜ Settled (now (arities .entry)) (now (facts .entry)) (now (words .entry)) (now (env .entry)) n best b (now (low .exit)) (now (env .exit)) ⌝ }
+{
+    let root = words.len() / 3 - 1;
+    let a = go(words, low, arities, facts, index, env, n, root, 0);
+    let b = diagram::VALUE + 2 - a;
+    if b <= best {
+        return best;
+    }
+    turn(words, b, low);
+    b
+}
+
+// The first maximum variable from t on that is marked, or where they end.
+fn next_marked(marks: &[u64], t: usize) -> usize
+    requires { ⌜ length (now marks) ≡ termEnd ⌝ }
+    requires { ⌜ t ≤ firstMinimum ⌝ }
+    ensures { λ r. ⌜ Next (now (marks .entry)) t r ⌝ }
+{
+    let mut r = t;
+    while r < (Term::FIRST_MINIMUM as usize) {
+        if marks[r] != 0 {
+            return r;
+        }
+        r += 1;
+    }
+    r
+}
+
+// Gives the maximum variables from t on that are marked each choice of objects, and finds the lowest leaf beneath each, until the best reaches what no leaf passes:
+// the higher of best and one more than the highest of these. low is made anew where the best rises.
+fn rise(
+    words: &[u64],
+    low: &mut [u64],
+    arities: &[u64],
+    facts: &[u64],
+    index: &[u16],
+    marks: &[u64],
+    env: &mut [u64],
+    n: u64,
+    t: usize,
+    most: u64,
+    best: u64,
+) -> u64
+    requires { ⌜ Rising (now words) (now low) (now arities) (now facts) (now index) (now env) n t best ⌝ }
+    requires { ⌜ Used (now arities) (diagramOf (now words)) (now marks) ⌝ }
+    requires { ⌜ Topmost (now arities) (now facts) (now words) (now env) n most ⌝ }
+    ensures { λ b. ⌜ Settled (now (arities .entry)) (now (facts .entry)) (now (words .entry)) (now (env .entry)) n best b (now (low .exit)) (now (env .exit)) ⌝ }
+{
+    if t == (Term::FIRST_MINIMUM as usize) {
+        return settle(words, low, arities, facts, index, env, n, best);
+    }
+    let next = next_marked(marks, t + 1);
+    let mut b = best;
+    let mut v = 0;
+    while v < n {
+        if most <= b {
+            env[t] = FREE;
+            return b;
+        }
+        env[t] = v;
+        b = rise(
+            words,
+            low,
+            arities,
+            facts,
+            index,
+            marks,
+            env,
+            n,
+            next,
+            most,
+            b,
+        );
+        v += 1;
+    }
+    env[t] = FREE;
+    b
+}
+
+// The same for all maximum variables.
+fn rise_all(
+    words: &[u64],
+    arities: &[u64],
+    facts: &[u64],
+    index: &[u16],
+    env: &mut [u64],
+    n: u64,
+    most: u64,
+    best: u64,
+) -> u64
+    requires { ⌜ Chosen (now words) (now arities) (now facts) (now index) (now env) n firstVariable ⌝ }
+    requires { ⌜ Topmost (now arities) (now facts) (now words) (now env) n most ⌝ }
+    ensures { λ b. ⌜ Risen (now (arities .entry)) (now (facts .entry)) (now (words .entry)) (now (env .entry)) n best b ⌝ }
+{
+    let mut marks = [0u64; Term::END as usize];
+    listing::used(arities, words, &mut marks);
+    let mut low = [0u64; diagram::ROWS];
+    turn(words, best, &mut low);
+    let first = next_marked(&marks, Term::FIRST_VARIABLE as usize);
+    rise(
+        words,
+        &mut low,
+        arities,
+        facts,
+        index,
+        &marks,
+        env,
+        n,
+        first,
+        most,
+        best,
+    )
 }
 
 // The object of constant c.
@@ -387,7 +554,7 @@ fn start(constants: &[u64], objects: &[u64], env: &mut [u64])
     }
 }
 
-// The higher of best and one more than the highest leaf, by the walk over rows: it is abandoned where it cannot pass best.
+// The higher of best and one more than the number, by the walk over rows: it is abandoned where it cannot pass best. plain says that there is no minimum variable.
 fn climb_rows(
     arities: &[u64],
     words: &[u64],
@@ -397,10 +564,12 @@ fn climb_rows(
     facts: &[u64],
     index: &[u16],
     objects: &[u64],
+    plain: bool,
     best: u64,
 ) -> u64
     requires { ⌜ Prepared (now arities) (now words) (now high) n (now constants) (now facts) (now index) ⌝ }
     requires { ⌜ allBelow n (now objects) ≡ true ⌝ }
+    requires { ⌜ plain ≡ isPlain (now arities) (diagramOf (now words)) ⌝ }
     ensures { λ r. ⌜ r ≡ max best (suc (boundNumber (now (arities .entry)) (now (words .entry)) n (now (constants .entry)) (now (facts .entry)) (now (objects .entry)))) ⌝ }
 {
     let root = words.len() / 3 - 1;
@@ -409,21 +578,30 @@ fn climb_rows(
     }
     let mut env = [FREE; Term::END as usize];
     start(constants, objects, &mut env);
-    go(words, high, arities, facts, index, &mut env, n, root, best)
+    let most = go(words, high, arities, facts, index, &mut env, n, root, best);
+    if plain {
+        return most;
+    }
+    if most == best {
+        return best;
+    }
+    rise_all(words, arities, facts, index, &mut env, n, most, best)
 }
 
-// The highest leaf of a listing over all valuations of a state, with objects for the parameters.
-fn highest_leaf(
+// The number of a listing in a state, with objects for the parameters.
+fn number_of(
     arities: &[u64],
     words: &[u64],
     n: u64,
     constants: &[u64],
     facts: &[u64],
     objects: &[u64],
+    plain: bool,
 ) -> u64
     requires { ⌜ isListing (now arities) (now words) ≡ true ⌝ }
     requires { ⌜ isState (now arities) n (now constants) (now facts) ≡ true ⌝ }
     requires { ⌜ allBelow n (now objects) ≡ true ⌝ }
+    requires { ⌜ plain ≡ isPlain (now arities) (diagramOf (now words)) ⌝ }
     ensures { λ r. ⌜ r ≡ boundNumber (now (arities .entry)) (now (words .entry)) n (now (constants .entry)) (now (facts .entry)) (now (objects .entry)) ⌝ }
 {
     let mut high = [0u64; diagram::ROWS];
@@ -439,6 +617,7 @@ fn highest_leaf(
         facts,
         &index,
         objects,
+        plain,
         0,
     );
     best - 1
@@ -480,6 +659,18 @@ fn few(n: u64, v: u64) -> bool
         i += 1;
     }
     true
+}
+
+// Whether n to the power of the marked variables of both kinds is within the limit.
+fn is_small(n: u64, marks: &[u64]) -> bool
+    requires { ⌜ 0 < n ⌝ }
+    requires { ⌜ length (now marks) ≡ termEnd ⌝ }
+    ensures { λ r. ⌜ r ≡ leb (n ^ (markedVariables (now (marks .entry)) + markedMinimums (now (marks .entry)))) mostValuations ⌝ }
+{
+    few(
+        n,
+        (listing::count_variables(marks) + listing::count_minimums(marks)) as u64,
+    )
 }
 
 // Whether row i of the facts names objects below n only.
@@ -540,7 +731,7 @@ pub fn state_fits(arities: &[u64], n: u64, constants: &[u64], facts: &[u64]) -> 
     facts_fit(arities, n, facts)
 }
 
-// The second way of working: by tables, unless these have too many entries.
+// The second way of working: by tables, unless there is a minimum variable or these have too many entries.
 fn by_tables(
     arities: &[u64],
     words: &[u64],
@@ -548,12 +739,17 @@ fn by_tables(
     constants: &[u64],
     facts: &[u64],
     objects: &[u64],
+    plain: bool,
 ) -> Valued
     requires { ⌜ isListing (now arities) (now words) ≡ true ⌝ }
     requires { ⌜ isState (now arities) n (now constants) (now facts) ≡ true ⌝ }
     requires { ⌜ allBelow n (now objects) ≡ true ⌝ }
+    requires { ⌜ plain ≡ isPlain (now arities) (diagramOf (now words)) ⌝ }
     ensures { λ r. ⌜ r ≡ tablesAnswer (now (arities .entry)) (now (words .entry)) n (now (constants .entry)) (now (facts .entry)) (now (objects .entry)) ⌝ }
 {
+    if !plain {
+        return Valued::Refused(Refusal::Valuations);
+    }
     let mut above = [0u64; diagram::ROWS];
     eliminate::find_above(arities, words, &mut above);
     let mut env = [0u64; Term::END as usize];
@@ -591,8 +787,8 @@ fn lifted(r: Valued, best: u64) -> Valued
     Valued::Value(v + 1)
 }
 
-// One value more, with objects for the parameters, on rows and facts prepared once: the higher of best and one more than the highest leaf. best is one more than the best
-// leaf so far, 0 for none; few says that the first way of working may be taken.
+// One value more, with objects for the parameters, on rows and facts prepared once: the higher of best and one more than the number. best is one more than the best
+// number so far, 0 for none; few says that the first way of working may be taken, plain that there is no minimum variable.
 pub fn climb(
     arities: &[u64],
     words: &[u64],
@@ -603,11 +799,13 @@ pub fn climb(
     index: &[u16],
     objects: &[u64],
     few: bool,
+    plain: bool,
     best: u64,
 ) -> Valued
     requires { ⌜ Prepared (now arities) (now words) (now high) n (now constants) (now facts) (now index) ⌝ }
     requires { ⌜ allBelow n (now objects) ≡ true ⌝ }
     requires { ⌜ few ≡ isFew (now arities) n (now words) ⌝ }
+    requires { ⌜ plain ≡ isPlain (now arities) (diagramOf (now words)) ⌝ }
     ensures { λ r. ⌜ r ≡ climbed best (boundAnswer (now (arities .entry)) (now (words .entry)) n (now (constants .entry)) (now (facts .entry)) (now (objects .entry))) ⌝ }
 {
     if few {
@@ -620,11 +818,12 @@ pub fn climb(
             facts,
             index,
             objects,
+            plain,
             best,
         ));
     }
     lifted(
-        by_tables(arities, words, n, constants, facts, objects),
+        by_tables(arities, words, n, constants, facts, objects, plain),
         best,
     )
 }
@@ -637,7 +836,17 @@ pub fn is_few(arities: &[u64], words: &[u64], n: u64) -> bool
 {
     let mut marks = [0u64; Term::END as usize];
     listing::used(arities, words, &mut marks);
-    few(n, listing::count_variables(&marks) as u64)
+    is_small(n, &marks)
+}
+
+// Whether there is no minimum variable.
+pub fn is_plain(arities: &[u64], words: &[u64]) -> bool
+    requires { ⌜ isListing (now arities) (now words) ≡ true ⌝ }
+    ensures { λ r. ⌜ r ≡ isPlain (now (arities .entry)) (diagramOf (now (words .entry))) ⌝ }
+{
+    let mut marks = [0u64; Term::END as usize];
+    listing::used(arities, words, &mut marks);
+    listing::is_plain(&marks)
 }
 
 // The value of a listing in a state, by the way of working that the count of valuations says; parameters have the object of constant 0.
@@ -648,17 +857,19 @@ fn value_by(
     constants: &[u64],
     facts: &[u64],
     few: bool,
+    plain: bool,
 ) -> Valued
     requires { ⌜ isListing (now arities) (now words) ≡ true ⌝ }
     requires { ⌜ isState (now arities) n (now constants) (now facts) ≡ true ⌝ }
     requires { ⌜ few ≡ isFew (now arities) n (now words) ⌝ }
+    requires { ⌜ plain ≡ isPlain (now arities) (diagramOf (now words)) ⌝ }
     ensures { λ r. ⌜ r ≡ boundAnswer (now (arities .entry)) (now (words .entry)) n (now (constants .entry)) (now (facts .entry)) [] ⌝ }
 {
     let objects = &constants[..0];
     if few {
-        return Valued::Value(highest_leaf(arities, words, n, constants, facts, objects));
+        return Valued::Value(number_of(arities, words, n, constants, facts, objects, plain));
     }
-    by_tables(arities, words, n, constants, facts, objects)
+    by_tables(arities, words, n, constants, facts, objects, plain)
 }
 
 // The value of a listing in a state, both known to be such.
@@ -673,8 +884,11 @@ pub fn value_listed(
     requires { ⌜ isState (now arities) n (now constants) (now facts) ≡ true ⌝ }
     ensures { λ r. ⌜ r ≡ boundAnswer (now (arities .entry)) (now (words .entry)) n (now (constants .entry)) (now (facts .entry)) [] ⌝ }
 {
-    let small = is_few(arities, words, n);
-    value_by(arities, words, n, constants, facts, small)
+    let mut marks = [0u64; Term::END as usize];
+    listing::used(arities, words, &mut marks);
+    let small = is_small(n, &marks);
+    let plain = listing::is_plain(&marks);
+    value_by(arities, words, n, constants, facts, small, plain)
 }
 
 // The value of a listing in a state that are lent with an arity list: its number.
@@ -692,6 +906,7 @@ pub fn value(arities: &[u64], words: &[u64], n: u64, constants: &[u64], facts: &
     if has_parameter(&marks) {
         return Valued::Refused(Refusal::Unbound);
     }
-    let small = few(n, listing::count_variables(&marks) as u64);
-    value_by(arities, words, n, constants, facts, small)
+    let small = is_small(n, &marks);
+    let plain = listing::is_plain(&marks);
+    value_by(arities, words, n, constants, facts, small, plain)
 }

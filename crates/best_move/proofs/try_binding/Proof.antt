@@ -12,12 +12,12 @@ slice-aggregate-climb c =
 climb-requires : tie.Need-climb-requires
 climb-requires c κs =
     let entry = c .before .before .before .before .before .before .before .before .before .before in
-    (entry .pre .0, (taken-below (entry .args .n) _ (entry .args .i) _ (entry .pre .1 .1 .0 .some) (c .before .before .objects-at .ensures), entry .pre .1 .0))
+    (entry .pre .0, (taken-below (entry .args .n) _ (entry .args .i) _ (entry .pre .1 .1 .0 .some) (c .before .before .objects-at .ensures), (entry .pre .1 .0, entry .pre .1 .1 .1 .1)))
 
 returns : tie.Need-returns
 returns c =
     let entry = c .before .before .before .before .before .before .before .before .before .before .before .before in
-    binding-taken _ _ _ _ _ (entry .pre .0 .listed) (entry .args .l) (entry .pre .1 .1 .1) _ _ _ (entry .pre .1 .1 .0 .few)
+    binding-taken _ _ _ _ _ (entry .pre .0 .listed) (entry .args .l) (entry .pre .1 .1 .1 .0) _ _ _ (entry .pre .1 .1 .0 .few)
     (digits-taken _ _ _ _ (c .before .before .before .before .objects-at .ensures)) (c .before .climb .ensures) (c .taken .ensures)
 
 pub try-binding-spec : {M : Type 1} → statement M

@@ -9,14 +9,14 @@ use Rattle.best_move.proofs.try_bindings.Statement.{statement}
 use Rattle.best_move.proofs.try_bindings.Tie as tie
 
 abbrev Inv-loop : tie.InvT-loop
-Inv-loop arities words high n constants facts index few action count total l₀ i₀ l i =
+Inv-loop arities words high n constants facts index few plain action count total l₀ i₀ l i =
     Binding arities (stateOf arities n constants facts) action (diagramOf words) n count total l₀ l i
 
 abbrev μ-loop : tie.MeasureT-loop
-μ-loop arities words high n constants facts index few action count total l₀ i₀ l i = total - i
+μ-loop arities words high n constants facts index few plain action count total l₀ i₀ l i = total - i
 
 loop-holds : tie.Need-loop-holds Inv-loop μ-loop
-loop-holds c = binding-start (c .before .before .before .before .before .before .pre .1 .1 .1 .1)
+loop-holds c = binding-start (c .before .before .before .before .before .before .pre .1 .1 .1 .1 .0)
 
 is-settled-requires : tie.Need-is-settled-requires Inv-loop μ-loop
 is-settled-requires c κs = let entry = c .before .before .before .before .before .before .before .before in record { some = root-some (entry .pre .0); places = entry .pre .0 .places }
@@ -33,7 +33,7 @@ returns c =
 try-binding-requires : tie.Need-try-binding-requires Inv-loop μ-loop
 try-binding-requires c κs =
     let entry = c .before .before .before .before .before .before .before .before .before .before in
-    (entry .pre .0, (entry .pre .1 .0, (entry .pre .1 .1 .0, c .before .before .before .loop .inv .leading)))
+    (entry .pre .0, (entry .pre .1 .0, (entry .pre .1 .1 .0, (c .before .before .before .loop .inv .leading, entry .pre .1 .1 .1 .1 .1))))
 
 returns-2 : tie.Need-returns-2 Inv-loop μ-loop
 returns-2 c =

@@ -21,19 +21,21 @@ tops-requires c κs = high-room (c .before .before .before .before .before .befo
 
 count-choices-requires : tie.Need-count-choices-requires
 count-choices-requires c κs =
-    let h = c .before .before .before .before .before .before .before .before .before .before .before .before .before .before .before .before .before .before .pre in
-    let e = c .before .before .before .before .before .before .before .before .before .before .before .before .before .ground-count .ensures in
-    let l = c .before .before .before .before .before .before .before .before .before .before .before .before .if1 .left in
-    let w = c .before .before .before .before .before .before .before .before .before .before .write-ground in
-    let t = c .before .before .before .before .before .before .before .tops in (
-      count-valuing h 1024 (lit≤ tt) (t .kept .1 .0) (t .ensures) (c .before .before .before .before .before .is-few .ensures),
+    let marked = c .before .before .before .before .before in
+    let told = marked .before in
+    let t = told .before .before .tops in
+    let w = told .before .before .before .before .before .write-ground in
+    let l = told .before .before .before .before .before .before .before .if1 .left in
+    let e = told .before .before .before .before .before .before .before .before .ground-count .ensures in
+    let h = told .before .before .before .before .before .before .before .before .before .before .before .before .before .pre in (
+      count-valuing h 1024 (lit≤ tt) (t .kept .1 .0) (t .ensures) (told .is-few .ensures) (marked .is-plain .ensures),
       (count-choices h e _ l (w .ensures) 112 (lit≤ tt) (w .kept .1 .1 .1 .0), (clean-zeros 6144 (lit≤ tt), count-spreading h e _ l (w .ensures))),
     )
 
 returns-2 : tie.Need-returns-2
 returns-2 c =
     let a = c .before .before .before .before in
-    let b = a .before .before .before .before .before .before .before .before .before .before .before in
+    let b = a .before .before .before .before .before .before .before .before .before .before .before .before in
     let w = b .write-ground in
     let l = b .before .before .if1 .left in
     let e = b .before .before .before .ground-count .ensures in
@@ -43,5 +45,5 @@ pub count-spec : {M : Type 1} → statement M
 count-spec =
     tie.close
     (tie.spec ground-count-requires returns (λ c. search needs) write-ground-requires (λ c. search needs) tops-requires
-    (λ c κs. search needs) (λ c. search needs) (λ c. search needs) (λ c. search needs) (λ c. search needs) count-choices-requires
+    (λ c κs. search needs) (λ c κs. search needs) (λ c. search needs) (λ c. search needs) (λ c. search needs) (λ c. search needs) count-choices-requires
     (λ c. search needs) returns-2)

@@ -5,11 +5,11 @@ use Rattle.count_states.proofs.count_choices.Statement.{statement}
 use Rattle.count_states.proofs.count_choices.Tie as tie
 
 abbrev Inv-loop : tie.InvT-loop
-Inv-loop arities words high few n constants rows g facts₀ index₀ table₀ states count₀ c₀ facts index table count c =
+Inv-loop arities words high few plain n constants rows g facts₀ index₀ table₀ states count₀ c₀ facts index table count c =
     Counting arities words n constants rows g facts₀ index₀ table₀ states facts index table count c
 
 abbrev μ-loop : tie.MeasureT-loop
-μ-loop arities words high few n constants rows g facts₀ index₀ table₀ states count₀ c₀ facts index table count c = states - c
+μ-loop arities words high few plain n constants rows g facts₀ index₀ table₀ states count₀ c₀ facts index table count c = states - c
 
 power-requires : tie.Need-power-requires Inv-loop μ-loop
 power-requires c κs = search choices-power

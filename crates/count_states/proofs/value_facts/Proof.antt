@@ -5,7 +5,7 @@ use Rattle.count_states.proofs.value_facts.Statement.{statement}
 use Rattle.count_states.proofs.value_facts.Tie as tie
 
 climb-requires : tie.Need-climb-requires
-climb-requires c κs = (search facts-prepared, (refl, search needs))
+climb-requires c κs = (search facts-prepared, (refl, (search needs, search needs)))
 
 pub value-facts-spec : {M : Type 1} → statement M
 value-facts-spec =

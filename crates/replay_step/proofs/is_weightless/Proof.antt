@@ -21,7 +21,7 @@ climb-requires c κs =
     let at-tops = at-index .before .before .before in
     let task = at-tops .before .before .before .before .before .before .before .pre in
     let room = high-kept 1024 (at-tops .tops .last .1 .0) (lit≤ tt) (at-tops .tops .kept .1 .0) in
-    (prepared _ _ _ _ _ _ _ (task .listed) (task .lent) room (at-tops .tops .ensures) (at-index .index-facts .ensures), (task .objects, sym (task .few)))
+    (prepared _ _ _ _ _ _ _ (task .listed) (task .lent) room (at-tops .tops .ensures) (at-index .index-facts .ensures), (task .objects, (sym (task .few), sym (task .plain))))
 
 returns : tie.Need-returns
 returns c =

@@ -210,8 +210,8 @@ go-loop-holds : (t : ℕ)
     (go-at t) go.Post go-Inv-loop go-μ-loop
 go-loop-holds t c = search going-start
 
-go-add-result-2 : (t : ℕ)
-    → go-lts.Need-add-result-2 (
+go-add-result : (t : ℕ)
+    → go-lts.Need-add-result (
       look-up-reads.Asked,
       look-up-reads.Learnt,
       bind-below t,
@@ -222,7 +222,7 @@ go-add-result-2 : (t : ℕ)
       follow-reads.Learnt,
     )
     (go-at t) go.Post go-Inv-loop go-μ-loop
-go-add-result-2 t c = omega (arith, going-value (c .before .before .before .before .before .loop .inv) (c .before .if2 .taken))
+go-add-result t c = omega (arith, going-value (c .before .before .before .before .before .loop .inv) (c .before .if2 .taken))
 
 go-same-length : (t : ℕ)
     → go-lts.Need-same-length (
@@ -409,6 +409,6 @@ pub +bind+go-spec : {M : Type 1} → statement M
     λ t. go-lts.spec
     (look-up-reads.Asked, look-up-reads.Learnt, bind-below t, bind.Post, truth-reads.Asked, truth-reads.Learnt, follow-reads.Asked, follow-reads.Learnt)
     (go-at t) go.Post go-Inv-loop go-μ-loop (go-loop-holds t) (λ c. search needs) (λ c. search needs) (λ c. search needs) (λ c. search needs)
-    (λ c. search needs) (λ c. search needs) (λ c. search needs) (λ c. search needs) (λ c. search needs) (go-add-result-2 t) (go-same-length t)
+    (λ c. search needs) (λ c. search needs) (λ c. search needs) (go-add-result t) (go-same-length t)
     (go-returns t) (go-look-up-requires t) (λ c. search needs) (go-bind-requires t) (go-same-length-2 t) (go-returns-2 t) (λ c. search needs) (go-truth-requires t)
     (λ c κs. search needs) (go-loop-less t) (go-loop-again t) (go-same-length-3 t) (go-returns-3 t)

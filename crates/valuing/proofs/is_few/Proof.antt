@@ -15,4 +15,4 @@ returns c = search few-marks
 
 pub is-few-spec : {M : Type 1} → statement M
 is-few-spec =
-    tie.close (tie.spec (λ c. search needs) used-requires (λ c. search needs) (λ c κs. search needs) (λ c κs. search needs) returns)
+    tie.close (tie.spec (λ c. search needs) used-requires (λ c. search needs) (λ c κs. search needs) returns)

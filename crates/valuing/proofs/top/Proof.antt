@@ -1,3 +1,4 @@
+use mathlib.Core.Path.{refl}
 use native.Mathlib.Omega.{arith}
 use Rattle.valuing.proofs.StartLaws.{top-leaf, top-low, top-high, top-true, top-false}
 use borrow.Author.Needs.{needs}
@@ -5,7 +6,7 @@ use Rattle.valuing.proofs.top.Statement.{statement}
 use Rattle.valuing.proofs.top.Tie as tie
 
 returns : tie.Need-returns
-returns c = search top-leaf
+returns c = top-leaf (λ x. x) _ _ _ (c .before .if1 .taken) refl
 
 mul-x : tie.Need-mul-x
 mul-x c = omega (arith, top-true (c .before .before .before .before .pre .0) (c .before .before .before .before .pre .1) (c .before .before .if1 .left))

@@ -7,7 +7,7 @@ use Rattle.valuing.proofs.tops.Statement.{statement}
 use Rattle.valuing.proofs.tops.Tie as tie
 
 abbrev Inv-loop : tie.InvT-loop
-Inv-loop words high₀ rows i₀ high i = (length high ≡ length high₀) × Topped words high i
+Inv-loop words high₀ rows i₀ high i = (length high ≡ length high₀) × Topped (λ x. x) words high i
 
 abbrev μ-loop : tie.MeasureT-loop
 μ-loop words high₀ rows i₀ high i = rows - i

@@ -2,7 +2,7 @@ use Prim.Native.Nat.{ℕ}
 use lib.ListN.{length-replicate}
 use Rattle.label.specs.Limits.{termEnd}
 use borrow.Author.Needs.{needs}
-use Rattle.valuing.proofs.CheckLaws.{value-1, value-2, value-3, value-4, state-some, few-marks, fits-listing, fits-valid, fits-state}
+use Rattle.valuing.proofs.CheckLaws.{value-1, value-2, value-3, value-4, state-some, few-marks, plain-marks, fits-listing, fits-valid, fits-state}
 use Rattle.valuing.proofs.value.Statement.{statement}
 use Rattle.valuing.proofs.value.Tie as tie
 
@@ -18,15 +18,20 @@ used-requires c κs = (fits-valid _ _ (c .before .before .before .before .check 
 returns-3 : tie.Need-returns-3
 returns-3 c = search value-3
 
-few-requires : tie.Need-few-requires
-few-requires c κs = let checked = c .before .before .before .before .before .before .before .before in state-some _ _ _ _ (checked .before .state-fits .ensures) (checked .if2 .left)
+is-small-requires : tie.Need-is-small-requires
+is-small-requires c κs =
+    let gate = c .before .before .before .before .before .before .before in
+    (state-some _ _ _ _ (gate .before .state-fits .ensures) (gate .if2 .left), search needs)
 
 value-by-requires : tie.Need-value-by-requires
 value-by-requires c κs =
-    let at-used = c .before .before .before .before .before .before .before in
+    let at-used = c .before .before .before .before .before .before .before .before in
     let checked = at-used .before .before in (
       fits-listing _ _ (checked .before .before .before .check .ensures) (checked .before .before .if1 .left),
-      (fits-state _ _ _ _ (checked .before .state-fits .ensures) (checked .if2 .left), few-marks _ _ _ (at-used .used .ensures) (c .before .count-variables .ensures) (c .few .ensures)),
+      (
+        fits-state _ _ _ _ (checked .before .state-fits .ensures) (checked .if2 .left),
+        (few-marks _ _ (at-used .used .ensures) _ (c .before .before .is-small .ensures), plain-marks _ _ (at-used .used .ensures) (c .is-plain .ensures)),
+      ),
     )
 
 returns-4 : tie.Need-returns-4
@@ -36,4 +41,4 @@ pub value-spec : {M : Type 1} → statement M
 value-spec =
     tie.close
     (tie.spec (λ c κs. search needs) returns (λ c κs. search needs) returns-2 (λ c. search needs) used-requires (λ c. search needs) (λ c κs. search needs)
-    returns-3 (λ c. search needs) (λ c κs. search needs) few-requires value-by-requires returns-4)
+    returns-3 (λ c. search needs) is-small-requires (λ c. search needs) (λ c κs. search needs) value-by-requires returns-4)

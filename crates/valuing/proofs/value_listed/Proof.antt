@@ -1,10 +1,24 @@
+use Prim.Native.Nat.{ℕ}
+use lib.ListN.{length-replicate}
 use borrow.Author.Needs.{needs}
-use Rattle.valuing.proofs.CheckLaws.{lent-some}
+use Rattle.label.specs.Limits.{termEnd}
+use Rattle.diagram.specs.ListingValid.{listing-is-valid}
+use Rattle.valuing.proofs.CheckLaws.{lent-some, few-marks, plain-marks}
 use Rattle.valuing.proofs.value_listed.Statement.{statement}
 use Rattle.valuing.proofs.value_listed.Tie as tie
 
-is-few-requires : tie.Need-is-few-requires
-is-few-requires c κs = (search needs, search lent-some)
+used-requires : tie.Need-used-requires
+used-requires c κs = (listing-is-valid _ _ (c .before .before .before .before .before .pre .0), length-replicate {A = ℕ} termEnd 0)
+
+is-small-requires : tie.Need-is-small-requires
+is-small-requires c κs = (search lent-some, search needs)
+
+value-by-requires : tie.Need-value-by-requires
+value-by-requires c κs =
+    let marked = c .before .before .before .before .before .used .ensures in
+    (search needs, (search needs, (few-marks _ _ marked _ (c .before .before .is-small .ensures), plain-marks _ _ marked (c .is-plain .ensures))))
 
 pub value-listed-spec : {M : Type 1} → statement M
-value-listed-spec = tie.close (tie.spec is-few-requires (λ c κs. search needs) (λ c. search needs))
+value-listed-spec =
+    tie.close
+    (tie.spec (λ c. search needs) used-requires (λ c. search needs) is-small-requires (λ c. search needs) (λ c κs. search needs) value-by-requires (λ c. search needs))

@@ -5,8 +5,8 @@ use Rattle.diagram.specs.Sizes.{mostRows}
 use Rattle.valuing.specs.Index.{buckets, mostIndexed}
 use Rattle.valuing.specs.WalkLaws.{clean-zeros}
 use Rattle.valuing.proofs.StartLaws.{topping-start, start-prepared}
-use Rattle.valuing.proofs.highest_leaf.Statement.{statement}
-use Rattle.valuing.proofs.highest_leaf.Tie as tie
+use Rattle.valuing.proofs.number_of.Statement.{statement}
+use Rattle.valuing.proofs.number_of.Tie as tie
 
 tops-requires : tie.Need-tops-requires
 tops-requires c κs = topping-start _ _ mostRows (c .before .before .before .before .before .before .pre .0) (omega arith)
@@ -21,8 +21,8 @@ climb-rows-requires c κs =
     let entry = at-tops .before .before .before .before .before .before .before .pre in
     (start-prepared (entry .0) (entry .1 .0) (at-tops .tops .ensures) (at-tops .tops .kept .1 .0) (at-index .index-facts .ensures), entry .1 .1)
 
-pub highest-leaf-spec : {M : Type 1} → statement M
-highest-leaf-spec =
+pub number-of-spec : {M : Type 1} → statement M
+number-of-spec =
     tie.close
     (tie.spec (λ c. search needs) tops-requires (λ c. search needs) index-facts-requires (λ c. search needs) (λ c. search needs) climb-rows-requires
     (λ c. search needs) (λ c. search needs))

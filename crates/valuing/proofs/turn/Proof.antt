@@ -1,0 +1,28 @@
+use borrow.Author.Needs.{needs}
+use mathlib.Core.Path.{_≡_}
+use Prim.Native.Nat.{_-_}
+use lib.ListN.{length, length-set}
+use Rattle.valuing.specs.Rising.{turned}
+use Rattle.valuing.proofs.StartLaws.{Topped, topped-start, topped-on, topped-end}
+use Rattle.valuing.proofs.turn.Statement.{statement}
+use Rattle.valuing.proofs.turn.Tie as tie
+
+abbrev Inv-loop : tie.InvT-loop
+Inv-loop words best low₀ rows i₀ low i = (length low ≡ length low₀) × Topped (turned best) words low i
+
+abbrev μ-loop : tie.MeasureT-loop
+μ-loop words best low₀ rows i₀ low i = rows - i
+
+loop-holds : tie.Need-loop-holds Inv-loop μ-loop
+loop-holds c = (search needs, search topped-start)
+
+loop-again : tie.Need-loop-again Inv-loop μ-loop
+loop-again c = (simp length-set (search needs), search topped-on)
+
+returns : tie.Need-returns Inv-loop μ-loop
+returns c = search topped-end
+
+pub turn-spec : {M : Type 1} → statement M
+turn-spec =
+    tie.close
+    (tie.spec Inv-loop μ-loop loop-holds (λ c κs. search needs) (λ c. search needs) (λ c. search needs) (λ c. search needs) (λ c. search needs) loop-again (λ c. search needs) returns)
