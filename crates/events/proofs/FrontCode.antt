@@ -13,11 +13,11 @@ use Rattle.words.specs.Bytes.{isLetter, isDigit, isNameByte, run, valueOf}
 use Rattle.words.specs.Keys.{keyOf}
 use Rattle.words.specs.ByteLaws.{part-tail}
 use Rattle.words.specs.declared.Key.{Key}
-use Rattle.events.specs.declared.Event.the-variants.{Name, Variable, Parameter, Number, Equal, Holds, Step, End}
+use Rattle.events.specs.declared.Event.the-variants.{Name, Variable, Parameter, Minimum, Number, Equal, Holds, Step, End}
 use Rattle.events.specs.declared.Seen.{Seen}
 use Rattle.events.specs.declared.Word.{Word}
 use Rattle.events.specs.FrontLaws.{front-moves}
-use Rattle.events.specs.Front.{space, behind, spaceBit, spaces, seen, nameKey, wordAt, isIf, atomFront, numberFront, frontOf, nextAt}
+use Rattle.events.specs.Front.{space, behind, spaceBit, spaces, pickSeen, seen, nameKey, wordAt, isIf, atomFront, numberFront, frontOf, nextAt}
 
 module _ (s : List ℕ) (i : ℕ) where
   pub spaces-stop : i < length s → getD s i 0 ≡ 41 → spaces (drop i s) ≡ 0
@@ -106,22 +106,28 @@ module _ (s : List ℕ) {b : ℕ} {l : Bool} (h : 1 < length s) (p : b ≡ getD 
         front-parameter g r = rw (lt-leb (length s) 1 h, ← p, ← q, e, ← u, f, ne-eqb b 63 n1, eq-eqb b 33 g, ← r)
 
         module _ (n2 : b ≡ 33 → ⊥) where
-          pub front-if : {c : Bool} {x : Seen} → b ≡ 40 → c ≡ isIf s → c ≡ true → x ≡ atomFront s 4 → x ≡ frontOf s
+          pub front-minimum : {w : Word} → b ≡ 37 → w ≡ wordAt s 1 → seen (Minimum (w .key)) (w .place) ≡ frontOf s
           unfolding frontOf
-          front-if g c d r = rw (lt-leb (length s) 1 h, ← p, ← q, e, ← u, f, ne-eqb b 63 n1, ne-eqb b 33 n2, eq-eqb b 40 g, ← c, d) r
+          front-minimum g r = rw (lt-leb (length s) 1 h, ← p, ← q, e, ← u, f, ne-eqb b 63 n1, ne-eqb b 33 n2, eq-eqb b 37 g, ← r)
 
-          pub front-atom : {c : Bool} {x : Seen} → b ≡ 40 → c ≡ isIf s → c ≡ false → x ≡ atomFront s 0 → x ≡ frontOf s
-          unfolding frontOf
-          front-atom g c d r = rw (lt-leb (length s) 1 h, ← p, ← q, e, ← u, f, ne-eqb b 63 n1, ne-eqb b 33 n2, eq-eqb b 40 g, ← c, d) r
-
-          module _ (n3 : b ≡ 40 → ⊥) where
-            pub front-step : {n : ℕ} → b ≡ 41 → n ≡ space s 1 → seen Step n ≡ frontOf s
+          module _ (n3 : b ≡ 37 → ⊥) where
+            -- past the marks: what stands at a bracket, and at another byte
+            unmarked : frontOf s ≡ pickSeen (eqb b 40) (pickSeen (isIf s) (atomFront s 4) (atomFront s 0)) (pickSeen (eqb b 41) (seen Step (space s 1)) (seen End 0))
             unfolding frontOf
-            front-step g r = rw (lt-leb (length s) 1 h, ← p, ← q, e, ← u, f, ne-eqb b 63 n1, ne-eqb b 33 n2, ne-eqb b 40 n3, eq-eqb b 41 g, ← r)
+            unmarked = rw (lt-leb (length s) 1 h, ← p, ← q, e, ← u, f, ne-eqb b 63 n1, ne-eqb b 33 n2, ne-eqb b 37 n3)
 
-            pub front-other : (b ≡ 41 → ⊥) → seen End 0 ≡ frontOf s
-            unfolding frontOf
-            front-other g = rw (lt-leb (length s) 1 h, ← p, ← q, e, ← u, f, ne-eqb b 63 n1, ne-eqb b 33 n2, ne-eqb b 40 n3, ne-eqb b 41 g)
+            pub front-if : {c : Bool} {x : Seen} → b ≡ 40 → c ≡ isIf s → c ≡ true → x ≡ atomFront s 4 → x ≡ frontOf s
+            front-if g c d r = rw (unmarked, eq-eqb b 40 g, ← c, d) r
+
+            pub front-atom : {c : Bool} {x : Seen} → b ≡ 40 → c ≡ isIf s → c ≡ false → x ≡ atomFront s 0 → x ≡ frontOf s
+            front-atom g c d r = rw (unmarked, eq-eqb b 40 g, ← c, d) r
+
+            module _ (n4 : b ≡ 40 → ⊥) where
+              pub front-step : {n : ℕ} → b ≡ 41 → n ≡ space s 1 → seen Step n ≡ frontOf s
+              front-step g r = rw (unmarked, ne-eqb b 40 n4, eq-eqb b 41 g, ← r)
+
+              pub front-other : (b ≡ 41 → ⊥) → seen End 0 ≡ frontOf s
+              front-other g = rw (unmarked, ne-eqb b 40 n4, ne-eqb b 41 g)
 
 pub next-front : (s : List ℕ) (i : ℕ) {x : Seen} → x ≡ frontOf (take (length s - i) (drop i s)) → record { event = x .event; place = i + x .taken } ≡ nextAt s i
 unfolding nextAt

@@ -4,16 +4,17 @@ use mathlib.Core.List.{List, map}
 use lib.ListN.{getD}
 use Rattle.words.specs.declared.Key.{Key}
 use Rattle.events.specs.declared.Event.{Event}
-use Rattle.events.specs.declared.Event.the-variants.{Name, Variable, Parameter, Number, Equal, Holds, Step, End}
+use Rattle.events.specs.declared.Event.the-variants.{Name, Variable, Parameter, Minimum, Number, Equal, Holds, Step, End}
 
 abbrev pub noKey : Key
 noKey = record { a = 0; b = 0 }
 
--- the key of a name, ?name or !name; other words have none
+-- the key of a name, ?name, !name or %name; other words have none
 abbrev pub keyIn : Event → Key
 keyIn (Name k) = k
 keyIn (Variable k) = k
 keyIn (Parameter k) = k
+keyIn (Minimum k) = k
 keyIn (Number v) = noKey
 keyIn Equal = noKey
 keyIn (Holds k n) = k
@@ -25,6 +26,7 @@ abbrev pub numberIn : Event → ℕ
 numberIn (Name k) = 0
 numberIn (Variable k) = 0
 numberIn (Parameter k) = 0
+numberIn (Minimum k) = 0
 numberIn (Number v) = v
 numberIn Equal = 0
 numberIn (Holds k n) = 0

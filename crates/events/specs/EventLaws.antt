@@ -16,7 +16,7 @@ use Rattle.words.specs.Keys.{keyOf}
 use Rattle.words.specs.Words.{IsName, IsNumber}
 use Rattle.words.specs.WordLaws.{name-pos, name-first, number-first}
 use Rattle.forms.specs.Tree.{Term, Atom, Diagram, manyBytes, termBytes, atomBytes, diagramBytes, All, GoodTerm, GoodAtom, GoodDiagram}
-use Rattle.forms.specs.Tree.Mark.{plain, variable, parameter}
+use Rattle.forms.specs.Tree.Mark.{plain, variable, parameter, minimum}
 use Rattle.forms.specs.Tree.Term.{term}
 use Rattle.forms.specs.Tree.Atom.{equal, holds}
 use Rattle.forms.specs.Tree.Diagram.{number, branch}
@@ -24,8 +24,8 @@ use Rattle.forms.specs.Complete.{space-stops, close-stops, no-name-no-digit, if
 use Rattle.text.specs.Line.{variableBytes, parameterBytes}
 use Rattle.events.specs.declared.Event.{Event}
 use Rattle.events.specs.declared.Event.the-variants.{Equal, Holds, Step}
-use Rattle.events.specs.Events.{nameEvent, variableEvent, parameterEvent, numberEvent, termEvent, atomEvents, diagramEvents}
-use Rattle.events.specs.Front.{space, behind, spaceBit, spaces, seen, nameKey, wordAt, isIf, atomFront, numberFront, frontOf, eventsOf}
+use Rattle.events.specs.Events.{nameEvent, variableEvent, parameterEvent, minimumEvent, numberEvent, termEvent, atomEvents, diagramEvents}
+use Rattle.events.specs.Front.{space, behind, spaceBit, spaces, seen, nameKey, wordAt, isIf, atomFront, numberFront, frontOf, isEnd, eventsOf}
 use Rattle.events.specs.FrontLaws.{event-at}
 
 -- what is left behind a number or a step, and behind a name
@@ -88,23 +88,34 @@ parameter-front : (n q : List ℕ) → IsName n → isNameByte (getD q 0 0) ≡ 
 unfolding frontOf isLetter isDigit
 parameter-front n q g h k = rw (long (33 ∷ n) q (omega arith) k, word-there (33 ∷ []) n q g h)
 
+minimum-front : (n q : List ℕ) → IsName n → isNameByte (getD q 0 0) ≡ false → 0 < length q
+    → frontOf (37 ∷ (n ++ q)) ≡ seen (minimumEvent n) (behind (37 ∷ (n ++ q)) (suc (length n)))
+unfolding frontOf isLetter isDigit
+minimum-front n q g h k = rw (long (37 ∷ n) q (omega arith) k, word-there (37 ∷ []) n q g h)
+
 -- one name in front
 pub name-event : (n q : List ℕ) → IsName n → isNameByte (getD q 0 0) ≡ false → 0 < length q → eventsOf (n ++ q) ≡ nameEvent n ∷ eventsOf (past q)
 name-event n q g h k =
     event-at (n ++ q) (seen (nameEvent n) (behind (n ++ q) (length n))) (name-front n q g h k) refl
     ∙ ap (λ l. nameEvent n ∷ eventsOf l) (past-drop n q)
 
+-- a name behind the mark b
+marked-event : (b : ℕ) (e : Event) (n q : List ℕ) → isEnd e ≡ false → frontOf (b ∷ (n ++ q)) ≡ seen e (behind (b ∷ (n ++ q)) (suc (length n)))
+    → eventsOf (b ∷ (n ++ q)) ≡ e ∷ eventsOf (past q)
+marked-event b e n q m p =
+    event-at (b ∷ (n ++ q)) (seen e (behind (b ∷ (n ++ q)) (suc (length n)))) p m ∙ ap (λ l. e ∷ eventsOf l) (past-drop (b ∷ n) q)
+
 pub variable-event : (n q : List ℕ) → IsName n → isNameByte (getD q 0 0) ≡ false → 0 < length q
     → eventsOf (63 ∷ (n ++ q)) ≡ variableEvent n ∷ eventsOf (past q)
-variable-event n q g h k =
-    event-at (63 ∷ (n ++ q)) (seen (variableEvent n) (behind (63 ∷ (n ++ q)) (suc (length n)))) (variable-front n q g h k) refl
-    ∙ ap (λ l. variableEvent n ∷ eventsOf l) (past-drop (63 ∷ n) q)
+variable-event n q g h k = marked-event 63 (variableEvent n) n q refl (variable-front n q g h k)
 
 pub parameter-event : (n q : List ℕ) → IsName n → isNameByte (getD q 0 0) ≡ false → 0 < length q
     → eventsOf (33 ∷ (n ++ q)) ≡ parameterEvent n ∷ eventsOf (past q)
-parameter-event n q g h k =
-    event-at (33 ∷ (n ++ q)) (seen (parameterEvent n) (behind (33 ∷ (n ++ q)) (suc (length n)))) (parameter-front n q g h k) refl
-    ∙ ap (λ l. parameterEvent n ∷ eventsOf l) (past-drop (33 ∷ n) q)
+parameter-event n q g h k = marked-event 33 (parameterEvent n) n q refl (parameter-front n q g h k)
+
+minimum-event : (n q : List ℕ) → IsName n → isNameByte (getD q 0 0) ≡ false → 0 < length q
+    → eventsOf (37 ∷ (n ++ q)) ≡ minimumEvent n ∷ eventsOf (past q)
+minimum-event n q g h k = marked-event 37 (minimumEvent n) n q refl (minimum-front n q g h k)
 
 digit-no-letter : (b : ℕ) → b ≤ 57 → isLetter b ≡ false
 unfolding isLetter
@@ -169,6 +180,7 @@ pub term-events : Eventful termBytes GoodTerm termEvent
 term-events (term plain n) q g h k = name-event n q g h k
 term-events (term variable n) q g h k = variable-event n q g h k
 term-events (term parameter n) q g h k = parameter-event n q g h k
+term-events (term minimum n) q g h k = minimum-event n q g h k
 
 pub many-stops : {A : Type 0} (w : A → List ℕ) (xs : List A) (r : List ℕ) → isNameByte (getD (manyBytes w xs ++ 41 ∷ r) 0 0) ≡ false
 many-stops w [] r = close-stops
@@ -211,10 +223,15 @@ pub parameter-quiet : Quiet parameterBytes IsName
 unfolding spaces spaceBit
 parameter-quiet n q g = zero-add (spaces (n ++ q)) ∙ spaces-name n q g
 
+minimum-quiet : Quiet (λ n. 37 ∷ n) IsName
+unfolding spaces spaceBit
+minimum-quiet n q g = zero-add (spaces (n ++ q)) ∙ spaces-name n q g
+
 pub term-quiet : Quiet termBytes GoodTerm
 term-quiet (term plain n) q g = spaces-name n q g
 term-quiet (term variable n) q g = variable-quiet n q g
 term-quiet (term parameter n) q g = parameter-quiet n q g
+term-quiet (term minimum n) q g = minimum-quiet n q g
 
 pub many-spaces : {A : Type 0} (w : A → List ℕ) (G : A → Type 0) → Quiet w G → (xs : List A) (r : List ℕ) → All G xs
     → spaces (manyBytes w xs ++ 41 ∷ r) ≡ length xs

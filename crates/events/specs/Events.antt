@@ -6,7 +6,7 @@ use lib.ListN.{length}
 use Rattle.words.specs.Bytes.{valueOf}
 use Rattle.words.specs.Keys.{keyOf}
 use Rattle.forms.specs.Tree.{Term, Atom, Diagram}
-use Rattle.forms.specs.Tree.Mark.{plain, variable, parameter}
+use Rattle.forms.specs.Tree.Mark.{plain, variable, parameter, minimum}
 use Rattle.forms.specs.Tree.Term.{term}
 use Rattle.forms.specs.Tree.Atom.{equal, holds}
 use Rattle.forms.specs.Tree.Diagram.{number, branch}
@@ -17,7 +17,7 @@ use Rattle.text.specs.declared.Shape.{Shape}
 use Rattle.text.specs.declared.Shape.the-variants.{Nothing, One, Two, Listed, Paired, Drawn, Named, Headed, Never}
 use Rattle.text.specs.Line.{keyword, shapeOf, Item, ShapeWords, Words}
 use Rattle.events.specs.declared.Event.{Event}
-use Rattle.events.specs.declared.Event.the-variants.{Name, Variable, Parameter, Number, Equal, Holds, Step}
+use Rattle.events.specs.declared.Event.the-variants.{Name, Variable, Parameter, Minimum, Number, Equal, Holds, Step}
 
 -- the place of the first word behind the key word: behind the bracket, the key word and a space
 abbrev pub firstWord : Kind → ℕ
@@ -32,6 +32,9 @@ variableEvent n = Variable (keyOf n)
 abbrev pub parameterEvent : List ℕ → Event
 parameterEvent n = Parameter (keyOf n)
 
+abbrev pub minimumEvent : List ℕ → Event
+minimumEvent n = Minimum (keyOf n)
+
 abbrev pub numberEvent : List ℕ → Event
 numberEvent n = Number (valueOf n)
 
@@ -39,6 +42,7 @@ abbrev pub termEvent : Term → Event
 termEvent (term plain n) = nameEvent n
 termEvent (term variable n) = variableEvent n
 termEvent (term parameter n) = parameterEvent n
+termEvent (term minimum n) = minimumEvent n
 
 abbrev pub atomEvents : Atom → List Event
 atomEvents (equal a b) = Equal ∷ termEvent a ∷ termEvent b ∷ []

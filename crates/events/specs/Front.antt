@@ -8,7 +8,7 @@ use Rattle.words.specs.Bytes.{isLetter, isDigit, isNameByte, run, valueOf}
 use Rattle.words.specs.Keys.{keyOf}
 use Rattle.words.specs.declared.Key.{Key}
 use Rattle.events.specs.declared.Event.{Event}
-use Rattle.events.specs.declared.Event.the-variants.{Name, Variable, Parameter, Number, Equal, Holds, Step, End}
+use Rattle.events.specs.declared.Event.the-variants.{Name, Variable, Parameter, Minimum, Number, Equal, Holds, Step, End}
 use Rattle.events.specs.declared.Seen.{Seen}
 use Rattle.events.specs.declared.Next.{Next}
 use Rattle.events.specs.declared.Word.{Word}
@@ -70,9 +70,10 @@ frontOf s =
     (pickSeen (isDigit (getD s 0 0)) (numberFront s)
     (pickSeen (eqb (getD s 0 0) 63) (seen (Variable (wordAt s 1 .key)) (wordAt s 1 .place))
     (pickSeen (eqb (getD s 0 0) 33) (seen (Parameter (wordAt s 1 .key)) (wordAt s 1 .place))
+    (pickSeen (eqb (getD s 0 0) 37) (seen (Minimum (wordAt s 1 .key)) (wordAt s 1 .place))
     (pickSeen (eqb (getD s 0 0) 40) (pickSeen (isIf s) (atomFront s 4) (atomFront s 0))
     (pickSeen (eqb (getD s 0 0) 41) (seen Step (space s 1))
-    (seen End 0)))))))
+    (seen End 0))))))))
 
 -- at a place of a line
 unfoldable pub nextAt : List ℕ → ℕ → Next
@@ -82,6 +83,7 @@ abbrev pub isEnd : Event → Bool
 isEnd (Name k) = false
 isEnd (Variable k) = false
 isEnd (Parameter k) = false
+isEnd (Minimum k) = false
 isEnd (Number v) = false
 isEnd Equal = false
 isEnd (Holds k n) = false

@@ -101,11 +101,12 @@ front-moves s =
     pick-moves n (isDigit (getD s 0 0)) _ _ (λ e. number-moves s e) (λ e1.
     pick-moves n (eqb (getD s 0 0) 63) _ _ (λ e. record { within = w .1; moves = λ f. omega (arith, w .0) }) (λ e2.
     pick-moves n (eqb (getD s 0 0) 33) _ _ (λ e. record { within = w .1; moves = λ f. omega (arith, w .0) }) (λ e3.
+    pick-moves n (eqb (getD s 0 0) 37) _ _ (λ e. record { within = w .1; moves = λ f. omega (arith, w .0) }) (λ e4.
     pick-moves n (eqb (getD s 0 0) 40) _ _
-    (λ e. pick-moves n (isIf s) _ _ (λ f. atom-moves s 4 (if-room s f)) (λ f. atom-moves s 0 (omega arith))) (λ e4.
+    (λ e. pick-moves n (isIf s) _ _ (λ f. atom-moves s 4 (if-room s f)) (λ f. atom-moves s 0 (omega arith))) (λ e5.
     pick-moves n (eqb (getD s 0 0) 41) _ _
     (λ e. let r = space-room s 1 (omega arith) in record { within = r .1; moves = λ f. omega (arith, r .0) })
-    (λ e5. end-moves n)))))))
+    (λ e6. end-moves n))))))))
 
 -- at most one byte: the end
 pub front-short : (s : List ℕ) → length s ≤ 1 → frontOf s ≡ seen End 0

@@ -1,9 +1,9 @@
 -- The words of a line in order: what each tree says, and how the bytes are gone over (document 01, section 'Text').
 --
 -- Definitions: the words of a tree
---   Event == a name, ?name, !name, a number, an equality, an atom with its count of terms; the step at the end of an if form; the end
+--   Event == a name, ?name, !name, %name, a number, an equality, an atom with its count of terms; the step at the end of an if form; the end
 --   firstWord == the place of the first word behind the key word
---   nameEvent, variableEvent, parameterEvent, numberEvent, termEvent, atomEvents == the words of terms and atoms
+--   nameEvent, variableEvent, parameterEvent, minimumEvent, numberEvent, termEvent, atomEvents == the words of terms and atoms
 --   diagramEvents == of a diagram: atom, part for true, part for false, step
 --   itemEvent, shapeEvents, wordsEvents == of a word by its sort; of what stands behind a key word, by its shape and by its kind
 --

@@ -28,7 +28,8 @@ use Rattle.events.specs.declared.Event.the-variants.{Holds}
 use Rattle.events.specs.Events.{firstWord, nameEvent, variableEvent, numberEvent, diagramEvents, itemEvent, shapeEvents, wordsEvents}
 use Rattle.events.specs.Front.{space, behind, spaces, seen, isIf, atomFront, frontOf, eventsOf}
 use Rattle.events.specs.FrontLaws.{event-at, events-short}
-use Rattle.events.specs.EventLaws.{unspace, past, past-drop, name-event, variable-event, parameter-event, number-event, unspace-space, unspace-close, past-space, past-close, variable-events, term-events, many-events, many-stops, variable-quiet, many-spaces, holds-front, diagram-events}
+use Rattle.events.specs.EventLaws.{unspace, past, past-drop, name-event, variable-event, parameter-event, number-event, unspace-space, unspace-close, past-space, past-close}
+use Rattle.events.specs.EventLaws.{variable-events, term-events, many-events, many-stops, variable-quiet, many-spaces, holds-front, diagram-events}
 
 -- nothing more behind the last word
 none : eventsOf [] ≡ []

@@ -8,12 +8,13 @@ ghost use Rattle.events.specs.Events.{firstWord};
 ghost use Rattle.events.specs.Contents.{keyIn, numberIn};
 ghost use Rattle.events.specs.Front.{isEnd, space, behind, spaceBit, spaces, wordAt, isIf, atomFront, numberFront, frontOf, nextAt};
 
-// What stands next: a name, ?name, !name or number; an atom's begin, = or a name with its count of terms; the closing
+// What stands next: a name, ?name, !name, %name or number; an atom's begin, = or a name with its count of terms; the closing
 // bracket of an if form; the line's end.
 pub enum Event {
     Name(Key),
     Variable(Key),
     Parameter(Key),
+    Minimum(Key),
     Number(u64),
     Equal,
     Holds(Key, usize),
@@ -227,6 +228,14 @@ pub fn front(s: &[u8]) -> Seen
             taken: w.place,
         };
     }
+    if b == b'%' {
+        let w = word_at(s, 1);
+        let key = w.key;
+        return Seen {
+            event: Event::Minimum(key),
+            taken: w.place,
+        };
+    }
     if b == b'(' {
         if is_if(s) {
             return atom_at(s, 4);
@@ -268,6 +277,7 @@ pub fn is_end(event: Event) -> bool
         Event::Name(_) => false,
         Event::Variable(_) => false,
         Event::Parameter(_) => false,
+        Event::Minimum(_) => false,
         Event::Number(_) => false,
         Event::Equal => false,
         Event::Holds(_, _) => false,
@@ -276,7 +286,7 @@ pub fn is_end(event: Event) -> bool
     }
 }
 
-// The key of a name, ?name or !name.
+// The key of a name, ?name, !name or %name.
 pub fn key_in(event: Event) -> Key
     ensures { λ r. ⌜ r ≡ keyIn event ⌝ }
 {
@@ -284,6 +294,7 @@ pub fn key_in(event: Event) -> Key
         Event::Name(key) => key,
         Event::Variable(key) => key,
         Event::Parameter(key) => key,
+        Event::Minimum(key) => key,
         Event::Number(_) => Key { a: 0, b: 0 },
         Event::Equal => Key { a: 0, b: 0 },
         Event::Holds(key, _) => key,
@@ -300,6 +311,7 @@ pub fn number_in(event: Event) -> u64
         Event::Name(_) => 0,
         Event::Variable(_) => 0,
         Event::Parameter(_) => 0,
+        Event::Minimum(_) => 0,
         Event::Number(v) => v,
         Event::Equal => 0,
         Event::Holds(_, _) => 0,

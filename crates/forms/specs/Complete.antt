@@ -18,7 +18,7 @@ use Rattle.forms.specs.declared.Sort.{Sort}
 use Rattle.forms.specs.declared.Sort.the-variants.{Name, Variable, Parameter, Any, Number}
 use Rattle.forms.specs.Form.{_▹_, byte, form, markedForm, isMark, termForm, itemForm, manyForm, equalityForm, plainForm, innerForm, atomForm, headForm, ifForm, diagramForm}
 use Rattle.forms.specs.Tree.{Term, Atom, Diagram, manyBytes, termBytes, atomBytes, diagramBytes, All, GoodTerm, GoodAtom, GoodDiagram, brackets}
-use Rattle.forms.specs.Tree.Mark.{plain, variable, parameter}
+use Rattle.forms.specs.Tree.Mark.{plain, variable, parameter, minimum}
 use Rattle.forms.specs.Tree.Term.{term}
 use Rattle.forms.specs.Tree.Atom.{equal, holds}
 use Rattle.forms.specs.Tree.Diagram.{number, branch}
@@ -97,7 +97,7 @@ parameter-completes n q g h = marked-complete 33 n q g h
 
 letter-no-mark : (b : ℕ) → 97 ≤ b → isMark b ≡ false
 unfolding isMark
-letter-no-mark b h = rw (ne-eqb b 63 (λ x. omega arith), ne-eqb b 33 (λ x. omega arith))
+letter-no-mark b h = rw (ne-eqb b 63 (λ x. omega arith), ne-eqb b 33 (λ x. omega arith), ne-eqb b 37 (λ x. omega arith))
 
 plain-term : (n q : List ℕ) → IsName n → isNameByte (getD q 0 0) ≡ false → termForm (n ++ q) ≡ Bytes (length n)
 unfolding termForm
@@ -108,6 +108,7 @@ unfolding itemForm termForm isMark form _▹_
 term-completes (term plain n) q g h = plain-term n q g h
 term-completes (term variable n) q g h = rw (name-complete n q g h, one-add)
 term-completes (term parameter n) q g h = rw (name-complete n q g h, one-add)
+term-completes (term minimum n) q g h = rw (name-complete n q g h, one-add)
 
 module _ {A : Type 0} (w : A → List ℕ) (G : A → Type 0) (p : List ℕ → Took) (d : CompleteFor w G p) where
   pub many-stops : (xs : List A) (q : List ℕ) → isNameByte (getD (manyBytes w xs ++ (41 ∷ q)) 0 0) ≡ false

@@ -29,11 +29,11 @@ form s p i = p (drop i s) ▹ (λ n. Bytes (i + n))
 unfoldable pub markedForm : ℕ → List ℕ → Took
 markedForm b s = Bytes 0 ▹ byte s b ▹ form s nameForm
 
--- ? or !
+-- ?, ! or %
 unfoldable pub isMark : ℕ → Bool
-isMark b = eqb b 63 || eqb b 33
+isMark b = eqb b 63 || (eqb b 33 || eqb b 37)
 
--- name, ?name or !name
+-- name, ?name, !name or %name
 unfoldable pub termForm : List ℕ → Took
 termForm s = cond (isMark (getD s 0 0)) (form s nameForm 1) (nameForm s)
 

@@ -1,7 +1,7 @@
 -- Terms, atoms and diagrams: trees, how they are written, and how they are read (document 01, section 'Text').
 --
 -- Definitions: trees
---   Mark, Term == ?name is a variable, !name a parameter, a name alone a constant
+--   Mark, Term == ?name is a variable, !name a parameter, %name a minimum variable, a name alone a constant
 --   Atom == (name TERM ..) or (= TERM TERM)
 --   Diagram == a number, or (if ATOM DIAGRAM DIAGRAM)
 --   manyBytes, markBytes, termBytes, atomBytes, diagramBytes == how they are written, one space between words
@@ -10,7 +10,7 @@
 --
 -- Definitions: readers, each answering how many bytes it takes
 --   _▹_, byte, form == one form, then the next from where it ended; a byte; a form at a place
---   Sort, itemForm, termForm, markedForm, isMark == one word of a sort: name, ?name, !name, any of these, number
+--   Sort, itemForm, termForm, markedForm, isMark == one word of a sort: name, ?name, !name, a term (any of these or %name), number
 --   manyForm, plainForm, equalityForm, innerForm, atomForm == words with a space before each; the insides of an atom; an atom
 --   headForm, ifForm, diagramForm == if ATOM; an if form; a number or an if form, of at most 64 open brackets
 --

@@ -18,7 +18,7 @@ use Rattle.forms.specs.declared.Sort.{Sort}
 use Rattle.forms.specs.declared.Sort.the-variants.{Name, Variable, Parameter, Any, Number}
 use Rattle.forms.specs.Form.{_▹_, byte, form, markedForm, isMark, termForm, itemForm, manyForm, equalityForm, plainForm, innerForm, atomForm, headForm, ifForm, diagramForm}
 use Rattle.forms.specs.Tree.{Atom, Diagram, manyBytes, termBytes, atomBytes, diagramBytes, All, GoodTerm, GoodAtom, GoodDiagram, brackets}
-use Rattle.forms.specs.Tree.Mark.{plain, variable, parameter}
+use Rattle.forms.specs.Tree.Mark.{plain, variable, parameter, minimum}
 use Rattle.forms.specs.Tree.Term.{term}
 use Rattle.forms.specs.Tree.Atom.{equal, holds}
 use Rattle.forms.specs.Tree.Diagram.{number, branch}
@@ -91,17 +91,20 @@ parameter-sounds s n e = marked-sound 33 (omega arith) s n e
 
 pub term-sounds : SoundFor termBytes GoodTerm (itemForm Any)
 unfolding itemForm termForm isMark
-term-sounds s n = go (eqb (getD s 0 0) 63) (eqb (getD s 0 0) 33) refl refl
+term-sounds s n = go (eqb (getD s 0 0) 63) (eqb (getD s 0 0) 33) (eqb (getD s 0 0) 37) refl refl refl
   where
-    go : (t u : Bool) → eqb (getD s 0 0) 63 ≡ t → eqb (getD s 0 0) 33 ≡ u
-        → cond (t || u) (form s nameForm 1) (nameForm s) ≡ Bytes n → WrittenBy termBytes GoodTerm (take n s)
-    go true u h k e =
+    go : (t u v : Bool) → eqb (getD s 0 0) 63 ≡ t → eqb (getD s 0 0) 33 ≡ u → eqb (getD s 0 0) 37 ≡ v
+        → cond (t || (u || v)) (form s nameForm 1) (nameForm s) ≡ Bytes n → WrittenBy termBytes GoodTerm (take n s)
+    go true u v h k l e =
         let g = after-byte s nameForm 63 (eqb-true (getD s 0 0) 63 h) (omega arith) e in
         (term variable (take (g .0) (drop 1 s)), name-sound (drop 1 s) (g .1), g .2)
-    go false true h k e =
+    go false true v h k l e =
         let g = after-byte s nameForm 33 (eqb-true (getD s 0 0) 33 k) (omega arith) e in
         (term parameter (take (g .0) (drop 1 s)), name-sound (drop 1 s) (g .1), g .2)
-    go false false h k e = (term plain (take n s), name-sound s e, refl)
+    go false false true h k l e =
+        let g = after-byte s nameForm 37 (eqb-true (getD s 0 0) 37 l) (omega arith) e in
+        (term minimum (take (g .0) (drop 1 s)), name-sound (drop 1 s) (g .1), g .2)
+    go false false false h k l e = (term plain (take n s), name-sound s e, refl)
 
 pub many-sounds : {A : Type 0} (w : A → List ℕ) (G : A → Type 0) (p : List ℕ → Took) → SoundFor w G p
     → (f : ℕ) → SoundFor (manyBytes w) (All G) (manyForm p f)

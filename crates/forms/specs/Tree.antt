@@ -4,9 +4,9 @@ use Prim.Native.Nat.{ℕ, suc, max}
 use mathlib.Core.List.{List, [], _∷_, _++_}
 use Rattle.words.specs.Words.{IsName, IsNumber}
 
--- '?name is a variable, !name a parameter'; a name alone is a constant
+-- '?name is a variable, !name a parameter', '%name .. a minimum variable' (document 02, L12); a name alone is a constant
 pub data Mark : Type 0 where
-  plain variable parameter : Mark
+  plain variable parameter minimum : Mark
 
 pub data Term : Type 0 where
   term : Mark → List ℕ → Term
@@ -26,11 +26,12 @@ abbrev pub manyBytes : {A : Type 0} → (A → List ℕ) → List A → List ℕ
 manyBytes w [] = []
 manyBytes w (x ∷ xs) = 32 ∷ (w x ++ manyBytes w xs)
 
--- ? and !
+-- ?, ! and %
 abbrev pub markBytes : Mark → List ℕ
 markBytes plain = []
 markBytes variable = 63 ∷ []
 markBytes parameter = 33 ∷ []
+markBytes minimum = 37 ∷ []
 
 abbrev pub termBytes : Term → List ℕ
 termBytes (term m n) = markBytes m ++ n

@@ -15,7 +15,7 @@ use Rattle.words.specs.declared.Took.the-variants.{Bytes}
 use Rattle.forms.specs.declared.Sort.the-variants.{Any}
 use Rattle.forms.specs.Form.{itemForm, atomForm, diagramForm}
 use Rattle.forms.specs.Tree.{Term, Atom, Diagram, manyBytes, termBytes, atomBytes, diagramBytes, All, GoodTerm, GoodAtom, GoodDiagram, brackets}
-use Rattle.forms.specs.Tree.Mark.{plain, variable, parameter}
+use Rattle.forms.specs.Tree.Mark.{plain, variable, parameter, minimum}
 use Rattle.forms.specs.Tree.Term.{term}
 use Rattle.forms.specs.Tree.Atom.{equal, holds}
 use Rattle.forms.specs.Tree.Diagram.{number, branch}
@@ -48,12 +48,19 @@ pub term-unique : (t u : Term) → GoodTerm t → GoodTerm u → termBytes t ≡
 term-unique (term plain n) (term plain m) g h e = ap (term plain) e
 term-unique (term plain n) (term variable m) g h e = absurd (no-name n 63 m (omega arith) g (append-nil n ∙ e))
 term-unique (term plain n) (term parameter m) g h e = absurd (no-name n 33 m (omega arith) g (append-nil n ∙ e))
+term-unique (term plain n) (term minimum m) g h e = absurd (no-name n 37 m (omega arith) g (append-nil n ∙ e))
 term-unique (term variable n) (term plain m) g h e = absurd (no-name m 63 n (omega arith) h (append-nil m ∙ sym e))
 term-unique (term variable n) (term variable m) g h e = ap (term variable) (cons-tail 63 n m e)
 term-unique (term variable n) (term parameter m) g h e = absurd (omega (arith, cons-head 63 33 n m e))
+term-unique (term variable n) (term minimum m) g h e = absurd (omega (arith, cons-head 63 37 n m e))
 term-unique (term parameter n) (term plain m) g h e = absurd (no-name m 33 n (omega arith) h (append-nil m ∙ sym e))
 term-unique (term parameter n) (term variable m) g h e = absurd (omega (arith, cons-head 33 63 n m e))
 term-unique (term parameter n) (term parameter m) g h e = ap (term parameter) (cons-tail 33 n m e)
+term-unique (term parameter n) (term minimum m) g h e = absurd (omega (arith, cons-head 33 37 n m e))
+term-unique (term minimum n) (term plain m) g h e = absurd (no-name m 37 n (omega arith) h (append-nil m ∙ sym e))
+term-unique (term minimum n) (term variable m) g h e = absurd (omega (arith, cons-head 37 63 n m e))
+term-unique (term minimum n) (term parameter m) g h e = absurd (omega (arith, cons-head 37 33 n m e))
+term-unique (term minimum n) (term minimum m) g h e = ap (term minimum) (cons-tail 37 n m e)
 
 -- what w writes is written of one thing only
 abbrev pub UniqueFor : {A : Type 0} → (A → List ℕ) → (A → Type 0) → Type 0

@@ -70,14 +70,14 @@ fn read_marked(s: &[u8], b: u8) -> Took
     name_after(s, a)
 }
 
-// The byte before a variable's or a parameter's name.
+// The byte before the name of a variable, a parameter or a minimum variable.
 fn is_mark(b: u8) -> bool
     ensures { λ r. ⌜ r ≡ isMark b ⌝ }
 {
-    b == b'?' || b == b'!'
+    b == b'?' || (b == b'!' || b == b'%')
 }
 
-// name, ?name or !name
+// name, ?name, !name or %name
 fn read_term(s: &[u8]) -> Took
     ensures { λ r. ⌜ r ≡ termForm (now (s .entry)) ⌝ }
 {

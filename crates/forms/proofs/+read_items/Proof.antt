@@ -126,4 +126,5 @@ returns-4 t c (suc f) h = second t (c .before .before .before) f h (c .before .m
 pub +read-items-spec : {M : Type 1} → statement M
 +read-items-spec =
     close μ
-    (λ t. L.spec (calls t) (own t) R.Post (λ c κs. search needs) (returns t) (λ c κs. search needs) (λ c. search needs) (λ c. search needs) (returns-2 t) (λ c κs. search needs) (read-items-requires t) (λ c. search needs) (λ c. search needs) (returns-3 t) (add-j t) (returns-4 t))
+    (λ t. L.spec (calls t) (own t) R.Post (λ c κs. search needs) (returns t) (λ c κs. search needs) (λ c. search needs) (λ c. search needs) (returns-2 t) (λ c κs. search needs)
+    (read-items-requires t) (λ c. search needs) (λ c. search needs) (returns-3 t) (add-j t) (returns-4 t))

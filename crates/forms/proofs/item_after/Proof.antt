@@ -32,7 +32,8 @@ add-j c =
     let p = c .before .before .before in
     let s = p .before .before .before .before .before .before .args .s .now in
     let i = p .before .before .before .t .given .0 .0 in
-    let e : itemForm (p .before .before .before .before .before .before .args .sort) (drop i s) ≡ Bytes (c .before .n .given .0 .0) = rw (← p .before .rest .ensures, ← p .read-item .ensures) (c .before .n .given .1) in
+    let e : itemForm (p .before .before .before .before .before .before .args .sort)
+    (drop i s) ≡ Bytes (c .before .n .given .0 .0) = rw (← p .before .rest .ensures, ← p .read-item .ensures) (c .before .n .given .1) in
     omega (arith, item-within _ _ _ e, length-drop i s)
 
 returns-3 : tie.Need-returns-3

@@ -64,4 +64,5 @@ returns-3 c = inner (c .before .before .before) (c .before .n .given .1)
 pub read-atom-spec : {M : Type 1} → statement M
 read-atom-spec =
     tie.close
-    (tie.spec (λ c κs. search needs) (λ c. search needs) (λ c. search needs) returns sub-read-inner part-read-inner-start (λ c. search needs) (λ c κs. search needs) (λ c. search needs) (λ c. search needs) returns-2 add-j returns-3)
+    (tie.spec (λ c κs. search needs) (λ c. search needs) (λ c. search needs) returns sub-read-inner part-read-inner-start (λ c. search needs) (λ c κs. search needs)
+    (λ c. search needs) (λ c. search needs) returns-2 add-j returns-3)
