@@ -19,7 +19,7 @@ use Rattle.events.specs.declared.Event.{Event}
 use Rattle.reading.specs.declared.Binding.the-variants.{Only}
 use Rattle.reading.specs.declared.Opened.{Opened}
 use Rattle.reading.specs.declared.Opened.the-variants as P
-use Rattle.reading.specs.Reading.{Written, reading}
+use Rattle.reading.specs.Reading.{Written, arguments, reading}
 use Rattle.reading.specs.Head.{Head, headNumber, headArguments}
 use Rattle.reading.specs.Callers.{judgedPredicate, PredicateWithin}
 use Rattle.build.specs.declared.Built.{Built}
@@ -70,7 +70,7 @@ module _ (n : Names) (ar : List ℕ) (truths : Truths) (r : ℕ) (es : List Even
   checks p d = cond (leafAbove 1 d) (refused Truth) (cond (ltb mostModelRows (rowsWith r d)) (refused Space) (told p d))
 
   abbrev words : Head → Outcome Written
-  words h = outcomeOf (reading (namesFor n ar Only (n .parameters)) (h .rest) (h .variables))
+  words h = outcomeOf (reading (namesFor n ar Only (n .parameters)) (h .rest) (arguments (h .variables)))
 
   behind : (p : ℕ) → andThen (outcomeOf (headArguments (getD ar p 0) es)) (λ h. andThen (words h) (λ w. andThen (built (w .operations)) (checks p)))
       ≡ andThen (truthOf n ar p r es) (told p)

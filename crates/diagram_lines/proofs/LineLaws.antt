@@ -8,7 +8,6 @@ use native.Mathlib.Omega.{arith}
 use lib.ListN.{length, replicate, length-append, length-replicate}
 use Rattle.refusal.specs.declared.Refusal.{Refusal}
 use Rattle.refusal.specs.declared.Refusal.the-variants.{Place}
-use Rattle.label.specs.Limits.{variableCount}
 use Rattle.refusal.specs.Outcome.{Outcome, ok, refused}
 use Rattle.text.specs.declared.Kind.{Kind}
 use Rattle.text.specs.Line.{keyword, wordsBytes}
@@ -16,7 +15,7 @@ use Rattle.events.specs.Events.{firstWord}
 use Rattle.names.specs.Many.{many}
 use Rattle.names.specs.Keys.{keysAt}
 use Rattle.reading.specs.declared.Binding.{Binding}
-use Rattle.reading.specs.Callers.{Tables, Variables}
+use Rattle.reading.specs.Callers.{keptCount, variableWords, argumentCount, Tables, Variables}
 use Rattle.answers.specs.declared.Answer.the-variants.{Refused, Nothing}
 use Rattle.session.specs.declared.Part.{Part}
 use Rattle.session.specs.declared.Part.the-variants.{Run}
@@ -58,8 +57,8 @@ pub no-keys : (s : List ℕ) (base : ℕ) → keysAt s base 0 ≡ []
 unfolding keysAt many
 no-keys s base = refl
 
-pub fresh-variables : (m k : ℕ) → (variableCount + 1) * 2 ≤ m → k ≤ variableCount + 1 → Variables (replicate m 0) k
-fresh-variables m k h l = record { words = rw (length-replicate) h; within = l }
+pub fresh-variables : (m k : ℕ) → variableWords ≤ m → k ≤ keptCount → Variables (replicate m 0) (argumentCount k)
+fresh-variables m k h l = record { words = rw (length-replicate) h; variables-fit = l; minimums-fit = omega arith }
 
 -- ===== The session behind a line that prints nothing =====
 

@@ -7,7 +7,6 @@ use Prim.Native.Nat.{ℕ, _+_, _*_, _/_, _≤_}
 use native.Mathlib.Omega.{arith}
 use lib.ListN.{length, drop, replicate}
 use Rattle.refusal.specs.declared.Refusal.{Refusal}
-use Rattle.label.specs.Limits.{variableCount}
 use Rattle.diagram.specs.Sizes.{resultWords}
 use Rattle.diagram.specs.Diagram.{Diagram}
 use Rattle.diagram.specs.Rows.{rows}
@@ -24,7 +23,7 @@ use Rattle.reading.specs.declared.Binding.the-variants.{Any}
 use Rattle.reading.specs.declared.Scope.{Scope}
 use Rattle.reading.specs.Reading.{Written}
 use Rattle.reading.specs.Numbering.{rewardReading}
-use Rattle.reading.specs.Callers.{namesOf as tableNames}
+use Rattle.reading.specs.Callers.{variableWords, namesOf as tableNames}
 use Rattle.build.specs.declared.Built.{Built}
 use Rattle.build.specs.declared.Built.the-variants.{Done, Refused}
 use Rattle.build.specs.Machine.{builtClosed}
@@ -65,7 +64,7 @@ module _ {s : List ℕ} {n : Numbers} {names ar work : List ℕ} (x : Lent Rewar
     shallow = omega (arith, x .line .good .1);
   }
 
-  pub reward-drawable : {out : List ℕ} {at : ℕ} (m : ℕ) → (variableCount + 1) * 2 ≤ m → at ≡ firstWord Reward → resultWords ≤ length out
+  pub reward-drawable : {out : List ℕ} {at : ℕ} (m : ℕ) → variableWords ≤ m → at ≡ firstWord Reward → resultWords ≤ length out
       → Drawable s at names ar (rewardScope n) (replicate m 0) 0 out work
   reward-drawable m h e l = record {
     short = line-short (x .line);

@@ -8,7 +8,7 @@ use lib.ListN.{length, getD, take, drop}
 use lib.Seq.{length-take-le}
 use Rattle.refusal.specs.declared.Refusal.{Refusal}
 use Rattle.refusal.specs.declared.Refusal.the-variants.{Name, Truth}
-use Rattle.label.specs.Limits.{variableCount, predicateCount, mostPlaces}
+use Rattle.label.specs.Limits.{predicateCount, mostPlaces}
 use Rattle.diagram.specs.Sizes.{resultWords}
 use Rattle.diagram.specs.Diagram.{Diagram}
 use Rattle.diagram.specs.Rows.{rows}
@@ -35,7 +35,7 @@ use Rattle.reading.specs.declared.Headed.the-variants as H
 use Rattle.reading.specs.Reading.{Judged}
 use Rattle.reading.specs.Reading.Judged.{fine, refused as judged}
 use Rattle.reading.specs.Head.{Head, headNumber, headArguments, headKeys}
-use Rattle.reading.specs.Callers.{namesOf as tableNames, judgedPredicate, PredicateWithin, Opens, judgedHead, HeadWithin, Heads}
+use Rattle.reading.specs.Callers.{variableWords, namesOf as tableNames, judgedPredicate, PredicateWithin, Opens, judgedHead, HeadWithin, Heads}
 use Rattle.reading.specs.LineLaws.{becomes-arguments}
 use Rattle.reading.specs.JudgedLaws.{fine-one, chained}
 use Rattle.label.specs.ArityLaws.{arity-most, arity-words}
@@ -159,14 +159,14 @@ module _ {s : List ℕ} {n : Numbers} {names ar work : List ℕ} (x : Lent Becom
             let d : headOf (c .first) (diagramEvents (x .line .words .2)) ≡ headOf (keysAt vs 0 (getD ar p 0)) (eventsOf (drop i s)) = fine-one (c .then) in
             sym (ap (λ (g : Head). g .rest) d)
 
-        pub read-drawable : {out : List ℕ} → (variableCount + 1) * 2 ≤ length vs → resultWords ≤ length out
+        pub read-drawable : {out : List ℕ} → variableWords ≤ length vs → resultWords ≤ length out
             → Drawable s i names ar (actionScope n Only) vs (getD ar p 0) out work
         read-drawable l m = record {
           short = line-short (x .line);
           within = subst (HeadWithin s) e (h .within);
           there = record { diagram = x .line .words .2; events = behind-is; shallow = omega (arith, x .line .good .1) };
           tables = tables-of (n .counts .parameters) Only (x .vocabulary) (omega arith);
-          variables = record { words = l; within = omega (arith, becomes-arity) };
+          variables = record { words = l; variables-fit = omega (arith, becomes-arity); minimums-fit = omega arith };
           out-room = m;
           work-room = x .work-room;
         }

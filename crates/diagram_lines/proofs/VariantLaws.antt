@@ -9,7 +9,6 @@ use lib.ListN.{length, drop, replicate}
 use lib.Dec.{eqb, leb}
 use Rattle.refusal.specs.declared.Refusal.{Refusal}
 use Rattle.refusal.specs.declared.Refusal.the-variants.{Name}
-use Rattle.label.specs.Limits.{variableCount}
 use Rattle.diagram.specs.Sizes.{resultWords}
 use Rattle.diagram.specs.Diagram.{Diagram}
 use Rattle.diagram.specs.Rows.{rows}
@@ -28,8 +27,8 @@ use Rattle.names.specs.Keys.{keysAt, placeOf, isAmong, putKey}
 use Rattle.names.specs.Layout.{constantsAt, declaredAt, actionsAt, parametersAt, variantsAt}
 use Rattle.names.specs.KeyLaws.{length-keys, among-at, among-none, keys-same, length-put, put-before, keys-more}
 use Rattle.reading.specs.declared.Binding.the-variants.{None}
-use Rattle.reading.specs.Reading.{Written, reading}
-use Rattle.reading.specs.Callers.{namesOf as tableNames}
+use Rattle.reading.specs.Reading.{Written, arguments, reading}
+use Rattle.reading.specs.Callers.{variableWords, namesOf as tableNames}
 use Rattle.reading.specs.LineLaws.{next-splits}
 use Rattle.build.specs.declared.Built.{Built}
 use Rattle.build.specs.declared.Built.the-variants.{Done, Refused}
@@ -88,11 +87,11 @@ weight-drawn : (n : Names) (ar : List ℕ) (r : ℕ) (k : Key) (es : List Event)
 unfolding weightRead drawn
 weight-drawn n ar r k es =
     ap (cond (isAmong k (n .variants)) (refused Name))
-    (sym (then-then (outcomeOf (reading (namesFor n ar None (n .parameters)) es [])) (λ (w : Written). built (w .operations))
+    (sym (then-then (outcomeOf (reading (namesFor n ar None (n .parameters)) es (arguments []))) (λ (w : Written). built (w .operations))
     (λ (d : Diagram). roomed (leb mostVariants (length (n .variants))) r (ok d))))
 
 module _ {s : List ℕ} {n : Numbers} {names ar work : List ℕ} (x : Lent Variant s n names ar work) where
-  pub weight-drawable : {out : List ℕ} {at : ℕ} (m : ℕ) → (variableCount + 1) * 2 ≤ m → WeightAt s at → resultWords ≤ length out
+  pub weight-drawable : {out : List ℕ} {at : ℕ} (m : ℕ) → variableWords ≤ m → WeightAt s at → resultWords ≤ length out
       → Drawable s at names ar (actionScope n None) (replicate m 0) 0 out work
   weight-drawable m h w l = record {
     short = line-short (x .line);

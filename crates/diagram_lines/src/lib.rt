@@ -3,7 +3,6 @@ use answers::Answer;
 use build::Built;
 use declare::Counts;
 use label::Label;
-use label::Term;
 use memory::Numbers;
 use memory::Said;
 use reading::Binding;
@@ -40,9 +39,6 @@ ghost use Rattle.diagram_lines.specs.Lines.{roomed, roomedAs, lowered, l
 // Rows of all listings of a model.
 const MODEL_ROWS: usize = model::LISTING_WORDS / 3;
 
-// Words of a table of variables, which keeps one more than the limit.
-const VARIABLE_WORDS: usize = (Term::VARIABLES as usize + 1) * 2;
-
 // The rows of a diagram that is built, or 9 where there is no room beside it, or the model's listings, with so many words in use, have none for them.
 fn room(built: Built, full: bool, words: usize) -> Built
     requires { ⌜ words ≤ listingWords ⌝ }
@@ -74,7 +70,7 @@ fn read_reward(
     ensures { λ r. ⌜ Draws (now (arities .entry)) (rewardRead (namesOf (now (names .entry)) (n .counts)) (now (arities .entry)) (n .head .words / 3) (wordsOf Reward (now (line .entry)))) r (now (out .exit)) ⌝ }
 {
     let at = events::first_word(Kind::Reward);
-    let mut variables = [0u64; VARIABLE_WORDS];
+    let mut variables = [0u64; reading::VARIABLE_WORDS];
     let scope = Scope {
         constants: n.counts.constants,
         predicates: n.counts.predicates,
@@ -140,7 +136,7 @@ fn read_weight(
     if names::find(names, base, count, key) < count {
         return Built::Refused(Refusal::Name);
     }
-    let mut variables = [0u64; VARIABLE_WORDS];
+    let mut variables = [0u64; reading::VARIABLE_WORDS];
     let scope = Scope {
         constants: n.counts.constants,
         predicates: n.counts.predicates,
@@ -296,7 +292,7 @@ fn read_truth(
     ensures { λ r. ⌜ Draws (now (arities .entry)) (truthOf (namesOf (now (names .entry)) (n .counts)) (now (arities .entry)) p (n .head .words / 3) (wordsOf Becomes (now (line .entry)))) r (now (out .exit)) ⌝ }
 {
     let first = events::first_word(Kind::Becomes);
-    let mut variables = [0u64; VARIABLE_WORDS];
+    let mut variables = [0u64; reading::VARIABLE_WORDS];
     let arity = arities[p] as usize;
     let headed = reading::head_arguments(line, first, &mut variables, arity);
     match headed {

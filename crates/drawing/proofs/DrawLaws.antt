@@ -21,13 +21,14 @@ use Rattle.events.specs.Front.{eventsOf}
 use Rattle.names.specs.Keys.{keysAt}
 use Rattle.reading.specs.declared.Binding.the-variants.{Any}
 use Rattle.reading.specs.declared.Scope.{Scope}
+use Rattle.reading.specs.declared.Known.{Known}
 use Rattle.reading.specs.declared.Read.{Read}
 use Rattle.reading.specs.declared.Read.the-variants as W
 use Rattle.reading.specs.Operations.{Op, opsIn}
-use Rattle.reading.specs.Reading.{Names, Judged, Written, reading}
+use Rattle.reading.specs.Reading.{Names, Judged, Met, arguments, Written, reading}
 use Rattle.reading.specs.Tree.{Reading, depth, opsOf, Named, reach, GoodReading}
 use Rattle.reading.specs.Numbering.{rewardReading}
-use Rattle.reading.specs.Callers.{namesOf, Readable, Reads}
+use Rattle.reading.specs.Callers.{namesOf, argumentCount, Readable, Reads}
 use Rattle.reading.specs.ReadLaws.{tables-fit, Diagrammed, read-diagram}
 use Rattle.build.specs.declared.Built.{Built}
 use Rattle.build.specs.declared.Built.the-variants.{Refused}
@@ -93,12 +94,12 @@ module _ (ar : List ℕ) (os : List Op) {x : Ending} {out out′ : List ℕ} {r 
 
 -- the words by how the diagram ends
 
-pub reads-fresh : {line : List ℕ} {at : ℕ} {names arities vs os : List ℕ} {scope : Scope} {known : ℕ} → Readable line at names arities vs os scope known
-    → Readable line at names arities vs os scope 0
+pub reads-fresh : {line : List ℕ} {at : ℕ} {names arities vs os : List ℕ} {scope : Scope} {known : ℕ} → Readable line at names arities vs os scope (argumentCount known)
+    → Readable line at names arities vs os scope (argumentCount 0)
 reads-fresh g = record {
   within = g .within;
   tables = g .tables;
-  variables = record { words = g .variables .words; within = omega arith };
+  variables = record { words = g .variables .words; variables-fit = omega arith; minimums-fit = omega arith };
   words = g .words;
 }
 
@@ -106,7 +107,7 @@ pub reads-any : (x : Ending) (scope : Scope) → x ≡ Closed → Allows x scope
 reads-any x scope e a = subst (λ (y : Ending). Allows y scope) e a
 
 module _ (σ : Names) (es : List Event) (ks : List Key) {x : Ending} {r : Read} {vs′ os′ : List ℕ} where
-  pub reads-plain : x ≡ Plain → Reads (reading σ es ks) r vs′ os′ → Reads (reading σ es (knownTo x es ks)) r vs′ os′
+  pub reads-plain : x ≡ Plain → Reads (reading σ es (arguments ks)) r vs′ os′ → Reads (reading σ es (knownTo x es ks)) r vs′ os′
   unfolding knownTo
   reads-plain e g = subst (λ (y : Ending). Reads (reading σ es (knownTo y es ks)) r vs′ os′) (sym e) g
 
@@ -127,13 +128,13 @@ module _ (ending : Ending) {line : List ℕ} {at : ℕ} {names arities : List �
   abbrev es : List Event
   es = eventsOf (drop at line)
 
-  abbrev ks : List Key
+  abbrev ks : Met
   ks = knownTo ending es (keysAt vs 0 known)
 
   abbrev us : List Key
   us = keysAt vs 0 known
 
-  module _ {n m : ℕ} (e : r ≡ W.Done n m) where
+  module _ {n : ℕ} {m : Known} (e : r ≡ W.Done n m) where
     done : Reads (reading σ es ks) (W.Done n m) vs′ os′
     done = subst (λ (y : Read). Reads (reading σ es ks) y vs′ os′) e g
 
@@ -148,7 +149,7 @@ module _ (ending : Ending) {line : List ℕ} {at : ℕ} {names arities : List �
 
     pub read-buildable : Buildable os′ n out work
     read-buildable = record {
-      words = done .within .0;
+      words = done .within;
       values = read-as .values;
       labels = read-as .labels;
       out-room = x .out-room;

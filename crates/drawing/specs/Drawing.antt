@@ -15,18 +15,18 @@ use Rattle.events.specs.declared.Event.{Event}
 use Rattle.events.specs.Events.{diagramEvents}
 use Rattle.events.specs.Front.{eventsOf}
 use Rattle.reading.specs.declared.Scope.{Scope}
-use Rattle.reading.specs.Reading.{Names, reading}
+use Rattle.reading.specs.Reading.{Names, arguments, reading}
 use Rattle.reading.specs.Numbering.{rewardReading}
-use Rattle.reading.specs.Callers.{Tables, Variables}
+use Rattle.reading.specs.Callers.{argumentCount, Tables, Variables}
 use Rattle.build.specs.declared.Built.{Built}
 use Rattle.build.specs.Machine.{built, builtClosed, mostTests}
 use Rattle.build.specs.Writing.{builtAs}
 use Rattle.session.specs.Modelling.{outcomeOf}
 
--- the words es, the variables vs known before them
+-- the words es, the arguments vs known before them
 unfoldable pub drawn : Names → List Event → List Key → Outcome Diagram
 unfolding reading built
-drawn σ es vs = andThen (outcomeOf (reading σ es vs)) (λ w. built (w .operations))
+drawn σ es vs = andThen (outcomeOf (reading σ es (arguments vs))) (λ w. built (w .operations))
 
 -- a reward: its variables by ascending N where each is written so, its diagram closed up
 unfoldable pub drawnClosed : Names → List Event → Outcome Diagram
@@ -39,13 +39,13 @@ pub record DiagramAt (line : List ℕ) (at : ℕ) : Type 0 where
   pub events : eventsOf (drop at line) ≡ diagramEvents diagram
   pub shallow : T.brackets diagram ≤ mostTests
 
--- what is required: a line with a diagram from the place `at` on, tables of names, `known` variables before them, and room
+-- what is required: a line with a diagram from the place `at` on, tables of names, `known` arguments before them, and room
 pub record Drawable (line : List ℕ) (at : ℕ) (names arities : List ℕ) (scope : Scope) (vs : List ℕ) (known : ℕ) (out work : List ℕ) : Type 0 where
   pub short : length line ≤ 4095
   pub within : at ≤ length line
   pub there : DiagramAt line at
   pub tables : Tables names arities scope
-  pub variables : Variables vs known
+  pub variables : Variables vs (argumentCount known)
   pub out-room : resultWords ≤ length out
   pub work-room : spaceWords ≤ length work
 

@@ -9,9 +9,8 @@ use Rattle.events.specs.declared.Event.{Event}
 use Rattle.reading.specs.declared.Binding.the-variants.{Any}
 use Rattle.reading.specs.declared.Scope.{Scope}
 use Rattle.reading.specs.Operations.{Op}
-use Rattle.reading.specs.Occurrences.{variableKeys}
-use Rattle.reading.specs.Numbering.{variablesFirst}
-use Rattle.reading.specs.Reading.{Names}
+use Rattle.reading.specs.Numbering.{metFirst}
+use Rattle.reading.specs.Reading.{Names, Met, arguments}
 use Rattle.build.specs.Machine.{built, builtClosed}
 use Rattle.drawing.specs.Drawing.{drawn, drawnClosed}
 use Rattle.drawing.specs.declared.Ending.{Ending}
@@ -23,9 +22,9 @@ builtTo Plain ar os = built os
 builtTo Closed ar os = builtClosed ar os
 
 -- the variables known before the words: those of the table, or a reward's own
-unfoldable pub knownTo : Ending → List Event → List Key → List Key
-knownTo Plain es vs = vs
-knownTo Closed es vs = variablesFirst (variableKeys es)
+unfoldable pub knownTo : Ending → List Event → List Key → Met
+knownTo Plain es vs = arguments vs
+knownTo Closed es vs = metFirst es
 
 -- a reward may name any variable
 abbrev pub Allows : Ending → Scope → Type 0

@@ -10,7 +10,7 @@ ghost use Rattle.events.specs.Front.{eventsOf};
 ghost use Rattle.reading.specs.Operations.{opsIn};
 ghost use Rattle.reading.specs.declared.Binding.the-variants.{Any};
 ghost use Rattle.reading.specs.Reading.{reading};
-ghost use Rattle.reading.specs.Callers.{namesOf, Readable, Reads};
+ghost use Rattle.reading.specs.Callers.{namesOf, argumentCount, Readable, Reads};
 ghost use Rattle.build.specs.Writing.{Buildable, Labelled, Answered};
 ghost use Rattle.drawing.specs.Drawing.{drawn, drawnClosed, Drawable, Draws};
 ghost use Rattle.drawing.specs.Endings.{builtTo, knownTo, Allows, drawnTo, shortLine};
@@ -60,7 +60,7 @@ fn read_to(
     known: usize,
     operations: &mut [u64],
 ) -> Read
-    requires { ⌜ Readable (now line) at (now names) (now arities) (now variables) (now operations) scope known ⌝ }
+    requires { ⌜ Readable (now line) at (now names) (now arities) (now variables) (now operations) scope (argumentCount known) ⌝ }
     requires { ⌜ Allows ending scope ⌝ }
     ensures { λ r. ⌜ Reads (reading (namesOf (now (names .entry)) (now (arities .entry)) scope) (eventsOf (drop at (now (line .entry)))) (knownTo ending (eventsOf (drop at (now (line .entry)))) (keysAt (now (variables .entry)) 0 known))) r (now (variables .exit)) (now (operations .exit)) ⌝ }
 {
@@ -235,7 +235,7 @@ fn draw_to(
     )
 }
 
-// Reads the diagram that stands on a line from the place `at` on, `known` variables in the table before it, and writes its listing; `work` is the
+// Reads the diagram that stands on a line from the place `at` on, `known` arguments in the table before it, and writes its listing; `work` is the
 // working space.
 pub fn draw(
     line: &[u8],
@@ -265,7 +265,7 @@ pub fn draw(
     )
 }
 
-// The diagram of a reward, closed up: its variables by ascending N where each is written so.
+// The diagram of a reward, closed up: its variables, kind by kind, by ascending N where each is written so.
 pub fn draw_closed(
     line: &[u8],
     at: usize,

@@ -5,11 +5,11 @@
 --
 -- Definitions: a diagram's words
 --   atomTerms, diagramTerms == its terms in the order of the words
---   variablesAfter == variables in the order of their first occurrence
---   termKeys, rewardVariables == the variables among terms, as often as they are written; those of a reward, by ascending N where each is written so
+--   withOne, variablesAfter == variables in the order of their first occurrence, kind by kind: ?name and %name
+--   termKeys, firstVariables, rewardVariables == the variables among terms, as often as they are written; those of a reward, of each kind by ascending N where each is written so
 --   numbered, termNumber, termNumbers == a declared constant, or 2; a parameter or variable that is allowed here, or 6
 --   atomTest == what an atom asks: a declared predicate, or 2, with its arity, or 3; then its terms
---   diagramWords, readTree == a number in its range, or 4; atom, part for true, part for false; after all words more variables than the limit are 8
+--   diagramWords, readTree == a number in its range, or 4; atom, part for true, part for false; after all words more variables of a kind than the limit are 8
 --
 -- Definitions: one line
 --   rewardTree == (reward DIAGRAM): words, row steps, closed up; last 9 for model rows

@@ -13,7 +13,7 @@ use Rattle.words.specs.Words.{IsName, IsNumber}
 use Rattle.forms.specs.declared.Sort.{Sort}
 use Rattle.forms.specs.declared.Sort.the-variants.{Name, Variable, Parameter, Any, Number}
 use Rattle.forms.specs.Tree.{Mark, Term, Atom, Diagram, manyBytes, markBytes, termBytes, atomBytes, diagramBytes, All, GoodTerm, GoodAtom, GoodDiagram}
-use Rattle.forms.specs.Tree.Mark.{plain, variable, parameter}
+use Rattle.forms.specs.Tree.Mark.{plain, variable, parameter, minimum}
 use Rattle.forms.specs.Tree.Term.{term}
 use Rattle.forms.specs.Tree.Atom.{equal, holds}
 use Rattle.forms.specs.Tree.Diagram.{number, branch}
@@ -86,6 +86,7 @@ term-unbroken : (t : Term) → GoodTerm t → Unbroken (termBytes t)
 term-unbroken (term plain n) g = name-unbroken n g
 term-unbroken (term variable n) g = name-unbroken n g
 term-unbroken (term parameter n) g = name-unbroken n g
+term-unbroken (term minimum n) g = name-unbroken n g
 
 atom-unbroken : (a : Atom) → GoodAtom a → Unbroken (atomBytes a)
 atom-unbroken (equal a b) g =

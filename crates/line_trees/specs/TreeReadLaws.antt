@@ -5,12 +5,9 @@ use mathlib.Core.List.{List}
 use Prim.Native.Nat.{_≤_}
 use native.Mathlib.Omega.{arith}
 use lib.Dec.{leb}
-use lib.ListN.{length}
-use borrow.Author.Tests.{leb-true}
 use Rattle.refusal.specs.declared.Refusal.the-variants.{Range, Variables}
 use Rattle.refusal.specs.Outcome.{Outcome, ok, andThen}
 use Rattle.refusal.specs.Outcome.Outcome.{refused as refusedWith}
-use Rattle.label.specs.Limits.{variableCount}
 use Rattle.diagram.specs.Sizes.{highestValue}
 use Rattle.diagram.specs.Diagram.{Diagram}
 use Rattle.words.specs.Bytes.{valueOf}
@@ -20,7 +17,7 @@ use Rattle.forms.specs.Tree.Diagram.{number as numeral, branch as conditional}
 use Rattle.events.specs.Events.{diagramEvents}
 use Rattle.reading.specs.declared.Binding.{Binding}
 use Rattle.reading.specs.Operations.{Op}
-use Rattle.reading.specs.Reading.{Names, Judged, pickJudged, Written, reading}
+use Rattle.reading.specs.Reading.{Names, Judged, pickJudged, Met, Written, isWithin, reading}
 use Rattle.reading.specs.Reading.{andThen as judgedThen}
 use Rattle.reading.specs.Reading.Judged.{fine, refused}
 use Rattle.reading.specs.JudgedLaws.{fine-one, passed, chained}
@@ -34,21 +31,21 @@ use Rattle.line_trees.specs.TreeReading.{diagramWords, readTree}
 use Rattle.line_trees.specs.ResolvedLaws.{Match, Counted, Reads}
 
 -- of what a diagram stands for no more (if ..) are open together than brackets
-resolved-depth : (ν : Names) (d : T.Diagram) (vs : List Key) (g : Result Reading) → resolveDiagram ν vs d ≡ fine g → depth (g .value) ≤ T.brackets d
+resolved-depth : (ν : Names) (d : T.Diagram) (vs : Met) (g : Result Reading) → resolveDiagram ν vs d ≡ fine g → depth (g .value) ≤ T.brackets d
 resolved-depth ν (numeral n) vs g e =
     let c = passed (leb (valueOf n) highestValue) _ Range g e in
     subst (λ (x : Result Reading). depth (x .value) ≤ 0) (c .1) (omega arith)
 resolved-depth ν (conditional a d e) vs g z =
     let c = chained (resolveAtom ν vs a) _ g z in
-    let c₁ = chained (resolveDiagram ν (c .first .variables) d) _ g (c .then) in
-    let c₂ = chained (resolveDiagram ν (c₁ .first .variables) e) (branching (c .first .value) (c₁ .first .value)) g (c₁ .then) in
-    let u : _≡_ {A = Result Reading} (record { value = branch (c .first .value) (c₁ .first .value) (c₂ .first .value); variables = c₂ .first .variables }) g = fine-one (c₂ .then) in
+    let c₁ = chained (resolveDiagram ν (c .first .met) d) _ g (c .then) in
+    let c₂ = chained (resolveDiagram ν (c₁ .first .met) e) (branching (c .first .value) (c₁ .first .value)) g (c₁ .then) in
+    let u : _≡_ {A = Result Reading} (record { value = branch (c .first .value) (c₁ .first .value) (c₂ .first .value); met = c₂ .first .met }) g = fine-one (c₂ .then) in
     subst (λ (x : Result Reading). depth (x .value) ≤ T.brackets (conditional a d e)) u
-    (omega (arith, resolved-depth ν d (c .first .variables) (c₁ .first) (c₁ .answers), resolved-depth ν e (c₁ .first .variables) (c₂ .first) (c₂ .answers)))
+    (omega (arith, resolved-depth ν d (c .first .met) (c₁ .first) (c₁ .answers), resolved-depth ν e (c₁ .first .met) (c₂ .first) (c₂ .answers)))
 
 -- a diagram that is built, in either way, and what follows
 pub read-built : {A : Type 0} (machine : List Op → Outcome Diagram) (tree : Reading → Outcome Diagram) → ((r : Reading) → depth r ≤ mostTests → machine (opsOf r) ≡ tree r)
-    → (σ : Session) (b : Binding) (ps vs ws : List Key) (d : T.Diagram) → T.brackets d ≤ mostTests → Reads σ b ps vs ws d → (k : Diagram → Outcome A)
+    → (σ : Session) (b : Binding) (ps : List Key) (vs ws : Met) (d : T.Diagram) → T.brackets d ≤ mostTests → Reads σ b ps vs ws d → (k : Diagram → Outcome A)
     → andThen (outcomeOf (reading (namesFor (σ .names) (σ .model .arities) b ps) (diagramEvents d) ws)) (λ w. andThen (machine (w .operations)) k)
     ≡ andThen (readTree σ ps vs d) (λ r. andThen (tree r) k)
 unfolding diagramReading readTree
@@ -60,7 +57,7 @@ read-built machine tree law σ b ps vs ws d shallow reads k =
     ν = namesFor (σ .names) (σ .model .arities) b ps
 
     wrote : Result Reading → Written
-    wrote g = record { variables = g .variables; operations = opsOf (g .value) }
+    wrote g = record { met = g .met; operations = opsOf (g .value) }
 
     counted : (g : Result Reading) (r : Reading) → depth (g .value) ≤ mostTests → (c : Bool) → (c ≡ true → g .value ≡ r)
         → andThen (outcomeOf (pickJudged c (fine (wrote g)) (refused Variables))) (λ w. andThen (machine (w .operations)) k)
@@ -70,10 +67,10 @@ read-built machine tree law σ b ps vs ws d shallow reads k =
 
     go : (j : Judged (Result Reading)) (o : Outcome Reading) → ((g : Result Reading) → j ≡ fine g → depth (g .value) ≤ mostTests) → Match (Counted vs) j o
         → andThen (outcomeOf (judgedThen j writing)) (λ w. andThen (machine (w .operations)) k)
-        ≡ andThen (andThen o (λ r. refuseIf (not (leb (length vs) variableCount)) Variables (ok r))) (λ r. andThen (tree r) k)
+        ≡ andThen (andThen o (λ r. refuseIf (not (isWithin vs)) Variables (ok r))) (λ r. andThen (tree r) k)
     go (fine g) (ok r) h m =
         ap (λ (c : Bool). andThen (outcomeOf (pickJudged c (fine (wrote g)) (refused Variables))) (λ w. andThen (machine (w .operations)) k)) (m .1)
-        ∙ counted g r (h g refl) (leb (length vs) variableCount) (λ e. m .0 (leb-true (length vs) variableCount e))
+        ∙ counted g r (h g refl) (isWithin vs) (λ e. m .0 e)
     go (fine g) (refusedWith r) h m = absurd m
     go (refused r) (ok x) h m = absurd m
     go (refused r) (refusedWith s) h m = ap refusedWith m

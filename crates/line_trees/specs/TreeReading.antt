@@ -8,8 +8,8 @@ use lib.Dec.{leb, eqb}
 use Rattle.refusal.specs.declared.Refusal.{Refusal}
 use Rattle.refusal.specs.declared.Refusal.the-variants.{Name, Arity, Range, Unbound, Variables}
 use Rattle.refusal.specs.Outcome.{Outcome, ok, andThen}
-use Rattle.label.specs.Limits.{equality, variableCount}
-use Rattle.label.specs.Terms.{constantTerm, parameterTerm, variableTerm}
+use Rattle.label.specs.Limits.{equality}
+use Rattle.label.specs.Terms.{constantTerm, parameterTerm, variableTerm, minimumTerm}
 use Rattle.label.specs.Labels.{atomFrom, testOf}
 use Rattle.label.specs.declared.Test.{Test}
 use Rattle.diagram.specs.Sizes.{highestValue}
@@ -18,17 +18,18 @@ use Rattle.words.specs.Keys.{keyOf}
 use Rattle.words.specs.declared.Key.{Key}
 use Rattle.names.specs.Keys.{placeOf, isAmong}
 use Rattle.forms.specs.Tree as T
-use Rattle.forms.specs.Tree.Mark.{plain, variable, parameter}
+use Rattle.forms.specs.Tree.Mark.{plain, variable, parameter, minimum}
 use Rattle.forms.specs.Tree.Term.{term}
 use Rattle.forms.specs.Tree.Atom.{equal, holds}
 use Rattle.forms.specs.Tree.Diagram.{number as numeral, branch as conditional}
+use Rattle.reading.specs.Reading.{Met, arguments, isWithin}
 use Rattle.reading.specs.Numbering.{variablesFirst}
 use Rattle.reading.specs.Tree.{Reading}
 use Rattle.reading.specs.Tree.Reading.{number, branch}
 use Rattle.session.specs.Session.{Session, refuseIf}
 use Rattle.session.specs.Facts.{predicateOf}
 
--- ===== Variables: 'numbered .. by first occurrence on the line', from the first variable's number on (document 02, L8) =====
+-- ===== Variables: 'numbered .. by first occurrence on the line', from the first number of their kind on (document 02, L8 and L12) =====
 
 -- the terms of an atom and of a diagram in the order of the words
 abbrev pub atomTerms : T.Atom → List T.Term
@@ -39,24 +40,33 @@ abbrev pub diagramTerms : T.Diagram → List T.Term
 diagramTerms (numeral n) = []
 diagramTerms (conditional a d e) = atomTerms a ++ (diagramTerms d ++ diagramTerms e)
 
--- the variables vs, and behind them those of the terms, each once
-abbrev pub variablesAfter : List Key → List T.Term → List Key
-variablesAfter vs [] = vs
-variablesAfter vs (term plain n ∷ ts) = variablesAfter vs ts
-variablesAfter vs (term parameter n ∷ ts) = variablesAfter vs ts
-variablesAfter vs (term variable n ∷ ts) = variablesAfter (cond (isAmong (keyOf n) vs) vs (vs ++ (keyOf n ∷ []))) ts
+-- a variable behind others, each once
+abbrev pub withOne : List Key → Key → List Key
+withOne vs k = cond (isAmong k vs) vs (vs ++ (k ∷ []))
+
+-- the variables m, and behind them those of the terms, kind by kind: ?name and %name
+abbrev pub variablesAfter : Met → List T.Term → Met
+variablesAfter m [] = m
+variablesAfter m (term plain n ∷ ts) = variablesAfter m ts
+variablesAfter m (term parameter n ∷ ts) = variablesAfter m ts
+variablesAfter m (term variable n ∷ ts) = variablesAfter (record { variables = withOne (m .variables) (keyOf n); minimums = m .minimums }) ts
+variablesAfter m (term minimum n ∷ ts) = variablesAfter (record { variables = m .variables; minimums = withOne (m .minimums) (keyOf n) }) ts
 
 -- the keys of the variables among the terms, as often as they are written
-abbrev pub termKeys : List T.Term → List Key
-termKeys [] = []
+abbrev pub termKeys : List T.Term → Met
+termKeys [] = arguments []
 termKeys (term plain n ∷ ts) = termKeys ts
 termKeys (term parameter n ∷ ts) = termKeys ts
-termKeys (term variable n ∷ ts) = keyOf n ∷ termKeys ts
+termKeys (term variable n ∷ ts) = record { variables = keyOf n ∷ termKeys ts .variables; minimums = termKeys ts .minimums }
+termKeys (term minimum n ∷ ts) = record { variables = termKeys ts .variables; minimums = keyOf n ∷ termKeys ts .minimums }
 
 -- those of a reward: 'Where every variable of a reward is written in that way, N without leading zeros, the reader numbers them by ascending N instead of by first
--- occurrence' (document 02, L2)
-abbrev pub rewardVariables : T.Diagram → List Key
-rewardVariables d = variablesAfter (variablesFirst (termKeys (diagramTerms d))) (diagramTerms d)
+-- occurrence' (document 02, L2), 'likewise, kind by kind' (L12)
+abbrev pub firstVariables : T.Diagram → Met
+firstVariables d = let ks = termKeys (diagramTerms d) in record { variables = variablesFirst (ks .variables); minimums = variablesFirst (ks .minimums) }
+
+abbrev pub rewardVariables : T.Diagram → Met
+rewardVariables d = variablesAfter (firstVariables d) (diagramTerms d)
 
 -- ===== Names =====
 
@@ -65,12 +75,13 @@ abbrev pub numbered : (ℕ → ℕ) → List Key → Refusal → List ℕ → Ou
 numbered f ks r n = refuseIf (not (isAmong (keyOf n) ks)) r (ok (f (placeOf (keyOf n) ks)))
 
 -- on a line of the session σ that may name the parameters ps and the variables vs
-module _ (σ : Session) (ps vs : List Key) where
+module _ (σ : Session) (ps : List Key) (vs : Met) where
   -- a declared constant, or 2; a parameter or a variable that is allowed here, or 6
   abbrev pub termNumber : T.Term → Outcome ℕ
   termNumber (term plain n) = numbered constantTerm (σ .names .constants) Name n
   termNumber (term parameter n) = numbered parameterTerm ps Unbound n
-  termNumber (term variable n) = numbered variableTerm vs Unbound n
+  termNumber (term variable n) = numbered variableTerm (vs .variables) Unbound n
+  termNumber (term minimum n) = numbered minimumTerm (vs .minimums) Unbound n
 
   abbrev pub termNumbers : List T.Term → Outcome (List ℕ)
   termNumbers [] = ok []
@@ -93,6 +104,6 @@ module _ (σ : Session) (ps vs : List Key) where
       andThen (diagramWords e) (λ f.
       ok (branch t h f))))
 
-  -- after all words more variables than the limit are 8
+  -- after all words more variables of a kind than the limit are 8
   unfoldable pub readTree : T.Diagram → Outcome Reading
-  readTree d = andThen (diagramWords d) (λ r. refuseIf (not (leb (length vs) variableCount)) Variables (ok r))
+  readTree d = andThen (diagramWords d) (λ r. refuseIf (not (isWithin vs)) Variables (ok r))

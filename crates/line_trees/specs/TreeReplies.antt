@@ -21,6 +21,7 @@ use Rattle.diagram.specs.Diagram.{Diagram}
 use Rattle.diagram.specs.Rows.{rows}
 use Rattle.regression.specs.RegressCall.{leafAbove}
 use Rattle.cutting.specs.Cut.{diagramAnswer}
+use Rattle.reading.specs.Reading.{arguments}
 use Rattle.build.specs.Build.{textDiagram, rewardDiagram}
 use Rattle.mdp.specs.Model.{mostVariants}
 use Rattle.answers.specs.declared.Answer.the-variants as A
@@ -35,7 +36,7 @@ use Rattle.session.specs.Replies.{Reply, allowed, withNames, withLive, withVoca
 use Rattle.session.specs.Replies.{refusal, quietly, valueSays, backupSays, reduceSays, textSays, bestSays, countSays, didSays, placed}
 use Rattle.line_trees.specs.TreeReading.{rewardVariables, readTree}
 
--- (reward DIAGRAM): no parameter, any variables, by ascending N where each is written so; its row steps, closed up; last 9 for model rows
+-- (reward DIAGRAM): no parameter, any variables, of each kind by ascending N where each is written so; its row steps, closed up; last 9 for model rows
 unfoldable pub rewardTree : Session → T.Diagram → Outcome Diagram
 unfolding readTree rewardDiagram rows
 rewardTree σ d =
@@ -49,7 +50,7 @@ unfoldable pub weightTree : Session → Key → T.Diagram → Outcome Diagram
 unfolding isAmong readTree textDiagram rows
 weightTree σ k d =
     refuseIf (isAmong k (σ .names .variants)) Name
-    (andThen (readTree σ (σ .names .parameters) [] d) (λ r.
+    (andThen (readTree σ (σ .names .parameters) (arguments []) d) (λ r.
     andThen (textDiagram r) (λ x.
     refuseIf (leb mostVariants (length (σ .names .variants)) || ltb mostModelRows (rowsWith (σ .rows) x)) Space
     (ok x))))
@@ -62,7 +63,7 @@ truthTree σ k vs d =
     refuseIf (not (isAmong k (σ .names .predicates)) || isSome (truthsNow (σ .model .actions) (predicateOf (σ .names) k))) Name
     (refuseIf (not (eqb (length vs) (getD (σ .model .arities) (predicateOf (σ .names) k) 0))) Arity
     (refuseIf (repeated [] vs) Name
-    (andThen (readTree σ (σ .names .parameters) vs d) (λ r.
+    (andThen (readTree σ (σ .names .parameters) (arguments vs) d) (λ r.
     andThen (textDiagram r) (λ x.
     refuseIf (leafAbove 1 x) Truth
     (refuseIf (ltb mostModelRows (rowsWith (σ .rows) x)) Space

@@ -29,9 +29,9 @@ use Rattle.events.specs.Events.{parameterEvent, numberEvent, diagramEvents, wor
 use Rattle.events.specs.LineEvents.{line-events}
 use Rattle.events.specs.Contents.{keysIn, numbersIn}
 use Rattle.reading.specs.declared.Binding.the-variants.{Any, None, Only}
-use Rattle.reading.specs.Reading.{Names as ReadingNames, Judged, Written, pickJudged, reading}
+use Rattle.reading.specs.Reading.{Names as ReadingNames, Judged, Met, arguments, Written, pickJudged, reading}
 use Rattle.reading.specs.Reading.Judged.{fine, refused as judged}
-use Rattle.reading.specs.Numbering.{variablesFirst, rewardReading}
+use Rattle.reading.specs.Numbering.{rewardReading}
 use Rattle.reading.specs.Head.{headNumber, openedNumber, headArguments}
 use Rattle.build.specs.Build.{textDiagram, rewardDiagram}
 use Rattle.build.specs.Machine.{mostTests, built, builtClosed}
@@ -45,10 +45,11 @@ use Rattle.session.specs.Declaring.{repeated}
 use Rattle.session.specs.Facts.{predicateOf}
 use Rattle.session.specs.Modelling.{mostModelRows, outcomeOf, namesFor, rowsWith, withReward, rewardRead, rewardLine, withVariant, weightRead, variantLine}
 use Rattle.session.specs.Modelling.{truthsNow, isSome, withTruth, truthRead, becomesLine}
-use Rattle.session.specs.Replies.{Reply, allowed, refusal, quietly, done, placed, replyTo, wordsOf, reply}
-use Rattle.line_trees.specs.TreeReading.{diagramTerms, termKeys, rewardVariables, readTree}
+use Rattle.session.specs.Replaying.{didLine}
+use Rattle.session.specs.Replies.{Reply, allowed, refusal, quietly, didSays, done, placed, replyTo, wordsOf, reply}
+use Rattle.line_trees.specs.TreeReading.{firstVariables, rewardVariables, readTree}
 use Rattle.line_trees.specs.TreeReplies.{rewardTree, weightTree, truthTree, treeDone, treeReply}
-use Rattle.line_trees.specs.VariableLaws.{kept, reading-kept, diagram-keys}
+use Rattle.line_trees.specs.VariableLaws.{keptMet, reading-kept, diagram-keys}
 use Rattle.line_trees.specs.ResolvedLaws.{reads-none, reads-only, reads-any}
 use Rattle.line_trees.specs.TreeReadLaws.{read-built}
 use Rattle.line_trees.specs.TreeHeadLaws.{head-tree}
@@ -89,18 +90,18 @@ module _ (σ : Session) where
   unfolding rewardRead rewardReading rewardTree
   reward-tree d shallow =
       let last : Diagram → Outcome Diagram = λ x. refuseIf (ltb mostModelRows (rowsWith (σ .rows) x)) Space (ok x) in
-      let us : List Key = variablesFirst (termKeys (diagramTerms d)) in
+      let us : Met = firstVariables d in
       let ν = namesFor (σ .names) (σ .model .arities) Any [] in
       ap (λ (j : Judged Written). andThen (outcomeOf j) (λ w. andThen (builtClosed (σ .model .arities) (w .operations)) last))
-      (ap (λ (ks : List Key). reading ν (diagramEvents d) (variablesFirst ks)) (diagram-keys d) ∙ reading-kept ν refl (diagramEvents d) us)
+      (ap (reading ν (diagramEvents d)) (diagram-keys d) ∙ reading-kept ν refl (diagramEvents d) us)
       ∙ read-built (builtClosed (σ .model .arities)) (rewardDiagram (σ .model .arities)) (built-reward (σ .model .arities))
-      σ Any [] (rewardVariables d) (kept us) d shallow (reads-any σ [] us d) last
+      σ Any [] (rewardVariables d) (keptMet us) d shallow (reads-any σ [] us d) last
 
   weight-tree : (k : Key) (d : T.Diagram) → T.brackets d ≤ mostTests → weightRead (σ .names) (σ .model .arities) (σ .rows) k (diagramEvents d) ≡ weightTree σ k d
   unfolding weightRead weightTree
   weight-tree k d shallow =
       ap (refuseIf (isAmong k (σ .names .variants)) Name)
-      (read-built built textDiagram built-text σ None (σ .names .parameters) [] [] d shallow (reads-none σ (σ .names .parameters) d)
+      (read-built built textDiagram built-text σ None (σ .names .parameters) (arguments []) (arguments []) d shallow (reads-none σ (σ .names .parameters) d)
       (λ x. refuseIf (leb mostVariants (length (σ .names .variants)) || ltb mostModelRows (rowsWith (σ .rows) x)) Space (ok x)))
 
   truth-tree : (w : Words K.Becomes) → GoodWords K.Becomes w → T.brackets (w .2) ≤ mostTests
@@ -139,15 +140,15 @@ module _ (σ : Session) where
 
       -- the diagram by words, behind the head
       by-words : ℕ → List Event → List Key → Outcome (ℕ × Diagram)
-      by-words q es us = andThen (outcomeOf (reading ν es us)) (λ u. andThen (built (u .operations)) (checks {A = ℕ × Diagram} (λ x. (q, x))))
+      by-words q es us = andThen (outcomeOf (reading ν es (arguments us))) (λ u. andThen (built (u .operations)) (checks {A = ℕ × Diagram} (λ x. (q, x))))
 
       by-tree : Outcome Diagram
-      by-tree = andThen (readTree σ ps vs (w .2)) (λ r. andThen (textDiagram r) (checks (λ x. x)))
+      by-tree = andThen (readTree σ ps (arguments vs) (w .2)) (λ r. andThen (textDiagram r) (checks (λ x. x)))
 
       diagram : by-words p (diagramEvents (w .2)) vs ≡ andThen by-tree (λ x. ok (paired x))
       diagram =
-          read-built built textDiagram built-text σ Only ps vs vs (w .2) shallow (reads-only σ ps vs (w .2)) (checks paired)
-          ∙ steps-then (readTree σ ps vs (w .2)) textDiagram (checks (λ x. x)) (λ x. ok (paired x)) (checks paired)
+          read-built built textDiagram built-text σ Only ps (arguments vs) (arguments vs) (w .2) shallow (reads-only σ ps vs (w .2)) (checks paired)
+          ∙ steps-then (readTree σ ps (arguments vs) (w .2)) textDiagram (checks (λ x. x)) (λ x. ok (paired x)) (checks paired)
           (λ x. last x (leafAbove 1 x) (ltb mostModelRows (rowsWith (σ .rows) x)))
 
       -- the head
@@ -209,7 +210,8 @@ module _ (σ : Session) where
   done-tree number K.Text w g h = refl
   done-tree number K.Best w g h = refl
   done-tree number K.Count w g h = refl
-  done-tree number K.Did w g h = rw (map-numbers (w .2))
+  done-tree number K.Did w g h =
+      ap (λ (os : List ℕ). didSays σ number (didLine (σ .model) (σ .names) (σ .live) (keyOf (w .0)) (keyOf (w .1)) os)) (map-numbers (w .2))
   done-tree number K.Bad w g h = refl
 
 -- ===== A line in bytes =====

@@ -1,9 +1,9 @@
--- Variables by first occurrence: those met first stay first, and the pass over words, which keeps one more than the limit, loses none that has a number. The
--- variables of a diagram's words are those of its terms.
+-- Variables of a kind by first occurrence: those met first stay first, and the pass over words, which keeps one more than the limit, loses none that has a number.
+-- The variables of a diagram's words are those of its terms.
 use mathlib.Core.Path.{_≡_, refl, sym, ap, ap₂, _∙_}
-use mathlib.Core.Bool.{Bool, true, false, cond}
+use mathlib.Core.Bool.{Bool, true, false, cond, _&&_}
 use mathlib.Core.List.{List, [], _∷_, _++_, map, append-nil, append-assoc}
-use Prim.Native.Nat.{suc, _≤_, _<_}
+use Prim.Native.Nat.{ℕ, suc, _+_, _≤_, _<_}
 use native.Mathlib.Omega.{arith}
 use native.Mathlib.Decide.{decLt}
 use lib.Dec.{leb}
@@ -12,13 +12,12 @@ use lib.Seq.{length-take-le, take-all, take-append-le}
 use borrow.Author.Tests.{ltb-true, lt-ltb, le-leb, lt-leb}
 use Rattle.basics.specs.Tests.{Flag, isTrue, isFalse, flag}
 use Rattle.label.specs.Limits.{variableCount}
-use Rattle.label.specs.Terms.{variableTerm}
 use Rattle.words.specs.Keys.{keyOf}
 use Rattle.words.specs.declared.Key.{Key}
 use Rattle.names.specs.Keys.{sameKey, placeOf, isAmong}
 use Rattle.names.specs.KeyLaws.{same-refl}
 use Rattle.forms.specs.Tree as T
-use Rattle.forms.specs.Tree.Mark.{plain, variable, parameter}
+use Rattle.forms.specs.Tree.Mark.{plain, variable, parameter, minimum}
 use Rattle.forms.specs.Tree.Term.{term}
 use Rattle.forms.specs.Tree.Atom.{equal, holds}
 use Rattle.forms.specs.Tree.Diagram.{number as numeral, branch as conditional}
@@ -26,10 +25,14 @@ use Rattle.events.specs.declared.Event.{Event}
 use Rattle.events.specs.declared.Event.the-variants as E
 use Rattle.events.specs.Events.{termEvent, atomEvents, diagramEvents}
 use Rattle.reading.specs.declared.Binding.the-variants.{Any}
-use Rattle.reading.specs.Reading.{Names, pickKeys, met, numberIn, reading}
-use Rattle.reading.specs.Occurrences.{variableKeys}
+use Rattle.reading.specs.declared.Kind.{Kind}
+use Rattle.reading.specs.declared.Kind.the-variants as K
+use Rattle.reading.specs.Reading.{Names, pickKeys, met, Met, numberIn, isWithin, reading}
+use Rattle.reading.specs.Occurrences.{variableOf, wordKeys, keysOf}
+use Rattle.reading.specs.Numbering.{variablesFirst, metFirst}
 use Rattle.reading.specs.NumberingLaws.{reading-many}
-use Rattle.line_trees.specs.TreeReading.{atomTerms, diagramTerms, variablesAfter, termKeys}
+use Rattle.reading.specs.NumberingLaws.Over.{variables, minimums}
+use Rattle.line_trees.specs.TreeReading.{atomTerms, diagramTerms, withOne, variablesAfter, termKeys, firstVariables}
 
 -- ===== Places =====
 
@@ -59,9 +62,6 @@ place-last k (x ∷ us) = go (sameKey x k) (place-last k us)
 
 -- ===== One variable more =====
 
-abbrev pub withOne : List Key → Key → List Key
-withOne us k = cond (isAmong k us) us (us ++ (k ∷ []))
-
 one-below : (us : List Key) (k : Key) → placeOf k (withOne us k) < length (withOne us k)
 one-below us k = go (flag (isAmong k us))
   where
@@ -70,30 +70,42 @@ one-below us k = go (flag (isAmong k us))
     go (isFalse e) = rw e (omega (arith, place-last k us, length-append us (k ∷ [])))
 
 -- what follows only adds
-record Extends (us vs : List Key) : Type 0 where
-  more : List Key
-  is : vs ≡ us ++ more
+pub record Extends (us vs : List Key) : Type 0 where
+  pub more : List Key
+  pub is : vs ≡ us ++ more
 
 extends-one : (us : List Key) (k : Key) (vs : List Key) (b : Bool) → Extends (cond b us (us ++ (k ∷ []))) vs → Extends us vs
 extends-one us k vs true x = x
 extends-one us k vs false x = record { more = k ∷ x .more; is = x .is ∙ append-assoc us (k ∷ []) (x .more) }
 
-extends : (ts : List T.Term) (us : List Key) → Extends us (variablesAfter us ts)
-extends [] us = record { more = []; is = sym (append-nil us) }
-extends (term plain n ∷ ts) us = extends ts us
-extends (term parameter n ∷ ts) us = extends ts us
-extends (term variable n ∷ ts) us = extends-one us (keyOf n) _ (isAmong (keyOf n) us) (extends ts (withOne us (keyOf n)))
+extends-none : (us : List Key) → Extends us us
+extends-none us = record { more = []; is = sym (append-nil us) }
+
+-- of each kind
+pub extends : (ts : List T.Term) (m : Met) → Extends (m .variables) (variablesAfter m ts .variables) × Extends (m .minimums) (variablesAfter m ts .minimums)
+extends [] m = (extends-none (m .variables), extends-none (m .minimums))
+extends (term plain n ∷ ts) m = extends ts m
+extends (term parameter n ∷ ts) m = extends ts m
+extends (term variable n ∷ ts) m =
+    let x = extends ts (record { variables = withOne (m .variables) (keyOf n); minimums = m .minimums }) in
+    (extends-one (m .variables) (keyOf n) _ (isAmong (keyOf n) (m .variables)) (x .0), x .1)
+extends (term minimum n ∷ ts) m =
+    let x = extends ts (record { variables = m .variables; minimums = withOne (m .minimums) (keyOf n) }) in
+    (x .0, extends-one (m .minimums) (keyOf n) _ (isAmong (keyOf n) (m .minimums)) (x .1))
 
 -- ===== A variable's number =====
 
--- the last variable has the last number
-pub number-exact : (vs : List Key) (k : Key) → length vs ≤ variableCount → placeOf k vs < length vs → numberIn vs k ≡ variableTerm (placeOf k vs)
+-- the last variable of a kind has the last number
+pub number-exact : (first : ℕ) (vs : List Key) (k : Key) → length vs ≤ variableCount → placeOf k vs < length vs → numberIn first vs k ≡ first + placeOf k vs
 unfolding numberIn
-number-exact vs k few h = ap variableTerm (omega arith)
+number-exact first vs k few h = ap (λ (i : ℕ). first + i) (omega arith)
 
--- the pass keeps this many
+-- the pass keeps this many of a kind
 abbrev pub kept : List Key → List Key
 kept us = take (suc variableCount) us
+
+abbrev pub keptMet : Met → Met
+keptMet m = record { variables = kept (m .variables); minimums = kept (m .minimums) }
 
 pick-same : (b : Bool) (x : List Key) → pickKeys b x x ≡ x
 pick-same true x = refl
@@ -119,7 +131,7 @@ met-kept us k = go (decLt (length us) (suc variableCount))
         rw (length-take-le (suc variableCount) us l) (pick-same (isAmong k (kept us)) (kept us) ∙ full (isAmong k us) l)
 
 -- and their count against the limit is that of all
-pub count-kept : (us : List Key) → leb (length (kept us)) variableCount ≡ leb (length us) variableCount
+count-kept : (us : List Key) → leb (length (kept us)) variableCount ≡ leb (length us) variableCount
 count-kept us = go (decLt (length us) (suc variableCount))
   where
     go : Dec (length us < suc variableCount) → leb (length (kept us)) variableCount ≡ leb (length us) variableCount
@@ -128,71 +140,101 @@ count-kept us = go (decLt (length us) (suc variableCount))
         let l : suc variableCount ≤ length us = omega arith in
         rw (length-take-le (suc variableCount) us l, lt-leb (length us) variableCount (omega arith))
 
--- a variable that is met: it is among all of the line, and where these are within the limit, it has the number of its place among them
-pub record Numbered (vs ws : List Key) (k : Key) : Type 0 where
-  pub among : isAmong k vs ≡ true
-  pub number : length vs ≤ variableCount → numberIn ws k ≡ variableTerm (placeOf k vs)
+pub within-kept : (m : Met) → isWithin (keptMet m) ≡ isWithin m
+within-kept m = ap₂ (λ (a b : Bool). a && b) (count-kept (m .variables)) (count-kept (m .minimums))
 
-pub met-numbered : (us : List Key) (k : Key) (ts : List T.Term) → Numbered (variablesAfter (withOne us k) ts) (kept (withOne us k)) k
+-- a variable that is met: it is among all of its kind on the line, and where these are within the limit, it has the number of its place among them
+pub record Numbered (first : ℕ) (vs ws : List Key) (k : Key) : Type 0 where
+  pub among : isAmong k vs ≡ true
+  pub number : length vs ≤ variableCount → numberIn first ws k ≡ first + placeOf k vs
+
+pub met-numbered : (first : ℕ) (us : List Key) (k : Key) (vs : List Key) → Extends (withOne us k) vs → Numbered first vs (kept (withOne us k)) k
 unfolding isAmong
-met-numbered us k ts =
+met-numbered first us k vs x =
     let os : List Key = withOne us k in
-    let vs : List Key = variablesAfter os ts in
-    let x = extends ts os in
     let n : length vs ≡ length (os ++ x .more) = ap length (x .is) in
     let p : placeOf k vs ≡ placeOf k os = ap (placeOf k) (x .is) ∙ place-more k os (x .more) (one-below us k) in
     let l = length-append os (x .more) in
     record {
       among = lt-ltb (placeOf k vs) (length vs) (omega (arith, one-below us k));
       number = λ few.
-          ap (λ (ws : List Key). numberIn ws k) (take-all (suc variableCount) os (omega arith))
-          ∙ number-exact os k (omega arith) (one-below us k)
-          ∙ ap variableTerm (sym p);
+          ap (λ (ws : List Key). numberIn first ws k) (take-all (suc variableCount) os (omega arith))
+          ∙ number-exact first os k (omega arith) (one-below us k)
+          ∙ ap (λ (i : ℕ). first + i) (sym p);
     }
 
--- known before a reward's words, one more than the limit does
-pub reading-kept : (σ : Names) → σ .binding ≡ Any → (es : List Event) (us : List Key) → reading σ es us ≡ reading σ es (kept us)
-reading-kept σ any es us = go (decLt variableCount (length us))
+-- known before a reward's words, one more than the limit of each kind does
+pub reading-kept : (σ : Names) → σ .binding ≡ Any → (es : List Event) (m : Met) → reading σ es m ≡ reading σ es (keptMet m)
+reading-kept σ any es m = go (decLt variableCount (length (m .variables))) (decLt variableCount (length (m .minimums)))
   where
-    go : Dec (variableCount < length us) → reading σ es us ≡ reading σ es (kept us)
-    go (yes h) = reading-many σ any es us (kept us) h (omega (arith, length-take-le (suc variableCount) us h))
-    go (no h) = ap (reading σ es) (sym (take-all (suc variableCount) us (omega arith)))
+    over : (us : List Key) → variableCount < length us → variableCount < length (kept us)
+    over us h = omega (arith, length-take-le (suc variableCount) us h)
+
+    all : (us : List Key) → (variableCount < length us → ⊥) → us ≡ kept us
+    all us h = sym (take-all (suc variableCount) us (omega arith))
+
+    go : Dec (variableCount < length (m .variables)) → Dec (variableCount < length (m .minimums)) → reading σ es m ≡ reading σ es (keptMet m)
+    go (yes h) l = reading-many σ any es m (keptMet m) (variables h) (variables (over (m .variables) h))
+    go (no h) (yes l) = reading-many σ any es m (keptMet m) (minimums l) (minimums (over (m .minimums) l))
+    go (no h) (no l) = ap₂ (λ (us vs : List Key). reading σ es (record { variables = us; minimums = vs })) (all (m .variables) h) (all (m .minimums) l)
 
 -- ===== The variables of a diagram's words =====
 
-join-words : (xs ys : List Event) → variableKeys (xs ++ ys) ≡ variableKeys xs ++ variableKeys ys
-join-words [] ys = refl
-join-words (E.Name k ∷ xs) ys = join-words xs ys
-join-words (E.Variable k ∷ xs) ys = ap (λ (l : List Key). k ∷ l) (join-words xs ys)
-join-words (E.Parameter k ∷ xs) ys = join-words xs ys
-join-words (E.Number v ∷ xs) ys = join-words xs ys
-join-words (E.Equal ∷ xs) ys = join-words xs ys
-join-words (E.Holds k n ∷ xs) ys = join-words xs ys
-join-words (E.Step ∷ xs) ys = join-words xs ys
-join-words (E.End ∷ xs) ys = join-words xs ys
+-- those of one kind
+abbrev kind : Kind → Met → List Key
+kind K.Maximum m = m .variables
+kind K.Minimum m = m .minimums
 
-join-terms : (ss ts : List T.Term) → termKeys (ss ++ ts) ≡ termKeys ss ++ termKeys ts
-join-terms [] ts = refl
-join-terms (term plain n ∷ ss) ts = join-terms ss ts
-join-terms (term parameter n ∷ ss) ts = join-terms ss ts
-join-terms (term variable n ∷ ss) ts = ap (λ (l : List Key). keyOf n ∷ l) (join-terms ss ts)
+join-words : (c : Kind) (xs ys : List Event) → keysOf c (xs ++ ys) ≡ keysOf c xs ++ keysOf c ys
+join-words c [] ys = refl
+join-words c (e ∷ xs) ys =
+    ap (λ (l : List Key). wordKeys (variableOf c e) ++ l) (join-words c xs ys) ∙ sym (append-assoc (wordKeys (variableOf c e)) (keysOf c xs) (keysOf c ys))
 
-terms-keys : (ts : List T.Term) → variableKeys (map termEvent ts) ≡ termKeys ts
-terms-keys [] = refl
-terms-keys (term plain n ∷ ts) = terms-keys ts
-terms-keys (term parameter n ∷ ts) = terms-keys ts
-terms-keys (term variable n ∷ ts) = ap (λ (l : List Key). keyOf n ∷ l) (terms-keys ts)
+join-terms : (c : Kind) (ss ts : List T.Term) → kind c (termKeys (ss ++ ts)) ≡ kind c (termKeys ss) ++ kind c (termKeys ts)
+join-terms K.Maximum [] ts = refl
+join-terms K.Minimum [] ts = refl
+join-terms c (term plain n ∷ ss) ts = join-terms c ss ts
+join-terms c (term parameter n ∷ ss) ts = join-terms c ss ts
+join-terms K.Maximum (term variable n ∷ ss) ts = ap (λ (l : List Key). keyOf n ∷ l) (join-terms K.Maximum ss ts)
+join-terms K.Minimum (term variable n ∷ ss) ts = join-terms K.Minimum ss ts
+join-terms K.Maximum (term minimum n ∷ ss) ts = join-terms K.Maximum ss ts
+join-terms K.Minimum (term minimum n ∷ ss) ts = ap (λ (l : List Key). keyOf n ∷ l) (join-terms K.Minimum ss ts)
 
-atom-keys : (a : T.Atom) → variableKeys (atomEvents a) ≡ termKeys (atomTerms a)
-atom-keys (equal a b) = terms-keys (a ∷ b ∷ [])
-atom-keys (holds p ts) = terms-keys ts
+terms-keys : (c : Kind) (ts : List T.Term) → keysOf c (map termEvent ts) ≡ kind c (termKeys ts)
+terms-keys K.Maximum [] = refl
+terms-keys K.Minimum [] = refl
+terms-keys K.Maximum (term plain n ∷ ts) = terms-keys K.Maximum ts
+terms-keys K.Minimum (term plain n ∷ ts) = terms-keys K.Minimum ts
+terms-keys K.Maximum (term parameter n ∷ ts) = terms-keys K.Maximum ts
+terms-keys K.Minimum (term parameter n ∷ ts) = terms-keys K.Minimum ts
+terms-keys K.Maximum (term variable n ∷ ts) = ap (λ (l : List Key). keyOf n ∷ l) (terms-keys K.Maximum ts)
+terms-keys K.Minimum (term variable n ∷ ts) = terms-keys K.Minimum ts
+terms-keys K.Maximum (term minimum n ∷ ts) = terms-keys K.Maximum ts
+terms-keys K.Minimum (term minimum n ∷ ts) = ap (λ (l : List Key). keyOf n ∷ l) (terms-keys K.Minimum ts)
 
-pub diagram-keys : (d : T.Diagram) → variableKeys (diagramEvents d) ≡ termKeys (diagramTerms d)
-diagram-keys (numeral n) = refl
-diagram-keys (conditional a d e) =
-    join-words (atomEvents a) (diagramEvents d ++ (diagramEvents e ++ (E.Step ∷ [])))
-    ∙ ap₂ (λ (x y : List Key). x ++ y) (atom-keys a)
-    (join-words (diagramEvents d) (diagramEvents e ++ (E.Step ∷ []))
-    ∙ ap₂ (λ (x y : List Key). x ++ y) (diagram-keys d) (join-words (diagramEvents e) (E.Step ∷ []) ∙ append-nil (variableKeys (diagramEvents e)) ∙ diagram-keys e)
-    ∙ sym (join-terms (diagramTerms d) (diagramTerms e)))
-    ∙ sym (join-terms (atomTerms a) (diagramTerms d ++ diagramTerms e))
+atom-keys : (c : Kind) (a : T.Atom) → keysOf c (atomEvents a) ≡ kind c (termKeys (atomTerms a))
+atom-keys K.Maximum (equal a b) = terms-keys K.Maximum (a ∷ b ∷ [])
+atom-keys K.Minimum (equal a b) = terms-keys K.Minimum (a ∷ b ∷ [])
+atom-keys K.Maximum (holds p ts) = terms-keys K.Maximum ts
+atom-keys K.Minimum (holds p ts) = terms-keys K.Minimum ts
+
+step-keys : (c : Kind) → keysOf c (E.Step ∷ []) ≡ []
+step-keys K.Maximum = refl
+step-keys K.Minimum = refl
+
+kind-keys : (c : Kind) (d : T.Diagram) → keysOf c (diagramEvents d) ≡ kind c (termKeys (diagramTerms d))
+kind-keys K.Maximum (numeral n) = refl
+kind-keys K.Minimum (numeral n) = refl
+kind-keys c (conditional a d e) =
+    join-words c (atomEvents a) (diagramEvents d ++ (diagramEvents e ++ (E.Step ∷ [])))
+    ∙ ap₂ (λ (x y : List Key). x ++ y) (atom-keys c a)
+    (join-words c (diagramEvents d) (diagramEvents e ++ (E.Step ∷ []))
+    ∙ ap₂ (λ (x y : List Key). x ++ y) (kind-keys c d)
+    (join-words c (diagramEvents e) (E.Step ∷ []) ∙ ap (λ (l : List Key). keysOf c (diagramEvents e) ++ l) (step-keys c) ∙ append-nil (keysOf c (diagramEvents e)) ∙ kind-keys c e)
+    ∙ sym (join-terms c (diagramTerms d) (diagramTerms e)))
+    ∙ sym (join-terms c (atomTerms a) (diagramTerms d ++ diagramTerms e))
+
+-- so those that have their number first are the tree's
+pub diagram-keys : (d : T.Diagram) → metFirst (diagramEvents d) ≡ firstVariables d
+diagram-keys d =
+    ap₂ (λ (us vs : List Key). record { variables = variablesFirst us; minimums = variablesFirst vs }) (kind-keys K.Maximum d) (kind-keys K.Minimum d)

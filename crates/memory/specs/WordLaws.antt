@@ -11,7 +11,7 @@ use Rattle.words.specs.Bytes.{isLetter, isDigit}
 use Rattle.text.specs.declared.Kind.{Kind}
 use Rattle.text.specs.Line.{keyword, wordsBytes}
 use Rattle.events.specs.declared.Event.{Event}
-use Rattle.events.specs.declared.Event.the-variants.{Name, Variable, Parameter, Number, Equal, Holds, Step, End}
+use Rattle.events.specs.declared.Event.the-variants.{Name, Variable, Parameter, Minimum, Number, Equal, Holds, Step, End}
 use Rattle.events.specs.declared.Seen.{Seen}
 use Rattle.events.specs.declared.Next.{Next}
 use Rattle.events.specs.Events.{firstWord}
@@ -50,8 +50,9 @@ front-rests s =
     (pick-rests (isDigit (getD s 0 0)) _ _ (number-rests s)
     (pick-rests (eqb (getD s 0 0) 63) _ _ (goes-on _ refl)
     (pick-rests (eqb (getD s 0 0) 33) _ _ (goes-on _ refl)
+    (pick-rests (eqb (getD s 0 0) 37) _ _ (goes-on _ refl)
     (pick-rests (eqb (getD s 0 0) 40) _ _ (pick-rests (isIf s) _ _ (atom-rests s 4) (atom-rests s 0))
-    (pick-rests (eqb (getD s 0 0) 41) _ _ (goes-on _ refl) end))))))
+    (pick-rests (eqb (getD s 0 0) 41) _ _ (goes-on _ refl) end)))))))
 
 next-rests : (s : List ℕ) (i : ℕ) → isEnd (nextAt s i .event) ≡ true → nextAt s i .place ≡ i
 unfolding nextAt
@@ -61,6 +62,7 @@ end-is : (e : Event) → isEnd e ≡ true → e ≡ End
 end-is (Name k) p = absurd (true≢false (sym p))
 end-is (Variable k) p = absurd (true≢false (sym p))
 end-is (Parameter k) p = absurd (true≢false (sym p))
+end-is (Minimum k) p = absurd (true≢false (sym p))
 end-is (Number v) p = absurd (true≢false (sym p))
 end-is Equal p = absurd (true≢false (sym p))
 end-is (Holds k n) p = absurd (true≢false (sym p))

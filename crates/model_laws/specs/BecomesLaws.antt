@@ -25,10 +25,11 @@ use Rattle.regression.specs.RegressCallLaws.{above-most}
 use Rattle.events.specs.declared.Event.{Event}
 use Rattle.events.specs.Events.{diagramEvents, wordsEvents}
 use Rattle.reading.specs.declared.Binding.the-variants.{Only}
-use Rattle.reading.specs.Reading.{reading}
+use Rattle.reading.specs.Reading.{arguments, reading}
 use Rattle.reading.specs.Reading.Judged.{fine}
 use Rattle.reading.specs.Head.{headNumber, headArguments}
-use Rattle.reading.specs.Tree.{Named}
+use Rattle.reading.specs.Tree.{Named, maximumReach}
+use Rattle.reading.specs.GoodLaws.{named-below}
 use Rattle.build.specs.Machine.{mostTests, built}
 use Rattle.mdp.specs.Model.{Variant, Action, GoodTruthDiagram, GoodVariant}
 use Rattle.session.specs.declared.Part.the-variants.{Model as ModelPart}
@@ -45,12 +46,12 @@ use Rattle.model_laws.specs.HeadLaws.{head-headed}
 -- ===== The truth diagram =====
 
 -- its m arguments and the parameters of the action, leaves 0 and 1
-truth-read : (ar : List ℕ) (c n m : ℕ) (d : Diagram) → m ≡ n → Read ar c m d → leafAbove 1 d ≡ false → GoodTruthDiagram ar c n d
+truth-read : (ar : List ℕ) (c n m : ℕ) (d : Diagram) → m ≡ n → Read ar c (maximumReach m) d → leafAbove 1 d ≡ false → GoodTruthDiagram ar c n d
 truth-read ar c n m d e r bits = record {
   listed = r .listed;
   bits = above-most 1 d bits;
-  parameters = read-within ar c m d r;
-  arguments = Terms-mono (Named c m) (λ t. t < firstVariable + n) (λ t h. omega (arith, h .variables)) (meaning ar d) (r .terms);
+  parameters = read-within ar c (maximumReach m) d r;
+  arguments = Terms-mono (Named c (maximumReach m)) (λ t. t < firstVariable + n) (λ t h. omega (arith, named-below c m t h)) (meaning ar d) (r .terms);
 }
 
 -- an accepted truth diagram of the predicate p
@@ -66,12 +67,12 @@ became n ar tables truths r p vs w shallow =
     accepted-cond (isSome (truths q)) Name _ (λ new.
     accepted-read (headArguments (getD ar q 0) (wordsEvents Becomes (p, vs, w))) _ (λ h j.
     let x = head-headed (getD ar q 0) (keyOf p) vs (diagramEvents w) h j in
-    accepted-read (reading (namesFor n ar Only (n .parameters)) (h .rest) (h .variables)) _ (λ u e.
+    accepted-read (reading (namesFor n ar Only (n .parameters)) (h .rest) (arguments (h .variables))) _ (λ u e.
     accepted-next (built (u .operations)) _ (λ d m.
     accepted-cond (leafAbove 1 d) Truth _ (λ bits.
     accepted-cond (ltb mostModelRows (rowsWith r d)) Space _ (λ few.
-    let f = subst (λ (es : List Event). reading (namesFor n ar Only (n .parameters)) es (h .variables) ≡ fine u) (x .rest) e in
-    let y = line-read n ar tables w shallow Only (h .variables) u d (n .parameters) (tables .parameters) f m in
+    let f = subst (λ (es : List Event). reading (namesFor n ar Only (n .parameters)) es (arguments (h .variables)) ≡ fine u) (x .rest) e in
+    let y = line-read n ar tables w shallow Only (arguments (h .variables)) u d (n .parameters) (tables .parameters) f m in
     accepted-ok
     (record {
       good = truth-read ar (length (n .parameters)) (getD ar q 0) (length (h .variables)) d (x .count) y bits;

@@ -27,7 +27,7 @@ use Rattle.regression.specs.Result.{AtMost, asked, stepped}
 use Rattle.regression.specs.Parameters.{Allowed, Within}
 use Rattle.reduction.specs.ClosedLaws.{within-closed}
 use Rattle.mdp.specs.CallLaws.{closed-count}
-use Rattle.reading.specs.Tree.{Reading, depth, opsOf, Named, GoodTest, GoodReading}
+use Rattle.reading.specs.Tree.{Reading, depth, opsOf, Reach, Named, GoodTest, GoodReading}
 use Rattle.reading.specs.Tree.Reading.{branch as conditional, number}
 use Rattle.build.specs.Machine.{mostTests, built, builtClosed}
 use Rattle.build.specs.MachineLaws.{built-text, built-reward}
@@ -86,29 +86,29 @@ module _ (ar : List ℕ) (P : ℕ → Type 0) where
 
 -- ===== What is built =====
 
--- a diagram with c parameters and n variables at most
-pub record Read (ar : List ℕ) (c n : ℕ) (d : Diagram) : Type 0 where
+-- a diagram with c parameters and, of each kind, n variables at most
+pub record Read (ar : List ℕ) (c : ℕ) (n : Reach) (d : Diagram) : Type 0 where
   pub listed : Good ar d
   pub terms : Terms (Named c n) (meaning ar d)
 
-pub read-within : (ar : List ℕ) (c n : ℕ) (d : Diagram) → Read ar c n d → Within c (meaning ar d)
+pub read-within : (ar : List ℕ) (c : ℕ) (n : Reach) (d : Diagram) → Read ar c n d → Within c (meaning ar d)
 read-within ar c n d r = record { terms = Terms-mono (Named c n) (Allowed c) (λ t h. h .parameters) (meaning ar d) (r .terms) }
 
 module _ (ar : List ℕ) (arities : areArities ar ≡ true) where
-  drawn-read : (c n : ℕ) (d : Diagram) → Drawn ar (Named c n) d → length (rows d) ≤ mostRows → Read ar c n d
+  drawn-read : (c : ℕ) (n : Reach) (d : Diagram) → Drawn ar (Named c n) d → length (rows d) ≤ mostRows → Read ar c n d
   drawn-read c n d g few = record {
     listed = record { arities = arities; ordered = g .ordered; reduced = g .reduced; fine = labelled-fine ar (Named c n) d (g .labels) (g .most); few = few };
     terms = labelled-terms ar (Named c n) d (g .labels);
   }
 
   -- a diagram of a text
-  pub built-read : (c n : ℕ) (r : Reading) → GoodReading ar (Named c n) r → depth r ≤ mostTests → (d : Diagram) → built (opsOf r) ≡ ok d → Read ar c n d
+  pub built-read : (c : ℕ) (n : Reach) (r : Reading) → GoodReading ar (Named c n) r → depth r ≤ mostTests → (d : Diagram) → built (opsOf r) ≡ ok d → Read ar c n d
   built-read c n r good shallow d e =
       let h = text-held r .given d (sym (built-text r shallow) ∙ e) in
       subst (Read ar c n) (sym (h .is)) (drawn-read c n (diagramFor r) (drawn ar (Named c n) r good) (h .few))
 
   -- closed up it is a reward
-  pub built-good : (n : ℕ) (r : Reading) → GoodReading ar (Named 0 n) r → depth r ≤ mostTests → (d : Diagram) → builtClosed ar (opsOf r) ≡ ok d → GoodValue ar d
+  pub built-good : (n : Reach) (r : Reading) → GoodReading ar (Named 0 n) r → depth r ≤ mostTests → (d : Diagram) → builtClosed ar (opsOf r) ≡ ok d → GoodValue ar d
   built-good n r good shallow d e =
       let h = reward-held ar r .given d (sym (built-reward ar r shallow) ∙ e) in
       let x : Diagram = diagramFor r in

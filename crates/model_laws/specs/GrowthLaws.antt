@@ -11,7 +11,7 @@ use lib.Dec.{eqb, ltb}
 use borrow.Author.Tests.{ne-eqb}
 use Rattle.basics.specs.Tests.{cond-const}
 use Rattle.basics.specs.Members.{mem}
-use Rattle.label.specs.Limits.{firstParameter, firstVariable, variableCount, mostPlaces}
+use Rattle.label.specs.Limits.{firstParameter, firstVariable, variableCount, firstMinimum, minimumCount, mostPlaces}
 use Rattle.label.specs.Terms.{isTerm, isConstant}
 use Rattle.label.specs.Labels.{placesOf, placeIn, placeFits, isLabel, termsOf, unpacked}
 use Rattle.label.specs.LabelLaws.{PlacesFit, Fitting, label-fits, fits-atom, unused-zero}
@@ -19,8 +19,8 @@ use Rattle.label.specs.ArityLaws.{terms-are}
 use Rattle.label.specs.declared.Atom.{Atom}
 use Rattle.diagram.specs.Diagram.{Diagram, leaf, branch, relabel}
 use Rattle.diagram.specs.Listing.{Fine, Good}
-use Rattle.diagram.specs.Variables.{occurs, occurring, variables, closed}
-use Rattle.rename.specs.ClosingLaws.{closed-variables, closed-same}
+use Rattle.diagram.specs.Variables.{occurs, occurring, variables, minimums, closed}
+use Rattle.rename.specs.ClosingLaws.{closed-variables, closed-minimums, closed-same}
 use Rattle.state.specs.State.{atomOf, meaning}
 use Rattle.state.specs.Terms.{Each, Terms}
 use Rattle.state.specs.ValueLaws.{Terms-mono}
@@ -135,10 +135,15 @@ module _ (ar br : List ℕ) (grown : Grown ar br) where
   unfolding variables
   variables-grown d g = occurring-grown d g firstVariable variableCount (omega arith)
 
+  minimums-grown : (d : Diagram) → Fine ar d → minimums br d ≡ minimums ar d
+  unfolding minimums
+  minimums-grown d g = occurring-grown d g firstMinimum minimumCount (omega arith)
+
   closed-grown : (d : Diagram) → Good ar d → closed ar d ≡ d → closed br d ≡ d
   closed-grown d g e =
-      closed-same br d (length (variables ar d)) (good-grown d g)
+      closed-same br d (length (variables ar d)) (length (minimums ar d)) (good-grown d g)
       (variables-grown d (g .fine) ∙ ap (variables ar) (sym e) ∙ closed-variables ar d g)
+      (minimums-grown d (g .fine) ∙ ap (minimums ar) (sym e) ∙ closed-minimums ar d g)
 
   -- ===== Parts of a model =====
 

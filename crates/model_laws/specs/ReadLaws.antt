@@ -11,7 +11,7 @@ use Rattle.diagram.specs.Diagram.{Diagram}
 use Rattle.refusal.specs.Outcome.{ok}
 use Rattle.events.specs.Events.{diagramEvents}
 use Rattle.reading.specs.declared.Binding.{Binding}
-use Rattle.reading.specs.Reading.{Written, reading}
+use Rattle.reading.specs.Reading.{Met, Written, reading}
 use Rattle.reading.specs.Reading.Judged.{fine}
 use Rattle.reading.specs.Tree.{reach, NamesFit}
 use Rattle.reading.specs.GoodLaws.{reading-sound}
@@ -25,7 +25,7 @@ module _ (n : Names) (ar : List ℕ) (good : GoodTables n ar) where
   names-fit : (b : Binding) (ps : List Key) → length ps ≤ parameterCount → NamesFit (namesFor n ar b ps)
   names-fit b ps few = record { constants-few = good .constants; predicates-few = good .predicates; parameters-few = few; arity-list = good .arities }
 
-  module _ (d : T.Diagram) (shallow : T.brackets d ≤ mostTests) (b : Binding) (vs : List Key) (w : Written) (x : Diagram) where
+  module _ (d : T.Diagram) (shallow : T.brackets d ≤ mostTests) (b : Binding) (vs : Met) (w : Written) (x : Diagram) where
     -- a weight or a truth diagram
     pub line-read : (ps : List Key) → length ps ≤ parameterCount → reading (namesFor n ar b ps) (diagramEvents d) vs ≡ fine w → built (w .operations) ≡ ok x
         → Read ar (length ps) (reach b vs) x

@@ -13,8 +13,7 @@ use Rattle.events.specs.declared.Event.{Event}
 use Rattle.events.specs.Events.{diagramEvents}
 use Rattle.reading.specs.declared.Binding.the-variants.{Any}
 use Rattle.reading.specs.Reading.{reading}
-use Rattle.reading.specs.Occurrences.{variableKeys}
-use Rattle.reading.specs.Numbering.{variablesFirst, rewardReading}
+use Rattle.reading.specs.Numbering.{metFirst, rewardReading}
 use Rattle.build.specs.Machine.{mostTests, builtClosed}
 use Rattle.session.specs.declared.Part.the-variants.{Model as ModelPart}
 use Rattle.session.specs.Session.{Names, Session}
@@ -32,7 +31,7 @@ record Rewarded (ar : List ℕ) (r : ℕ) (d : Diagram) : Type 0 where
 rewarded : (n : Names) (ar : List ℕ) → GoodTables n ar → (r : ℕ) (w : T.Diagram) → T.brackets w ≤ mostTests → Accepted (Rewarded ar r) (rewardRead n ar r (diagramEvents w))
 unfolding rewardRead rewardReading
 rewarded n ar tables r w shallow =
-    let vs = variablesFirst (variableKeys (diagramEvents w)) in
+    let vs = metFirst (diagramEvents w) in
     accepted-read (reading (namesFor n ar Any []) (diagramEvents w) vs) _ (λ u e.
     accepted-next (builtClosed ar (u .operations)) _ (λ d m.
     accepted-cond (ltb mostModelRows (rowsWith r d)) Space _ (λ few.

@@ -24,7 +24,7 @@ use Rattle.mdp.specs.Model.{Variant, Action}
 use Rattle.events.specs.declared.Event.{Event}
 use Rattle.events.specs.declared.Event.the-variants as E
 use Rattle.reading.specs.declared.Binding.the-variants.{Only}
-use Rattle.reading.specs.Reading.{reading}
+use Rattle.reading.specs.Reading.{arguments, reading}
 use Rattle.reading.specs.Reading.Judged.{fine}
 use Rattle.reading.specs.JudgedLaws.{apart, passed}
 use Rattle.reading.specs.Head.{openedNumber, headNumber, headArguments}
@@ -108,6 +108,7 @@ number-few ks (E.Holds k n ∷ es) p e =
 number-few ks (E.Name k ∷ es) p e = absurd (apart e)
 number-few ks (E.Variable k ∷ es) p e = absurd (apart e)
 number-few ks (E.Parameter k ∷ es) p e = absurd (apart e)
+number-few ks (E.Minimum k ∷ es) p e = absurd (apart e)
 number-few ks (E.Number v ∷ es) p e = absurd (apart e)
 number-few ks (E.Equal ∷ es) p e = absurd (apart e)
 number-few ks (E.Step ∷ es) p e = absurd (apart e)
@@ -128,7 +129,7 @@ truth-free n ar truths r es =
     accepted-read (headNumber (n .predicates) es) _ (λ p i.
     accepted-cond (isSome (truths p)) Name _ (λ new.
     accepted-read (headArguments (getD ar p 0) es) _ (λ h j.
-    accepted-read (reading (namesFor n ar Only (n .parameters)) (h .rest) (h .variables)) _ (λ u e.
+    accepted-read (reading (namesFor n ar Only (n .parameters)) (h .rest) (arguments (h .variables))) _ (λ u e.
     accepted-next (built (u .operations)) _ (λ d m.
     accepted-cond (leafAbove 1 d) Truth _ (λ bits.
     accepted-cond (ltb mostModelRows (rowsWith r d)) Space _ (λ small.

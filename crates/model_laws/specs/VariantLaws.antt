@@ -22,8 +22,9 @@ use Rattle.refusal.specs.OutcomeLaws.{accepted-ok, accepted-then, accepted-cond
 use Rattle.events.specs.declared.Event.{Event}
 use Rattle.events.specs.Events.{diagramEvents}
 use Rattle.reading.specs.declared.Binding.the-variants.{None}
-use Rattle.reading.specs.Reading.{reading}
-use Rattle.reading.specs.Tree.{Named}
+use Rattle.reading.specs.Reading.{arguments, reading}
+use Rattle.reading.specs.Tree.{Named, maximumReach}
+use Rattle.reading.specs.GoodLaws.{named-below}
 use Rattle.build.specs.Machine.{mostTests, built}
 use Rattle.mdp.specs.Model.{Variant, Action, GoodVariant, mostVariants}
 use Rattle.session.specs.declared.Part.the-variants.{Model as ModelPart}
@@ -39,8 +40,9 @@ use Rattle.model_laws.specs.ReadLaws.{line-read}
 -- ===== The weight =====
 
 -- no variable, and the parameters of the action
-weight-terms : (ar : List ℕ) (c : ℕ) (d : Diagram) → Read ar c 0 d → Terms (λ t. t < firstParameter + c) (meaning ar d)
-weight-terms ar c d r = Terms-mono (Named c 0) (λ t. t < firstParameter + c) (λ t h. low t (h .variables) (h .parameters) (cmp t (firstParameter + c))) (meaning ar d) (r .terms)
+weight-terms : (ar : List ℕ) (c : ℕ) (d : Diagram) → Read ar c (maximumReach 0) d → Terms (λ t. t < firstParameter + c) (meaning ar d)
+weight-terms ar c d r =
+    Terms-mono (Named c (maximumReach 0)) (λ t. t < firstParameter + c) (λ t h. low t (named-below c 0 t h) (h .parameters) (cmp t (firstParameter + c))) (meaning ar d) (r .terms)
   where
     low : (t : ℕ) → t < firstVariable + 0 → (firstParameter + c ≤ t → firstVariable ≤ t) → Cmp t (firstParameter + c) → t < firstParameter + c
     low t v p (below h) = h
@@ -50,7 +52,7 @@ weight-terms ar c d r = Terms-mono (Named c 0) (λ t. t < firstParameter + c) (�
 abbrev weighted : Diagram → Variant
 weighted d = record { weight = d; truths = noTruths }
 
-weight-good : (ar : List ℕ) (c : ℕ) (d : Diagram) → Read ar c 0 d → GoodVariant ar c (weighted d)
+weight-good : (ar : List ℕ) (c : ℕ) (d : Diagram) → Read ar c (maximumReach 0) d → GoodVariant ar c (weighted d)
 weight-good ar c d r = record {
   listed = r .listed;
   weight = weight-terms ar c d r;
@@ -67,13 +69,13 @@ weighed : (n : Names) (ar : List ℕ) → GoodTables n ar → (r : ℕ) (k : Key
 unfolding weightRead
 weighed n ar tables r k w shallow =
     accepted-cond (isAmong k (n .variants)) Name _ (λ new.
-    accepted-read (reading (namesFor n ar None (n .parameters)) (diagramEvents w) []) _ (λ u e.
+    accepted-read (reading (namesFor n ar None (n .parameters)) (diagramEvents w) (arguments [])) _ (λ u e.
     accepted-next (built (u .operations)) _ (λ d m.
     accepted-cond (leb mostVariants (length (n .variants)) || ltb mostModelRows (rowsWith r d)) Space _ (λ z.
     let q = neither (leb mostVariants (length (n .variants))) _ z in
     accepted-ok
     (record {
-      good = weight-good ar (length (n .parameters)) d (line-read n ar tables w shallow None [] u d (n .parameters) (tables .parameters) e m);
+      good = weight-good ar (length (n .parameters)) d (line-read n ar tables w shallow None (arguments []) u d (n .parameters) (tables .parameters) e m);
       room = leb-false mostVariants (length (n .variants)) (q .0);
       few = ltb-false mostModelRows (rowsWith r d) (q .1);
     })))))

@@ -18,6 +18,9 @@ use Rattle.events.specs.declared.Next.{Next}
 use Rattle.events.specs.Front.{isEnd, nextAt, eventsOf}
 use Rattle.events.specs.FrontLaws.{events-short}
 use Rattle.reading.specs.declared.Binding.the-variants.{Any}
+use Rattle.reading.specs.declared.Kind.{Kind}
+use Rattle.reading.specs.declared.Kind.the-variants as K
+use Rattle.reading.specs.declared.Known.{Known}
 use Rattle.reading.specs.declared.Scope.{Scope}
 use Rattle.reading.specs.declared.Read.{Read}
 use Rattle.reading.specs.declared.Argument.{Argument}
@@ -28,11 +31,11 @@ use Rattle.reading.specs.declared.Gathered.{Gathered}
 use Rattle.reading.specs.declared.Gathered.the-variants as G
 use Rattle.reading.specs.Reading.{Judged, Written, reading}
 use Rattle.reading.specs.Head.{argumentOf}
-use Rattle.reading.specs.Occurrences.{variableKeys}
+use Rattle.reading.specs.Occurrences.{minimumOf, variableOf, wordKeys, keysOf}
 use Rattle.reading.specs.Numbering.{isNumbered, allNumbered, rewardReading}
 use Rattle.reading.specs.NumberingLaws.{kept-reading}
-use Rattle.reading.specs.Gathering.{numberedAs, moved, gathered, keptFirst, wordKeys, Insertable, GathersAs, Gathers}
-use Rattle.reading.specs.Callers.{namesOf, Variables, Reads, Meets}
+use Rattle.reading.specs.Gathering.{numberedAs, moved, gathered, keptFirst, keptMet, Insertable, GathersAs, Gathers}
+use Rattle.reading.specs.Callers.{metIn, namesOf, Part, Reads, Meets, MeetsWord}
 use Rattle.reading.proofs.WordCode.{moves, events-next, events-none}
 use Rattle.reading.proofs.NumberCode.{order-number, order-is, order-not}
 
@@ -46,10 +49,10 @@ module _ (k : Key) {t : Numbered} (q : t ≡ numberedAs (nameOf k)) where
     is-numbered : allNumbered (k ∷ []) ≡ true
     is-numbered = rw (order-is (nameOf k) q e)
 
-    pub gather-full : Variables vs count → variableCount < count → Gathers (keysAt vs 0 count) (k ∷ []) (G.Count count) vs
+    pub gather-full : Part vs count → variableCount < count → Gathers (keysAt vs 0 count) (k ∷ []) (G.Count count) vs
     gather-full t h = record { is = (is-numbered, rw (lt-leb (length (keysAt vs 0 count)) variableCount (omega (arith, length-keys vs 0 count))), t) }
 
-    pub gather-insertable : Variables vs count → count ≤ variableCount → Insertable vs count k n
+    pub gather-insertable : Part vs count → count ≤ variableCount → Insertable vs count k n
     gather-insertable t h = record { table = t; room = h; number = order-number (nameOf k) q e }
 
     pub gather-more : count ≤ variableCount → {r : ℕ} {vs′ : List ℕ} → Meets (moved k (keysAt vs 0 count)) r vs′ → Gathers (keysAt vs 0 count) (k ∷ []) (G.Count r) vs′
@@ -61,20 +64,21 @@ module _ (w : Argument) where
   pub word-gathers : (us : List Key) {k : Key} {r : Gathered} {vs′ : List ℕ} → w ≡ A.Named k → Gathers us (k ∷ []) r vs′ → Gathers us (wordKeys w) r vs′
   word-gathers us e g = rw e g
 
-  pub word-passes : (vs : List ℕ) (count : ℕ) → w ≡ A.Other → Variables vs count → Gathers (keysAt vs 0 count) (wordKeys w) (G.Count count) vs
+  pub word-passes : (vs : List ℕ) (count : ℕ) → w ≡ A.Other → Part vs count → Gathers (keysAt vs 0 count) (wordKeys w) (G.Count count) vs
   word-passes vs count e t = rw e (record { is = (refl, refl, t) })
 
 -- ===== All variables of a line =====
 
-first-keys : (e : Event) (es : List Event) → variableKeys (e ∷ es) ≡ wordKeys (argumentOf e) ++ variableKeys es
-first-keys (E.Name k) es = refl
-first-keys (E.Variable k) es = refl
-first-keys (E.Parameter k) es = refl
-first-keys (E.Number v) es = refl
-first-keys E.Equal es = refl
-first-keys (E.Holds k n) es = refl
-first-keys E.Step es = refl
-first-keys E.End es = refl
+pub minimum-named : (e : Event) {k : Key} → e ≡ E.Minimum k → A.Named k ≡ minimumOf e
+minimum-named e p = rw p
+
+-- a word of a kind
+module _ (e : Event) {a : Argument} (c : Kind) where
+  pub of-maximum : c ≡ K.Maximum → a ≡ argumentOf e → a ≡ variableOf c e
+  of-maximum q p = rw q p
+
+  pub of-minimum : c ≡ K.Minimum → a ≡ minimumOf e → a ≡ variableOf c e
+  of-minimum q p = rw q p
 
 all-join : (xs ys : List Key) → allNumbered (xs ++ ys) ≡ (allNumbered xs && allNumbered ys)
 all-join [] ys = refl
@@ -101,60 +105,59 @@ unfolding keysAt many
 no-keys vs = refl
 
 -- the words before the place are passed
-pub record Gathering (line : List ℕ) (place₀ : ℕ) (vs₀ vs : List ℕ) (place count : ℕ) : Type 0 where
+pub record Gathering (line : List ℕ) (place₀ : ℕ) (vs₀ : List ℕ) (c : Kind) (vs : List ℕ) (place count : ℕ) : Type 0 where
   pub within : place ≤ length line
-  pub table : Variables vs count
+  pub table : Part vs count
   pub size : length vs ≡ length vs₀
-  pub still : keptFirst [] (variableKeys (eventsOf (drop place₀ line))) ≡ keptFirst (keysAt vs 0 count) (variableKeys (eventsOf (drop place line)))
+  pub still : keptFirst [] (keysOf c (eventsOf (drop place₀ line))) ≡ keptFirst (keysAt vs 0 count) (keysOf c (eventsOf (drop place line)))
 
-module _ {line : List ℕ} {place₀ : ℕ} {vs₀ : List ℕ} where
-  pub gathering-start : place₀ ≤ length line → Variables vs₀ 0 → Gathering line place₀ vs₀ vs₀ place₀ 0
+module _ {line : List ℕ} {place₀ : ℕ} {vs₀ : List ℕ} {c : Kind} where
+  pub gathering-start : place₀ ≤ length line → Part vs₀ 0 → Gathering line place₀ vs₀ c vs₀ place₀ 0
   gathering-start h t = record {
     within = h;
     table = t;
     size = refl;
-    still = ap (λ (us : List Key). keptFirst us (variableKeys (eventsOf (drop place₀ line)))) (sym (no-keys vs₀));
+    still = ap (λ (us : List Key). keptFirst us (keysOf c (eventsOf (drop place₀ line)))) (sym (no-keys vs₀));
   }
 
-  module _ {vs : List ℕ} {place count : ℕ} (l : Gathering line place₀ vs₀ vs place count) where
-    ends : eventsOf (drop place line) ≡ [] → Meets (keptFirst [] (variableKeys (eventsOf (drop place₀ line)))) count vs
+  module _ {vs : List ℕ} {place count : ℕ} (l : Gathering line place₀ vs₀ c vs place count) where
+    ends : eventsOf (drop place line) ≡ [] → Meets (keptFirst [] (keysOf c (eventsOf (drop place₀ line)))) count vs
     unfolding keptFirst
-    ends e = record { variables = sym (l .still ∙ ap (λ (es : List Event). keptFirst (keysAt vs 0 count) (variableKeys es)) e); table = l .table }
+    ends e = record { variables = sym (l .still ∙ ap (λ (es : List Event). keptFirst (keysAt vs 0 count) (keysOf c es)) e); table = l .table }
 
-    pub gathering-over : length line ≤ place → Meets (keptFirst [] (variableKeys (eventsOf (drop place₀ line)))) count vs
+    pub gathering-over : length line ≤ place → Meets (keptFirst [] (keysOf c (eventsOf (drop place₀ line)))) count vs
     gathering-over h = ends (events-short (drop place line) (omega (arith, length-drop place line)))
 
     module _ {n : Next} (q : n ≡ nextAt line place) {b : Bool} (t : b ≡ isEnd (n .event)) where
-      pub gathering-end : b ≡ true → Meets (keptFirst [] (variableKeys (eventsOf (drop place₀ line)))) count vs
+      pub gathering-end : b ≡ true → Meets (keptFirst [] (keysOf c (eventsOf (drop place₀ line)))) count vs
       gathering-end e = ends (events-none line place n q (sym t ∙ e))
 
       module _ (f : b ≡ false) where
         pub gathering-shrinks : length line - n .place < length line - place
         gathering-shrinks = let m = moves line place n q (l .within) in omega (arith, m .0, m .1 (sym t ∙ f))
 
-        module _ {w : Argument} (p : w ≡ argumentOf (n .event)) where
-          keys : variableKeys (eventsOf (drop place line)) ≡ wordKeys w ++ variableKeys (eventsOf (drop (n .place) line))
+        module _ {w : Argument} (p : w ≡ variableOf c (n .event)) where
+          keys : keysOf c (eventsOf (drop place line)) ≡ wordKeys w ++ keysOf c (eventsOf (drop (n .place) line))
           keys =
-              ap variableKeys (events-next line place n q (sym t ∙ f))
-              ∙ first-keys (n .event) (eventsOf (drop (n .place) line))
-              ∙ ap (λ (a : Argument). wordKeys a ++ variableKeys (eventsOf (drop (n .place) line))) (sym p)
+              ap (keysOf c) (events-next line place n q (sym t ∙ f))
+              ∙ ap (λ (a : Argument). wordKeys a ++ keysOf c (eventsOf (drop (n .place) line))) (sym p)
 
           pub gathering-other : {vs′ : List ℕ} → length vs′ ≡ length vs → {x : Gathered} → Gathers (keysAt vs 0 count) (wordKeys w) x vs′ → x ≡ G.Other
-              → Meets (keptFirst [] (variableKeys (eventsOf (drop place₀ line)))) 0 vs′
+              → Meets (keptFirst [] (keysOf c (eventsOf (drop place₀ line)))) 0 vs′
           gathering-other {vs′} size′ g e =
               let o : allNumbered (wordKeys w) ≡ false = subst (GathersAs (keysAt vs 0 count) (wordKeys w) vs′) e (g .is) in
               record {
                 variables =
                     no-keys vs′
-                    ∙ sym (l .still ∙ ap (keptFirst (keysAt vs 0 count)) keys ∙ kept-other (keysAt vs 0 count) (wordKeys w) (variableKeys (eventsOf (drop (n .place) line))) o);
+                    ∙ sym (l .still ∙ ap (keptFirst (keysAt vs 0 count)) keys ∙ kept-other (keysAt vs 0 count) (wordKeys w) (keysOf c (eventsOf (drop (n .place) line))) o);
                 table = record { words = omega (arith, size′, l .table .words); within = omega arith };
               }
 
-          pub gathering-more : {vs′ : List ℕ} → length vs′ ≡ length vs → {x : Gathered} {c : ℕ} → Gathers (keysAt vs 0 count) (wordKeys w) x vs′ → x ≡ G.Count c
-              → Gathering line place₀ vs₀ vs′ (n .place) c
-          gathering-more {vs′} size′ {x} {c} g e =
-              let o : GathersAs (keysAt vs 0 count) (wordKeys w) vs′ (G.Count c) = subst (GathersAs (keysAt vs 0 count) (wordKeys w) vs′) e (g .is) in
-              let rest : List Key = variableKeys (eventsOf (drop (n .place) line)) in
+          pub gathering-more : {vs′ : List ℕ} → length vs′ ≡ length vs → {x : Gathered} {m : ℕ} → Gathers (keysAt vs 0 count) (wordKeys w) x vs′ → x ≡ G.Count m
+              → Gathering line place₀ vs₀ c vs′ (n .place) m
+          gathering-more {vs′} size′ {x} {m} g e =
+              let o : GathersAs (keysAt vs 0 count) (wordKeys w) vs′ (G.Count m) = subst (GathersAs (keysAt vs 0 count) (wordKeys w) vs′) e (g .is) in
+              let rest : List Key = keysOf c (eventsOf (drop (n .place) line)) in
               record {
                 within = moves line place n q (l .within) .0;
                 table = o .2;
@@ -168,9 +171,9 @@ module _ {line : List ℕ} {place₀ : ℕ} {vs₀ : List ℕ} where
 
 -- ===== A reward's words =====
 
-pub reward-reads : (line : List ℕ) (place : ℕ) (ns ar : List ℕ) (s : Scope) {known : ℕ} {vs : List ℕ} → s .binding ≡ Any
-    → Meets (keptFirst [] (variableKeys (eventsOf (drop place line)))) known vs → {r : Read} {vs′ os′ : List ℕ}
-    → Reads (reading (namesOf ns ar s) (eventsOf (drop place line)) (keysAt vs 0 known)) r vs′ os′ → Reads (rewardReading (namesOf ns ar s) (eventsOf (drop place line))) r vs′ os′
+pub reward-reads : (line : List ℕ) (place : ℕ) (ns ar : List ℕ) (s : Scope) {known : Known} {vs : List ℕ} → s .binding ≡ Any
+    → MeetsWord (keptMet (eventsOf (drop place line))) known vs → {r : Read} {vs′ os′ : List ℕ}
+    → Reads (reading (namesOf ns ar s) (eventsOf (drop place line)) (metIn vs known)) r vs′ os′ → Reads (rewardReading (namesOf ns ar s) (eventsOf (drop place line))) r vs′ os′
 reward-reads line place ns ar s any m {r} {vs′} {os′} h =
     let es : List Event = eventsOf (drop place line) in
-    subst (λ (j : Judged Written). Reads j r vs′ os′) (ap (reading (namesOf ns ar s) es) (m .variables) ∙ kept-reading (namesOf ns ar s) any es) h
+    subst (λ (j : Judged Written). Reads j r vs′ os′) (ap (reading (namesOf ns ar s) es) (m .met) ∙ kept-reading (namesOf ns ar s) any es) h

@@ -48,6 +48,7 @@ end-opening : (e : Event) → isEnd e ≡ true → openingOf e ≡ O.Other
 end-opening (E.Name k) p = refl
 end-opening (E.Variable k) p = refl
 end-opening (E.Parameter k) p = refl
+end-opening (E.Minimum k) p = refl
 end-opening (E.Number v) p = refl
 end-opening E.Equal p = refl
 end-opening (E.Holds k n) p = absurd (clash p refl)
@@ -58,6 +59,7 @@ end-argument : (e : Event) → isEnd e ≡ true → argumentOf e ≡ A.Other
 end-argument (E.Name k) p = refl
 end-argument (E.Variable k) p = absurd (clash p refl)
 end-argument (E.Parameter k) p = refl
+end-argument (E.Minimum k) p = refl
 end-argument (E.Number v) p = refl
 end-argument E.Equal p = refl
 end-argument (E.Holds k n) p = refl

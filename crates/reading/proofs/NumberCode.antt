@@ -25,7 +25,7 @@ use Rattle.reading.specs.declared.Numbered.the-variants as N
 use Rattle.reading.specs.declared.Pair.{Pair}
 use Rattle.reading.specs.Numbering.{takes, isNumbered, numberOf}
 use Rattle.reading.specs.Gathering.{pickNumbered, wholeNumber, numberedAs, paired, moved, Spelt, Insertable}
-use Rattle.reading.specs.Callers.{Variables, Meets}
+use Rattle.reading.specs.Callers.{Part, Meets}
 
 -- ===== The bytes of a key =====
 
@@ -272,7 +272,7 @@ module _ {vs₀ : List ℕ} {count : ℕ} {k : Key} {number : ℕ} (g : Insertab
     abbrev K : List Key
     K = keysAt vs 0 count
 
-    table : Variables vs count
+    table : Part vs count
     table = record { words = omega (arith, s .size, g .table .words); within = g .table .within }
 
     whole : take i K ++ drop i K ≡ K

@@ -1,15 +1,15 @@
 -- What the code of words needs to know: a word by its kind, and the words of a line one after another.
 use Prim.Native.Nat.{ℕ, _-_, _*_, _≤_, _<_}
 use mathlib.Core.Path.{_≡_, refl, sym, ap, ap₂, subst, _∙_}
-use mathlib.Core.Bool.{Bool, true, false}
+use mathlib.Core.Bool.{Bool, true, false, _&&_}
 use mathlib.Core.List.{List, [], _∷_}
 use native.Mathlib.Omega.{arith}
-use borrow.Author.Tests.{le-leb, lt-leb, leb-true}
+use borrow.Author.Tests.{le-leb, lt-leb}
 use lib.Dec.{leb}
 use lib.ListN.{length, drop, length-drop}
 use Rattle.refusal.specs.declared.Refusal.{Refusal}
 use Rattle.refusal.specs.declared.Refusal.the-variants as F
-use Rattle.label.specs.Limits.{equality, equalityArity, variableCount}
+use Rattle.label.specs.Limits.{equality, equalityArity, variableCount, minimumCount}
 use Rattle.label.specs.declared.Atom.{Atom}
 use Rattle.words.specs.declared.Key.{Key}
 use Rattle.names.specs.Many.{many}
@@ -22,6 +22,7 @@ use Rattle.events.specs.declared.Next.{Next}
 use Rattle.events.specs.Front.{isEnd, nextAt, eventsOf}
 use Rattle.events.specs.FrontLaws.{next-end, next-more, next-moves, events-short}
 use Rattle.reading.specs.declared.Scope.{Scope}
+use Rattle.reading.specs.declared.Known.{Known}
 use Rattle.reading.specs.declared.Progress.{Progress}
 use Rattle.reading.specs.declared.Stepped.{Stepped}
 use Rattle.reading.specs.declared.Stepped.the-variants as S
@@ -29,26 +30,32 @@ use Rattle.reading.specs.declared.Resolved.{Resolved}
 use Rattle.reading.specs.declared.Read.{Read}
 use Rattle.reading.specs.declared.Read.the-variants as W
 use Rattle.reading.specs.Operations.{Op, opOf, opsIn}
-use Rattle.reading.specs.Reading.{Names, State, pickJudged, andThen, more, begun, termWord, numberWord, atomWord, constantNumber, parameterNumber, variableNumber, metAt, word, with-pass, readWord, readWords, finished, begin, reading}
+use Rattle.reading.specs.Reading.{Names, Met, State, pickJudged, andThen, more, begun, termWord, numberWord, atomWord, constantNumber, parameterNumber}
+use Rattle.reading.specs.Reading.{variableNumber, minimumNumber, arguments, metAt, word, with-pass, readWord, readWords, finished, begin, reading}
 use Rattle.reading.specs.Reading.Judged.{fine, refused}
-use Rattle.reading.specs.Callers.{namesOf, passOf, stateOf, judgedNumber, judgedPass, pickRead, readAnswer, refusedRead, judgedWritten, ReadWithin, Reads, Variables, Readable, Going, Room, Advanced, AdvancedBy, Resolves, Meets, Goes, Steps}
+use Rattle.reading.specs.Callers.{partWords, metIn, argumentCount, namesOf, passOf, stateOf, judgedNumber, judgedPass, pickRead, readAnswer, refusedRead, judgedWritten}
+use Rattle.reading.specs.Callers.{ReadWithin, Reads, Variables, Readable, Going, Room, Advanced, AdvancedBy, Resolves, MeetsWord, Goes, Steps}
 use Rattle.reading.proofs.FillCode.{empty-unpacked, empty-packs, empty-unfilled}
 
 -- a word by its kind
 
-module _ (ns ar : List ℕ) (s : Scope) (vs : List Key) (os : List ℕ) (p : Progress) (e : Event) where
+module _ (ns ar : List ℕ) (s : Scope) (vs : Met) (os : List ℕ) (p : Progress) (e : Event) where
   module _ {t : Resolved} {r : Stepped} {os′ : List ℕ} (g : Steps p (termWord (passOf os p) (judgedNumber t)) r os′) {k : Key} where
     pub word-name : e ≡ E.Name k → Resolves (constantNumber (keysAt ns constantsAt (s .constants)) k) t → Steps p (word (namesOf ns ar s) vs (passOf os p) e) r os′
     unfolding word
     word-name q h = rw (q, ← h .answer) g
 
-    pub word-variable : e ≡ E.Variable k → Resolves (variableNumber (s .binding) vs k) t → Steps p (word (namesOf ns ar s) vs (passOf os p) e) r os′
+    pub word-variable : e ≡ E.Variable k → Resolves (variableNumber (s .binding) (vs .variables) k) t → Steps p (word (namesOf ns ar s) vs (passOf os p) e) r os′
     unfolding word
     word-variable q h = rw (q, ← h .answer) g
 
     pub word-parameter : e ≡ E.Parameter k → Resolves (parameterNumber (keysAt ns parametersAt (s .parameters)) k) t → Steps p (word (namesOf ns ar s) vs (passOf os p) e) r os′
     unfolding word
     word-parameter q h = rw (q, ← h .answer) g
+
+    pub word-minimum : e ≡ E.Minimum k → Resolves (minimumNumber (s .binding) (vs .minimums) k) t → Steps p (word (namesOf ns ar s) vs (passOf os p) e) r os′
+    unfolding word
+    word-minimum q h = rw (q, ← h .answer) g
 
   module _ {os′ : List ℕ} where
     pub word-number : {v : ℕ} {r : Stepped} → e ≡ E.Number v → Steps p (numberWord (passOf os p) v) r os′ → Steps p (word (namesOf ns ar s) vs (passOf os p) e) r os′
@@ -74,36 +81,41 @@ module _ (ns ar : List ℕ) (s : Scope) (vs : List Key) (os : List ℕ) (p : Pro
 
 -- the answer after all words
 
-pub finish-many : (n m : ℕ) → variableCount < n → W.Refused F.Variables ≡ readAnswer n m
-finish-many n m h = rw (lt-leb n variableCount h)
+module _ (n : Known) (m : ℕ) where
+  pub finish-variables : variableCount < n .variables → W.Refused F.Variables ≡ readAnswer n m
+  finish-variables h = rw (lt-leb (n .variables) variableCount h)
 
-pub finish-done : (n m : ℕ) → n ≤ variableCount → W.Done m n ≡ readAnswer n m
-finish-done n m h = rw (le-leb n variableCount h)
+  pub finish-minimums : n .variables ≤ variableCount → minimumCount < n .minimums → W.Refused F.Variables ≡ readAnswer n m
+  finish-minimums h l = rw (le-leb (n .variables) variableCount h, lt-leb (n .minimums) minimumCount l)
 
-answer-finished : (vs : List ℕ) (n : ℕ) (os : List ℕ) (p : Progress) → judgedWritten vs os (readAnswer n (p .operations)) ≡ finished (stateOf vs n os p)
-answer-finished vs n os p = rw (length-keys vs 0 n) (go (leb n variableCount))
+  pub finish-done : n .variables ≤ variableCount → n .minimums ≤ minimumCount → W.Done m n ≡ readAnswer n m
+  finish-done h l = rw (le-leb (n .variables) variableCount h, le-leb (n .minimums) minimumCount l)
+
+answer-finished : (vs : List ℕ) (n : Known) (os : List ℕ) (p : Progress) → judgedWritten vs os (readAnswer n (p .operations)) ≡ finished (stateOf vs n os p)
+answer-finished vs n os p =
+    rw (length-keys vs 0 (n .variables), length-keys vs partWords (n .minimums)) (go (leb (n .variables) variableCount && leb (n .minimums) minimumCount))
   where
     go : (b : Bool) → judgedWritten vs os (pickRead b (W.Done (p .operations) n) (W.Refused F.Variables))
-        ≡ pickJudged b (fine (record { variables = keysAt vs 0 n; operations = opsIn os (p .operations) })) (refused F.Variables)
+        ≡ pickJudged b (fine (record { met = metIn vs n; operations = opsIn os (p .operations) })) (refused F.Variables)
     go true = refl
     go false = refl
 
-answer-within : (os : List ℕ) (n m : ℕ) → m * 2 ≤ length os → ReadWithin os (readAnswer n m)
-answer-within os n m h = go (leb n variableCount) refl
+answer-within : (os : List ℕ) (n : Known) (m : ℕ) → m * 2 ≤ length os → ReadWithin os (readAnswer n m)
+answer-within os n m h = go (leb (n .variables) variableCount && leb (n .minimums) minimumCount)
   where
-    go : (b : Bool) → leb n variableCount ≡ b → ReadWithin os (pickRead b (W.Done m n) (W.Refused F.Variables))
-    go true e = (h, leb-true n variableCount e)
-    go false e = tt
+    go : (b : Bool) → ReadWithin os (pickRead b (W.Done m n) (W.Refused F.Variables))
+    go true = h
+    go false = tt
 
 -- the words before the place are read, and those from it on give the answer
-pub record Loop (line : List ℕ) (place₀ : ℕ) (ns ar vs₀ os₀ : List ℕ) (s : Scope) (known : ℕ) (vs os : List ℕ) (place count : ℕ) (p : Progress) : Type 0 where
+pub record Loop (line : List ℕ) (place₀ : ℕ) (ns ar vs₀ os₀ : List ℕ) (s : Scope) (known : Known) (vs os : List ℕ) (place : ℕ) (count : Known) (p : Progress) : Type 0 where
   pub within : place ≤ length line
   pub table : Variables vs count
   pub going : Going p
   pub bytes : p .operations ≤ place
   pub variable-words : length vs ≡ length vs₀
   pub operation-words : length os ≡ length os₀
-  pub still : readWords (namesOf ns ar s) (eventsOf (drop place₀ line)) (begin (keysAt vs₀ 0 known))
+  pub still : readWords (namesOf ns ar s) (eventsOf (drop place₀ line)) (begin (metIn vs₀ known))
       ≡ readWords (namesOf ns ar s) (eventsOf (drop place line)) (stateOf vs count os p)
 
 nothing : (os : List ℕ) → [] ≡ opsIn os 0
@@ -133,10 +145,10 @@ unfolding readWords
 words-more σ es fs e s q = rw q
 
 -- r answers for the words of the line
-abbrev Answers : List ℕ → ℕ → List ℕ → List ℕ → List ℕ → Scope → ℕ → List ℕ → List ℕ → Read → Type 0
-Answers line place ns ar vs₀ s known vs os r = Reads (reading (namesOf ns ar s) (eventsOf (drop place line)) (keysAt vs₀ 0 known)) r vs os
+abbrev Answers : List ℕ → ℕ → List ℕ → List ℕ → List ℕ → Scope → Known → List ℕ → List ℕ → Read → Type 0
+Answers line place ns ar vs₀ s known vs os r = Reads (reading (namesOf ns ar s) (eventsOf (drop place line)) (metIn vs₀ known)) r vs os
 
-module _ {line : List ℕ} {place₀ : ℕ} {ns ar vs₀ os₀ : List ℕ} {s : Scope} {known : ℕ} where
+module _ {line : List ℕ} {place₀ : ℕ} {ns ar vs₀ os₀ : List ℕ} {s : Scope} {known : Known} where
   pub loop-start : Readable line place₀ ns ar vs₀ os₀ s known
       → Loop line place₀ ns ar vs₀ os₀ s known vs₀ os₀ place₀ known (record { label = record { packed = 0 }; filled = 0; due = 0; operations = 0 })
   loop-start g = record {
@@ -148,11 +160,11 @@ module _ {line : List ℕ} {place₀ : ℕ} {ns ar vs₀ os₀ : List ℕ} {s : 
     operation-words = refl;
     still = ap₂ (λ (q : ℕ) (ops : List Op).
         readWords (namesOf ns ar s) (eventsOf (drop place₀ line))
-        (record { variables = keysAt vs₀ 0 known; pass = record { predicate = q; terms = []; due = 0; operations = ops } }))
+        (record { met = metIn vs₀ known; pass = record { predicate = q; terms = []; due = 0; operations = ops } }))
         (ap (λ (a : Atom). a .predicate) (sym (empty-unpacked equality))) (nothing os₀);
   }
 
-  module _ {vs os : List ℕ} {place count : ℕ} {p : Progress} (l : Loop line place₀ ns ar vs₀ os₀ s known vs os place count p) where
+  module _ {vs os : List ℕ} {place : ℕ} {count : Known} {p : Progress} (l : Loop line place₀ ns ar vs₀ os₀ s known vs os place count p) where
     finishes : Readable line place₀ ns ar vs₀ os₀ s known → eventsOf (drop place line) ≡ [] → Answers line place₀ ns ar vs₀ s known vs os (readAnswer count (p .operations))
     unfolding reading
     finishes g e = record {
@@ -178,17 +190,17 @@ module _ {line : List ℕ} {place₀ : ℕ} {ns ar vs₀ os₀ : List ℕ} {s : 
         pub loop-shrinks : length line - n .place < length line - place
         loop-shrinks = let m = moves line place n q (l .within) in omega (arith, m .0, m .1 (sym t ∙ f))
 
-        module _ {vs′ os′ : List ℕ} {count′ : ℕ} {x : Stepped} (m : Meets (metAt (s .binding) (keysAt vs 0 count) (n .event)) count′ vs′)
-            (g : Steps p (word (namesOf ns ar s) (keysAt vs′ 0 count′) (passOf os p) (n .event)) x os′) where
-          stepped : readWords (namesOf ns ar s) (eventsOf (drop place₀ line)) (begin (keysAt vs₀ 0 known))
-              ≡ andThen (with-pass (keysAt vs′ 0 count′) (judgedPass os′ x)) (readWords (namesOf ns ar s) (eventsOf (drop (n .place) line)))
+        module _ {vs′ os′ : List ℕ} {count′ : Known} {x : Stepped} (m : MeetsWord (metAt (s .binding) (metIn vs count) (n .event)) count′ vs′)
+            (g : Steps p (word (namesOf ns ar s) (metIn vs′ count′) (passOf os p) (n .event)) x os′) where
+          stepped : readWords (namesOf ns ar s) (eventsOf (drop place₀ line)) (begin (metIn vs₀ known))
+              ≡ andThen (with-pass (metIn vs′ count′) (judgedPass os′ x)) (readWords (namesOf ns ar s) (eventsOf (drop (n .place) line)))
           stepped =
               let σ : Names = namesOf ns ar s in
               let fs : List Event = eventsOf (drop (n .place) line) in
               l .still
               ∙ words-more σ (eventsOf (drop place line)) fs (n .event) (stateOf vs count os p) (events-next line place n q (sym t ∙ f))
-              ∙ ap (λ ks. andThen (with-pass ks (word σ ks (passOf os p) (n .event))) (readWords σ fs)) (sym (m .variables))
-              ∙ ap (λ j. andThen (with-pass (keysAt vs′ 0 count′) j) (readWords σ fs)) (sym (g .answer))
+              ∙ ap (λ ks. andThen (with-pass ks (word σ ks (passOf os p) (n .event))) (readWords σ fs)) (sym (m .met))
+              ∙ ap (λ j. andThen (with-pass (metIn vs′ count′) j) (readWords σ fs)) (sym (g .answer))
 
           pub loop-refused : {z : Refusal} {r : Read} → x ≡ S.Refused z → r ≡ refusedRead x → Answers line place₀ ns ar vs₀ s known vs′ os′ r
           unfolding reading
@@ -196,7 +208,7 @@ module _ {line : List ℕ} {place₀ : ℕ} {ns ar vs₀ os₀ : List ℕ} {s : 
             answer =
                 ap (judgedWritten vs′ os′) (a ∙ ap refusedRead e)
                 ∙ ap (λ j. andThen j finished)
-                (sym (stepped ∙ ap (λ y. andThen (with-pass (keysAt vs′ 0 count′) (judgedPass os′ y)) (readWords (namesOf ns ar s) (eventsOf (drop (n .place) line)))) e));
+                (sym (stepped ∙ ap (λ y. andThen (with-pass (metIn vs′ count′) (judgedPass os′ y)) (readWords (namesOf ns ar s) (eventsOf (drop (n .place) line)))) e));
             within = subst (ReadWithin os′) (sym (a ∙ ap refusedRead e)) tt;
           }
 
@@ -212,8 +224,19 @@ module _ {line : List ℕ} {place₀ : ℕ} {ns ar vs₀ os₀ : List ℕ} {s : 
                 bytes = omega (arith, k .1 (sym t ∙ f), d .one, l .bytes);
                 variable-words = y ∙ l .variable-words;
                 operation-words = w ∙ l .operation-words;
-                still = stepped ∙ ap (λ u. andThen (with-pass (keysAt vs′ 0 count′) (judgedPass os′ u)) (readWords (namesOf ns ar s) (eventsOf (drop (n .place) line)))) e;
+                still = stepped ∙ ap (λ u. andThen (with-pass (metIn vs′ count′) (judgedPass os′ u)) (readWords (namesOf ns ar s) (eventsOf (drop (n .place) line)))) e;
               }
+
+-- the arguments alone are known before the words
+
+no-keys : (vs : List ℕ) (at : ℕ) → keysAt vs at 0 ≡ []
+unfolding keysAt many
+no-keys vs at = refl
+
+pub words-read : (line : List ℕ) (place : ℕ) (ns ar vs : List ℕ) (s : Scope) (n : ℕ) {r : Read} {vs′ os′ : List ℕ} → Answers line place ns ar vs s (argumentCount n) vs′ os′ r
+    → Reads (reading (namesOf ns ar s) (eventsOf (drop place line)) (arguments (keysAt vs 0 n))) r vs′ os′
+words-read line place ns ar vs s n {r} {vs′} {os′} g =
+    subst (λ (ms : List Key). Reads (reading (namesOf ns ar s) (eventsOf (drop place line)) (record { variables = keysAt vs 0 n; minimums = ms })) r vs′ os′) (no-keys vs partWords) g
 
 -- a refusal handed up
 

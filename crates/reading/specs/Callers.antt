@@ -1,12 +1,12 @@
 -- What the code's structs and answers stand for, and what its functions ask of their callers and promise.
 use Prim.Native.Nat.{ℕ, _+_, _*_, _≤_, _<_}
 use mathlib.Core.Path.{_≡_}
-use mathlib.Core.Bool.{Bool, true, false}
+use mathlib.Core.Bool.{Bool, true, false, _&&_}
 use lib.Dec.{leb}
 use mathlib.Core.List.{List}
 use lib.ListN.{length, take, drop, set}
 use Rattle.refusal.specs.declared.Refusal.the-variants as F
-use Rattle.label.specs.Limits.{constantCount, parameterCount, predicateCount, termBase, termEnd, mostPlaces, variableCount}
+use Rattle.label.specs.Limits.{constantCount, parameterCount, predicateCount, termBase, termEnd, mostPlaces, variableCount, minimumCount}
 use Rattle.label.specs.Labels.{areArities, placesOf, placeIn, atomFrom, unpacked}
 use Rattle.label.specs.Callers.{Packable}
 use Rattle.label.specs.declared.Atom.{Atom}
@@ -15,6 +15,7 @@ use Rattle.events.specs.Front.{eventsOf}
 use Rattle.names.specs.Keys.{keysAt}
 use Rattle.names.specs.Layout.{constantsAt, declaredAt, parametersAt, nameWords}
 use Rattle.reading.specs.declared.Scope.{Scope}
+use Rattle.reading.specs.declared.Known.{Known}
 use Rattle.reading.specs.declared.Progress.{Progress}
 use Rattle.reading.specs.declared.Resolved.{Resolved}
 use Rattle.reading.specs.declared.Resolved.the-variants as R
@@ -28,8 +29,26 @@ use Rattle.reading.specs.declared.Headed.{Headed}
 use Rattle.reading.specs.declared.Headed.the-variants as H
 use Rattle.reading.specs.Operations.{opsIn}
 use Rattle.reading.specs.Head.{Head}
-use Rattle.reading.specs.Reading.{Names, Judged, Pass, State, Written}
+use Rattle.reading.specs.Reading.{Names, Judged, Met, Pass, State, Written}
 use Rattle.reading.specs.Reading.Judged.{fine, refused}
+
+-- a table of variables has a part for each kind, which keeps one more than the limit, of two words each: the maximum variables first
+abbrev pub keptCount : ℕ
+keptCount = variableCount + 1
+
+abbrev pub partWords : ℕ
+partWords = keptCount * 2
+
+abbrev pub variableWords : ℕ
+variableWords = partWords * 2
+
+-- the variables of the table vs, so many of each kind
+abbrev pub metIn : List ℕ → Known → Met
+metIn vs n = record { variables = keysAt vs 0 (n .variables); minimums = keysAt vs partWords (n .minimums) }
+
+-- n arguments, and no minimum variable
+abbrev pub argumentCount : ℕ → Known
+argumentCount n = record { variables = n; minimums = 0 }
 
 -- the names of the tables ns, as many as the scope counts
 abbrev pub namesOf : List ℕ → List ℕ → Scope → Names
@@ -67,23 +86,23 @@ judgedPass os (S.Done p) = fine (passOf os p)
 judgedPass os (S.Refused r) = refused r
 
 -- and the state that its words have come to
-abbrev pub stateOf : List ℕ → ℕ → List ℕ → Progress → State
-stateOf vs n os p = record { variables = keysAt vs 0 n; pass = passOf os p }
+abbrev pub stateOf : List ℕ → Known → List ℕ → Progress → State
+stateOf vs n os p = record { met = metIn vs n; pass = passOf os p }
 
 abbrev pub pickRead : Bool → Read → Read → Read
 pickRead true x y = x
 pickRead false x y = y
 
 -- the answer after all words, with n variables and m operations
-abbrev pub readAnswer : ℕ → ℕ → Read
-readAnswer n m = pickRead (leb n variableCount) (W.Done m n) (W.Refused F.Variables)
+abbrev pub readAnswer : Known → ℕ → Read
+readAnswer n m = pickRead (leb (n .variables) variableCount && leb (n .minimums) minimumCount) (W.Done m n) (W.Refused F.Variables)
 
 abbrev pub refusedRead : Stepped → Read
 refusedRead (S.Done p) = W.Refused F.Form
 refusedRead (S.Refused r) = W.Refused r
 
 abbrev pub judgedWritten : List ℕ → List ℕ → Read → Judged Written
-judgedWritten vs os (W.Done n m) = fine (record { variables = keysAt vs 0 m; operations = opsIn os n })
+judgedWritten vs os (W.Done n m) = fine (record { met = metIn vs m; operations = opsIn os n })
 judgedWritten vs os (W.Refused r) = refused r
 
 -- the predicate's number of a head
@@ -116,9 +135,9 @@ pub record Heads (line : List ℕ) (n : ℕ) (w : Judged Head) (r : Headed) (vs�
   pub answer : judgedHead line vs′ n r ≡ w
   pub within : HeadWithin line r
 
--- the operations lie within the words os, and the variables within their limit
+-- the operations lie within the words os
 abbrev pub ReadWithin : List ℕ → Read → Type 0
-ReadWithin os (W.Done n m) = (n * 2 ≤ length os) × (m ≤ variableCount)
+ReadWithin os (W.Done n m) = n * 2 ≤ length os
 ReadWithin os (W.Refused r) = Unit {0}
 
 -- the promise of reading a line's words: the answer w
@@ -134,13 +153,19 @@ pub record Tables (ns ar : List ℕ) (s : Scope) : Type 0 where
   pub parameters-fit : s .parameters ≤ parameterCount
   pub arities-fit : areArities ar ≡ true
 
--- a table of variables: at most one more than the limit is kept
-pub record Variables (vs : List ℕ) (count : ℕ) : Type 0 where
-  pub words : (variableCount + 1) * 2 ≤ length vs
-  pub within : count ≤ variableCount + 1
+-- a part of a table of variables
+pub record Part (vs : List ℕ) (count : ℕ) : Type 0 where
+  pub words : partWords ≤ length vs
+  pub within : count ≤ keptCount
+
+-- a table of variables
+pub record Variables (vs : List ℕ) (n : Known) : Type 0 where
+  pub words : variableWords ≤ length vs
+  pub variables-fit : n .variables ≤ keptCount
+  pub minimums-fit : n .minimums ≤ keptCount
 
 -- what reading a line's words takes: a place of the line, tables, and two words of operations for each byte
-pub record Readable (line : List ℕ) (place : ℕ) (ns ar vs os : List ℕ) (s : Scope) (known : ℕ) : Type 0 where
+pub record Readable (line : List ℕ) (place : ℕ) (ns ar vs os : List ℕ) (s : Scope) (known : Known) : Type 0 where
   pub within : place ≤ length line
   pub tables : Tables ns ar s
   pub variables : Variables vs known
@@ -182,9 +207,14 @@ pub record Resolves (w : Judged ℕ) (r : Resolved) : Type 0 where
   pub answer : judgedNumber r ≡ w
   pub below : TermBelow r
 
--- the promise of a function that meets a variable: the variables w
+-- the promise of a function that meets a variable of one kind: the variables w in its part
 pub record Meets (w : List Key) (r : ℕ) (vs′ : List ℕ) : Type 0 where
   pub variables : keysAt vs′ 0 r ≡ w
+  pub table : Part vs′ r
+
+-- the promise of a function that meets a word: the variables w
+pub record MeetsWord (w : Met) (r : Known) (vs′ : List ℕ) : Type 0 where
+  pub met : metIn vs′ r ≡ w
   pub table : Variables vs′ r
 
 -- the promise of a function that goes on with the pass: the pass w, or the answer w

@@ -1,4 +1,4 @@
--- The variables of a reward gathered in a table by ascending N, as the code does it: what its functions ask of their callers and promise.
+-- The variables of one kind of a reward gathered by ascending N in their part of a table, as the code does it: what its functions ask of their callers and promise.
 use Prim.Native.Nat.{ℕ, _+_, _≤_}
 use mathlib.Core.Path.{_≡_}
 use mathlib.Core.Bool.{Bool, true, false}
@@ -11,16 +11,16 @@ use Rattle.words.specs.Words.{numberForm}
 use Rattle.words.specs.Keys.{nameOf}
 use Rattle.words.specs.declared.Key.{Key}
 use Rattle.names.specs.Keys.{keysAt}
-use Rattle.reading.specs.declared.Argument.{Argument}
-use Rattle.reading.specs.declared.Argument.the-variants as A
 use Rattle.reading.specs.declared.Numbered.{Numbered}
 use Rattle.reading.specs.declared.Numbered.the-variants as N
 use Rattle.reading.specs.declared.Pair.{Pair}
 use Rattle.reading.specs.declared.Gathered.{Gathered}
 use Rattle.reading.specs.declared.Gathered.the-variants as G
-use Rattle.reading.specs.Reading.{pickKeys}
+use Rattle.events.specs.declared.Event.{Event}
+use Rattle.reading.specs.Reading.{pickKeys, Met}
+use Rattle.reading.specs.Occurrences.{variableKeys, minimumKeys}
 use Rattle.reading.specs.Numbering.{takes, isNumbered, numberOf, allNumbered}
-use Rattle.reading.specs.Callers.{Variables}
+use Rattle.reading.specs.Callers.{Part}
 
 abbrev pub pickNumbered : Bool → Numbered → Numbered → Numbered
 pickNumbered true x y = x
@@ -61,24 +61,23 @@ gathered vs (k ∷ ks) = gathered (movedIn vs k) ks
 unfoldable pub keptFirst : List Key → List Key → List Key
 keptFirst vs ks = pickKeys (allNumbered ks) (gathered vs ks) []
 
--- the variable of a word
-abbrev pub wordKeys : Argument → List Key
-wordKeys (A.Named k) = k ∷ []
-wordKeys A.Other = []
+-- kind by kind
+abbrev pub keptMet : List Event → Met
+keptMet es = record { variables = keptFirst [] (variableKeys es); minimums = keptFirst [] (minimumKeys es) }
 
 -- the promise of writing bytes at a place: the place behind them
 pub record Spelt (out : List ℕ) (at : ℕ) (bytes : List ℕ) (r : ℕ) (out′ : List ℕ) : Type 0 where
   pub place : r ≡ at + length bytes
   pub words : take r out′ ≡ take at out ++ bytes
 
--- a table with room for one variable more, and the variable's N
+-- a part with room for one variable more, and the variable's N
 pub record Insertable (vs : List ℕ) (count : ℕ) (k : Key) (n : ℕ) : Type 0 where
-  pub table : Variables vs count
+  pub table : Part vs count
   pub room : count ≤ variableCount
   pub number : n ≡ numberOf (nameOf k)
 
 abbrev pub GathersAs : List Key → List Key → List ℕ → Gathered → Type 0
-GathersAs us ks vs (G.Count n) = (allNumbered ks ≡ true) × (keysAt vs 0 n ≡ gathered us ks) × Variables vs n
+GathersAs us ks vs (G.Count n) = (allNumbered ks ≡ true) × (keysAt vs 0 n ≡ gathered us ks) × Part vs n
 GathersAs us ks vs G.Other = allNumbered ks ≡ false
 
 -- the promise of gathering the variables ks behind us

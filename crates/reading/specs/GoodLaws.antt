@@ -11,8 +11,8 @@ use lib.ListN.{length, getD, List·getD-eq-default}
 use Rattle.basics.specs.Tests.{Cmp, cmp}
 use Rattle.basics.specs.Tests.Cmp.{below, equal as alike, above}
 use Rattle.refusal.specs.declared.Refusal.the-variants.{Name, Arity, Range, Unbound, Variables}
-use Rattle.label.specs.Limits.{constantCount, firstParameter, parameterCount, firstVariable, variableCount, termBase, predicateCount, equality, equalityArity}
-use Rattle.label.specs.Terms.{isConstant, isParameter, isVariable, isTerm}
+use Rattle.label.specs.Limits.{constantCount, firstParameter, parameterCount, firstVariable, variableCount, firstMinimum, minimumCount, termBase, predicateCount, equality, equalityArity}
+use Rattle.label.specs.Terms.{isConstant, isParameter, isVariable, isMinimum, isTerm}
 use Rattle.label.specs.Labels.{areArities, placeFits, inOrder, atomFrom, packed, unpacked, predicateOf, pickTest, labelOf, equates, testOf}
 use Rattle.label.specs.Renamings.{EachTerm, EachIn}
 use Rattle.label.specs.LabelLaws.{term-below, place-from, below-places, fits-atom, unpacked-packed, label-packed}
@@ -26,7 +26,7 @@ use Rattle.words.specs.Bytes.{valueOf}
 use Rattle.words.specs.Keys.{keyOf}
 use Rattle.words.specs.declared.Key.{Key}
 use Rattle.forms.specs.Tree as T
-use Rattle.forms.specs.Tree.Mark.{plain, variable, parameter}
+use Rattle.forms.specs.Tree.Mark.{plain, variable, parameter, minimum}
 use Rattle.forms.specs.Tree.Term.{term}
 use Rattle.forms.specs.Tree.Atom.{equal, holds}
 use Rattle.forms.specs.Tree.Diagram.{number as numeral, branch as conditional}
@@ -34,11 +34,13 @@ use Rattle.names.specs.Keys.{placeOf, isAmong}
 use Rattle.events.specs.Events.{diagramEvents}
 use Rattle.reading.specs.declared.Binding.{Binding}
 use Rattle.reading.specs.declared.Binding.the-variants.{Any, None, Only}
-use Rattle.reading.specs.Reading.{Names, Judged, andThen, constantNumber, parameterNumber, met, lastVariable, numberIn, variableNumber, Written, reading}
+use Rattle.reading.specs.Reading.{Names, Judged, andThen, constantNumber, parameterNumber, met, Met, lastVariable, numberIn}
+use Rattle.reading.specs.Reading.{variableNumber, minimumNumber, variableMet, minimumMet, Written, isWithin, reading}
 use Rattle.reading.specs.Reading.Judged.{fine, refused}
 use Rattle.reading.specs.AllLaws.{all-at}
 use Rattle.reading.specs.JudgedLaws.{apart, fine-one, chosen, passed, chained}
-use Rattle.reading.specs.Tree.{Reading, Result, having, resolveTerm, resolveTerms, testing, resolveAtom, branching, resolveDiagram, writing, diagramReading, depth, Named, reach, GoodTest, GoodReading, NamesFit, Sound}
+use Rattle.reading.specs.Tree.{Reading, Result, having, resolveTerm, resolveTerms, testing, resolveAtom, branching, resolveDiagram}
+use Rattle.reading.specs.Tree.{writing, diagramReading, depth, Reach, Named, maximumReach, reach, GoodTest, GoodReading, NamesFit, Sound}
 use Rattle.reading.specs.Tree.Reading.{branch}
 use Rattle.reading.specs.TreeLaws.{Resolving, terms-resolved, reading-diagram}
 
@@ -48,11 +50,11 @@ among-below : (k : Key) (ks : List Key) → isAmong k ks ≡ true → placeOf k 
 unfolding isAmong
 among-below k ks e = ltb-true (placeOf k ks) (length ks) e
 
-had : {A : Type 0} (vs : List Key) (j : Judged A) (g : Result A) → having vs j ≡ fine g → (j ≡ fine (g .value)) × (vs ≡ g .variables)
-had {A} vs (fine x) g e =
-    let z : _≡_ {A = Result A} (record { value = x; variables = vs }) g = cc in
-    (ap (λ (y : Result A). fine (y .value)) z, ap (λ (y : Result A). y .variables) z)
-had vs (refused r) g e = absurd (apart e)
+had : {A : Type 0} (m : Met) (j : Judged A) (g : Result A) → having m j ≡ fine g → (j ≡ fine (g .value)) × (m ≡ g .met)
+had {A} m (fine x) g e =
+    let z : _≡_ {A = Result A} (record { value = x; met = m }) g = cc in
+    (ap (λ (y : Result A). fine (y .value)) z, ap (λ (y : Result A). y .met) z)
+had m (refused r) g e = absurd (apart e)
 
 constant-term : (t : ℕ) → t < constantCount → isTerm t ≡ true
 unfolding isTerm isConstant
@@ -78,25 +80,54 @@ variable-term i h =
       lt-ltb (firstVariable + i) (firstVariable + variableCount) (omega arith),
     )
 
-module _ (c n : ℕ) where
+minimum-term : (i : ℕ) → i < minimumCount → isTerm (firstMinimum + i) ≡ true
+unfolding isTerm isConstant isParameter isVariable isMinimum
+minimum-term i h =
+    rw (
+      le-ltb (firstMinimum + i) constantCount (omega arith),
+      le-leb firstParameter (firstMinimum + i) (omega arith),
+      le-ltb (firstMinimum + i) (firstParameter + parameterCount) (omega arith),
+      le-leb firstVariable (firstMinimum + i) (omega arith),
+      le-ltb (firstMinimum + i) (firstVariable + variableCount) (omega arith),
+      le-leb firstMinimum (firstMinimum + i) (omega arith),
+      lt-ltb (firstMinimum + i) (firstMinimum + minimumCount) (omega arith),
+    )
+
+module _ (c : ℕ) (n : Reach) where
   constant-named : (ks : List Key) (k : Key) (t : ℕ) → length ks ≤ constantCount → constantNumber ks k ≡ fine t → Named c n t
   unfolding constantNumber
   constant-named ks k t h e =
       let p = passed (isAmong k ks) (placeOf k ks) Name t e in
       let l = among-below k ks (p .0) in
       let z : placeOf k ks ≡ t = p .1 in
-      record { is-term = constant-term t (omega arith); parameters = λ m. absurd (omega arith); variables = omega arith }
+      record {
+        is-term = constant-term t (omega arith);
+        parameters = λ m. absurd (omega arith);
+        variables = λ m. absurd (omega arith);
+        minimums = omega arith;
+      }
 
-  variable-named : (vs : List Key) (k : Key) (t : ℕ) → numberIn vs k ≡ t → min (placeOf k vs) lastVariable < n → Named c n t
+  variable-named : (vs : List Key) (k : Key) (t : ℕ) → numberIn firstVariable vs k ≡ t → min (placeOf k vs) lastVariable < n .variables → Named c n t
   unfolding numberIn
   variable-named vs k t e h =
       record {
         is-term = subst (λ x. isTerm x ≡ true) e (variable-term (min (placeOf k vs) lastVariable) (omega arith));
         parameters = λ m. omega arith;
-        variables = omega arith;
+        variables = λ m. absurd (omega arith);
+        minimums = omega arith;
       }
 
-parameter-named : (n : ℕ) (ks : List Key) (k : Key) (t : ℕ) → length ks ≤ parameterCount → parameterNumber ks k ≡ fine t → Named (length ks) n t
+  minimum-named : (vs : List Key) (k : Key) (t : ℕ) → numberIn firstMinimum vs k ≡ t → min (placeOf k vs) lastVariable < n .minimums → Named c n t
+  unfolding numberIn
+  minimum-named vs k t e h =
+      record {
+        is-term = subst (λ x. isTerm x ≡ true) e (minimum-term (min (placeOf k vs) lastVariable) (omega arith));
+        parameters = λ m. omega arith;
+        variables = λ m. omega arith;
+        minimums = omega arith;
+      }
+
+parameter-named : (n : Reach) (ks : List Key) (k : Key) (t : ℕ) → length ks ≤ parameterCount → parameterNumber ks k ≡ fine t → Named (length ks) n t
 unfolding parameterNumber
 parameter-named n ks k t h e =
     let p = passed (isAmong k ks) (firstParameter + placeOf k ks) Unbound t e in
@@ -105,44 +136,69 @@ parameter-named n ks k t h e =
     record {
       is-term = subst (λ x. isTerm x ≡ true) z (parameter-term (placeOf k ks) (omega arith));
       parameters = λ m. absurd (omega arith);
-      variables = omega arith;
+      variables = λ m. absurd (omega arith);
+      minimums = omega arith;
     }
 
+-- where no minimum variable may be named, only so many variables are
+pub named-below : (c n t : ℕ) → Named c (maximumReach n) t → t < firstVariable + n
+named-below c n t h = go (cmp t (firstVariable + n))
+  where
+    go : Cmp t (firstVariable + n) → t < firstVariable + n
+    go (below l) = l
+    go (alike e) = absurd (omega (arith, h .variables (omega arith), h .minimums))
+    go (above l) = absurd (omega (arith, h .variables (omega arith), h .minimums))
+
 -- a variable, by what may be named
-bound-named : (c : ℕ) (b : Binding) (vs : List Key) (k : Key) (t : ℕ) → variableNumber b (met b vs k) k ≡ fine t
-    → Named c (reach b vs) t × (reach b (met b vs k) ≡ reach b vs)
+bound-named : (c : ℕ) (b : Binding) (m : Met) (k : Key) (t : ℕ) → variableNumber b (met b (m .variables) k) k ≡ fine t
+    → Named c (reach b m) t × (reach b (variableMet b m k) ≡ reach b m)
 unfolding variableNumber met
-bound-named c Any vs k t e =
-    let z : numberIn (met Any vs k) k ≡ t = cc in
-    (variable-named c variableCount (met Any vs k) k t z (omega arith), refl)
-bound-named c None vs k t e = absurd (apart e)
-bound-named c Only vs k t e =
-    let p = passed (isAmong k vs) (numberIn vs k) Unbound t e in
-    (variable-named c (length vs) vs k t (p .1) (omega (arith, among-below k vs (p .0))), refl)
+bound-named c Any m k t e =
+    let z : numberIn firstVariable (met Any (m .variables) k) k ≡ t = cc in
+    (variable-named c (reach Any m) (met Any (m .variables) k) k t z (omega arith), refl)
+bound-named c None m k t e = absurd (apart e)
+bound-named c Only m k t e =
+    let p = passed (isAmong k (m .variables)) (numberIn firstVariable (m .variables) k) Unbound t e in
+    (variable-named c (reach Only m) (m .variables) k t (p .1) (omega (arith, among-below k (m .variables) (p .0))), refl)
+
+-- a minimum variable: in a reward
+lowest-named : (c : ℕ) (b : Binding) (m : Met) (k : Key) (t : ℕ) → minimumNumber b (met b (m .minimums) k) k ≡ fine t
+    → Named c (reach b m) t × (reach b (minimumMet b m k) ≡ reach b m)
+unfolding minimumNumber
+lowest-named c Any m k t e =
+    let z : numberIn firstMinimum (met Any (m .minimums) k) k ≡ t = cc in
+    (minimum-named c (reach Any m) (met Any (m .minimums) k) k t z (omega arith), refl)
+lowest-named c None m k t e = absurd (apart e)
+lowest-named c Only m k t e = absurd (apart e)
 
 -- every term of a line is one that may be named
-names-resolving : (σ : Names) → NamesFit σ → (vs : List Key)
+names-resolving : (σ : Names) → NamesFit σ → (vs : Met)
     → Resolving σ (Named (length (σ .parameters)) (reach (σ .binding) vs)) (λ us. reach (σ .binding) us ≡ reach (σ .binding) vs)
 names-resolving σ f vs = record { each = each }
   where
     P : ℕ → Type 0
     P = Named (length (σ .parameters)) (reach (σ .binding) vs)
 
-    Q : List Key → Type 0
+    Q : Met → Type 0
     Q us = reach (σ .binding) us ≡ reach (σ .binding) vs
 
-    each : (us : List Key) (t : T.Term) (g : Result ℕ) → Q us → resolveTerm σ us t ≡ fine g → P (g .value) × Q (g .variables)
+    each : (us : Met) (t : T.Term) (g : Result ℕ) → Q us → resolveTerm σ us t ≡ fine g → P (g .value) × Q (g .met)
     each us (term plain n) g q e =
         let h = had us (constantNumber (σ .constants) (keyOf n)) g e in
         (constant-named (length (σ .parameters)) (reach (σ .binding) vs) (σ .constants) (keyOf n) (g .value) (f .constants-few) (h .0), subst Q (h .1) q)
     each us (term variable n) g q e =
         let k : Key = keyOf n in
-        let h = had (met (σ .binding) us k) (variableNumber (σ .binding) (met (σ .binding) us k) k) g e in
+        let h = had (variableMet (σ .binding) us k) (variableNumber (σ .binding) (met (σ .binding) (us .variables) k) k) g e in
         let b = bound-named (length (σ .parameters)) (σ .binding) us k (g .value) (h .0) in
-        (subst (λ m. Named (length (σ .parameters)) m (g .value)) q (b .0), subst Q (h .1) (b .1 ∙ q))
+        (subst (λ n. Named (length (σ .parameters)) n (g .value)) q (b .0), subst Q (h .1) (b .1 ∙ q))
     each us (term parameter n) g q e =
         let h = had us (parameterNumber (σ .parameters) (keyOf n)) g e in
         (parameter-named (reach (σ .binding) vs) (σ .parameters) (keyOf n) (g .value) (f .parameters-few) (h .0), subst Q (h .1) q)
+    each us (term minimum n) g q e =
+        let k : Key = keyOf n in
+        let h = had (minimumMet (σ .binding) us k) (minimumNumber (σ .binding) (met (σ .binding) (us .minimums) k) k) g e in
+        let b = lowest-named (length (σ .parameters)) (σ .binding) us k (g .value) (h .0) in
+        (subst (λ n. Named (length (σ .parameters)) n (g .value)) q (b .0), subst Q (h .1) (b .1 ∙ q))
 
 -- labels
 
@@ -216,20 +272,20 @@ module _ (ar : List ℕ) (P : ℕ → Type 0) (w : (t : ℕ) → P t → isTerm 
 -- atoms
 
 -- what a resolved part keeps: a property of its value, and one of the variables
-pub record Keeps {A : Type 0} (P : A → Type 0) (Q : List Key → Type 0) (g : Result A) : Type 0 where
+pub record Keeps {A : Type 0} (P : A → Type 0) (Q : Met → Type 0) (g : Result A) : Type 0 where
   pub value-good : P (g .value)
-  pub met-still : Q (g .variables)
+  pub met-still : Q (g .met)
 
-module _ (σ : Names) (P : ℕ → Type 0) (Q : List Key → Type 0) (fits : NamesFit σ) (w : (t : ℕ) → P t → isTerm t ≡ true) (s : Resolving σ P Q) where
-  tested : (q : ℕ) (ts : List T.Term) (vs : List Key) (g : Result Test) → Q vs → ((us : List ℕ) → length us ≡ length ts → T.All P us → GoodTest (σ .arities) P (testOf (atomFrom q us)))
+module _ (σ : Names) (P : ℕ → Type 0) (Q : Met → Type 0) (fits : NamesFit σ) (w : (t : ℕ) → P t → isTerm t ≡ true) (s : Resolving σ P Q) where
+  tested : (q : ℕ) (ts : List T.Term) (vs : Met) (g : Result Test) → Q vs → ((us : List ℕ) → length us ≡ length ts → T.All P us → GoodTest (σ .arities) P (testOf (atomFrom q us)))
       → andThen (resolveTerms σ vs ts) (testing q) ≡ fine g → Keeps (GoodTest (σ .arities) P) Q g
   tested q ts vs g k f e =
       let c = chained (resolveTerms σ vs ts) (testing q) g e in
       let r = terms-resolved σ P Q s ts vs (c .first) k (c .answers) in
-      let z : _≡_ {A = Result Test} (record { value = testOf (atomFrom q (c .first .value)); variables = c .first .variables }) g = fine-one (c .then) in
+      let z : _≡_ {A = Result Test} (record { value = testOf (atomFrom q (c .first .value)); met = c .first .met }) g = fine-one (c .then) in
       subst (Keeps (GoodTest (σ .arities) P) Q) z (record { value-good = f (c .first .value) (r .count) (r .all); met-still = r .met-still })
 
-  atom-good : (a : T.Atom) (vs : List Key) (g : Result Test) → Q vs → resolveAtom σ vs a ≡ fine g → Keeps (GoodTest (σ .arities) P) Q g
+  atom-good : (a : T.Atom) (vs : Met) (g : Result Test) → Q vs → resolveAtom σ vs a ≡ fine g → Keeps (GoodTest (σ .arities) P) Q g
   atom-good (equal a b) vs g k e = tested equality (a ∷ b ∷ []) vs g k (λ us. equal-terms us) e
     where
       equal-terms : (us : List ℕ) → length us ≡ equalityArity → T.All P us → GoodTest (σ .arities) P (testOf (atomFrom equality us))
@@ -246,7 +302,7 @@ module _ (σ : Names) (P : ℕ → Type 0) (Q : List Key → Type 0) (fits : Nam
       tested q ts vs g k (λ us m a. test-good (σ .arities) P w q us (m ∙ n) a (omega arith) (omega (arith, fits .predicates-few))) (d .1)
 
   -- diagrams
-  diagram-good : (d : T.Diagram) (vs : List Key) (g : Result Reading) → Q vs → resolveDiagram σ vs d ≡ fine g
+  diagram-good : (d : T.Diagram) (vs : Met) (g : Result Reading) → Q vs → resolveDiagram σ vs d ≡ fine g
       → Keeps (λ r. GoodReading (σ .arities) P r × (depth r ≤ T.brackets d)) Q g
   diagram-good (numeral n) vs g k e =
       let c = passed (leb (valueOf n) highestValue) _ Range g e in
@@ -255,11 +311,11 @@ module _ (σ : Names) (P : ℕ → Type 0) (Q : List Key → Type 0) (fits : Nam
   diagram-good (conditional a d e) vs g k z =
       let c = chained (resolveAtom σ vs a) _ g z in
       let x = atom-good a vs (c .first) k (c .answers) in
-      let c₁ = chained (resolveDiagram σ (c .first .variables) d) _ g (c .then) in
-      let y = diagram-good d (c .first .variables) (c₁ .first) (x .met-still) (c₁ .answers) in
-      let c₂ = chained (resolveDiagram σ (c₁ .first .variables) e) (branching (c .first .value) (c₁ .first .value)) g (c₁ .then) in
-      let v = diagram-good e (c₁ .first .variables) (c₂ .first) (y .met-still) (c₂ .answers) in
-      let u : _≡_ {A = Result Reading} (record { value = branch (c .first .value) (c₁ .first .value) (c₂ .first .value); variables = c₂ .first .variables }) g = fine-one (c₂ .then) in
+      let c₁ = chained (resolveDiagram σ (c .first .met) d) _ g (c .then) in
+      let y = diagram-good d (c .first .met) (c₁ .first) (x .met-still) (c₁ .answers) in
+      let c₂ = chained (resolveDiagram σ (c₁ .first .met) e) (branching (c .first .value) (c₁ .first .value)) g (c₁ .then) in
+      let v = diagram-good e (c₁ .first .met) (c₂ .first) (y .met-still) (c₂ .answers) in
+      let u : _≡_ {A = Result Reading} (record { value = branch (c .first .value) (c₁ .first .value) (c₂ .first .value); met = c₂ .first .met }) g = fine-one (c₂ .then) in
       subst (Keeps (λ r. GoodReading (σ .arities) P r × (depth r ≤ T.brackets (conditional a d e))) Q) u
       (record {
         value-good = ((x .value-good, y .value-good .0, v .value-good .0), omega (arith, y .value-good .1, v .value-good .1));
@@ -267,17 +323,17 @@ module _ (σ : Names) (P : ℕ → Type 0) (Q : List Key → Type 0) (fits : Nam
       })
 
 -- the words of a line with a diagram, not refused, come to the operations of a good diagram
-pub reading-sound : (σ : Names) → NamesFit σ → (d : T.Diagram) (vs : List Key) (w : Written) → reading σ (diagramEvents d) vs ≡ fine w → Sound σ vs d w
+pub reading-sound : (σ : Names) → NamesFit σ → (d : T.Diagram) (vs : Met) (w : Written) → reading σ (diagramEvents d) vs ≡ fine w → Sound σ vs d w
 unfolding diagramReading
 reading-sound σ f d vs w e =
     let c = chained (resolveDiagram σ vs d) writing w (sym (reading-diagram σ d vs) ∙ e) in
     let g = diagram-good σ (Named (length (σ .parameters)) (reach (σ .binding) vs)) (λ us. reach (σ .binding) us ≡ reach (σ .binding) vs) f (λ t n. n .is-term) (names-resolving σ f vs)
     d vs (c .first) refl (c .answers) in
-    let p = passed (leb (length (c .first .variables)) variableCount) _ Variables w (c .then) in
+    let p = passed (isWithin (c .first .met)) _ Variables w (c .then) in
     record {
       tree = c .first .value;
       operations = ap (λ (x : Written). x .operations) (sym (p .1));
       good = g .value-good .0;
       shallow = g .value-good .1;
-      few = subst (λ (x : Written). length (x .variables) ≤ variableCount) (p .1) (leb-true (length (c .first .variables)) variableCount (p .0));
+      few = subst (λ (x : Written). isWithin (x .met) ≡ true) (p .1) (p .0);
     }

@@ -22,6 +22,7 @@ abbrev pub openingOf : Event → Opening
 openingOf (E.Name k) = O.Other
 openingOf (E.Variable k) = O.Other
 openingOf (E.Parameter k) = O.Other
+openingOf (E.Minimum k) = O.Other
 openingOf (E.Number v) = O.Other
 openingOf E.Equal = O.Other
 openingOf (E.Holds k n) = O.Atom k n
@@ -33,6 +34,7 @@ abbrev pub argumentOf : Event → Argument
 argumentOf (E.Name k) = A.Other
 argumentOf (E.Variable k) = A.Named k
 argumentOf (E.Parameter k) = A.Other
+argumentOf (E.Minimum k) = A.Other
 argumentOf (E.Number v) = A.Other
 argumentOf E.Equal = A.Other
 argumentOf (E.Holds k n) = A.Other

@@ -21,7 +21,7 @@ use Rattle.events.specs.Events.{firstWord, nameEvent, variableEvent, diagramEve
 use Rattle.events.specs.Front.{isEnd, nextAt, eventsOf}
 use Rattle.events.specs.FrontLaws.{next-end, next-more}
 use Rattle.events.specs.LineEvents.{line-events}
-use Rattle.reading.specs.Reading.{Names, Judged, pickJudged, andThen, reading}
+use Rattle.reading.specs.Reading.{Names, Judged, pickJudged, andThen, Met, reading}
 use Rattle.reading.specs.Reading.Judged.{fine, refused}
 use Rattle.reading.specs.Head.{openedNumber, headNumber, Head, argumentsFrom, headArguments, argumentKeys, headKeys}
 use Rattle.reading.specs.Tree.{diagramReading}
@@ -45,7 +45,7 @@ next-splits s i e es p = go (isEnd (nextAt s i .event)) refl
         record { event = cc; rest = cc }
 
 -- (reward DIAGRAM)
-pub reward-words : (σ : Names) (d : T.Diagram) → T.GoodDiagram d → (vs : List Key)
+pub reward-words : (σ : Names) (d : T.Diagram) → T.GoodDiagram d → (vs : Met)
     → reading σ (eventsOf (drop (firstWord Reward) (lineBytes (line Reward d)))) vs ≡ diagramReading σ d vs
 reward-words σ d g vs = ap (λ es. reading σ es vs) (line-events Reward d g) ∙ reading-diagram σ d vs
 

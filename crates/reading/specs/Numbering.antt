@@ -1,5 +1,5 @@
 -- How the variables of a reward are numbered (document 02, L2): 'Where every variable of a reward is written in that way, N without leading zeros, the reader
--- numbers them by ascending N instead of by first occurrence, and closes up.'
+-- numbers them by ascending N instead of by first occurrence, and closes up.' Minimum variables 'are read back likewise, kind by kind' (document 02, L12).
 use Prim.Native.Nat.{ℕ}
 use mathlib.Core.Bool.{Bool, true, false, _&&_, cond}
 use mathlib.Core.List.{List, [], _∷_}
@@ -12,8 +12,8 @@ use Rattle.words.specs.declared.Key.{Key}
 use Rattle.words.specs.declared.Took.{Took}
 use Rattle.words.specs.declared.Took.the-variants.{Bytes, Refused}
 use Rattle.events.specs.declared.Event.{Event}
-use Rattle.reading.specs.Reading.{Names, Judged, Written, pickKeys, reading}
-use Rattle.reading.specs.Occurrences.{variableKeys}
+use Rattle.reading.specs.Reading.{Names, Judged, Met, Written, pickKeys, reading}
+use Rattle.reading.specs.Occurrences.{variableKeys, minimumKeys}
 
 -- the byte v
 abbrev pub letterV : ℕ
@@ -49,10 +49,14 @@ abbrev pub byNumber : List Key → List Key → List Key
 byNumber vs [] = vs
 byNumber vs (k ∷ ks) = byNumber (inserted k vs) ks
 
--- the variables that have their number before the words are read: all, by ascending N, where each is written in that way, else none
+-- the variables of a kind that have their number before the words are read: all, by ascending N, where each is written in that way, else none
 unfoldable pub variablesFirst : List Key → List Key
 variablesFirst ks = pickKeys (allNumbered ks) (byNumber [] ks) []
 
+-- kind by kind
+abbrev pub metFirst : List Event → Met
+metFirst es = record { variables = variablesFirst (variableKeys es); minimums = variablesFirst (minimumKeys es) }
+
 -- the words of a reward: the pass, begun with these, numbers a variable by its place among them, and any other one by first occurrence
 unfoldable pub rewardReading : Names → List Event → Judged Written
-rewardReading σ es = reading σ es (variablesFirst (variableKeys es))
+rewardReading σ es = reading σ es (metFirst es)

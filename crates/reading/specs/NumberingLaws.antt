@@ -1,18 +1,18 @@
--- Sorting in by moving the greater ones up, with one more than the limit kept, comes to the same words of a reward: up to the limit the variables are the same, and
--- above it the words' first fault and 8 do not depend on how variables are numbered.
+-- Sorting in by moving the greater ones up, with one more than the limit of each kind kept, comes to the same words of a reward: up to the limit the variables are the
+-- same, and above it the words' first fault and 8 do not depend on how variables are numbered.
 use Prim.Native.Nat.{ℕ, suc, _+_, _-_, _≤_, _<_}
 use mathlib.Core.Path.{_≡_, refl, sym, ap, ap₂, subst, _∙_}
-use mathlib.Core.Bool.{Bool, true, false}
-use mathlib.Core.List.{List, [], _∷_}
+use mathlib.Core.Bool.{Bool, true, false, _&&_}
+use mathlib.Core.List.{List, [], _∷_, _++_}
 use native.Mathlib.Omega.{arith}
 use native.Mathlib.Decide.{decLt}
 use borrow.Author.Tests.{lt-ltb, le-ltb, eq-eqb, ne-eqb, le-leb, lt-leb}
 use lib.Dec.{eqb, ltb, leb}
-use lib.ListN.{length, getD}
+use lib.ListN.{length, getD, length-append}
 use Rattle.basics.specs.Tests.{Cmp, below, equal, above, cmp}
 use Rattle.refusal.specs.declared.Refusal.{Refusal}
 use Rattle.refusal.specs.declared.Refusal.the-variants as F
-use Rattle.label.specs.Limits.{variableCount, equality, equalityArity}
+use Rattle.label.specs.Limits.{variableCount, minimumCount, equality, equalityArity}
 use Rattle.label.specs.Labels.{atomFrom, testOf}
 use Rattle.diagram.specs.Sizes.{highestValue}
 use Rattle.words.specs.Keys.{nameOf}
@@ -21,14 +21,14 @@ use Rattle.names.specs.Keys.{placeOf, isAmong}
 use Rattle.events.specs.declared.Event.{Event}
 use Rattle.events.specs.declared.Event.the-variants as E
 use Rattle.reading.specs.declared.Binding.{Binding}
-use Rattle.reading.specs.declared.Binding.the-variants.{Any}
+use Rattle.reading.specs.declared.Binding.the-variants.{Any, None, Only}
 use Rattle.reading.specs.Operations.Op.{ask}
-use Rattle.reading.specs.Reading.{Names, Judged, pickJudged, andThen, pickKeys, met, metAt, Pass, more, pickPass, asked, beginning, begun, filling, termWord}
-use Rattle.reading.specs.Reading.{numberWord, atomWord, constantNumber, parameterNumber, variableNumber, word, State, with-pass, readWords, finished, begin, reading}
+use Rattle.reading.specs.Reading.{Names, Judged, pickJudged, andThen, pickKeys, met, Met, metAt, Pass, more, pickPass, asked, beginning, begun, filling, termWord}
+use Rattle.reading.specs.Reading.{numberWord, atomWord, constantNumber, parameterNumber, variableNumber, minimumNumber, word, State, with-pass, readWords, isWithin, finished, begin, reading}
 use Rattle.reading.specs.Reading.Judged.{fine, refused}
-use Rattle.reading.specs.Occurrences.{variableKeys}
-use Rattle.reading.specs.Numbering.{numberOf, allNumbered, inserted, byNumber, variablesFirst, rewardReading}
-use Rattle.reading.specs.Gathering.{moved, movedIn, gathered, keptFirst}
+use Rattle.reading.specs.Occurrences.{variableKeys, minimumKeys}
+use Rattle.reading.specs.Numbering.{numberOf, allNumbered, inserted, byNumber, variablesFirst, metFirst, rewardReading}
+use Rattle.reading.specs.Gathering.{moved, movedIn, gathered, keptFirst, keptMet}
 
 -- ===== Sorted in =====
 
@@ -93,6 +93,14 @@ alike-all : (ks vs us : List Key) → Alike vs us → Alike (gathered vs ks) (by
 alike-all [] vs us a = a
 alike-all (k ∷ ks) vs us a = alike-all ks (movedIn vs k) (inserted k us) (alike-more vs us k a)
 
+kept-alike : (ks : List Key) → Alike (keptFirst [] ks) (variablesFirst ks)
+unfolding variablesFirst keptFirst
+kept-alike ks = go (allNumbered ks)
+  where
+    go : (b : Bool) → Alike (pickKeys b (gathered [] ks) []) (pickKeys b (byNumber [] ks) [])
+    go true = alike-all ks [] [] (same refl tt)
+    go false = same refl tt
+
 -- ===== The first fault, and 8 =====
 
 -- both are answers, or both are the same refusal
@@ -140,14 +148,54 @@ term-both p q (fine x) (refused s) d m = absurd m
 term-both p q (refused r) (fine y) d m = absurd m
 term-both p q (refused r) (refused s) d m = m
 
+-- more variables of a kind than the limit
+pub data Over (m : Met) : Type 0 where
+  variables : variableCount < length (m .variables) → Over m
+  minimums : minimumCount < length (m .minimums) → Over m
+
+met-grows : (b : Binding) (vs : List Key) (k : Key) → length vs ≤ length (met b vs k)
+unfolding met
+met-grows Any vs k = go (isAmong k vs) (leb (length vs) variableCount)
+  where
+    go : (x y : Bool) → length vs ≤ length (pickKeys x vs (pickKeys y (vs ++ (k ∷ [])) vs))
+    go true y = omega arith
+    go false true = omega (arith, length-append vs (k ∷ []))
+    go false false = omega arith
+met-grows None vs k = omega arith
+met-grows Only vs k = omega arith
+
+over-stays : (b : Binding) (m : Met) (e : Event) → Over m → Over (metAt b m e)
+over-stays b m (E.Name k) o = o
+over-stays b m (E.Variable k) (variables h) = variables (omega (arith, met-grows b (m .variables) k))
+over-stays b m (E.Variable k) (minimums h) = minimums h
+over-stays b m (E.Parameter k) o = o
+over-stays b m (E.Minimum k) (variables h) = variables h
+over-stays b m (E.Minimum k) (minimums h) = minimums (omega (arith, met-grows b (m .minimums) k))
+over-stays b m (E.Number v) o = o
+over-stays b m E.Equal o = o
+over-stays b m (E.Holds k n) o = o
+over-stays b m E.Step o = o
+over-stays b m E.End o = o
+
+over-refused : (m : Met) → Over m → isWithin m ≡ false
+over-refused m (variables h) = rw (lt-leb (length (m .variables)) variableCount h)
+over-refused m (minimums h) = rw (lt-leb (length (m .minimums)) minimumCount h) (go (leb (length (m .variables)) variableCount))
+  where
+    go : (b : Bool) → (b && false) ≡ false
+    go true = refl
+    go false = refl
+
 module _ (σ : Names) (any : σ .binding ≡ Any) where
-  word-both : (us vs : List Key) (p q : Pass) (e : Event) → Due p q → Both Due (word σ us p e) (word σ vs q e)
-  unfolding word numberWord atomWord variableNumber
+  word-both : (us vs : Met) (p q : Pass) (e : Event) → Due p q → Both Due (word σ us p e) (word σ vs q e)
+  unfolding word numberWord atomWord variableNumber minimumNumber
   word-both us vs p q (E.Name k) d = term-both p q _ _ d (both-same _ (constantNumber (σ .constants) k) (λ x. tt))
   word-both us vs p q (E.Variable k) d =
-      term-both p q (variableNumber (σ .binding) us k) (variableNumber (σ .binding) vs k) d
-      (subst (λ (b : Binding). Both (λ x y. Unit {0}) (variableNumber b us k) (variableNumber b vs k)) (sym any) tt)
+      term-both p q (variableNumber (σ .binding) (us .variables) k) (variableNumber (σ .binding) (vs .variables) k) d
+      (subst (λ (b : Binding). Both (λ x y. Unit {0}) (variableNumber b (us .variables) k) (variableNumber b (vs .variables) k)) (sym any) tt)
   word-both us vs p q (E.Parameter k) d = term-both p q _ _ d (both-same _ (parameterNumber (σ .parameters) k) (λ x. tt))
+  word-both us vs p q (E.Minimum k) d =
+      term-both p q (minimumNumber (σ .binding) (us .minimums) k) (minimumNumber (σ .binding) (vs .minimums) k) d
+      (subst (λ (b : Binding). Both (λ x y. Unit {0}) (minimumNumber b (us .minimums) k) (minimumNumber b (vs .minimums) k)) (sym any) tt)
   word-both us vs p q (E.Number v) d = both-test Due (leb v highestValue) _ _ F.Range d
   word-both us vs p q E.Equal d = begun-same p q equality equalityArity
   word-both us vs p q (E.Holds k n) d =
@@ -156,53 +204,35 @@ module _ (σ : Names) (any : σ .binding ≡ Any) where
   word-both us vs p q E.Step d = d
   word-both us vs p q E.End d = d
 
-  -- a full table stays
-  full-met : (vs : List Key) (k : Key) → variableCount < length vs → met (σ .binding) vs k ≡ vs
-  unfolding met
-  full-met vs k h = rw (any, lt-leb (length vs) variableCount h) (go (isAmong k vs))
-    where
-      go : (b : Bool) → pickKeys b vs vs ≡ vs
-      go true = refl
-      go false = refl
-
-  full-stays : (vs : List Key) (e : Event) → variableCount < length vs → metAt (σ .binding) vs e ≡ vs
-  full-stays vs (E.Name k) h = refl
-  full-stays vs (E.Variable k) h = full-met vs k h
-  full-stays vs (E.Parameter k) h = refl
-  full-stays vs (E.Number v) h = refl
-  full-stays vs E.Equal h = refl
-  full-stays vs (E.Holds k n) h = refl
-  full-stays vs E.Step h = refl
-  full-stays vs E.End h = refl
-
   abbrev Full : State → State → Type 0
-  Full s t = (variableCount < length (s .variables)) × (variableCount < length (t .variables))
+  Full s t = Over (s .met) × Over (t .met)
 
-  abbrev at : List Key → Pass → State
-  at vs p = record { variables = vs; pass = p }
+  abbrev at : Met → Pass → State
+  at m p = record { met = m; pass = p }
 
-  words-both : (es : List Event) (us vs : List Key) (p q : Pass) → variableCount < length us → variableCount < length vs → Due p q
-      → Both Full (readWords σ es (at us p)) (readWords σ es (at vs q))
+  words-both : (es : List Event) (us vs : Met) (p q : Pass) → Over us → Over vs → Due p q → Both Full (readWords σ es (at us p)) (readWords σ es (at vs q))
   unfolding readWords
   words-both [] us vs p q h l d = (h, l)
   words-both (e ∷ es) us vs p q h l d =
-      rw (full-stays us e h, full-stays vs e l)
-      (go (word σ us p e) (word σ vs q e) (word-both us vs p q e d) (λ x y. words-both es us vs x y h l))
+      let us′ = metAt (σ .binding) us e in
+      let vs′ = metAt (σ .binding) vs e in
+      go us′ vs′ (word σ us′ p e) (word σ vs′ q e) (word-both us′ vs′ p q e d)
+      (λ x y. words-both es us′ vs′ x y (over-stays (σ .binding) us e h) (over-stays (σ .binding) vs e l))
     where
-      go : (i j : Judged Pass) → Both Due i j → ((x y : Pass) → Due x y → Both Full (readWords σ es (at us x)) (readWords σ es (at vs y)))
+      go : (us vs : Met) (i j : Judged Pass) → Both Due i j → ((x y : Pass) → Due x y → Both Full (readWords σ es (at us x)) (readWords σ es (at vs y)))
           → Both Full (andThen (with-pass us i) (readWords σ es)) (andThen (with-pass vs j) (readWords σ es))
-      go (fine x) (fine y) m ih = ih x y m
-      go (fine x) (refused s) m ih = absurd m
-      go (refused r) (fine y) m ih = absurd m
-      go (refused r) (refused s) m ih = m
+      go us vs (fine x) (fine y) m ih = ih x y m
+      go us vs (fine x) (refused s) m ih = absurd m
+      go us vs (refused r) (fine y) m ih = absurd m
+      go us vs (refused r) (refused s) m ih = m
 
-  -- with more variables than the limit, the words come to their first fault, or to 8, whatever the order of the variables
-  pub reading-many : (es : List Event) (us vs : List Key) → variableCount < length us → variableCount < length vs → reading σ es us ≡ reading σ es vs
+  -- with more variables of a kind than the limit, the words come to their first fault, or to 8, whatever the order of the variables
+  pub reading-many : (es : List Event) (us vs : Met) → Over us → Over vs → reading σ es us ≡ reading σ es vs
   unfolding reading
   reading-many es us vs h l = go (readWords σ es (begin us)) (readWords σ es (begin vs)) (words-both es us vs _ _ h l refl)
     where
       go : (i j : Judged State) → Both Full i j → andThen i finished ≡ andThen j finished
-      go (fine s) (fine t) m = rw (lt-leb (length (s .variables)) variableCount (m .0), lt-leb (length (t .variables)) variableCount (m .1))
+      go (fine s) (fine t) m = rw (over-refused (s .met) (m .0), over-refused (t .met) (m .1))
       go (fine s) (refused r) m = absurd m
       go (refused r) (fine t) m = absurd m
       go (refused r) (refused s) m = ap refused m
@@ -210,14 +240,13 @@ module _ (σ : Names) (any : σ .binding ≡ Any) where
   -- ===== A reward's words =====
 
   -- those that the code keeps do
-  pub kept-reading : (es : List Event) → reading σ es (keptFirst [] (variableKeys es)) ≡ rewardReading σ es
-  unfolding rewardReading variablesFirst keptFirst
-  kept-reading es = by-test (allNumbered (variableKeys es))
+  pub kept-reading : (es : List Event) → reading σ es (keptMet es) ≡ rewardReading σ es
+  unfolding rewardReading
+  kept-reading es =
+      by-kinds (keptMet es .variables) (metFirst es .variables) (keptMet es .minimums) (metFirst es .minimums) (kept-alike (variableKeys es)) (kept-alike (minimumKeys es))
     where
-      by-kind : (us vs : List Key) → Alike us vs → reading σ es us ≡ reading σ es vs
-      by-kind us vs (same e r) = ap (reading σ es) e
-      by-kind us vs (many h l) = reading-many es us vs h l
-
-      by-test : (b : Bool) → reading σ es (pickKeys b (gathered [] (variableKeys es)) []) ≡ reading σ es (pickKeys b (byNumber [] (variableKeys es)) [])
-      by-test true = by-kind _ _ (alike-all (variableKeys es) [] [] (same refl tt))
-      by-test false = refl
+      by-kinds : (us vs xs ys : List Key) → Alike us vs → Alike xs ys
+          → reading σ es (record { variables = us; minimums = xs }) ≡ reading σ es (record { variables = vs; minimums = ys })
+      by-kinds us vs xs ys (same e r) (same f q) = ap₂ (λ (v x : List Key). reading σ es (record { variables = v; minimums = x })) e f
+      by-kinds us vs xs ys (many h l) a = reading-many es _ _ (variables h) (variables l)
+      by-kinds us vs xs ys (same e r) (many h l) = reading-many es _ _ (minimums h) (minimums l)

@@ -1,8 +1,8 @@
--- The words pass keeps one variable more than the limit, and yet judges 8 by all: more distinct names than the limit are refused, and up to
--- it none is left out.
+-- The words pass keeps one variable of each kind more than the limit, and yet judges 8 by all: more distinct names of a kind than the limit are
+-- refused, and up to it none is left out.
 use Prim.Native.Nat.{_+_, _≤_, _<_}
-use mathlib.Core.Path.{_≡_, refl, sym, ap, _∙_}
-use mathlib.Core.Bool.{Bool, true, false}
+use mathlib.Core.Path.{_≡_, refl, sym, ap, ap₂, _∙_}
+use mathlib.Core.Bool.{Bool, true, false, _&&_}
 use mathlib.Core.List.{List, [], _∷_, _++_}
 use native.Mathlib.Omega.{arith}
 use native.Mathlib.Decide.{decLt}
@@ -19,14 +19,18 @@ use Rattle.events.specs.declared.Event.the-variants as E
 use Rattle.reading.specs.declared.Binding.{Binding}
 use Rattle.reading.specs.declared.Binding.the-variants.{Any}
 use Rattle.reading.specs.Operations.{Op}
-use Rattle.reading.specs.Reading.{Names, Judged, pickJudged, andThen, pickKeys, met, metAt, Pass, word, State, with-pass, readWord, readWords, finished, begin, Written, reading}
+use Rattle.reading.specs.Reading.{Names, Judged, pickJudged, andThen, pickKeys, met, Met, arguments, metAt, Pass, word}
+use Rattle.reading.specs.Reading.{State, with-pass, readWord, readWords, finished, begin, Written, written, reading}
 use Rattle.reading.specs.Reading.Judged.{fine, refused}
-use Rattle.reading.specs.Occurrences.{variableKeys, occurring}
+use Rattle.reading.specs.Occurrences.{occurringMet}
 use Rattle.reading.specs.JudgedLaws.{apart, chained}
 
 -- those that are kept
 abbrev kept : List Key → List Key
 kept us = take (variableCount + 1) us
+
+abbrev keptMet : Met → Met
+keptMet m = record { variables = kept (m .variables); minimums = kept (m .minimums) }
 
 pick-same : (b : Bool) (x : List Key) → pickKeys b x x ≡ x
 pick-same true x = refl
@@ -54,59 +58,73 @@ met-kept us k = go (decLt (length us) (variableCount + 1))
         rw (length-take-le (variableCount + 1) us l) (pick-same (isAmong k (kept us)) (kept us) ∙ full (isAmong k us) l)
 
 -- the variables after all words
-abbrev metBy : Binding → List Key → List Event → List Key
-metBy b vs [] = vs
-metBy b vs (e ∷ es) = metBy b (metAt b vs e) es
+abbrev metBy : Binding → Met → List Event → Met
+metBy b m [] = m
+metBy b m (e ∷ es) = metBy b (metAt b m e) es
 
-met-all : (es : List Event) (us : List Key) → metBy Any (kept us) es ≡ kept (occurring us (variableKeys es))
-met-all [] us = refl
-met-all (E.Name k ∷ es) us = met-all es us
-met-all (E.Variable k ∷ es) us =
-    ap (λ vs. metBy Any vs es) (met-kept us k) ∙ met-all es (pickKeys (isAmong k us) us (us ++ (k ∷ [])))
-met-all (E.Parameter k ∷ es) us = met-all es us
-met-all (E.Number v ∷ es) us = met-all es us
-met-all (E.Equal ∷ es) us = met-all es us
-met-all (E.Holds k n ∷ es) us = met-all es us
-met-all (E.Step ∷ es) us = met-all es us
-met-all (E.End ∷ es) us = met-all es us
+met-all : (es : List Event) (m : Met) → metBy Any (keptMet m) es ≡ keptMet (occurringMet m es)
+met-all [] m = refl
+met-all (E.Name k ∷ es) m = met-all es m
+met-all (E.Variable k ∷ es) m =
+    ap (λ vs. metBy Any (record { variables = vs; minimums = kept (m .minimums) }) es) (met-kept (m .variables) k)
+    ∙ met-all es (record { variables = pickKeys (isAmong k (m .variables)) (m .variables) (m .variables ++ (k ∷ [])); minimums = m .minimums })
+met-all (E.Parameter k ∷ es) m = met-all es m
+met-all (E.Minimum k ∷ es) m =
+    ap (λ vs. metBy Any (record { variables = kept (m .variables); minimums = vs }) es) (met-kept (m .minimums) k)
+    ∙ met-all es (record { variables = m .variables; minimums = pickKeys (isAmong k (m .minimums)) (m .minimums) (m .minimums ++ (k ∷ [])) })
+met-all (E.Number v ∷ es) m = met-all es m
+met-all (E.Equal ∷ es) m = met-all es m
+met-all (E.Holds k n ∷ es) m = met-all es m
+met-all (E.Step ∷ es) m = met-all es m
+met-all (E.End ∷ es) m = met-all es m
 
-passed-on : (vs : List Key) (j : Judged Pass) (s : State) → with-pass vs j ≡ fine s → vs ≡ s .variables
-passed-on vs (fine p) s e =
-    let z : _≡_ {A = State} (record { variables = vs; pass = p }) s = cc in ap (λ (x : State). x .variables) z
-passed-on vs (refused r) s e = absurd (apart e)
+passed-on : (m : Met) (j : Judged Pass) (s : State) → with-pass m j ≡ fine s → m ≡ s .met
+passed-on m (fine p) s e =
+    let z : _≡_ {A = State} (record { met = m; pass = p }) s = cc in ap (λ (x : State). x .met) z
+passed-on m (refused r) s e = absurd (apart e)
 
-words-met : (σ : Names) (es : List Event) (s t : State) → readWords σ es s ≡ fine t → t .variables ≡ metBy (σ .binding) (s .variables) es
+words-met : (σ : Names) (es : List Event) (s t : State) → readWords σ es s ≡ fine t → t .met ≡ metBy (σ .binding) (s .met) es
 unfolding readWords
-words-met σ [] s t e = let z : s ≡ t = cc in ap (λ (x : State). x .variables) (sym z)
+words-met σ [] s t e = let z : s ≡ t = cc in ap (λ (x : State). x .met) (sym z)
 words-met σ (e ∷ es) s t p =
     let c = chained (readWord σ s e) (readWords σ es) t p in
     words-met σ es (c .first) t (c .then)
-    ∙ ap (λ vs. metBy (σ .binding) vs es) (sym (passed-on (metAt (σ .binding) (s .variables) e) (word σ (metAt (σ .binding) (s .variables) e) (s .pass) e) (c .first) (c .answers)))
+    ∙ ap (λ m. metBy (σ .binding) m es) (sym (passed-on (metAt (σ .binding) (s .met) e) (word σ (metAt (σ .binding) (s .met) e) (s .pass) e) (c .first) (c .answers)))
 
--- 8 above the limit of variables
-abbrev judged : List Key → List Op → Judged Written
-judged vs o = pickJudged (leb (length vs) variableCount) (fine (record { variables = vs; operations = o })) (refused F.Variables)
+-- the counts of the table against the limits are those of all
+module _ (m : Met) (o : List Op) where
+  few-kept : length (m .variables) < variableCount + 1 → length (m .minimums) < variableCount + 1 → written (keptMet m) o ≡ written m o
+  few-kept h l =
+      ap₂ (λ (us vs : List Key). written (record { variables = us; minimums = vs }) o)
+      (take-all (variableCount + 1) (m .variables) (omega arith)) (take-all (variableCount + 1) (m .minimums) (omega arith))
 
--- the count of the table against the limit is that of all
-count-kept : (us : List Key) (o : List Op) → judged (kept us) o ≡ judged us o
-count-kept us o = go (decLt (length us) (variableCount + 1))
-  where
-    go : Dec (length us < variableCount + 1) → judged (kept us) o ≡ judged us o
-    go (yes h) = ap (λ vs. judged vs o) (take-all (variableCount + 1) us (omega arith))
-    go (no h) =
-        let l : variableCount + 1 ≤ length us = omega arith in
-        rw (length-take-le (variableCount + 1) us l, lt-leb (length us) variableCount (omega arith))
+  many-variables : variableCount + 1 ≤ length (m .variables) → written (keptMet m) o ≡ written m o
+  many-variables l = rw (length-take-le (variableCount + 1) (m .variables) l, lt-leb (length (m .variables)) variableCount (omega arith))
 
--- a reward's words without a fault: 8 by all of their variables, or all of them in their order
-pub reading-counts : (σ : Names) → σ .binding ≡ Any → (es : List Event) (s : State) → readWords σ es (begin []) ≡ fine s
-    → reading σ es []
-    ≡ pickJudged (leb (length (occurring [] (variableKeys es))) variableCount)
-    (fine (record { variables = occurring [] (variableKeys es); operations = s .pass .operations }))
-    (refused F.Variables)
+  many-minimums : length (m .variables) < variableCount + 1 → variableCount + 1 ≤ length (m .minimums) → written (keptMet m) o ≡ written m o
+  many-minimums h l =
+      rw (take-all (variableCount + 1) (m .variables) (omega arith), length-take-le (variableCount + 1) (m .minimums) l, lt-leb (length (m .minimums)) variableCount (omega arith))
+      (refuses (leb (length (m .variables)) variableCount) _ _)
+    where
+      refuses : (b : Bool) (x y : Written) → pickJudged (b && false) (fine x) (refused F.Variables) ≡ pickJudged (b && false) (fine y) (refused F.Variables)
+      refuses true x y = refl
+      refuses false x y = refl
+
+  count-kept : written (keptMet m) o ≡ written m o
+  count-kept = go (decLt (length (m .variables)) (variableCount + 1)) (decLt (length (m .minimums)) (variableCount + 1))
+    where
+      go : Dec (length (m .variables) < variableCount + 1) → Dec (length (m .minimums) < variableCount + 1) → written (keptMet m) o ≡ written m o
+      go (yes h) (yes l) = few-kept h l
+      go (yes h) (no l) = many-minimums h (omega arith)
+      go (no h) l = many-variables (omega arith)
+
+-- a reward's words without a fault: 8 by all of their variables, kind by kind, or all of them in their order
+pub reading-counts : (σ : Names) → σ .binding ≡ Any → (es : List Event) (s : State) → readWords σ es (begin (arguments [])) ≡ fine s
+    → reading σ es (arguments []) ≡ written (occurringMet (arguments []) es) (s .pass .operations)
 unfolding reading
 reading-counts σ b es s e =
-    let us : List Key = occurring [] (variableKeys es) in
-    let v : s .variables ≡ kept us = words-met σ es (begin []) s e ∙ ap (λ c. metBy c [] es) b ∙ met-all es [] in
+    let all : Met = occurringMet (arguments []) es in
+    let v : s .met ≡ keptMet all = words-met σ es (begin (arguments [])) s e ∙ ap (λ c. metBy c (arguments []) es) b ∙ met-all es (arguments []) in
     ap (λ j. andThen j finished) e
-    ∙ ap (λ vs. judged vs (s .pass .operations)) v
-    ∙ count-kept us (s .pass .operations)
+    ∙ ap (λ m. written m (s .pass .operations)) v
+    ∙ count-kept all (s .pass .operations)

@@ -5,23 +5,22 @@ use mathlib.Core.List.{List}
 use lib.ListN.{length, getD}
 use Rattle.label.specs.Limits.{constantCount, parameterCount, predicateCount, leafMark}
 use Rattle.diagram.specs.Sizes.{highestValue}
-use Rattle.words.specs.declared.Key.{Key}
 use Rattle.forms.specs.Tree as T
 use Rattle.names.specs.KeyLaws.{length-keys}
-use Rattle.names.specs.Keys.{keysAt}
 use Rattle.names.specs.Layout.{constantsAt, declaredAt, parametersAt}
 use Rattle.events.specs.declared.Event.{Event}
 use Rattle.events.specs.Events.{diagramEvents}
 use Rattle.reading.specs.declared.Scope.{Scope}
+use Rattle.reading.specs.declared.Known.{Known}
 use Rattle.reading.specs.declared.Read.{Read}
 use Rattle.reading.specs.declared.Read.the-variants as W
 use Rattle.reading.specs.Operations.{opsIn}
-use Rattle.reading.specs.Reading.{Names, Written, reading}
+use Rattle.reading.specs.Reading.{Names, Met, Written, reading}
 use Rattle.reading.specs.Tree.{Reading, opsOf, diagramReading, depth, Named, reach, GoodReading, NamesFit}
 use Rattle.reading.specs.TreeLaws.{reading-diagram}
 use Rattle.reading.specs.GoodLaws.{reading-sound}
 use Rattle.reading.specs.OperationLaws.{InRange, operations-range, leaf-range, label-range}
-use Rattle.reading.specs.Callers.{namesOf, judgedWritten, Tables, Reads}
+use Rattle.reading.specs.Callers.{namesOf, metIn, judgedWritten, Tables, Reads}
 
 pub tables-fit : (ns ar : List ℕ) (s : Scope) → Tables ns ar s → NamesFit (namesOf ns ar s)
 tables-fit ns ar s t = record {
@@ -32,7 +31,7 @@ tables-fit ns ar s t = record {
 }
 
 -- n operations in the words os are those of a good diagram
-pub record Diagrammed (σ : Names) (vs : List Key) (d : T.Diagram) (n : ℕ) (os : List ℕ) : Type 0 where
+pub record Diagrammed (σ : Names) (vs : Met) (d : T.Diagram) (n : ℕ) (os : List ℕ) : Type 0 where
   pub tree : Reading
   pub operations : opsIn os n ≡ opsOf tree
   pub good : GoodReading (σ .arities) (Named (length (σ .parameters)) (reach (σ .binding) vs)) tree
@@ -40,14 +39,14 @@ pub record Diagrammed (σ : Names) (vs : List Key) (d : T.Diagram) (n : ℕ) (os
   pub values : (k : ℕ) → k < n → getD os (k * 2) 0 ≡ 0 → getD os (k * 2 + 1) 0 ≤ highestValue
   pub labels : (k : ℕ) → k < n → getD os (k * 2) 0 ≡ 1 → getD os (k * 2 + 1) 0 < leafMark
 
-module _ (σ : Names) (f : NamesFit σ) (d : T.Diagram) (es : List Event) (e : es ≡ diagramEvents d) (ks : List Key) {vs os : List ℕ} where
+module _ (σ : Names) (f : NamesFit σ) (d : T.Diagram) (es : List Event) (e : es ≡ diagramEvents d) (ks : Met) {vs os : List ℕ} where
   -- the answer is that of the tree, refusals too
   pub read-answer : {r : Read} → Reads (reading σ es ks) r vs os → judgedWritten vs os r ≡ diagramReading σ d ks
   read-answer g = g .answer ∙ ap (λ x. reading σ x ks) e ∙ reading-diagram σ d ks
 
-  pub read-diagram : {n m : ℕ} → Reads (reading σ es ks) (W.Done n m) vs os → Diagrammed σ ks d n os
+  pub read-diagram : {n : ℕ} {m : Known} → Reads (reading σ es ks) (W.Done n m) vs os → Diagrammed σ ks d n os
   read-diagram {n} {m} g =
-      let w : Written = record { variables = keysAt vs 0 m; operations = opsIn os n } in
+      let w : Written = record { met = metIn vs m; operations = opsIn os n } in
       let s = reading-sound σ f d ks w (ap (λ x. reading σ x ks) (sym e) ∙ sym (g .answer)) in
       let a = operations-range (σ .arities) (Named (length (σ .parameters)) (reach (σ .binding) ks)) (s .tree) (s .good) in
       let b = subst (T.All InRange) (sym (s .operations)) a in

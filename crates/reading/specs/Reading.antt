@@ -1,14 +1,14 @@
 -- A line's words with a diagram in it, one after another: what each word stands for, and the first fault (document 01, section 'Text',
 -- and under the refusals: 'word by word 2, 3, 6, 4, with 3 found at the predicate's own word; then its diagram 8').
 use Prim.Native.Nat.{ℕ, _+_, _-_, min}
-use mathlib.Core.Bool.{Bool, true, false}
+use mathlib.Core.Bool.{Bool, true, false, _&&_}
 use mathlib.Core.List.{List, [], _∷_, _++_}
 use lib.Dec.{eqb, leb}
 use lib.ListN.{length, getD}
 use Rattle.refusal.specs.declared.Refusal.{Refusal}
 use Rattle.refusal.specs.declared.Refusal.the-variants.{Form, Name, Arity, Range, Unbound, Variables}
-use Rattle.label.specs.Limits.{variableCount, equality, equalityArity}
-use Rattle.label.specs.Terms.{constantTerm, parameterTerm, variableTerm}
+use Rattle.label.specs.Limits.{firstVariable, variableCount, firstMinimum, minimumCount, equality, equalityArity}
+use Rattle.label.specs.Terms.{constantTerm, parameterTerm}
 use Rattle.label.specs.Labels.{atomFrom, testOf}
 use Rattle.diagram.specs.Sizes.{highestValue}
 use Rattle.words.specs.declared.Key.{Key}
@@ -57,27 +57,42 @@ abbrev pub pickKeys : Bool → List Key → List Key → List Key
 pickKeys true x y = x
 pickKeys false x y = y
 
--- the variables met so far, in the order of their first occurrence, after ?name. One more than the limit is kept: a line with more than
--- that many is refused whatever the others are
+-- the variables of one kind met so far, in the order of their first occurrence, after ?name or %name. One more than the limit is kept: a line
+-- with more than that many is refused whatever the others are
 unfoldable pub met : Binding → List Key → Key → List Key
 met Any vs k = pickKeys (isAmong k vs) vs (pickKeys (leb (length vs) variableCount) (vs ++ (k ∷ [])) vs)
 met None vs k = vs
 met Only vs k = vs
 
--- the place of the last variable that has a number
+-- the variables met so far, kind by kind: ?x and %x are two variables (document 02, L12)
+pub record Met : Type 0 where
+  pub variables : List Key
+  pub minimums : List Key
+
+-- the arguments vs of a truth diagram; a weight has none
+abbrev pub arguments : List Key → Met
+arguments vs = record { variables = vs; minimums = [] }
+
+-- the place of the last variable of a kind that has a number
 abbrev pub lastVariable : ℕ
 lastVariable = variableCount - 1
 
--- numbered by first occurrence, from the first variable's number on. A variable past the last is given the last number: its line is refused
+-- numbered by first occurrence, from the first number of the kind on. A variable past the last is given the last number: its line is refused
 -- after its words (8)
-unfoldable pub numberIn : List Key → Key → ℕ
-numberIn vs k = variableTerm (min (placeOf k vs) lastVariable)
+unfoldable pub numberIn : ℕ → List Key → Key → ℕ
+numberIn first vs k = first + min (placeOf k vs) lastVariable
 
 -- ?name: in a reward any, in a weight none (6), in a truth diagram an argument or 6
 unfoldable pub variableNumber : Binding → List Key → Key → Judged ℕ
-variableNumber Any vs k = fine (numberIn vs k)
+variableNumber Any vs k = fine (numberIn firstVariable vs k)
 variableNumber None vs k = refused Unbound
-variableNumber Only vs k = pickJudged (isAmong k vs) (fine (numberIn vs k)) (refused Unbound)
+variableNumber Only vs k = pickJudged (isAmong k vs) (fine (numberIn firstVariable vs k)) (refused Unbound)
+
+-- %name: 'Allow %name in rewards as a minimum variable' (document 02, L12); in a weight and in a truth diagram it is 6
+unfoldable pub minimumNumber : Binding → List Key → Key → Judged ℕ
+minimumNumber Any vs k = fine (numberIn firstMinimum vs k)
+minimumNumber None vs k = refused Unbound
+minimumNumber Only vs k = refused Unbound
 
 -- atoms and operations
 
@@ -129,39 +144,48 @@ atomWord σ p k n =
 
 -- words
 
--- the variables after a word
-abbrev pub metAt : Binding → List Key → Event → List Key
-metAt b vs (E.Name k) = vs
-metAt b vs (E.Variable k) = met b vs k
-metAt b vs (E.Parameter k) = vs
-metAt b vs (E.Number v) = vs
-metAt b vs E.Equal = vs
-metAt b vs (E.Holds k n) = vs
-metAt b vs E.Step = vs
-metAt b vs E.End = vs
+-- one variable more of a kind
+abbrev pub variableMet : Binding → Met → Key → Met
+variableMet b m k = record { variables = met b (m .variables) k; minimums = m .minimums }
 
--- a word, judged with the variables vs
-unfoldable pub word : Names → List Key → Pass → Event → Judged Pass
-word σ vs p (E.Name k) = termWord p (constantNumber (σ .constants) k)
-word σ vs p (E.Variable k) = termWord p (variableNumber (σ .binding) vs k)
-word σ vs p (E.Parameter k) = termWord p (parameterNumber (σ .parameters) k)
-word σ vs p (E.Number v) = numberWord p v
-word σ vs p E.Equal = fine (begun p equality equalityArity)
-word σ vs p (E.Holds k n) = atomWord σ p k n
-word σ vs p E.Step = fine (more p step)
-word σ vs p E.End = fine p
+abbrev pub minimumMet : Binding → Met → Key → Met
+minimumMet b m k = record { variables = m .variables; minimums = met b (m .minimums) k }
+
+-- the variables after a word
+abbrev pub metAt : Binding → Met → Event → Met
+metAt b m (E.Name k) = m
+metAt b m (E.Variable k) = variableMet b m k
+metAt b m (E.Parameter k) = m
+metAt b m (E.Minimum k) = minimumMet b m k
+metAt b m (E.Number v) = m
+metAt b m E.Equal = m
+metAt b m (E.Holds k n) = m
+metAt b m E.Step = m
+metAt b m E.End = m
+
+-- a word, judged with the variables m
+unfoldable pub word : Names → Met → Pass → Event → Judged Pass
+word σ m p (E.Name k) = termWord p (constantNumber (σ .constants) k)
+word σ m p (E.Variable k) = termWord p (variableNumber (σ .binding) (m .variables) k)
+word σ m p (E.Parameter k) = termWord p (parameterNumber (σ .parameters) k)
+word σ m p (E.Minimum k) = termWord p (minimumNumber (σ .binding) (m .minimums) k)
+word σ m p (E.Number v) = numberWord p v
+word σ m p E.Equal = fine (begun p equality equalityArity)
+word σ m p (E.Holds k n) = atomWord σ p k n
+word σ m p E.Step = fine (more p step)
+word σ m p E.End = fine p
 
 -- how far the words are read: the variables met, and the pass
 pub record State : Type 0 where
-  pub variables : List Key
+  pub met : Met
   pub pass : Pass
 
-abbrev pub with-pass : List Key → Judged Pass → Judged State
-with-pass vs (fine p) = fine (record { variables = vs; pass = p })
-with-pass vs (refused r) = refused r
+abbrev pub with-pass : Met → Judged Pass → Judged State
+with-pass m (fine p) = fine (record { met = m; pass = p })
+with-pass m (refused r) = refused r
 
 abbrev pub readWord : Names → State → Event → Judged State
-readWord σ s e = with-pass (metAt (σ .binding) (s .variables) e) (word σ (metAt (σ .binding) (s .variables) e) (s .pass) e)
+readWord σ s e = with-pass (metAt (σ .binding) (s .met) e) (word σ (metAt (σ .binding) (s .met) e) (s .pass) e)
 
 -- all words: the first fault decides
 unfoldable pub readWords : Names → List Event → State → Judged State
@@ -172,22 +196,26 @@ readWords σ (e ∷ es) s = andThen (readWord σ s e) (readWords σ es)
 
 -- what is read: the variables, and the operations
 pub record Written : Type 0 where
-  pub variables : List Key
+  pub met : Met
   pub operations : List Op
 
--- after all words, more variables than the limit are 8
-abbrev pub finished : State → Judged Written
-finished s =
-    pickJudged (leb (length (s .variables)) variableCount)
-    (fine (record { variables = s .variables; operations = s .pass .operations }))
-    (refused Variables)
+-- '8 judges each kind by itself' (document 02, L12)
+abbrev pub isWithin : Met → Bool
+isWithin m = leb (length (m .variables)) variableCount && leb (length (m .minimums)) minimumCount
 
-abbrev pub begin : List Key → State
-begin vs = record {
-  variables = vs;
+-- after all words, more variables of a kind than the limit are 8
+abbrev pub written : Met → List Op → Judged Written
+written m o = pickJudged (isWithin m) (fine (record { met = m; operations = o })) (refused Variables)
+
+abbrev pub finished : State → Judged Written
+finished s = written (s .met) (s .pass .operations)
+
+abbrev pub begin : Met → State
+begin m = record {
+  met = m;
   pass = record { predicate = equality; terms = []; due = 0; operations = [] };
 }
 
--- the words es, the variables vs known before them
-unfoldable pub reading : Names → List Event → List Key → Judged Written
-reading σ es vs = andThen (readWords σ es (begin vs)) finished
+-- the words es, the variables m known before them
+unfoldable pub reading : Names → List Event → Met → Judged Written
+reading σ es m = andThen (readWords σ es (begin m)) finished

@@ -12,20 +12,22 @@ ghost use Prim.Native.Nat.{_+_, _*_, _≤_, _<_, min};
 ghost use lib.ListN.{length, drop};
 ghost use Rattle.label.specs.Limits.{constantCount, parameterCount, predicateCount, termEnd, mostPlaces};
 ghost use Rattle.label.specs.Labels.{unpacked};
-ghost use Rattle.label.specs.Terms.{variableTerm};
+ghost use Rattle.label.specs.Terms.{variableTerm, minimumTerm};
 ghost use Rattle.events.specs.Front.{isEnd, eventsOf};
 ghost use Rattle.names.specs.Keys.{keysAt};
 ghost use Rattle.names.specs.Layout.{constantsAt, declaredAt, parametersAt};
 ghost use Rattle.reading.specs.Head.{openingOf, argumentOf, headNumber, argumentsFrom, headArguments};
 ghost use Rattle.reading.specs.Operations.{opOf};
-ghost use Rattle.reading.specs.Reading.{asked, begun, termWord, numberWord, atomWord, more, constantNumber, parameterNumber, lastVariable, variableNumber, met, metAt, word, reading};
+ghost use Rattle.reading.specs.Reading.{asked, begun, termWord, numberWord, atomWord, more, constantNumber, parameterNumber, lastVariable};
+ghost use Rattle.reading.specs.Reading.{variableNumber, minimumNumber, met, arguments, variableMet, minimumMet, metAt, word, reading};
 ghost use Rattle.reading.specs.declared.Binding.the-variants.{Any, Only};
 ghost use Rattle.reading.specs.Reading.Judged.{fine};
 ghost use Rattle.words.specs.Keys.{bytesWithin, nameOf};
-ghost use Rattle.reading.specs.Occurrences.{variableKeys};
+ghost use Rattle.reading.specs.Occurrences.{minimumOf, variableOf, wordKeys, keysOf};
 ghost use Rattle.reading.specs.Numbering.{numberOf, rewardReading};
-ghost use Rattle.reading.specs.Gathering.{wholeNumber, numberedAs, paired, moved, keptFirst, wordKeys, Spelt, Insertable, Gathers};
-ghost use Rattle.reading.specs.Callers.{namesOf, placed, passOf, judgedNumber, readAnswer, refusedRead, Reads, Opens, Heads, Tables, Variables, Readable, Room, Fillable, TermBelow, Resolves, Meets, Goes, Steps};
+ghost use Rattle.reading.specs.Gathering.{wholeNumber, numberedAs, paired, moved, keptFirst, keptMet, Spelt, Insertable, Gathers};
+ghost use Rattle.reading.specs.Callers.{partWords, metIn, argumentCount, namesOf, placed, passOf, judgedNumber, readAnswer, refusedRead, Reads, Opens};
+ghost use Rattle.reading.specs.Callers.{Heads, Tables, Part, Variables, Readable, Room, Fillable, TermBelow, Resolves, Meets, MeetsWord, Goes, Steps};
 
 // The first words of operations: a leaf, a label to ask, t = t to ask, a row step.
 pub const LEAF: u64 = 0;
@@ -36,13 +38,30 @@ pub const TRUTH: u64 = 2;
 
 pub const STEP: u64 = 3;
 
-// So many variables have numbers, the last of them at this place.
+// So many variables of a kind have numbers, the last of them at this place.
 const VARIABLES: usize = Term::VARIABLES as usize;
 
 const LAST_VARIABLE: usize = VARIABLES - 1;
 
+// A table of variables has a part for each kind, which keeps one more than the limit: the maximum variables first.
+const PART_WORDS: usize = (VARIABLES + 1) * 2;
+
+pub const VARIABLE_WORDS: usize = PART_WORDS * 2;
+
 // The letter of a variable that is written with its number.
 const LETTER_V: u8 = 118;
+
+// A variable is a maximum variable, ?name, or a minimum variable, %name.
+pub enum Kind {
+    Maximum,
+    Minimum,
+}
+
+// How many variables of each kind are in the table.
+pub struct Known {
+    pub variables: usize,
+    pub minimums: usize,
+}
 
 // Which variables may be named: any, numbered as they come; none; those in the table.
 pub enum Binding {
@@ -81,7 +100,7 @@ enum Stepped {
 
 // How many operations and how many variables a line's words come to, or the refusal.
 pub enum Read {
-    Done(usize, usize),
+    Done(usize, Known),
     Refused(Refusal),
 }
 
@@ -91,7 +110,7 @@ enum Opening {
     Other,
 }
 
-// A word that should be an argument: a variable, or another word.
+// A word that should be a variable, or another word.
 enum Argument {
     Named(Key),
     Other,
@@ -281,21 +300,35 @@ fn parameter_number(names: &[u64], n: usize, key: Key) -> Resolved
     Resolved::Number(t.number)
 }
 
-// The number of variable i; past the last one's place that of the last.
+// The place i of a variable; past the last one that has a number, the place of that one.
+fn numbered_place(i: usize) -> u64
+    ensures { λ r. ⌜ r ≡ min i lastVariable ⌝ }
+{
+    if LAST_VARIABLE <= i {
+        return LAST_VARIABLE as u64;
+    }
+    i as u64
+}
+
+// The number of variable i.
 fn variable_at(i: usize) -> u64
     ensures { λ r. ⌜ r ≡ variableTerm (min i lastVariable) ⌝ }
 {
-    if LAST_VARIABLE <= i {
-        let last = Term::variable(LAST_VARIABLE as u64);
-        return last.number;
-    }
-    let t = Term::variable(i as u64);
+    let t = Term::variable(numbered_place(i));
+    t.number
+}
+
+// The number of minimum variable i.
+fn minimum_at(i: usize) -> u64
+    ensures { λ r. ⌜ r ≡ minimumTerm (min i lastVariable) ⌝ }
+{
+    let t = Term::minimum(numbered_place(i));
     t.number
 }
 
 // The number of a variable that is in the table.
 fn bound_number(variables: &[u64], count: usize, key: Key) -> Resolved
-    requires { ⌜ Variables (now variables) count ⌝ }
+    requires { ⌜ count * 2 ≤ length (now variables) ⌝ }
     ensures { λ r. ⌜ Resolves (variableNumber Only (keysAt (now (variables .entry)) 0 count) key) r ⌝ }
 {
     let i = names::find(variables, 0, count, key);
@@ -307,7 +340,7 @@ fn bound_number(variables: &[u64], count: usize, key: Key) -> Resolved
 
 // The number of any variable.
 fn any_number(variables: &[u64], count: usize, key: Key) -> Resolved
-    requires { ⌜ Variables (now variables) count ⌝ }
+    requires { ⌜ count * 2 ≤ length (now variables) ⌝ }
     ensures { λ r. ⌜ Resolves (variableNumber Any (keysAt (now (variables .entry)) 0 count) key) r ⌝ }
 {
     let i = names::find(variables, 0, count, key);
@@ -316,7 +349,7 @@ fn any_number(variables: &[u64], count: usize, key: Key) -> Resolved
 
 // A variable's number, the variables met so far in the table.
 fn variable_number(variables: &[u64], count: usize, binding: Binding, key: Key) -> Resolved
-    requires { ⌜ Variables (now variables) count ⌝ }
+    requires { ⌜ count * 2 ≤ length (now variables) ⌝ }
     ensures { λ r. ⌜ Resolves (variableNumber binding (keysAt (now (variables .entry)) 0 count) key) r ⌝ }
 {
     match binding {
@@ -326,9 +359,24 @@ fn variable_number(variables: &[u64], count: usize, binding: Binding, key: Key) 
     }
 }
 
-// A variable joins the table if it is new and there is room: how many there are then.
+// A minimum variable's number.
+fn minimum_number(variables: &[u64], count: usize, binding: Binding, key: Key) -> Resolved
+    requires { ⌜ partWords + count * 2 ≤ length (now variables) ⌝ }
+    ensures { λ r. ⌜ Resolves (minimumNumber binding (keysAt (now (variables .entry)) partWords count) key) r ⌝ }
+{
+    match binding {
+        Binding::Any => {
+            let i = names::find(variables, PART_WORDS, count, key);
+            Resolved::Number(minimum_at(i))
+        }
+        Binding::None => Resolved::Refused(Refusal::Unbound),
+        Binding::Only => Resolved::Refused(Refusal::Unbound),
+    }
+}
+
+// A variable joins its part of the table if it is new and there is room: how many there are then.
 fn join(variables: &mut [u64], count: usize, key: Key) -> usize
-    requires { ⌜ Variables (now variables) count ⌝ }
+    requires { ⌜ Part (now variables) count ⌝ }
     ensures { λ r. ⌜ Meets (met Any (keysAt (now (variables .entry)) 0 count) key) r (now (variables .exit)) ⌝ }
 {
     if names::find(variables, 0, count, key) < count {
@@ -341,9 +389,9 @@ fn join(variables: &mut [u64], count: usize, key: Key) -> usize
     count + 1
 }
 
-// How many variables there are after ?name.
+// How many variables of a kind there are after one, its part of the table lent.
 fn meet(variables: &mut [u64], count: usize, binding: Binding, key: Key) -> usize
-    requires { ⌜ Variables (now variables) count ⌝ }
+    requires { ⌜ Part (now variables) count ⌝ }
     ensures { λ r. ⌜ Meets (met binding (keysAt (now (variables .entry)) 0 count) key) r (now (variables .exit)) ⌝ }
 {
     match binding {
@@ -353,20 +401,45 @@ fn meet(variables: &mut [u64], count: usize, binding: Binding, key: Key) -> usiz
     }
 }
 
-// How many variables there are after a word.
-fn meet_word(variables: &mut [u64], count: usize, binding: Binding, event: Event) -> usize
-    requires { ⌜ Variables (now variables) count ⌝ }
-    ensures { λ r. ⌜ Meets (metAt binding (keysAt (now (variables .entry)) 0 count) event) r (now (variables .exit)) ⌝ }
+// How many variables of each kind there are after ?name.
+fn meet_variable(variables: &mut [u64], known: Known, binding: Binding, key: Key) -> Known
+    requires { ⌜ Variables (now variables) known ⌝ }
+    ensures { λ r. ⌜ MeetsWord (variableMet binding (metIn (now (variables .entry)) known) key) r (now (variables .exit)) ⌝ }
+{
+    let count = meet(&mut variables[..PART_WORDS], known.variables, binding, key);
+    Known {
+        variables: count,
+        minimums: known.minimums,
+    }
+}
+
+// How many variables of each kind there are after %name.
+fn meet_minimum(variables: &mut [u64], known: Known, binding: Binding, key: Key) -> Known
+    requires { ⌜ Variables (now variables) known ⌝ }
+    ensures { λ r. ⌜ MeetsWord (minimumMet binding (metIn (now (variables .entry)) known) key) r (now (variables .exit)) ⌝ }
+{
+    let count = meet(&mut variables[PART_WORDS..], known.minimums, binding, key);
+    Known {
+        variables: known.variables,
+        minimums: count,
+    }
+}
+
+// How many variables of each kind there are after a word.
+fn meet_word(variables: &mut [u64], known: Known, binding: Binding, event: Event) -> Known
+    requires { ⌜ Variables (now variables) known ⌝ }
+    ensures { λ r. ⌜ MeetsWord (metAt binding (metIn (now (variables .entry)) known) event) r (now (variables .exit)) ⌝ }
 {
     match event {
-        Event::Name(_) => count,
-        Event::Variable(key) => meet(variables, count, binding, key),
-        Event::Parameter(_) => count,
-        Event::Number(_) => count,
-        Event::Equal => count,
-        Event::Holds(_, _) => count,
-        Event::Step => count,
-        Event::End => count,
+        Event::Name(_) => known,
+        Event::Variable(key) => meet_variable(variables, known, binding, key),
+        Event::Parameter(_) => known,
+        Event::Minimum(key) => meet_minimum(variables, known, binding, key),
+        Event::Number(_) => known,
+        Event::Equal => known,
+        Event::Holds(_, _) => known,
+        Event::Step => known,
+        Event::End => known,
     }
 }
 
@@ -377,14 +450,14 @@ fn read_word(
     variables: &[u64],
     operations: &mut [u64],
     scope: Scope,
-    count: usize,
+    known: Known,
     pass: Progress,
     event: Event,
 ) -> Stepped
     requires { ⌜ Tables (now names) (now arities) scope ⌝ }
-    requires { ⌜ Variables (now variables) count ⌝ }
+    requires { ⌜ Variables (now variables) known ⌝ }
     requires { ⌜ Room (now operations) pass ⌝ }
-    ensures { λ r. ⌜ Steps pass (word (namesOf (now (names .entry)) (now (arities .entry)) scope) (keysAt (now (variables .entry)) 0 count) (passOf (now (operations .entry)) pass) event) r (now (operations .exit)) ⌝ }
+    ensures { λ r. ⌜ Steps pass (word (namesOf (now (names .entry)) (now (arities .entry)) scope) (metIn (now (variables .entry)) known) (passOf (now (operations .entry)) pass) event) r (now (operations .exit)) ⌝ }
 {
     match event {
         Event::Name(key) => read_term(
@@ -397,7 +470,7 @@ fn read_word(
             read_term(
                 operations,
                 pass,
-                variable_number(variables, count, binding, key),
+                variable_number(variables, known.variables, binding, key),
             )
         }
         Event::Parameter(key) => read_term(
@@ -405,6 +478,14 @@ fn read_word(
             pass,
             parameter_number(names, scope.parameters, key),
         ),
+        Event::Minimum(key) => {
+            let binding = scope.binding;
+            read_term(
+                operations,
+                pass,
+                minimum_number(variables, known.minimums, binding, key),
+            )
+        }
         Event::Number(value) => read_number(operations, pass, value),
         Event::Equal => Stepped::Done(begin(
             operations,
@@ -426,6 +507,7 @@ fn is_end(event: Event) -> bool
         Event::Name(_) => false,
         Event::Variable(_) => false,
         Event::Parameter(_) => false,
+        Event::Minimum(_) => false,
         Event::Number(_) => false,
         Event::Equal => false,
         Event::Holds(_, _) => false,
@@ -434,14 +516,17 @@ fn is_end(event: Event) -> bool
     }
 }
 
-// The answer after all words.
-fn finish(count: usize, operations: usize) -> Read
-    ensures { λ r. ⌜ r ≡ readAnswer count operations ⌝ }
+// The answer after all words: each kind of variables has a limit of its own.
+fn finish(known: Known, operations: usize) -> Read
+    ensures { λ r. ⌜ r ≡ readAnswer known operations ⌝ }
 {
-    if VARIABLES < count {
+    if VARIABLES < known.variables {
         return Read::Refused(Refusal::Variables);
     }
-    Read::Done(operations, count)
+    if VARIABLES < known.minimums {
+        return Read::Refused(Refusal::Variables);
+    }
+    Read::Done(operations, known)
 }
 
 // A refusal handed up.
@@ -454,9 +539,9 @@ fn refused(stepped: Stepped) -> Read
     }
 }
 
-// The words of a line from the place `at` on, `known` variables in the table before them: the operations of its diagram and the
+// The words of a line from the place `at` on, so many variables in the table before them: the operations of its diagram and the
 // variables, or the first fault.
-pub fn read_words(
+fn read_all(
     line: &[u8],
     at: usize,
     names: &[u64],
@@ -464,13 +549,13 @@ pub fn read_words(
     variables: &mut [u64],
     operations: &mut [u64],
     scope: Scope,
-    known: usize,
+    first: Known,
 ) -> Read
-    requires { ⌜ Readable (now line) at (now names) (now arities) (now variables) (now operations) scope known ⌝ }
-    ensures { λ r. ⌜ Reads (reading (namesOf (now (names .entry)) (now (arities .entry)) scope) (eventsOf (drop at (now (line .entry)))) (keysAt (now (variables .entry)) 0 known)) r (now (variables .exit)) (now (operations .exit)) ⌝ }
+    requires { ⌜ Readable (now line) at (now names) (now arities) (now variables) (now operations) scope first ⌝ }
+    ensures { λ r. ⌜ Reads (reading (namesOf (now (names .entry)) (now (arities .entry)) scope) (eventsOf (drop at (now (line .entry)))) (metIn (now (variables .entry)) first)) r (now (variables .exit)) (now (operations .exit)) ⌝ }
 {
     let mut place = at;
-    let mut count = known;
+    let mut known = first;
     let mut pass = Progress {
         label: Label { packed: 0 },
         filled: 0,
@@ -481,17 +566,17 @@ pub fn read_words(
         let next = events::next_event(line, place);
         let event = next.event;
         if is_end(event) {
-            return finish(count, pass.operations);
+            return finish(known, pass.operations);
         }
         let binding = scope.binding;
-        count = meet_word(variables, count, binding, event);
+        known = meet_word(variables, known, binding, event);
         let stepped = read_word(
             names,
             arities,
             variables,
             operations,
             scope,
-            count,
+            known,
             pass,
             event,
         );
@@ -501,7 +586,37 @@ pub fn read_words(
         pass = then;
         place = next.place;
     }
-    finish(count, pass.operations)
+    finish(known, pass.operations)
+}
+
+// The same, `known` arguments in the table before the words.
+pub fn read_words(
+    line: &[u8],
+    at: usize,
+    names: &[u64],
+    arities: &[u64],
+    variables: &mut [u64],
+    operations: &mut [u64],
+    scope: Scope,
+    known: usize,
+) -> Read
+    requires { ⌜ Readable (now line) at (now names) (now arities) (now variables) (now operations) scope (argumentCount known) ⌝ }
+    ensures { λ r. ⌜ Reads (reading (namesOf (now (names .entry)) (now (arities .entry)) scope) (eventsOf (drop at (now (line .entry)))) (arguments (keysAt (now (variables .entry)) 0 known))) r (now (variables .exit)) (now (operations .exit)) ⌝ }
+{
+    let first = Known {
+        variables: known,
+        minimums: 0,
+    };
+    read_all(
+        line,
+        at,
+        names,
+        arities,
+        variables,
+        operations,
+        scope,
+        first,
+    )
 }
 
 fn opening_of(event: Event) -> Opening
@@ -511,6 +626,7 @@ fn opening_of(event: Event) -> Opening
         Event::Name(_) => Opening::Other,
         Event::Variable(_) => Opening::Other,
         Event::Parameter(_) => Opening::Other,
+        Event::Minimum(_) => Opening::Other,
         Event::Number(_) => Opening::Other,
         Event::Equal => Opening::Other,
         Event::Holds(key, count) => Opening::Atom(key, count),
@@ -526,6 +642,7 @@ fn argument_of(event: Event) -> Argument
         Event::Name(_) => Argument::Other,
         Event::Variable(key) => Argument::Named(key),
         Event::Parameter(_) => Argument::Other,
+        Event::Minimum(_) => Argument::Other,
         Event::Number(_) => Argument::Other,
         Event::Equal => Argument::Other,
         Event::Holds(_, _) => Argument::Other,
@@ -678,7 +795,7 @@ fn ordered(x: Key, n: u64, y: Key, m: u64) -> Pair
     }
 }
 
-// A variable with its N joins the table by ascending N, each greater one moved up by one place: how many there are then.
+// A variable with its N joins its part of the table by ascending N, each greater one moved up by one place: how many there are then.
 fn insert(variables: &mut [u64], count: usize, key: Key, number: u64) -> usize
     requires { ⌜ Insertable (now variables) count key number ⌝ }
     ensures { λ r. ⌜ Meets (moved key (keysAt (now (variables .entry)) 0 count)) r (now (variables .exit)) ⌝ }
@@ -703,9 +820,9 @@ fn insert(variables: &mut [u64], count: usize, key: Key, number: u64) -> usize
     count + 1
 }
 
-// A variable joins the table by ascending N, if it is written so and there is room.
+// A variable joins its part of the table by ascending N, if it is written so and there is room.
 fn gather(variables: &mut [u64], count: usize, key: Key) -> Gathered
-    requires { ⌜ Variables (now variables) count ⌝ }
+    requires { ⌜ Part (now variables) count ⌝ }
     ensures { λ r. ⌜ Gathers (keysAt (now (variables .entry)) 0 count) (key ∷ []) r (now (variables .exit)) ⌝ }
 {
     let Numbered::Number(n) = number_of(key) else {
@@ -719,7 +836,7 @@ fn gather(variables: &mut [u64], count: usize, key: Key) -> Gathered
 
 // The variable of a word, if it is one.
 fn gather_word(variables: &mut [u64], count: usize, word: Argument) -> Gathered
-    requires { ⌜ Variables (now variables) count ⌝ }
+    requires { ⌜ Part (now variables) count ⌝ }
     ensures { λ r. ⌜ Gathers (keysAt (now (variables .entry)) 0 count) (wordKeys word) r (now (variables .exit)) ⌝ }
 {
     match word {
@@ -728,11 +845,39 @@ fn gather_word(variables: &mut [u64], count: usize, word: Argument) -> Gathered
     }
 }
 
-// The variables of the words from the place `at` on into the table, by ascending N: how many; none where one is not written so.
-fn number_variables(line: &[u8], at: usize, variables: &mut [u64]) -> usize
+// %name
+fn minimum_of(event: Event) -> Argument
+    ensures { λ r. ⌜ r ≡ minimumOf event ⌝ }
+{
+    match event {
+        Event::Name(_) => Argument::Other,
+        Event::Variable(_) => Argument::Other,
+        Event::Parameter(_) => Argument::Other,
+        Event::Minimum(key) => Argument::Named(key),
+        Event::Number(_) => Argument::Other,
+        Event::Equal => Argument::Other,
+        Event::Holds(_, _) => Argument::Other,
+        Event::Step => Argument::Other,
+        Event::End => Argument::Other,
+    }
+}
+
+// A variable of the kind.
+fn variable_of(kind: Kind, event: Event) -> Argument
+    ensures { λ r. ⌜ r ≡ variableOf kind event ⌝ }
+{
+    match kind {
+        Kind::Maximum => argument_of(event),
+        Kind::Minimum => minimum_of(event),
+    }
+}
+
+// The variables of the kind among the words from the place `at` on into its part of the table, by ascending N: how many; none where one is
+// not written so.
+fn number_variables(line: &[u8], at: usize, variables: &mut [u64], kind: Kind) -> usize
     requires { ⌜ at ≤ length (now line) ⌝ }
-    requires { ⌜ Variables (now variables) 0 ⌝ }
-    ensures { λ r. ⌜ Meets (keptFirst [] (variableKeys (eventsOf (drop at (now (line .entry)))))) r (now (variables .exit)) ⌝ }
+    requires { ⌜ Part (now variables) 0 ⌝ }
+    ensures { λ r. ⌜ Meets (keptFirst [] (keysOf kind (eventsOf (drop at (now (line .entry)))))) r (now (variables .exit)) ⌝ }
 {
     let mut place = at;
     let mut count = 0;
@@ -742,7 +887,7 @@ fn number_variables(line: &[u8], at: usize, variables: &mut [u64]) -> usize
         if is_end(event) {
             return count;
         }
-        let word = argument_of(event);
+        let word = variable_of(kind, event);
         let gathered = gather_word(variables, count, word);
         let Gathered::Count(n) = gathered else {
             return 0;
@@ -753,7 +898,21 @@ fn number_variables(line: &[u8], at: usize, variables: &mut [u64]) -> usize
     count
 }
 
-// The words of a reward from the place `at` on, as `read_words` does, its variables by ascending N where each is written so.
+// The variables of the words of a reward from the place `at` on that have their number before these are read, kind by kind.
+fn number_kinds(line: &[u8], at: usize, variables: &mut [u64]) -> Known
+    requires { ⌜ at ≤ length (now line) ⌝ }
+    requires { ⌜ Variables (now variables) (argumentCount 0) ⌝ }
+    ensures { λ r. ⌜ MeetsWord (keptMet (eventsOf (drop at (now (line .entry))))) r (now (variables .exit)) ⌝ }
+{
+    let maximums = number_variables(line, at, &mut variables[..PART_WORDS], Kind::Maximum);
+    let minimums = number_variables(line, at, &mut variables[PART_WORDS..], Kind::Minimum);
+    Known {
+        variables: maximums,
+        minimums: minimums,
+    }
+}
+
+// The words of a reward from the place `at` on, its variables, kind by kind, by ascending N where each is written so.
 pub fn read_reward(
     line: &[u8],
     at: usize,
@@ -763,12 +922,12 @@ pub fn read_reward(
     operations: &mut [u64],
     scope: Scope,
 ) -> Read
-    requires { ⌜ Readable (now line) at (now names) (now arities) (now variables) (now operations) scope 0 ⌝ }
+    requires { ⌜ Readable (now line) at (now names) (now arities) (now variables) (now operations) scope (argumentCount 0) ⌝ }
     requires { ⌜ scope .binding ≡ Any ⌝ }
     ensures { λ r. ⌜ Reads (rewardReading (namesOf (now (names .entry)) (now (arities .entry)) scope) (eventsOf (drop at (now (line .entry))))) r (now (variables .exit)) (now (operations .exit)) ⌝ }
 {
-    let known = number_variables(line, at, variables);
-    read_words(
+    let first = number_kinds(line, at, variables);
+    read_all(
         line,
         at,
         names,
@@ -776,6 +935,6 @@ pub fn read_reward(
         variables,
         operations,
         scope,
-        known,
+        first,
     )
 }

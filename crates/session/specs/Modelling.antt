@@ -23,7 +23,7 @@ use Rattle.events.specs.Events.{wordsEvents}
 use Rattle.events.specs.declared.Event.{Event}
 use Rattle.reading.specs.declared.Binding.{Binding}
 use Rattle.reading.specs.declared.Binding.the-variants.{Any, None, Only}
-use Rattle.reading.specs.Reading.{Names as ReadingNames, Judged, Written, reading}
+use Rattle.reading.specs.Reading.{Names as ReadingNames, Judged, Written, arguments, reading}
 use Rattle.reading.specs.Reading.Judged.{fine, refused as judged}
 use Rattle.reading.specs.Numbering.{rewardReading}
 use Rattle.reading.specs.Head.{Head, headNumber, headArguments}
@@ -130,7 +130,7 @@ unfoldable pub weightRead : Names → List ℕ → ℕ → Key → List Event �
 unfolding isAmong reading built rows
 weightRead n ar r k es =
     refuseIf (isAmong k (n .variants)) Name
-    (andThen (outcomeOf (reading (namesFor n ar None (n .parameters)) es [])) (λ w.
+    (andThen (outcomeOf (reading (namesFor n ar None (n .parameters)) es (arguments []))) (λ w.
     andThen (built (w .operations)) (λ d.
     refuseIf (leb mostVariants (length (n .variants)) || ltb mostModelRows (rowsWith r d)) Space
     (ok d))))
@@ -201,7 +201,7 @@ truthRead n ar truths r es =
     andThen (outcomeOf (headNumber (n .predicates) es)) (λ p.
     refuseIf (isSome (truths p)) Name
     (andThen (outcomeOf (headArguments (getD ar p 0) es)) (λ h.
-    andThen (outcomeOf (reading (namesFor n ar Only (n .parameters)) (h .rest) (h .variables))) (λ w.
+    andThen (outcomeOf (reading (namesFor n ar Only (n .parameters)) (h .rest) (arguments (h .variables)))) (λ w.
     andThen (built (w .operations)) (λ d.
     refuseIf (leafAbove 1 d) Truth
     (refuseIf (ltb mostModelRows (rowsWith r d)) Space

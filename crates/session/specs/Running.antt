@@ -62,7 +62,8 @@ unfoldable pub stateIn : List ℕ → Live → State
 unfolding stateOf
 stateIn ar l = stateOf ar (l .objects) (l .constants) (l .facts)
 
--- the number of the value diagram (document 02, L12); 15 if the valuations are above 1,000,000 and the entries of the tables above 8,192 (L6)
+-- the number of the value diagram (document 02, L12); 15 if the valuations are above 1,000,000, and there is a minimum variable or the entries of
+-- the tables are above 8,192 (L6)
 unfoldable pub valueRead : List ℕ → Live → Diagram → Outcome ℕ
 unfolding isTooLarge number meaning stateIn
 valueRead ar l d =

@@ -1,8 +1,7 @@
 use Rattle.diagram_lines.proofs.RewardLaws.{reward-drawable, reward-reads}
-use Prim.Native.Nat.{_+_, _*_}
 use mathlib.Core.Path.{refl}
 use lib.Dec.{lit≤}
-use Rattle.label.specs.Limits.{variableCount}
+use Rattle.reading.specs.Callers.{variableWords}
 use borrow.Author.Needs.{needs}
 use Rattle.diagram_lines.proofs.read_reward.Statement.{statement}
 use Rattle.diagram_lines.proofs.read_reward.Tie as tie
@@ -11,7 +10,7 @@ draw-closed-requires : tie.Need-draw-closed-requires
 draw-closed-requires c κs =
     let first = c .before .before .before in
     let start = first .before .before .before .before .before .before in
-    (reward-drawable (start .pre .0) ((variableCount + 1) * 2) (lit≤ tt) (first .first-word .ensures) (start .pre .1), refl)
+    (reward-drawable (start .pre .0) variableWords (lit≤ tt) (first .first-word .ensures) (start .pre .1), refl)
 
 returns : tie.Need-returns
 returns c =

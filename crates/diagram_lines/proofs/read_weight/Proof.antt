@@ -1,7 +1,6 @@
 use Rattle.diagram_lines.proofs.VariantLaws.{weight-known, weight-drawable, weight-reads}
-use Prim.Native.Nat.{_+_, _*_}
 use lib.Dec.{lit≤}
-use Rattle.label.specs.Limits.{variableCount}
+use Rattle.reading.specs.Callers.{variableWords}
 use borrow.Author.Needs.{needs}
 use Rattle.diagram_lines.proofs.read_weight.Statement.{statement}
 use Rattle.diagram_lines.proofs.read_weight.Tie as tie
@@ -14,7 +13,7 @@ returns c =
 draw-requires : tie.Need-draw-requires
 draw-requires c κs =
     let f = c .before .before .before .before .before .before .before .before .before .before .before .before in
-    weight-drawable (f .pre .0) ((variableCount + 1) * 2) (lit≤ tt) (f .pre .1 .0) (f .pre .1 .1)
+    weight-drawable (f .pre .0) variableWords (lit≤ tt) (f .pre .1 .0) (f .pre .1 .1)
 
 returns-2 : tie.Need-returns-2
 returns-2 c =

@@ -29,4 +29,5 @@ returns-2 c =
 pub draw-in-spec : {M : Type 1} → statement M
 draw-in-spec =
     tie.close
-    (tie.spec (λ c κs. search needs) (λ c. search needs) build-to-requires (λ c. search needs) (λ c. search needs) (λ c. search needs) (λ c. search needs) (λ c. search needs) returns (λ c. search needs) (λ c. search needs) returns-2)
+    (tie.spec (λ c κs. search needs) (λ c. search needs) build-to-requires (λ c. search needs) (λ c. search needs) (λ c. search needs) (λ c. search needs)
+    (λ c. search needs) returns (λ c. search needs) (λ c. search needs) returns-2)

@@ -7,10 +7,10 @@ use Rattle.reading.proofs.number_variables.Statement.{statement}
 use Rattle.reading.proofs.number_variables.Tie as tie
 
 abbrev Inv-loop : tie.InvT-loop
-Inv-loop line at variables₀ place₀ count₀ variables place count = Gathering line at variables₀ variables place count
+Inv-loop line at variables₀ kind place₀ count₀ variables place count = Gathering line at variables₀ kind variables place count
 
 abbrev μ-loop : tie.MeasureT-loop
-μ-loop line at variables₀ place₀ count₀ variables place count = length line - place
+μ-loop line at variables₀ kind place₀ count₀ variables place count = length line - place
 
 loop-holds : tie.Need-loop-holds Inv-loop μ-loop
 loop-holds c = search gathering-start
@@ -33,5 +33,5 @@ returns-3 c = search gathering-over
 pub number-variables-spec : {M : Type 1} → statement M
 number-variables-spec =
     tie.close
-    (tie.spec Inv-loop μ-loop loop-holds (λ c κs. search needs) (λ c κs. search needs) (λ c. search needs) returns
-    (λ c κs. search needs) (λ c κs. search needs) (λ c. search needs) (λ c. search needs) (λ c. search needs) returns-2 loop-less loop-again (λ c. search needs) returns-3)
+    (tie.spec Inv-loop μ-loop loop-holds (λ c κs. search needs) (λ c κs. search needs) (λ c. search needs) returns (λ c κs. search needs)
+    (λ c κs. search needs) (λ c. search needs) (λ c. search needs) (λ c. search needs) returns-2 loop-less loop-again (λ c. search needs) returns-3)

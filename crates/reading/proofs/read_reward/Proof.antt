@@ -8,4 +8,6 @@ returns : tie.Need-returns
 returns c = search reward-reads
 
 pub read-reward-spec : {M : Type 1} → statement M
-read-reward-spec = tie.close (tie.spec (λ c κs. search needs) (λ c κs. search needs) (λ c. search needs) (λ c. search needs) returns)
+read-reward-spec =
+    tie.close
+    (tie.spec (λ c κs. search needs) (λ c κs. search needs) (λ c. search needs) (λ c. search needs) returns)
