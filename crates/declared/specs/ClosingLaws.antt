@@ -6,26 +6,27 @@ use mathlib.Core.List.{List}
 use Prim.Native.Nat.{ℕ, _+_, _≤_, _<_}
 use native.Mathlib.Omega.{arith}
 use lib.ListN.{length, getD}
-use lib.Dec.{eqb}
+use lib.Dec.{eqb, ltb}
 use borrow.Author.Tests.{ltb-false}
 use Rattle.basics.specs.Tests.{Cmp, below, equal, above, cmp}
 use Rattle.basics.specs.Members.{mem}
 use Rattle.refusal.specs.Outcome.{Accepted}
 use Rattle.refusal.specs.OutcomeLaws.{accepted-ok, accepted-refused}
-use Rattle.label.specs.Limits.{firstVariable, variableCount, termEnd}
+use Rattle.label.specs.Limits.{firstVariable, variableCount, firstMinimum, minimumCount, termEnd}
 use Rattle.label.specs.Terms.{isTerm}
 use Rattle.label.specs.Labels.{areArities, isLabel, predicateOf, unpacked, termsOf}
 use Rattle.label.specs.LabelLaws.{term-below}
 use Rattle.label.specs.Renamings.{mapped, renamed, numbering, Increasing, EachIn}
-use Rattle.label.specs.RenamingLaws.{renamed-atom, renamed-label, renamed-terms, Numbered, numbering-low, numbering-high, numbering-increasing}
+use Rattle.label.specs.RenamingLaws.{renamed-atom, renamed-label, renamed-terms, Numbered, numbering-low, numbering-variable, numbering-minimum, numbering-increasing}
 use Rattle.label.specs.declared.Atom.{Atom}
 use Rattle.diagram.specs.Diagram.{Diagram, leaf, branch, same, relabel}
-use Rattle.diagram.specs.Variables.{occurs, variables, closedFrom, closed, after}
+use Rattle.diagram.specs.Variables.{occurs, variables, minimums, closedFrom, closed, after}
 use Rattle.diagram.specs.Rows.{rows}
 use Rattle.diagram.specs.RowLists.{rowTree}
-use Rattle.rename.specs.Relabelling.{Labels, Terms}
+use Rattle.rename.specs.Relabelling.{Labels, Terms, KindsFit}
 use Rattle.rename.specs.TermLaws.{label-terms}
-use Rattle.rename.specs.VariableLaws.{occurs-terms, terms-each-occurs, occurs-variable, variables-few}
+use Rattle.rename.specs.VariableLaws.{occurs-terms, terms-each-occurs, occurs-variable, variables-few, occurs-minimum, minimums-few}
+use Rattle.rename.specs.ClosingLaws.{after-fit}
 use Rattle.apply.specs.declared.Operation.{Operation}
 use Rattle.apply.specs.declared.Names.{Names}
 use Rattle.apply.specs.declared.Names.the-variants.{Apart, Shared}
@@ -33,7 +34,7 @@ use Rattle.apply.specs.declared.Combined.{Combined}
 use Rattle.apply.specs.declared.Combined.the-variants.{Done, Refused}
 use Rattle.apply.specs.Apply.{apply}
 use Rattle.apply.specs.GoodLaws.{EveryLabel, every-apply}
-use Rattle.apply.specs.Combination.{operate, combination, diagramAnswer, tooMany}
+use Rattle.apply.specs.Combination.{operate, combination, diagramAnswer, doneAs, tooMany}
 use Rattle.apply.specs.CombinationLaws.{done-accepted}
 use Rattle.state.specs.State.{atomOf}
 use Rattle.state.specs.Terms.{Each, args}
@@ -44,6 +45,7 @@ use Rattle.reduction.specs.Combinations.{winners}
 use Rattle.reduction.specs.Reduction.{isOn, keeping, reducedDiagram}
 use Rattle.reduction.specs.KeepingLaws.{keeping-every, reduced-every}
 use Rattle.mdp.specs.Backup.{given, combined}
+use Rattle.model_laws.specs.OutcomeLaws.{neither}
 use Rattle.declared.specs.Proper.{Proper, AllProper}
 
 -- ===== Labels one by one =====
@@ -110,36 +112,55 @@ module _ (ar : List ℕ) (good : areArities ar ≡ true) (p : ℕ) (P Q R : ℕ 
 -- ===== Closing up =====
 
 module _ (ar : List ℕ) (good : areArities ar ≡ true) (p : ℕ) (P : ℕ → Type 0) (free : (t : ℕ) → firstVariable ≤ t → P t) where
-  numbered : (d : Diagram) → AllProper ar p P d → Terms ar (Numbered (variables ar d)) d
-  numbered d w = terms-each-occurs ar (Numbered (variables ar d)) d (λ t o.
-      let e = proper-term ar p P d w t o .0 in
-      (e, place t o (term-below t e) (cmp t firstVariable)))
+  numbered : (d : Diagram) → AllProper ar p P d → Terms ar (Numbered (variables ar d) (minimums ar d)) d
+  numbered d w = terms-each-occurs ar (Numbered (variables ar d) (minimums ar d)) d (λ t o. let e = proper-term ar p P d w t o .0 in (e, place t o (term-below t e) (cmp t firstVariable)))
     where
-      place : (t : ℕ) → occurs ar t d ≡ true → t < termEnd → Cmp t firstVariable → (t < firstVariable) ⊎ (mem eqb t (variables ar d) ≡ true)
+      Kind : ℕ → Type 0
+      Kind t = ((t < firstMinimum) × (mem eqb t (variables ar d) ≡ true)) ⊎ ((firstMinimum ≤ t) × (mem eqb t (minimums ar d) ≡ true))
+
+      high : (t : ℕ) → occurs ar t d ≡ true → t < termEnd → firstVariable ≤ t → Cmp t firstMinimum → Kind t
+      high t o b h (below k) = inl (k, occurs-variable ar d t o h k)
+      high t o b h (equal k) = inr (omega arith, occurs-minimum ar d t o (omega arith) b)
+      high t o b h (above k) = inr (omega arith, occurs-minimum ar d t o (omega arith) b)
+
+      place : (t : ℕ) → occurs ar t d ≡ true → t < termEnd → Cmp t firstVariable → (t < firstVariable) ⊎ Kind t
       place t o b (below h) = inl h
-      place t o b (equal h) = inr (occurs-variable ar d t o (omega arith) b)
-      place t o b (above h) = inr (occurs-variable ar d t o (omega arith) b)
+      place t o b (equal h) = inr (high t o b (omega arith) (cmp t firstMinimum))
+      place t o b (above h) = inr (high t o b (omega arith) (cmp t firstMinimum))
 
-  numbering-in : (vs : List ℕ) (m : ℕ) → firstVariable ≤ m → (t : ℕ) → P t → P (numbering vs m t)
-  numbering-in vs m low t h = go (cmp t firstVariable)
+  numbering-in : (us vs : List ℕ) (m n : ℕ) → firstVariable ≤ m → firstMinimum ≤ n → (t : ℕ) → P t → P (numbering us vs m n t)
+  numbering-in us vs m n from least t h = go (cmp t firstVariable) (cmp t firstMinimum)
     where
-      high : firstVariable ≤ t → P (numbering vs m t)
-      high k = subst P (sym (numbering-high vs m t k)) (free _ (omega arith))
+      last : firstMinimum ≤ t → P (numbering us vs m n t)
+      last k = subst P (sym (numbering-minimum us vs m n t k)) (free _ (omega arith))
 
-      go : Cmp t firstVariable → P (numbering vs m t)
-      go (below k) = subst P (sym (numbering-low vs m t k)) h
-      go (equal k) = high (omega arith)
-      go (above k) = high (omega arith)
+      high : firstVariable ≤ t → Cmp t firstMinimum → P (numbering us vs m n t)
+      high k (below l) = subst P (sym (numbering-variable us vs m n t k l)) (free _ (omega arith))
+      high k (equal l) = last (omega arith)
+      high k (above l) = last (omega arith)
 
-  closedFrom-proper : (m : ℕ) (d : Diagram) → firstVariable ≤ m → m + length (variables ar d) ≤ termEnd → AllProper ar p P d → AllProper ar p P (closedFrom ar m d)
+      go : Cmp t firstVariable → Cmp t firstMinimum → P (numbering us vs m n t)
+      go (below k) l = subst P (sym (numbering-low us vs m n t k)) h
+      go (equal k) l = high (omega arith) l
+      go (above k) l = high (omega arith) l
+
+  closedFrom-proper : (m n : ℕ) (d : Diagram) → KindsFit ar m n d → AllProper ar p P d → AllProper ar p P (closedFrom ar m n d)
   unfolding closedFrom
-  closedFrom-proper m d low room w =
-      proper-renamed ar good p P P (Numbered (variables ar d)) (numbering (variables ar d) m) (numbering-increasing (variables ar d) m low room)
-      (numbering-in (variables ar d) m low) d (numbered d w) w
+  closedFrom-proper m n d fit w =
+      let us = variables ar d in
+      let vs = minimums ar d in
+      proper-renamed ar good p P P (Numbered us vs) (numbering us vs m n)
+      (numbering-increasing us vs m n (fit .variables-from) (fit .variables-end) (fit .minimums-from) (fit .minimums-end))
+      (numbering-in us vs m n (fit .variables-from) (fit .minimums-from)) d (numbered d w) w
 
   pub closed-proper : (d : Diagram) → AllProper ar p P d → AllProper ar p P (closed ar d)
   unfolding closed
-  closed-proper d w = closedFrom-proper firstVariable d (omega arith) (omega (arith, variables-few ar d)) w
+  closed-proper d w = closedFrom-proper firstVariable firstMinimum d (record {
+    variables-from = omega arith;
+    variables-end = omega (arith, variables-few ar d);
+    minimums-from = omega arith;
+    minimums-end = omega (arith, minimums-few ar d);
+  }) w
 
   -- ===== Combination =====
 
@@ -148,18 +169,21 @@ module _ (ar : List ℕ) (good : areArities ar ≡ true) (p : ℕ) (P : ℕ → 
   unfolding combination after
   combination-proper op Shared a b e x y = every-apply (operate op) (Proper ar p P) a b x y
   combination-proper op Apart a b e x y =
-      let room = ltb-false variableCount (length (variables ar a) + length (variables ar b)) e in
+      let v = length (variables ar a) + length (variables ar b) in
+      let u = length (minimums ar a) + length (minimums ar b) in
+      let few = neither (ltb variableCount v) (ltb minimumCount u) e in
       closed-proper (apply (operate op) (closed ar a) (after ar a b))
       (every-apply (operate op) (Proper ar p P) (closed ar a) (after ar a b) (closed-proper a x)
-      (closedFrom-proper (firstVariable + length (variables ar a)) b (omega arith) (omega arith) y))
+      (closedFrom-proper (firstVariable + length (variables ar a)) (firstMinimum + length (minimums ar a)) b
+      (after-fit ar a b (ltb-false variableCount v (few .0)) (ltb-false minimumCount u (few .1))) y))
 
   pub combined-proper : (op : Operation) (names : Names) (a b : Diagram) → AllProper ar p P a → AllProper ar p P b → Accepted (AllProper ar p P) (combined op names ar a b)
   unfolding combined
-  combined-proper op names a b x y = go (diagramAnswer op names ar a b) refl
+  combined-proper op names a b x y = go (doneAs op names ar a b) (diagramAnswer op (doneAs op names ar a b) ar a b) refl
     where
-      go : (o : Combined) → diagramAnswer op names ar a b ≡ o → Accepted (AllProper ar p P) (given o (combination op names ar a b))
-      go (Done n m) e = accepted-ok (combination-proper op names a b (done-accepted op names ar a b n m e .variables) x y)
-      go (Refused r) e = accepted-refused
+      go : (done : Names) (o : Combined) → diagramAnswer op done ar a b ≡ o → Accepted (AllProper ar p P) (given o (combination op done ar a b))
+      go done (Done n m) e = accepted-ok (combination-proper op done a b (done-accepted op done ar a b n m e .variables) x y)
+      go done (Refused r) e = accepted-refused
 
   -- ===== Edges that go: cuts and reductions =====
 

@@ -40,10 +40,9 @@ use Rattle.mdp.specs.Backup.{backup}
 use Rattle.mdp.specs.Runs.{Held, begin}
 use Rattle.reading.specs.declared.Binding.{Binding}
 use Rattle.reading.specs.declared.Binding.the-variants.{Any, None, Only}
-use Rattle.reading.specs.Reading.{Written, reading}
+use Rattle.reading.specs.Reading.{Written, arguments, reading}
 use Rattle.reading.specs.Reading.Judged.{fine}
-use Rattle.reading.specs.Occurrences.{variableKeys}
-use Rattle.reading.specs.Numbering.{variablesFirst, rewardReading}
+use Rattle.reading.specs.Numbering.{metFirst, rewardReading}
 use Rattle.reading.specs.Head.{headNumber, headArguments}
 use Rattle.reading.specs.Tree.{NamesFit}
 use Rattle.build.specs.Machine.{mostTests, built, builtClosed}
@@ -172,7 +171,7 @@ module _ (σ : Session) (h : DeclaredSession σ) where
     reward-read : (r : ℕ) (d : T.Diagram) → T.brackets d ≤ mostTests → Accepted Named (rewardRead (σ .names) (σ .model .arities) r (diagramEvents d))
     unfolding rewardRead rewardReading
     reward-read r d shallow =
-        let vs = variablesFirst (variableKeys (diagramEvents d)) in
+        let vs = metFirst (diagramEvents d) in
         accepted-read (reading (namesFor (σ .names) (σ .model .arities) Any []) (diagramEvents d) vs) _ (λ w e.
         accepted-next (builtClosed (σ .model .arities) (w .operations)) _ (λ x m.
         accepted-cond (ltb mostModelRows (rowsWith r x)) Space _ (λ few.
@@ -182,11 +181,11 @@ module _ (σ : Session) (h : DeclaredSession σ) where
     unfolding weightRead
     weight-read r k d shallow =
         accepted-cond (isAmong k (σ .names .variants)) Name _ (λ new.
-        accepted-read (reading (namesFor (σ .names) (σ .model .arities) None (σ .names .parameters)) (diagramEvents d) []) _ (λ w e.
+        accepted-read (reading (namesFor (σ .names) (σ .model .arities) None (σ .names .parameters)) (diagramEvents d) (arguments [])) _ (λ w e.
         accepted-next (built (w .operations)) _ (λ x m.
         accepted-cond (leb mostVariants (length (σ .names .variants)) || ltb mostModelRows (rowsWith r x)) Space _ (λ few.
         accepted-ok
-        (text-declares (namesFor (σ .names) (σ .model .arities) None (σ .names .parameters)) (names-fit None (σ .names .parameters) (good .parameters)) d shallow [] w e x m)))))
+        (text-declares (namesFor (σ .names) (σ .model .arities) None (σ .names .parameters)) (names-fit None (σ .names .parameters) (good .parameters)) d shallow (arguments []) w e x m)))))
 
     truth-read : (truths : Truths) (r : ℕ) (n : List ℕ) (vs : List (List ℕ)) (d : T.Diagram) → T.brackets d ≤ mostTests
         → Accepted (λ (t : ℕ × Diagram). Named (t .1)) (truthRead (σ .names) (σ .model .arities) truths r (wordsEvents K.Becomes (n, vs, d)))
@@ -197,13 +196,13 @@ module _ (σ : Session) (h : DeclaredSession σ) where
         accepted-cond (isSome (truths q)) Name _ (λ new.
         accepted-read (headArguments (getD ar q 0) (wordsEvents K.Becomes (n, vs, d))) _ (λ a j.
         let y = head-headed (getD ar q 0) (keyOf n) vs (diagramEvents d) a j in
-        accepted-read (reading (namesFor (σ .names) ar Only (σ .names .parameters)) (a .rest) (a .variables)) _ (λ w e.
+        accepted-read (reading (namesFor (σ .names) ar Only (σ .names .parameters)) (a .rest) (arguments (a .variables))) _ (λ w e.
         accepted-next (built (w .operations)) _ (λ x m.
         accepted-cond (leafAbove 1 x) Truth _ (λ bits.
         accepted-cond (ltb mostModelRows (rowsWith r x)) Space _ (λ few.
-        let f = subst (λ (es : List Event). reading (namesFor (σ .names) ar Only (σ .names .parameters)) es (a .variables) ≡ fine w) (y .rest) e in
+        let f = subst (λ (es : List Event). reading (namesFor (σ .names) ar Only (σ .names .parameters)) es (arguments (a .variables)) ≡ fine w) (y .rest) e in
         accepted-ok
-        (text-declares (namesFor (σ .names) ar Only (σ .names .parameters)) (names-fit Only (σ .names .parameters) (good .parameters)) d shallow (a .variables) w f x m))))))))
+        (text-declares (namesFor (σ .names) ar Only (σ .names .parameters)) (names-fit Only (σ .names .parameters) (good .parameters)) d shallow (arguments (a .variables)) w f x m))))))))
 
     reward-line : (es : List Event) (d : T.Diagram) → T.brackets d ≤ mostTests → es ≡ diagramEvents d → (τ : Session) → rewardLine σ es ≡ ok τ → DeclaredSession τ
     unfolding rewardLine withReward

@@ -21,7 +21,7 @@ pub record Proper (ar : List ℕ) (p : ℕ) (P : ℕ → Type 0) (l : ℕ) : Typ
 abbrev pub AllProper : List ℕ → ℕ → (ℕ → Type 0) → Diagram → Type 0
 AllProper ar p P d = EveryLabel (Proper ar p P) d
 
--- one of the first c constants, one of the first k parameters, or a variable
+-- one of the first c constants, one of the first k parameters, or a variable of either kind
 pub record Known (c k t : ℕ) : Type 0 where
   pub constants : Constant c t
   pub parameters : Allowed k t

@@ -14,13 +14,12 @@ use Rattle.basics.specs.Members.{clash}
 use Rattle.refusal.specs.declared.Refusal.the-variants.{Variables}
 use Rattle.refusal.specs.Outcome.{Accepted}
 use Rattle.refusal.specs.OutcomeLaws.{accepted-ok, accepted-cond, accepted-mono}
-use Rattle.label.specs.Limits.{firstParameter, parameterCount, firstVariable, termEnd, predicateCount}
+use Rattle.label.specs.Limits.{firstParameter, parameterCount, firstVariable, firstMinimum, predicateCount}
 use Rattle.label.specs.Terms.{isTerm}
 use Rattle.label.specs.Labels.{areArities, isLabel, predicateOf, unpacked, termsOf}
-use Rattle.label.specs.LabelLaws.{term-below}
 use Rattle.label.specs.ArityLaws.{terms-length}
 use Rattle.label.specs.Renamings.{moved, freeing}
-use Rattle.label.specs.RenamingLaws.{Freed, freeing-constant, freeing-parameter, freeing-variable, freeing-increasing}
+use Rattle.label.specs.RenamingLaws.{Freed, freeing-constant, freeing-parameter, freeing-variable, freeing-minimum, freeing-increasing}
 use Rattle.label.specs.declared.Test.{Test}
 use Rattle.diagram.specs.Diagram.{Diagram, leaf, branch}
 use Rattle.diagram.specs.Variables.{occurs}
@@ -138,10 +137,13 @@ module _ (ar : List ℕ) (good : areArities ar ≡ true) (p : ℕ) where
         high : (u : ℕ) → firstVariable ≤ u → Known c 0 u
         high u q = record { constants = λ x. absurd (omega arith); parameters = λ x. q }
 
+        free : firstVariable ≤ t → Cmp t firstMinimum → Known c 0 (freeing k t)
+        free v (below r) = subst (Known c 0) (sym (freeing-variable k t (omega arith) v r)) (high _ (omega arith))
+        free v (equal r) = subst (Known c 0) (sym (freeing-minimum k t (omega arith) (omega arith))) (high t v)
+        free v (above r) = subst (Known c 0) (sym (freeing-minimum k t (omega arith) (omega arith))) (high t v)
+
         past : firstParameter + k ≤ t → Known c 0 (freeing k t)
-        past q =
-            let v = h .parameters q in
-            subst (Known c 0) (sym (freeing-variable k t (omega arith) v)) (high _ (omega arith))
+        past q = free (h .parameters q) (cmp t firstMinimum)
 
         inside : firstParameter ≤ t → t < firstParameter + k → Known c 0 (freeing k t)
         inside q r = subst (Known c 0) (sym (freeing-parameter k t q r)) (high _ (omega arith))
@@ -155,21 +157,21 @@ module _ (ar : List ℕ) (good : areArities ar ≡ true) (p : ℕ) where
         go (above q) (equal r) = past (omega arith)
         go (above q) (above r) = past (omega arith)
 
-    module _ (few : k ≤ parameterCount) (d : Diagram) (w : AllProper ar p (Known c k) d) (quiet : anyOccurs ar d (termEnd - k) k ≡ false) where
+    module _ (few : k ≤ parameterCount) (d : Diagram) (w : AllProper ar p (Known c k) d) (quiet : anyOccurs ar d (firstMinimum - k) k ≡ false) where
       freeable : (t : ℕ) → occurs ar t d ≡ true → Freed k t
       freeable t o =
           let x = proper-term ar p (Known c k) d w t o in
-          (x .0, place (term-below t (x .0)) (cmp t (firstParameter + k)) (cmp (t + k) termEnd))
+          (x .0, place (x .1) (cmp t (firstParameter + k)))
         where
-          room : t < termEnd → Cmp (t + k) termEnd → t + k < termEnd
+          room : t < firstMinimum → Cmp (t + k) firstMinimum → t + k < firstMinimum
           room b (below q) = q
-          room b (equal q) = clash o (any-quiet ar d (termEnd - k) k quiet t (omega arith) (omega arith))
-          room b (above q) = clash o (any-quiet ar d (termEnd - k) k quiet t (omega arith) (omega arith))
+          room b (equal q) = clash o (any-quiet ar d (firstMinimum - k) k quiet t (omega arith) (omega arith))
+          room b (above q) = clash o (any-quiet ar d (firstMinimum - k) k quiet t (omega arith) (omega arith))
 
-          place : t < termEnd → Cmp t (firstParameter + k) → Cmp (t + k) termEnd → (t < firstParameter + k) ⊎ ((firstVariable ≤ t) × (t + k < termEnd))
-          place b (below q) r = inl q
-          place b (equal q) r = inr (proper-term ar p (Known c k) d w t o .1 .parameters (omega arith), room b r)
-          place b (above q) r = inr (proper-term ar p (Known c k) d w t o .1 .parameters (omega arith), room b r)
+          place : Known c k t → Cmp t (firstParameter + k) → (t < firstParameter + k) ⊎ ((firstVariable ≤ t) × (t < firstMinimum → t + k < firstMinimum))
+          place x (below q) = inl q
+          place x (equal q) = inr (x .parameters (omega arith), λ b. room b (cmp (t + k) firstMinimum))
+          place x (above q) = inr (x .parameters (omega arith), λ b. room b (cmp (t + k) firstMinimum))
 
       freed-at : AllProper ar p (Known c 0) (freed ar k d)
       unfolding freed
@@ -179,4 +181,4 @@ module _ (ar : List ℕ) (good : areArities ar ≡ true) (p : ℕ) where
 
     pub freed-proper : k ≤ parameterCount → (d : Diagram) → AllProper ar p (Known c k) d → Accepted (AllProper ar p (Known c 0)) (freedOutcome ar k d)
     unfolding freedOutcome
-    freed-proper few d w = accepted-cond (anyOccurs ar d (termEnd - k) k) Variables _ (λ quiet. accepted-ok (freed-at few d w quiet))
+    freed-proper few d w = accepted-cond (anyOccurs ar d (firstMinimum - k) k) Variables _ (λ quiet. accepted-ok (freed-at few d w quiet))

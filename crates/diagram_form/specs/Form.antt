@@ -1,16 +1,16 @@
--- The form that a diagram is printed as, its bytes, and when 19 is given (document 02, L2).
+-- The form that a diagram is printed as, its bytes, and when 19 is given (document 02, L2; both kinds of variables, L12).
 use mathlib.Core.Bool.{Bool, cond, _||_}
 use mathlib.Core.List.{List, [], _∷_, map}
 use Prim.Native.Nat.{ℕ, suc, _+_, _-_, max}
 use lib.ListN.{length, getD}
 use lib.Dec.{eqb, ltb}
-use Rattle.label.specs.Limits.{firstVariable, equality}
+use Rattle.label.specs.Limits.{firstVariable, firstMinimum, equality}
 use Rattle.label.specs.Labels.{predicateOf, placeAt, unpacked, termsOf}
 use Rattle.diagram.specs.Diagram.{Diagram, leaf, branch}
 use Rattle.words.specs.Keys.{nameOf}
 use Rattle.words.specs.declared.Key.{Key}
 use Rattle.forms.specs.Tree as T
-use Rattle.forms.specs.Tree.Mark.{plain, variable}
+use Rattle.forms.specs.Tree.Mark.{plain, variable, minimum}
 use Rattle.forms.specs.Tree.Term.{term}
 use Rattle.forms.specs.Tree.Atom.{equal, holds}
 use Rattle.forms.specs.Tree.Diagram.{number as numeral, branch as conditional}
@@ -31,14 +31,17 @@ tablesOf cs ps = record { constants = map nameOf cs; predicates = map nameOf ps 
 
 -- ===== 'one nested form' =====
 
--- 'with variables ?v0, ?v1 and so on in their order': the name of variable i is v and i in decimal
+-- 'with variables ?v0, ?v1 and so on in their order': the name of variable i of a kind is v and i in decimal
 unfoldable pub variableName : ℕ → List ℕ
 variableName i = 118 ∷ digits i
 
--- a term: a constant by its name, a variable by its number. A value diagram has no parameter
+-- a term: a constant by its name, a variable by its number in its kind; minimum variables are written '%v0, %v1 and so on' (document 02, L12). A value diagram
+-- has no parameter
 unfoldable pub termTree : Tables → ℕ → T.Term
 unfolding variableName
-termTree n t = cond (ltb t firstVariable) (term plain (getD (n .constants) t [])) (term variable (variableName (t - firstVariable)))
+termTree n t =
+    cond (ltb t firstVariable) (term plain (getD (n .constants) t []))
+    (cond (ltb t firstMinimum) (term variable (variableName (t - firstVariable))) (term minimum (variableName (t - firstMinimum))))
 
 -- the test of a label: (= A B), the smaller term first as the label has it, or a predicate's name and its terms
 unfoldable pub atomTree : List ℕ → Tables → ℕ → T.Atom
@@ -63,9 +66,11 @@ rewardOf ar n d = line K.Reward (formTree ar n d)
 
 -- ===== 'New numbers: 19, the reward line made of the form would pass 4,095 bytes or 64 open brackets' =====
 
--- how many bytes: ?v and the digits of a variable
+-- how many bytes: ?v or %v, and the digits of a variable
 unfoldable pub termLength : Tables → ℕ → ℕ
-termLength n t = cond (ltb t firstVariable) (length (getD (n .constants) t [])) (2 + length (digits (t - firstVariable)))
+termLength n t =
+    cond (ltb t firstVariable) (length (getD (n .constants) t []))
+    (cond (ltb t firstMinimum) (2 + length (digits (t - firstVariable))) (2 + length (digits (t - firstMinimum))))
 
 -- terms, each with a space before it
 unfoldable pub termsLength : Tables → List ℕ → ℕ

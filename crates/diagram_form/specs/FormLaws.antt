@@ -2,34 +2,66 @@
 use mathlib.Core.Path.{_≡_, refl, sym, ap₂}
 use mathlib.Core.Bool.{Bool, true, false, cond, _||_}
 use mathlib.Core.List.{List, [], _∷_, _++_, map}
-use Prim.Native.Nat.{ℕ, _+_, _-_, _≤_}
+use Prim.Native.Nat.{ℕ, _+_, _-_, _≤_, _<_}
 use native.Mathlib.Omega.{arith}
 use lib.ListN.{length, getD, length-append}
 use lib.Dec.{eqb, ltb}
-use borrow.Author.Tests.{ltb-false}
-use Rattle.basics.specs.Tests.{Flag, isTrue, isFalse, flag, or-one, or-other}
+use borrow.Author.Tests.{ltb-false, lt-ltb, le-ltb}
+use Rattle.basics.specs.Tests.{Flag, isTrue, isFalse, flag, or-one, or-other, Cmp, below, equal, above, cmp}
 use Rattle.basics.specs.Members.{clash}
-use Rattle.label.specs.Limits.{firstVariable, equality}
+use Rattle.label.specs.Limits.{firstVariable, firstMinimum, equality}
 use Rattle.label.specs.Labels.{predicateOf, placeAt, unpacked, termsOf}
 use Rattle.diagram.specs.Diagram.{Diagram, leaf, branch}
 use Rattle.forms.specs.Tree as T
-use Rattle.forms.specs.Tree.Mark.{plain, variable}
+use Rattle.forms.specs.Tree.Mark.{plain, variable, minimum}
 use Rattle.forms.specs.Tree.Term.{term}
-use Rattle.forms.specs.Tree.Atom.{equal, holds}
+use Rattle.forms.specs.Tree.Atom.{equal as equality-of, holds}
 use Rattle.text.specs.declared.Kind.the-variants as K
 use Rattle.text.specs.Line as L
 use Rattle.text.specs.Line.{mostLineBytes, mostOpenBrackets}
 use Rattle.answers.specs.Digits.{digits}
 use Rattle.diagram_form.specs.Form.{Tables, variableName, termTree, atomTree, formTree, formBytes, rewardOf, termLength, termsLength, atomLength, formLength, openBrackets, isTooLong}
 
+-- a term, kind by kind: it is written as a constant, as a variable or as a minimum variable
+
+pub data Kinds (t : ℕ) : Type 0 where
+  constant : t < firstVariable → Kinds t
+  maximum : firstVariable ≤ t → t < firstMinimum → Kinds t
+  least : firstMinimum ≤ t → Kinds t
+
+pub kinds : (t : ℕ) → Kinds t
+kinds t = go (cmp t firstVariable) (cmp t firstMinimum)
+  where
+    go : Cmp t firstVariable → Cmp t firstMinimum → Kinds t
+    go (below h) k = constant h
+    go (equal h) k = maximum (omega arith) (omega arith)
+    go (above h) (below k) = maximum (omega arith) k
+    go (above h) (equal k) = least (omega arith)
+    go (above h) (above k) = least (omega arith)
+
+pub constant-tree : (n : Tables) (t : ℕ) → t < firstVariable → termTree n t ≡ term plain (getD (n .constants) t [])
+unfolding termTree
+constant-tree n t h = rw (lt-ltb t firstVariable h)
+
+pub variable-tree : (n : Tables) (t : ℕ) → firstVariable ≤ t → t < firstMinimum → termTree n t ≡ term variable (variableName (t - firstVariable))
+unfolding termTree
+variable-tree n t h k = rw (le-ltb t firstVariable h, lt-ltb t firstMinimum k)
+
+pub minimum-tree : (n : Tables) (t : ℕ) → firstMinimum ≤ t → termTree n t ≡ term minimum (variableName (t - firstMinimum))
+unfolding termTree
+minimum-tree n t h = rw (le-ltb t firstVariable (omega arith), le-ltb t firstMinimum h)
+
 term-length : (n : Tables) (t : ℕ) → length (T.termBytes (termTree n t)) ≡ termLength n t
 unfolding termTree termLength variableName
-term-length n t = go (ltb t firstVariable)
+term-length n t = go (ltb t firstVariable) (ltb t firstMinimum)
   where
-    go : (b : Bool) → length (T.termBytes (cond b (term plain (getD (n .constants) t [])) (term variable (118 ∷ digits (t - firstVariable)))))
-        ≡ cond b (length (getD (n .constants) t [])) (2 + length (digits (t - firstVariable)))
-    go true = refl
-    go false = omega arith
+    go : (b c : Bool)
+        → length (T.termBytes (cond b (term plain (getD (n .constants) t []))
+        (cond c (term variable (118 ∷ digits (t - firstVariable))) (term minimum (118 ∷ digits (t - firstMinimum))))))
+        ≡ cond b (length (getD (n .constants) t [])) (cond c (2 + length (digits (t - firstVariable))) (2 + length (digits (t - firstMinimum))))
+    go true c = refl
+    go false true = omega arith
+    go false false = omega arith
 
 terms-length : (n : Tables) (ts : List ℕ) → length (T.manyBytes T.termBytes (map (termTree n) ts)) ≡ termsLength n ts
 unfolding termsLength
@@ -53,7 +85,7 @@ atom-length ar n l = go (eqb (predicateOf l) equality)
     ts : List T.Term
     ts = map (termTree n) (termsOf ar (unpacked l))
 
-    go : (e : Bool) → length (T.atomBytes (cond e (equal a b) (holds p ts)))
+    go : (e : Bool) → length (T.atomBytes (cond e (equality-of a b) (holds p ts)))
         ≡ cond e (5 + termLength n (placeAt l 0) + termLength n (placeAt l 1)) (2 + length p + termsLength n (termsOf ar (unpacked l)))
     go true =
         omega (

@@ -9,6 +9,8 @@ use lib.ListN.{length, getD, length-map}
 use borrow.Author.Tests.{lt-ltb}
 use Rattle.basics.specs.Tests.{Flag, isTrue, isFalse, flag, or-other}
 use Rattle.label.specs.Limits.{variableCount}
+use Rattle.diagram.specs.Diagram.{Diagram}
+use Rattle.diagram.specs.Variables.{variables, minimums}
 use Rattle.rename.specs.Ascending.{consecutive}
 use Rattle.rename.specs.AscendingLaws.{length-consecutive}
 use Rattle.words.specs.Bytes.{isLetter, isDigit, isNameByte, run, decimal}
@@ -20,6 +22,8 @@ use Rattle.names.specs.Keys.{placeOf, isAmong}
 use Rattle.names.specs.KeyLaws.{same-refl, same-not}
 use Rattle.answers.specs.Digits.{digits}
 use Rattle.answers.specs.DigitLaws.{digits-one, digits-more, digits-read, digits-number}
+use Rattle.reading.specs.Reading.{Met}
+use Rattle.reading.specs.Tree.{Reach}
 use Rattle.diagram_form.specs.Form.{variableName}
 use Rattle.round_trip.specs.RoundTrip.{Different, AreNames}
 
@@ -101,3 +105,11 @@ firstKeys v = map keyOf (firstNames v)
 
 pub keys-length : (v : ℕ) → length (firstKeys v) ≡ v
 keys-length v = length-map (firstNames v) keyOf ∙ first-length v
+
+-- the first variables of each kind, so many
+abbrev pub firstMet : Reach → Met
+firstMet m = record { variables = firstKeys (m .variables); minimums = firstKeys (m .minimums) }
+
+-- how many variables of each kind d has
+abbrev pub counted : List ℕ → Diagram → Reach
+counted ar d = record { variables = length (variables ar d); minimums = length (minimums ar d) }

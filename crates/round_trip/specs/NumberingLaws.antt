@@ -1,27 +1,27 @@
--- The variables of a form, by ascending N: those of a closed diagram are the first ones in their order.
+-- The variables of a form, by ascending N: those of a closed diagram are the first of their kind in their order.
 use mathlib.Core.Path.{_≡_, refl, sym, ap, ap₂, _∙_, subst}
-use mathlib.Core.Bool.{Bool, true, false, cond, not, _||_}
+use mathlib.Core.Bool.{Bool, true, false, cond, not, _&&_, _||_}
 use mathlib.Core.List.{List, [], _∷_, _++_, map, append-nil, append-assoc}
 use Prim.Native.Nat.{ℕ, suc, _+_, _-_, _*_, _/_, _%_, _≤_, _<_}
 use native.Mathlib.Omega.{arith}
 use lib.ListN.{length, getD, take, drop}
 use lib.Seq.{take-length}
 use lib.Dec.{eqb, ltb}
-use borrow.Author.Tests.{ltb-true, ltb-false, lt-ltb, le-ltb, eqb-true, eq-eqb, ne-eqb}
+use borrow.Author.Tests.{ltb-true, ltb-false, lt-ltb, le-ltb, eqb-true, eq-eqb, ne-eqb, not-true}
 use Rattle.basics.specs.Tests.{Flag, isTrue, isFalse, flag, Either, one, other, either, or-one, or-other, and-left, and-right, Cmp, below, equal, above, cmp}
 use Rattle.basics.specs.Members.{mem, mem-append, clash}
-use Rattle.label.specs.Limits.{firstVariable, variableCount, equality}
+use Rattle.label.specs.Limits.{firstVariable, variableCount, firstMinimum, equality}
 use Rattle.label.specs.Labels.{areArities, predicateOf, placeAt, unpacked, termsOf}
 use Rattle.label.specs.ArityLaws.{arity-two}
 use Rattle.label.specs.LabelLaws.{term-below}
 use Rattle.diagram.specs.Diagram.{Diagram, leaf, branch}
 use Rattle.diagram.specs.Listing.{Good}
-use Rattle.diagram.specs.Variables.{occurs, variables, closed}
+use Rattle.diagram.specs.Variables.{occurs, variables, minimums, closed}
 use Rattle.rename.specs.Ascending as S
 use Rattle.rename.specs.Ascending.{Ascending, consecutive}
 use Rattle.rename.specs.AscendingLaws.{ascending-one, consecutive-ascending, in-consecutive, consecutive-in}
-use Rattle.rename.specs.ClosingLaws.{closed-variables}
-use Rattle.rename.specs.VariableLaws.{occurs-term, variable-occurs, occurs-variable, variables-few}
+use Rattle.rename.specs.ClosingLaws.{closed-variables, closed-minimums}
+use Rattle.rename.specs.VariableLaws.{occurs-term, variable-occurs, occurs-variable, variables-few, minimum-occurs, occurs-minimum, minimums-few}
 use Rattle.words.specs.Bytes.{isDigit, run, decimalFrom, decimal}
 use Rattle.words.specs.ByteLaws.{digit-range}
 use Rattle.words.specs.Words.{IsName, IsNumber, numberForm}
@@ -32,20 +32,19 @@ use Rattle.words.specs.declared.Key.{Key}
 use Rattle.words.specs.declared.Took.{Took}
 use Rattle.words.specs.declared.Took.the-variants.{Bytes, Refused}
 use Rattle.forms.specs.Tree as T
-use Rattle.forms.specs.Tree.Mark.{plain, variable}
+use Rattle.forms.specs.Tree.Mark.{plain, variable, minimum}
 use Rattle.forms.specs.Tree.Term.{term}
 use Rattle.forms.specs.Tree.Atom.{equal as equality-of, holds}
 use Rattle.events.specs.Events.{diagramEvents}
 use Rattle.answers.specs.Digits.{digits}
 use Rattle.answers.specs.DigitLaws.{digits-one, digits-more, digits-read, digits-number}
-use Rattle.reading.specs.Reading.{pickKeys}
-use Rattle.reading.specs.Occurrences.{variableKeys}
-use Rattle.reading.specs.Numbering.{takes, isNumbered, numberOf, allNumbered, inserted as insertedKey, byNumber, variablesFirst}
+use Rattle.reading.specs.Reading.{pickKeys, Met}
+use Rattle.reading.specs.Numbering.{takes, isNumbered, numberOf, allNumbered, inserted as insertedKey, byNumber, variablesFirst, metFirst}
 use Rattle.line_trees.specs.TreeReading.{atomTerms, diagramTerms, termKeys}
 use Rattle.line_trees.specs.VariableLaws.{diagram-keys}
 use Rattle.diagram_form.specs.Form.{Tables, variableName, termTree, atomTree, formTree}
 use Rattle.round_trip.specs.Numbering.{every, inserted, sorted}
-use Rattle.round_trip.specs.NameLaws.{variable-is-name}
+use Rattle.round_trip.specs.NameLaws.{variable-is-name, counted, firstMet}
 
 -- ===== Sorted =====
 
@@ -290,10 +289,25 @@ unfoldable written : List ℕ → Diagram → List ℕ
 written ar (leaf v) = []
 written ar (branch l t f) = termsOf ar (unpacked l) ++ (written ar t ++ written ar f)
 
--- their variables, numbered from 0
-unfoldable indices : List ℕ → List ℕ
-indices [] = []
-indices (t ∷ ts) = cond (ltb t firstVariable) (indices ts) ((t - firstVariable) ∷ indices ts)
+-- a kind of variables, maximum or minimum: its first number, and which terms are of it, by the tests that their form asks
+data Kind : Type 0 where
+  most least : Kind
+
+abbrev firstOf : Kind → ℕ
+firstOf most = firstVariable
+firstOf least = firstMinimum
+
+abbrev isOf : Kind → Bool → Bool → Bool
+isOf most low high = not low && high
+isOf least low high = not low && not high
+
+abbrev ofKind : Kind → ℕ → Bool
+ofKind c t = isOf c (ltb t firstVariable) (ltb t firstMinimum)
+
+-- the variables of the kind, numbered from 0
+unfoldable indices : Kind → List ℕ → List ℕ
+indices c [] = []
+indices c (t ∷ ts) = cond (ofKind c t) ((t - firstOf c) ∷ indices c ts) (indices c ts)
 
 pub equality-terms : (ar : List ℕ) (l : ℕ) → areArities ar ≡ true → predicateOf l ≡ equality → termsOf ar (unpacked l) ≡ placeAt l 0 ∷ placeAt l 1 ∷ []
 unfolding termsOf unpacked
@@ -326,16 +340,27 @@ form-terms ar n (branch l t f) good =
       form-terms ar n f good,
     )
 
-keys-indices : (n : Tables) (ts : List ℕ) → termKeys (map (termTree n) ts) ≡ keyed (indices ts)
+-- the keys of the kind
+abbrev keysIn : Kind → Met → List Key
+keysIn most m = m .variables
+keysIn least m = m .minimums
+
+keys-indices : (c : Kind) (n : Tables) (ts : List ℕ) → keysIn c (termKeys (map (termTree n) ts)) ≡ keyed (indices c ts)
 unfolding termTree indices
-keys-indices n [] = refl
-keys-indices n (t ∷ ts) = go (ltb t firstVariable) (keys-indices n ts)
+keys-indices most n [] = refl
+keys-indices least n [] = refl
+keys-indices c n (t ∷ ts) = go c (ltb t firstVariable) (ltb t firstMinimum) (keys-indices c n ts)
   where
-    go : (b : Bool) → termKeys (map (termTree n) ts) ≡ keyed (indices ts)
-        → termKeys (cond b (term plain (getD (n .constants) t [])) (term variable (variableName (t - firstVariable))) ∷ map (termTree n) ts)
-        ≡ keyed (cond b (indices ts) ((t - firstVariable) ∷ indices ts))
-    go true ih = ih
-    go false ih = ap (λ (l : List Key). keyOf (variableName (t - firstVariable)) ∷ l) ih
+    go : (c : Kind) (low high : Bool) → keysIn c (termKeys (map (termTree n) ts)) ≡ keyed (indices c ts)
+        → keysIn c (termKeys (cond low (term plain (getD (n .constants) t []))
+        (cond high (term variable (variableName (t - firstVariable))) (term minimum (variableName (t - firstMinimum)))) ∷ map (termTree n) ts))
+        ≡ keyed (cond (isOf c low high) ((t - firstOf c) ∷ indices c ts) (indices c ts))
+    go most true high ih = ih
+    go most false true ih = ap (λ (l : List Key). keyOf (variableName (t - firstVariable)) ∷ l) ih
+    go most false false ih = ih
+    go least true high ih = ih
+    go least false true ih = ih
+    go least false false ih = ap (λ (l : List Key). keyOf (variableName (t - firstMinimum)) ∷ l) ih
 
 -- ===== Which they are =====
 
@@ -350,70 +375,111 @@ mem-written ar t (branch l x y) =
       mem-written ar t y,
     )
 
-index-term : (i : ℕ) (ts : List ℕ) → mem eqb i (indices ts) ≡ true → mem eqb (firstVariable + i) ts ≡ true
-unfolding indices
-index-term i [] e = e
-index-term i (t ∷ ts) e = go (flag (ltb t firstVariable)) (index-term i ts)
-  where
-    here : firstVariable ≤ t → (mem eqb i (indices ts) ≡ true → mem eqb (firstVariable + i) ts ≡ true) → Either (eqb i (t - firstVariable)) (mem eqb i (indices ts))
-        → (eqb (firstVariable + i) t || mem eqb (firstVariable + i) ts) ≡ true
-    here h ih (one q) = or-one _ _ (eq-eqb (firstVariable + i) t (omega (arith, eqb-true i (t - firstVariable) q)))
-    here h ih (other q) = or-other (eqb (firstVariable + i) t) _ (ih q)
+from-first : (c : Kind) (t : ℕ) → ofKind c t ≡ true → firstOf c ≤ t
+from-first most t e = ltb-false t firstVariable (not-true _ (and-left _ _ e))
+from-first least t e = ltb-false t firstMinimum (not-true _ (and-right (not (ltb t firstVariable)) _ e))
 
-    go : Flag (ltb t firstVariable) → (mem eqb i (indices ts) ≡ true → mem eqb (firstVariable + i) ts ≡ true)
-        → (eqb (firstVariable + i) t || mem eqb (firstVariable + i) ts) ≡ true
-    go (isTrue h) ih = or-other (eqb (firstVariable + i) t) _ (ih (rw h at e))
-    go (isFalse h) ih = here (ltb-false t firstVariable h) ih (either (eqb i (t - firstVariable)) _ (rw h at e))
+module _ (c : Kind) where
+  index-term : (i : ℕ) (ts : List ℕ) → mem eqb i (indices c ts) ≡ true → (mem eqb (firstOf c + i) ts ≡ true) × (ofKind c (firstOf c + i) ≡ true)
+  unfolding indices
+  index-term i [] e = clash e refl
+  index-term i (t ∷ ts) e = go (flag (ofKind c t)) (index-term i ts)
+    where
+      Found : List ℕ → Type 0
+      Found us = (mem eqb (firstOf c + i) us ≡ true) × (ofKind c (firstOf c + i) ≡ true)
 
-term-index : (i : ℕ) (ts : List ℕ) → mem eqb (firstVariable + i) ts ≡ true → mem eqb i (indices ts) ≡ true
-unfolding indices
-term-index i [] e = e
-term-index i (t ∷ ts) e = go (flag (ltb t firstVariable)) (either (eqb (firstVariable + i) t) _ e) (term-index i ts)
-  where
-    go : Flag (ltb t firstVariable) → Either (eqb (firstVariable + i) t) (mem eqb (firstVariable + i) ts)
-        → (mem eqb (firstVariable + i) ts ≡ true → mem eqb i (indices ts) ≡ true)
-        → mem eqb i (cond (ltb t firstVariable) (indices ts) ((t - firstVariable) ∷ indices ts)) ≡ true
-    go (isTrue h) (one q) ih = absurd (omega (arith, eqb-true (firstVariable + i) t q, ltb-true t firstVariable h))
-    go (isTrue h) (other q) ih = rw h (ih q)
-    go (isFalse h) (one q) ih = rw h (or-one _ _ (eq-eqb i (t - firstVariable) (omega (arith, eqb-true (firstVariable + i) t q))))
-    go (isFalse h) (other q) ih = rw h (or-other (eqb i (t - firstVariable)) _ (ih q))
+      later : Found ts → Found (t ∷ ts)
+      later f = (or-other (eqb (firstOf c + i) t) _ (f .0), f .1)
 
-module _ (ar : List ℕ) (d : Diagram) (good : Good ar d) (is-closed : closed ar d ≡ d) where
-  consecutive-variables : variables ar d ≡ consecutive firstVariable (length (variables ar d))
-  consecutive-variables = ap (variables ar) (sym is-closed) ∙ closed-variables ar d good
+      here : ofKind c t ≡ true → (mem eqb i (indices c ts) ≡ true → Found ts) → Either (eqb i (t - firstOf c)) (mem eqb i (indices c ts)) → Found (t ∷ ts)
+      here h ih (one q) =
+          let z : firstOf c + i ≡ t = omega (arith, eqb-true i (t - firstOf c) q, from-first c t h) in
+          (or-one _ _ (eq-eqb (firstOf c + i) t z), ap (ofKind c) z ∙ h)
+      here h ih (other q) = later (ih q)
 
-  pub variable-below : (i : ℕ) → occurs ar (firstVariable + i) d ≡ true → i < length (variables ar d)
-  variable-below i o =
-      let b = term-below (firstVariable + i) (occurs-term ar d (firstVariable + i) (good .fine) o) in
-      let m = occurs-variable ar d (firstVariable + i) o (omega arith) b in
-      omega (arith, in-consecutive firstVariable (length (variables ar d)) (firstVariable + i) (subst (λ (vs : List ℕ). mem eqb (firstVariable + i) vs ≡ true) consecutive-variables m) .1)
+      go : Flag (ofKind c t) → (mem eqb i (indices c ts) ≡ true → Found ts) → Found (t ∷ ts)
+      go (isTrue h) ih = here h ih (either (eqb i (t - firstOf c)) _ (rw h at e))
+      go (isFalse h) ih = later (ih (rw h at e))
 
-  below-variable : (i : ℕ) → i < length (variables ar d) → occurs ar (firstVariable + i) d ≡ true
-  below-variable i h =
-      variable-occurs ar d (firstVariable + i)
-      (subst (λ (vs : List ℕ). mem eqb (firstVariable + i) vs ≡ true) (sym consecutive-variables)
-      (consecutive-in firstVariable (length (variables ar d)) (firstVariable + i) (omega arith) (omega arith)))
-      .0
+  term-index : (i : ℕ) (ts : List ℕ) → ofKind c (firstOf c + i) ≡ true → mem eqb (firstOf c + i) ts ≡ true → mem eqb i (indices c ts) ≡ true
+  unfolding indices
+  term-index i [] k e = e
+  term-index i (t ∷ ts) k e = go (flag (ofKind c t)) (either (eqb (firstOf c + i) t) _ e) (term-index i ts k)
+    where
+      go : Flag (ofKind c t) → Either (eqb (firstOf c + i) t) (mem eqb (firstOf c + i) ts) → (mem eqb (firstOf c + i) ts ≡ true → mem eqb i (indices c ts) ≡ true)
+          → mem eqb i (cond (ofKind c t) ((t - firstOf c) ∷ indices c ts) (indices c ts)) ≡ true
+      go (isTrue h) (one q) ih = rw h (or-one _ _ (eq-eqb i (t - firstOf c) (omega (arith, eqb-true (firstOf c + i) t q))))
+      go (isTrue h) (other q) ih = rw h (or-other (eqb i (t - firstOf c)) _ (ih q))
+      go (isFalse h) (one q) ih = clash (ap (ofKind c) (sym (eqb-true (firstOf c + i) t q)) ∙ k) h
+      go (isFalse h) (other q) ih = rw h (ih q)
 
-  sorted-indices : sorted (indices (written ar d)) ≡ consecutive 0 (length (variables ar d))
-  sorted-indices =
-      ascending-one 0 0 (sorted (indices (written ar d))) (consecutive 0 (length (variables ar d))) (sorted-ascending (indices (written ar d)))
-      (consecutive-ascending 0 (length (variables ar d)))
-      (λ i e.
-      consecutive-in 0 (length (variables ar d)) i (omega arith)
-      (omega (arith, variable-below i (sym (mem-written ar (firstVariable + i) d) ∙ index-term i (written ar d) (sym (mem-sorted i (indices (written ar d))) ∙ e)))))
-      (λ i e.
-      mem-sorted i (indices (written ar d))
-      ∙ term-index i (written ar d) (mem-written ar (firstVariable + i) d ∙ below-variable i (omega (arith, in-consecutive 0 (length (variables ar d)) i e .1))))
+module _ (ar : List ℕ) (d : Diagram) (good : Good ar d) where
+  -- the variables of the kind
+  abbrev variablesOf : Kind → List ℕ
+  variablesOf most = variables ar d
+  variablesOf least = minimums ar d
 
-  few-indices : (i : ℕ) → mem eqb i (indices (written ar d)) ≡ true → i < variableCount
-  few-indices i e = omega (arith, variables-few ar d, variable-below i (sym (mem-written ar (firstVariable + i) d) ∙ index-term i (written ar d) e))
+  abbrev count : Kind → ℕ
+  count c = length (variablesOf c)
 
-  -- the variables of a form are numbered as the diagram has them
-  pub form-variables : (n : Tables) → variablesFirst (variableKeys (diagramEvents (formTree ar n d))) ≡ keyed (consecutive 0 (length (variables ar d)))
-  form-variables n =
-      let xs : List ℕ = indices (written ar d) in
-      ap variablesFirst (diagram-keys (formTree ar n d) ∙ ap (λ (ts : List T.Term). termKeys ts) (form-terms ar n d (good .arities)) ∙ keys-indices n (written ar d))
-      ∙ variables-first (map variableName xs) (all-names xs few-indices) (every-numbered xs)
-      ∙ ap (λ (ys : List ℕ). keyed (sorted ys)) (numbers-of xs)
-      ∙ ap keyed sorted-indices
+  few : (c : Kind) → count c ≤ variableCount
+  few most = variables-few ar d
+  few least = minimums-few ar d
+
+  occurs-kind : (c : Kind) (t : ℕ) → occurs ar t d ≡ true → ofKind c t ≡ true → mem eqb t (variablesOf c) ≡ true
+  occurs-kind most t o e = occurs-variable ar d t o (from-first most t e) (ltb-true t firstMinimum (and-right (not (ltb t firstVariable)) _ e))
+  occurs-kind least t o e = occurs-minimum ar d t o (from-first least t e) (term-below t (occurs-term ar d t (good .fine) o))
+
+  kind-occurs : (c : Kind) (t : ℕ) → mem eqb t (variablesOf c) ≡ true → (occurs ar t d ≡ true) × (ofKind c t ≡ true)
+  kind-occurs most t m = let v = variable-occurs ar d t m in (v .0, rw (le-ltb t firstVariable (v .1), lt-ltb t firstMinimum (v .2)))
+  kind-occurs least t m = let v = minimum-occurs ar d t m in (v .0, rw (le-ltb t firstVariable (omega arith), le-ltb t firstMinimum (v .1)))
+
+  module _ (is-closed : closed ar d ≡ d) where
+    in-order : (c : Kind) → variablesOf c ≡ consecutive (firstOf c) (count c)
+    in-order most = ap (variables ar) (sym is-closed) ∙ closed-variables ar d good
+    in-order least = ap (minimums ar) (sym is-closed) ∙ closed-minimums ar d good
+
+    kind-below : (c : Kind) (t : ℕ) → occurs ar t d ≡ true → ofKind c t ≡ true → t < firstOf c + count c
+    kind-below c t o e = in-consecutive (firstOf c) (count c) t (subst (λ (vs : List ℕ). mem eqb t vs ≡ true) (in-order c) (occurs-kind c t o e)) .1
+
+    below-kind : (c : Kind) (i : ℕ) → i < count c → (occurs ar (firstOf c + i) d ≡ true) × (ofKind c (firstOf c + i) ≡ true)
+    below-kind c i h =
+        kind-occurs c (firstOf c + i)
+        (subst (λ (vs : List ℕ). mem eqb (firstOf c + i) vs ≡ true) (sym (in-order c)) (consecutive-in (firstOf c) (count c) (firstOf c + i) (omega arith) (omega arith)))
+
+    -- the variables of a value diagram are the first of their kind
+    pub variable-below : (t : ℕ) → occurs ar t d ≡ true → firstVariable ≤ t → t < firstMinimum → t < firstVariable + length (variables ar d)
+    variable-below t o h k = kind-below most t o (rw (le-ltb t firstVariable h, lt-ltb t firstMinimum k))
+
+    pub minimum-below : (t : ℕ) → occurs ar t d ≡ true → firstMinimum ≤ t → t < firstMinimum + length (minimums ar d)
+    minimum-below t o h = kind-below least t o (rw (le-ltb t firstVariable (omega arith), le-ltb t firstMinimum h))
+
+    module _ (c : Kind) where
+      index-below : (i : ℕ) → mem eqb i (indices c (written ar d)) ≡ true → i < count c
+      index-below i e =
+          let f = index-term c i (written ar d) e in
+          omega (arith, kind-below c (firstOf c + i) (sym (mem-written ar (firstOf c + i) d) ∙ f .0) (f .1))
+
+      sorted-indices : sorted (indices c (written ar d)) ≡ consecutive 0 (count c)
+      sorted-indices =
+          ascending-one 0 0 (sorted (indices c (written ar d))) (consecutive 0 (count c)) (sorted-ascending (indices c (written ar d)))
+          (consecutive-ascending 0 (count c))
+          (λ i e. consecutive-in 0 (count c) i (omega arith) (omega (arith, index-below i (sym (mem-sorted i (indices c (written ar d))) ∙ e))))
+          (λ i e.
+          let v = below-kind c i (omega (arith, in-consecutive 0 (count c) i e .1)) in
+          mem-sorted i (indices c (written ar d)) ∙ term-index c i (written ar d) (v .1) (mem-written ar (firstOf c + i) d ∙ v .0))
+
+      few-indices : (i : ℕ) → mem eqb i (indices c (written ar d)) ≡ true → i < variableCount
+      few-indices i e = omega (arith, few c, index-below i e)
+
+      kind-variables : (n : Tables) → variablesFirst (keysIn c (termKeys (diagramTerms (formTree ar n d)))) ≡ keyed (consecutive 0 (count c))
+      kind-variables n =
+          let xs : List ℕ = indices c (written ar d) in
+          ap variablesFirst (ap (λ (ts : List T.Term). keysIn c (termKeys ts)) (form-terms ar n d (good .arities)) ∙ keys-indices c n (written ar d))
+          ∙ variables-first (map variableName xs) (all-names xs few-indices) (every-numbered xs)
+          ∙ ap (λ (ys : List ℕ). keyed (sorted ys)) (numbers-of xs)
+          ∙ ap keyed sorted-indices
+
+    -- the variables of a form are numbered as the diagram has them, kind by kind
+    pub form-variables : (n : Tables) → metFirst (diagramEvents (formTree ar n d)) ≡ firstMet (counted ar d)
+    form-variables n = diagram-keys (formTree ar n d) ∙ (λ i. record { variables = kind-variables most n i; minimums = kind-variables least n i })

@@ -8,24 +8,24 @@ use lib.ListN.{length}
 use borrow.Author.Tests.{le-leb}
 use Rattle.basics.specs.Tests.{Cmp, below, equal, above, cmp}
 use Rattle.refusal.specs.Outcome.{ok}
-use Rattle.label.specs.Limits.{firstParameter, firstVariable, variableCount}
+use Rattle.label.specs.Limits.{firstParameter, firstVariable, variableCount, minimumCount}
 use Rattle.label.specs.Labels.{isLabel, predicateOf, unpacked, termsOf}
 use Rattle.diagram.specs.Diagram.{Diagram, leaf, branch, eval, relabel, Ordered, Reduced}
 use Rattle.diagram.specs.Listing.{listing}
 use Rattle.diagram.specs.Canonicity.{canonicity}
-use Rattle.diagram.specs.Variables.{occurs, variables, closed}
+use Rattle.diagram.specs.Variables.{occurs, closed}
 use Rattle.rename.specs.Ascending as S
 use Rattle.rename.specs.Relabelling.{Labels, Terms}
 use Rattle.rename.specs.TermLaws.{each-terms, terms-each}
-use Rattle.rename.specs.VariableLaws.{occurs-terms, terms-each-occurs, fine-labels, variables-few}
+use Rattle.rename.specs.VariableLaws.{occurs-terms, terms-each-occurs, fine-labels, variables-few, minimums-few}
 use Rattle.state.specs.State.{meaning, atomOf}
 use Rattle.state.specs.Terms as A
 use Rattle.regression.specs.Parameters.{Allowed}
 use Rattle.events.specs.Events.{diagramEvents}
-use Rattle.reading.specs.Reading.{Written, reading, andThen}
+use Rattle.reading.specs.Reading.{Written, isWithin, reading, andThen}
 use Rattle.reading.specs.Reading.Judged.{fine}
 use Rattle.reading.specs.Numbering.{rewardReading}
-use Rattle.reading.specs.Tree.{opsOf, depth, diagramReading, writing}
+use Rattle.reading.specs.Tree.{Reach, opsOf, depth, diagramReading, writing}
 use Rattle.reading.specs.TreeLaws.{reading-diagram}
 use Rattle.build.specs.Build as B
 use Rattle.build.specs.Machine.{mostTests, builtClosed}
@@ -36,8 +36,8 @@ use Rattle.diagram_form.specs.Form.{Tables, formTree, openBrackets, isTooLong}
 use Rattle.round_trip.specs.RoundTrip.{Declared, Covers, rewardNames, wordsRead, readingOf, RoundTrip}
 use Rattle.diagram_form.specs.FormLaws.{Within, form-brackets, not-too-long}
 use Rattle.round_trip.specs.BuildLaws.{ordered-for, reduced-for, form-no-value}
-use Rattle.round_trip.specs.NumberingLaws.{variable-below, form-variables}
-use Rattle.round_trip.specs.NameLaws.{firstKeys, keys-length}
+use Rattle.round_trip.specs.NumberingLaws.{variable-below, minimum-below, form-variables}
+use Rattle.round_trip.specs.NameLaws.{firstKeys, keys-length, firstMet, counted}
 use Rattle.round_trip.specs.WrittenLaws.{Known, Plain, form-good, form-resolved}
 
 -- ===== Every label of a value diagram can be written =====
@@ -51,7 +51,7 @@ unfolding meaning relabel atomOf
 within-terms ar P (leaf v) w = tt
 within-terms ar P (branch l x y) w = (terms-each P ar l (each-all P (termsOf ar (unpacked l)) (w .0)), within-terms ar P x (w .1), within-terms ar P y (w .2))
 
-plain-labels : (ar : List ℕ) (n : Tables) (v : ℕ) (d : Diagram) → Labels (λ l. isLabel ar l ≡ true) d → Terms ar (Known n v) d
+plain-labels : (ar : List ℕ) (n : Tables) (v : Reach) (d : Diagram) → Labels (λ l. isLabel ar l ≡ true) d → Terms ar (Known n v) d
     → Labels (λ l. predicateOf l ≤ length (n .predicates)) d → Labels (Plain ar n v) d
 plain-labels ar n v (leaf x) a b c = tt
 plain-labels ar n v (branch l t f) a b c = (
@@ -80,10 +80,15 @@ reading-depth (branch l t f) = omega (arith, reading-depth t, reading-depth f)
 -- ===== The round trip =====
 
 module _ (ar : List ℕ) (n : Tables) (d : Diagram) (value : GoodValue ar d) (declared : Declared n) (covers : Covers ar n d) where
-  known : (t : ℕ) → occurs ar t d ≡ true → Known n (length (variables ar d)) t
+  -- how many variables of each kind
+  abbrev v : Reach
+  v = counted ar d
+
+  known : (t : ℕ) → occurs ar t d ≡ true → Known n v t
   known t o = record {
     constants = λ h. constant h (cmp t firstParameter);
-    variables = λ h. variable (t - firstVariable) (omega arith);
+    variables = variable-below ar d (value .listed) (value .is-closed) t o;
+    minimums = minimum-below ar d (value .listed) (value .is-closed) t o;
   }
     where
       constant : t < firstVariable → Cmp t firstParameter → t < length (n .constants)
@@ -91,35 +96,34 @@ module _ (ar : List ℕ) (n : Tables) (d : Diagram) (value : GoodValue ar d) (de
       constant h (equal x) = let z = occurs-terms ar (Allowed 0) d t (within-terms ar (Allowed 0) d (value .within .terms)) o (omega arith) in absurd (omega arith)
       constant h (above x) = let z = occurs-terms ar (Allowed 0) d t (within-terms ar (Allowed 0) d (value .within .terms)) o (omega arith) in absurd (omega arith)
 
-      variable : (i : ℕ) → t ≡ firstVariable + i → t < firstVariable + length (variables ar d)
-      variable i e =
-          let b = variable-below ar d (value .listed) (value .is-closed) i (subst (λ (u : ℕ). occurs ar u d ≡ true) e o) in
-          omega arith
-
-  pub plain : Labels (Plain ar n (length (variables ar d))) d
-  plain =
-      plain-labels ar n (length (variables ar d)) d (fine-labels ar d (value .listed .fine))
-      (terms-each-occurs ar (Known n (length (variables ar d))) d known) (covers .predicates)
-
-  few : length (variables ar d) ≤ variableCount
-  few = variables-few ar d
+  pub plain : Labels (Plain ar n v) d
+  plain = plain-labels ar n v d (fine-labels ar d (value .listed .fine)) (terms-each-occurs ar (Known n v) d known) (covers .predicates)
 
   read : Written
-  read = record { variables = firstKeys (length (variables ar d)); operations = opsOf (readingOf d) }
+  read = record { met = firstMet v; operations = opsOf (readingOf d) }
+
+  -- 8 judges each kind by itself: at most 64 of each
+  within-limits : isWithin (firstMet v) ≡ true
+  within-limits =
+      rw (
+        le-leb (length (firstKeys (v .variables))) variableCount (omega (arith, variables-few ar d, keys-length (v .variables))),
+        le-leb (length (firstKeys (v .minimums))) minimumCount (omega (arith, minimums-few ar d, keys-length (v .minimums))),
+      )
 
   words-read : wordsRead ar n d ≡ fine read
   unfolding diagramReading read rewardReading
   words-read =
       ap (reading (rewardNames ar n) (diagramEvents (formTree ar n d))) (form-variables ar d (value .listed) (value .is-closed) n)
-      ∙ reading-diagram (rewardNames ar n) (formTree ar n d) (firstKeys (length (variables ar d)))
-      ∙ ap (λ r. andThen r writing) (form-resolved ar n (length (variables ar d)) (value .listed .arities) declared few d plain (value .listed .fine))
-      ∙ rw (le-leb (length (firstKeys (length (variables ar d)))) variableCount (omega (arith, few, keys-length (length (variables ar d)))))
+      ∙ reading-diagram (rewardNames ar n) (formTree ar n d) (firstMet v)
+      ∙ ap (λ r. andThen r writing)
+      (form-resolved ar n v (value .listed .arities) declared (variables-few ar d) (minimums-few ar d) d plain (value .listed .fine))
+      ∙ rw within-limits
 
   pub round-trip : isTooLong ar n d ≡ false → RoundTrip ar n d
   unfolding read
   round-trip e = record {
     well-formed =
-        (form-good ar n (length (variables ar d)) (value .listed .arities) declared few d plain, within .brackets, within .bytes);
+        (form-good ar n v (value .listed .arities) declared (variables-few ar d) (minimums-few ar d) d plain, within .brackets, within .bytes);
     words = read;
     accepted = words-read;
     operations = refl;

@@ -5,11 +5,11 @@ use mathlib.Core.List.{List, [], _∷_, map}
 use Prim.Native.Nat.{ℕ, _+_, _-_, _≤_, _<_}
 use native.Mathlib.Omega.{arith}
 use lib.ListN.{length, getD, length-map}
-use lib.Dec.{eqb, ltb}
-use borrow.Author.Tests.{ltb-true, ltb-false, eqb-true, eqb-false, eq-eqb, le-leb}
+use lib.Dec.{eqb}
+use borrow.Author.Tests.{eqb-true, eqb-false, eq-eqb, le-leb}
 use Rattle.basics.specs.Tests.{Flag, isTrue, isFalse, flag, Cmp, below, equal, above, cmp}
-use Rattle.label.specs.Limits.{firstVariable, variableCount, equality}
-use Rattle.label.specs.Terms.{isTerm, variableTerm}
+use Rattle.label.specs.Limits.{firstVariable, variableCount, firstMinimum, minimumCount, equality}
+use Rattle.label.specs.Terms.{isTerm}
 use Rattle.label.specs.Labels.{areArities, predicateOf, placeAt, unpacked, termsOf, isLabel, atomFrom, testOf}
 use Rattle.label.specs.Renamings.{EachIn, Increasing, renamed, moved, mapped}
 use Rattle.label.specs.LabelLaws.{predicate-of, label-fits}
@@ -24,30 +24,29 @@ use Rattle.rename.specs.Ascending as S
 use Rattle.rename.specs.Relabelling.{Labels}
 use Rattle.rename.specs.TermLaws.{each-weaken, label-terms, renamed-same}
 use Rattle.words.specs.Keys.{keyOf}
-use Rattle.words.specs.declared.Key.{Key}
 use Rattle.names.specs.Keys.{placeOf, isAmong}
 use Rattle.forms.specs.Tree as T
-use Rattle.forms.specs.Tree.Mark.{plain, variable}
-use Rattle.forms.specs.Tree.Term.{term}
 use Rattle.forms.specs.Tree.Atom.{equal as equality-of, holds}
 use Rattle.answers.specs.DigitLaws.{digits-number, digits-value}
 use Rattle.reading.specs.declared.Binding.the-variants.{Any}
-use Rattle.reading.specs.Reading.{Names, constantNumber, met, numberIn, variableNumber}
+use Rattle.reading.specs.Reading.{Names, Met, constantNumber, met, numberIn, variableNumber, minimumNumber}
 use Rattle.reading.specs.Reading.Judged.{fine}
-use Rattle.reading.specs.Tree.{having, resolveTerm, resolveTerms, resolveAtom, resolveDiagram}
+use Rattle.reading.specs.Tree.{Reach, having, resolveTerm, resolveTerms, resolveAtom, resolveDiagram}
 use Rattle.line_trees.specs.VariableLaws.{number-exact}
 use Rattle.diagram_form.specs.Form.{Tables, variableName, termTree, atomTree, formTree}
+use Rattle.diagram_form.specs.FormLaws.{Kinds, constant, maximum, least, kinds, constant-tree, variable-tree, minimum-tree}
 use Rattle.round_trip.specs.RoundTrip.{Declared, rewardNames, readingOf}
 use Rattle.round_trip.specs.NumberingLaws.{equality-terms}
-use Rattle.round_trip.specs.NameLaws.{place-name, among-name, variable-is-name, firstNames, first-length, first-at, first-named, first-differ, firstKeys, keys-length}
+use Rattle.round_trip.specs.NameLaws.{place-name, among-name, variable-is-name, firstNames, first-length, first-at, first-named, first-differ, firstKeys, keys-length, firstMet}
 
--- a term that a form can write: a declared constant, or one of the first v variables
-pub record Known (n : Tables) (v t : ℕ) : Type 0 where
+-- a term that a form can write: a declared constant, or of each kind one of the first v variables
+pub record Known (n : Tables) (v : Reach) (t : ℕ) : Type 0 where
   pub constants : t < firstVariable → t < length (n .constants)
-  pub variables : firstVariable ≤ t → t < firstVariable + v
+  pub variables : firstVariable ≤ t → t < firstMinimum → t < firstVariable + v .variables
+  pub minimums : firstMinimum ≤ t → t < firstMinimum + v .minimums
 
 -- so for a label
-pub record Plain (ar : List ℕ) (n : Tables) (v l : ℕ) : Type 0 where
+pub record Plain (ar : List ℕ) (n : Tables) (v : Reach) (l : ℕ) : Type 0 where
   pub is-label : isLabel ar l ≡ true
   pub terms : S.All (Known n v) (termsOf ar (unpacked l))
   pub predicate : predicateOf l ≤ length (n .predicates)
@@ -73,17 +72,38 @@ label-test ar l good e =
     moved-same : testOf (mapped (λ t. t) (getD ar (predicateOf l) 0) (unpacked l)) ≡ Is (record { packed = renamed ar (λ t. t) l })
     moved-same = moved-renamed (λ t. isTerm t ≡ true) (λ t. t) same ar good l e terms
 
-module _ (ar : List ℕ) (n : Tables) (v : ℕ) (good : areArities ar ≡ true) (declared : Declared n) (few : v ≤ variableCount) where
+-- one of the first c variables of a kind, whose first number is f
+module _ (c : ℕ) (few : c ≤ variableCount) (i : ℕ) (h : i < c) where
+  variable-place : placeOf (keyOf (variableName i)) (firstKeys c) ≡ i
+  variable-place =
+      ap (λ (s : List ℕ). placeOf (keyOf s) (firstKeys c)) (sym (first-at c i h))
+      ∙ place-name (firstNames c) (first-named c few) (first-differ c) i (omega (arith, first-length c))
+
+  variable-among : isAmong (keyOf (variableName i)) (firstKeys c) ≡ true
+  variable-among =
+      ap (λ (s : List ℕ). isAmong (keyOf s) (firstKeys c)) (sym (first-at c i h))
+      ∙ among-name (firstNames c) (first-named c few) (first-differ c) i (omega (arith, first-length c))
+
+  variable-met : met Any (firstKeys c) (keyOf (variableName i)) ≡ firstKeys c
+  unfolding met
+  variable-met = rw variable-among
+
+  variable-number : (f t : ℕ) → f + i ≡ t → numberIn f (firstKeys c) (keyOf (variableName i)) ≡ t
+  variable-number f t e =
+      number-exact f (firstKeys c) (keyOf (variableName i)) (omega (arith, keys-length c)) (omega (arith, keys-length c, variable-place))
+      ∙ ap (λ (j : ℕ). f + j) variable-place ∙ e
+
+module _ (ar : List ℕ) (n : Tables) (v : Reach) (good : areArities ar ≡ true) (declared : Declared n) (few : v .variables ≤ variableCount)
+    (few-minimums : v .minimums ≤ minimumCount) where
   -- ===== Well formed =====
 
   term-good : (t : ℕ) → Known n v t → T.GoodTerm (termTree n t)
-  unfolding termTree
-  term-good t k = go (flag (ltb t firstVariable))
+  term-good t k = go (kinds t)
     where
-      go : Flag (ltb t firstVariable)
-          → T.GoodTerm (cond (ltb t firstVariable) (term plain (getD (n .constants) t [])) (term variable (variableName (t - firstVariable))))
-      go (isTrue h) = rw h (declared .constants-named t (k .constants (ltb-true t firstVariable h)))
-      go (isFalse h) = let g = ltb-false t firstVariable h in let w = k .variables g in rw h (variable-is-name (t - firstVariable) (omega arith))
+      go : Kinds t → T.GoodTerm (termTree n t)
+      go (constant h) = rw (constant-tree n t h) (declared .constants-named t (k .constants h))
+      go (maximum h l) = let w = k .variables h l in rw (variable-tree n t h l) (variable-is-name (t - firstVariable) (omega arith))
+      go (least h) = let w = k .minimums h in rw (minimum-tree n t h) (variable-is-name (t - firstMinimum) (omega arith))
 
   terms-good : (ts : List ℕ) → S.All (Known n v) ts → T.All T.GoodTerm (map (termTree n) ts)
   terms-good [] a = tt
@@ -120,55 +140,38 @@ module _ (ar : List ℕ) (n : Tables) (v : ℕ) (good : areArities ar ≡ true) 
   abbrev pub names : Names
   names = rewardNames ar n
 
-  abbrev pub vs : List Key
-  vs = firstKeys v
-
-  variable-place : (i : ℕ) → i < v → placeOf (keyOf (variableName i)) vs ≡ i
-  variable-place i h =
-      ap (λ (s : List ℕ). placeOf (keyOf s) vs) (sym (first-at v i h)) ∙ place-name (firstNames v) (first-named v few) (first-differ v) i (omega (arith, first-length v))
-
-  variable-among : (i : ℕ) → i < v → isAmong (keyOf (variableName i)) vs ≡ true
-  variable-among i h =
-      ap (λ (s : List ℕ). isAmong (keyOf s) vs) (sym (first-at v i h)) ∙ among-name (firstNames v) (first-named v few) (first-differ v) i (omega (arith, first-length v))
-
-  variable-met : (i : ℕ) → i < v → met Any vs (keyOf (variableName i)) ≡ vs
-  unfolding met
-  variable-met i h = rw (variable-among i h)
-
-  variable-number : (i : ℕ) → i < v → numberIn vs (keyOf (variableName i)) ≡ variableTerm i
-  variable-number i h =
-      number-exact vs (keyOf (variableName i)) (omega (arith, keys-length v)) (omega (arith, keys-length v, variable-place i h)) ∙ ap variableTerm (variable-place i h)
-
-  number-fine : (i : ℕ) → i < v → (t : ℕ) → variableTerm i ≡ t → having vs (variableNumber Any vs (keyOf (variableName i))) ≡ fine (record { value = t; variables = vs })
-  unfolding variableNumber
-  number-fine i h t e = ap (λ (x : ℕ). fine (record { value = x; variables = vs })) (variable-number i h ∙ e)
+  abbrev pub vs : Met
+  vs = firstMet v
 
   constant-number : (t : ℕ) → t < length (n .constants) → constantNumber (map keyOf (n .constants)) (keyOf (getD (n .constants) t [])) ≡ fine t
   unfolding constantNumber
   constant-number t h =
       rw (among-name (n .constants) (declared .constants-named) (declared .constants-differ) t h, place-name (n .constants) (declared .constants-named) (declared .constants-differ) t h)
 
-  term-resolved : (t : ℕ) → Known n v t → resolveTerm names vs (termTree n t) ≡ fine (record { value = t; variables = vs })
-  unfolding termTree
-  term-resolved t k = go (flag (ltb t firstVariable))
+  term-resolved : (t : ℕ) → Known n v t → resolveTerm names vs (termTree n t) ≡ fine (record { value = t; met = vs })
+  unfolding variableNumber minimumNumber
+  term-resolved t k = go (kinds t)
     where
-      go : Flag (ltb t firstVariable)
-          → resolveTerm names vs (cond (ltb t firstVariable) (term plain (getD (n .constants) t [])) (term variable (variableName (t - firstVariable))))
-          ≡ fine (record { value = t; variables = vs })
-      go (isTrue h) = rw h (ap (having vs) (constant-number t (k .constants (ltb-true t firstVariable h))))
-      go (isFalse h) =
-          let g = ltb-false t firstVariable h in
-          let w = k .variables g in
-          let b : t - firstVariable < v = omega arith in
-          let e : variableTerm (t - firstVariable) ≡ t = omega arith in
-          rw (h, variable-met (t - firstVariable) b)
-          (number-fine (t - firstVariable) b t e)
+      go : Kinds t → resolveTerm names vs (termTree n t) ≡ fine (record { value = t; met = vs })
+      go (constant h) = rw (constant-tree n t h) (ap (having vs) (constant-number t (k .constants h)))
+      go (maximum h l) =
+          let w = k .variables h l in
+          let i = t - firstVariable in
+          let b : i < v .variables = omega arith in
+          rw (variable-tree n t h l, variable-met (v .variables) few i b)
+          (ap (λ (x : ℕ). fine (record { value = x; met = vs })) (variable-number (v .variables) few i b firstVariable t (omega arith)))
+      go (least h) =
+          let w = k .minimums h in
+          let i = t - firstMinimum in
+          let b : i < v .minimums = omega arith in
+          rw (minimum-tree n t h, variable-met (v .minimums) few-minimums i b)
+          (ap (λ (x : ℕ). fine (record { value = x; met = vs })) (variable-number (v .minimums) few-minimums i b firstMinimum t (omega arith)))
 
-  terms-resolved : (ts : List ℕ) → S.All (Known n v) ts → resolveTerms names vs (map (termTree n) ts) ≡ fine (record { value = ts; variables = vs })
+  terms-resolved : (ts : List ℕ) → S.All (Known n v) ts → resolveTerms names vs (map (termTree n) ts) ≡ fine (record { value = ts; met = vs })
   terms-resolved [] a = refl
   terms-resolved (t ∷ ts) a = rw (term-resolved t (a .0), terms-resolved ts (a .1))
 
-  atom-resolved : (l : ℕ) → Plain ar n v l → resolveAtom names vs (atomTree ar n l) ≡ fine (record { value = Is (record { packed = l }); variables = vs })
+  atom-resolved : (l : ℕ) → Plain ar n v l → resolveAtom names vs (atomTree ar n l) ≡ fine (record { value = Is (record { packed = l }); met = vs })
   unfolding atomTree
   atom-resolved l p = go (flag (eqb (predicateOf l) equality))
     where
@@ -183,11 +186,11 @@ module _ (ar : List ℕ) (n : Tables) (v : ℕ) (good : areArities ar ≡ true) 
 
       go : Flag (eqb (predicateOf l) equality)
           → resolveAtom names vs (cond (eqb (predicateOf l) equality) (equality-of (termTree n (placeAt l 0)) (termTree n (placeAt l 1))) (holds q (map (termTree n) ts)))
-          ≡ fine (record { value = Is (record { packed = l }); variables = vs })
+          ≡ fine (record { value = Is (record { packed = l }); met = vs })
       go (isTrue h) =
           let two = equality-terms ar l good (eqb-true _ _ h) in
           rw (h, terms-resolved (placeAt l 0 ∷ placeAt l 1 ∷ []) (subst (S.All (Known n v)) two (p .terms)))
-          (ap (λ (x : Test). fine (record { value = x; variables = vs }))
+          (ap (λ (x : Test). fine (record { value = x; met = vs }))
           (ap (λ (us : List ℕ). testOf (atomFrom equality us)) (sym two) ∙ asks equality (sym (eqb-true _ _ h))))
       go (isFalse h) =
           let b = predicate-place l p h in
@@ -204,7 +207,7 @@ module _ (ar : List ℕ) (n : Tables) (v : ℕ) (good : areArities ar ≡ true) 
             eq-eqb _ _ count,
             terms-resolved ts (p .terms),
           )
-          (ap (λ (x : Test). fine (record { value = x; variables = vs })) (asks (predicateOf l) refl))
+          (ap (λ (x : Test). fine (record { value = x; met = vs })) (asks (predicateOf l) refl))
         where
           above-zero : Cmp 0 (predicateOf l) → (predicateOf l ≡ equality → ⊥) → predicateOf l - 1 + 1 ≡ predicateOf l
           above-zero (below x) ne = omega arith
@@ -212,7 +215,7 @@ module _ (ar : List ℕ) (n : Tables) (v : ℕ) (good : areArities ar ≡ true) 
           above-zero (above x) ne = absurd (omega arith)
 
   pub form-resolved : (d : Diagram) → Labels (Plain ar n v) d → Fine ar d
-      → resolveDiagram names vs (formTree ar n d) ≡ fine (record { value = readingOf d; variables = vs })
+      → resolveDiagram names vs (formTree ar n d) ≡ fine (record { value = readingOf d; met = vs })
   unfolding formTree readingOf
   form-resolved (leaf x) p h = rw (digits-value x (omega arith), le-leb x highestValue h)
   form-resolved (branch l t f) p h = rw (atom-resolved l (p .0), form-resolved t (p .1) (h .1), form-resolved f (p .2) (h .2))

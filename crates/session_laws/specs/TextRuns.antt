@@ -97,7 +97,7 @@ acceptedBackups (s ∷ ls) (y ∷ ys) = acceptedBackup (lineKind s) (y .answer) 
 
 -- ===== The run =====
 
--- both ways of working are too large for the value diagram in the state in hand (15; document 02, L6)
+-- no way of working may be taken for the value diagram in the state in hand (15; document 02, L6 and L12)
 abbrev pub tooLarge : Session → Bool
 tooLarge σ = isTooLarge (σ .model .arities) (stateIn (σ .model .arities) (σ .live)) [] (listing (σ .held .diagram))
 

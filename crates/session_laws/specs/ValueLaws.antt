@@ -7,6 +7,8 @@ use native.Mathlib.Omega.{arith}
 use lib.ListN.{getD}
 use Rattle.refusal.specs.declared.Refusal.the-variants.{Valuations}
 use Rattle.label.specs.Limits.{constantCount}
+use borrow.Author.Tests.{lt-ltb}
+use Rattle.diagram.specs.Variables.{isPlain}
 use Rattle.diagram.specs.Listing.{listing}
 use Rattle.diagram.specs.ListingOfDiagram.{diagram-listing}
 use Rattle.state.specs.State.{Good, meaning, low}
@@ -14,6 +16,7 @@ use Rattle.state.specs.ValueLaws.{low-lt, low-ge, by-low}
 use Rattle.state.specs.Lent.{stateOf}
 use Rattle.state.specs.ValueCall.{mostValuations, valuations}
 use Rattle.minimum.specs.Number.{number}
+use Rattle.elimination.specs.Answer.{isTooLarge}
 use Rattle.elimination.specs.AnswerLaws.{few-not-large}
 use Rattle.refusal.specs.Outcome.{ok}
 use Rattle.refusal.specs.OutcomeLaws.{accepted-ok, accepted-cond}
@@ -131,10 +134,19 @@ value-accepted σ g v p h few number (b ∷ t) i =
     ap (λ k. replyTo σ number k (wordsOf k s)) i
     ∙ value-says σ number (wordsOf K.Value s) (value-allowed σ p h) _ (value-few σ few ∙ ap ok (held-bellman σ g v (placed-objects σ h)))
 
--- it is not too large where valuations are at most 1,000,000, as document 01 has it; nor where the tables have at most 8,192 entries (elimination AnswerLaws `entries-not-large`)
+-- it is not too large where valuations are at most 1,000,000, as document 01 has it; nor, without minimum variables, where the tables have at most 8,192
+-- entries (elimination AnswerLaws `entries-not-large`)
 pub few-valuations : (σ : Session) → GoodSession σ → σ .part ≡ Run → valuations (σ .model .arities) (σ .live .objects) (σ .held .diagram) ≤ mostValuations → tooLarge σ ≡ false
 unfolding stateIn stateOf
 few-valuations σ g p h =
     let e = diagram-listing (σ .model .arities) (σ .held .diagram) (g .begun p .value .listed) in
     few-not-large (σ .model .arities) (stateIn (σ .model .arities) (σ .live)) [] (listing (σ .held .diagram))
     (subst (λ d. valuations (σ .model .arities) (σ .live .objects) d ≤ mostValuations) (sym e) h)
+
+-- "With a minimum variable L6's way isn't used, and 15 is document 01's, v counting both kinds" (document 02, L12)
+pub many-valuations : (σ : Session) → GoodSession σ → σ .part ≡ Run → isPlain (σ .model .arities) (σ .held .diagram) ≡ false
+    → mostValuations < valuations (σ .model .arities) (σ .live .objects) (σ .held .diagram) → tooLarge σ ≡ true
+unfolding isTooLarge stateIn stateOf
+many-valuations σ g p plain h =
+    let e = diagram-listing (σ .model .arities) (σ .held .diagram) (g .begun p .value .listed) in
+    rw (e, plain, lt-ltb mostValuations (valuations (σ .model .arities) (σ .live .objects) (σ .held .diagram)) h)

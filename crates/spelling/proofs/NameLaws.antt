@@ -3,10 +3,9 @@ use mathlib.Core.Path.{_≡_, sym, ap, _∙_}
 use mathlib.Core.List.{List, [], _∷_, _++_, map}
 use Prim.Native.Nat.{ℕ, _+_, _-_, _≤_, _<_}
 use native.Mathlib.Omega.{arith}
-use lib.ListN.{length, length-map, List·getD-eq-default}
-use borrow.Author.Tests.{lt-ltb, le-ltb}
+use lib.ListN.{length, length-append, length-map, List·getD-eq-default}
 use Rattle.basics.specs.Tests.{Cmp, cmp, below, equal, above}
-use Rattle.label.specs.Limits.{firstVariable}
+use Rattle.label.specs.Limits.{firstVariable, firstMinimum}
 use Rattle.diagram.specs.WordLaws.{getD-map}
 use Rattle.words.specs.declared.Key.{Key}
 use Rattle.words.specs.Keys.{nameOf}
@@ -19,7 +18,9 @@ use Rattle.answers.specs.DigitLaws.{digits-short}
 use Rattle.answering.specs.Wrote.{Wrote}
 use Rattle.answering.proofs.WriteLaws.{wrote-nothing, wrote-then}
 use Rattle.answering.proofs.KeyLaws.{name-short}
-use Rattle.diagram_form.specs.Form.{tablesOf, variableName, termTree}
+use Rattle.diagram_form.specs.Form.{tablesOf, variableName}
+use Rattle.diagram_form.specs.FormLaws.{Kinds, constant, maximum, least, kinds, constant-tree, variable-tree, minimum-tree}
+use Rattle.spelling.specs.Spelling.{tablesAt}
 use Rattle.spelling.specs.Parts.{nameAt, termText}
 
 -- a name of a table
@@ -55,45 +56,61 @@ module _ (names : List ℕ) (base n i : ℕ) (k : Key) (h : i < n) (e : k ≡ ke
   pub named-wrote : {s s′ : List ℕ} {place r : ℕ} → Wrote s place (nameOf k) r s′ → Wrote s place (nameAt names base n i) r s′
   named-wrote p = rw named-is p
 
+-- a variable of either kind
+
+module _ (s before : List ℕ) (place i : ℕ) (room : place + length (before ++ digits i) ≤ length s) where
+  pub before-room : place + length before ≤ length s
+  before-room = omega (arith, length-append before (digits i))
+
+  module _ {s₁ : List ℕ} {q : ℕ} (x : Wrote s place before q s₁) where
+    pub digits-room : length s₁ ≡ length s → q + length (digits i) ≤ length s₁
+    digits-room e = omega (arith, length-append before (digits i), x .behind)
+
+    pub variable-wrote : {s₂ : List ℕ} {r : ℕ} → Wrote s₁ q (digits i) r s₂ → Wrote s place (before ++ digits i) r s₂
+    variable-wrote y = wrote-then (omega (arith, before-room, x .behind)) x y
+
 -- a term
 
 module _ (names : List ℕ) (constants t : ℕ) where
   term-name : t < firstVariable → termText names constants t ≡ nameAt names constantsAt constants t
-  unfolding termText termTree nameAt tablesOf
-  term-name h = rw (lt-ltb t firstVariable h)
+  unfolding termText nameAt tablesOf
+  term-name h = rw (constant-tree (tablesAt names constants 0) t h)
 
-  term-number : firstVariable ≤ t → termText names constants t ≡ (63 ∷ 118 ∷ []) ++ digits (t - firstVariable)
-  unfolding termText termTree variableName
-  term-number h = rw (le-ltb t firstVariable h)
+  term-variable : firstVariable ≤ t → t < firstMinimum → termText names constants t ≡ (63 ∷ 118 ∷ []) ++ digits (t - firstVariable)
+  unfolding termText variableName
+  term-variable h k = rw (variable-tree (tablesAt names constants 0) t h k)
+
+  term-minimum : firstMinimum ≤ t → termText names constants t ≡ (37 ∷ 118 ∷ []) ++ digits (t - firstMinimum)
+  unfolding termText variableName
+  term-minimum h = rw (minimum-tree (tablesAt names constants 0) t h)
 
   pub term-within : t < 256 → length (termText names constants t) ≤ 22
-  term-within l = go (cmp t firstVariable)
+  term-within l = go (kinds t)
     where
-      far : firstVariable ≤ t → length (termText names constants t) ≤ 22
-      far h = rw (term-number h) (omega (arith, digits-short (t - firstVariable) (omega arith)))
+      go : Kinds t → length (termText names constants t) ≤ 22
+      go (constant h) = rw (term-name h) (omega (arith, name-within names constantsAt constants t))
+      go (maximum h k) = rw (term-variable h k) (omega (arith, digits-short (t - firstVariable) (omega arith)))
+      go (least h) = rw (term-minimum h) (omega (arith, digits-short (t - firstMinimum) (omega arith)))
 
-      go : Cmp t firstVariable → length (termText names constants t) ≤ 22
-      go (below h) = rw (term-name h) (omega (arith, name-within names constantsAt constants t))
-      go (equal h) = far (omega arith)
-      go (above h) = far (omega arith)
+module _ (s names : List ℕ) (place constants t : ℕ) where
+  pub constant-room : t < firstVariable → place + length (termText names constants t) ≤ length s → place + length (nameAt names constantsAt constants t) ≤ length s
+  constant-room h room = omega (arith, ap length (term-name names constants t h))
 
-module _ (s names : List ℕ) (place constants t : ℕ) (room : place + length (termText names constants t) ≤ length s) where
-  pub constant-room : t < firstVariable → place + length (nameAt names constantsAt constants t) ≤ length s
-  constant-room h = omega (arith, ap length (term-name names constants t h))
+  pub variable-room : firstVariable ≤ t → t < firstMinimum → place + length (termText names constants t) ≤ length s
+      → place + length ((63 ∷ 118 ∷ []) ++ digits (t - firstVariable)) ≤ length s
+  variable-room h k room = omega (arith, ap length (term-variable names constants t h k))
 
-  pub variable-first : firstVariable ≤ t → place + 2 ≤ length s
-  variable-first h = omega (arith, ap length (term-number names constants t h))
+  pub minimum-room : firstMinimum ≤ t → place + length (termText names constants t) ≤ length s
+      → place + length ((37 ∷ 118 ∷ []) ++ digits (t - firstMinimum)) ≤ length s
+  minimum-room h room = omega (arith, ap length (term-minimum names constants t h))
 
-  pub variable-room : {s₁ : List ℕ} {q : ℕ} → firstVariable ≤ t → Wrote s place (63 ∷ 118 ∷ []) q s₁ → length s₁ ≡ length s
-      → q + length (digits (t - firstVariable)) ≤ length s₁
-  variable-room h p e = omega (arith, ap length (term-number names constants t h), p .behind)
+module _ {s s′ : List ℕ} (names : List ℕ) {place : ℕ} (constants : ℕ) {t r : ℕ} where
+  pub constant-term : t < firstVariable → Wrote s place (nameAt names constantsAt constants t) r s′ → Wrote s place (termText names constants t) r s′
+  constant-term h p = rw (term-name names constants t h) p
 
-  pub variable-wrote : {s₁ s₂ : List ℕ} {q r : ℕ} → firstVariable ≤ t → Wrote s place (63 ∷ 118 ∷ []) q s₁ → Wrote s₁ q (digits (t - firstVariable)) r s₂
-      → Wrote s place (termText names constants t) r s₂
-  variable-wrote h x y =
-      let e = term-number names constants t h in
-      rw e (wrote-then (omega (arith, ap length e, x .behind)) x y)
+  pub variable-term : firstVariable ≤ t → t < firstMinimum → Wrote s place ((63 ∷ 118 ∷ []) ++ digits (t - firstVariable)) r s′
+      → Wrote s place (termText names constants t) r s′
+  variable-term h k p = rw (term-variable names constants t h k) p
 
-pub constant-wrote : {s s′ : List ℕ} (names : List ℕ) {place : ℕ} (constants : ℕ) {t r : ℕ} → t < firstVariable → Wrote s place (nameAt names constantsAt constants t) r s′
-    → Wrote s place (termText names constants t) r s′
-constant-wrote names constants {t} h p = rw (term-name names constants t h) p
+  pub minimum-term : firstMinimum ≤ t → Wrote s place ((37 ∷ 118 ∷ []) ++ digits (t - firstMinimum)) r s′ → Wrote s place (termText names constants t) r s′
+  minimum-term h p = rw (term-minimum names constants t h) p

@@ -7,6 +7,7 @@ use label::Label;
 use label::Term;
 ghost use mathlib.Core.Path.{_≡_};
 ghost use mathlib.Core.Bool.{true};
+ghost use mathlib.Core.List.{_++_};
 ghost use Prim.Native.Nat.{_+_, _*_, _<_, _≤_, max};
 ghost use lib.ListN.{length};
 ghost use Rattle.label.specs.Limits.{mostPlaces};
@@ -16,6 +17,7 @@ ghost use Rattle.diagram.specs.Listing.{diagramOf};
 ghost use Rattle.diagram.specs.Validity.{tree};
 ghost use Rattle.diagram.specs.Shown.{Shown};
 ghost use Rattle.names.specs.Layout.{constantsAt, declaredAt};
+ghost use Rattle.answers.specs.Digits.{digits};
 ghost use Rattle.answers.specs.Writing.{Placed};
 ghost use Rattle.answering.specs.Wrote.{Wrote};
 ghost use Rattle.diagram_form.specs.Form.{formLength, openBrackets};
@@ -49,6 +51,15 @@ fn put_name(out: &mut [u8], at: usize, names: &[u64], base: usize, n: usize, i: 
     put_key(out, at, key)
 }
 
+// Writes a variable of either kind: what stands before its number, and the number in its kind.
+fn put_variable(out: &mut [u8], at: usize, before: &[u8], i: u64) -> usize
+    requires { ⌜ at + length (now before ++ digits i) ≤ length (now out) ⌝ }
+    ensures { λ r. ⌜ Wrote (now (out .entry)) at (now (before .entry) ++ digits i) r (now (out .exit)) ⌝ }
+{
+    let j = put_bytes(out, at, before);
+    put_number(out, j, i)
+}
+
 // Writes a term.
 fn put_term(out: &mut [u8], at: usize, names: &[u64], constants: usize, t: u64) -> usize
     requires { ⌜ constantsAt + constants * 2 ≤ length (now names) ⌝ }
@@ -58,8 +69,10 @@ fn put_term(out: &mut [u8], at: usize, names: &[u64], constants: usize, t: u64) 
     if t < Term::FIRST_VARIABLE {
         return put_name(out, at, names, names::CONSTANTS, constants, t as usize);
     }
-    let i = put_bytes(out, at, b"?v");
-    put_number(out, i, t - Term::FIRST_VARIABLE)
+    if t < Term::FIRST_MINIMUM {
+        return put_variable(out, at, b"?v", t - Term::FIRST_VARIABLE);
+    }
+    put_variable(out, at, b"%v", t - Term::FIRST_MINIMUM)
 }
 
 // Writes the first n places of a label, a space before each.

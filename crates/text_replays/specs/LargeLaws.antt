@@ -1,7 +1,7 @@
 -- States that no diagram under the arity list tells apart meet 15 for the same listings: their tables have the same entries (document 02, L6).
 use mathlib.Core.Path.{_≡_, refl, sym, ap, ap₂, subst, fun-ext, _∙_}
 use mathlib.Core.Logic.{_≢_}
-use mathlib.Core.Bool.{Bool, true, false, _&&_, _||_, cond}
+use mathlib.Core.Bool.{Bool, true, false, not, _&&_, _||_, cond}
 use mathlib.Core.List.{List, [], _∷_, _++_}
 use Prim.Native.Nat.{ℕ, zero, suc, _+_, _-_, _≤_, _<_}
 use native.Mathlib.Omega.{arith}
@@ -23,6 +23,7 @@ use Rattle.elimination.specs.Tables.{Table, sumTo, countChoices, entries, leafT
 use Rattle.elimination.specs.Elimination.{untested, rowJoin, rowUnion, rowDrops, rowTable, tables, rowEntries, entriesTo, mostEntries, allEntries}
 use Rattle.elimination.specs.RowLaws.{row-leaf, row-branch, tables-length}
 use Rattle.elimination.specs.Answer.{isTooLarge}
+use Rattle.diagram.specs.Variables.{isPlain}
 use Rattle.diagram.specs.Listing.{diagramOf}
 use Rattle.mdp.specs.BackupLaws.{bound-none}
 use Rattle.replay.specs.Along.{Alike}
@@ -185,4 +186,5 @@ module _ (ar : List ℕ) (arities : areArities ar ≡ true) {s t : State} (a : A
       pub large-alike : isTooLarge ar s [] ws ≡ isTooLarge ar t [] ws
       unfolding isTooLarge allEntries
       large-alike =
-          ap₂ (λ (n m : ℕ). ltb mostValuations (valuations ar n (diagramOf ws)) && ltb mostEntries m) (a .size) (entries-to (rowCount ws) (omega arith))
+          ap₂ (λ (n m : ℕ). ltb mostValuations (valuations ar n (diagramOf ws)) && (not (isPlain ar (diagramOf ws)) || ltb mostEntries m))
+          (a .size) (entries-to (rowCount ws) (omega arith))

@@ -21,7 +21,7 @@ use Rattle.text.specs.declared.Kind.the-variants as K
 use Rattle.events.specs.declared.Event.{Event}
 use Rattle.events.specs.Events.{wordsEvents}
 use Rattle.reading.specs.declared.Binding.the-variants.{Only}
-use Rattle.reading.specs.Reading.{reading}
+use Rattle.reading.specs.Reading.{arguments, reading}
 use Rattle.reading.specs.Head.{headNumber, headArguments}
 use Rattle.build.specs.Machine.{built}
 use Rattle.session.specs.Session.{Names, Session}
@@ -56,7 +56,7 @@ truth-new n ar truths r es =
     accepted-next (outcomeOf (headNumber (n .predicates) es)) _ (λ p h.
     accepted-cond (isSome (truths p)) Name _ (λ a.
     accepted-next (outcomeOf (headArguments (getD ar p 0) es)) _ (λ x b.
-    accepted-next (outcomeOf (reading (namesFor n ar Only (n .parameters)) (x .rest) (x .variables))) _ (λ y c.
+    accepted-next (outcomeOf (reading (namesFor n ar Only (n .parameters)) (x .rest) (arguments (x .variables)))) _ (λ y c.
     accepted-next (built (y .operations)) _ (λ d e.
     accepted-cond (leafAbove 1 d) Truth _ (λ f.
     accepted-cond (ltb mostModelRows (rowsWith r d)) Space _ (λ g.

@@ -44,7 +44,7 @@ use Rattle.text.specs.LineForm.{lineKind}
 use Rattle.events.specs.declared.Event.{Event}
 use Rattle.events.specs.declared.Event.the-variants as E
 use Rattle.reading.specs.declared.Binding.the-variants.{Only}
-use Rattle.reading.specs.Reading.{pickJudged, reading}
+use Rattle.reading.specs.Reading.{pickJudged, arguments, reading}
 use Rattle.reading.specs.Reading.Judged.{fine, refused as judged}
 use Rattle.reading.specs.Head.{openedNumber, headNumber, headArguments}
 use Rattle.build.specs.Machine.{built}
@@ -247,6 +247,7 @@ head-below ks [] = accepted-refused
 head-below ks (E.Name k ∷ es) = accepted-refused
 head-below ks (E.Variable k ∷ es) = accepted-refused
 head-below ks (E.Parameter k ∷ es) = accepted-refused
+head-below ks (E.Minimum k ∷ es) = accepted-refused
 head-below ks (E.Number v ∷ es) = accepted-refused
 head-below ks (E.Equal ∷ es) = accepted-refused
 head-below ks (E.Step ∷ es) = accepted-refused
@@ -263,7 +264,7 @@ truth-below n ar truths r es =
     accepted-then (outcomeOf (headNumber (n .predicates) es)) (head-below (n .predicates) es) (λ p h.
     accepted-cond (isSome (truths p)) Name _ (λ a.
     accepted-next (outcomeOf (headArguments (getD ar p 0) es)) _ (λ x b.
-    accepted-next (outcomeOf (reading (namesFor n ar Only (n .parameters)) (x .rest) (x .variables))) _ (λ y c.
+    accepted-next (outcomeOf (reading (namesFor n ar Only (n .parameters)) (x .rest) (arguments (x .variables)))) _ (λ y c.
     accepted-next (built (y .operations)) _ (λ d e.
     accepted-cond (leafAbove 1 d) Truth _ (λ f.
     accepted-cond (ltb mostModelRows (rowsWith r d)) Space _ (λ g.

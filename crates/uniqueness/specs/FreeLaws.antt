@@ -11,9 +11,8 @@ use Rattle.basics.specs.Tests.{and-left, and-right, Flag, isTrue, isFalse, flag
 use Rattle.basics.specs.Members.{clash}
 use Rattle.refusal.specs.Outcome.{Outcome, ok, refused, Accepted}
 use Rattle.refusal.specs.OutcomeLaws.{accepted-mono, accepted-refused}
-use Rattle.label.specs.Limits.{constantCount, firstParameter, parameterCount, firstVariable, termEnd}
-use Rattle.label.specs.Terms.{isConstant, isParameter, isVariable, isTerm}
-use Rattle.label.specs.LabelLaws.{term-below}
+use Rattle.label.specs.Limits.{constantCount, firstParameter, parameterCount, firstVariable, firstMinimum}
+use Rattle.label.specs.Terms.{isConstant, isParameter, isVariable, isMinimum, isTerm}
 use Rattle.label.specs.Renamings.{freeing}
 use Rattle.label.specs.RenamingLaws.{Freed, freeing-increasing}
 use Rattle.diagram.specs.Diagram.{Diagram}
@@ -34,14 +33,18 @@ use Rattle.uniqueness.specs.ThroughLaws.{renamed-means}
 
 -- no term stands between the parameters and the variables
 low-term : (t : ℕ) → isTerm t ≡ true → t < firstVariable → t < firstParameter + parameterCount
-unfolding isTerm isConstant isParameter isVariable
+unfolding isTerm isConstant isParameter isVariable isMinimum
 low-term t e h = go (either (isConstant t) _ e)
   where
-    rest : Either (isParameter t) (isVariable t) → t < firstParameter + parameterCount
-    rest (one q) = ltb-true t (firstParameter + parameterCount) (and-right (leb firstParameter t) _ q)
-    rest (other q) = absurd (omega (arith, leb-true firstVariable t (and-left (leb firstVariable t) _ q)))
+    last : Either (isVariable t) (isMinimum t) → t < firstParameter + parameterCount
+    last (one q) = absurd (omega (arith, leb-true firstVariable t (and-left (leb firstVariable t) _ q)))
+    last (other q) = absurd (omega (arith, leb-true firstMinimum t (and-left (leb firstMinimum t) _ q)))
 
-    go : Either (isConstant t) (isParameter t || isVariable t) → t < firstParameter + parameterCount
+    rest : Either (isParameter t) (isVariable t || isMinimum t) → t < firstParameter + parameterCount
+    rest (one q) = ltb-true t (firstParameter + parameterCount) (and-right (leb firstParameter t) _ q)
+    rest (other q) = last (either (isVariable t) _ q)
+
+    go : Either (isConstant t) (isParameter t || (isVariable t || isMinimum t)) → t < firstParameter + parameterCount
     go (one q) = omega (arith, ltb-true t constantCount q)
     go (other q) = rest (either (isParameter t) _ q)
 
@@ -50,7 +53,7 @@ module _ (ar : List ℕ) (count : ℕ) (d r : Diagram) (g : Good ar d) (f : IsFr
   freeable = record {
     count = f .few;
     parameters = λ t o h. parameter t o h (cmp t (firstParameter + count));
-    variables = λ t o h. variable t o (cmp (t + count) termEnd);
+    variables = λ t o h k. variable t o k (cmp (t + count) firstMinimum);
   }
     where
       term : (t : ℕ) → occurs ar t d ≡ true → isTerm t ≡ true
@@ -61,10 +64,10 @@ module _ (ar : List ℕ) (count : ℕ) (d r : Diagram) (g : Good ar d) (f : IsFr
       parameter t o h (equal x) = clash o (f .parameters t (omega arith) (low-term t (term t o) h))
       parameter t o h (above x) = clash o (f .parameters t (omega arith) (low-term t (term t o) h))
 
-      variable : (t : ℕ) → occurs ar t d ≡ true → Cmp (t + count) termEnd → t + count < termEnd
-      variable t o (below x) = x
-      variable t o (equal x) = clash o (f .variables t (omega arith) (term-below t (term t o)))
-      variable t o (above x) = clash o (f .variables t (omega arith) (term-below t (term t o)))
+      variable : (t : ℕ) → occurs ar t d ≡ true → t < firstMinimum → Cmp (t + count) firstMinimum → t + count < firstMinimum
+      variable t o k (below x) = x
+      variable t o k (equal x) = clash o (f .variables t (omega arith) k)
+      variable t o k (above x) = clash o (f .variables t (omega arith) k)
 
   freed-only : TheOnly ar (freeMeaning ar count d) r
   unfolding freeMeaning freed

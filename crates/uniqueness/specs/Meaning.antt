@@ -1,5 +1,5 @@
 -- What a result means, choice by choice, and what it is to be the only diagram with a meaning (document 01, sections 'Terms, labels, listings',
--- 'Combination' and 'Regression').
+-- 'Combination' and 'Regression'; minimum variables, document 02, L12).
 use mathlib.Core.Path.{_≡_}
 use mathlib.Core.Bool.{Bool, true}
 use mathlib.Core.List.{List}
@@ -7,13 +7,13 @@ use mathlib.Core.Option.{Option, some, none}
 use Prim.Native.Nat.{ℕ, _+_}
 use lib.ListN.{length}
 use lib.Dec.{eqb}
-use Rattle.label.specs.Limits.{firstVariable}
+use Rattle.label.specs.Limits.{firstVariable, firstMinimum}
 use Rattle.label.specs.Labels.{predicateOf, unpacked, termsOf}
 use Rattle.label.specs.Renamings.{moved, numbering, freeing}
 use Rattle.diagram.specs.Diagram.{Diagram, eval, Ordered, Reduced}
 use Rattle.diagram.specs.Words.{isListing}
 use Rattle.diagram.specs.Listing.{diagramOf, Good}
-use Rattle.diagram.specs.Variables.{variables}
+use Rattle.diagram.specs.Variables.{variables, minimums}
 use Rattle.apply.specs.declared.Operation.{Operation}
 use Rattle.apply.specs.declared.Names.{Names}
 use Rattle.apply.specs.declared.Names.the-variants.{Apart, Shared}
@@ -47,9 +47,10 @@ pub record TheOnlyListing (ar : List ℕ) (M : Meaning) (words : List ℕ) : Typ
 abbrev pub readThrough : List ℕ → (ℕ → ℕ) → Choice → Choice
 readThrough ar ρ c l = asked c (moved ar ρ l)
 
--- 'Closing up renames the used variables to 32, 33, .. in their order', 64, 65, .. since L8: those of d
+-- 'Closing up renames the used variables to 32, 33, .. in their order', 64, 65, .. since L8, and 'keeps the two kinds separate', the minimum variables 128, 129, ..
+-- (L12): those of d
 abbrev pub closingUp : List ℕ → Diagram → ℕ → ℕ
-closingUp ar d = numbering (variables ar d) firstVariable
+closingUp ar d = numbering (variables ar d) (minimums ar d) firstVariable firstMinimum
 
 -- M where the variables that d uses are closed up
 abbrev pub closedMeaning : List ℕ → Diagram → Meaning → Meaning
@@ -73,14 +74,14 @@ pub record TheOnlyClosedListing (ar : List ℕ) (M : Meaning) (words : List ℕ)
 abbrev pub sharedMeaning : Operation → Diagram → Diagram → Meaning
 sharedMeaning op a b c = operate op (eval c a) (eval c b)
 
--- 'Apart: the first operand is closed up, the second's variables follow after'
+-- 'Apart: the first operand is closed up, the second's variables follow after', and its minimum variables are moved 'aside too' (L12)
 abbrev pub following : List ℕ → Diagram → Diagram → ℕ → ℕ
-following ar a b = numbering (variables ar b) (firstVariable + length (variables ar a))
+following ar a b = numbering (variables ar b) (minimums ar b) (firstVariable + length (variables ar a)) (firstMinimum + length (minimums ar a))
 
 abbrev pub apartMeaning : Operation → List ℕ → Diagram → Diagram → Meaning
 apartMeaning op ar a b c = operate op (eval (readThrough ar (closingUp ar a) c) a) (eval (readThrough ar (following ar a b) c) b)
 
--- the words are the combination of a and b: 'results are closed up only when apart'
+-- the words are the combination of a and b, done with these names: 'results are closed up only when apart'
 abbrev pub OnlyCombined : Operation → Names → List ℕ → Diagram → Diagram → List ℕ → Type 0
 OnlyCombined op Shared ar a b words = TheOnlyListing ar (sharedMeaning op a b) words
 OnlyCombined op Apart ar a b words = TheOnlyClosedListing ar (apartMeaning op ar a b) words
@@ -106,7 +107,8 @@ regressMeaning ar truths d c = eval (nextChoice ar truths c) d
 
 -- ===== Freeing =====
 
--- 'Freeing turns parameter 16 + i into variable 32 + i and moves the other variables up by the action's parameter count'; 64 + i since L8
+-- 'Freeing turns parameter 16 + i into variable 32 + i and moves the other variables up by the action's parameter count'; 64 + i since L8. It 'leaves [the]
+-- numbers' of minimum variables (L12)
 unfoldable pub freeMeaning : List ℕ → ℕ → Diagram → Meaning
 unfolding eval
 freeMeaning ar count d c = eval (readThrough ar (freeing count) c) d

@@ -1,4 +1,4 @@
--- What the diagram on a line means, and what an accepted line with one leaves behind (document 01, section 'Text').
+-- What the diagram on a line means, and what an accepted line with one leaves behind (document 01, section 'Text'; document 02, L2 and L12).
 use mathlib.Core.Path.{_≡_}
 use mathlib.Core.Bool.{true}
 use mathlib.Core.List.{List, []}
@@ -14,10 +14,9 @@ use Rattle.names.specs.Keys.{placeOf, isAmong}
 use Rattle.diagram.specs.Diagram.{Diagram}
 use Rattle.events.specs.Events.{diagramEvents}
 use Rattle.reading.specs.declared.Binding.the-variants.{Any, None, Only}
-use Rattle.reading.specs.Reading.{Names}
+use Rattle.reading.specs.Reading.{Names, Met, arguments as argumentsMet}
 use Rattle.reading.specs.Reading.Judged.{fine}
-use Rattle.reading.specs.Occurrences.{variableKeys}
-use Rattle.reading.specs.Numbering.{variablesFirst}
+use Rattle.reading.specs.Numbering.{metFirst}
 use Rattle.reading.specs.Head.{headKeys}
 use Rattle.reading.specs.Tree.{Reading, resolveDiagram}
 use Rattle.build.specs.Build.{meaning}
@@ -29,37 +28,37 @@ use Rattle.uniqueness.specs.Meaning.{TheOnly, TheOnlyClosed}
 
 -- ===== What is written =====
 
--- the tree t of a diagram, each name resolved in the order of the words, is r; the variables vs stand before it
-pub record StandsFor (names : Names) (vs : List Key) (t : T.Diagram) (r : Reading) : Type 0 where
-  pub met : List Key
-  pub resolved : resolveDiagram names vs t ≡ fine (record { value = r; variables = met })
+-- the tree t of a diagram, each name resolved in the order of the words, is r; the variables vs of each kind stand before it
+pub record StandsFor (names : Names) (vs : Met) (t : T.Diagram) (r : Reading) : Type 0 where
+  pub met : Met
+  pub resolved : resolveDiagram names vs t ≡ fine (record { value = r; met = met })
 
 -- d is the only diagram that means what t writes. 'A diagram is a number, or (if ATOM DIAGRAM DIAGRAM)': the leaf that the choice c leads to, by the truth of
 -- each ATOM, is build's `meaning` c.
-pub record Writes (names : Names) (vs : List Key) (t : T.Diagram) (d : Diagram) : Type 0 where
+pub record Writes (names : Names) (vs : Met) (t : T.Diagram) (d : Diagram) : Type 0 where
   pub tree : Reading
   pub stands : StandsFor names vs t tree
   pub one : TheOnly (names .arities) (λ c. meaning c tree) d
 
 -- 'a reward is closed up when read'
-pub record WritesClosed (names : Names) (vs : List Key) (t : T.Diagram) (d : Diagram) : Type 0 where
+pub record WritesClosed (names : Names) (vs : Met) (t : T.Diagram) (d : Diagram) : Type 0 where
   pub tree : Reading
   pub stands : StandsFor names vs t tree
   pub one : TheOnlyClosed (names .arities) (λ c. meaning c tree) d
 
 -- ===== Accepted lines =====
 
--- (reward DIAGRAM): any variables, by ascending N where each is written so (document 02, L2), no parameter
+-- (reward DIAGRAM): any variables of both kinds, those of a kind by ascending N where each is written so (document 02, L2 and L12), no parameter
 pub record RewardOf (σ : Session) (t : T.Diagram) (τ : Session) : Type 0 where
   pub diagram : Diagram
   pub behind : τ ≡ withReward σ diagram
-  pub is : WritesClosed (namesFor (σ .names) (σ .model .arities) Any []) (variablesFirst (variableKeys (diagramEvents t))) t diagram
+  pub is : WritesClosed (namesFor (σ .names) (σ .model .arities) Any []) (metFirst (diagramEvents t)) t diagram
 
 -- (variant n WEIGHT): no variable, the parameters of the last action
 pub record WeightOf (σ : Session) (n : List ℕ) (t : T.Diagram) (τ : Session) : Type 0 where
   pub diagram : Diagram
   pub behind : τ ≡ withVariant σ (keyOf n) diagram
-  pub is : Writes (namesFor (σ .names) (σ .model .arities) None (σ .names .parameters)) [] t diagram
+  pub is : Writes (namesFor (σ .names) (σ .model .arities) None (σ .names .parameters)) (argumentsMet []) t diagram
 
 -- (becomes (p ?a ..) DIAGRAM): the arguments, numbered as the first variables in their order, and the parameters of the last action
 abbrev pub predicateNumber : Session → List ℕ → ℕ
@@ -71,7 +70,7 @@ pub record TruthOf (σ : Session) (p : List ℕ) (vs : List (List ℕ)) (t : T.D
   pub head : headKeys (getD (σ .model .arities) (predicateNumber σ p) 0) vs ≡ fine arguments
   pub diagram : Diagram
   pub behind : τ ≡ withTruth σ (predicateNumber σ p) diagram
-  pub is : Writes (namesFor (σ .names) (σ .model .arities) Only (σ .names .parameters)) arguments t diagram
+  pub is : Writes (namesFor (σ .names) (σ .model .arities) Only (σ .names .parameters)) (argumentsMet arguments) t diagram
 
 -- ===== Demand 2 for texts =====
 

@@ -26,10 +26,9 @@ use Rattle.regression.specs.Regression.{Truths}
 use Rattle.regression.specs.RegressCall.{leafAbove}
 use Rattle.reading.specs.declared.Binding.{Binding}
 use Rattle.reading.specs.declared.Binding.the-variants.{Any, None, Only}
-use Rattle.reading.specs.Reading.{reading}
+use Rattle.reading.specs.Reading.{reading, arguments as argumentsMet}
 use Rattle.reading.specs.Reading.Judged.{fine}
-use Rattle.reading.specs.Occurrences.{variableKeys}
-use Rattle.reading.specs.Numbering.{variablesFirst, rewardReading}
+use Rattle.reading.specs.Numbering.{metFirst, rewardReading}
 use Rattle.reading.specs.Head.{Head, openedNumber, headNumber, headArguments, headKeys}
 use Rattle.reading.specs.JudgedLaws.{fine-one, passed, chained}
 use Rattle.reading.specs.LineLaws.{becomes-arguments}
@@ -56,28 +55,28 @@ names-fit n ar good b ps few =
     record { constants-few = good .constants; predicates-few = good .predicates; parameters-few = few; arity-list = good .arities }
 
 module _ (n : Names) (ar : List ℕ) (good : GoodTables n ar) (rows : ℕ) where
-  reward-written : (t : T.Diagram) → T.brackets t ≤ mostTests → Accepted (WritesClosed (namesFor n ar Any []) (variablesFirst (variableKeys (diagramEvents t))) t)
+  reward-written : (t : T.Diagram) → T.brackets t ≤ mostTests → Accepted (WritesClosed (namesFor n ar Any []) (metFirst (diagramEvents t)) t)
       (rewardRead n ar rows (diagramEvents t))
   unfolding rewardRead rewardReading
   reward-written t shallow =
       let fit = names-fit n ar good Any [] (omega arith) in
-      let vs = variablesFirst (variableKeys (diagramEvents t)) in
+      let vs = metFirst (diagramEvents t) in
       accepted-read (reading (namesFor n ar Any []) (diagramEvents t) vs) _ (λ w e.
       accepted-next (builtClosed ar (w .operations)) _ (λ d m.
       accepted-cond (ltb mostModelRows (rowsWith rows d)) Space _ (λ few.
       accepted-ok (built-closed (namesFor n ar Any []) fit t shallow vs w (resolved (namesFor n ar Any []) fit t vs w e) d m))))
 
   weight-written : (k : Key) (t : T.Diagram) → T.brackets t ≤ mostTests
-      → Accepted (Writes (namesFor n ar None (n .parameters)) [] t) (weightRead n ar rows k (diagramEvents t))
+      → Accepted (Writes (namesFor n ar None (n .parameters)) (argumentsMet []) t) (weightRead n ar rows k (diagramEvents t))
   unfolding weightRead
   weight-written k t shallow =
       let names = namesFor n ar None (n .parameters) in
       let fit = names-fit n ar good None (n .parameters) (good .parameters) in
       accepted-cond (isAmong k (n .variants)) Name _ (λ new.
-      accepted-read (reading names (diagramEvents t) []) _ (λ w e.
+      accepted-read (reading names (diagramEvents t) (argumentsMet [])) _ (λ w e.
       accepted-next (built (w .operations)) _ (λ d m.
       accepted-cond (leb mostVariants (length (n .variants)) || ltb mostModelRows (rowsWith rows d)) Space _ (λ few.
-      accepted-ok (built-writes names fit t shallow [] w (resolved names fit t [] w e) d m)))))
+      accepted-ok (built-writes names fit t shallow (argumentsMet []) w (resolved names fit t (argumentsMet []) w e) d m)))))
 
   -- a truth diagram d of the predicate p
   record Became (w : Words K.Becomes) (p : ℕ) (d : Diagram) : Type 0 where
@@ -85,7 +84,7 @@ module _ (n : Names) (ar : List ℕ) (good : GoodTables n ar) (rows : ℕ) where
     numbered : placeOf (keyOf (w .0)) (n .predicates) + 1 ≡ p
     arguments : List Key
     head : headKeys (getD ar p 0) (w .1) ≡ fine arguments
-    is : Writes (namesFor n ar Only (n .parameters)) arguments (w .2) d
+    is : Writes (namesFor n ar Only (n .parameters)) (argumentsMet arguments) (w .2) d
 
   truth-written : (truths : Truths) (w : Words K.Becomes) → GoodWords K.Becomes w → T.brackets (w .2) ≤ mostTests
       → Accepted (λ (x : ℕ × Diagram). Became w (x .0) (x .1)) (truthRead n ar truths rows (wordsEvents K.Becomes w))
@@ -96,7 +95,7 @@ module _ (n : Names) (ar : List ℕ) (good : GoodTables n ar) (rows : ℕ) where
       accepted-read (headNumber (n .predicates) (wordsEvents K.Becomes w)) _ (λ p i.
       accepted-cond (isSome (truths p)) Name _ (λ new.
       accepted-read (headArguments (getD ar p 0) (wordsEvents K.Becomes w)) _ (λ h j.
-      accepted-read (reading names (h .rest) (h .variables)) _ (λ u e.
+      accepted-read (reading names (h .rest) (argumentsMet (h .variables))) _ (λ u e.
       accepted-next (built (u .operations)) _ (λ d m.
       accepted-cond (leafAbove 1 d) Truth _ (λ bits.
       accepted-cond (ltb mostModelRows (rowsWith rows d)) Space _ (λ few.
@@ -104,13 +103,13 @@ module _ (n : Names) (ar : List ℕ) (good : GoodTables n ar) (rows : ℕ) where
       let c = chained (headKeys (getD ar p 0) (w .1)) _ h
       (sym (becomes-arguments (getD ar p 0) w g) ∙ ap (headArguments (getD ar p 0)) (line-events K.Becomes w g) ∙ j) in
       let z = fine-one (c .then) in
-      let f : reading names (diagramEvents (w .2)) (c .first) ≡ fine u = subst (λ (x : Head). reading names (x .rest) (x .variables) ≡ fine u) (sym z) e in
+      let f : reading names (diagramEvents (w .2)) (argumentsMet (c .first)) ≡ fine u = subst (λ (x : Head). reading names (x .rest) (argumentsMet (x .variables)) ≡ fine u) (sym z) e in
       accepted-ok (record {
         declared = q .0;
         numbered = q .1;
         arguments = c .first;
         head = c .answers;
-        is = built-writes names fit (w .2) shallow (c .first) u (resolved names fit (w .2) (c .first) u f) d m;
+        is = built-writes names fit (w .2) shallow (argumentsMet (c .first)) u (resolved names fit (w .2) (argumentsMet (c .first)) u f) d m;
       }))))))))
 
 -- ===== The session behind a line =====

@@ -4,14 +4,11 @@ use mathlib.Core.Bool.{true}
 use mathlib.Core.List.{List, [], _∷_, _++_, append-assoc}
 use Prim.Native.Nat.{ℕ, _≤_}
 use native.Mathlib.Omega.{arith}
-use lib.Dec.{leb}
 use lib.ListN.{length}
 use Rattle.refusal.specs.declared.Refusal.the-variants.{Variables}
 use Rattle.refusal.specs.Outcome.{ok}
-use Rattle.label.specs.Limits.{variableCount}
 use Rattle.label.specs.Labels.{isLabel}
 use Rattle.label.specs.declared.Test.the-variants.{Always, Is}
-use Rattle.words.specs.declared.Key.{Key}
 use Rattle.forms.specs.Tree as T
 use Rattle.diagram.specs.Sizes.{mostRows}
 use Rattle.diagram.specs.Diagram.{Diagram, leaf, branch, eval, relabel, Ordered, Reduced}
@@ -24,7 +21,7 @@ use Rattle.mdp.specs.CallLaws.{closed-count}
 use Rattle.events.specs.Events.{diagramEvents}
 use Rattle.reading.specs.Operations.{Op}
 use Rattle.reading.specs.Operations.Op.{step}
-use Rattle.reading.specs.Reading.{Names, Written, reading}
+use Rattle.reading.specs.Reading.{Names, Met, Written, isWithin, reading}
 use Rattle.reading.specs.Reading.Judged.{fine}
 use Rattle.reading.specs.Tree.{Reading, resolveDiagram, opsOf, writing, diagramReading, depth, Named, reach, GoodReading, NamesFit}
 use Rattle.reading.specs.Tree.Reading.{number, branch as conditional}
@@ -67,24 +64,24 @@ ops-one a b e = ops-front a b [] [] (ap (_++ []) e) .0
 -- ===== The tree of a line =====
 
 -- what the words w of a line come to: the operations of what its tree stands for
-pub record Resolved (names : Names) (vs : List Key) (t : T.Diagram) (w : Written) : Type 0 where
+pub record Resolved (names : Names) (vs : Met) (t : T.Diagram) (w : Written) : Type 0 where
   pub tree : Reading
   pub stands : StandsFor names vs t tree
   pub operations : w .operations ≡ opsOf tree
   pub good : GoodReading (names .arities) (Named (length (names .parameters)) (reach (names .binding) vs)) tree
   pub shallow : depth tree ≤ T.brackets t
 
-pub resolved : (names : Names) → NamesFit names → (t : T.Diagram) (vs : List Key) (w : Written) → reading names (diagramEvents t) vs ≡ fine w → Resolved names vs t w
+pub resolved : (names : Names) → NamesFit names → (t : T.Diagram) (vs : Met) (w : Written) → reading names (diagramEvents t) vs ≡ fine w → Resolved names vs t w
 unfolding diagramReading
 resolved names fit t vs w e =
     let c = chained (resolveDiagram names vs t) writing w (sym (reading-diagram names t vs) ∙ e) in
-    let p = passed (leb (length (c .first .variables)) variableCount) _ Variables w (c .then) in
+    let p = passed (isWithin (c .first .met)) _ Variables w (c .then) in
     let s = reading-sound names fit t vs w e in
     let o : w .operations ≡ opsOf (c .first .value) = ap (λ (x : Written). x .operations) (sym (p .1)) in
     let q : s .tree ≡ c .first .value = ops-one (s .tree) (c .first .value) (sym (s .operations) ∙ o) in
     record {
       tree = c .first .value;
-      stands = record { met = c .first .variables; resolved = c .answers };
+      stands = record { met = c .first .met; resolved = c .answers };
       operations = o;
       good = subst (GoodReading (names .arities) (Named (length (names .parameters)) (reach (names .binding) vs))) q (s .good);
       shallow = subst (λ (r : Reading). depth r ≤ T.brackets t) q (s .shallow);
@@ -124,7 +121,7 @@ fine-open ar d w h = fine-before ar _ d w h
 
 -- ===== What is built =====
 
-module _ (names : Names) (fit : NamesFit names) (t : T.Diagram) (shallow : T.brackets t ≤ mostTests) (vs : List Key) (w : Written) (x : Resolved names vs t w) (d : Diagram) where
+module _ (names : Names) (fit : NamesFit names) (t : T.Diagram) (shallow : T.brackets t ≤ mostTests) (vs : Met) (w : Written) (x : Resolved names vs t w) (d : Diagram) where
   labels-asked : EachAsked (λ l. isLabel (names .arities) l ≡ true) (x .tree)
   labels-asked = good-asked (names .arities) _ (x .tree) (x .good)
 

@@ -1,5 +1,5 @@
 use borrow.Author.Needs.{needs}
-use Rattle.spelling.proofs.NameLaws.{constant-room, constant-wrote, variable-first, variable-room, variable-wrote}
+use Rattle.spelling.proofs.NameLaws.{constant-room, constant-term, variable-room, variable-term, minimum-room, minimum-term}
 use Rattle.spelling.proofs.put_term.Statement.{statement}
 use Rattle.spelling.proofs.put_term.Tie as tie
 
@@ -7,18 +7,32 @@ put-name-requires : tie.Need-put-name-requires
 put-name-requires c κs = (search needs, search constant-room)
 
 returns : tie.Need-returns
-returns c = search constant-wrote
+returns c = search constant-term
 
-put-bytes-requires : tie.Need-put-bytes-requires
-put-bytes-requires c κs = search variable-first
-
-put-number-requires : tie.Need-put-number-requires
-put-number-requires c κs = search variable-room
+put-variable-requires : tie.Need-put-variable-requires
+put-variable-requires c κs = search variable-room
 
 returns-2 : tie.Need-returns-2
-returns-2 c = search variable-wrote
+returns-2 c = search variable-term
+
+put-variable-requires-2 : tie.Need-put-variable-requires-2
+put-variable-requires-2 c κs = search minimum-room
+
+returns-3 : tie.Need-returns-3
+returns-3 c = search minimum-term
 
 pub put-term-spec : {M : Type 1} → statement M
 put-term-spec =
     tie.close
-    (tie.spec put-name-requires (λ c. search needs) returns (λ c. search needs) put-bytes-requires put-number-requires (λ c. search needs) returns-2)
+    (tie.spec
+    put-name-requires
+    (λ c. search needs)
+    returns
+    (λ c. search needs)
+    put-variable-requires
+    (λ c. search needs)
+    returns-2
+    (λ c. search needs)
+    put-variable-requires-2
+    (λ c. search needs)
+    returns-3)
