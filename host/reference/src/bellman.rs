@@ -1,6 +1,7 @@
 //! Document 01, "Backup", the equation: Mk from state to state by brute force. No diagram is used.
 
-use crate::state::{highest, State, Valuation};
+use crate::slips::Slips;
+use crate::state::{number_of, State, Valuation};
 use crate::terms::{Arities, Term, FIRST_PARAMETER, FIRST_VARIABLE};
 use crate::tree::Tree;
 use std::collections::{BTreeMap, BTreeSet};
@@ -24,6 +25,14 @@ pub struct PlainModel {
     pub discount: (u64, u64),
     pub reward: Tree,
     pub actions: Vec<PlainAction>,
+}
+
+impl PlainModel {
+    /// The reward's number in a state: the highest, over its maximum variables, of the lowest over its minimum ones.
+    pub fn reward(&self, state: &State) -> u64 {
+        let number = &mut |valuation: &mut Valuation| self.reward.number_in(state, valuation);
+        number_of(state.objects, &self.reward.variables(), &mut Valuation::new(), Slips::NONE, number)
+    }
 }
 
 /// All tuples of that many objects.
@@ -69,10 +78,7 @@ impl<'a> Bellman<'a> {
         if let Some(value) = self.known.get(&(k, state.clone())) {
             return *value;
         }
-        let variables: Vec<Term> = self.model.reward.variables().into_iter().collect();
-        let reward = &self.model.reward;
-        let reward = highest(state.objects, &variables, &mut Valuation::new(), &mut |v| reward.number_in(state, v));
-        let mut value = u128::from(reward);
+        let mut value = u128::from(self.model.reward(state));
         if k > 0 {
             let scale = u128::from(self.model.total) * u128::from(self.model.discount.1);
             value = scale.pow(k as u32) * value + self.best(k, state);

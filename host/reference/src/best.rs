@@ -35,7 +35,7 @@ pub fn best(model: &Model, arities: &Arities, value: &Diagram, state: &State, sl
     for (number, action) in model.actions.iter().enumerate() {
         let regressed = expected(model, action, value, sums, slips)?;
         for objects in bindings(state.objects, action.parameters) {
-            let sum = value_with(&regressed, arities, state, &bound(&objects))?;
+            let sum = value_with(&regressed, arities, state, &bound(&objects), slips)?;
             let higher = |best: &Move| sum > best.sum || (slips.later_move && sum == best.sum);
             if best.as_ref().is_none_or(higher) {
                 best = Some(Move { action: number, objects, sum });

@@ -59,7 +59,7 @@ pub fn regress(value: &[u64], truths: &[Option<&[u64]>; PREDICATES], arities: &[
     Ok(write_listing(&regress::regress(&value, &read, Slips::NONE)?))
 }
 
-/// 7 for a leaf above 1, then 6 for a variable that is no argument.
+/// 7 for a leaf above 1, then 6 for a variable that is no argument, as every minimum variable.
 fn check_truth(truth: &Diagram, arity: u64) -> Result<(), Refusal> {
     require(truth.leaves().all(|leaf| leaf <= 1), Refusal::Truth)?;
     require(truth.variables().iter().all(|v| *v < FIRST_VARIABLE + arity), Refusal::Unbound)
@@ -71,9 +71,10 @@ pub fn free(value: &[u64], parameters: u64, arities: &[u64], lent: Lent) -> Resu
     lent.check()?;
     require(parameters <= PARAMETERS, Refusal::Range)?;
     require(value.parameters().iter().all(|p| *p < FIRST_PARAMETER + parameters), Refusal::Unbound)?;
-    Ok(write_listing(&regress::free(&value, parameters)?))
+    Ok(write_listing(&regress::free(&value, parameters, Slips::NONE)?))
 }
 
+/// 14, 18, then the cut's own: 25, 17, 16.
 pub fn cut(value: &[u64], arities: &[u64], lent: Lent) -> Result<(Vec<u64>, Edge), Refusal> {
     let arities = read_arities(arities)?;
     let value = read_listing(value, &arities)?;

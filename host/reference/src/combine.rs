@@ -1,8 +1,9 @@
-//! Sum, product and max, names apart or shared (document 01, "Combination"; document 02, L4).
+//! Sum, product and max, names apart or shared (document 01, "Combination"; document 02, L4 and L12).
 
 use crate::diagram::{Diagram, Row, Space, LARGEST};
 use crate::refusal::{require, Refusal};
-use crate::terms::{Label, FIRST_VARIABLE, VARIABLES};
+use crate::slips::Slips;
+use crate::terms::{Label, VariableKind, VARIABLES};
 use std::collections::{BTreeMap, BTreeSet};
 
 #[derive(Clone, Copy, Debug, PartialEq, Eq)]
@@ -127,15 +128,27 @@ pub fn combine_in(space: &mut Space, operator: Operator, a: &Diagram, b: &Diagra
     Ok(Combined { diagram: space.diagram(root), pairs: pairs.len() })
 }
 
-/// The operands as a call combines them; apart, their renamed rows are formed: 8.
-pub fn operands(space: &mut Space, names: Names, a: &Diagram, b: &Diagram) -> Result<(Diagram, Diagram), Refusal> {
+/// "A max asked for with shared names is done apart if either side has" a minimum variable (document 02, L12).
+pub fn names_done(operator: Operator, names: Names, a: &Diagram, b: &Diagram) -> Names {
+    if operator == Operator::Max && (a.has_minimum() || b.has_minimum()) {
+        Names::Apart
+    } else {
+        names
+    }
+}
+
+/// The operands as a call combines them; apart, their renamed rows are formed: 8, which judges each kind of variables by itself.
+pub fn operands(space: &mut Space, names: Names, a: &Diagram, b: &Diagram, slips: Slips) -> Result<(Diagram, Diagram), Refusal> {
     if names == Names::Shared {
         return Ok((a.clone(), b.clone()));
     }
-    let used = a.variables().len() as u64;
-    require(used + b.variables().len() as u64 <= VARIABLES, Refusal::Variables)?;
+    let count = |diagram: &Diagram, kind| diagram.variables_of(kind).len() as u64;
+    for kind in VariableKind::ALL {
+        require(count(a, kind) + count(b, kind) <= VARIABLES, Refusal::Variables)?;
+    }
+    let aside = |kind| if slips.minimum_in_place && kind == VariableKind::Minimum { 0 } else { count(a, kind) };
+    let b = b.numbered_from(|kind| kind.first() + aside(kind));
     let a = a.closed_up();
-    let b = b.numbered_from(FIRST_VARIABLE + used);
     // Two listings of 1,024 rows fit, so this never refuses ahead of 10 and 11.
     space.form_diagram(&a)?;
     space.form_diagram(&b)?;
@@ -144,8 +157,13 @@ pub fn operands(space: &mut Space, names: Names, a: &Diagram, b: &Diagram) -> Re
 
 /// A combination as one call: 8, then 10, 11, 9.
 pub fn combine(operator: Operator, names: Names, a: &Diagram, b: &Diagram) -> Result<Combined, Refusal> {
+    combine_with(operator, names, a, b, Slips::NONE)
+}
+
+pub fn combine_with(operator: Operator, names: Names, a: &Diagram, b: &Diagram, slips: Slips) -> Result<Combined, Refusal> {
+    let names = if slips.max_shared { names } else { names_done(operator, names, a, b) };
     let mut space = Space::new();
-    let (a, b) = operands(&mut space, names, a, b)?;
+    let (a, b) = operands(&mut space, names, a, b, slips)?;
     let combined = combine_in(&mut space, operator, &a, &b)?;
     let diagram = combined.diagram.as_result()?;
     Ok(match names {

@@ -152,8 +152,9 @@ pub fn without(diagram: &Diagram, goes: impl Fn(Edge) -> bool) -> Diagram {
     space.diagram(places[diagram.root()]).closed_up()
 }
 
-/// The highest row number, true edge first, whose edge may go; 17, then 16.
+/// The highest row number, true edge first, whose edge may go; 25 for a minimum variable (document 02, L12), 17, then 16.
 pub fn cut(diagram: &Diagram, arities: &Arities, slips: Slips) -> Result<Cut, Refusal> {
+    require(!diagram.has_minimum(), Refusal::Minimum)?;
     let paths = paths(diagram)?;
     for number in (0..diagram.rows().len()).rev() {
         for side in [true, false] {

@@ -4,7 +4,7 @@
 use crate::diagram::{Diagram, LARGEST};
 use crate::refusal::{require, Refusal};
 use crate::regress::Truths;
-use crate::terms::{Arities, Term, EQUALITY, FIRST_PARAMETER, FIRST_VARIABLE, PREDICATES};
+use crate::terms::{Arities, Term, VariableKind, EQUALITY, FIRST_PARAMETER, PREDICATES};
 use crate::text::{WrittenAtom, WrittenDiagram, WrittenTerm};
 use crate::tree::Tree;
 
@@ -45,11 +45,27 @@ pub struct Declarations {
     pub actions: Vec<DeclaredAction>,
 }
 
-/// The variables that a diagram may name.
-pub enum Variables {
-    None,
-    /// These, numbered in their order.
-    Only(Vec<String>),
+/// The variables that a diagram may name, numbered in their order, kind by kind.
+#[derive(Clone, Debug, Default, PartialEq, Eq)]
+pub struct Variables {
+    pub maximum: Vec<String>,
+    pub minimum: Vec<String>,
+}
+
+impl Variables {
+    pub const NONE: Variables = Variables { maximum: Vec::new(), minimum: Vec::new() };
+
+    /// The arguments of a (becomes).
+    pub fn arguments(names: &[String]) -> Variables {
+        Variables { maximum: names.to_vec(), ..Variables::NONE }
+    }
+
+    pub fn of(&self, kind: VariableKind) -> &[String] {
+        match kind {
+            VariableKind::Maximum => &self.maximum,
+            VariableKind::Minimum => &self.minimum,
+        }
+    }
 }
 
 impl Declarations {
@@ -136,12 +152,9 @@ impl<'a> Lookup<'a> {
                 let place = self.parameters.iter().position(|p| p == name).ok_or(Refusal::Unbound)?;
                 Ok(FIRST_PARAMETER + place as Term)
             }
-            WrittenTerm::Variable(name) => {
-                let place = match &self.variables {
-                    Variables::None => None,
-                    Variables::Only(names) => names.iter().position(|n| n == name),
-                };
-                Ok(FIRST_VARIABLE + place.ok_or(Refusal::Unbound)? as Term)
+            WrittenTerm::Variable(kind, name) => {
+                let place = self.variables.of(*kind).iter().position(|n| n == name).ok_or(Refusal::Unbound)?;
+                Ok(kind.first() + place as Term)
             }
         }
     }

@@ -1,7 +1,7 @@
 //! Diagrams as listings, the working space, and renaming (document 01, "Terms, labels, listings" and "Combination").
 
 use crate::refusal::{require, Refusal};
-use crate::terms::{is_parameter, is_variable, Label, Term, Test, FIRST_VARIABLE};
+use crate::terms::{is_minimum, is_parameter, is_variable, Label, Term, Test, VariableKind};
 use std::collections::{BTreeMap, BTreeSet};
 
 /// Rows of a listing.
@@ -61,8 +61,17 @@ impl Diagram {
         })
     }
 
+    /// Those of both kinds, the maximum variables first.
     pub fn variables(&self) -> BTreeSet<Term> {
         self.labels().flat_map(|label| label.places()).filter(|t| is_variable(*t)).collect()
+    }
+
+    pub fn variables_of(&self, kind: VariableKind) -> BTreeSet<Term> {
+        self.variables().into_iter().filter(|t| VariableKind::of(*t) == Some(kind)).collect()
+    }
+
+    pub fn has_minimum(&self) -> bool {
+        self.variables().into_iter().any(is_minimum)
     }
 
     pub fn parameters(&self) -> BTreeSet<Term> {
@@ -101,14 +110,15 @@ impl Diagram {
         Diagram { rows: self.rows.iter().map(rename).collect() }
     }
 
-    /// The used variables become first, first + 1, .. in their order.
-    pub fn numbered_from(&self, first: Term) -> Diagram {
-        let numbers: BTreeMap<Term, Term> = self.variables().into_iter().zip(first..).collect();
+    /// The used variables of each kind become first, first + 1, .. of that kind in their order.
+    pub fn numbered_from(&self, first: impl Fn(VariableKind) -> Term) -> Diagram {
+        let numbered = |kind| self.variables_of(kind).into_iter().zip(first(kind)..);
+        let numbers: BTreeMap<Term, Term> = VariableKind::ALL.into_iter().flat_map(numbered).collect();
         self.renamed(&|term| *numbers.get(&term).unwrap_or(&term))
     }
 
     pub fn closed_up(&self) -> Diagram {
-        self.numbered_from(FIRST_VARIABLE)
+        self.numbered_from(VariableKind::first)
     }
 
     /// A result is held to 1,024 rows.

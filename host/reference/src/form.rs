@@ -1,9 +1,10 @@
-//! Document 02, L2: a value diagram as one nested form, which (text) prints, and the numbers of a reward's variables, so that such a form is read back as it was.
+//! Document 02, L2 and L12: a value diagram as one nested form, which (text) prints, and the numbers of a reward's variables, so that such a form is read back as it was.
 
-use crate::declarations::Declarations;
+use crate::declarations::{Declarations, Variables};
 use crate::diagram::{Diagram, Row};
 use crate::refusal::{require, Refusal};
-use crate::terms::{is_constant, Label, Term, EQUALITY, FIRST_VARIABLE};
+use crate::slips::Slips;
+use crate::terms::{is_constant, written_variable, Label, Term, VariableKind, EQUALITY};
 use crate::text::{read_number, WrittenAtom, WrittenDiagram, WrittenTerm, LINE_BYTES, OPEN_BRACKETS};
 
 /// What a form takes in a line.
@@ -70,19 +71,22 @@ fn term(term: Term, declared: &Declarations) -> String {
     if is_constant(term) {
         declared.constants[term as usize].clone()
     } else {
-        format!("?v{}", term - FIRST_VARIABLE)
+        written_variable(term).expect("a value diagram has no parameter")
     }
 }
 
-/// The variables of a reward, in the order of their numbers: by ascending N where every one is written ?vN, else by first occurrence. Every variable of the line
-/// counts, also in parts that reduce away.
-pub fn variables_in_order(reward: &WrittenDiagram) -> Vec<String> {
-    let mut names = Vec::new();
-    first_occurrences(reward, &mut names);
-    if names.iter().all(|name| number_of(name).is_some()) {
-        names.sort_by_key(|name| number_of(name));
-    }
-    names
+/// The variables of a reward, in the order of their numbers, kind by kind: by ascending N where every one of a kind is written vN behind its sign, else by first occurrence. Every variable
+/// of the line counts, also in parts that reduce away.
+pub fn variables_in_order(reward: &WrittenDiagram, slips: Slips) -> Variables {
+    let in_order = |kind: VariableKind| {
+        let mut names = Vec::new();
+        first_occurrences(reward, kind, &mut names);
+        if names.iter().all(|name| number_of(name).is_some()) && !slips.first_occurrence {
+            names.sort_by_key(|name| number_of(name));
+        }
+        names
+    };
+    Variables { maximum: in_order(VariableKind::Maximum), minimum: in_order(VariableKind::Minimum) }
 }
 
 /// N, where a name is vN, N decimal without leading zeros.
@@ -91,7 +95,7 @@ fn number_of(name: &str) -> Option<u64> {
     read_number(digits.as_bytes())
 }
 
-pub fn first_occurrences(written: &WrittenDiagram, names: &mut Vec<String>) {
+fn first_occurrences(written: &WrittenDiagram, kind: VariableKind, names: &mut Vec<String>) {
     let WrittenDiagram::If(atom, yes, no) = written else {
         return;
     };
@@ -101,10 +105,10 @@ pub fn first_occurrences(written: &WrittenDiagram, names: &mut Vec<String>) {
     };
     for term in terms {
         match term {
-            WrittenTerm::Variable(name) if !names.contains(name) => names.push(name.clone()),
+            WrittenTerm::Variable(own, name) if *own == kind && !names.contains(name) => names.push(name.clone()),
             _ => {}
         }
     }
-    first_occurrences(yes, names);
-    first_occurrences(no, names);
+    first_occurrences(yes, kind, names);
+    first_occurrences(no, kind, names);
 }

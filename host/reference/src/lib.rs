@@ -1,4 +1,4 @@
-//! An independent implementation of document 01, and of document 02 as far as it is done (L1, L2, L4 to L11, L13), for tests: plain and slow, one module for each of its sections.
+//! An independent implementation of document 01, and of document 02 (L1, L2, L4 to L13), for tests: plain and slow, one module for each of its sections.
 
 pub mod bellman;
 pub mod best;

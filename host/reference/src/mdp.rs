@@ -1,6 +1,6 @@
 //! Document 01, "Backup": one step of value iteration on diagrams.
 
-use crate::combine::{combine, Names, Operator};
+use crate::combine::{combine_with, Names, Operator};
 use crate::diagram::{Diagram, LARGEST};
 use crate::refusal::{require, Refusal};
 use crate::regress::{free, regress, Truths};
@@ -50,8 +50,8 @@ pub fn power(base: u64, exponent: u64) -> Option<u64> {
     Some(result)
 }
 
-fn call(operator: Operator, names: Names, a: &Diagram, b: &Diagram) -> Result<Diagram, Refusal> {
-    Ok(combine(operator, names, a, b)?.diagram)
+fn call(operator: Operator, names: Names, a: &Diagram, b: &Diagram, slips: Slips) -> Result<Diagram, Refusal> {
+    Ok(combine_with(operator, names, a, b, slips)?.diagram)
 }
 
 /// S^(k+1), or 12.
@@ -65,9 +65,9 @@ pub fn expected(model: &Model, action: &Action, value: &Diagram, sums: Names, sl
     let mut sum = Diagram::leaf(0);
     for variant in &action.variants {
         let regressed = regress(value, &variant.truths, slips)?;
-        let weight = call(Operator::Product, Names::Shared, &variant.weight, &Diagram::leaf(model.discount.0))?;
-        let product = call(Operator::Product, Names::Shared, &regressed, &weight)?;
-        sum = call(Operator::Sum, sums, &sum, &product)?;
+        let weight = call(Operator::Product, Names::Shared, &variant.weight, &Diagram::leaf(model.discount.0), slips)?;
+        let product = call(Operator::Product, Names::Shared, &regressed, &weight, slips)?;
+        sum = call(Operator::Sum, sums, &sum, &product, slips)?;
     }
     Ok(sum)
 }
@@ -79,9 +79,9 @@ pub fn backup(model: &Model, value: &Diagram, k: u64, slips: Slips) -> Result<Di
     let mut best = Diagram::leaf(0);
     for action in &model.actions {
         let sum = expected(model, action, value, sums, slips)?;
-        let freed = free(&sum, action.parameters)?.closed_up();
-        best = call(Operator::Max, Names::Shared, &best, &freed)?;
+        let freed = free(&sum, action.parameters, slips)?.closed_up();
+        best = call(Operator::Max, Names::Shared, &best, &freed, slips)?;
     }
-    let reward = call(Operator::Product, Names::Shared, &model.reward, &Diagram::leaf(scale))?;
-    call(Operator::Sum, sums, &best, &reward)
+    let reward = call(Operator::Product, Names::Shared, &model.reward, &Diagram::leaf(scale), slips)?;
+    call(Operator::Sum, sums, &best, &reward, slips)
 }

@@ -1,8 +1,8 @@
-//! Labels and paths in words, for people: names as the model declares them, variables ?v0, ?v1, .. in their order.
+//! Labels and paths in words, for people: names as the model declares them, variables ?v0, ?v1, .. and %v0, %v1, .. in their order.
 
 use crate::declarations::Declarations;
 use crate::diagram::{Diagram, Row};
-use crate::terms::{is_constant, is_parameter, Label, Term, EQUALITY, FIRST_PARAMETER, FIRST_VARIABLE};
+use crate::terms::{is_constant, written_variable, Label, Term, EQUALITY, FIRST_PARAMETER};
 
 /// The names that labels are told by; an action's own where its parameters may occur.
 #[derive(Clone, Copy)]
@@ -15,11 +15,11 @@ impl Names<'_> {
     pub fn term(&self, term: Term) -> String {
         if is_constant(term) {
             self.declarations.constants.get(term as usize).cloned().unwrap_or(format!("constant {term}"))
-        } else if is_parameter(term) {
+        } else if let Some(variable) = written_variable(term) {
+            variable
+        } else {
             let place = term - FIRST_PARAMETER;
             self.parameters.get(place as usize).map_or(format!("!p{place}"), |name| format!("!{name}"))
-        } else {
-            format!("?v{}", term - FIRST_VARIABLE)
         }
     }
 

@@ -5,7 +5,7 @@ use crate::diagram::Diagram;
 use crate::refusal::{require, Refusal};
 use crate::slips::Slips;
 use crate::state::Valuation;
-use crate::terms::{is_constant, Arities, Label, Term, EQUALITY};
+use crate::terms::{is_constant, is_minimum, Arities, Label, Term, EQUALITY};
 use std::collections::{BTreeMap, BTreeSet};
 
 /// Valuations times paths.
@@ -31,10 +31,11 @@ pub fn runs(variables: usize, paths: usize) -> u128 {
     valuations.saturating_mul(paths as u128)
 }
 
-/// Whether a label is no equality and names no constant: the others are not reduced.
+/// Whether a label is no equality and names neither a constant nor a minimum variable: the others are not reduced.
 pub fn is_plain(label: Label, arities: &Arities) -> bool {
     let terms = &label.places()[..arities[label.predicate() as usize] as usize];
-    label.predicate() != EQUALITY && !terms.iter().any(|term| is_constant(*term))
+    let is_other = |term: &Term| is_constant(*term) || is_minimum(*term);
+    label.predicate() != EQUALITY && !terms.iter().any(is_other)
 }
 
 /// "A descending path order": the highest leaf first; "the order among equal leaves is true edge first from the root".

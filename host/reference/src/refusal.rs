@@ -26,14 +26,15 @@ pub enum Refusal {
     Crowded,
     Tally,
     Ground,
-    Kinds = 26,
+    Minimum,
+    Kinds,
     Runs,
     Combinations,
 }
 
 impl Refusal {
     /// All of them, by number.
-    pub const ALL: [Refusal; 27] = {
+    pub const ALL: [Refusal; 28] = {
         use Refusal::*;
         [
             Form,
@@ -60,6 +61,7 @@ impl Refusal {
             Crowded,
             Tally,
             Ground,
+            Minimum,
             Kinds,
             Runs,
             Combinations,

@@ -4,7 +4,7 @@ use crate::combine::{combine_in, Operator};
 use crate::diagram::{Diagram, Row, Space};
 use crate::refusal::{require, Refusal};
 use crate::slips::Slips;
-use crate::terms::{is_parameter, is_variable, Label, Term, EQUALITY, FIRST_PARAMETER, FIRST_VARIABLE, LAST_VARIABLE};
+use crate::terms::{is_parameter, is_variable, Label, Term, VariableKind, EQUALITY, FIRST_PARAMETER, FIRST_VARIABLE};
 use std::collections::BTreeMap;
 
 /// The truth diagram of each predicate that has one under a variant.
@@ -47,7 +47,7 @@ fn replace(space: &mut Space, diagram: &Diagram, replacement: &impl Fn(Term) -> 
     rebuild(space, diagram, &mut |_, label| Ok(Diagram::test(label.replaced(replacement))))
 }
 
-/// The truth diagram used at p(t1 ..): its variable number i, from 0, is replaced by the term at place i.
+/// The truth diagram used at p(t1 ..): its variable number i, from 0, is replaced by the term at place i. It has no minimum variable.
 fn with_arguments(space: &mut Space, truth: &Diagram, label: Label, slips: Slips) -> Result<Diagram, Refusal> {
     let places = label.places();
     let argument = |term: Term| if is_variable(term) { places[(term - FIRST_VARIABLE) as usize] } else { term };
@@ -75,16 +75,15 @@ pub fn regress_in(space: &mut Space, diagram: &Diagram, truths: &Truths, slips: 
     rebuild(space, diagram, &mut test)
 }
 
-/// Parameter number i becomes variable number i, both from 0; the other variables move up by the parameter count.
-pub fn free(diagram: &Diagram, parameters: u64) -> Result<Diagram, Refusal> {
-    require(diagram.variables().iter().all(|v| v + parameters <= LAST_VARIABLE), Refusal::Variables)?;
-    Ok(diagram.renamed(&|term| {
-        if is_parameter(term) {
-            term - FIRST_PARAMETER + FIRST_VARIABLE
-        } else if is_variable(term) {
-            term + parameters
-        } else {
-            term
-        }
+/// Parameter number i becomes maximum variable number i, both from 0; the other maximum variables move up by the parameter count, and 8 is judged by them. "Freeing leaves" the minimum
+/// variables' "numbers" (document 02, L12).
+pub fn free(diagram: &Diagram, parameters: u64, slips: Slips) -> Result<Diagram, Refusal> {
+    let moves = |kind: VariableKind| kind == VariableKind::Maximum || slips.freeing_moves_all;
+    let fits = |v: &Term| VariableKind::of(*v).is_none_or(|kind| !moves(kind) || v + parameters <= kind.last());
+    require(diagram.variables().iter().all(fits), Refusal::Variables)?;
+    Ok(diagram.renamed(&|term| match VariableKind::of(term) {
+        Some(kind) if moves(kind) => term + parameters,
+        None if is_parameter(term) => term - FIRST_PARAMETER + FIRST_VARIABLE,
+        _ => term,
     }))
 }

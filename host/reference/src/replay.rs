@@ -6,7 +6,7 @@ use crate::mdp::Variant;
 use crate::refusal::{require, Refusal};
 use crate::session::FACTS;
 use crate::slips::Slips;
-use crate::state::{leaf_in, value, State, Valuation};
+use crate::state::{leaf_in, value_with, State, Valuation};
 use crate::terms::{Arities, FIRST_VARIABLE};
 
 /// How many lines were accepted since the state was last told, and the sum of the rewards along them, unscaled.
@@ -54,8 +54,9 @@ pub fn did(done: &Done, reward: &Diagram, arities: &Arities, state: &State, log:
     require(weight(done, arities, state) > 0, Refusal::Weightless)?;
     let next = next_state(done, arities, state, slips)?;
     let first = log.count == 0 || slips.both_rewards;
-    let before = if first { value(reward, arities, state)? } else { 0 };
-    let after = value(reward, arities, &next)?;
+    let value = |state: &State| value_with(reward, arities, state, &Valuation::new(), slips);
+    let before = if first { value(state)? } else { 0 };
+    let after = value(&next)?;
     let log = Log { count: log.count + 1, total: log.total + before + after };
     require(log.count <= LARGEST && log.total <= LARGEST, Refusal::Tally)?;
     Ok((next, log))

@@ -4,15 +4,15 @@ use crate::best::best;
 use crate::cut::cut;
 use crate::declarations::{Declarations, DeclaredAction, DeclaredVariant, Lookup, Variables, DEFAULT_DISCOUNT, DEFAULT_TOTAL};
 use crate::diagram::{Diagram, Row};
-use crate::form::{first_occurrences, form, variables_in_order};
+use crate::form::{form, variables_in_order};
 use crate::mdp::{backup, power, Action, Model, Variant};
 use crate::reduce::reduce;
 use crate::refusal::{require, Refusal};
 use crate::replay::{did, Done, Log};
 use crate::slips::Slips;
 use crate::spread::spread;
-use crate::state::{value, State};
-use crate::terms::{Arities, CONSTANTS, LARGEST_ARITY, PARAMETERS, PREDICATES, VARIABLES};
+use crate::state::{value_with, State, Valuation};
+use crate::terms::{Arities, VariableKind, CONSTANTS, LARGEST_ARITY, PARAMETERS, PREDICATES, VARIABLES};
 use crate::text::{lines, read_line, Line, WrittenDiagram};
 use crate::weights;
 use std::collections::BTreeSet;
@@ -187,14 +187,10 @@ impl Session {
 
     fn reward(&mut self, written: &WrittenDiagram) -> Taken {
         require(self.declarations.reward.is_none(), Refusal::Place)?;
-        let mut variables = variables_in_order(written);
-        if self.slips.first_occurrence {
-            variables.clear();
-            first_occurrences(written, &mut variables);
-        }
-        let named = variables.len() as u64;
-        let tree = Lookup::new(&self.declarations, &[], Variables::Only(variables)).diagram(written)?;
-        require(named <= VARIABLES, Refusal::Variables)?;
+        let variables = variables_in_order(written, self.slips);
+        let few = VariableKind::ALL.into_iter().all(|kind| variables.of(kind).len() as u64 <= VARIABLES);
+        let tree = Lookup::new(&self.declarations, &[], variables).diagram(written)?;
+        require(few, Refusal::Variables)?;
         let reward = tree.read()?.closed_up();
         self.has_room_for(&reward)?;
         self.declarations.reward = Some(reward);
@@ -214,7 +210,7 @@ impl Session {
     fn variant(&mut self, name: &str, written: &WrittenDiagram) -> Taken {
         let action = self.declarations.actions.last().ok_or(Refusal::Place)?;
         require(action.variants.iter().all(|variant| variant.name != name), Refusal::Name)?;
-        let weight = Lookup::new(&self.declarations, &action.parameters, Variables::None).diagram(written)?.read()?;
+        let weight = Lookup::new(&self.declarations, &action.parameters, Variables::NONE).diagram(written)?.read()?;
         require(action.variants.len() < VARIANTS, Refusal::Space)?;
         self.has_room_for(&weight)?;
         let variant = DeclaredVariant { name: name.to_string(), weight, truths: Default::default() };
@@ -229,8 +225,8 @@ impl Session {
         require(!variant.truths.contains_key(&predicate), Refusal::Name)?;
         require(arguments.len() as u64 == arity, Refusal::Arity)?;
         require(distinct(arguments), Refusal::Name)?;
-        let variables = Variables::Only(arguments.to_vec());
-        let truth = Lookup::new(&self.declarations, &action.parameters, variables).diagram(written)?.read()?;
+        let arguments = Variables::arguments(arguments);
+        let truth = Lookup::new(&self.declarations, &action.parameters, arguments).diagram(written)?.read()?;
         require(truth.leaves().all(|leaf| leaf <= 1), Refusal::Truth)?;
         self.has_room_for(&truth)?;
         let variant = self.declarations.actions.last_mut().and_then(|action| action.variants.last_mut());
@@ -278,7 +274,7 @@ impl Run {
             Line::Objects(objects) => self.objects(*objects, declarations),
             Line::Is(name, object) => self.is(name, *object, declarations),
             Line::True(name, objects) => self.fact(name, objects, declarations),
-            Line::Value => self.value(),
+            Line::Value => self.value(slips),
             Line::Backup => self.backup(slips),
             Line::Cut => self.cut(slips),
             Line::Reduce => self.reduce(slips),
@@ -319,10 +315,10 @@ impl Run {
         Ok(NOTHING_PRINTED)
     }
 
-    fn value(&self) -> Taken {
+    fn value(&self, slips: Slips) -> Taken {
         let placed = self.placed.as_ref().ok_or(Refusal::Place)?;
         let state = placed.state().ok_or(Refusal::Place)?;
-        let value = value(&self.value, &self.arities, &state)?;
+        let value = value_with(&self.value, &self.arities, &state, &Valuation::new(), slips)?;
         let scale = power(self.model.scale(), self.k).expect("a backup has checked it");
         Ok(vec![Answer::Value { value, k: self.k, scale }])
     }

@@ -22,6 +22,14 @@ pub struct Slips {
     pub both_rewards: bool,
     /// The value diagram's number totalled in place of the reward.
     pub values_totalled: bool,
+    /// The lowest, over the minimum variables, of the highest leaf over the maximum ones.
+    pub lowest_outside: bool,
+    /// The second operand's minimum variables not moved aside in a call apart.
+    pub minimum_in_place: bool,
+    /// A max of shared names done so though a side has a minimum variable.
+    pub max_shared: bool,
+    /// Freeing that moves minimum variables too.
+    pub freeing_moves_all: bool,
 }
 
 impl Slips {
@@ -36,5 +44,9 @@ impl Slips {
         truths_in_turn: false,
         both_rewards: false,
         values_totalled: false,
+        lowest_outside: false,
+        minimum_in_place: false,
+        max_shared: false,
+        freeing_moves_all: false,
     };
 }

@@ -3,7 +3,7 @@
 use crate::diagram::Diagram;
 use crate::refusal::{require, Refusal};
 use crate::slips::Slips;
-use crate::state::{value, State};
+use crate::state::{value_with, State, Valuation};
 use crate::terms::Arities;
 use std::collections::BTreeMap;
 
@@ -46,7 +46,7 @@ pub fn spread(
     for choice in 0..1_u64 << facts.len() {
         let chosen = facts.iter().enumerate().filter(|(place, _)| choice >> place & 1 == 1).map(|(_, fact)| fact.clone());
         let state = State { objects, constants: constants.to_vec(), facts: chosen.collect() };
-        *states.entry(value(value_diagram, arities, &state)?).or_insert(0) += 1;
+        *states.entry(value_with(value_diagram, arities, &state, &Valuation::new(), slips)?).or_insert(0) += 1;
     }
     Ok(states)
 }

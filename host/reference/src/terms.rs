@@ -1,14 +1,19 @@
-//! Document 01, "Terms, labels, listings": terms and labels, as wide as document 02 makes them (L8). Every number of the packing stands here, once.
+//! Document 01, "Terms, labels, listings": terms and labels, as wide as document 02 makes them (L8), with its minimum variables (L12). Every number of the packing stands here, once.
 
-/// A constant (0 to 15), an action parameter (16 to 19) or a variable (64 to 127).
+/// A constant (0 to 15), an action parameter (16 to 19), a maximum variable (64 to 127) or a minimum variable (128 to 191).
 pub type Term = u64;
 
 pub const CONSTANTS: u64 = 16;
 pub const FIRST_PARAMETER: Term = 16;
 pub const PARAMETERS: u64 = 4;
+/// The first maximum variable.
 pub const FIRST_VARIABLE: Term = 64;
+pub const FIRST_MINIMUM: Term = 128;
+/// Variables of each kind.
 pub const VARIABLES: u64 = 64;
+/// The last maximum variable.
 pub const LAST_VARIABLE: Term = FIRST_VARIABLE + VARIABLES - 1;
+pub const LAST_MINIMUM: Term = FIRST_MINIMUM + VARIABLES - 1;
 
 pub const EQUALITY: u64 = 0;
 /// Equality and predicates 1 to 31.
@@ -34,8 +39,56 @@ pub fn is_parameter(term: Term) -> bool {
     (FIRST_PARAMETER..FIRST_PARAMETER + PARAMETERS).contains(&term)
 }
 
+/// Of either kind.
 pub fn is_variable(term: Term) -> bool {
-    (FIRST_VARIABLE..=LAST_VARIABLE).contains(&term)
+    VariableKind::of(term).is_some()
+}
+
+pub fn is_minimum(term: Term) -> bool {
+    VariableKind::of(term) == Some(VariableKind::Minimum)
+}
+
+/// What a variable chooses: a maximum variable, ?name, the highest leaf, outside; a minimum variable, %name, the lowest, inside.
+#[derive(Clone, Copy, Debug, PartialEq, Eq, PartialOrd, Ord)]
+pub enum VariableKind {
+    Maximum,
+    Minimum,
+}
+
+impl VariableKind {
+    pub const ALL: [VariableKind; 2] = [VariableKind::Maximum, VariableKind::Minimum];
+
+    /// The kind of a term that is a variable.
+    pub fn of(term: Term) -> Option<VariableKind> {
+        VariableKind::ALL.into_iter().find(|kind| (kind.first()..=kind.last()).contains(&term))
+    }
+
+    pub fn first(self) -> Term {
+        match self {
+            VariableKind::Maximum => FIRST_VARIABLE,
+            VariableKind::Minimum => FIRST_MINIMUM,
+        }
+    }
+
+    pub fn last(self) -> Term {
+        match self {
+            VariableKind::Maximum => LAST_VARIABLE,
+            VariableKind::Minimum => LAST_MINIMUM,
+        }
+    }
+
+    /// The sign before its name in a text.
+    pub fn sign(self) -> char {
+        match self {
+            VariableKind::Maximum => '?',
+            VariableKind::Minimum => '%',
+        }
+    }
+}
+
+/// A variable as (text) writes it, by its place in its kind: ?v0, ?v1, .. and %v0, %v1, ..
+pub fn written_variable(term: Term) -> Option<String> {
+    VariableKind::of(term).map(|kind| format!("{}v{}", kind.sign(), term - kind.first()))
 }
 
 /// predicate · 2^48 + t1 · 2^40 + t2 · 2^32 + .. + t6: eight bits a term, the first place highest. Unused places are 0, so labels compare as these numbers.

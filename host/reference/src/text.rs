@@ -1,6 +1,7 @@
 //! Document 01, "Text": from the bytes of a line to the form it is, or 1. Names are not looked up here.
 
 use crate::refusal::Refusal;
+use crate::terms::VariableKind;
 
 pub const LINE_BYTES: usize = 4_095;
 pub const OPEN_BRACKETS: usize = 64;
@@ -20,7 +21,7 @@ pub struct Word {
 #[derive(Clone, Debug, PartialEq, Eq)]
 pub enum Kind {
     Name(String),
-    Variable(String),
+    Variable(VariableKind, String),
     Parameter(String),
     Number(u64),
     Equals,
@@ -50,7 +51,7 @@ pub struct Flawed {
 #[derive(Clone, Debug, PartialEq, Eq)]
 pub enum WrittenTerm {
     Constant(String),
-    Variable(String),
+    Variable(VariableKind, String),
     Parameter(String),
 }
 
@@ -164,7 +165,8 @@ fn read_form(line: &[u8], from: usize, open: usize) -> Result<(Vec<Word>, usize)
 fn plain_word(bytes: &[u8]) -> Option<Kind> {
     match bytes.split_first()? {
         (b'=', []) => Some(Kind::Equals),
-        (b'?', name) => read_name(name).map(Kind::Variable),
+        (b'?', name) => read_name(name).map(|name| Kind::Variable(VariableKind::Maximum, name)),
+        (b'%', name) => read_name(name).map(|name| Kind::Variable(VariableKind::Minimum, name)),
         (b'!', name) => read_name(name).map(Kind::Parameter),
         (b'0'..=b'9', _) => read_number(bytes).map(Kind::Number),
         _ => read_name(bytes).map(Kind::Name),
@@ -204,7 +206,7 @@ pub fn line_of(words: &[Word]) -> Option<Line> {
         ("action", [Kind::Name(name), parameters @ ..]) => Line::Action(name.clone(), all(parameters, parameter_of)?),
         ("variant", [Kind::Name(name), weight]) => Line::Variant(name.clone(), diagram_of(weight)?),
         ("becomes", [Kind::Form(head), diagram]) => match kinds(head).split_first()? {
-            (Kind::Name(name), arguments) => Line::Becomes(name.clone(), all(arguments, variable_of)?, diagram_of(diagram)?),
+            (Kind::Name(name), arguments) => Line::Becomes(name.clone(), all(arguments, argument_of)?, diagram_of(diagram)?),
             _ => return None,
         },
         ("start", []) => Line::Start,
@@ -230,9 +232,9 @@ fn all<T>(words: &[&Kind], read: impl Fn(&Kind) -> Option<T>) -> Option<Vec<T>> 
     words.iter().map(|word| read(word)).collect()
 }
 
-fn variable_of(word: &Kind) -> Option<String> {
+fn argument_of(word: &Kind) -> Option<String> {
     match word {
-        Kind::Variable(name) => Some(name.clone()),
+        Kind::Variable(VariableKind::Maximum, name) => Some(name.clone()),
         _ => None,
     }
 }
@@ -254,7 +256,7 @@ fn number_of(word: &Kind) -> Option<u64> {
 fn term_of(word: &Kind) -> Option<WrittenTerm> {
     match word {
         Kind::Name(name) => Some(WrittenTerm::Constant(name.clone())),
-        Kind::Variable(name) => Some(WrittenTerm::Variable(name.clone())),
+        Kind::Variable(kind, name) => Some(WrittenTerm::Variable(*kind, name.clone())),
         Kind::Parameter(name) => Some(WrittenTerm::Parameter(name.clone())),
         _ => None,
     }

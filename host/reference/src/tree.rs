@@ -44,6 +44,7 @@ impl Tree {
         }
     }
 
+    /// Those of both kinds.
     pub fn variables(&self) -> BTreeSet<Term> {
         match self {
             Tree::Number(_) => BTreeSet::new(),

@@ -52,7 +52,9 @@ fn listings() {
     assert!(!is_listing(&[LEAF_MARK, 0]));
     assert!(case(&[leaf(1), leaf(0), row(p(64, 127), 0, 1)]));
     assert!(!case(&[leaf(1), leaf(0), row(p(64, 63), 0, 1)]), "63 is no term");
-    assert!(!case(&[leaf(1), leaf(0), row(p(128, 64), 0, 1)]), "128 is no term");
+    assert!(case(&[leaf(1), leaf(0), row(p(128, 191), 0, 1)]), "minimum variables");
+    assert!(!case(&[leaf(1), leaf(0), row(p(192, 64), 0, 1)]), "192 is no term");
+    assert!(!case(&[leaf(1), leaf(0), row(p(64, 255), 0, 1)]), "255 is no term");
     assert!(!case(&[leaf(1), leaf(0), row(p(20, 64), 0, 1)]), "20 is no term");
     assert!(case(&[leaf(1), leaf(0), row(p(19, 15), 0, 1)]));
     assert!(case(&[leaf(1), leaf(0), row(Label::pack(3, &[0, 15, 16, 19, 64, 127]).0, 0, 1)]));

@@ -55,8 +55,8 @@ fn damaged_texts() {
             for _ in 0..1 + below(3) {
                 let at = below(damaged.len() + 1);
                 match below(3) {
-                    0 => damaged.insert(at, b"()  ?!=az09A\t\r\n"[below(15)]),
-                    1 if at < damaged.len() => damaged[at] = b"()  ?!=az09A\t\r\n"[below(15)],
+                    0 => damaged.insert(at, b"()  ?%!=az09A\t\r\n"[below(16)]),
+                    1 if at < damaged.len() => damaged[at] = b"()  ?%!=az09A\t\r\n"[below(16)],
                     _ if at < damaged.len() => drop(damaged.remove(at)),
                     _ => damaged.push(b'\r'),
                 }
@@ -114,9 +114,10 @@ fn reductions_refused() {
         what
     };
     let (hub, t) = ("(constant hub)\n(predicate near 2)\n", "(predicate t 6)\n");
-    let kinds = "a reduction is for diagrams without equality and constants";
+    let kinds = "a reduction is for diagrams without equality, constants and minimum variables";
     assert_eq!(told(hub, "(if (near ?x hub) 5 0)"), format!("after step 0: the value diagram of 3 rows tests near(?v0, hub); {kinds}"));
     assert_eq!(told("", "(if (= ?x ?y) 5 0)"), format!("after step 0: the value diagram of 3 rows tests ?v0 = ?v1; {kinds}"));
+    assert_eq!(told(hub, "(if (near ?x %x) 5 0)"), format!("after step 0: the value diagram of 3 rows tests near(?v0, %v0); {kinds}"));
     assert_eq!(
         told(t, "(if (t ?a ?b ?c ?d ?e ?f) 5 0)"),
         "after step 0: the value diagram of 3 rows has 6 variables and 2 paths: 6^6 valuations over as many objects, times the paths, are 93,312; at most 512"
@@ -168,6 +169,48 @@ fn moves_and_spreads_refused() {
     let tables = "5^9 = 1,953,125 valuations, 5 objects and 9 variables, are more than 1,000,000, and the tables in their place have more than 8,192 entries";
     assert_eq!(faults(&stored("valuations-of-one-move"))[0].1.what, format!("the move of step 1: (relate 2): {tables}"));
     assert_eq!(faults(&stored("valuations-of-the-last-state"))[0].1.what, format!("in some of the states {tables}"));
+}
+
+/// %name where it is no word of the form, where it is not allowed, and what a diagram with one does not do.
+#[test]
+fn minimum_variables() {
+    let refused = |line: &str| only_fault(&format!("(predicate near 2)\n{line}\n")).2;
+    assert_eq!(refused("(action go %a)"), "here should stand a parameter, !name, and there is the minimum variable \"%a\"");
+    assert_eq!(refused("(reward %a)"), "here should stand a diagram, and there is the minimum variable \"%a\"");
+    assert_eq!(refused("(reward (if (near %A ?b) 1 0))"), "\"%A\" holds upper-case letters");
+    let action = "(action go !a)\n(variant only 100)\n";
+    assert_eq!(
+        refused(&format!("{action}(becomes (near ?a %b) 1)")),
+        "the arguments of a (becomes) are variables, ?name, and there is the minimum variable \"%b\""
+    );
+    assert_eq!(refused("(action go !a)\n(variant only (if (near !a %b) 1 0))"), "a weight names a minimum variable, \"%b\"");
+    let (line, column, what, advice) = only_fault(&format!("(predicate near 2)\n{action}(becomes (near ?a ?b) (if (near ?b %a) 1 0))\n"));
+    assert_eq!((line, column, what.as_str()), (4, 36, "a (becomes) names a minimum variable, \"%a\""));
+    assert!(advice.starts_with("minimum variables are for rewards"), "{advice}");
+    let model = format!("(predicate near 2)\n(reward (if (near ?a %b) (if (near ?b %c) 5 1) 0))\n{action}(start)\n");
+    assert_eq!(
+        only_fault(&format!("{model}(cut)\n")).2,
+        "after step 0: the value diagram of 5 rows tests near(?v1, %v1); a cut is for diagrams without minimum variables"
+    );
+    let (_, _, what, advice) = only_fault(&format!("{model}(objects 33)\n(value)\n"));
+    assert_eq!(
+        what,
+        "33^4 = 1,185,921 valuations, 33 objects and 4 variables, are more than 1,000,000, and no tables take their place where there is a minimum variable"
+    );
+    assert_eq!(
+        advice,
+        "put fewer objects into the state (those that matter), or take a step less or a reward of fewer variables, so that the diagram has fewer"
+    );
+    let wide = |count: u64, inner: &str| {
+        let names: Vec<String> = (0..count).map(|i| format!(" %x{i}")).collect();
+        names.chunks(6).fold(inner.to_string(), |inner, six| format!("(if (t{}{}) {inner} 0)", six.concat(), six[0].repeat(6 - six.len())))
+    };
+    let (_, _, what, _) = only_fault(&format!("(predicate t 6)\n(reward {})\n", wide(65, "1")));
+    assert_eq!(what, "the line names 65 minimum variables; at most 64");
+    let text = format!("(predicate t 6)\n(total 1)\n(reward {})\n(action go)\n(variant only 1)\n(start)\n(backup)\n", wide(33, "1"));
+    let (_, _, what, advice) = only_fault(&text);
+    assert_eq!(what, "step 1: the best action plus the reward (8 rows and 8 rows): 66 minimum variables together, 33 and 33; at most 64");
+    assert!(advice.starts_with("take fewer variants"), "{advice}");
 }
 
 #[test]

@@ -1,5 +1,6 @@
 //! The diagram as a form (document 02, L2): what (text) prints, where it is too long, and how a reward is numbered.
 
+use reference::declarations::Variables;
 use reference::diagram::{Diagram, Row, Space};
 use reference::form::{form, reward_line, variables_in_order, Extent};
 use reference::refusal::Refusal;
@@ -75,11 +76,15 @@ fn very_many_bytes() {
     assert_eq!(form(&parity, session.declarations()), Err(Refusal::Length));
 }
 
-fn in_order(reward: &str) -> Vec<String> {
+fn of_both_kinds(reward: &str) -> Variables {
     match read_line(format!("(reward {reward})").as_bytes()) {
-        Ok(Line::Reward(written)) => variables_in_order(&written),
+        Ok(Line::Reward(written)) => variables_in_order(&written, Slips::NONE),
         other => panic!("{other:?}"),
     }
+}
+
+fn in_order(reward: &str) -> Vec<String> {
+    of_both_kinds(reward).maximum
 }
 
 #[test]
@@ -94,4 +99,20 @@ fn variables_in_their_order() {
         assert_eq!(in_order(&format!("(if (p ?v7 ?v3) 1 (if (q ?{other}) 2 2))")), ["v7", "v3", other]);
     }
     assert_eq!(in_order("5"), [""; 0]);
+}
+
+/// Each kind by itself: how the one is written says nothing about the other.
+#[test]
+fn minimum_variables_in_their_order() {
+    let named = |reward: &str| {
+        let Variables { maximum, minimum } = of_both_kinds(reward);
+        (maximum.join(" "), minimum.join(" "))
+    };
+    let is = |maximum: &str, minimum: &str| (maximum.to_string(), minimum.to_string());
+    assert_eq!(named("(if (p ?v7 ?v3) (if (p %v9 %v1) 1 0) 0)"), is("v3 v7", "v1 v9"));
+    assert_eq!(named("(if (p ?v7 ?v3) (if (p %b %a) 1 0) 0)"), is("v3 v7", "b a"));
+    assert_eq!(named("(if (p ?v7 ?x) (if (p %v9 %v1) 1 0) 0)"), is("v7 x", "v1 v9"));
+    assert_eq!(named("(if (p ?v7 %v03 ?v3 %v1) 1 0)"), is("v3 v7", "v03 v1"));
+    assert_eq!(named("(if (p ?x %x %x ?x) 1 0)"), is("x", "x"));
+    assert_eq!(named("(if (= %z %z) (if (p %v9 ?v9 %v1 ?v1) 1 0) 0)"), is("v1 v9", "z v9 v1"));
 }

@@ -1,4 +1,4 @@
-//! The guide's lines about reductions, moves and spreads are those of examples/relay.txt, errand.txt and counted.txt and of their answers.
+//! The guide's lines about reductions, moves, spreads, logs and minimum variables are those of examples/relay.txt, errand.txt, counted.txt, week.txt and allshelves.txt and of their answers.
 
 use reference::session::Session;
 use reference::slips::Slips;
@@ -78,4 +78,5 @@ fn moves_logs_and_spreads() {
     block_is_of("What to do: best", "examples/errand.txt", 8);
     block_is_of("Before rules go out: count", "examples/counted.txt", 7);
     block_is_of("What was done: did", "examples/week.txt", 17);
+    block_is_of("All of them: minimum variables", "examples/allshelves.txt", 16);
 }

@@ -72,3 +72,14 @@ fn rewards_of_a_log() {
 fn states_by_tested_facts_alone() {
     assert!(caught("count-facts-that-nothing-tests", Slips { tested_facts_only: true, ..Slips::NONE }));
 }
+
+#[test]
+fn minimum_variables() {
+    assert!(caught("minimum-inside-the-maximum", Slips { lowest_outside: true, ..Slips::NONE }));
+    assert!(caught("minimum-of-a-spread", Slips { lowest_outside: true, ..Slips::NONE }));
+    assert!(caught("minimum-sums-apart", Slips { minimum_in_place: true, ..Slips::NONE }));
+    assert!(caught("minimum-reward-apart", Slips { minimum_in_place: true, ..Slips::NONE }));
+    assert!(caught("minimum-max-done-apart", Slips { max_shared: true, ..Slips::NONE }));
+    assert!(caught("minimum-freeing", Slips { freeing_moves_all: true, ..Slips::NONE }));
+    assert!(caught("minimum-text-read-back", Slips { first_occurrence: true, ..Slips::NONE }));
+}

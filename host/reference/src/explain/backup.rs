@@ -18,23 +18,23 @@ pub type Called<T> = Result<T, (Refusal, String)>;
 pub fn refused_backup(run: &Run, declared: &Declarations, span: Span) -> Option<Fault> {
     let (refusal, met) = backup(run, declared).err()?;
     let what = format!("step {}: {met}", grouped(u128::from(run.k) + 1));
-    Some(Fault::new(refusal, span, what, advice(refusal)))
+    Some(Fault::new(refusal, span, what, advice(refusal, run)))
 }
 
-/// What the guide says about a refused backup.
-pub fn advice(refusal: Refusal) -> &'static str {
+/// What the guide says about a refused backup. A diagram with a minimum variable is not cut.
+pub fn advice(refusal: Refusal, run: &Run) -> String {
+    let cut = if run.value.has_minimum() { "" } else { "cut until 16 where that is left to do; " };
     match refusal {
         Refusal::Variables => {
-            "cut until 16 where that is left to do; take fewer variants and fewer parameters, since each variant brings a copy of the \
-             diagram's variables"
+            format!("{cut}take fewer variants and fewer parameters, since each variant brings a copy of the diagram's variables")
         }
-        Refusal::Space => {
-            "cut until 16 where that is left to do; take fewer variants, fewer parameters (an action for each of a few known places) and \
-             predicates of fewer places; try another order of the predicates"
-        }
-        Refusal::Pairs => "cut until 16 where that is left to do; take fewer variants and fewer parameters",
-        Refusal::Value => "take a smaller reward, total or discount divisor: leaves reach about k * S^k * reward",
-        _ => "take a smaller total or discount divisor: each backup multiplies the scale by S = total * divisor",
+        Refusal::Space => format!(
+            "{cut}take fewer variants, fewer parameters (an action for each of a few known places) and predicates of fewer places; try another \
+             order of the predicates"
+        ),
+        Refusal::Pairs => format!("{cut}take fewer variants and fewer parameters"),
+        Refusal::Value => "take a smaller reward, total or discount divisor: leaves reach about k * S^k * reward".into(),
+        _ => "take a smaller total or discount divisor: each backup multiplies the scale by S = total * divisor".into(),
     }
 }
 
@@ -43,7 +43,7 @@ fn backup(run: &Run, declared: &Declarations) -> Called<()> {
     let mut best = Diagram::leaf(0);
     for (action, named) in run.model.actions.iter().zip(&declared.actions) {
         let sum = expected(run, action, named)?;
-        let freed = free(&sum, action.parameters).map_err(|refusal| {
+        let freed = free(&sum, action.parameters, Slips::NONE).map_err(|refusal| {
             (refusal, format!("action {}, its parameters freed: {}", named.name, measure::freeing(&sum, action.parameters)))
         })?;
         best = call(&format!("the best so far and action {}", named.name), Operator::Max, Names::Shared, &best, &freed.closed_up())?;

@@ -2,6 +2,7 @@
 
 use super::{words::nearest, Fault};
 use crate::refusal::Refusal;
+use crate::terms::VariableKind;
 use crate::text::{Flaw, Flawed, Kind, Span, Word, LINE_BYTES, NAME_LETTERS, OPEN_BRACKETS};
 
 const ONE_FORM: &str = "a line is one form in brackets, such as (start), or blank, without even a space; there are no comments";
@@ -86,9 +87,13 @@ fn no_word(line: &[u8], at: usize) -> (String, String) {
 
 fn not_a_word(bytes: &[u8]) -> (String, String) {
     let what = |why: &str| format!("{} {why}", shown(bytes));
-    let names = "a name has 1 to 15 lower-case letters or digits, a letter first; ?name is a variable, !name a parameter";
+    let names =
+        "a name has 1 to 15 lower-case letters or digits, a letter first; ?name is a variable, %name a minimum variable, !name a parameter";
     let numbers = "numbers are whole, decimal, without sign, point or leading zeros";
-    let named = bytes.strip_prefix(b"?").or(bytes.strip_prefix(b"!")).unwrap_or(bytes);
+    let named = match bytes {
+        [b'?' | b'%' | b'!', name @ ..] => name,
+        name => name,
+    };
     if bytes.ends_with(b"\r") {
         (what("ends with a carriage return (CR LF)"), CRLF.into())
     } else if bytes.iter().all(u8::is_ascii_digit) {
@@ -217,7 +222,8 @@ fn misfit_at(shape: Shape, word: &Word) -> Option<(Span, String)> {
 fn kind_of(word: &Word) -> String {
     match &word.kind {
         Kind::Name(name) => format!("the name \"{name}\""),
-        Kind::Variable(name) => format!("the variable \"?{name}\""),
+        Kind::Variable(VariableKind::Maximum, name) => format!("the variable \"?{name}\""),
+        Kind::Variable(VariableKind::Minimum, name) => format!("the minimum variable \"%{name}\""),
         Kind::Parameter(name) => format!("the parameter \"!{name}\""),
         Kind::Number(number) => format!("the number {number}"),
         Kind::Equals => "=".into(),
@@ -227,7 +233,7 @@ fn kind_of(word: &Word) -> String {
 
 fn head_misfit(words: &[Word]) -> Option<(Span, String)> {
     let argument = |word: &Word| match word.kind {
-        Kind::Variable(_) => None,
+        Kind::Variable(VariableKind::Maximum, _) => None,
         _ => Some((word.span, format!("the arguments of a (becomes) are variables, ?name, and there is {}", kind_of(word)))),
     };
     match words[0].kind {
@@ -268,8 +274,8 @@ fn atom_misfit(word: &Word) -> Option<(Span, String)> {
         ));
     };
     let term = |word: &Word| match word.kind {
-        Kind::Name(_) | Kind::Variable(_) | Kind::Parameter(_) => None,
-        _ => Some((word.span, format!("a term is a constant, ?variable or !parameter, and there is {}", kind_of(word)))),
+        Kind::Name(_) | Kind::Variable(..) | Kind::Parameter(_) => None,
+        _ => Some((word.span, format!("a term is a constant, ?variable, %variable or !parameter, and there is {}", kind_of(word)))),
     };
     match &words[0].kind {
         Kind::Equals if words.len() != 3 => Some((word.span, format!("= takes two terms, and there are {}", words.len() - 1))),

@@ -1,24 +1,23 @@
 //! How large a refused call would have been: the call again, in a space of another size.
 
 use super::{counted, grouped};
-use crate::combine::{combine_in, highest_leaf, operands, Combined, Names, Operator};
+use crate::combine::{combine_in, highest_leaf, names_done, operands, Combined, Names, Operator};
 use crate::diagram::{Diagram, Limits, Row, Space, LARGEST, PAIRS, ROWS, SPACE_ROWS};
 use crate::refusal::Refusal;
 use crate::regress::{regress_in, Truths};
 use crate::slips::Slips;
-use crate::terms::{LAST_VARIABLE, VARIABLES};
+use crate::terms::{VariableKind, LAST_VARIABLE, VARIABLES};
 
 /// Far enough to tell how far off a call is, and soon over.
 const MEASURED: Limits = Limits { rows: 20_000, pairs: 100_000 };
 
 /// What a refused call met, against its limit.
 pub fn combination(refusal: Refusal, operator: Operator, names: Names, a: &Diagram, b: &Diagram) -> String {
-    let (left, right) = (a.variables().len(), b.variables().len());
     if refusal == Refusal::Variables {
-        return format!("{} together, {left} and {right}; at most {VARIABLES}", counted(left + right, "variable"));
+        return many_variables(a, b);
     }
     let mut space = Space::within(MEASURED);
-    let Ok((first, second)) = operands(&mut space, names, a, b) else {
+    let Ok((first, second)) = operands(&mut space, names_done(operator, names, a, b), a, b, Slips::NONE) else {
         return beyond(refusal);
     };
     if refusal == Refusal::Value {
@@ -27,6 +26,15 @@ pub fn combination(refusal: Refusal, operator: Operator, names: Names, a: &Diagr
     }
     let combined = combine_in(&mut space, operator, &first, &second).map(|Combined { diagram, .. }| diagram);
     met(refusal, &space, combined)
+}
+
+/// The kind of which two operands have too many together.
+fn many_variables(a: &Diagram, b: &Diagram) -> String {
+    let counts = |kind| (a.variables_of(kind).len(), b.variables_of(kind).len());
+    let (maximum, minimum) = (counts(VariableKind::Maximum), counts(VariableKind::Minimum));
+    let ((left, right), noun) =
+        if (maximum.0 + maximum.1) as u64 > VARIABLES { (maximum, "variable") } else { (minimum, "minimum variable") };
+    format!("{} together, {left} and {right}; at most {VARIABLES}", counted(left + right, noun))
 }
 
 /// What a refused regression met, against its limit.
@@ -38,7 +46,7 @@ pub fn regression(refusal: Refusal, value: &Diagram, truths: &Truths) -> String 
 
 /// What a refused freeing met, against its limit.
 pub fn freeing(value: &Diagram, parameters: u64) -> String {
-    let highest = value.variables().last().copied().unwrap_or(0) + parameters;
+    let highest = value.variables_of(VariableKind::Maximum).last().copied().unwrap_or(0) + parameters;
     format!("a variable numbered {highest} where {parameters} more are freed; the last is {LAST_VARIABLE}")
 }
 

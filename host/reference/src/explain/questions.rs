@@ -12,22 +12,34 @@ use crate::state::{value_with, State, Valuation, VALUATIONS};
 use crate::tables::ENTRIES;
 use crate::text::Span;
 
-/// How many valuations there are, and that neither they nor the tables in their place pass.
-fn too_many(objects: u64, variables: usize) -> String {
+/// How many valuations there are, and that neither they nor the tables in their place pass; with a minimum variable there are no tables.
+fn too_many(objects: u64, diagram: &Diagram) -> String {
+    let variables = diagram.variables().len();
+    let tables = match diagram.has_minimum() {
+        true => "no tables take their place where there is a minimum variable".to_string(),
+        false => format!("the tables in their place have more than {} entries", grouped(ENTRIES.into())),
+    };
     let power = u128::from(objects).checked_pow(variables as u32).map(|power| format!(" = {}", grouped(power))).unwrap_or_default();
     format!(
-        "{objects}^{variables}{power} valuations, {} and {}, are more than {}, and the tables in their place have more than {} entries",
+        "{objects}^{variables}{power} valuations, {} and {}, are more than {}, and {tables}",
         counted(objects as usize, "object"),
         counted(variables, "variable"),
-        grouped(VALUATIONS.into()),
-        grouped(ENTRIES.into())
+        grouped(VALUATIONS.into())
     )
+}
+
+/// What to do about too many valuations, besides this. A diagram with a minimum variable is not cut.
+pub fn fewer_variables(first: &str, diagram: &Diagram) -> String {
+    match diagram.has_minimum() {
+        true => format!("{first}, or take a step less or a reward of fewer variables, so that the diagram has fewer"),
+        false => format!("{first}, or cut the diagram until 16 so that it has fewer variables"),
+    }
 }
 
 /// The value of a diagram, where there are not too many valuations.
 pub fn valued(diagram: &Diagram, run: &Run, state: &State, bound: &Valuation) -> Result<u64, (Refusal, String)> {
-    let met = |refusal| (refusal, too_many(state.objects, diagram.variables().len()));
-    value_with(diagram, &run.arities, state, bound).map_err(met)
+    let met = |refusal| (refusal, too_many(state.objects, diagram));
+    value_with(diagram, &run.arities, state, bound, Slips::NONE).map_err(met)
 }
 
 /// The first action that does not pass: by its calls, or by a binding.
@@ -36,7 +48,7 @@ pub fn moves(run: &Run, declared: &Declarations, span: Span) -> Checked {
     for (action, named) in run.model.actions.iter().zip(&declared.actions) {
         let step = grouped(u128::from(run.k) + 1);
         let sum = backup::expected(run, action, named)
-            .map_err(|(refusal, met)| Fault::new(refusal, span, format!("the move of step {step}: {met}"), backup::advice(refusal)))?;
+            .map_err(|(refusal, met)| Fault::new(refusal, span, format!("the move of step {step}: {met}"), backup::advice(refusal, run)))?;
         for objects in bindings(state.objects, action.parameters) {
             valued(&sum, run, &state, &bound(&objects)).map_err(|(refusal, met)| {
                 let objects: String = objects.iter().map(|object| format!(" {object}")).collect();
@@ -44,7 +56,7 @@ pub fn moves(run: &Run, declared: &Declarations, span: Span) -> Checked {
                     refusal,
                     span,
                     format!("the move of step {step}: ({}{objects}): {met}", named.name),
-                    "put fewer objects into the state (those that matter), or cut the diagram until 16 so that it has fewer variables",
+                    fewer_variables("put fewer objects into the state (those that matter)", &run.value),
                 )
             })?;
         }
@@ -75,8 +87,8 @@ pub fn states(run: &Run, declared: &Declarations, objects: u64, span: Span) -> C
         Fault::new(
             refusal,
             span,
-            format!("in some of the states {}", too_many(objects, run.value.variables().len())),
-            "count states of fewer objects, or cut the diagram until 16 so that it has fewer variables",
+            format!("in some of the states {}", too_many(objects, &run.value)),
+            fewer_variables("count states of fewer objects", &run.value),
         )
     })
 }

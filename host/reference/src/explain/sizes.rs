@@ -14,7 +14,7 @@ use crate::regress::row_step;
 use crate::session::{Run, Session, ACTIONS, FACTS, MODEL_ROWS, VARIANTS};
 use crate::slips::Slips;
 use crate::state::Valuation;
-use crate::terms::{Test, CONSTANTS, PARAMETERS, PREDICATES, VARIABLES};
+use crate::terms::{is_minimum, Label, Test, CONSTANTS, PARAMETERS, PREDICATES, VARIABLES};
 use crate::text::{Kind, Line, Span, Word, WrittenDiagram, LINE_BYTES, OPEN_BRACKETS};
 use crate::tree::Tree;
 use crate::weights::wrong_paths;
@@ -48,17 +48,15 @@ fn has_room(there: usize, most: usize, what: &str, span: Span) -> Checked {
 }
 
 fn reward(declared: &Declarations, written: &WrittenDiagram, word: &Word) -> Checked {
-    let variables = variables_in_order(written);
-    let named = variables.len();
-    let Ok(tree) = Lookup::new(declared, &[], Variables::Only(variables)).diagram(written) else { return Ok(()) };
-    unless_fault(named as u64 <= VARIABLES, || {
-        Fault::new(
-            Refusal::Variables,
-            word.span,
-            format!("the line names {}; at most {VARIABLES}", counted(named, "variable")),
-            "name fewer variables",
-        )
-    })?;
+    let variables = variables_in_order(written, Slips::NONE);
+    let named = [(variables.maximum.len(), "variable"), (variables.minimum.len(), "minimum variable")];
+    let Ok(tree) = Lookup::new(declared, &[], variables).diagram(written) else { return Ok(()) };
+    for (named, noun) in named {
+        unless_fault(named as u64 <= VARIABLES, || {
+            let what = format!("the line names {}; at most {VARIABLES}", counted(named, noun));
+            Fault::new(Refusal::Variables, word.span, what, "name fewer variables")
+        })?;
+    }
     let diagram = read(&tree, word)?;
     room_for(declared, &diagram, word.span)
 }
@@ -78,7 +76,7 @@ fn action(declared: &Declarations, words: &[Word]) -> Checked {
 
 fn variant(declared: &Declarations, written: &WrittenDiagram, words: &[Word]) -> Checked {
     let Some(action) = declared.actions.last() else { return Ok(()) };
-    let Ok(tree) = Lookup::new(declared, &action.parameters, Variables::None).diagram(written) else { return Ok(()) };
+    let Ok(tree) = Lookup::new(declared, &action.parameters, Variables::NONE).diagram(written) else { return Ok(()) };
     let weight = read(&tree, &words[2])?;
     has_room(action.variants.len(), VARIANTS, "variants of this action", words[1].span)?;
     room_for(declared, &weight, words[2].span)
@@ -86,7 +84,7 @@ fn variant(declared: &Declarations, written: &WrittenDiagram, words: &[Word]) ->
 
 fn becomes(declared: &Declarations, arguments: &[String], written: &WrittenDiagram, word: &Word) -> Checked {
     let parameters = declared.actions.last().map_or(&[][..], |action| &action.parameters);
-    let Ok(tree) = Lookup::new(declared, parameters, Variables::Only(arguments.to_vec())).diagram(written) else { return Ok(()) };
+    let Ok(tree) = Lookup::new(declared, parameters, Variables::arguments(arguments)).diagram(written) else { return Ok(()) };
     let truth = read(&tree, word)?;
     let above = truth.leaves().find(|leaf| *leaf > 1);
     unless_fault(above.is_none(), || {
@@ -222,7 +220,7 @@ fn check_run(run: &Run, declared: &Declarations, words: &[Word], line: &Line, sp
         Line::True(name, objects) => facts(run, declared, name, objects, span),
         Line::Value => valuations(run, span),
         Line::Backup => backup::refused_backup(run, declared, span).map_or(Ok(()), Err),
-        Line::Cut => cuts(run, span),
+        Line::Cut => cuts(run, declared, span),
         Line::Reduce => reductions(run, declared, span),
         Line::Text => length(run, declared, span),
         Line::Best => questions::moves(run, declared, span),
@@ -247,12 +245,7 @@ fn facts(run: &Run, declared: &Declarations, name: &str, objects: &[u64], span: 
 fn valuations(run: &Run, span: Span) -> Checked {
     let Some(state) = run.placed.as_ref().and_then(|placed| placed.state()) else { return Ok(()) };
     questions::valued(&run.value, run, &state, &Valuation::new()).map(|_| ()).map_err(|(refusal, met)| {
-        Fault::new(
-            refusal,
-            span,
-            met,
-            "put fewer objects into the state (those that matter), or cut the diagram until 16 so that it has fewer variables",
-        )
+        Fault::new(refusal, span, met, questions::fewer_variables("put fewer objects into the state (those that matter)", &run.value))
     })
 }
 
@@ -266,34 +259,44 @@ fn many_paths(run: &Run, span: Span, advice: &str) -> Fault {
     )
 }
 
-fn cuts(run: &Run, span: Span) -> Checked {
+fn cuts(run: &Run, declared: &Declarations, span: Span) -> Checked {
     cut(&run.value, &run.arities, Slips::NONE).map(|_| ()).map_err(|refusal| {
         let rows = counted(run.value.rows().len(), "row");
-        if refusal == Refusal::Paths {
-            return many_paths(run, span, "values are right uncut, so go on; a smaller model has fewer paths");
-        }
-        Fault::new(
-            refusal,
-            span,
-            format!("after step {}: the value diagram of {rows} has no edge that may go", run.k),
-            "all is cut, so go on",
-        )
+        let (met, advice) = match refusal {
+            Refusal::Paths => return many_paths(run, span, "values are right uncut, so go on; a smaller model has fewer paths"),
+            Refusal::Minimum => {
+                let tested = named(run, declared, |label| label.places().iter().any(|term| is_minimum(*term)));
+                (format!("tests {tested}; a cut is for diagrams without minimum variables"), "values are right uncut, so go on")
+            }
+            _ => ("has no edge that may go".into(), "all is cut, so go on"),
+        };
+        Fault::new(refusal, span, format!("after step {}: the value diagram of {rows} {met}", run.k), advice)
     })
+}
+
+/// The first label of the value diagram of which this is true, by its names.
+fn named(run: &Run, declared: &Declarations, is: impl Fn(Label) -> bool) -> String {
+    let names = TermNames { declarations: declared, parameters: &[] };
+    run.value.labels().find(|label| is(*label)).map(|label| names.label(label)).unwrap_or_default()
 }
 
 fn reductions(run: &Run, declared: &Declarations, span: Span) -> Checked {
     reduce(&run.value, &run.arities, Slips::NONE).map(|_| ()).map_err(|refusal| {
         let rows = counted(run.value.rows().len(), "row");
         let (variables, paths) = (run.value.variables().len(), measure::count_paths(&run.value) as usize);
-        let names = TermNames { declarations: declared, parameters: &[] };
-        let other = run.value.labels().find(|label| !is_plain(*label, &run.arities)).map(|label| names.label(label));
         let (met, advice) = match refusal {
             Refusal::Paths => {
                 return many_paths(run, span, "values are right unreduced, so go on; cuts take paths away once there are 256")
             }
             Refusal::Kinds => (
-                format!("tests {}; a reduction is for diagrams without equality and constants", other.unwrap_or_default()),
-                "values are right unreduced, so go on; (cut) takes such diagrams",
+                format!(
+                    "tests {}; a reduction is for diagrams without equality, constants and minimum variables",
+                    named(run, declared, |label| !is_plain(label, &run.arities))
+                ),
+                match run.value.has_minimum() {
+                    true => "values are right unreduced, so go on",
+                    false => "values are right unreduced, so go on; (cut) takes such diagrams",
+                },
             ),
             Refusal::Runs => (
                 format!(

@@ -5,7 +5,7 @@ use crate::declarations::{Declarations, DeclaredAction};
 use crate::diagram::LARGEST;
 use crate::refusal::Refusal;
 use crate::session::{Placed, Session, DIVISOR, OBJECTS, TOTAL};
-use crate::terms::LARGEST_ARITY;
+use crate::terms::{VariableKind, LARGEST_ARITY};
 use crate::text::{Kind, Span, Word};
 
 /// The words of a line that is of the grammar and in its place.
@@ -33,10 +33,10 @@ fn name_at(words: &[Word], at: usize) -> &str {
     words.get(at).map_or("", name_of)
 }
 
-/// A word's name, without ? or !.
+/// A word's name, without its sign.
 pub fn name_of(word: &Word) -> &str {
     match &word.kind {
-        Kind::Name(name) | Kind::Variable(name) | Kind::Parameter(name) => name,
+        Kind::Name(name) | Kind::Variable(_, name) | Kind::Parameter(name) => name,
         _ => "",
     }
 }
@@ -300,7 +300,7 @@ impl Reader<'_> {
     fn term(&self, word: &Word) -> Checked {
         match &word.kind {
             Kind::Parameter(name) => self.parameter(word, name),
-            Kind::Variable(name) => self.variable(word, name),
+            Kind::Variable(kind, name) => self.variable(word, *kind, name),
             _ => known_constant(self.declared, word).map(|_| ()),
         }
     }
@@ -324,18 +324,26 @@ impl Reader<'_> {
         unbound(format!("\"!{name}\" is no parameter of the action \"{}\"", action.name), advice)
     }
 
-    fn variable(&self, word: &Word, name: &str) -> Checked {
-        let unbound = |what: String, advice: String| Err(Fault::new(Refusal::Unbound, word.span, what, advice));
+    fn variable(&self, word: &Word, kind: VariableKind, name: &str) -> Checked {
+        let unbound = |what: String, advice: &str| Err(Fault::new(Refusal::Unbound, word.span, what, advice));
+        let variable = match kind {
+            VariableKind::Maximum => "variable",
+            VariableKind::Minimum => "minimum variable",
+        };
         match &self.variables {
             Variables::Any => Ok(()),
-            Variables::Only(names) if names.contains(&name) => Ok(()),
+            Variables::Only(names) if kind == VariableKind::Maximum && names.contains(&name) => Ok(()),
             Variables::None => unbound(
-                format!("a weight names a variable, \"?{name}\""),
-                "a weight names constants and the action's parameters only: write !name".into(),
+                format!("a weight names a {variable}, \"{}{name}\"", kind.sign()),
+                "a weight names constants and the action's parameters only: write !name",
+            ),
+            Variables::Only(_) if kind == VariableKind::Minimum => unbound(
+                format!("a (becomes) names a minimum variable, \"%{name}\""),
+                "minimum variables are for rewards; a truth diagram names the arguments of its predicate, the action's parameters and constants only",
             ),
             Variables::Only(_) => unbound(
                 format!("\"?{name}\" is no argument of this (becomes)"),
-                "a truth diagram names the arguments of its predicate, the action's parameters and constants only".into(),
+                "a truth diagram names the arguments of its predicate, the action's parameters and constants only",
             ),
         }
     }
