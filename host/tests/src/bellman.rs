@@ -17,8 +17,9 @@ use std::path::Path;
 /// Backups, cuts and reductions, in any order.
 const OPERATIONS: [&str; 5] = ["(backup)", "(backup)", "(cut)", "(cut)", "(reduce)"];
 
-/// One model in five has predicates of up to six places, and two may be reduced as far as equality and constants are concerned.
-const SIZES: [Size; 5] = [Size::SMALL, Size::SMALL, Size::PLAIN, Size::PLAIN, Size::PLACES];
+/// One model in eight has predicates of up to six places, two may be reduced as far as equality and constants are concerned, and three have rewards with minimum variables.
+const SIZES: [Size; 8] =
+    [Size::SMALL, Size::SMALL, Size::PLAIN, Size::PLAIN, Size::PLACES, Size::MINIMUM, Size::FEW_MINIMUM, Size::FEW_MINIMUM];
 
 /// One random model with a random list of backups, cuts and reductions. A wrong value is described.
 pub fn check(seed: u64, slips: Slips, tally: &mut Tally) -> Result<(), String> {
@@ -52,6 +53,13 @@ pub fn check(seed: u64, slips: Slips, tally: &mut Tally) -> Result<(), String> {
                     let right = bellman.value(k, state);
                     if u128::from(*value) != right || *printed != k || u128::from(*power) != scale {
                         return Err(format!("(value {value} {printed} {power}) where M{k} is {right} and S^k {scale}, in {state:?}"));
+                    }
+                    if session.started().expect("started").value.has_minimum() {
+                        tally.see(match k {
+                            0 => "a value with a minimum variable",
+                            1 => "a value with a minimum variable behind a backup",
+                            _ => "a value with a minimum variable behind two backups or more",
+                        });
                     }
                 }
                 Ok(other) => return Err(format!("{other:?} for (value)")),

@@ -1,7 +1,7 @@
-//! Document 02, L2: value diagrams go round, printed by (text) and read again as the reward of the next model, and rewards whose variables are written ?vN.
+//! Document 02, L2 and L12: value diagrams go round, printed by (text) and read again as the reward of the next model, and rewards whose variables are written ?vN and %vN.
 
 use crate::limits::{long_form, nested_form};
-use crate::models::{model, terms, write_model, write_tree, Signature, Size};
+use crate::models::{minimum_terms, model, terms, write_model, write_tree, Signature, Size};
 use crate::program::printed;
 use crate::random::Random;
 use crate::tally::Tally;
@@ -9,14 +9,22 @@ use reference::diagram::Diagram;
 use reference::refusal::Refusal;
 use reference::session::{answers, Answer, Session};
 use reference::slips::Slips;
-use reference::terms::{is_variable, Term, FIRST_VARIABLE};
+use reference::terms::{Term, VariableKind};
 use reference::tree::Tree;
 use std::path::Path;
 
 /// A program, or the reference: a text in, its answers out.
 type Answering<'a> = &'a dyn Fn(&[u8]) -> Result<Vec<u8>, String>;
 
-const SIZES: [Size; 5] = [Size::SMALL, Size::SMALL, Size::PLAIN, Size::PLACES, Size { variables: 24, depth: 5, ..Size::PLACES }];
+const SIZES: [Size; 7] = [
+    Size::SMALL,
+    Size::SMALL,
+    Size::PLAIN,
+    Size::PLACES,
+    Size { variables: 24, depth: 5, ..Size::PLACES },
+    Size::MINIMUM,
+    Size { variables: 12, minimum: 12, depth: 5, ..Size::PLACES },
+];
 const OPERATIONS: [&str; 5] = ["(backup)", "(cut)", "(cut)", "(reduce)", ""];
 /// So many models behind one another have the value diagram of the one before as their reward.
 const QUARTERS: u64 = 4;
@@ -77,13 +85,18 @@ fn shown(answering: Answering, lines: &[String]) -> Result<Option<(Vec<String>, 
     Ok(Some((rows, is_form.then(|| last.to_string()))))
 }
 
-/// The line with another name in the place of each variable ?x0, ?x1, ..
-fn with_names(line: &str, name: impl Fn(usize) -> String) -> String {
-    let mut parts = line.split("?x");
-    let mut written = parts.next().unwrap_or_default().to_string();
-    for part in parts {
-        let digits = part.bytes().take_while(u8::is_ascii_digit).count();
-        written += &format!("?{}{}", name(part[..digits].parse().expect("a number")), &part[digits..]);
+/// The line with another name in the place of each variable ?x0, ?x1, .. and %x0, %x1, ..
+fn with_names(line: &str, name: impl Fn(VariableKind, usize) -> String) -> String {
+    let mut written = line.to_string();
+    for kind in VariableKind::ALL {
+        let (old, sign) = (format!("{}x", kind.sign()), kind.sign());
+        let mut parts = written.split(&old);
+        let mut renamed = parts.next().unwrap_or_default().to_string();
+        for part in parts {
+            let digits = part.bytes().take_while(u8::is_ascii_digit).count();
+            renamed += &format!("{sign}{}{}", name(kind, part[..digits].parse().expect("a number")), &part[digits..]);
+        }
+        written = renamed;
     }
     written
 }
@@ -100,7 +113,7 @@ fn numbers(random: &mut Random, count: usize) -> Vec<u64> {
     numbers
 }
 
-/// A name that is not of the way ?vN.
+/// A name that is not of the way vN.
 fn other_name(random: &mut Random, number: u64) -> String {
     match random.below(5) {
         0 => format!("v0{}", number % 1_000),
@@ -111,41 +124,59 @@ fn other_name(random: &mut Random, number: u64) -> String {
     }
 }
 
-/// A reward's line with other names of its variables: all ?vN, all with a leading zero, or some of them so.
+/// A reward's line with other names of its variables, kind by kind: all vN, all with a leading zero, or some of them so.
 pub fn renamed(random: &mut Random, line: &str) -> String {
     const MOST: usize = 100;
-    let numbers = numbers(random, MOST);
-    let others: Vec<bool> = (0..MOST).map(|_| random.once_in(4)).collect();
-    match random.below(5) {
-        0 => line.to_string(),
-        1 => with_names(line, |i| format!("v{}", numbers[i])),
-        2 => with_names(line, |i| format!("v{i}")),
-        3 => with_names(line, |i| format!("v0{i}")),
-        _ => with_names(line, |i| if others[i] { format!("v0{i}") } else { format!("v{}", numbers[i]) }),
-    }
+    let ways = VariableKind::ALL.map(|_| {
+        let others: Vec<bool> = (0..MOST).map(|_| random.once_in(4)).collect();
+        (numbers(random, MOST), others, random.below(5))
+    });
+    with_names(line, |kind, i| {
+        let (numbers, others, way) = &ways[kind as usize];
+        match way {
+            0 => format!("x{i}"),
+            1 => format!("v{}", numbers[i]),
+            2 => format!("v{i}"),
+            4 if !others[i] => format!("v{}", numbers[i]),
+            _ => format!("v0{i}"),
+        }
+    })
 }
 
-/// A reward is numbered by ascending N where every variable is written ?vN, and else by first occurrence, whatever N is.
+/// A reward is numbered kind by kind: by ascending N where every variable of a kind is written vN behind its sign, and else by first occurrence, whatever N is and however the others are
+/// written.
 fn check_numbers(seed: u64, slips: Slips) -> Result<(), String> {
     let random = &mut Random::new(seed ^ 0x2b);
     let signature = Signature::random(random, Size::PLACES);
-    let count = random.between(1, 6);
-    let tree = signature.tree(random, &terms(&signature, 0, count), 4, &[0, 1, 2, 3]);
-    let mut numbers = numbers(random, count as usize + 1);
-    let apart = numbers.pop().expect("one more");
-    let mut occurred = Vec::new();
-    occurrences(&tree, &mut occurred);
-    let by_number = numbered(&tree, &|variable| numbers.iter().filter(|n| **n < numbers[variable]).count())?;
-    let by_occurrence = numbered(&tree, &|variable| occurred.iter().position(|v| *v == variable).expect("it occurs"))?;
-    let written = with_names(&write_tree(&tree), |i| format!("v{}", numbers[i]));
+    let counts = [random.between(1, 6), random.between(1, 4)];
+    let drawn: Vec<Term> = terms(&signature, 0, counts[0]).into_iter().chain(minimum_terms(counts[1])).collect();
+    let tree = signature.tree(random, &drawn, 4, &[0, 1, 2, 3]);
+    let mut numbers = VariableKind::ALL.map(|kind| numbers(random, counts[kind as usize] as usize + 1));
+    let apart = VariableKind::ALL.map(|kind| numbers[kind as usize].pop().expect("one more"));
+    let occurred = VariableKind::ALL.map(|kind| {
+        let mut occurred = Vec::new();
+        occurrences(&tree, kind, &mut occurred);
+        occurred
+    });
+    let by_number = |kind: VariableKind, i: usize| numbers[kind as usize].iter().filter(|n| **n < numbers[kind as usize][i]).count();
+    let by_occurrence = |kind: VariableKind, i: usize| occurred[kind as usize].iter().position(|v| *v == i).expect("it occurs");
+    // one kind, or both, or none by first occurrence
+    let others = VariableKind::ALL.map(|kind| (random.once_in(2), other_name(random, apart[kind as usize])));
+    let right = numbered(&tree, &|kind, i| if others[kind as usize].0 { by_occurrence(kind, i) } else { by_number(kind, i) })?;
+    let written = with_names(&write_tree(&tree), |kind, i| format!("v{}", numbers[kind as usize][i]));
     // a variable in a part that reduces away counts as one that is written
-    let below = |variable: &str| format!("(if (= ?{variable} ?{variable}) {written} 4)");
-    let mut cases = vec![(written.clone(), &by_number), (below(&format!("v{apart}")), &by_number), (below("z"), &by_occurrence)];
-    if !occurred.is_empty() {
-        let (other, name) = (*random.pick(&occurred), other_name(random, apart));
-        let mixed = with_names(&write_tree(&tree), |i| if i == other { name.clone() } else { format!("v{}", numbers[i]) });
-        cases.push((mixed, &by_occurrence));
-    }
+    let below = VariableKind::ALL.into_iter().fold(written.clone(), |inner, kind| {
+        let name = if others[kind as usize].0 { "z".to_string() } else { format!("v{}", apart[kind as usize]) };
+        format!("(if (= {sign}{name} {sign}{name}) {inner} 4)", sign = kind.sign())
+    });
+    let mut cases = vec![(below, &right)];
+    let all_by_number = numbered(&tree, &by_number)?;
+    cases.push((written, &all_by_number));
+    let named = |kind: VariableKind, i: usize| match &others[kind as usize] {
+        (true, name) if occurred[kind as usize].last() == Some(&i) => name.clone(),
+        _ => format!("v{}", numbers[kind as usize][i]),
+    };
+    cases.push((with_names(&write_tree(&tree), named), &right));
     for (written, right) in cases {
         if reward(&signature, &written, slips)? != *right {
             return Err(format!("(reward {written}) is not numbered as it is written"));
@@ -170,28 +201,31 @@ fn check_limits(seed: u64, slips: Slips) -> Result<(), String> {
     Ok(())
 }
 
-/// The variables of a tree, from 0 on, by first occurrence.
-fn occurrences(tree: &Tree, occurred: &mut Vec<usize>) {
+/// The variables of a kind in a tree, from 0 on, by first occurrence.
+fn occurrences(tree: &Tree, kind: VariableKind, occurred: &mut Vec<usize>) {
     if let Tree::If { terms, yes, no, .. } = tree {
-        let variables = terms.iter().filter(|term| is_variable(**term)).map(|term| (*term - FIRST_VARIABLE) as usize);
-        for variable in variables {
+        let own = terms.iter().filter(|term| VariableKind::of(**term) == Some(kind));
+        for variable in own.map(|term| (term - kind.first()) as usize) {
             if !occurred.contains(&variable) {
                 occurred.push(variable);
             }
         }
-        occurrences(yes, occurred);
-        occurrences(no, occurred);
+        occurrences(yes, kind, occurred);
+        occurrences(no, kind, occurred);
     }
 }
 
 /// The diagram of a tree whose variables have other numbers.
-fn numbered(tree: &Tree, number: &dyn Fn(usize) -> usize) -> Result<Diagram, String> {
+fn numbered(tree: &Tree, number: &dyn Fn(VariableKind, usize) -> usize) -> Result<Diagram, String> {
     let read = with_numbers(tree, number).read();
     read.map(|diagram| diagram.closed_up()).map_err(|refusal| format!("{tree:?} is refused with {}", refusal.number()))
 }
 
-fn with_numbers(tree: &Tree, number: &dyn Fn(usize) -> usize) -> Tree {
-    let other = |term: &Term| if is_variable(*term) { FIRST_VARIABLE + number((*term - FIRST_VARIABLE) as usize) as Term } else { *term };
+fn with_numbers(tree: &Tree, number: &dyn Fn(VariableKind, usize) -> usize) -> Tree {
+    let other = |term: &Term| match VariableKind::of(*term) {
+        Some(kind) => kind.first() + number(kind, (term - kind.first()) as usize) as Term,
+        None => *term,
+    };
     match tree {
         Tree::Number(value) => Tree::Number(*value),
         Tree::If { predicate, terms, yes, no } => Tree::If {

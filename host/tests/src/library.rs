@@ -11,7 +11,10 @@ use reference::diagram::Diagram;
 use reference::listing::{read_arities, read_listing, write_listing};
 use reference::refusal::Refusal;
 use reference::state::VALUATIONS;
-use reference::terms::{Label, EQUALITY, FIRST_PARAMETER, FIRST_VARIABLE, LARGEST_ARITY, LAST_VARIABLE, PARAMETERS, PREDICATES, VARIABLES};
+use reference::terms::{
+    is_minimum, Label, VariableKind, EQUALITY, FIRST_MINIMUM, FIRST_PARAMETER, FIRST_VARIABLE, LARGEST_ARITY, LAST_VARIABLE, PARAMETERS,
+    PREDICATES, VARIABLES,
+};
 use std::collections::BTreeMap;
 use yindolve::calls;
 
@@ -23,10 +26,10 @@ const CALLS: [(&str, &[u64]); 12] = [
     ("product apart", &[0, 8, 9, 10, 11, 14, 18]),
     ("product shared", &[0, 9, 10, 11, 14, 18]),
     ("max apart", &[0, 8, 9, 10, 14, 18]),
-    ("max shared", &[0, 9, 10, 14, 18]),
+    ("max shared", &[0, 8, 9, 10, 14, 18]),
     ("regress", &[0, 6, 7, 9, 10, 14, 18]),
     ("free", &[0, 4, 6, 8, 14, 18]),
-    ("cut", &[0, 14, 16, 17, 18]),
+    ("cut", &[0, 14, 16, 17, 18, 25]),
     ("reduce", &[0, 6, 14, 17, 18, 26, 27, 28]),
     ("value", &[0, 4, 6, 14, 15]),
 ];
@@ -169,7 +172,11 @@ fn check_combination(random: &mut Random, answers: &mut Answers) -> Result<(), S
     let (parameters, variables) = (random.below(3), *random.pick(&[3, 16, 48]));
     let mut atoms = Atoms::random(random, parameters, variables);
     if random.once_in(4) {
-        atoms.terms = (FIRST_VARIABLE..=LAST_VARIABLE).collect();
+        // all variables of a kind, or of both
+        let kinds = &VariableKind::ALL[random.below(2) as usize..];
+        atoms.terms = kinds.iter().flat_map(|kind| kind.first()..=kind.last()).collect();
+    } else if random.once_in(4) {
+        atoms.terms.extend(FIRST_VARIABLE..=LAST_VARIABLE);
     }
     let arities = lent_arities(random, &atoms);
     let rarely = *random.pick(&[1, 8, 8]);
@@ -197,7 +204,8 @@ fn truths(random: &mut Random, atoms: &Atoms, rarely: u64) -> (Vec<u64>, Vec<u64
     for predicate in atoms.predicates.iter().map(|p| *p as usize) {
         if random.once_in(2) {
             let arguments = atoms.arities[predicate] + u64::from(random.once_in(20));
-            let terms = [0, 1, FIRST_PARAMETER].into_iter().chain(FIRST_VARIABLE..FIRST_VARIABLE + arguments);
+            let minimum = random.once_in(20).then_some(FIRST_MINIMUM);
+            let terms = [0, 1, FIRST_PARAMETER].into_iter().chain(FIRST_VARIABLE..FIRST_VARIABLE + arguments).chain(minimum);
             let (atoms, shape) = (atoms.about(terms.collect()), Shape::any(random, rarely));
             let leaves: &[u64] = if random.once_in(20) { &[0, 1, 2] } else { &[0, 1] };
             let truth = listing(random, &atoms, shape, leaves);
@@ -314,14 +322,14 @@ fn check_cut(random: &mut Random, answers: &mut Answers) -> Result<(), String> {
     )
 }
 
-/// Atoms for a reduction: as a rule without equality, constants and parameters, and of up to three variables.
+/// Atoms for a reduction: as a rule without equality, constants, minimum variables and parameters, and of up to three variables.
 fn plain_atoms(random: &mut Random) -> Atoms {
     let parameters = u64::from(random.once_in(12));
     let variables = *random.pick(&[1, 2, 2, 2, 3, 3, 4, 6]);
     let mut atoms = Atoms::random(random, parameters, variables);
     if !random.once_in(12) {
         atoms.predicates.retain(|predicate| *predicate != EQUALITY);
-        atoms.terms.retain(|term| *term >= FIRST_PARAMETER);
+        atoms.terms.retain(|term| *term >= FIRST_PARAMETER && !is_minimum(*term));
     }
     if random.once_in(2) {
         let most = random.below(3);

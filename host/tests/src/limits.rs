@@ -2,14 +2,14 @@
 
 use crate::random::Random;
 use reference::diagram::LARGEST;
-use reference::terms::{LARGEST_ARITY, PARAMETERS, PLACES, VARIABLES};
+use reference::terms::{VariableKind, LARGEST_ARITY, PARAMETERS, PLACES, VARIABLES};
 
 /// Of these one or a few together are about 10^18.
 pub const LARGE_NUMBERS: [u64; 6] = [0, 1, LARGEST / 2, LARGEST / 2 + 1, LARGEST - 1, LARGEST];
 
 /// The lines of a text about one limit.
 pub fn lines(random: &mut Random) -> Vec<String> {
-    match random.below(24) {
+    match random.below(26) {
         0 => declarations(random),
         1 => variables(random),
         2 => brackets(random),
@@ -39,6 +39,8 @@ pub fn lines(random: &mut Random) -> Vec<String> {
         20 => crowded_log(random),
         21 => high_log(random),
         22 => growing_log(random),
+        23 => actions_apart(random),
+        24 => minimum_paths(random),
         _ => variants_apart(random),
     }
 }
@@ -52,16 +54,16 @@ fn numbered(count: u64, line: impl Fn(u64) -> String) -> impl Iterator<Item = St
     (0..count).map(line)
 }
 
-/// A conjunction of `count` tests of p, each of a variable of its own.
-fn conjunction(count: u64) -> String {
-    (0..count).rev().fold("1".to_string(), |inner, v| format!("(if (p ?x{v}) {inner} 0)"))
+/// A conjunction of `count` tests of p, each of a variable of its own, and a form.
+fn conjunction(kind: VariableKind, count: u64, form: String) -> String {
+    (0..count).rev().fold(form, |inner, v| format!("(if (p {}x{v}) {inner} 0)", kind.sign()))
 }
 
 /// One of tests of q, of up to six variables each: more variables than brackets that may be open.
-fn wide_conjunction(count: u64) -> String {
-    let variables: Vec<String> = (0..count).map(|v| format!(" ?x{v}")).collect();
+fn wide_conjunction(kind: VariableKind, count: u64, form: String) -> String {
+    let variables: Vec<String> = (0..count).map(|v| format!(" {}x{v}", kind.sign())).collect();
     let test = |inner: String, six: &[String]| format!("(if (q{}{}) {inner} 0)", six.concat(), six[0].repeat(PLACES - six.len()));
-    variables.chunks(PLACES).rev().fold("1".to_string(), test)
+    variables.chunks(PLACES).rev().fold(form, test)
 }
 
 fn model(before: Vec<String>, reward: String) -> Vec<String> {
@@ -84,8 +86,13 @@ fn declarations(random: &mut Random) -> Vec<String> {
     lines
 }
 
+/// About 64 variables of one kind or of both.
 fn variables(random: &mut Random) -> Vec<String> {
-    let reward = wide_conjunction(about(random, VARIABLES));
+    let mut reward = "1".to_string();
+    for kind in VariableKind::ALL {
+        let count = if random.once_in(3) { random.below(4) } else { about(random, VARIABLES) };
+        reward = wide_conjunction(kind, count, reward);
+    }
     let mut lines = model(vec![format!("(predicate q {LARGEST_ARITY})")], reward);
     lines.extend(["(show)", "(cut)", "(objects 1)", "(value)"].map(str::to_string));
     lines
@@ -140,7 +147,10 @@ fn largest_value(random: &mut Random) -> Vec<String> {
 fn valuations(random: &mut Random) -> Vec<String> {
     let (variables, objects) =
         *random.pick(&[(3, 64), (4, 31), (5, 15), (5, 16), (8, 6), (12, 3), (12, 4), (19, 2), (20, 2), (6, 11), (7, 8)]);
-    let mut lines = model(vec!["(predicate p 1)".to_string()], conjunction(variables));
+    // some of them minimum variables, which tables do not take the place of
+    let minimum = if random.once_in(2) { random.between(1, variables) } else { 0 };
+    let inside = conjunction(VariableKind::Minimum, minimum, "1".to_string());
+    let mut lines = model(vec!["(predicate p 1)".to_string()], conjunction(VariableKind::Maximum, variables - minimum, inside));
     lines.extend([format!("(objects {objects})"), format!("(true p {})", objects - 1), "(value)".to_string()]);
     lines
 }
@@ -197,11 +207,40 @@ fn related(random: &mut Random) -> Vec<String> {
     valued(random, propositions, &reward, objects)
 }
 
-/// A backup whose variables, set apart, are about 64.
+/// A reward of so many variables of one kind, and a few of the other.
+fn of_both_kinds(random: &mut Random, kind: VariableKind, variables: u64) -> String {
+    let other = if kind == VariableKind::Maximum { VariableKind::Minimum } else { VariableKind::Maximum };
+    let few = random.below(3) * random.below(3);
+    conjunction(other, few, conjunction(kind, variables, "1".to_string()))
+}
+
+/// A backup whose minimum variables, set apart by the max over actions and by the sum with the reward, are about 64.
+fn actions_apart(random: &mut Random) -> Vec<String> {
+    let (variables, actions) = *random.pick(&[(21, 2), (22, 2), (32, 1), (33, 1), (16, 3), (17, 3), (8, 7), (9, 7)]);
+    let reward = of_both_kinds(random, VariableKind::Minimum, variables);
+    let mut lines = vec!["(predicate p 1)".to_string(), "(total 1)".to_string(), format!("(reward {reward})")];
+    lines.extend((0..actions).flat_map(|i| [format!("(action go{i})"), "(variant only 1)".to_string()]));
+    lines.extend(["(start)", "(objects 1)", "(best)", "(backup)", "(cut)", "(value)", "(best)", "(backup)"].map(str::to_string));
+    lines
+}
+
+/// About 256 paths, of which one may test a minimum variable: 25 comes before 17, and 17 before 26.
+fn minimum_paths(random: &mut Random) -> Vec<String> {
+    let leaves: Vec<u64> = (1..about(random, 256)).collect();
+    let end = *random.pick(&["(if (q %x) 9 8)", "(if (q %x) 9 8)", "(if (q ?x) 9 8)", "(if (= %x ?x) 9 8)"]);
+    let predicates = numbered(9, |i| format!("(predicate p{i} 0)")).chain(["(predicate q 1)".to_string()]);
+    let mut lines = model(predicates.collect(), tree(0, &leaves).replacen("1 ", &format!("{end} "), 1));
+    lines.extend(["(cut)", "(reduce)"].map(str::to_string));
+    lines
+}
+
+/// A backup whose variables of one kind, set apart, are about 64.
 fn variants_apart(random: &mut Random) -> Vec<String> {
+    let kind = *random.pick(&VariableKind::ALL);
     let (variables, variants) = *random.pick(&[(16, 3), (22, 2), (21, 2), (32, 1), (33, 1), (8, 7), (9, 6), (8, 8)]);
     let parameters: String = numbered(random.below(5), |i| format!(" !a{i}")).collect();
-    let mut lines = vec!["(predicate p 1)".to_string(), format!("(total {variants})"), format!("(reward {})", conjunction(variables))];
+    let mut lines = vec!["(predicate p 1)".to_string(), format!("(total {variants})")];
+    lines.push(format!("(reward {})", of_both_kinds(random, kind, variables)));
     lines.push(format!("(action go{parameters})"));
     lines.extend(numbered(variants, |i| format!("(variant v{i} 1)")));
     lines.extend(["(start)", "(objects 1)", "(best)", "(backup)", "(cut)", "(best)", "(backup)"].map(str::to_string));

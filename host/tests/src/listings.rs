@@ -1,7 +1,7 @@
 //! Lent listings, whole, damaged and of the old kind, and the refusals of library calls.
 
 use crate::meaning::diagram;
-use crate::models::{terms, Signature, Size};
+use crate::models::{minimum_terms, terms, Signature, Size};
 use crate::old::{old_listing, OLD_LEAF_MARK};
 use crate::random::Random;
 use crate::tally::Tally;
@@ -10,14 +10,19 @@ use reference::combine::{Names, Operator};
 use reference::diagram::LARGEST;
 use reference::listing::{read_listing, write_listing};
 use reference::refusal::Refusal;
-use reference::terms::{Arities, FIRST_VARIABLE, LAST_VARIABLE, LEAF_MARK, PARAMETERS, PREDICATES, PREDICATE_BIT};
+use reference::terms::{
+    Arities, Term, VariableKind, FIRST_MINIMUM, FIRST_VARIABLE, LAST_MINIMUM, LAST_VARIABLE, LEAF_MARK, PARAMETERS, PREDICATES,
+    PREDICATE_BIT,
+};
 
 /// Words that come near to a number, a label or a leaf's mark.
-const WORDS: [u64; 10] = [
+const WORDS: [u64; 12] = [
     0,
     1,
+    FIRST_VARIABLE - 1,
     LAST_VARIABLE,
-    LAST_VARIABLE + 1,
+    FIRST_MINIMUM,
+    LAST_MINIMUM + 1,
     OLD_LEAF_MARK,
     1 << PREDICATE_BIT,
     (PREDICATES as u64) << PREDICATE_BIT,
@@ -75,14 +80,15 @@ pub fn check(seed: u64, tally: &mut Tally) -> Result<(), String> {
     let random = &mut Random::new(seed);
     let size = *random.pick(&[Size::SMALL, Size::PLACES]);
     let signature = Signature::random(random, size);
-    let lent = diagram(random, &signature, &terms(&signature, PARAMETERS, 4), 4);
-    let highest_first = LAST_VARIABLE + 1 - lent.variables().len() as u64;
+    let terms: Vec<Term> = terms(&signature, PARAMETERS, 4).into_iter().chain(minimum_terms(random.below(4))).collect();
+    let lent = diagram(random, &signature, &terms, 4);
     if let Some(old) = old_listing(&lent) {
         if every_call(random, &old, &signature.arities).iter().any(|answer| *answer != Err(Refusal::Listing)) {
             return Err(format!("{old:?}, of the old kind, is taken"));
         }
     }
-    let mut words = write_listing(&lent.numbered_from(random.between(FIRST_VARIABLE, highest_first)));
+    let firsts = VariableKind::ALL.map(|kind| random.between(kind.first(), kind.last() + 1 - lent.variables_of(kind).len() as u64));
+    let mut words = write_listing(&lent.numbered_from(|kind| firsts[kind as usize]));
     for _ in 0..random.below(3) {
         if !words.is_empty() {
             damage(random, &mut words);

@@ -11,7 +11,7 @@
 //! `self` holds the reference against brute force, the weight rule over all states that matter, compares ground listings by their values, sees that blank
 //! lines change nothing but line numbers, that listings of the old kind meet 14 and that both ways to a value agree, works reductions out from states alone, sends value diagrams round
 //! (printed by (text), read as the next model's reward, with the same rows), holds moves, spreads and logs against brute force over next states and over all
-//! states, counts the refusals met, and sees that each slip is caught.
+//! states, all of these with minimum variables too, counts the refusals met, and sees that each slip is caught.
 //! `program` feeds random texts to a program and to the reference. `bellman` holds the values, moves, spreads and logs that a program prints against brute force,
 //! without the reference's diagrams. `round` sends value diagrams round through a program. `library` (feature `library`) makes random calls of the static
 //! library and of the reference, whole texts too, and sees that each call gave each of its answers.
@@ -115,7 +115,9 @@ impl Bound {
 /// The tests of one seed that a slip could fail.
 fn values_and_meanings(seed: u64, slips: Slips, tally: &mut Tally) -> Result<(), String> {
     let failed = |what: &'static str| move |message: String| format!("seed {seed}, {what}: {message}");
+    meaning::check_combination(seed, slips, tally).map_err(failed("combination"))?;
     meaning::check_regression(seed, slips, tally).map_err(failed("regression"))?;
+    meaning::check_freeing(seed, slips).map_err(failed("freeing"))?;
     meaning::check_cut(seed, slips, tally).map_err(failed("cut"))?;
     reductions::check(seed, slips, tally).map_err(failed("reduction"))?;
     forms::check(seed, slips, tally).map_err(failed("form"))?;
@@ -130,7 +132,6 @@ fn self_tests(bound: &Bound) -> Result<(), String> {
     let (mut done, mut by_equality) = (0, 0);
     for seed in bound.seeds(SEEDS) {
         values_and_meanings(seed, Slips::NONE, &mut tally)?;
-        meaning::check_combination(seed, &mut tally).map_err(|message| format!("seed {seed}, combination: {message}"))?;
         listings::check(seed, &mut tally).map_err(|message| format!("seed {seed}, listing: {message}"))?;
         order::check(seed).map_err(|message| format!("seed {seed}, order of labels: {message}"))?;
         ground::check(seed).map_err(|message| format!("seed {seed}, ground listings: {message}"))?;
@@ -169,6 +170,10 @@ fn slips_are_caught() -> Result<(), String> {
         ("truth diagrams of a logged line in turn", Slips { truths_in_turn: true, ..Slips::NONE }),
         ("the reward before each logged line", Slips { both_rewards: true, ..Slips::NONE }),
         ("values totalled in place of rewards", Slips { values_totalled: true, ..Slips::NONE }),
+        ("lowest outside and highest inside", Slips { lowest_outside: true, ..Slips::NONE }),
+        ("minimum variables not moved aside", Slips { minimum_in_place: true, ..Slips::NONE }),
+        ("a max with a minimum variable done shared", Slips { max_shared: true, ..Slips::NONE }),
+        ("freeing that moves minimum variables", Slips { freeing_moves_all: true, ..Slips::NONE }),
     ];
     for (name, slips) in slips {
         let caught = |seed: u64| values_and_meanings(seed, slips, &mut Tally::default()).err();

@@ -1,17 +1,19 @@
-//! The meaning of combinations, regressions and cuts, choice by choice and state by state.
+//! The meaning of combinations, regressions, freeing and cuts, choice by choice and state by state.
 
-use crate::models::{ground_facts, model, state, terms, Signature, Size};
+use crate::models::{ground_facts, minimum_terms, model, state, terms, Signature, Size};
 use crate::random::Random;
 use crate::tally::Tally;
 use reference::bellman::next_state;
-use reference::combine::{combine, Names, Operator};
+use reference::best::{bindings, bound};
+use reference::combine::{combine_with, Names, Operator};
 use reference::cut::cut;
 use reference::diagram::{Diagram, Row, Space};
 use reference::listing::{read_listing, write_listing};
-use reference::regress::{regress, Truths};
+use reference::refusal::Refusal;
+use reference::regress::{free, regress, Truths};
 use reference::slips::Slips;
-use reference::state::{leaf_in, value, State, Valuation};
-use reference::terms::{Label, Term, FIRST_PARAMETER, FIRST_VARIABLE};
+use reference::state::{by_valuations_with, leaf_in, value, value_with, State, Valuation};
+use reference::terms::{is_minimum, is_parameter, Label, Term, FIRST_PARAMETER, FIRST_VARIABLE};
 use std::collections::BTreeSet;
 
 const OPERATORS: [Operator; 3] = [Operator::Sum, Operator::Product, Operator::Max];
@@ -24,6 +26,11 @@ pub fn diagram(random: &mut Random, signature: &Signature, terms: &[Term], depth
             return diagram;
         }
     }
+}
+
+/// Constants, so many parameters, three variables and up to two minimum variables.
+fn terms_of_both_kinds(random: &mut Random, signature: &Signature, parameters: u64) -> Vec<Term> {
+    terms(signature, parameters, 3).into_iter().chain(minimum_terms(random.below(3))).collect()
 }
 
 /// The diagram below a row. All rows are distinct and reduced, so they keep their numbers in a space.
@@ -71,15 +78,20 @@ pub fn is_listing(diagram: &Diagram, signature: &Signature) -> bool {
     read_listing(&write_listing(diagram), &signature.arities).as_ref() == Ok(diagram)
 }
 
-/// A combination leads every choice to the operator's result of the operands' leaves; apart, its value is that of the operands' values.
-pub fn check_combination(seed: u64, tally: &mut Tally) -> Result<(), String> {
+/// A combination leads every choice to the operator's result of the operands' leaves; apart, its number is that of the operands' numbers. A max with a minimum variable is done apart.
+pub fn check_combination(seed: u64, slips: Slips, tally: &mut Tally) -> Result<(), String> {
     let random = &mut Random::new(seed);
     let size = *random.pick(&[Size::SMALL, Size::PLACES]);
     let signature = Signature::random(random, size);
-    let terms = terms(&signature, 1, 3);
+    let terms = terms_of_both_kinds(random, &signature, 1);
     let (a, b) = (diagram(random, &signature, &terms, 4), diagram(random, &signature, &terms, 4));
     let operator = *random.pick(&OPERATORS);
-    if let Ok(combined) = tally.watch(combine(operator, Names::Shared, &a, &b)) {
+    let shared = tally.watch(combine_with(operator, Names::Shared, &a, &b, slips));
+    if operator == Operator::Max && [&a, &b].into_iter().any(|operand| operand.variables().into_iter().any(is_minimum)) {
+        let apart = combine_with(operator, Names::Apart, &a, &b, slips);
+        tally.see("a max of shared names done apart");
+        expect(shared == apart, || format!("not what a call apart answers, for a max with a minimum variable, of {a:?} and {b:?}"))?;
+    } else if let Ok(combined) = shared {
         expect(is_listing(&combined.diagram, &signature), || "the result is no listing".to_string())?;
         let mut pairs = BTreeSet::new();
         pair_set(operator, &a, &b, &mut pairs);
@@ -93,21 +105,30 @@ pub fn check_combination(seed: u64, tally: &mut Tally) -> Result<(), String> {
         }
     }
     let (a, b) = (without_parameters(&a), without_parameters(&b));
-    if let Ok(combined) = tally.watch(combine(operator, Names::Apart, &a, &b)) {
+    let objects = random.between(1, 3);
+    let state = state(random, &signature, objects);
+    let number = |d: &Diagram| by_valuations_with(d, &signature.arities, &state, &Valuation::new(), Slips::NONE);
+    let result = |d: &Diagram| value_with(d, &signature.arities, &state, &Valuation::new(), slips).expect("few valuations");
+    let is_right = |combined: &Diagram, a: &Diagram, b: &Diagram, operator: Operator| {
+        let (result, right) = (result(combined), operator.apply(number(a), number(b)));
+        expect(u128::from(result) == right, || format!("the number {result}, not {right}, of {operator:?}"))
+    };
+    if let Ok(combined) = tally.watch(combine_with(operator, Names::Apart, &a, &b, slips)) {
         expect(is_listing(&combined.diagram, &signature), || "the result apart is no listing".to_string())?;
         expect(combined.diagram == combined.diagram.closed_up(), || "the result is not closed up".to_string())?;
-        let objects = random.between(1, 3);
-        let state = state(random, &signature, objects);
-        let value = |d: &Diagram| value(d, &signature.arities, &state).expect("few valuations");
-        let right = operator.apply(value(&a), value(&b));
-        expect(u128::from(value(&combined.diagram)) == right, || format!("value {}, not {right}", value(&combined.diagram)))?;
+        is_right(&combined.diagram, &a, &b, operator)?;
     }
-    Ok(())
+    // as a backup multiplies by a weight, whose parameters have objects by then
+    let weight = diagram(random, &signature, &crate::models::terms(&signature, 0, 0), 2);
+    match tally.watch(combine_with(Operator::Product, Names::Shared, &a, &weight, slips)) {
+        Ok(combined) => is_right(&combined.diagram, &a, &weight, Operator::Product),
+        Err(_) => Ok(()),
+    }
 }
 
 /// The first parameter becomes a variable of its own.
 fn without_parameters(diagram: &Diagram) -> Diagram {
-    reference::regress::free(diagram, 1).expect("few variables")
+    free(diagram, 1, Slips::NONE).expect("few variables")
 }
 
 /// The regressed diagram leads a valuation in the old state where the diagram leads it in the next one.
@@ -117,7 +138,8 @@ pub fn check_regression(seed: u64, slips: Slips, tally: &mut Tally) -> Result<()
     let (signature, plain) = model(random, size);
     let action = random.pick(&plain.actions);
     let variant = random.pick(&action.variants);
-    let value = diagram(random, &signature, &terms(&signature, 0, 3), 3);
+    let terms = terms_of_both_kinds(random, &signature, 0);
+    let value = diagram(random, &signature, &terms, 3);
     let truths: Result<Truths, _> = variant.truths.iter().map(|(p, tree)| tree.read().map(|d| (*p, d))).collect();
     let Ok(regressed) = tally.watch(truths.and_then(|truths| regress(&value, &truths, slips))) else {
         return Ok(());
@@ -128,7 +150,7 @@ pub fn check_regression(seed: u64, slips: Slips, tally: &mut Tally) -> Result<()
         let state = state(random, &signature, objects);
         let tuple: Vec<u64> = (0..action.parameters).map(|_| random.below(objects)).collect();
         let mut valuation: Valuation = (FIRST_PARAMETER..).zip(tuple.iter().copied()).collect();
-        valuation.extend((0..3).map(|i| (FIRST_VARIABLE + i, random.below(objects))));
+        valuation.extend(terms.iter().map(|term| (*term, random.below(objects))));
         let next = next_state(&signature.arities, variant, &state, &tuple);
         let leaf = leaf_in(&regressed, &signature.arities, &state, &valuation);
         let right = leaf_in(&value, &signature.arities, &next, &valuation);
@@ -137,13 +159,42 @@ pub fn check_regression(seed: u64, slips: Slips, tally: &mut Tally) -> Result<()
     Ok(())
 }
 
-/// Cuts, one after another, keep the value in every state of one and two objects; of two objects only in some where predicates have many places.
+/// Freed parameters are maximum variables, the others of that kind behind them, and the minimum variables are those that there were; the number is the highest over the bindings.
+pub fn check_freeing(seed: u64, slips: Slips) -> Result<(), String> {
+    let random = &mut Random::new(seed);
+    let signature = Signature::random(random, Size::SMALL);
+    let (parameters, more) = (random.below(3), random.below(3));
+    let terms = terms_of_both_kinds(random, &signature, parameters);
+    let whole = diagram(random, &signature, &terms, 4);
+    let count = parameters + more;
+    let freed = free(&whole, count, slips).map_err(|refusal| format!("refused with {}", refusal.number()))?;
+    expect(is_listing(&freed, &signature), || "the result is no listing".to_string())?;
+    let moved = |term: &Term| match *term {
+        term if is_parameter(term) => FIRST_VARIABLE + (term - FIRST_PARAMETER),
+        term if is_minimum(term) => term,
+        term => term + count,
+    };
+    let right: BTreeSet<Term> = whole.parameters().iter().chain(&whole.variables()).map(moved).collect();
+    expect(freed.variables() == right, || format!("the variables {:?}, not {right:?}", freed.variables()))?;
+    let objects = random.between(1, 3);
+    let state = state(random, &signature, objects);
+    let number = |d: &Diagram, bound: &Valuation| by_valuations_with(d, &signature.arities, &state, bound, Slips::NONE);
+    let best = bindings(objects, parameters).map(|objects| number(&whole, &bound(&objects))).max().expect("a binding");
+    expect(number(&freed, &Valuation::new()) == best, || format!("not the number {best} in {state:?}, freed"))
+}
+
+/// Cuts, one after another, keep the value in every state of one and two objects; of two objects only in some where predicates have many places. A diagram with a minimum variable has none.
 pub fn check_cut(seed: u64, slips: Slips, tally: &mut Tally) -> Result<(), String> {
     let random = &mut Random::new(seed);
     let many_places = random.once_in(4);
     let size = if many_places { Size::PLACES } else { Size::SMALL };
     let signature = Signature::random(random, Size { constants: 1, predicates: 2, ..size });
-    let mut cut_so_far = diagram(random, &signature, &terms(&signature, 0, 3), 4);
+    let terms = if random.once_in(8) { terms_of_both_kinds(random, &signature, 0) } else { terms(&signature, 0, 3) };
+    let mut cut_so_far = diagram(random, &signature, &terms, 4);
+    if cut_so_far.variables().into_iter().any(is_minimum) {
+        let answer = tally.watch(cut(&cut_so_far, &signature.arities, slips));
+        return expect(answer == Err(Refusal::Minimum), || format!("{answer:?} for a cut of {cut_so_far:?}"));
+    }
     let whole = cut_so_far.clone();
     for _ in 0..3 {
         match tally.watch(cut(&cut_so_far, &signature.arities, slips)) {

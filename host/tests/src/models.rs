@@ -7,7 +7,8 @@ use reference::declarations::DEFAULT_DISCOUNT;
 use reference::diagram::LARGEST;
 use reference::state::State;
 use reference::terms::{
-    is_constant, is_parameter, Arities, Term, EQUALITY, FIRST_PARAMETER, FIRST_VARIABLE, LARGEST_ARITY, PREDICATES, VARIABLES,
+    is_constant, Arities, Term, VariableKind, EQUALITY, FIRST_MINIMUM, FIRST_PARAMETER, FIRST_VARIABLE, LARGEST_ARITY, PREDICATES,
+    VARIABLES,
 };
 use reference::tree::Tree;
 use std::collections::{BTreeMap, BTreeSet};
@@ -20,7 +21,10 @@ pub struct Size {
     pub equality: bool,
     pub predicates: u64,
     pub arity: u64,
+    /// Of a reward.
     pub variables: u64,
+    /// Minimum variables of a reward.
+    pub minimum: u64,
     pub depth: u64,
     /// Conditions inside one another in a weight.
     pub weight_depth: u64,
@@ -43,6 +47,7 @@ impl Size {
         predicates: 3,
         arity: 2,
         variables: 2,
+        minimum: 0,
         depth: 3,
         weight_depth: 3,
         wrong: 0,
@@ -61,8 +66,14 @@ impl Size {
     /// No constant and no equality, and few variables after a backup: diagrams that may be reduced.
     pub const PLAIN: Size = Size { constants: 0, equality: false, depth: 2, actions: 1, parameters: 1, ..Size::SMALL };
 
-    /// Rewards of up to all variables and a few more.
-    pub const VARIABLES: Size = Size { variables: VARIABLES + 6, depth: 5, ..Size::PLACES };
+    /// Rewards with minimum variables. These are never cut, so that there are few of each kind: values two backups later are still gone through.
+    pub const MINIMUM: Size = Size { minimum: 2, parameters: 1, objects: 2, ..Size::SMALL };
+
+    /// Still fewer, and three objects.
+    pub const FEW_MINIMUM: Size = Size { variables: 1, minimum: 1, depth: 2, variants: 1, objects: 3, ..Size::MINIMUM };
+
+    /// Rewards of up to all variables.
+    pub const VARIABLES: Size = Size { variables: VARIABLES, depth: 5, ..Size::PLACES };
 
     /// Backups soon meet the limits.
     pub const LARGE: Size = Size {
@@ -71,6 +82,7 @@ impl Size {
         predicates: 6,
         arity: LARGEST_ARITY,
         variables: 5,
+        minimum: 0,
         depth: 5,
         weight_depth: 3,
         wrong: 0,
@@ -159,6 +171,11 @@ pub fn terms(signature: &Signature, parameters: u64, variables: u64) -> Vec<Term
     signature.constants().into_iter().chain(parameters).chain(variables).collect()
 }
 
+/// So many minimum variables.
+pub fn minimum_terms(count: u64) -> std::ops::Range<Term> {
+    FIRST_MINIMUM..FIRST_MINIMUM + count
+}
+
 /// Weights, one for each variant, below a path of literals: they add up to the total where a state follows that path, but for wrong cases.
 pub fn weights(random: &mut Random, signature: &Signature, terms: &[Term], size: Size, parts: (u64, u64), path: &[Literal]) -> Vec<Tree> {
     let depth = size.weight_depth;
@@ -197,9 +214,10 @@ pub fn model(random: &mut Random, size: Size) -> (Signature, PlainModel) {
     let total = random.between(1, size.total);
     let divisor = random.between(1, size.divisor);
     let gain = random.between(0, divisor);
-    let variables = random.between(0, size.variables);
+    let (variables, minimum) = (random.between(0, size.variables), random.between(0, size.minimum));
     let leaves = [0, 0, 1, random.between(0, size.leaf), random.between(0, size.leaf)];
-    let reward = signature.tree(random, &terms(&signature, 0, variables), size.depth, &leaves);
+    let terms_of_reward: Vec<Term> = terms(&signature, 0, variables).into_iter().chain(minimum_terms(minimum)).collect();
+    let reward = signature.tree(random, &terms_of_reward, size.depth, &leaves);
     let actions = (0..random.between(1, size.actions)).map(|_| action(random, &signature, size, total)).collect();
     let discount = if random.once_in(4) { DEFAULT_DISCOUNT } else { (gain, divisor) };
     let model = PlainModel { arities: signature.arities, total, discount, reward, actions };
@@ -278,14 +296,12 @@ pub fn ground_facts(signature: &Signature, objects: u64) -> Vec<(u64, Vec<u64>)>
     facts
 }
 
-/// The text of a term, as constant c0, parameter !a0 or variable ?x0.
+/// The text of a term, as constant c0, parameter !a0, variable ?x0 or minimum variable %x0.
 fn write_term(term: Term) -> String {
-    if is_constant(term) {
-        format!("c{term}")
-    } else if is_parameter(term) {
-        format!("!a{}", term - FIRST_PARAMETER)
-    } else {
-        format!("?x{}", term - FIRST_VARIABLE)
+    match VariableKind::of(term) {
+        _ if is_constant(term) => format!("c{term}"),
+        Some(kind) => format!("{}x{}", kind.sign(), term - kind.first()),
+        None => format!("!a{}", term - FIRST_PARAMETER),
     }
 }
 

@@ -20,7 +20,8 @@ const STEPS: u64 = 2;
 
 const OPERATIONS: [&str; 5] = ["(backup)", "(backup)", "(cut)", "(cut)", "(reduce)"];
 
-const SIZES: [Size; 4] = [Size { actions: 3, ..Size::SMALL }, Size::SMALL, Size { actions: 2, ..Size::PLAIN }, Size::PLACES];
+const SIZES: [Size; 6] =
+    [Size { actions: 3, ..Size::SMALL }, Size::SMALL, Size { actions: 2, ..Size::PLAIN }, Size::PLACES, Size::MINIMUM, Size::FEW_MINIMUM];
 
 /// Actions that pay where a relation holds of their parameters, in some order: several moves are equally good, and which is first depends on the order of the objects.
 fn related(random: &mut Random) -> (Signature, PlainModel) {

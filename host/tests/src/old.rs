@@ -1,7 +1,7 @@
 //! Document 02, L8: "Listings of the old kind meet 14." A diagram's words as document 01 alone has them.
 
 use reference::diagram::{Diagram, Row};
-use reference::terms::{is_variable, Label, Term, FIRST_VARIABLE};
+use reference::terms::{is_minimum, is_variable, Label, Term, FIRST_VARIABLE};
 
 const OLD_PLACES: usize = 4;
 const OLD_TERM_BITS: usize = 6;
@@ -18,14 +18,15 @@ fn old_label(label: Label) -> Option<u64> {
     behind.iter().all(|place| *place == 0).then_some(packed)
 }
 
-/// The old words of the diagram, closed up; none where it has too many places or variables for them.
+/// The old words of the diagram, closed up; none where it has too many places or variables for them, or a minimum variable.
 pub fn old_listing(diagram: &Diagram) -> Option<Vec<u64>> {
     let words = |row: &Row| match *row {
         Row::Leaf(value) => Some([OLD_LEAF_MARK, value, 0]),
         Row::Branch { label, yes, no } => old_label(label).map(|label| [label, yes as u64, no as u64]),
     };
     let rows: Option<Vec<[u64; 3]>> = diagram.closed_up().rows().iter().map(words).collect();
-    rows.filter(|_| diagram.variables().len() <= OLD_VARIABLES).map(|rows| rows.concat())
+    let variables = diagram.variables();
+    rows.filter(|_| variables.len() <= OLD_VARIABLES && !variables.into_iter().any(is_minimum)).map(|rows| rows.concat())
 }
 
 #[cfg(test)]

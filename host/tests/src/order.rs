@@ -2,16 +2,17 @@
 
 use crate::random::Random;
 use reference::terms::{
-    is_constant, is_parameter, Arities, Label, Term, Test, CONSTANTS, EQUALITY, FIRST_PARAMETER, FIRST_VARIABLE, LARGEST_ARITY,
-    LAST_VARIABLE, PARAMETERS, PREDICATES,
+    is_constant, is_minimum, is_parameter, Arities, Label, Term, Test, CONSTANTS, EQUALITY, FIRST_MINIMUM, FIRST_PARAMETER, FIRST_VARIABLE,
+    LARGEST_ARITY, LAST_MINIMUM, LAST_VARIABLE, PARAMETERS, PREDICATES,
 };
 use std::cmp::Ordering;
 
-/// By predicate, then by the first used place that differs: constants before parameters before variables, and then by number.
+/// By predicate, then by the first used place that differs: constants before parameters before variables before minimum variables, and then by number.
 fn by_places(a: Label, b: Label, arities: &Arities) -> Ordering {
     let kind = |term: Term| match term {
         _ if is_constant(term) => 0,
         _ if is_parameter(term) => 1,
+        _ if is_minimum(term) => 3,
         _ => 2,
     };
     let used =
@@ -21,7 +22,9 @@ fn by_places(a: Label, b: Label, arities: &Arities) -> Ordering {
 
 fn term(random: &mut Random) -> Term {
     let few = random.below(3);
-    *random.pick(&[few, FIRST_PARAMETER + few, FIRST_VARIABLE + few, CONSTANTS - 1, FIRST_PARAMETER + PARAMETERS - 1, LAST_VARIABLE])
+    let last_parameter = FIRST_PARAMETER + PARAMETERS - 1;
+    let first = [few, FIRST_PARAMETER + few, FIRST_VARIABLE + few, FIRST_MINIMUM + few];
+    *random.pick(&[&first[..], &[CONSTANTS - 1, last_parameter, LAST_VARIABLE, LAST_MINIMUM]].concat())
 }
 
 fn label(random: &mut Random, predicate: u64, arities: &Arities) -> Option<Label> {

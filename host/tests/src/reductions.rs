@@ -2,7 +2,7 @@
 //! of as many objects as there are variables give, without any combination.
 
 use crate::meaning::{diagram, every_state, expect, is_listing};
-use crate::models::{ground_facts, state, terms, Signature, Size};
+use crate::models::{ground_facts, minimum_terms, state, terms, Signature, Size};
 use crate::random::Random;
 use crate::tally::Tally;
 use reference::cut::{cut, paths, Edge};
@@ -11,7 +11,7 @@ use reference::reduce::{combinations, descending, reduce, valuations};
 use reference::refusal::Refusal;
 use reference::slips::Slips;
 use reference::state::{by_valuations, State, Valuation};
-use reference::terms::Arities;
+use reference::terms::{is_minimum, Arities};
 use reference::tree::Tree;
 use std::collections::BTreeSet;
 
@@ -67,14 +67,18 @@ fn tree(diagram: &Diagram, arities: &Arities, at: usize, kept: &BTreeSet<Edge>) 
     }
 }
 
-/// A diagram for a reduction: without equality and constants but for one in eight, of up to four variables.
+/// A diagram for a reduction: without equality, constants and minimum variables but for some, of up to four variables.
 fn drawn(random: &mut Random) -> (Signature, Diagram) {
     let size = *random.pick(&[Size { depth: 4, predicates: 2, ..Size::PLAIN }, Size { depth: 5, ..Size::PLAIN }]);
     let size = if random.once_in(8) { Size { constants: 1, equality: random.once_in(2), ..size } } else { size };
     let signature = Signature::random(random, size);
     let variables = *random.pick(&[0, 1, 2, 2, 2, 3, 3, 3, 4]);
     let depth = if variables == 4 { 1 } else { size.depth };
-    let drawn = diagram(random, &signature, &terms(&signature, 0, variables), depth);
+    let mut terms = terms(&signature, 0, variables);
+    if random.once_in(8) {
+        terms.extend(minimum_terms(random.between(1, 2)));
+    }
+    let drawn = diagram(random, &signature, &terms, depth);
     (signature, drawn)
 }
 
@@ -95,10 +99,13 @@ pub fn check(seed: u64, slips: Slips, tally: &mut Tally) -> Result<(), String> {
     let all = descending(paths(&whole).unwrap_or_default());
     let combined = |limit: usize| combinations(&all, &valuations(&whole.variables(), slips), arities, limit);
     let variables = whole.variables().len();
-    let plain = signature.constants == 0 && !signature.equality;
+    let of_minimum = whole.variables().into_iter().any(is_minimum);
+    let plain = signature.constants == 0 && !signature.equality && !of_minimum;
     expect(!plain || answer != Err(Refusal::Kinds), || format!("26 for {whole:?}"))?;
+    let refused = matches!(answer, Err(Refusal::Paths | Refusal::Kinds));
+    expect(!of_minimum || refused, || format!("{answer:?} with a minimum variable in {whole:?}"))?;
     let runs = valuations(&whole.variables(), Slips::NONE).len() * all.len();
-    if !matches!(answer, Err(Refusal::Paths | Refusal::Kinds)) {
+    if !refused {
         expect((answer == Err(Refusal::Runs)) == (runs > 512), || format!("{answer:?} with {runs} valuations times paths"))?;
     }
     let few = matches!(answer, Ok(_) | Err(Refusal::Combinations)) && ground_facts(&signature, variables as u64).len() <= FACTS;

@@ -14,7 +14,7 @@ use reference::diagram::{Diagram, LARGEST};
 use reference::refusal::Refusal;
 use reference::session::{Answer, Session, FACTS};
 use reference::slips::Slips;
-use reference::state::{highest, valuations, value, State, Valuation, VALUATIONS};
+use reference::state::{valuations, value, State, Valuation, VALUATIONS};
 use reference::tables::ENTRIES;
 use reference::terms::{Term, EQUALITY, FIRST_PARAMETER, FIRST_VARIABLE, PREDICATES};
 use reference::tree::Tree;
@@ -112,16 +112,13 @@ impl<'a> Week<'a> {
         match &self.reward {
             Some(reward) if valuations(reward, state) > VALUATIONS => {
                 let entries = tables::entries(reward, arities, state, &Valuation::new());
-                if entries > ENTRIES.into() {
+                if reward.has_minimum() || entries > ENTRIES.into() {
                     Err(Refusal::Valuations)
                 } else {
                     value(reward, arities, state)
                 }
             }
-            _ => {
-                let variables: Vec<Term> = self.plain.reward.variables().into_iter().collect();
-                Ok(highest(state.objects, &variables, &mut Valuation::new(), &mut |v| self.plain.reward.number_in(state, v)))
-            }
+            _ => Ok(self.plain.reward(state)),
         }
     }
 
@@ -165,7 +162,7 @@ impl<'a> Week<'a> {
 fn session_of(signature: &Signature, plain: &PlainModel, slips: Slips) -> Result<Session, String> {
     let mut session = Session::new(slips);
     for line in write_model(signature, plain) {
-        let line = if line.starts_with("(reward ") { line.replace("?x", "?v") } else { line };
+        let line = if line.starts_with("(reward ") { line.replace("?x", "?v").replace("%x", "%v") } else { line };
         session.take(line.as_bytes()).map_err(|refusal| format!("{line} is refused with {}", refusal.number()))?;
     }
     Ok(session)
@@ -222,7 +219,7 @@ fn between(random: &mut Random, signature: &Signature, session: &mut Session, we
 /// One random model and some logs.
 pub fn check(seed: u64, slips: Slips, tally: &mut Tally) -> Result<(), String> {
     let random = &mut Random::new(seed);
-    let size = *random.pick(&[Size { actions: 3, ..Size::SMALL }, Size::SMALL, Size::PLAIN, Size::PLACES]);
+    let size = *random.pick(&[Size { actions: 3, ..Size::SMALL }, Size::SMALL, Size::PLAIN, Size::PLACES, Size::MINIMUM]);
     let (signature, plain) = model(random, size);
     let mut session = session_of(&signature, &plain, slips)?;
     let early = session.take(Logged::random(random, &plain, 1).line().as_bytes());

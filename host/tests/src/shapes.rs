@@ -3,7 +3,7 @@
 use crate::random::Random;
 use reference::diagram::{Diagram, Row, Space, LARGEST};
 use reference::terms::{
-    Arities, Label, Term, Test, CONSTANTS, EQUALITY, FIRST_PARAMETER, FIRST_VARIABLE, LARGEST_ARITY, PREDICATES, VARIABLES,
+    Arities, Label, Term, Test, VariableKind, CONSTANTS, EQUALITY, FIRST_PARAMETER, LARGEST_ARITY, PREDICATES, VARIABLES,
 };
 use std::collections::BTreeSet;
 
@@ -15,7 +15,7 @@ pub struct Atoms {
 }
 
 impl Atoms {
-    /// Up to eight predicates besides equality, a few constants, and up to `variables` variables from a random one on.
+    /// Up to eight predicates besides equality, a few constants, and up to `variables` variables from a random one on; once in three as many minimum variables, or these alone.
     pub fn random(random: &mut Random, parameters: u64, variables: u64) -> Atoms {
         let mut arities = [0; PREDICATES];
         arities[EQUALITY as usize] = 2;
@@ -28,9 +28,16 @@ impl Atoms {
         }
         let mut terms: Vec<Term> = (0..random.below(4)).map(|_| random.below(CONSTANTS)).collect();
         terms.extend(FIRST_PARAMETER..FIRST_PARAMETER + parameters);
-        let count = random.between(1, variables);
-        let first = FIRST_VARIABLE + random.below(VARIABLES - count + 1);
-        terms.extend(first..first + count);
+        let kinds: &[VariableKind] = match random.below(9) {
+            0 => &[VariableKind::Minimum],
+            1 | 2 => &VariableKind::ALL,
+            _ => &[VariableKind::Maximum],
+        };
+        for kind in kinds {
+            let count = random.between(1, variables);
+            let first = kind.first() + random.below(VARIABLES - count + 1);
+            terms.extend(first..first + count);
+        }
         Atoms { arities, predicates, terms }
     }
 

@@ -75,7 +75,8 @@ fn right(
 /// One random model, before a state, with one and behind backups, cuts and reductions.
 pub fn check(seed: u64, slips: Slips, tally: &mut Tally) -> Result<(), String> {
     let random = &mut Random::new(seed);
-    let size = *random.pick(&[Size::SMALL, Size { predicates: 2, ..Size::SMALL }, Size::PLAIN, Size::PLACES]);
+    let sizes = [Size::SMALL, Size { predicates: 2, ..Size::SMALL }, Size::PLAIN, Size::PLACES, Size::MINIMUM, Size::FEW_MINIMUM];
+    let size = *random.pick(&sizes);
     let (signature, plain) = model(random, size);
     let mut session = Session::new(slips);
     for line in write_model(&signature, &plain) {
@@ -126,7 +127,7 @@ fn plain_model(arities: &[u64], reward: Tree) -> (Signature, PlainModel) {
 fn session_of(signature: &Signature, plain: &PlainModel) -> Session {
     let mut session = Session::new(Slips::NONE);
     for line in write_model(signature, plain) {
-        session.take(line.replace("?x", "?v").as_bytes()).expect("a line of the model");
+        session.take(line.replace("?x", "?v").replace("%x", "%v").as_bytes()).expect("a line of the model");
     }
     session
 }

@@ -1,12 +1,13 @@
 //! The second way to a value (document 02, L6), forced where the first is possible: its number is the highest leaf, and its entries are those of a count
-//! that forms no table. Both ways, and the search that looks at fewer valuations, with objects for parameters too.
+//! that forms no table. Both ways, and the search that looks at fewer valuations, with objects for parameters too. With minimum variables the search alone, and 15 where the valuations are too many.
 
 use crate::meaning::diagram;
-use crate::models::{sparse_state, state, terms, Signature, Size};
+use crate::models::{minimum_terms, sparse_state, state, terms, Signature, Size};
 use crate::random::Random;
 use reference::diagram::{Diagram, Row};
 use reference::refusal::Refusal;
-use reference::state::{by_valuations_with, highest, highest_leaf, valuations, State, Valuation, VALUATIONS};
+use reference::slips::Slips;
+use reference::state::{by_valuations_with, highest, searched, valuations, value_with, State, Valuation, VALUATIONS};
 use reference::tables::{worked_with, Worked, ENTRIES};
 use reference::terms::{is_variable, Arities, Label, Term, FIRST_PARAMETER};
 use std::collections::BTreeSet;
@@ -74,17 +75,28 @@ pub fn check(seed: u64) -> Result<(), String> {
     let variables = random.between(1, 4);
     let depth = random.between(1, 5);
     let parameters = random.below(3);
-    let valued = diagram(random, &signature, &terms(&signature, parameters, variables), depth);
-    let objects = random.between(1, if size.arity > 2 { 2 } else { 6 });
+    let minimum = if random.once_in(3) { random.between(1, 3) } else { 0 };
+    let terms: Vec<Term> = terms(&signature, parameters, variables).into_iter().chain(minimum_terms(minimum)).collect();
+    let valued = diagram(random, &signature, &terms, depth);
+    let objects = random.between(1, if size.arity > 2 { 2 } else { 6 - minimum });
     let state = if random.once_in(2) { state(random, &signature, objects) } else { sparse_state(random, &signature, objects) };
-    if valuations(&valued, &state) > VALUATIONS {
-        return Ok(());
-    }
     let bound = (0..parameters).map(|place| (FIRST_PARAMETER + place, random.below(objects))).collect();
-    let (arities, right) = (&signature.arities, by_valuations_with(&valued, &signature.arities, &state, &bound));
-    let searched = highest_leaf(&valued, arities, &state, &bound);
+    let arities = &signature.arities;
+    let of_minimum = valued.has_minimum();
+    if valuations(&valued, &state) > VALUATIONS {
+        let answer = value_with(&valued, arities, &state, &bound, Slips::NONE);
+        return match of_minimum && answer != Err(Refusal::Valuations) {
+            true => Err(format!("{answer:?} for {valued:?} in {state:?}")),
+            false => Ok(()),
+        };
+    }
+    let right = by_valuations_with(&valued, arities, &state, &bound, Slips::NONE);
+    let searched = searched(&valued, arities, &state, &bound);
     if searched != right {
-        return Err(format!("{searched}, not {right}, is the highest leaf of {valued:?} in {state:?}"));
+        return Err(format!("{searched}, not {right}, is the number of {valued:?} in {state:?}"));
+    }
+    if of_minimum {
+        return Ok(());
     }
     let counted = entries(&valued, arities, &state, &bound);
     for most in [ENTRIES.into(), counted, counted - 1] {

@@ -18,6 +18,8 @@ pub fn text(seed: u64) -> Vec<u8> {
     let sizes = [Size::LARGE, Size::WIDE, Size::EQUALITIES, Size::PLACES, Size::VARIABLES, Size::PLAIN];
     let size = *sizes.get(kind as usize).unwrap_or(&Size::SMALL);
     let damaged = (7..10).contains(&kind);
+    // one whole text in three has minimum variables in its reward
+    let size = if random.once_in(3) { Size { minimum: size.variables, ..size } } else { size };
     let mut lines = if kind >= 10 { limits::lines(random) } else { whole(random, size) }.into_iter().map(String::into_bytes).collect();
     if damaged {
         for _ in 0..random.between(1, 6) {
@@ -60,7 +62,7 @@ pub fn spaced(random: &mut Random, text: &[u8]) -> (Vec<u8>, Vec<usize>) {
 fn bytes(random: &mut Random) -> Vec<u8> {
     let any = random.once_in(2);
     let count = random.below(20_000);
-    (0..count).map(|_| if any { random.next() as u8 } else { *random.pick(b"()  ?!=az09\n") }).collect()
+    (0..count).map(|_| if any { random.next() as u8 } else { *random.pick(b"()  ?%!=az09\n") }).collect()
 }
 
 /// A few blank lines or none, and perhaps a line or some bytes behind them.
@@ -168,7 +170,7 @@ const NUMBERS: [&str; 14] = [
     "x",
 ];
 
-const LINES: [&str; 34] = [
+const LINES: [&str; 38] = [
     "",
     "()",
     "(start)",
@@ -203,6 +205,10 @@ const LINES: [&str; 34] = [
     "(becomes (p1) 2)",
     "(reward (if (= ?x0 ?x0) 3 (if (p1 ?x1 !a0) 1 2)))",
     "(reward (if (= ?v7 c0) 3 (if (= ?v3 ?v7) 1 2)))",
+    "(reward (if (= %v7 c0) 3 (if (= ?x7 %v3) 1 2)))",
+    "(reward (if (= %x0 ?x0) 3 1))",
+    "(becomes (p1 %x0) 1)",
+    "(action act9 %a0)",
 ];
 
 /// One small damage to a text.
@@ -227,7 +233,7 @@ fn damage(random: &mut Random, lines: &mut Vec<Vec<u8>>) {
 }
 
 fn change_byte(random: &mut Random, line: &mut Vec<u8>) {
-    let byte = *random.pick(b"()  ?!=az09A\t\r\x00\xff");
+    let byte = *random.pick(b"()  ?%!=az09A\t\r\x00\xff");
     let at = random.below(line.len() as u64 + 1) as usize;
     match random.below(3) {
         0 => line.insert(at, byte),
@@ -247,10 +253,10 @@ fn change_word(random: &mut Random, line: &mut Vec<u8>) {
     let mut word = match random.below(6) {
         0 => random.pick(&NUMBERS).as_bytes().to_vec(),
         1 => format!("c{}", random.below(3)).into_bytes(),
-        2 => format!("?{}{}", random.pick(&["x", "v", "v0"]), random.below(4)).into_bytes(),
+        2 => format!("{}{}{}", random.pick(&["?", "%"]), random.pick(&["x", "v", "v0"]), random.below(4)).into_bytes(),
         3 => format!("!a{}", random.below(4)).into_bytes(),
         4 => format!("p{}", random.between(1, 4)).into_bytes(),
-        _ => [&words[at][..words[at].len() - brackets], *random.pick(&[&b" c0"[..], b" ?x0", b" 0"])].concat(),
+        _ => [&words[at][..words[at].len() - brackets], *random.pick(&[&b" c0"[..], b" ?x0", b" %x0", b" 0"])].concat(),
     };
     word.extend(vec![b')'; brackets]);
     words[at] = word;
