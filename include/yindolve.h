@@ -15,9 +15,10 @@
  * BUFFER for null with a higher count. Nothing else is asked of the words, a session's too: any are taken, and those that are not what they should be are refused.
  *
  * Listings. A row is three words: a leaf is YINDOLVE_LEAF, its value, 0; a branch is its label, true row, false row. A label is predicate * 2^48 + t1 * 2^40 +
- * t2 * 2^32 + t3 * 2^24 + t4 * 2^16 + t5 * 2^8 + t6, unused places 0; YINDOLVE_LABEL packs one. Terms: constants 0 to 15, parameters 16 to 19, variables 64 to
- * 127. Predicate 0 is equality, its smaller term first. Rows are numbered as a walk from the root, true branch first, finishes them, so that the root is the last
- * row. With each call goes a list of YINDOLVE_ARITIES arities, the first of them 2, each at most YINDOLVE_PLACES.
+ * t2 * 2^32 + t3 * 2^24 + t4 * 2^16 + t5 * 2^8 + t6, unused places 0; YINDOLVE_LABEL packs one. Terms: constants 0 to 15, parameters 16 to 19, maximum variables 64
+ * to 127, minimum variables 128 to 191; "variables" alone are those of both kinds. Predicate 0 is equality, its smaller term first. Rows are numbered as a walk from the
+ * root, true branch first, finishes them, so that the root is the last row. With each call goes a list of YINDOLVE_ARITIES arities, the first of them 2, each at most
+ * YINDOLVE_PLACES.
  * Listings of version 0.2 and before, with labels of four places and another mark of leaves, are refused (LISTING).
  *
  * Answers. Each function answers 0, or the number of the refusal. After a refusal the result buffer and what the other pointers are to, the working space
@@ -41,19 +42,22 @@ extern "C" {
 
 /* The version of this header and of its library. */
 #define YINDOLVE_VERSION_MAJOR 0
-#define YINDOLVE_VERSION_MINOR 4
+#define YINDOLVE_VERSION_MINOR 5
 #define YINDOLVE_VERSION_PATCH 0
-#define YINDOLVE_VERSION "0.4.0"
+#define YINDOLVE_VERSION "0.5.0"
 
 /* The first word of a leaf's row, 2^64 - 1, and the highest value of a leaf. */
 #define YINDOLVE_LEAF UINT64_C(18446744073709551615)
 #define YINDOLVE_VALUE UINT64_C(1000000000000000000)
 
-/* Labels: how many places a label has, which is the highest arity; how many bits a term takes; the numbers of the first parameter and of the first variable. */
+/* Labels: how many places a label has, which is the highest arity; how many bits a term takes; the numbers of the first parameter, of the first maximum variable and of the
+ * first minimum variable.
+ */
 #define YINDOLVE_PLACES 6
 #define YINDOLVE_TERM_BITS 8
 #define YINDOLVE_FIRST_PARAMETER 16
 #define YINDOLVE_FIRST_VARIABLE 64
+#define YINDOLVE_FIRST_MINIMUM 128
 
 /* The label of a predicate and the terms of its places, 0 for each place that is not used; of constants it is a constant expression. */
 #define YINDOLVE_LABEL(predicate, t1, t2, t3, t4, t5, t6) \
@@ -80,7 +84,7 @@ extern "C" {
 #define YINDOLVE_SESSION_WORK_WORDS 6144 /* a session's working space, at least */
 #define YINDOLVE_ANSWER_BYTES 92160      /* the answer of a line: 90 bytes for each of 1,024 rows; (count n) has at most 1,023 lines, shorter ones */
 
-/* The refusals. Calls on diagrams answer 4, 6 to 11, 14 to 18 and 26 to 28; lines of a text 1 to 13, 15 to 17, 19 to 24 and 26 to 28. Later versions add 25. */
+/* The refusals. Calls on diagrams answer 4, 6 to 11, 14 to 18 and 25 to 28; lines of a text 1 to 13, 15 to 17 and 19 to 28. */
 enum {
     YINDOLVE_FORM = 1,         /* a line that is not of the grammar */
     YINDOLVE_NAME = 2,         /* a name that is not declared, or given twice */
@@ -89,14 +93,14 @@ enum {
     YINDOLVE_PLACE = 5,        /* a line in the wrong part of the text, a missing part, a second single form, a constant that is not placed */
     YINDOLVE_UNBOUND = 6,      /* a parameter where none is allowed, or past the action's; a truth diagram's variable that is no argument */
     YINDOLVE_TRUTH = 7,        /* a truth diagram's leaf above 1 */
-    YINDOLVE_VARIABLES = 8,    /* more than 64 variables, or a variable past 127 */
+    YINDOLVE_VARIABLES = 8,    /* more than 64 variables of a kind, or a maximum variable past 127 */
     YINDOLVE_SPACE = 9,        /* more than 2,048 rows formed, or a result of more than 1,024; more facts or declarations than there is room for */
     YINDOLVE_PAIRS = 10,       /* more than 4,096 pairs */
     YINDOLVE_TOO_HIGH = 11,    /* a leaf above YINDOLVE_VALUE; its trade word is "value" */
     YINDOLVE_SCALE = 12,       /* a power of the scale above 10^18, or 10^18 backups */
     YINDOLVE_WEIGHTS = 13,     /* an action's weights, summed, are not the total in a case that equality does not rule out */
     YINDOLVE_LISTING = 14,     /* words that are no listing, or a wrong arity list */
-    YINDOLVE_VALUATIONS = 15,  /* more than 1,000,000 valuations, and more than 8,192 entries in the tables that take their place */
+    YINDOLVE_VALUATIONS = 15,  /* more than 1,000,000 valuations, and more than 8,192 entries in the tables that take their place, or a minimum variable: then none do */
     YINDOLVE_NOTHING = 16,     /* no edge to cut */
     YINDOLVE_PATHS = 17,       /* more than 256 paths: of a diagram to cut or to reduce, or at (start) of an action's summed weights */
     YINDOLVE_BUFFER = 18,      /* a result buffer or a working space that is too small: nothing is done */
@@ -106,7 +110,8 @@ enum {
     YINDOLVE_CROWDED = 22,     /* (did ..): the next state has more than 1,024 facts */
     YINDOLVE_TALLY = 23,       /* (did ..): the count of lines or the total of rewards passes 10^18 */
     YINDOLVE_GROUND = 24,      /* (count n): the states of n objects have more than 16 ground facts */
-    YINDOLVE_KINDS = 26,       /* an equality or a constant in a diagram to reduce */
+    YINDOLVE_MINIMUM = 25,     /* a minimum variable in a diagram to cut */
+    YINDOLVE_KINDS = 26,       /* an equality, a constant or a minimum variable in a diagram to reduce */
     YINDOLVE_RUNS = 27,        /* more than 512 valuations times paths of a diagram to reduce */
     YINDOLVE_COMBINATIONS = 28 /* more than 100,000 combinations of paths in a reduction */
 };
@@ -142,6 +147,7 @@ static inline const char *yindolve_refusal_word(uint64_t refusal) {
     case YINDOLVE_CROWDED: return "crowded";
     case YINDOLVE_TALLY: return "tally";
     case YINDOLVE_GROUND: return "ground";
+    case YINDOLVE_MINIMUM: return "minimum";
     case YINDOLVE_KINDS: return "kinds";
     case YINDOLVE_RUNS: return "runs";
     case YINDOLVE_COMBINATIONS: return "combinations";
@@ -160,14 +166,14 @@ static inline const char *yindolve_refusal_meaning(uint64_t refusal) {
     case YINDOLVE_PLACE: return "the line stands in the wrong part of the text, a part is missing, or a constant is not placed";
     case YINDOLVE_UNBOUND: return "a variable or a parameter that is not allowed here";
     case YINDOLVE_TRUTH: return "a diagram that says what becomes true has a number above 1";
-    case YINDOLVE_VARIABLES: return "more than 64 variables";
+    case YINDOLVE_VARIABLES: return "more than 64 variables of a kind";
     case YINDOLVE_SPACE: return "more rows, facts or declarations than there is room for";
     case YINDOLVE_PAIRS: return "more than 4,096 pairs of rows in one combination";
     case YINDOLVE_TOO_HIGH: return "a number above 10^18 was worked out";
     case YINDOLVE_SCALE: return "the scale, the power of total times discount divisor, would pass 10^18";
     case YINDOLVE_WEIGHTS: return "an action's weights, summed, are not the total in a case that equality does not rule out";
     case YINDOLVE_LISTING: return "the words are no listing, or the arity list is wrong";
-    case YINDOLVE_VALUATIONS: return "more than 1,000,000 ways to choose objects for the variables, and more than 8,192 entries in the tables that take their place";
+    case YINDOLVE_VALUATIONS: return "more than 1,000,000 ways to choose objects for the variables, and no tables in their place: these would have more than 8,192 entries, or there is a minimum variable";
     case YINDOLVE_NOTHING: return "no edge is left to cut";
     case YINDOLVE_PATHS: return "more than 256 paths, in the diagram to cut or to reduce or in an action's summed weights";
     case YINDOLVE_BUFFER: return "a result buffer or a working space that is too small";
@@ -177,7 +183,8 @@ static inline const char *yindolve_refusal_meaning(uint64_t refusal) {
     case YINDOLVE_CROWDED: return "a logged line that leads to a state of more than 1,024 facts";
     case YINDOLVE_TALLY: return "the count of logged lines or the total of their rewards would pass 10^18";
     case YINDOLVE_GROUND: return "more than 16 ground facts, so that there are too many states to count";
-    case YINDOLVE_KINDS: return "an equality or a constant in the diagram to reduce";
+    case YINDOLVE_MINIMUM: return "a minimum variable in the diagram to cut";
+    case YINDOLVE_KINDS: return "an equality, a constant or a minimum variable in the diagram to reduce";
     case YINDOLVE_RUNS: return "more than 512 valuations times paths of the diagram to reduce";
     case YINDOLVE_COMBINATIONS: return "more than 100,000 combinations of paths in a reduction";
     default: return "a refusal that this version does not have";
@@ -193,10 +200,11 @@ static const uint64_t yindolve_no_words[1] = {0};
 uint64_t yindolve_check(const uint64_t *arities, size_t arities_count, const uint64_t *words, size_t words_count);
 
 /* Sum, product and max of two listings, the result to `result`, its rows to *rows and the pairs that the walk reached to *pairs.
- * Apart: the first operand is closed up (its variables renamed to 64, 65, .. in their order), the second's variables follow after, and the result is closed up.
- * Shared: names stay.
+ * Apart: the first operand is closed up (its maximum variables renamed to 64, 65, .., its minimum variables to 128, 129, .., each in their order), the second's of each
+ * kind follow after, and the result is closed up. Shared: names stay. A max with a minimum variable on either side is done apart in every respect, also where it is asked for shared.
  * Pairs: the roots', and below each pair its two successors, but none below two leaves and, in a product, none below a leaf 0 on either side.
- * Refused, in this order: LISTING for the first operand, then for the second; BUFFER; VARIABLES (apart only: those of both together); PAIRS; TOO_HIGH; SPACE.
+ * Refused, in this order: LISTING for the first operand, then for the second; BUFFER; VARIABLES (apart only: of either kind those of both operands
+ * together); PAIRS; TOO_HIGH; SPACE.
  */
 uint64_t yindolve_sum_apart(const uint64_t *arities, size_t arities_count, const uint64_t *first, size_t first_count, const uint64_t *second,
     size_t second_count, uint64_t *result, size_t result_count, uint64_t *work, size_t work_count, uint64_t *rows, uint64_t *pairs);
@@ -215,16 +223,16 @@ uint64_t yindolve_max_shared(const uint64_t *arities, size_t arities_count, cons
  * after an action. The listings of the truth diagrams are lent in `truths`, and `spans` has two words for each predicate: spans[2 * p] is the word of `truths`
  * where the listing of predicate p begins, and spans[2 * p + 1] how many words it has, 0 for a predicate that stays as it is. A listing ends with `truths` at
  * the latest. A word of `spans` that is not lent counts as 0; the two of predicate 0 and words past YINDOLVE_SPAN_WORDS are not read. A truth diagram has
- * leaves 0 and 1, and its variables are the arguments of its predicate, 64 onward in their order; it may have parameters.
+ * leaves 0 and 1, and its variables are the arguments of its predicate, 64 onward in their order; it may have parameters. The variables of the value listing stay.
  * Refused, in this order: LISTING for the value listing, then for the truth diagrams by predicate number; BUFFER; diagram by diagram TRUTH, then UNBOUND (a
- * variable that is no argument); then step by step PAIRS, TOO_HIGH, SPACE.
+ * variable that is no argument, as every minimum variable); then step by step PAIRS, TOO_HIGH, SPACE.
  */
 uint64_t yindolve_regress(const uint64_t *arities, size_t arities_count, const uint64_t *words, size_t words_count, const uint64_t *truths, size_t truths_count,
     const uint64_t *spans, size_t spans_count, uint64_t *result, size_t result_count, uint64_t *work, size_t work_count, uint64_t *rows);
 
-/* Turns the parameters of an action into variables (no memory is freed). The action has `parameters` of them: parameter 16 + i turns into variable 64 + i, and
- * the other variables move up by that count.
- * Refused, in this order: LISTING; BUFFER; RANGE (more than 4 parameters); UNBOUND (a parameter past the count); VARIABLES (a variable would pass 127).
+/* Turns the parameters of an action into maximum variables (no memory is freed). The action has `parameters` of them: parameter 16 + i turns into variable 64 + i, and
+ * the other maximum variables move up by that count; minimum variables stay.
+ * Refused, in this order: LISTING; BUFFER; RANGE (more than 4 parameters); UNBOUND (a parameter past the count); VARIABLES (a maximum variable would pass 127).
  */
 uint64_t yindolve_free_parameters(const uint64_t *arities, size_t arities_count, const uint64_t *words, size_t words_count, uint64_t parameters,
     uint64_t *result, size_t result_count, const uint64_t *work, size_t work_count, uint64_t *rows);
@@ -234,7 +242,7 @@ uint64_t yindolve_free_parameters(const uint64_t *arities, size_t arities_count,
  * 0 has a path that avoids it, with a leaf at least as high, and a replacement of that path's variables by terms of the two paths under which each of its
  * literals is one of the first path or is t = t true. The highest row goes first, its true edge before its false one.
  * How long the search takes has no useful bound: it is short for most diagrams, and hours for some that are made to be hard.
- * Refused, in this order: LISTING; BUFFER; PATHS; NOTHING.
+ * Refused, in this order: LISTING; BUFFER; MINIMUM (any minimum variable); PATHS; NOTHING.
  */
 uint64_t yindolve_cut(const uint64_t *arities, size_t arities_count, const uint64_t *words, size_t words_count, uint64_t *result, size_t result_count,
     uint64_t *work, size_t work_count, uint64_t *row, uint64_t *edge, uint64_t *rows);
@@ -249,10 +257,11 @@ uint64_t yindolve_cut(const uint64_t *arities, size_t arities_count, const uint6
 uint64_t yindolve_reduce(const uint64_t *arities, size_t arities_count, const uint64_t *words, size_t words_count, uint64_t *result, size_t result_count,
     uint64_t *work, size_t work_count, uint64_t *rows);
 
-/* The value of a listing in a state, to *value: the highest leaf over all valuations of its variables. The state has objects 0 to objects - 1; constants[c] is the
+/* The value of a listing in a state, to *value: the highest, over all choices of objects for its maximum variables, of the lowest leaf over all choices for its minimum
+ * variables; without these the highest leaf over all valuations. The state has objects 0 to objects - 1; constants[c] is the
  * object of constant c (0 for a constant that has no word, words past YINDOLVE_CONSTANTS are not read); facts are rows of YINDOLVE_FACT_WORDS words, words behind
- * the last whole row are not read. More than 1,000,000 valuations are not gone through: a table for each row of the listing takes their place, with the same value, and these
- * tables may have 8,192 entries in all.
+ * the last whole row are not read. More than 1,000,000 valuations, of variables of both kinds, are not gone through: a table for each row of the listing takes their place,
+ * with the same value, and these tables may have 8,192 entries in all. With a minimum variable no tables do.
  * Refused, in this order: LISTING; RANGE (no object, or one named that is not there); UNBOUND (any parameter); VALUATIONS.
  */
 uint64_t yindolve_value(const uint64_t *arities, size_t arities_count, const uint64_t *words, size_t words_count, uint64_t objects, const uint64_t *constants,

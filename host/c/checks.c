@@ -1,4 +1,5 @@
-/* What include/yindolve.h adds to the library's functions: refusals in words, answers as structs, null pointers, the end of a text, saved sessions; and a reduction.
+/* What include/yindolve.h adds to the library's functions: refusals in words, answers as structs, null pointers, the end of a text, saved sessions; and a reduction, and
+ * minimum variables.
  * Prints nothing if all is well. */
 #include <stdio.h>
 #include <stdlib.h>
@@ -27,10 +28,6 @@ static void refusals(void) {
     uint64_t number;
     EXPECT(strcmp(yindolve_refusal_word(0), "accepted") == 0);
     for (number = 1; number <= YINDOLVE_COMBINATIONS; ++number) {
-        if (number == YINDOLVE_GROUND + 1) { /* that of a later version */
-            EXPECT(strcmp(yindolve_refusal_word(number), "unknown") == 0);
-            continue;
-        }
         EXPECT(strcmp(yindolve_refusal_word(number), "unknown") != 0);
         EXPECT(strlen(yindolve_refusal_meaning(number)) > 20);
     }
@@ -41,7 +38,8 @@ static void refusals(void) {
     EXPECT(YINDOLVE_MISSING == 20 && YINDOLVE_GROUND == 24 && strcmp(yindolve_refusal_word(20), "missing") == 0 && strcmp(yindolve_refusal_word(24), "ground") == 0);
     EXPECT(YINDOLVE_WEIGHTLESS == 21 && YINDOLVE_CROWDED == 22 && YINDOLVE_TALLY == 23 && strcmp(yindolve_refusal_word(21), "weightless") == 0);
     EXPECT(strcmp(yindolve_refusal_word(22), "crowded") == 0 && strcmp(yindolve_refusal_word(23), "tally") == 0);
-    EXPECT(YINDOLVE_KINDS == 26 && YINDOLVE_RUNS == 27 && YINDOLVE_COMBINATIONS == 28);
+    EXPECT(YINDOLVE_MINIMUM == 25 && strcmp(yindolve_refusal_word(25), "minimum") == 0);
+    EXPECT(YINDOLVE_KINDS == 26 && YINDOLVE_RUNS == 27 && YINDOLVE_COMBINATIONS == 28 && strcmp(yindolve_refusal_word(29), "unknown") == 0);
 }
 
 static void read_answers(void) {
@@ -61,6 +59,10 @@ static void read_answers(void) {
     EXPECT(a.kind == YINDOLVE_ANSWER_REFUSED && a.refusal == YINDOLVE_NOTHING && a.line == 18);
     a = read_text("(row 0 leaf 30)\n(row 1 leaf 0)\n(row 2 281474976710656 0 1)\n");
     EXPECT(a.kind == YINDOLVE_ANSWER_ROWS && a.rows == 3);
+    a = read_text("(refused 25 8)\n");
+    EXPECT(a.kind == YINDOLVE_ANSWER_REFUSED && a.refusal == YINDOLVE_MINIMUM && a.line == 8);
+    a = read_text("(if (road ?v0 %v0) 5 0)\n");
+    EXPECT(a.kind == YINDOLVE_ANSWER_TEXT && a.bytes == 24);
     a = read_text("(if (stock ?v0) 5 0)\n");
     EXPECT(a.kind == YINDOLVE_ANSWER_TEXT && a.rows == 0 && a.value == 0 && a.bytes == 21);
     a = read_text("1000000000000000000\n");
@@ -94,8 +96,8 @@ static void read_answers(void) {
 }
 
 static void labels(void) {
-    static const uint64_t six = YINDOLVE_LABEL(2, 0, 15, 16, 19, 64, 127);
-    const uint64_t arities[YINDOLVE_ARITIES] = {2, 1, YINDOLVE_PLACES}, terms[YINDOLVE_PLACES] = {0, 15, 16, 19, 64, 127};
+    static const uint64_t six = YINDOLVE_LABEL(2, 15, 16, 19, 64, 127, 191);
+    const uint64_t arities[YINDOLVE_ARITIES] = {2, 1, YINDOLVE_PLACES}, terms[YINDOLVE_PLACES] = {15, 16, 19, 64, 127, 191};
     uint64_t test[] = {YINDOLVE_LEAF, 1, 0, YINDOLVE_LEAF, 0, 0, six, 0, 1};
     unsigned place;
     EXPECT(YINDOLVE_LABEL(1, 0, 0, 0, 0, 0, 0) == UINT64_C(281474976710656));
@@ -103,6 +105,10 @@ static void labels(void) {
     EXPECT(yindolve_label_predicate(six) == 2);
     for (place = 0; place < YINDOLVE_PLACES; ++place) EXPECT(yindolve_label_term(six, place) == terms[place]);
     EXPECT(yindolve_check(arities, YINDOLVE_ARITIES, test, 9) == 0);
+    test[6] = YINDOLVE_LABEL(1, YINDOLVE_FIRST_MINIMUM, 0, 0, 0, 0, 0);
+    EXPECT(yindolve_check(arities, YINDOLVE_ARITIES, test, 9) == 0);
+    test[6] = YINDOLVE_LABEL(1, 192, 0, 0, 0, 0, 0); /* behind the last minimum variable */
+    EXPECT(yindolve_check(arities, YINDOLVE_ARITIES, test, 9) == YINDOLVE_LISTING);
     test[6] = YINDOLVE_LABEL(1, 64, 0, 0, 0, 0, 1); /* a place past the arity */
     EXPECT(yindolve_check(arities, YINDOLVE_ARITIES, test, 9) == YINDOLVE_LISTING);
     test[6] = (UINT64_C(1) << 24) + (UINT64_C(32) << 18); /* a label of version 0.2 */
@@ -137,6 +143,8 @@ static void reductions(void) {
     test[6] = YINDOLVE_LABEL(1, 0, 0, 0, 0, 0, 0); /* a constant */
     EXPECT(reduced(arities, test, 9, &rows) == YINDOLVE_KINDS);
     test[6] = YINDOLVE_LABEL(0, x, y, 0, 0, 0, 0); /* an equality */
+    EXPECT(reduced(arities, test, 9, &rows) == YINDOLVE_KINDS);
+    test[6] = YINDOLVE_LABEL(1, YINDOLVE_FIRST_MINIMUM, 0, 0, 0, 0, 0);
     EXPECT(reduced(arities, test, 9, &rows) == YINDOLVE_KINDS);
     test[6] = YINDOLVE_LABEL(3, x, y, z, 67, 68, 0);
     EXPECT(reduced(arities, test, 9, &rows) == YINDOLVE_RUNS);
@@ -286,6 +294,33 @@ static void sessions(void) {
     EXPECT(yindolve_session_ask(&other, "(backup)").steps == 2 && yindolve_session_ask(&session, "(value)").steps == 1);
 }
 
+/* One van serves (1) all shelves: valued, not cut, and a max of shared names is one apart; the same as a reward. */
+static void minimum_variables(void) {
+    const uint64_t arities[YINDOLVE_ARITIES] = {2, 2}, all[] = {YINDOLVE_LEAF, 5, 0, YINDOLVE_LEAF, 0, 0,
+        YINDOLVE_LABEL(1, YINDOLVE_FIRST_VARIABLE, YINDOLVE_FIRST_MINIMUM, 0, 0, 0, 0), 0, 1};
+    const uint64_t facts[] = {1, 0, 0, 0, 0, 0, 0, 1, 1, 1, 0, 0, 0, 0, 1, 0, 1, 0, 0, 0, 0}; /* 0 serves 0, 1 serves 1, 0 serves 1 */
+    static const char *const lines[] = {"(predicate serves 2)", "(reward (if (serves ?v %s) 5 0))", "(action wait)", "(variant only 100)", "(start)", "(objects 2)", "(true serves 0 0)",
+        "(true serves 1 1)"};
+    static uint64_t apart[YINDOLVE_RESULT_WORDS];
+    uint64_t value = 99, rows = 99, pairs = 99, row = 99, edge = 99, rows_apart = 0, pairs_apart = 0;
+    size_t i;
+    EXPECT(yindolve_value(arities, YINDOLVE_ARITIES, all, 9, 2, YINDOLVE_NO_WORDS, facts, 14, &value) == 0 && value == 0);
+    EXPECT(yindolve_value(arities, YINDOLVE_ARITIES, all, 9, 2, YINDOLVE_NO_WORDS, facts, 21, &value) == 0 && value == 5);
+    EXPECT(yindolve_value(arities, YINDOLVE_ARITIES, all, 9, 1001, YINDOLVE_NO_WORDS, facts, 21, &value) == YINDOLVE_VALUATIONS && value == 5);
+    EXPECT(yindolve_cut(arities, YINDOLVE_ARITIES, all, 9, listing, YINDOLVE_RESULT_WORDS, work, YINDOLVE_WORK_WORDS, &row, &edge, &rows) == YINDOLVE_MINIMUM);
+    EXPECT(yindolve_cut(arities, YINDOLVE_ARITIES, all, 9, listing, 0, work, 0, &row, &edge, &rows) == YINDOLVE_BUFFER && row == 99 && edge == 99 && rows == 99);
+    EXPECT(yindolve_max_shared(arities, YINDOLVE_ARITIES, all, 9, all, 9, listing, YINDOLVE_RESULT_WORDS, work, YINDOLVE_WORK_WORDS, &rows, &pairs) == 0);
+    EXPECT(yindolve_max_apart(arities, YINDOLVE_ARITIES, all, 9, all, 9, apart, YINDOLVE_RESULT_WORDS, work, YINDOLVE_WORK_WORDS, &rows_apart, &pairs_apart) == 0);
+    EXPECT(rows == 4 && rows == rows_apart && pairs == pairs_apart && memcmp(listing, apart, 12 * sizeof listing[0]) == 0);
+    EXPECT(yindolve_session_open(&session) == 0);
+    for (i = 0; i < sizeof lines / sizeof lines[0]; ++i) EXPECT(yindolve_session_ask(&session, lines[i]).kind == YINDOLVE_ANSWER_NOTHING);
+    EXPECT(yindolve_session_ask(&session, "(value)").value == 0 && yindolve_session_ask(&session, "(cut)").refusal == YINDOLVE_MINIMUM);
+    EXPECT(yindolve_session_ask(&session, "(true serves 0 1)").kind == YINDOLVE_ANSWER_NOTHING && yindolve_session_ask(&session, "(value)").value == 5);
+    EXPECT(yindolve_session_ask(&session, "(text)").kind == YINDOLVE_ANSWER_TEXT && memcmp(session.answer, "(if (serves ?v0 %v0) 5 0)\n", 26) == 0);
+    EXPECT(yindolve_session_save(&session, words, YINDOLVE_SAVED_WORDS) == 0 && yindolve_session_load(&other, words, YINDOLVE_SAVED_WORDS) == 0);
+    EXPECT(yindolve_session_ask(&other, "(value)").value == 5);
+}
+
 int main(void) {
     refusals();
     read_answers();
@@ -294,5 +329,6 @@ int main(void) {
     null_pointers();
     ends();
     sessions();
+    minimum_variables();
     return 0;
 }

@@ -81,15 +81,41 @@ static void damage(yindolve_session *s) {
     }
 }
 
-/* One number of a session is another: whether lines are answered; if not, LISTING is, and nothing is written. */
-static int passes(const yindolve_session *s, size_t place, uint64_t word) {
+/* One word of a session is another: whether lines are answered; if not, LISTING is, and nothing is written. */
+static int passes_with(const yindolve_session *s, size_t at, uint64_t word) {
     uint64_t bytes = 0, read = 0;
     damaged = *s;
-    damaged.numbers[place] = word;
+    ((uint64_t *)&damaged)[at] = word;
     copy = damaged;
     uint64_t answer = yindolve_session_lines(&damaged, (const uint8_t *)run, sizeof run - 1, first, sizeof first, &bytes, &read);
     EXPECT(answer == 0 || (answer == YINDOLVE_LISTING && same(&damaged, &copy)));
     return answer == 0;
+}
+
+/* The same for one of its numbers. */
+static int passes(const yindolve_session *s, size_t place, uint64_t word) {
+    return passes_with(s, offsetof(yindolve_session, numbers) / 8 + place, word);
+}
+
+/* The first word of a table that is this one. */
+static size_t place_of(const yindolve_session *s, size_t table, uint64_t word) {
+    size_t at = table / 8;
+    while (at < offsetof(yindolve_session, work) / 8 && ((const uint64_t *)s)[at] != word) ++at;
+    EXPECT(at < offsetof(yindolve_session, work) / 8);
+    return at;
+}
+
+/* Minimum variables stand in the reward and in the value diagram alone, closed up: words that have one in a truth diagram, or the second without the first, are no session's. */
+static void minimum_variables(void) {
+    static const char *const lines[] = {"(predicate p 1)", "(reward (if (p %a) 5 0))", "(action a)", "(variant v 100)", "(becomes (p ?a) (if (p ?a) 1 0))", "(start)"};
+    const uint64_t of_maximum = YINDOLVE_LABEL(1, 64, 0, 0, 0, 0, 0), of_minimum = YINDOLVE_LABEL(1, 128, 0, 0, 0, 0, 0), of_second = YINDOLVE_LABEL(1, 129, 0, 0, 0, 0, 0);
+    EXPECT(yindolve_session_open(&part) == 0);
+    for (size_t i = 0; i < sizeof lines / sizeof lines[0]; ++i) EXPECT(yindolve_session_ask(&part, lines[i]).kind == YINDOLVE_ANSWER_NOTHING);
+    size_t reward = place_of(&part, offsetof(yindolve_session, listings), of_minimum), truth = place_of(&part, offsetof(yindolve_session, listings), of_maximum);
+    size_t value = place_of(&part, offsetof(yindolve_session, value), of_minimum);
+    EXPECT(passes_with(&part, reward, of_maximum) && !passes_with(&part, reward, of_second));
+    EXPECT(!passes_with(&part, truth, of_minimum));
+    EXPECT(passes_with(&part, value, of_maximum) && !passes_with(&part, value, of_second));
 }
 
 /* The names of variants are those of the table; count and total are at most 10^18, with no total before the first line. */
@@ -126,6 +152,7 @@ int main(int count, char **arguments) {
     size_t size = sizeof model + sizeof run - 2;
     EXPECT(yindolve_run(text, size, answers, sizeof answers, &bytes, &lines) == 0 && bytes > 100);
     run_without_action();
+    minimum_variables();
     do {
         EXPECT(yindolve_session_open(&whole) == 0 && in_blocks(&whole, text, size, 200) == bytes && memcmp(joined, answers, bytes) == 0);
         numbers_of_logs(&whole);

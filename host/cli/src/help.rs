@@ -36,7 +36,8 @@ pub const PLAN: &str = "\
 use: yindolve-desk plan MODEL --steps K -o FILE [--uncut] [--reduce]
 
 Loads the model (the text MODEL up to its (start), or a saved plan to go on
-with), looks K steps ahead, cuts after each step until nothing is left to cut,
+with), looks K steps ahead, cuts after each step until nothing is left to cut
+(nothing is cut where the reward has minimum variables, %name, which is told),
 and saves the result to FILE after each step. Progress goes to standard error, a
 table of the steps to standard output. Where a step is refused, the steps before
 it are saved, and the reason is told.
@@ -45,7 +46,8 @@ it are saved, and the reason is told.
   -o, --output FILE  where the result is saved, for value and picture
   --uncut          leave the cuts out
   --reduce         reduce behind the cuts of each step, as long as rows go; for
-                   small diagrams without equality and constants
+                   small diagrams without equality, constants and minimum
+                   variables
 
 Exit status: 0 all steps done, 1 a line or a step was refused, 2 input or output
 failed.

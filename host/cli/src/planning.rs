@@ -6,6 +6,7 @@ use crate::twin::Twin;
 use reference::diagram::Diagram;
 use reference::explain::{count_paths, explain, Fault};
 use reference::listing::read_listing;
+use reference::refusal::Refusal as KnownRefusal;
 use std::time::{Duration, Instant};
 use yindolve::{CutDone, Refusal, Session, Space};
 
@@ -22,6 +23,7 @@ pub struct Step {
     /// Why it was not reduced, or not further.
     pub unreduced: Option<Fault>,
     pub rows: usize,
+    /// Of both kinds.
     pub variables: usize,
     pub paths: u128,
     pub time: Duration,
@@ -53,6 +55,14 @@ pub struct Planner<'a> {
 pub fn diagram(engine: &Session) -> Diagram {
     let listing = engine.listing().and_then(|listing| read_listing(listing.words(), engine.arities().words()).ok());
     listing.unwrap_or_else(|| Diagram::leaf(0))
+}
+
+/// The steps that were not cut, or not to the end, as they are told: that minimum variables stand in the way once, for all steps.
+pub fn uncut(steps: &[Step]) -> Vec<(&'static str, &Fault)> {
+    let faults = || steps.iter().filter_map(|step| step.uncut.as_ref());
+    let of_minimum = |fault: &&Fault| fault.refusal == KnownRefusal::Minimum;
+    let others = faults().filter(|fault| !of_minimum(fault)).map(|fault| ("not all was cut", fault));
+    faults().find(of_minimum).map(|fault| ("nothing is cut", fault)).into_iter().chain(others).collect()
 }
 
 impl Planner<'_> {
@@ -88,8 +98,12 @@ impl Planner<'_> {
         Ok(Ok(step))
     }
 
+    /// A diagram with a minimum variable is not cut, which is told without trying.
     fn cuts(&mut self, engine: &mut Session, k: u64) -> Result<(Vec<CutDone>, Option<Fault>), Trouble> {
         let mut cuts = Vec::new();
+        if !self.uncut && diagram(engine).has_minimum() {
+            return Ok((cuts, Some(reason_of(engine, "(cut)", Refusal::Minimum)?)));
+        }
         while !self.uncut {
             match engine.cut() {
                 Ok(cut) => {

@@ -37,7 +37,8 @@ pub fn asked(model: &Loaded) -> Vec<Sample> {
     samples
 }
 
-/// States that reach the highest leaves of the value diagram: an object for each variable, and the facts of a path true.
+/// States that reach the highest leaves of the value diagram: an object for each variable, and the facts of a path true. With a minimum variable the value may be lower, where another
+/// object for it leads to a lower leaf.
 pub fn made(model: &Loaded) -> Vec<Sample> {
     let value = diagram(&model.twin.engine);
     let mut leaves: Vec<(u64, Vec<(Label, bool)>)> = Vec::new();

@@ -22,9 +22,11 @@ pub const TERM_BITS: usize = 8;
 pub const FIRST_PARAMETER: u64 = 16;
 /// How many parameters there are.
 pub const PARAMETERS: usize = 4;
-/// The number of the first variable.
+/// The number of the first maximum variable.
 pub const FIRST_VARIABLE: u64 = 64;
-/// How many variables there are.
+/// The number of the first minimum variable.
+pub const FIRST_MINIMUM: u64 = 128;
+/// How many variables of each kind there are.
 pub const VARIABLES: usize = 64;
 /// The objects of a state's constants, at most.
 pub const CONSTANTS: usize = 16;
@@ -58,7 +60,7 @@ macro_rules! combinations {
         ///
         /// # Refusals
         /// In this order: [`Listing`](Refusal::Listing) for the first operand, then for the second; [`Buffer`](Refusal::Buffer);
-        /// [`Variables`](Refusal::Variables) (apart only); [`Pairs`](Refusal::Pairs); [`Value`](Refusal::Value) (never of a max);
+        /// [`Variables`](Refusal::Variables) (apart only; each kind by itself); [`Pairs`](Refusal::Pairs); [`Value`](Refusal::Value) (never of a max);
         /// [`Space`](Refusal::Space).
         pub fn $name(
             arities: &[u64],
@@ -101,7 +103,7 @@ combinations! {
     product_shared = yindolve_product_shared;
     /// The maximum, variables set apart.
     max_apart = yindolve_max_apart;
-    /// The maximum, names shared.
+    /// The maximum, names shared; with a minimum variable on either side it is [`max_apart`] in every respect.
     max_shared = yindolve_max_shared;
 }
 
@@ -113,7 +115,7 @@ combinations! {
 /// # Refusals
 /// In this order: [`Listing`](Refusal::Listing) for the value listing, then for the truth diagrams by predicate;
 /// [`Buffer`](Refusal::Buffer); diagram by diagram [`Truth`](Refusal::Truth), then [`Unbound`](Refusal::Unbound) for a variable
-/// that is no argument; then step by step [`Pairs`](Refusal::Pairs) and [`Space`](Refusal::Space).
+/// that is no argument, as every minimum variable; then step by step [`Pairs`](Refusal::Pairs) and [`Space`](Refusal::Space).
 pub fn regress(
     arities: &[u64],
     words: &[u64],
@@ -143,12 +145,13 @@ pub fn regress(
     })
 }
 
-/// Frees the parameters of an action that has `parameters` of them: they become variables 0, 1, .., and the other variables move
-/// up by that count.
+/// Frees the parameters of an action that has `parameters` of them: they become maximum variables 0, 1, .., and the other maximum
+/// variables move up by that count; minimum variables stay.
 ///
 /// # Refusals
 /// In this order: [`Listing`](Refusal::Listing); [`Buffer`](Refusal::Buffer); [`Range`](Refusal::Range) (more than 4 parameters);
-/// [`Unbound`](Refusal::Unbound) (a parameter past the count); [`Variables`](Refusal::Variables) (a variable would pass the last one).
+/// [`Unbound`](Refusal::Unbound) (a parameter past the count); [`Variables`](Refusal::Variables) (a maximum variable would pass the
+/// last one).
 pub fn free(arities: &[u64], words: &[u64], parameters: u64, result: &mut [u64], work: &[u64], rows: &mut u64) -> Result<(), Refusal> {
     // SAFETY: each pointer is to as many words as its count says, and what is written to overlaps nothing.
     accepted(unsafe {
@@ -171,7 +174,8 @@ pub fn free(arities: &[u64], words: &[u64], parameters: u64, result: &mut [u64],
 /// for its false one to `edge`.
 ///
 /// # Refusals
-/// In this order: [`Listing`](Refusal::Listing); [`Buffer`](Refusal::Buffer); [`Paths`](Refusal::Paths); [`Nothing`](Refusal::Nothing).
+/// In this order: [`Listing`](Refusal::Listing); [`Buffer`](Refusal::Buffer); [`Minimum`](Refusal::Minimum); [`Paths`](Refusal::Paths);
+/// [`Nothing`](Refusal::Nothing).
 pub fn cut(
     arities: &[u64],
     words: &[u64],
@@ -224,10 +228,11 @@ pub fn reduce(arities: &[u64], words: &[u64], result: &mut [u64], work: &mut [u6
     })
 }
 
-/// The value of a listing in a state, to `value`: the highest leaf over all valuations of its variables.
+/// The value of a listing in a state, to `value`: the highest, over its maximum variables, of the lowest leaf over its minimum variables.
 ///
 /// `constants[c]` is the object of constant c, 0 for a constant that has no word; `facts` are rows of [`FACT_WORDS`] words. More than
-/// 1,000,000 valuations are not gone through: a table for each row of the listing takes their place, 8,192 entries in all.
+/// 1,000,000 valuations, of variables of both kinds, are not gone through: a table for each row of the listing takes their place, 8,192
+/// entries in all. With a minimum variable no tables do.
 ///
 /// # Refusals
 /// In this order: [`Listing`](Refusal::Listing); [`Range`](Refusal::Range) (no object, or one named that is not there);

@@ -1,9 +1,12 @@
-use crate::calls::{self, ARITIES, CONSTANTS, FIRST_PARAMETER, FIRST_VARIABLE, LEAF, PARAMETERS, PLACES, ROW_WORDS, TERM_BITS, VARIABLES};
+use crate::calls::{self, FIRST_MINIMUM, FIRST_PARAMETER, FIRST_VARIABLE};
+use crate::calls::{ARITIES, CONSTANTS, LEAF, PARAMETERS, PLACES, ROW_WORDS, TERM_BITS, VARIABLES};
 use crate::refusal::Refusal;
+use std::collections::BTreeSet;
 
 const LAST_CONSTANT: u64 = CONSTANTS as u64 - 1;
 const LAST_PARAMETER: u64 = FIRST_PARAMETER + PARAMETERS as u64 - 1;
 const LAST_VARIABLE: u64 = FIRST_VARIABLE + VARIABLES as u64 - 1;
+const LAST_MINIMUM: u64 = FIRST_MINIMUM + VARIABLES as u64 - 1;
 
 /// How many terms each predicate has.
 ///
@@ -49,12 +52,14 @@ pub enum Term {
     Constant(u8),
     /// A parameter of an action, 0 to 3.
     Parameter(u8),
-    /// A variable, 0 to 63.
+    /// A maximum variable, 0 to 63: it is chosen so that the leaf is highest.
     Variable(u8),
+    /// A minimum variable, 0 to 63: it is chosen behind all maximum variables, so that the leaf is lowest.
+    Minimum(u8),
 }
 
 impl Term {
-    /// The term's number: constants from 0, parameters from 16, variables from 64 on.
+    /// The term's number: constants from 0, parameters from 16, maximum variables from 64 and minimum variables from 128 on.
     ///
     /// # Panics
     /// If there is no such constant, parameter or variable.
@@ -63,7 +68,8 @@ impl Term {
             Term::Constant(c) if (c as usize) < CONSTANTS => c as u64,
             Term::Parameter(p) if (p as usize) < PARAMETERS => FIRST_PARAMETER + p as u64,
             Term::Variable(v) if (v as usize) < VARIABLES => FIRST_VARIABLE + v as u64,
-            _ => panic!("there are 16 constants, 4 parameters and 64 variables"),
+            Term::Minimum(v) if (v as usize) < VARIABLES => FIRST_MINIMUM + v as u64,
+            _ => panic!("there are 16 constants, 4 parameters and 64 variables of each kind"),
         }
     }
 
@@ -73,6 +79,7 @@ impl Term {
             0..=LAST_CONSTANT => Some(Term::Constant(number as u8)),
             FIRST_PARAMETER..=LAST_PARAMETER => Some(Term::Parameter((number - FIRST_PARAMETER) as u8)),
             FIRST_VARIABLE..=LAST_VARIABLE => Some(Term::Variable((number - FIRST_VARIABLE) as u8)),
+            FIRST_MINIMUM..=LAST_MINIMUM => Some(Term::Minimum((number - FIRST_MINIMUM) as u8)),
             _ => None,
         }
     }
@@ -235,22 +242,21 @@ impl Listing {
         &self.0
     }
 
-    /// Whether no parameter occurs, and the variables that occur are 0, 1, .. without a gap.
+    /// Whether no parameter occurs, and of each kind the variables that occur are 0, 1, .. without a gap.
     pub(crate) fn is_closed(&self, arities: &Arities) -> bool {
-        let mut variables = Vec::new();
+        let (mut maximum, mut minimum) = (BTreeSet::new(), BTreeSet::new());
         for row in self.rows() {
             let Row::Branch { label, .. } = row else { continue };
             for term in label.terms(arities) {
                 match term {
                     Term::Constant(_) => {}
                     Term::Parameter(_) => return false,
-                    Term::Variable(variable) => variables.push(variable),
+                    Term::Variable(variable) => drop(maximum.insert(variable)),
+                    Term::Minimum(variable) => drop(minimum.insert(variable)),
                 }
             }
         }
-        variables.sort_unstable();
-        variables.dedup();
-        variables.iter().enumerate().all(|(place, variable)| place == usize::from(*variable))
+        [maximum, minimum].iter().all(|kind| kind.iter().copied().eq(0..kind.len() as u8))
     }
 
     /// How many rows there are, 1 to 1,024.

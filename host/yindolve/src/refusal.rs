@@ -28,7 +28,7 @@ pub enum Refusal {
     Unbound = 6,
     /// A truth diagram's leaf above 1.
     Truth = 7,
-    /// More than 64 variables, or a variable past the last one.
+    /// More than 64 variables of a kind, or a maximum variable past the last one.
     Variables = 8,
     /// More rows, facts or declarations than there is room for.
     Space = 9,
@@ -42,7 +42,7 @@ pub enum Refusal {
     Weights = 13,
     /// Words that are no listing, or a wrong arity list.
     Listing = 14,
-    /// More than 1,000,000 valuations, and more than 8,192 entries in the tables that take their place.
+    /// More than 1,000,000 valuations, and more than 8,192 entries in the tables that take their place, or a minimum variable, with which none do.
     Valuations = 15,
     /// No edge to cut.
     Nothing = 16,
@@ -62,7 +62,9 @@ pub enum Refusal {
     Tally = 23,
     /// More than 16 ground facts of the states that `(count n)` is to count.
     Ground = 24,
-    /// An equality or a constant in a diagram to reduce.
+    /// A minimum variable in a diagram to cut.
+    Minimum = 25,
+    /// An equality, a constant or a minimum variable in a diagram to reduce.
     Kinds = 26,
     /// More than 512 valuations times paths of a diagram to reduce.
     Runs = 27,
@@ -97,6 +99,7 @@ impl Refusal {
         Refusal::Crowded,
         Refusal::Tally,
         Refusal::Ground,
+        Refusal::Minimum,
         Refusal::Kinds,
         Refusal::Runs,
         Refusal::Combinations,
@@ -139,6 +142,7 @@ impl Refusal {
             Refusal::Crowded => "crowded",
             Refusal::Tally => "tally",
             Refusal::Ground => "ground",
+            Refusal::Minimum => "minimum",
             Refusal::Kinds => "kinds",
             Refusal::Runs => "runs",
             Refusal::Combinations => "combinations",
@@ -155,14 +159,14 @@ impl Refusal {
             Refusal::Place => "the line stands in the wrong part of the text, a part is missing, or a constant is not placed",
             Refusal::Unbound => "a variable or a parameter that is not allowed here",
             Refusal::Truth => "a diagram that says what becomes true has a number above 1",
-            Refusal::Variables => "more than 64 variables",
+            Refusal::Variables => "more than 64 variables of a kind",
             Refusal::Space => "more rows, facts or declarations than there is room for",
             Refusal::Pairs => "more than 4,096 pairs of rows in one combination",
             Refusal::Value => "a number above 10^18 was worked out",
             Refusal::Scale => "the scale, the power of total times discount divisor, would pass 10^18",
             Refusal::Weights => "an action's weights, summed, are not the total in a case that equality does not rule out",
             Refusal::Listing => "the words are no listing, or the arity list is wrong",
-            Refusal::Valuations => "more than 1,000,000 ways to choose objects for the variables, and more than 8,192 entries in the tables that take their place",
+            Refusal::Valuations => "more than 1,000,000 ways to choose objects for the variables, and no tables in their place: these would have more than 8,192 entries, or there is a minimum variable",
             Refusal::Nothing => "no edge is left to cut",
             Refusal::Paths => "more than 256 paths, in the diagram to cut or to reduce or in an action's summed weights",
             Refusal::Buffer => "a result buffer or a working space that is too small",
@@ -172,7 +176,8 @@ impl Refusal {
             Refusal::Crowded => "a logged line that leads to a state of more than 1,024 facts",
             Refusal::Tally => "the count of logged lines or the total of their rewards would pass 10^18",
             Refusal::Ground => "more than 16 ground facts, so that there are too many states to count",
-            Refusal::Kinds => "an equality or a constant in the diagram to reduce",
+            Refusal::Minimum => "a minimum variable in the diagram to cut",
+            Refusal::Kinds => "an equality, a constant or a minimum variable in the diagram to reduce",
             Refusal::Runs => "more than 512 valuations times paths of the diagram to reduce",
             Refusal::Combinations => "more than 100,000 combinations of paths in a reduction",
         }

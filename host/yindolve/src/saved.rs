@@ -249,7 +249,7 @@ mod tests {
         assert_eq!(wrong("(row 3 leaf 0)", "(row 3 leaf 120)"), "not a saved session: the rows are no listing");
         let equality = |term| Label::equality(Term::Constant(0), term).unwrap().word().to_string();
         let first = equality(Term::Variable(0));
-        for other in [Term::Parameter(0), Term::Variable(1)] {
+        for other in [Term::Parameter(0), Term::Variable(1), Term::Minimum(1)] {
             let told = wrong(&first, &equality(other));
             assert_eq!(told, "not a saved session: the value diagram has a parameter, or its variables are not closed up");
         }

@@ -343,7 +343,7 @@ impl Session {
     /// short for most diagrams, and hours for some made to be hard.
     ///
     /// # Refusals
-    /// `Place` before a `(start)`; `Paths` (more than 256); `Nothing` (no edge may go).
+    /// `Place` before a `(start)`; `Minimum` (a minimum variable); `Paths` (more than 256); `Nothing` (no edge may go).
     pub fn cut(&mut self) -> Result<CutDone, Refusal> {
         match self.line("(cut)") {
             Answer::Cut(done) => Ok(done),
@@ -355,7 +355,8 @@ impl Session {
     /// Cuts until nothing is left to cut.
     ///
     /// # Refusals
-    /// `Place` before a `(start)`; `Paths` where there are more than 256, which is found before anything is cut.
+    /// `Place` before a `(start)`; `Minimum` where there is a minimum variable, `Paths` where there are more than 256 paths, both found
+    /// before anything is cut.
     pub fn cut_all(&mut self) -> Result<AllCut, Refusal> {
         let mut cuts = 0;
         loop {
@@ -368,11 +369,11 @@ impl Session {
     }
 
     /// Reduces the value diagram by model checking, which changes no value: it sees what several paths do together, and is for small
-    /// diagrams without equality and constants. Best once nothing is left to cut.
+    /// diagrams without equality, constants and minimum variables. Best once nothing is left to cut.
     ///
     /// # Refusals
-    /// `Place` before a `(start)`; `Paths` (more than 256); `Kinds` (an equality or a constant); `Runs` (more than 512 valuations times
-    /// paths); `Combinations` (more than 100,000 combinations of paths). The value diagram stays.
+    /// `Place` before a `(start)`; `Paths` (more than 256); `Kinds` (an equality, a constant or a minimum variable); `Runs` (more than 512
+    /// valuations times paths); `Combinations` (more than 100,000 combinations of paths). The value diagram stays.
     ///
     /// ```
     /// use yindolve::{Refusal, Session};
@@ -390,7 +391,7 @@ impl Session {
         }
     }
 
-    /// The value diagram as one nested form, with variables `?v0`, `?v1` and so on: `(reward FORM)` of another model under the same
+    /// The value diagram as one nested form, with variables `?v0`, `?v1` and so on and minimum variables `%v0`, `%v1` and so on: `(reward FORM)` of another model under the same
     /// constants and predicates, declared in the same order, has the very listing. Its numbers are the value diagram's, S^k times the
     /// values.
     ///
@@ -438,7 +439,7 @@ impl Session {
     /// # Refusals
     /// `Place` (before a `(start)`, or a declared constant has no object); `Name` (a fact of a predicate that is not declared);
     /// `Range` (no object, or one named that is not there); `Valuations` (more than 1,000,000 ways to choose objects, and
-    /// more than 8,192 entries in the tables that take their place).
+    /// a minimum variable or more than 8,192 entries in the tables that take their place).
     pub fn value(&self, state: &State) -> Result<Value, Refusal> {
         if !self.is_started() || state.constants.len() < self.vocabulary.constants().len() {
             return Err(Refusal::Place);

@@ -27,7 +27,7 @@ pub struct Cut {
 
 /// The truth diagrams of an action's outcome: for a predicate, what it is afterwards. A predicate without one stays as it is.
 ///
-/// A truth diagram has leaves 0 and 1; its variables 0, 1, .. are the arguments of its predicate; it may name the action's parameters.
+/// A truth diagram has leaves 0 and 1; its variables 0, 1, .. are the arguments of its predicate; it may name the action's parameters, and no minimum variable.
 #[derive(Clone, Debug)]
 pub struct Truths {
     words: Vec<u64>,
@@ -125,19 +125,20 @@ impl Space {
     }
 
     combinations! {
-        /// The sum of two listings, each with variables of its own: the first's are renamed to 0, 1, .. in their order, the
-        /// second's follow, and those of the result are renamed likewise.
-        sum_apart: "In this order: `Variables` (more than 64, those of both together), `Pairs`, `Value`, `Space`.";
+        /// The sum of two listings, each with variables of its own: the first's of each kind are renamed to 0, 1, .. in their order,
+        /// the second's follow, and those of the result are renamed likewise.
+        sum_apart: "In this order: `Variables` (more than 64 of a kind, those of both together), `Pairs`, `Value`, `Space`.";
         /// The sum of two listings that share their variables.
         sum_shared: "In this order: `Pairs`, `Value`, `Space`.";
         /// The product of two listings, each with variables of its own.
-        product_apart: "In this order: `Variables` (more than 64, those of both together), `Pairs`, `Value`, `Space`.";
+        product_apart: "In this order: `Variables` (more than 64 of a kind, those of both together), `Pairs`, `Value`, `Space`.";
         /// The product of two listings that share their variables.
         product_shared: "In this order: `Pairs`, `Value`, `Space`.";
         /// The maximum of two listings, each with variables of its own.
-        max_apart: "In this order: `Variables` (more than 64, those of both together), `Pairs`, `Space`.";
-        /// The maximum of two listings that share their variables.
-        max_shared: "In this order: `Pairs`, `Space`.";
+        max_apart: "In this order: `Variables` (more than 64 of a kind, those of both together), `Pairs`, `Space`.";
+        /// The maximum of two listings that share their variables. With a minimum variable on either side it is [`max_apart`](Space::max_apart)
+        /// in every respect: a choice of the lowest leaf that served both sides could be another than each side's own.
+        max_shared: "In this order: `Variables` (only where it is done apart), `Pairs`, `Space`.";
     }
 
     /// A value listing as it reads before an action's outcome: each test is replaced by what makes its atom true afterwards.
@@ -172,12 +173,12 @@ impl Space {
         Ok(self.written(rows))
     }
 
-    /// Frees the parameters of an action that has so many of them: they become variables 0, 1, .., and the other variables move
-    /// up by that count.
+    /// Frees the parameters of an action that has so many of them: they become maximum variables 0, 1, .., and the other maximum
+    /// variables move up by that count. Minimum variables stay.
     ///
     /// # Refusals
-    /// In this order: `Range` (more than 4 parameters), `Unbound` (a parameter past the count), `Variables` (a variable would
-    /// pass the last one).
+    /// In this order: `Range` (more than 4 parameters), `Unbound` (a parameter past the count), `Variables` (a maximum
+    /// variable would pass the last one).
     pub fn free(&mut self, listing: &Listing, parameters: u64) -> Result<Listing, Refusal> {
         let mut rows = 0;
         calls::free(self.arities.words(), listing.words(), parameters, &mut self.result, &self.work, &mut rows)?;
@@ -187,7 +188,7 @@ impl Space {
     /// Cuts one edge of a listing: it goes to leaf 0, and the value in every state stays.
     ///
     /// # Refusals
-    /// In this order: `Paths` (more than 256), `Nothing` (no edge may go).
+    /// In this order: `Minimum` (a minimum variable), `Paths` (more than 256), `Nothing` (no edge may go).
     ///
     /// ```
     /// use yindolve::{Arities, Label, Listing, Refusal, Row, Space, Term};
@@ -216,10 +217,11 @@ impl Space {
     }
 
     /// Reduces a listing by model checking: every edge that no winning path has goes to leaf 0, and the value in every state stays.
-    /// It sees what several paths do together, which no [`cut`](Space::cut) does, and is for small diagrams without equality and constants.
+    /// It sees what several paths do together, which no [`cut`](Space::cut) does, and is for small diagrams without equality, constants and
+    /// minimum variables.
     ///
     /// # Refusals
-    /// In this order: `Unbound` (a parameter), `Paths` (more than 256), `Kinds` (an equality or a constant), `Runs` (more than 512
+    /// In this order: `Unbound` (a parameter), `Paths` (more than 256), `Kinds` (an equality, a constant or a minimum variable), `Runs` (more than 512
     /// valuations times paths), `Combinations` (more than 100,000 combinations of paths).
     ///
     /// ```
@@ -253,11 +255,27 @@ impl Space {
         Ok(self.written(rows))
     }
 
-    /// The value of a listing in a state: the highest leaf over all ways to choose an object for each of its variables.
+    /// The value of a listing in a state: the highest leaf over all ways to choose an object for each of its variables. With minimum
+    /// variables it is the highest, over the maximum variables, of the lowest leaf over the minimum ones.
     ///
     /// # Refusals
     /// In this order: `Range` (no object, or one named that is not there), `Unbound` (a parameter), `Valuations` (more than
-    /// 1,000,000 ways, and more than 8,192 entries in the tables that take their place).
+    /// 1,000,000 ways, and more than 8,192 entries in the tables that take their place, or a minimum variable, with which none do).
+    ///
+    /// ```
+    /// use yindolve::{fact, Arities, Label, Listing, Refusal, Row, Space, State, Term};
+    /// let arities = Arities::new(&[2])?;
+    /// let mut space = Space::new(arities);
+    /// // 5 where one van serves all shelves
+    /// let serves = Label::new(1, &[Term::Variable(0), Term::Minimum(0)]);
+    /// let all = Listing::from_rows(&arities, [Row::Leaf(5), Row::Leaf(0), Row::Branch { label: serves, yes: 0, no: 1 }])?;
+    /// let mut state = State { objects: 2, facts: vec![fact(1, &[0, 0]), fact(1, &[1, 1])], ..State::default() };
+    /// assert_eq!(space.value(&all, &state)?, 0);
+    /// state.facts.push(fact(1, &[0, 1]));
+    /// assert_eq!(space.value(&all, &state)?, 5);
+    /// assert_eq!(space.cut(&all), Err(Refusal::Minimum));
+    /// # Ok::<(), Refusal>(())
+    /// ```
     pub fn value(&self, listing: &Listing, state: &State) -> Result<u64, Refusal> {
         let mut value = 0;
         let facts = state.facts.as_flattened();

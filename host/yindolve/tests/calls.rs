@@ -25,13 +25,12 @@ fn pair(number: usize) -> Label {
 
 #[test]
 fn refusals_by_number() {
-    for (number, refusal) in (1..25).chain(26..29).zip(Refusal::ALL.iter().copied()) {
+    for (number, refusal) in (1..29).zip(Refusal::ALL.iter().copied()) {
         assert_eq!(refusal.number(), number);
         assert_eq!(Refusal::from_number(number), Some(refusal));
     }
-    assert_eq!(Refusal::ALL.len(), 27);
+    assert_eq!(Refusal::ALL.len(), 28);
     assert_eq!(Refusal::from_number(0), None);
-    assert_eq!(Refusal::from_number(25), None);
     assert_eq!(Refusal::from_number(99), None);
     let error: Box<dyn std::error::Error> = Refusal::Listing.into();
     assert_eq!(error.to_string(), "refused, 14 (listing): the words are no listing, or the arity list is wrong");
@@ -57,11 +56,11 @@ fn labels_and_terms() {
     let label = Label::new(1, &[Term::Constant(15), Term::Parameter(3)]);
     assert_eq!(label.terms(&arities()).collect::<Vec<_>>(), [Term::Constant(15), Term::Parameter(3)]);
     assert_eq!(Label::equality(Term::Variable(63), Term::Variable(63)), None);
-    assert_eq!((0..256).filter_map(Term::from_number).filter(|term| Term::from_number(term.number()) == Some(*term)).count(), 84);
-    let six = [Term::Variable(63), Term::Constant(1), Term::Parameter(0), Term::Variable(0), Term::Constant(15), Term::Variable(62)];
+    assert_eq!((0..256).filter_map(Term::from_number).filter(|term| Term::from_number(term.number()) == Some(*term)).count(), 148);
+    let six = [Term::Variable(63), Term::Constant(1), Term::Parameter(0), Term::Variable(0), Term::Minimum(63), Term::Variable(62)];
     let arities = Arities::new(&[PLACES as u64]).unwrap();
     assert_eq!(Label::new(1, &six).terms(&arities).collect::<Vec<_>>(), six);
-    assert_eq!(Label::new(1, &six).word(), (1 << 48) + (127 << 40) + (1 << 32) + (16 << 24) + (64 << 16) + (15 << 8) + 126);
+    assert_eq!(Label::new(1, &six).word(), (1 << 48) + (127 << 40) + (1 << 32) + (16 << 24) + (64 << 16) + (191 << 8) + 126);
 }
 
 /// Words with labels of four places, of six bits each, variables from 32 on, and the old mark of leaves.
@@ -121,7 +120,7 @@ fn operations() {
     assert_eq!(space.value(&freed, &State { objects: 1, ..state }), Err(Refusal::Range));
 }
 
-/// p(x), or p(y): what y finds, x could have found. Parameters, equality, constants and too many variables are refused.
+/// p(x), or p(y): what y finds, x could have found. Parameters, equality, constants, minimum variables and too many variables are refused.
 #[test]
 fn reductions() {
     let mut space = Space::new(arities());
@@ -132,6 +131,7 @@ fn reductions() {
     assert_eq!(space.reduce(&either), Ok(test(of(0))));
     assert_eq!(space.reduce(&test(Label::new(2, &[Term::Parameter(0)]))), Err(Refusal::Unbound));
     assert_eq!(space.reduce(&test(Label::new(2, &[Term::Constant(0)]))), Err(Refusal::Kinds));
+    assert_eq!(space.reduce(&test(Label::new(2, &[Term::Minimum(0)]))), Err(Refusal::Kinds));
     assert_eq!(space.reduce(&test(Label::equality(Term::Variable(0), Term::Variable(1)).unwrap())), Err(Refusal::Kinds));
     assert_eq!(space.reduce(&conjunction((0..5).map(|i| Label::new(2, &[Term::Variable(i)])))), Err(Refusal::Runs));
     let related = [(0, 1), (2, 0), (2, 1)].map(|(one, other)| Label::new(1, &[Term::Variable(one), Term::Variable(other)]));
@@ -143,6 +143,35 @@ fn reductions() {
     let mut rows = 7;
     assert_eq!(calls::reduce(arities().words(), either.words(), &mut [], &mut [], &mut rows), Err(Refusal::Buffer));
     assert_eq!((rows, calls::reduce(&[], either.words(), &mut [], &mut [], &mut rows)), (7, Err(Refusal::Listing)));
+}
+
+/// One van for all shelves: apart, freed and valued kind by kind; a max is done apart, and a cut is refused.
+#[test]
+fn minimum_variables() {
+    let mut space = Space::new(arities());
+    let test = |one, other| {
+        let label = Label::new(1, &[one, other]);
+        Listing::from_rows(&arities(), [Row::Leaf(5), Row::Leaf(0), Row::Branch { label, yes: 0, no: 1 }]).unwrap()
+    };
+    let all = test(Term::Variable(7), Term::Minimum(9));
+    let state = |facts: &[[u64; 2]]| State { objects: 2, facts: facts.iter().map(|two| fact(1, two)).collect(), ..State::default() };
+    assert_eq!(space.value(&all, &state(&[[0, 0], [1, 1]])), Ok(0));
+    assert_eq!(space.value(&all, &state(&[[0, 0], [0, 1]])), Ok(5));
+    assert_eq!(space.value(&all, &State { objects: 1_000, ..State::default() }), Ok(0));
+    assert_eq!(space.value(&all, &State { objects: 1_001, ..State::default() }), Err(Refusal::Valuations));
+    let twice = space.sum_apart(&all, &all).unwrap().listing;
+    let tests: Vec<Label> = twice.rows().filter_map(|row| if let Row::Branch { label, .. } = row { Some(label) } else { None }).collect();
+    for (v, label) in [(0, tests[tests.len() - 1]), (1, tests[0])] {
+        assert_eq!(label, Label::new(1, &[Term::Variable(v), Term::Minimum(v)]));
+    }
+    assert_eq!(space.value(&twice, &state(&[[0, 0], [0, 1]])), Ok(10));
+    assert_eq!(space.max_shared(&all, &all), space.max_apart(&all, &all));
+    assert_eq!(space.sum_shared(&all, &Listing::from_rows(&arities(), [Row::Leaf(0)]).unwrap()).unwrap().listing, all);
+    assert_eq!(space.free(&test(Term::Parameter(0), Term::Minimum(63)), 4), Ok(test(Term::Variable(0), Term::Minimum(63))));
+    assert_eq!(space.free(&all, 4), Ok(test(Term::Variable(11), Term::Minimum(9))));
+    assert_eq!(space.cut(&all), Err(Refusal::Minimum));
+    let truth = Listing::from_rows(&arities(), [Row::Leaf(1), Row::Leaf(0), Row::Branch { label: tests[0], yes: 0, no: 1 }]).unwrap();
+    assert_eq!(space.regress(&all, Truths::new().set(1, &truth)), Err(Refusal::Unbound));
 }
 
 #[test]

@@ -34,6 +34,7 @@ fn sizes() {
         ("YINDOLVE_TERM_BITS", calls::TERM_BITS as u64),
         ("YINDOLVE_FIRST_PARAMETER", calls::FIRST_PARAMETER),
         ("YINDOLVE_FIRST_VARIABLE", calls::FIRST_VARIABLE),
+        ("YINDOLVE_FIRST_MINIMUM", calls::FIRST_MINIMUM),
         ("YINDOLVE_ARITIES", calls::ARITIES as u64),
         ("YINDOLVE_ROW_WORDS", calls::ROW_WORDS as u64),
         ("YINDOLVE_ROWS", (calls::RESULT_WORDS / calls::ROW_WORDS) as u64),

@@ -4,7 +4,7 @@ use crate::arguments::Arguments;
 use crate::input::Text;
 use crate::model::load;
 use crate::output::{apart_from, try_file, write_file, Out};
-use crate::planning::{Plan, Planner, Progress, Step};
+use crate::planning::{uncut, Plan, Planner, Progress, Step};
 use crate::table::Table;
 use crate::trouble::{message, remark, Outcome, Trouble, Verdict};
 use crate::twin::reason;
@@ -112,8 +112,8 @@ fn table(plan: &Plan, reduce: bool) -> Table {
 
 /// Where not all could be cut or reduced.
 fn notes(plan: &Plan, out: &mut Out) -> Result<(), Trouble> {
-    for fault in plan.steps.iter().filter_map(|step| step.uncut.as_ref()) {
-        out.text(&format!("not all was cut: {}\n", reason(fault)))?;
+    for (how, fault) in uncut(&plan.steps) {
+        out.text(&format!("{how}: {}\n", reason(fault)))?;
     }
     for fault in plan.steps.iter().filter_map(|step| step.unreduced.as_ref()) {
         out.text(&format!("not reduced: {}\n", reason(fault)))?;

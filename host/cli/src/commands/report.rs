@@ -7,11 +7,11 @@ use crate::drawing::{escaped, svg::svg, Figure};
 use crate::input::{Lines, Text};
 use crate::model::{load, Loaded};
 use crate::output::{apart_from, Out};
-use crate::planning::{diagram, Plan, Planner, Step};
+use crate::planning::{diagram, uncut, Plan, Planner, Step};
 use crate::samples::{asked, made, Sample};
 use crate::trouble::{message, Outcome, Trouble, Verdict};
 use crate::twin::reason;
-use reference::declarations::Declarations;
+use reference::declarations::{Declarations, DEFAULT_DISCOUNT, DEFAULT_TOTAL};
 use reference::explain::{counted, grouped};
 use reference::names::Names;
 use std::ffi::OsString;
@@ -126,8 +126,8 @@ fn declarations_list(declared: &Declarations) -> String {
         let variants = action.variants.iter().map(|variant| variant.name.as_str()).collect::<Vec<&str>>().join(", ");
         format!("{}{parameters} ({variants})", action.name)
     };
-    let (gain, divisor) = declared.discount.unwrap_or((1, 1));
-    let total = declared.total.unwrap_or(100);
+    let (gain, divisor) = declared.discount.unwrap_or(DEFAULT_DISCOUNT);
+    let total = declared.total.unwrap_or(DEFAULT_TOTAL);
     item("Constants", declared.constants.join(", "))
         + &item("Predicates, with how many objects each is about", predicates)
         + &item("Actions, with their outcomes", declared.actions.iter().map(action).collect::<Vec<String>>().join("; "))
@@ -172,10 +172,14 @@ fn cuts_part(plan: &Plan) -> String {
         let heads = "<th>after step</th><th>cuts</th><th class=\"words\">row, edge, and the rows left, in turn</th>";
         text += &format!("<table>\n<tr>{heads}</tr>\n{rows}</table>\n");
     }
-    for fault in plan.steps.iter().filter_map(|step| step.uncut.as_ref()) {
-        text += &format!("<p class=\"note\">Not all was cut. {}</p>\n", escaped(&reason(fault)));
+    for (how, fault) in uncut(&plan.steps) {
+        text += &format!("<p class=\"note\">{}. {}</p>\n", capital(how), escaped(&reason(fault)));
     }
     text
+}
+
+fn capital(words: &str) -> String {
+    words[..1].to_uppercase() + &words[1..]
 }
 
 fn cuts_row(step: &Step) -> String {
@@ -195,9 +199,10 @@ fn diagram_part(model: &Loaded) -> String {
     let figure = Figure { diagram: &value, names, steps: engine.steps(), scale: engine.scale() };
     // a large picture keeps its size and is scrolled
     let fit = if value.rows().len() <= FIT_ROWS { " fit" } else { "" };
+    let inside = if value.has_minimum() { ", and then those for %v0, %v1, .. so that it is lowest" } else { "" };
     format!(
         "<p>From the root down: a solid line where the test is true, a dashed one where it is not. Objects for ?v0, ?v1, .. are chosen so \
-         that the leaf is highest; that leaf divided by {} is the state's value.</p>\n<div class=\"picture{fit}\">\n{}</div>\n",
+         that the leaf is highest{inside}; that leaf divided by {} is the state's value.</p>\n<div class=\"picture{fit}\">\n{}</div>\n",
         engine.scale(),
         svg(&figure)
     )

@@ -42,7 +42,7 @@ fn place(line: &str, name: &str) -> (u64, u64) {
 }
 
 const REASONS: &str = "\
-FILE:3:12: form (1): \"Stock\" holds upper-case letters; a name has 1 to 15 lower-case letters or digits, a letter first; ?name is a variable, !name a parameter
+FILE:3:12: form (1): \"Stock\" holds upper-case letters; a name has 1 to 15 lower-case letters or digits, a letter first; ?name is a variable, %name a minimum variable, !name a parameter
 FILE:7:14: name (2): no predicate \"stok\" is declared; did you mean \"stock\"? Otherwise declare it on an earlier line: (predicate stok ARITY)
 FILE:8:14: arity (3): \"stock\" is of arity 1, and here it has 2 terms; (predicate stock 1) says how many; write as many or change the declaration
 FILE:9:20: unbound (6): the reward names a parameter, \"!d\"; a reward names constants and variables only: write ?name

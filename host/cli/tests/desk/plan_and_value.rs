@@ -169,6 +169,40 @@ fn without_cuts() {
     assert!(ended.err.contains("stopped after 3 of 9 steps: space (9): step 4: "), "{}", ended.err);
 }
 
+/// Nothing is cut where there is a minimum variable, which is told once; both kinds are counted, and the values are there.
+#[test]
+fn minimum_variables() {
+    let here = folder("minimum");
+    let out = here.join("out").display().to_string();
+    let ended = desk(&["plan", &example("allshelves.txt"), "--steps", "2", "--reduce", "-o", &out]);
+    let table = "step  rows  cuts  reductions  rows left  variables  paths\n0        4     -           -          4          2      3\n1       36     0           0         36          7 ";
+    assert!(ended.out.starts_with(table), "{}", ended.out);
+    assert_eq!(
+        ended.out.matches("nothing is cut: minimum (25): after step 1: the value diagram of 36 rows tests ").count(),
+        1,
+        "{}",
+        ended.out
+    );
+    assert!(ended.out.contains("; a cut is for diagrams without minimum variables; values are right uncut, so go on\n"), "{}", ended.out);
+    assert!(ended.out.contains("not reduced: kinds (26): after step 1: "), "{}", ended.out);
+    assert!(ended.err.contains("stopped after 1 of 2 steps: space (9): step 2: "), "{}", ended.err);
+    assert!(!ended.err.contains("cut until 16"), "{}", ended.err);
+    let uncut = desk(&["plan", &example("allshelves.txt"), "--steps", "1", "--uncut", "-o", &out]);
+    assert!(!uncut.out.contains("nothing is cut"), "{}", uncut.out);
+    let lines = "(true shelf 2)\n(true shelf 3)\n(true here 0)\n(true serves 0 2)\n(true serves 1 3)\n";
+    let [small, large] = [(7, "small.txt"), (8, "large.txt")].map(|(n, name)| file(&here, name, format!("(objects {n})\n{lines}")));
+    let valued = desk(&["value", &out, &small, &large]);
+    assert!(valued.out.contains("108  1   16"), "{}", valued.out);
+    assert!(
+        valued.err.contains("8^7 = 2,097,152 valuations, 8 objects and 7 variables, are more than 1,000,000, and no tables"),
+        "{}",
+        valued.err
+    );
+    assert!(desk(&["best", &example("allshelves.txt"), &small]).out.contains("load 3"));
+    let report = desk(&["report", &example("allshelves.txt"), "--steps", "1"]).out;
+    assert!(report.contains("Nothing is cut. minimum (25): ") && report.contains("those for %v0, %v1, .. so that it is lowest"));
+}
+
 /// What cuts leave and a reduction does not; where it is refused the plan goes on.
 #[test]
 fn with_reductions() {

@@ -67,6 +67,17 @@ fn steps_and_states_that_are_refused() {
     assert_eq!(desk(&["report", &example("logistics.txt")]).status, 0);
 }
 
+/// Without the lines total and discount are 100 and 19/20, and the page says so.
+#[test]
+fn defaults() {
+    let here = folder("report_defaults");
+    let model = file(&here, "model.txt", "(reward 1)\n(action wait)\n(variant only 100)\n(start)\n");
+    let page = desk(&["report", &model, "--steps", "1"]).out;
+    for line in ["Weights add up to: 100", "A step later counts: 19/20", "Each step multiplies the scale by: 2,000"] {
+        assert!(page.contains(&format!("<li>{line}</li>")), "{line}");
+    }
+}
+
 fn browser() -> Option<&'static str> {
     let there = |name: &&str| {
         Command::new(name).arg("--version").stdout(Stdio::null()).stderr(Stdio::null()).status().is_ok_and(|status| status.success())
