@@ -1,6 +1,6 @@
 #!/usr/bin/env bash
 # texts.sh [PROGRAM]: the program's processor time, input by a pipe, least of five: document 01's run, as a hundredth of 100 processes, and lines of each kind, moves, logs,
-# spreads, reductions and forms among them, many times over in one text; a line's time is the difference to the same text without them.
+# spreads, reductions, forms and values with minimum variables among them, many times over in one text; a line's time is the difference to the same text without them.
 set -euo pipefail
 program=$(realpath "${1:-target/bin/yindolve}")
 cd "$(dirname "$0")/.."
@@ -119,3 +119,8 @@ line "(reduce) of relay's diagram, 7 rows and two variables" 2000 "$relay"$'\n(b
 line '(reduce) that forms 100,000 combinations' 5 "$(sed '/(start)/q' host/corpus/combinations-at-100000.txt)" '(reduce)'
 line '(text) of 19 rows, a form of 364 bytes' 20000 "$parts"$'\n(backup)\n'"$cuts" '(text)'
 line '(text) of 540 rows, refused (19)' 5000 "$parts"$'\n(backup)\n'"$cuts"$'\n(backup)' '(text)'
+
+# values with minimum variables (document 02, L12), by all valuations of both kinds: one van for all shelves, which none is, so that each van is asked about
+shelves=$(sed '/(start)/q' examples/allshelves.txt)
+line '(value) of allshelves, 60 objects, one variable of each kind' 200 "$shelves"$'\n(objects 60)\n'"$(seq -f '(true shelf %g)' 30 59; for v in $(seq 0 29); do echo "(true serves $v $((v + 30)))"; done)" '(value)'
+line '(value) of allshelves after a backup, 7 objects, four and three' 3 "$shelves"$'\n(backup)\n(objects 7)\n'"$(seq -f '(true shelf %g)' 3 6)"$'\n(true here 0)\n(true serves 0 3)\n(true serves 1 4)' '(value)'
