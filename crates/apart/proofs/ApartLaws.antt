@@ -1,6 +1,6 @@
 -- Laws of `combine_moved` and `combine_apart`: both operands' rows are formed as renamed, and their last rows combined.
 use mathlib.Core.Path.{_≡_, refl, sym, ap, ap₂, _∙_, subst}
-use mathlib.Core.Bool.{Bool, true, false, cond, _||_}
+use mathlib.Core.Bool.{Bool, true, cond}
 use mathlib.Core.List.{List, []}
 use Prim.Native.Nat.{ℕ, zero, suc, _+_, _≤_, _<_}
 use native.Mathlib.Omega.{arith}
@@ -9,7 +9,7 @@ use mir.Syntax.{w64}
 use lib.ListN.{length, getD, replicate, length-replicate}
 use lib.Dec.{eqb, ltb}
 use borrow.Author.Tests.{ltb-false, lt-ltb, le-ltb}
-use Rattle.basics.specs.Tests.{Flag, isTrue, isFalse, flag, Either, one, other}
+use Rattle.basics.specs.Tests.{Flag, isTrue, isFalse, flag, Either, one, other, neither}
 use Rattle.basics.specs.Members.{mem, clash}
 use Rattle.label.specs.Limits.{firstVariable, variableCount, firstMinimum, minimumCount}
 use Rattle.refusal.specs.declared.Refusal.the-variants.{Variables, Space}
@@ -261,11 +261,6 @@ module _ (usedX usedY : List ℕ) where
     p,
     r,
   )
-
--- both tests say no
-neither : (a b : Bool) → (a || b) ≡ false → (a ≡ false) × (b ≡ false)
-neither true b e = clash refl e
-neither false b e = (refl, e)
 
 -- `combine_apart`
 module _ {ar x y out work : List ℕ} (g : Callable ar x y out work) {usedX usedY : List ℕ} (u : Used ar (diagramOf x) usedX) (v : Used ar (diagramOf y) usedY)

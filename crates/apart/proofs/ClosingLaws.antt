@@ -1,16 +1,11 @@
 -- The map that `close_map` writes closes up, or moves apart, the diagram whose terms are marked. Laws of `enter` and `close_up`.
-use mathlib.Core.Path.{_≡_, sym, ap, ap₂, _∙_, subst}
-use mathlib.Core.Logic.{_⊎_, inl, inr}
-use mathlib.Core.Bool.{true}
+use mathlib.Core.Path.{_≡_, sym, ap, _∙_, subst}
 use mathlib.Core.List.{List, _++_, map}
-use Prim.Native.Nat.{ℕ, _+_, _*_, _≤_, _<_}
+use Prim.Native.Nat.{ℕ, _*_, _≤_}
 use native.Mathlib.Omega.{arith}
 use lib.ListN.{length, take, drop}
 use lib.Seq.{length-take-le}
-use lib.Dec.{eqb}
-use Rattle.basics.specs.Members.{mem}
 use Rattle.label.specs.Limits.{firstVariable, firstMinimum, termEnd}
-use Rattle.label.specs.LabelLaws.{term-below}
 use Rattle.label.specs.Renamings.{mapOf, renamed, numbering, Increasing, EachIn}
 use Rattle.label.specs.RenamingLaws.{Numbered}
 use Rattle.diagram.specs.Diagram.{Diagram}
@@ -23,10 +18,11 @@ use Rattle.listing.specs.Used.{Used}
 use Rattle.rename.specs.Relabelling.{Named, KindsFit}
 use Rattle.rename.specs.RelabelLaws.{labels-weaken, relabel-agree, relabel-rows}
 use Rattle.rename.specs.TermLaws.{each-weaken, renamed-agree}
-use Rattle.rename.specs.VariableLaws.{variable-occurs, minimum-occurs, terms-numbered, named-labels, renaming-keeps}
+use Rattle.rename.specs.VariableLaws.{terms-numbered, named-labels, renaming-keeps}
 use Rattle.rename.specs.ClosingLaws.{closing-increasing, closed-fit}
-use Rattle.rename.specs.Maps.{tabled, isUsed, Marks, closeAt}
-use Rattle.rename.specs.MapLaws.{used-occurs, used-variables, used-minimums, close-terms, close-numbers, marks-closable}
+use Rattle.rename.specs.Maps.{tabled, Marks, closeAt}
+use Rattle.rename.specs.MapLaws.{close-terms, marks-closable}
+use Rattle.rename.specs.RenamedWords.{agreeing, close-agrees}
 use Rattle.rename.specs.Calls as rename
 use Rattle.store.specs.declared.Formed.{Formed}
 use Rattle.store.specs.Space.{diagramsOf, Formation, addAll}
@@ -50,23 +46,10 @@ module _ (ar : List ℕ) (d : Diagram) (good : Good ar d) (used : List ℕ) (mar
   P = Numbered (variables ar d) (minimums ar d)
 
   agrees : (t : ℕ) → P t → mapOf Ts t ≡ numbering (variables ar d) (minimums ar d) m n t
-  agrees t p =
-      close-numbers used m n rest t (term-below t (p .0)) (go (p .1))
-      ∙ ap₂ (λ (us vs : List ℕ). numbering us vs m n t) (used-variables ar d used marks) (used-minimums ar d used marks)
-    where
-      go : (t < firstVariable) ⊎ (((t < firstMinimum) × (mem eqb t (variables ar d) ≡ true)) ⊎ ((firstMinimum ≤ t) × (mem eqb t (minimums ar d) ≡ true)))
-          → (t < firstVariable) ⊎ (isUsed used t ≡ true)
-      go (inl x) = inl x
-      go (inr (inl x)) = inr (used-occurs ar d used marks t (term-below t (p .0)) ∙ variable-occurs ar d t (x .1) .0)
-      go (inr (inr x)) = inr (used-occurs ar d used marks t (term-below t (p .0)) ∙ minimum-occurs ar d t (x .1) .0)
+  agrees = close-agrees ar d used marks m n rest
 
   increasing : Increasing P (mapOf Ts)
-  increasing =
-      let inc = closing-increasing ar m n d fit good in
-      record {
-        terms = λ t p. rw (agrees t p) (inc .terms t p);
-        order = λ t u p q k. rw (agrees t p, agrees u q) (inc .order t u p q k);
-      }
+  increasing = agreeing P (numbering (variables ar d) (minimums ar d) m n) (mapOf Ts) (closing-increasing ar m n d fit good) agrees
 
   -- the written map is one of terms
   pub map-terms : rename.Closable used m n used

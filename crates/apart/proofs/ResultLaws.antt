@@ -8,9 +8,6 @@ use lib.Seq.{take-append-seam, drop-append-seam}
 use lib.Dec.{leb}
 use borrow.Author.Tests.{lt-ltb, le-ltb, leb-true, leb-false, lt-leb, le-leb}
 use Rattle.basics.specs.Tests.{Flag, isTrue, isFalse, flag}
-use Rattle.label.specs.Limits.{firstVariable, firstMinimum}
-use Rattle.label.specs.Renamings.{numbering}
-use Rattle.label.specs.RenamingLaws.{Numbered, numbering-increasing}
 use Rattle.refusal.specs.declared.Refusal.the-variants.{Space}
 use Rattle.diagram.specs.Sizes.{mostRows, spaceRows}
 use Rattle.diagram.specs.Diagram.{Diagram}
@@ -19,10 +16,10 @@ use Rattle.diagram.specs.Listing.{listing, diagramOf, Good}
 use Rattle.diagram.specs.ListingLaws.{length-listing}
 use Rattle.diagram.specs.ListingOfDiagram.{valid-listing, diagram-listing}
 use Rattle.diagram.specs.Validity.{tree}
-use Rattle.diagram.specs.Variables.{variables, minimums, closedFrom, closed}
+use Rattle.diagram.specs.Variables.{closed}
 use Rattle.apply.specs.declared.Combined.the-variants.{Done, Refused}
 use Rattle.apply.specs.Combination.{written}
-use Rattle.rename.specs.VariableLaws.{variables-few, minimums-few, terms-numbered, renaming-rows}
+use Rattle.rename.specs.ClosingLaws.{closed-count as fine-count}
 use Rattle.write.specs.declared.Listed.{Listed}
 use Rattle.write.specs.declared.Listed.the-variants.{Rows, TooMany}
 use Rattle.write.specs.Numbering.{Unmarked}
@@ -33,12 +30,7 @@ use Rattle.apart.specs.Results.{Closable, Regular, Writable, resultAnswe
 
 -- closing up keeps the count of rows
 pub closed-count : (ar : List ℕ) (d : Diagram) → Regular ar d → length (rows (closed ar d)) ≡ length (rows d)
-unfolding closed closedFrom
-closed-count ar d g =
-    renaming-rows ar (g .arities) (Numbered (variables ar d) (minimums ar d)) (numbering (variables ar d) (minimums ar d) firstVariable firstMinimum)
-    (numbering-increasing (variables ar d) (minimums ar d) firstVariable firstMinimum
-    (omega arith) (omega (arith, variables-few ar d)) (omega arith) (omega (arith, minimums-few ar d)))
-    d (g .fine) (terms-numbered ar d (g .fine))
+closed-count ar d g = fine-count ar d (g .arities) (g .fine)
 
 regular-good : (ar : List ℕ) (d : Diagram) → Regular ar d → length (rows d) ≤ mostRows → Good ar d
 regular-good ar d g h = record { arities = g .arities; ordered = g .ordered; reduced = g .reduced; fine = g .fine; few = h }

@@ -22,13 +22,6 @@ ghost use Rattle.label.specs.Limits.{termEnd};
 ghost use Rattle.apart.specs.Operands.{Enterable, asideOf, Separable};
 ghost use Rattle.apart.specs.Results.{Closable, Writable, ResultWritten, Joinable, JoinedUp};
 
-// Pairs that room is first made for, and the words of such a plan.
-pub const FEW: usize = 320;
-
-pub const FEW_WORDS: usize = 1600;
-// Words of a plan of 4,096 pairs.
-pub const PLAN_WORDS: usize = 20480;
-
 // A word for each term.
 const TERMS: usize = Term::END as usize;
 
@@ -102,7 +95,7 @@ fn join_many(
     requires { ⌜ Joinable (now arities) (now space) (now heads) (now links) count i j (now out) ⌝ }
     ensures { λ r. ⌜ JoinedUp op (now (arities .entry)) (tree (now (space .entry)) i) (tree (now (space .entry)) j) (diagramsOf (now (space .entry)) count) (now (out .entry)) r (now (out .exit)) ⌝ }
 {
-    let mut plan = [0u64; PLAN_WORDS];
+    let mut plan = [0u64; combine::PLAN_WORDS];
     let mut index = [0u16; plan::BUCKETS];
     let joined = combine::join_rows(
         &mut plan,
@@ -140,15 +133,15 @@ fn join(
     requires { ⌜ Joinable (now arities) (now space) (now heads) (now links) count i j (now out) ⌝ }
     ensures { λ r. ⌜ JoinedUp op (now (arities .entry)) (tree (now (space .entry)) i) (tree (now (space .entry)) j) (diagramsOf (now (space .entry)) count) (now (out .entry)) r (now (out .exit)) ⌝ }
 {
-    if count > 2 * FEW {
+    if count > 2 * combine::FEW {
         return join_many(op, arities, i, j, space, heads, links, count, out);
     }
-    let mut plan = [0u64; FEW_WORDS];
+    let mut plan = [0u64; combine::FEW_WORDS];
     let mut index = [0u16; plan::BUCKETS];
     let joined = combine::join_rows(
         &mut plan,
         &mut index,
-        FEW,
+        combine::FEW,
         i,
         j,
         op,

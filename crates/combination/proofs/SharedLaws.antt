@@ -41,11 +41,11 @@ use Rattle.store.proofs.SpaceLaws.{holds-none, diagrams-none, length-diagrams}
 use Rattle.combine.specs.RowPairs.{Operand}
 use Rattle.combine.specs.Paired.{Pairable}
 use Rattle.combine.specs.Joining.{rowsAfter, joinAnswer, countAfter, diagramsAfter, Joint}
-use Rattle.combine.specs.Calls.{Callable, Answered}
+use Rattle.combine.specs.Calls.{few, Callable, Answered}
 use Rattle.combine.specs.declared.Joined.{Joined}
 use Rattle.combine.specs.declared.Joined.the-variants.{At, TooManyPairs, TooHighValue, NoRoom}
 use Rattle.combination.specs.Finishing.{rowsIn, finishAnswer, finishWords, Finishable, Finished}
-use Rattle.combination.specs.Sharing.{few, Operands, SharedIn}
+use Rattle.combination.specs.Sharing.{Operands, SharedIn}
 
 -- finish_rows
 module _ {n p : ℕ} {s out : List ℕ} (able : Finishable (At 0 n p) s out) where

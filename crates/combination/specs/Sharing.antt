@@ -11,10 +11,6 @@ use Rattle.store.specs.Space.{diagramsOf, Holds}
 use Rattle.combine.specs.Joining.{joinAnswer, countAfter, diagramsAfter}
 use Rattle.combine.specs.declared.Joined.{Joined}
 
--- the pairs that room is first made for
-abbrev pub few : ℕ
-few = 320
-
 -- two listings, and a working space
 pub record Operands (ar x y work : List ℕ) : Type 0 where
   pub first : Valid ar x

@@ -14,9 +14,9 @@ ghost use Rattle.apply.specs.Combination.{doneAs, combineAnswer, combineResult}
 ghost use Rattle.apply.specs.declared.Operation.the-variants.{Max};
 ghost use Rattle.apply.specs.declared.Names.the-variants.{Shared};
 ghost use Rattle.combine.specs.declared.Joined.the-variants.{At};
-ghost use Rattle.combine.specs.Calls.{Callable, Answered};
+ghost use Rattle.combine.specs.Calls.{few, Callable, Answered};
 ghost use Rattle.combination.specs.Finishing.{Finishable, Finished};
-ghost use Rattle.combination.specs.Sharing.{few, Operands, SharedIn};
+ghost use Rattle.combination.specs.Sharing.{Operands, SharedIn};
 ghost use Rattle.diagram.specs.Sizes.{mostPairs};
 
 // Writes the result that the first rows of the space are, unless they are too many.
@@ -49,7 +49,7 @@ fn shared_few(op: Operation, arities: &[u64], x: &[u64], y: &[u64], work: &mut [
     requires { ⌜ Operands (now arities) (now x) (now y) (now work) ⌝ }
     ensures { λ r. ⌜ SharedIn op few (now (x .entry)) (now (y .entry)) (now (work .entry)) r (now (work .exit)) ⌝ }
 {
-    let mut plan = [0u64; apart::FEW_WORDS];
+    let mut plan = [0u64; combine::FEW_WORDS];
     let mut index = [0u16; plan::BUCKETS];
     let mut heads = [0u16; table::BUCKETS];
     let mut links = [0u16; diagram::SPACE_ROWS];
@@ -60,7 +60,7 @@ fn shared_few(op: Operation, arities: &[u64], x: &[u64], y: &[u64], work: &mut [
         y,
         &mut plan,
         &mut index,
-        apart::FEW,
+        combine::FEW,
         i,
         j,
         op,
@@ -76,7 +76,7 @@ fn shared_many(op: Operation, arities: &[u64], x: &[u64], y: &[u64], work: &mut 
     requires { ⌜ Operands (now arities) (now x) (now y) (now work) ⌝ }
     ensures { λ r. ⌜ SharedIn op mostPairs (now (x .entry)) (now (y .entry)) (now (work .entry)) r (now (work .exit)) ⌝ }
 {
-    let mut plan = [0u64; apart::PLAN_WORDS];
+    let mut plan = [0u64; combine::PLAN_WORDS];
     let mut index = [0u16; plan::BUCKETS];
     let mut heads = [0u16; table::BUCKETS];
     let mut links = [0u16; diagram::SPACE_ROWS];
@@ -127,10 +127,10 @@ pub fn combine_shared(
     requires { ⌜ Callable (now arities) (now x) (now y) (now out) (now work) ⌝ }
     ensures { λ r. ⌜ Answered op Shared (now (arities .entry)) (now (x .entry)) (now (y .entry)) (now (out .entry)) r (now (out .exit)) ⌝ }
 {
-    if x.len() / 3 > apart::FEW {
+    if x.len() / 3 > combine::FEW {
         return combine_many(op, arities, x, y, out, work);
     }
-    if y.len() / 3 > apart::FEW {
+    if y.len() / 3 > combine::FEW {
         return combine_many(op, arities, x, y, out, work);
     }
     let r = shared_few(op, arities, x, y, work);

@@ -1,6 +1,6 @@
 -- The ways through the functions that form a plan's rows.
 use mathlib.Core.Path.{_≡_, refl, sym, ap, ap₂, _∙_, subst}
-use mathlib.Core.Bool.{Bool, true, false, _||_, _&&_, true≢false}
+use mathlib.Core.Bool.{true, false, _||_}
 use mathlib.Core.List.{List, [], _∷_, _++_}
 use Prim.Native.Nat.{ℕ, zero, suc, _+_, _*_, _-_, _≤_, _<_}
 use native.Mathlib.Omega.{arith}
@@ -9,7 +9,7 @@ use lib.Seq.{getD-set-same, getD-set-other, getD-at, take-all, take-append-le}
 use lib.Dec.{eqb, ltb}
 use borrow.Author.Tests.{le-leb, lt-leb}
 use native.Mathlib.Numerals.{add-one}
-use Rattle.basics.specs.Tests.{Flag, isTrue, isFalse, flag, Cmp, below, equal, above, cmp}
+use Rattle.basics.specs.Tests.{Flag, isTrue, isFalse, flag, Cmp, below, equal, above, cmp, neither}
 use Rattle.label.specs.Limits.{leafMark}
 use Rattle.diagram.specs.Diagram.{Diagram, leaf}
 use Rattle.diagram.specs.Sizes.{spaceRows, highestValue}
@@ -29,7 +29,7 @@ use Rattle.store.specs.Space.{diagramsOf, Holds, Children, formAnswer, Formatio
 use Rattle.store.specs.declared.Formed.{Formed}
 use Rattle.store.specs.declared.Formed.the-variants.{Row, Full}
 use Rattle.combine.specs.Callers.{Calm, EntryOf}
-use Rattle.combine.specs.Results.{isEndAt, resultAt, results, exceedsAt, exceeds, Sound}
+use Rattle.combine.specs.Results.{isEndAt, resultAt, results, exceedsAt, exceeds}
 use Rattle.combine.specs.ResultLaws.{end-at, branch-at, result-end, result-branch, results-none, results-more, length-results, add-all-none, add-all-snoc, exceeds-more}
 use Rattle.combine.specs.Forming.{entryAt, ChildRows, FormableAt, Forming, Formable, lastOf}
 
@@ -86,14 +86,6 @@ module _ {op : Operation} {ws : List ℕ} {n k count : ℕ} (f : FormableAt op w
           (λ i. node (el i) (tree s (eh′ i)) (tree s (ew′ i))) ∙ sym (entry-branch op ws s k (branch-at ws k (λ q. n≢ (el ∙ q)))) in
           subst (λ (d : Diagram). Formation d (add d (diagramsOf s count)) r s′ h′ l′) z p
 
-or-left : (a b : Bool) → (a || b) ≡ false → a ≡ false
-or-left true b e = e
-or-left false b e = refl
-
-or-right : (a b : Bool) → (a || b) ≡ false → b ≡ false
-or-right true b e = absurd (true≢false e)
-or-right false b e = e
-
 at-end : (op : ℕ → ℕ → ℕ) (ws : List ℕ) (k : ℕ) → isEndAt ws k ≡ true → exceedsAt op ws k ≡ false → ltb highestValue (op (firstAt ws k) (secondAt ws k)) ≡ false
 unfolding exceedsAt
 at-end op ws k d e = rw d at e
@@ -108,8 +100,8 @@ calm-entry op ws (suc n) k h e d = go (cmp k n) (calm-entry op ws n k)
 
     go : Cmp k n → (k < n → exceeds op ws n ≡ false → isEndAt ws k ≡ true → ltb highestValue (op (firstAt ws k) (secondAt ws k)) ≡ false)
         → ltb highestValue (op (firstAt ws k) (secondAt ws k)) ≡ false
-    go (below q) ih = ih q (or-left (exceeds op ws n) _ both) d
-    go (equal q) ih = at-end op ws k d (ap (exceedsAt op ws) q ∙ or-right (exceeds op ws n) _ both)
+    go (below q) ih = ih q (neither (exceeds op ws n) _ both .0) d
+    go (equal q) ih = at-end op ws k d (ap (exceedsAt op ws) q ∙ neither (exceeds op ws n) _ both .1)
     go (above q) ih = absurd (omega arith)
 
 -- form: the rows that were there stay

@@ -12,6 +12,10 @@ use Rattle.apply.specs.declared.Names.{Names}
 use Rattle.apply.specs.declared.Combined.{Combined}
 use Rattle.apply.specs.Combination.{combination, diagramAnswer, written}
 
+-- the pairs that room is first made for
+abbrev pub few : ℕ
+few = 320
+
 -- two listings, and room for a result and for the rows formed
 pub record Callable (ar x y out work : List ℕ) : Type 0 where
   pub first : Valid ar x

@@ -18,6 +18,14 @@ ghost use Rattle.store.specs.Space.{diagramsOf, Holds, Formation, addAll};
 ghost use Rattle.combine.specs.Callers.{Values, Calm, EntryOf};
 ghost use Rattle.combine.specs.Forming.{entryAt, FormableAt, Formable, lastOf};
 
+// Pairs that a call first makes room for, which suffices for most: clearing room for all costs more than the walk of few. The words of a plan of so many pairs,
+// and of one with room for all.
+pub const FEW: usize = 320;
+
+pub const FEW_WORDS: usize = FEW * plan::ENTRY_WORDS;
+
+pub const PLAN_WORDS: usize = diagram::PAIRS * plan::ENTRY_WORDS;
+
 // Both factors up to this have a product of at most 10^18.
 const SMALL: u64 = 1000000000;
 

@@ -14,7 +14,7 @@ use Rattle.basics.specs.Tests.{Flag, isTrue, isFalse, flag, or-one, or-other}
 use Rattle.basics.specs.Members.{mem, clash}
 use Rattle.table.proofs.TableLaws.{clean-made}
 use Rattle.label.specs.Limits.{predicateCount}
-use Rattle.diagram.specs.Sizes.{resultWords, spaceWords, mostRows}
+use Rattle.diagram.specs.Sizes.{resultWords, spaceWords, mostRows, mostPairs}
 use Rattle.diagram.specs.Diagram.{Diagram, leaf, same}
 use Rattle.diagram.specs.Rows.{rows}
 use Rattle.diagram.specs.Words.{isListing}
@@ -22,10 +22,11 @@ use Rattle.diagram.specs.Listing.{listing, diagramOf}
 use Rattle.diagram.specs.ListingLaws.{length-listing}
 use Rattle.diagram.specs.ListingValid.{listing-is-valid}
 use Rattle.diagram.specs.Validity.{tree}
-use Rattle.store.specs.Space.{diagramsOf}
+use Rattle.store.specs.Space.{diagramsOf, Holds}
 use Rattle.store.proofs.SpaceLaws.{holds-none, diagrams-none}
 use Rattle.regression.specs.declared.Regressed.{Regressed}
 use Rattle.regression.specs.declared.Regressed.the-variants.{Done, Refused}
+use Rattle.regression.specs.Calls.{Run}
 use Rattle.regression.specs.Regression.{regression, regressed}
 use Rattle.regression.specs.RegressCall.{truthsOf, areListings, regressOutcome, regressedAs, writtenAs, regressAnswer, regressResult}
 use Rattle.regression.specs.RegressCallLaws.{regress-value, regress-truths, regress-buffer, regress-checks, regress-refused, result-refused}
@@ -34,12 +35,12 @@ use Rattle.write.specs.declared.Listed.the-variants.{Rows, TooMany}
 use Rattle.write.specs.Writing.{Writable, writeAnswer, writeWords, WritePost}
 use Rattle.row_steps.specs.declared.Stepped.{Stepped}
 use Rattle.row_steps.specs.declared.Stepped.the-variants.{Row, Refused as Stopped}
-use Rattle.row_steps.specs.Running.{Valued, Ready, Ran}
-use Rattle.row_steps.specs.RunLaws.{ran-answer}
+use Rattle.row_steps.specs.Running.{Valued, Ready, countThen, isCrowded, Ran}
+use Rattle.row_steps.specs.RunLaws.{uncrowded-final, all-final}
 use Rattle.truths.specs.declared.Verdict.{Verdict}
 use Rattle.truths.specs.declared.Verdict.the-variants.{Passed, Refused as Faulty}
 use Rattle.truths.specs.TruthChecks.{Lent, Judged, afterVerdict}
-use Rattle.regress.specs.Regressing.{Regressable, Listable, held, Answered}
+use Rattle.regress.specs.Regressing.{Regressable, Runnable, Roomy, Regresses, Listable, held, Answered}
 
 -- `list_result`
 pub list-writable : {s out : List ℕ} {count root : ℕ} → Listable s count root out → (n m : ℕ) → 2048 ≤ n → 2048 ≤ m → Writable s count root (replicate n 0) (replicate m 0) out
@@ -88,36 +89,62 @@ module _ {s : List ℕ} {root : ℕ} {out : List ℕ} {r : Listed} {marks′ out
           let w : out′ ≡ out = p .words ∙ words-many D out q in
           rw (lt-ltb mostRows (length (rows D)) (leb-false _ _ q)) (record { answer = refl; result = w })
 
--- `regress_checked`
-module _ {ar value truths spans out work : List ℕ} (c : Regressable ar value truths spans out work) where
-  pub checked-lent : Lent ar truths spans
-  checked-lent = record { arities = listing-is-valid ar value (c .value-listing) .arities; listings = c .truth-listings }
-
+-- `regress_in`
+module _ {ar value truths spans work : List ℕ} (c : Runnable ar value truths spans work) {limit : ℕ} {plan : List ℕ} (p : Roomy limit plan) where
   empty-valued : Valued (diagramsOf work 0)
   empty-valued = record { most = λ v h. clash (subst (λ (rs : List Diagram). mem same (leaf v) rs ≡ true) (diagrams-none work) h) refl }
 
-  pub checked-ready : (a b d e : ℕ) → 20480 ≤ a → 4096 ≤ b → 2048 ≤ d → 2048 ≤ e → Ready (replicate a 0) (replicate b 0) work (replicate d 0) (replicate e 0) 0
-  checked-ready a b d e h i j k = record {
+  pub in-ready : (b d e : ℕ) → 4096 ≤ b → 2048 ≤ d → 2048 ≤ e → Ready plan (replicate b 0) limit work (replicate d 0) (replicate e 0) 0
+  in-ready b d e i j k = record {
     space = record { holds = holds-none work (replicate d 0) (replicate e 0) (c .room) (rw length-replicate k) (clean-made d j); values = empty-valued };
     clean = record { slots = rw length-replicate i; zeros = λ n l. getD-replicate b n 0 0 (omega arith) };
-    words = rw length-replicate h;
+    words = p .words;
+    most = p .most;
   }
 
-  module _ {r : Stepped} {s heads links index : List ℕ} (x : Ran (regression ar (truthsOf truths spans) (diagramOf value)) work 0 r s heads links index) where
+pub in-regresses : (m : Run Diagram) {limit : ℕ} {work : List ℕ} {r : Stepped} {s heads links index : List ℕ} → Ran limit m work 0 r s heads links index
+    → Regresses limit m r s
+in-regresses m {limit} {work} {r} {s} {heads} {links} {index} x = record {
+  heads = heads;
+  links = links;
+  holds = x .space .holds;
+  row = λ i n e. let g = x .row i n e in (g .there, subst (λ (rs : List Diagram). m rs ≡ ok (tree s i, diagramsOf s n)) (diagrams-none work) (g .gives));
+  refusal = λ w n e f. subst (λ (rs : List Diagram). m rs ≡ refused w) (diagrams-none work) (x .refusal w n e f);
+}
+
+-- `regress_space`
+pub uncrowded-regresses : {m : Run Diagram} {limit limit′ : ℕ} {r : Stepped} {s : List ℕ} {b : Bool} → Regresses limit m r s → b ≡ isCrowded r → b ≡ false
+    → Regresses limit′ m r s
+uncrowded-regresses {m} {limit} {limit′} {r} {s} {b} x p q = record {
+  heads = x .heads;
+  links = x .links;
+  holds = x .holds;
+  row = x .row;
+  refusal = λ w n e f. x .refusal w n e (uncrowded-final r w n (sym p ∙ q) e);
+}
+
+-- `regress_checked`
+module _ {ar value truths spans out work : List ℕ} (c : Regressable ar value truths spans out work) where
+  pub checked-runnable : Runnable ar value truths spans work
+  checked-runnable = record {
+    value-listing = c .value-listing;
+    lent = record { arities = listing-is-valid ar value (c .value-listing) .arities; listings = c .truth-listings };
+    room = c .room;
+  }
+
+  module _ {r : Stepped} {s : List ℕ} (x : Regresses mostPairs (regression ar (truthsOf truths spans) (diagramOf value)) r s) where
     pub checked-listable : {root n : ℕ} → r ≡ Row root n → Listable s n root out
     checked-listable {root} {n} e =
-        let h = ran-answer e x .space .holds in
-        record { written = h .written; words = h .table .words; within = h .table .within; root-there = x .row root n e .there; room = c .result }
+        let h : Holds s (x .heads) (x .links) n = subst (λ (y : Stepped). Holds s (x .heads) (x .links) (countThen y)) e (x .holds) in
+        record { written = h .written; words = h .table .words; within = h .table .within; root-there = x .row root n e .0; room = c .result }
 
     gives-row : {root n : ℕ} → r ≡ Row root n → regressed ar (truthsOf truths spans) (diagramOf value) ≡ held (tree s root)
     unfolding regressed
-    gives-row {root} {n} e = ap (λ (o : Outcome (Diagram × List Diagram)). andThen o (λ z. held (z .0)))
-        (subst (λ (rs : List Diagram). regression ar (truthsOf truths spans) (diagramOf value) rs ≡ ok (tree s root, diagramsOf s n)) (diagrams-none work) (x .row root n e .gives))
+    gives-row {root} {n} e = ap (λ (o : Outcome (Diagram × List Diagram)). andThen o (λ z. held (z .0))) (x .row root n e .1)
 
     gives-refusal : {w : Refusal} {n : ℕ} → r ≡ Stopped w n → regressed ar (truthsOf truths spans) (diagramOf value) ≡ refused w
     unfolding regressed
-    gives-refusal {w} {n} e = ap (λ (o : Outcome (Diagram × List Diagram)). andThen o (λ z. held (z .0)))
-        (subst (λ (rs : List Diagram). regression ar (truthsOf truths spans) (diagramOf value) rs ≡ refused w) (diagrams-none work) (x .refusal w n e))
+    gives-refusal {w} {n} e = ap (λ (o : Outcome (Diagram × List Diagram)). andThen o (λ z. held (z .0))) (x .refusal w n e (all-final w))
 
     pub checked-done : {root n : ℕ} → r ≡ Row root n → {q : Regressed} {out′ : List ℕ} → Answered (held (tree s root)) q out out′
         → (q ≡ regressedAs (regressed ar (truthsOf truths spans) (diagramOf value))) × (out′ ≡ writtenAs (regressed ar (truthsOf truths spans) (diagramOf value)) out)

@@ -65,8 +65,8 @@ keeps-later {ar} {T} m {s₀} {count} {i} {n} {s} {kept} y g k = record { places
           (known-later (formedTruth ar T l) (tree s₀ j) (diagramsOf s₀ count) (diagramsOf s n) (y .grows (diagramsOf s₀ count) (tree s i) (diagramsOf s n) (g .gives)) (x .known));
     }
 
-kept-ran : {ar : List ℕ} {T : Truths} (m : Run Diagram) {s₀ : List ℕ} {count : ℕ} {r : Stepped} {s heads links index kept : List ℕ} → Steady m
-    → Ran m s₀ count r s heads links index → Keeps ar T s₀ count kept → KeptRan ar T m s₀ count r s heads links index kept
+kept-ran : {limit : ℕ} {ar : List ℕ} {T : Truths} (m : Run Diagram) {s₀ : List ℕ} {count : ℕ} {r : Stepped} {s heads links index kept : List ℕ} → Steady m
+    → Ran limit m s₀ count r s heads links index → Keeps ar T s₀ count kept → KeptRan limit ar T m s₀ count r s heads links index kept
 kept-ran m y x k = record { ran = x; keeps = λ i n e. keeps-later m y (x .row i n e) k }
 
 -- no label stands in an empty slot
@@ -85,15 +85,15 @@ pub asking-below : {ar truths spans : List ℕ} {l : ℕ} → Asking ar truths s
 unfolding unpacked predicateOf
 asking-below {ar} {truths} {spans} {l} q = omega (arith, label-fits ar l (q .label) .predicate-fits)
 
-module _ {ar truths spans : List ℕ} {l : ℕ} (q : Asking ar truths spans l) {plan index s₀ heads₀ links₀ : List ℕ} {count : ℕ} (ready : Ready plan index s₀ heads₀ links₀ count)
-    {kept : List ℕ} (k : Keeps ar (truthsOf truths spans) s₀ count kept) {h : ℕ} (inside : h < slots) where
+module _ {ar truths spans : List ℕ} {l : ℕ} (q : Asking ar truths spans l) {plan index s₀ heads₀ links₀ : List ℕ} {limit count : ℕ}
+    (ready : Ready plan index limit s₀ heads₀ links₀ count) {kept : List ℕ} (k : Keeps ar (truthsOf truths spans) s₀ count kept) {h : ℕ} (inside : h < slots) where
   abbrev T : Truths
   T = truthsOf truths spans
 
   stands : getD kept h 0 / slotBase ≡ l → Stands ar T s₀ count l (getD kept h 0 % slotBase)
   stands e = subst (λ (x : ℕ). Stands ar T s₀ count x (getD kept h 0 % slotBase)) e (k .each h inside (rw e (q .label)))
 
-  pub kept-hit : getD kept h 0 / slotBase ≡ l → KeptRan ar T (formedTruth ar T l) s₀ count (Row (getD kept h 0 % slotBase) count) s₀ heads₀ links₀ index kept
+  pub kept-hit : getD kept h 0 / slotBase ≡ l → KeptRan limit ar T (formedTruth ar T l) s₀ count (Row (getD kept h 0 % slotBase) count) s₀ heads₀ links₀ index kept
   kept-hit e =
       let x = stands e in
       let a = known-again (formedTruth ar T l) (tree s₀ (getD kept h 0 % slotBase)) (diagramsOf s₀ count) (steady-formed ar T l) (x .known) (in-room (ready .space .holds)) in
@@ -103,13 +103,13 @@ module _ {ar truths spans : List ℕ} {l : ℕ} (q : Asking ar truths spans l) {
           space = ready .space;
           clean = ready .clean;
           row = λ i n z. let p : getD kept h 0 % slotBase ≡ i = cc in let r : count ≡ n = cc in rw (← p, ← r) g;
-          refusal = λ w n z. let y : _≡_ {A = ℕ} 0 1 = cc in absurd (omega arith);
+          refusal = λ w n z x. let y : _≡_ {A = ℕ} 0 1 = cc in absurd (omega arith);
         };
         keeps = λ i n z. let r : count ≡ n = cc in rw (← r) k;
       }
 
-  module _ {r : Stepped} {s heads links index′ : List ℕ} (x : Ran (formedTruth ar (truthsOf truths spans) l) s₀ count r s heads links index′) where
-    pub kept-stop : {w : Refusal} {n : ℕ} → r ≡ Refused w n → KeptRan ar T (formedTruth ar T l) s₀ count r s heads links index′ kept
+  module _ {r : Stepped} {s heads links index′ : List ℕ} (x : Ran limit (formedTruth ar (truthsOf truths spans) l) s₀ count r s heads links index′) where
+    pub kept-stop : {w : Refusal} {n : ℕ} → r ≡ Refused w n → KeptRan limit ar T (formedTruth ar T l) s₀ count r s heads links index′ kept
     kept-stop {w} {n} e = record { ran = x; keeps = λ i m z. let a : Refused w n ≡ Row i m = sym e ∙ z in let y : _≡_ {A = ℕ} 0 1 = cc in absurd (omega arith) }
 
     module _ {i n : ℕ} (e : r ≡ Row i n) where
@@ -122,7 +122,7 @@ module _ {ar truths spans : List ℕ} {l : ℕ} (q : Asking ar truths spans l) {
       pub kept-place : h < length kept
       kept-place = omega (arith, k .places)
 
-      pub kept-new : KeptRan ar T (formedTruth ar T l) s₀ count (Row i n) s heads links index′ (set kept h (l * slotBase + i))
+      pub kept-new : KeptRan limit ar T (formedTruth ar T l) s₀ count (Row i n) s heads links index′ (set kept h (l * slotBase + i))
       kept-new = record { ran = ran-answer e x; keeps = λ j m z. let p : n ≡ m = cc in rw (← p) keeps }
         where
           older : Keeps ar T s n kept
@@ -167,11 +167,11 @@ step-formed m t f = fun-ext (λ rs. whole (m rs))
     whole (ok r) = again (r .0) (r .1) (form (r .0) (r .1)) refl
     whole (refused w) = refl
 
-module _ {ar truths spans : List ℕ} (lent : Lent ar truths spans) {count : ℕ} {task : Task} (t : Tasked ar count task) {plan index s₀ heads₀ links₀ : List ℕ}
-    (ready : Ready plan index s₀ heads₀ links₀ count) {kept : List ℕ} (k : Keeps ar (truthsOf truths spans) s₀ count kept) where
+module _ {ar truths spans : List ℕ} (lent : Lent ar truths spans) {count : ℕ} {task : Task} (t : Tasked ar count task) {plan index s₀ heads₀ links₀ : List ℕ} {limit : ℕ}
+    (ready : Ready plan index limit s₀ heads₀ links₀ count) {kept : List ℕ} (k : Keeps ar (truthsOf truths spans) s₀ count kept) where
   pub row-leaf-kept : {v : ℕ} {f : Formed} {r : Stepped} {s heads links : List ℕ} → task ≡ Leaf v
       → Formation (leaf v) (add (leaf v) (diagramsOf s₀ count)) f s heads links → r ≡ toldAs f
-      → KeptRan ar (truthsOf truths spans) (taskRun (truthAt ar (truthsOf truths spans)) s₀ task) s₀ count r s heads links index kept
+      → KeptRan limit ar (truthsOf truths spans) (taskRun (truthAt ar (truthsOf truths spans)) s₀ task) s₀ count r s heads links index kept
   row-leaf-kept {v} e z q = kept-ran (taskRun (truthAt ar (truthsOf truths spans)) s₀ task) (rw e (steady-form (leaf v))) (leaf-told (truthAt ar (truthsOf truths spans)) ready t e z q) k
 
   module _ {l high low : ℕ} (e : task ≡ Branch l high low) where
@@ -179,14 +179,14 @@ module _ {ar truths spans : List ℕ} (lent : Lent ar truths spans) {count : ℕ
     row-asking = record { lent = lent; label = t .label l high low e .0 }
 
     module _ {r₁ : Stepped} {s₁ heads₁ links₁ index₁ kept₁ : List ℕ}
-        (x : KeptRan ar (truthsOf truths spans) (formedTruth ar (truthsOf truths spans) l) s₀ count r₁ s₁ heads₁ links₁ index₁ kept₁) where
+        (x : KeptRan limit ar (truthsOf truths spans) (formedTruth ar (truthsOf truths spans) l) s₀ count r₁ s₁ heads₁ links₁ index₁ kept₁) where
       from-bind : {r : Stepped} {s heads links index′ : List ℕ}
-          → Ran (bind (formedTruth ar (truthsOf truths spans) l) (λ y. rowStep y (tree s₀ high) (tree s₀ low))) s₀ count r s heads links index′
-          → Ran (taskRun (truthAt ar (truthsOf truths spans)) s₀ task) s₀ count r s heads links index′
+          → Ran limit (bind (formedTruth ar (truthsOf truths spans) l) (λ y. rowStep y (tree s₀ high) (tree s₀ low))) s₀ count r s heads links index′
+          → Ran limit (taskRun (truthAt ar (truthsOf truths spans)) s₀ task) s₀ count r s heads links index′
       from-bind z = rw e (ran-cast (step-formed (truthAt ar (truthsOf truths spans) l) (tree s₀ high) (tree s₀ low)) z)
 
       pub row-stop : {w : Refusal} {n : ℕ} → r₁ ≡ Refused w n
-          → KeptRan ar (truthsOf truths spans) (taskRun (truthAt ar (truthsOf truths spans)) s₀ task) s₀ count r₁ s₁ heads₁ links₁ index₁ kept₁
+          → KeptRan limit ar (truthsOf truths spans) (taskRun (truthAt ar (truthsOf truths spans)) s₀ task) s₀ count r₁ s₁ heads₁ links₁ index₁ kept₁
       row-stop {w} {n} p = record {
         ran = from-bind (ran-answer (sym p) (ran-stop (formedTruth ar (truthsOf truths spans) l) (λ y. rowStep y (tree s₀ high) (tree s₀ low)) (ran-answer p (x .ran))));
         keeps = λ i m z. let a : Refused w n ≡ Row i m = sym p ∙ z in let y : _≡_ {A = ℕ} 0 1 = cc in absurd (omega arith);
@@ -196,7 +196,7 @@ module _ {ar truths spans : List ℕ} (lent : Lent ar truths spans) {count : ℕ
         gave₁ : Gave (formedTruth ar (truthsOf truths spans) l) s₀ count test n s₁
         gave₁ = x .ran .row test n p
 
-        pub row-ready : {plan₁ : List ℕ} → length plan₁ ≡ length plan → Ready plan₁ index₁ s₁ heads₁ links₁ n
+        pub row-ready : {plan₁ : List ℕ} → length plan₁ ≡ length plan → Ready plan₁ index₁ limit s₁ heads₁ links₁ n
         row-ready o = ready-on ready (x .ran) o p
 
         pub row-three : Three n test high low
@@ -206,8 +206,8 @@ module _ {ar truths spans : List ℕ} (lent : Lent ar truths spans) {count : ℕ
           low-there = omega (arith, gave₁ .more, t .label l high low e .2);
         }
 
-        pub row-done : {r : Stepped} {s heads links index′ : List ℕ} → Ran (rowStep (tree s₁ test) (tree s₁ high) (tree s₁ low)) s₁ n r s heads links index′
-            → KeptRan ar (truthsOf truths spans) (taskRun (truthAt ar (truthsOf truths spans)) s₀ task) s₀ count r s heads links index′ kept₁
+        pub row-done : {r : Stepped} {s heads links index′ : List ℕ} → Ran limit (rowStep (tree s₁ test) (tree s₁ high) (tree s₁ low)) s₁ n r s heads links index′
+            → KeptRan limit ar (truthsOf truths spans) (taskRun (truthAt ar (truthsOf truths spans)) s₀ task) s₀ count r s heads links index′ kept₁
         row-done {r} {s} {heads} {links} {index′} z = record {
           ran = from-bind (ran-bind (formedTruth ar (truthsOf truths spans) l) (λ y. rowStep y (tree s₀ high) (tree s₀ low)) gave₁
               (ran-cast (λ i. rowStep (tree s₁ test) (gave₁ .stays high (t .label l high low e .1) i) (gave₁ .stays low (t .label l high low e .2) i)) z));

@@ -210,18 +210,18 @@ module _ {T : ℕ → Run Diagram} {ar ws s₀ : List ℕ} {count : ℕ} {s numb
       pub going-tasked : Tasked ar n task
       going-tasked = rw t (tasked (flag (eqb (labelAt ws k) leafMark)))
 
-      module _ {r : Stepped} {s′ heads′ links′ index′ : List ℕ} (x : Ran (taskRun T s task) s n r s′ heads′ links′ index′) where
-        run : Ran (taskRun T s (taskAt ws numbers k)) s n r s′ heads′ links′ index′
-        run = subst (λ (y : Task). Ran (taskRun T s y) s n r s′ heads′ links′ index′) t x
+      module _ {limit : ℕ} {r : Stepped} {s′ heads′ links′ index′ : List ℕ} (x : Ran limit (taskRun T s task) s n r s′ heads′ links′ index′) where
+        run : Ran limit (taskRun T s (taskAt ws numbers k)) s n r s′ heads′ links′ index′
+        run = subst (λ (y : Task). Ran limit (taskRun T s y) s n r s′ heads′ links′ index′) t x
 
-        pub going-stop : {w : Refusal} {c : ℕ} → r ≡ Refused w c → Ran (overRows T (diagramOf ws)) s₀ count r s′ heads′ links′ index′
+        pub going-stop : {w : Refusal} {c : ℕ} → r ≡ Refused w c → Ran limit (overRows T (diagramOf ws)) s₀ count r s′ heads′ links′ index′
         going-stop {w} {c} e = record {
           space = x .space;
           clean = x .clean;
           row = λ i m q. let z : Refused w c ≡ Row i m = sym e ∙ q in let y : _≡_ {A = ℕ} 0 1 = cc in absurd (omega arith);
-          refusal = λ v m q.
+          refusal = λ v m q y.
               ap (λ (m : Run Diagram). m (diagramsOf s₀ count)) (over-rows T (diagramOf ws))
-              ∙ rw (going-next, run .refusal v m q);
+              ∙ rw (going-next, run .refusal v m q y);
         }
 
         module _ {i c : ℕ} (e : r ≡ Row i c) where
@@ -264,12 +264,13 @@ module _ {T : ℕ → Run Diagram} {ar ws s₀ : List ℕ} {count : ℕ} {s numb
               each j l (above q) = absurd (omega arith)
 
   -- all rows are done
-  pub going-end : {heads links index : List ℕ} → length ws / 3 ≤ k → Space s heads links n → Clean index → Ran (overRows T (diagramOf ws)) s₀ count (Row root n) s heads links index
-  going-end {heads} {links} {index} h z c = record {
+  pub going-end : {limit : ℕ} {heads links index : List ℕ} → length ws / 3 ≤ k → Space s heads links n → Clean index
+      → Ran limit (overRows T (diagramOf ws)) s₀ count (Row root n) s heads links index
+  going-end {limit} {heads} {links} {index} h z c = record {
     space = z;
     clean = c;
     row = λ i m q. let a : root ≡ i = cc in let b : n ≡ m = cc in rw (← a, ← b) all;
-    refusal = λ w m q. let y : _≡_ {A = ℕ} 0 1 = cc in absurd (omega arith);
+    refusal = λ w m q x. let y : _≡_ {A = ℕ} 0 1 = cc in absurd (omega arith);
   }
     where
       is-k : k ≡ rowCount ws
@@ -301,15 +302,16 @@ module _ {T : ℕ → Run Diagram} {ar ws s₀ : List ℕ} {count : ℕ} {s numb
       }
 
 -- a leaf's row
-pub leaf-told : (T : ℕ → Run Diagram) {ar : List ℕ} {plan index s heads links : List ℕ} {count v : ℕ} {task : Task} {f : Formed} {r : Stepped} {s′ heads′ links′ : List ℕ}
-    → Ready plan index s heads links count → Tasked ar count task → task ≡ Leaf v
-    → Formation (leaf v) (add (leaf v) (diagramsOf s count)) f s′ heads′ links′ → r ≡ toldAs f → Ran (taskRun T s task) s count r s′ heads′ links′ index
-leaf-told T {ar} {plan} {index} {s} {heads} {links} {count} {v} {task} {f} {r} {s′} {heads′} {links′} ready t e z q = rw e (go f refl)
+pub leaf-told : (T : ℕ → Run Diagram) {ar : List ℕ} {plan index s heads links : List ℕ} {limit count v : ℕ} {task : Task} {f : Formed} {r : Stepped}
+    {s′ heads′ links′ : List ℕ}
+    → Ready plan index limit s heads links count → Tasked ar count task → task ≡ Leaf v
+    → Formation (leaf v) (add (leaf v) (diagramsOf s count)) f s′ heads′ links′ → r ≡ toldAs f → Ran limit (taskRun T s task) s count r s′ heads′ links′ index
+leaf-told T {ar} {plan} {index} {s} {heads} {links} {limit} {count} {v} {task} {f} {r} {s′} {heads′} {links′} ready t e z q = rw e (go f refl)
   where
-    go : (x : Formed) → f ≡ x → Ran (form (leaf v)) s count r s′ heads′ links′ index
-    go (FormedRow i n) p = subst (λ (y : Stepped). Ran (form (leaf v)) s count y s′ heads′ links′ index) (sym (q ∙ ap toldAs p))
+    go : (x : Formed) → f ≡ x → Ran limit (form (leaf v)) s count r s′ heads′ links′ index
+    go (FormedRow i n) p = subst (λ (y : Stepped). Ran limit (form (leaf v)) s count y s′ heads′ links′ index) (sym (q ∙ ap toldAs p))
         (formed-ran s count (leaf v) (t .value v e) (ready .space .values) (ready .clean) (row-known (leaf-onto s count z) p))
-    go Full p = subst (λ (y : Stepped). Ran (form (leaf v)) s count y s′ heads′ links′ index) (sym (q ∙ ap toldAs p))
+    go Full p = subst (λ (y : Stepped). Ran limit (form (leaf v)) s count y s′ heads′ links′ index) (sym (q ∙ ap toldAs p))
         (full-ran s count (leaf v) (t .value v e) (ready .space .values) (ready .clean) (full-known (leaf-onto s count z) p))
 
 -- a replacement's row
@@ -325,16 +327,19 @@ module _ {ar map : List ℕ} (m : Mapping ar map) {count : ℕ} {task : Task} (t
     label = λ k z. label-below ar (k .packed) (moved-label ar (mapOf map) l (moved-to ar (m .arities) (mapOf map) (m .keeps) l (t .label l high low e .0)) k (sym q ∙ z));
   }
 
-  pub branch-replaced : {x : Test} {s : List ℕ} {r : Stepped} {s′ heads′ links′ index′ : List ℕ} → x ≡ moved ar (mapOf map) l
-      → Ran (rowStep (testDiagram x) (tree s high) (tree s low)) s count r s′ heads′ links′ index′ → Ran (taskRun (replacedBy ar map) s task) s count r s′ heads′ links′ index′
-  branch-replaced {x} {s} {r} {s′} {heads′} {links′} {index′} q z =
-      rw e (subst (λ (y : Test). Ran (rowStep (testDiagram y) (tree s high) (tree s low)) s count r s′ heads′ links′ index′) q z)
+  pub branch-replaced : {limit : ℕ} {x : Test} {s : List ℕ} {r : Stepped} {s′ heads′ links′ index′ : List ℕ} → x ≡ moved ar (mapOf map) l
+      → Ran limit (rowStep (testDiagram x) (tree s high) (tree s low)) s count r s′ heads′ links′ index′
+      → Ran limit (taskRun (replacedBy ar map) s task) s count r s′ heads′ links′ index′
+  branch-replaced {limit} {x} {s} {r} {s′} {heads′} {links′} {index′} q z =
+      rw e (subst (λ (y : Test). Ran limit (rowStep (testDiagram y) (tree s high) (tree s low)) s count r s′ heads′ links′ index′) q z)
 
 -- the tables behind a step
-pub ready-on : {m : Run Diagram} {plan index s heads links : List ℕ} {count : ℕ} {r : Stepped} {plan′ s′ heads′ links′ index′ : List ℕ} → Ready plan index s heads links count
-    → Ran m s count r s′ heads′ links′ index′ → length plan′ ≡ length plan → {i c : ℕ} → r ≡ Row i c → Ready plan′ index′ s′ heads′ links′ c
-ready-on {m} {plan} {index} {s} {heads} {links} {count} {r} {plan′} {s′} {heads′} {links′} {index′} a x l {i} {c} e = record {
+pub ready-on : {m : Run Diagram} {plan index s heads links : List ℕ} {limit count : ℕ} {r : Stepped} {plan′ s′ heads′ links′ index′ : List ℕ}
+    → Ready plan index limit s heads links count
+    → Ran limit m s count r s′ heads′ links′ index′ → length plan′ ≡ length plan → {i c : ℕ} → r ≡ Row i c → Ready plan′ index′ limit s′ heads′ links′ c
+ready-on {m} {plan} {index} {s} {heads} {links} {limit} {count} {r} {plan′} {s′} {heads′} {links′} {index′} a x l {i} {c} e = record {
   space = subst (λ (y : Stepped). Space s′ heads′ links′ (countThen y)) e (x .space);
   clean = x .clean;
   words = omega (arith, a .words);
+  most = a .most;
 }

@@ -135,24 +135,26 @@ module _ {ar ws : List ℕ} {l : ℕ} (u : Usable ar ws l) where
     same-map t (equal h) = past t (omega arith)
     same-map t (above h) = past t (omega arith)
 
-    pub argued-ran : {s₀ : List ℕ} {count : ℕ} {r : Stepped} {s heads links index : List ℕ} → Ran (replacement ar (mapOf map) (diagramOf ws)) s₀ count r s heads links index
-        → Ran (replacement ar (argument Ts) (diagramOf ws)) s₀ count r s heads links index
+    pub argued-ran : {limit : ℕ} {s₀ : List ℕ} {count : ℕ} {r : Stepped} {s heads links index : List ℕ}
+        → Ran limit (replacement ar (mapOf map) (diagramOf ws)) s₀ count r s heads links index
+        → Ran limit (replacement ar (argument Ts) (diagramOf ws)) s₀ count r s heads links index
     argued-ran x = ran-cast (ap (λ (σ : ℕ → ℕ). replacement ar σ (diagramOf ws)) (fun-ext (λ t. same-map t (cmp t termEnd)))) x
 
 -- the answer of forming d, as that of a step
-pub formed-told : (d : Diagram) → AtMost highestValue d → {plan index s₀ heads₀ links₀ : List ℕ} {count : ℕ} → Ready plan index s₀ heads₀ links₀ count
+pub formed-told : (d : Diagram) → AtMost highestValue d → {plan index s₀ heads₀ links₀ : List ℕ} {limit count : ℕ} → Ready plan index limit s₀ heads₀ links₀ count
     → {f : Formed} {s heads links : List ℕ} → Formation d (onto d (diagramsOf s₀ count)) f s heads links → {r : Stepped} → r ≡ toldAs f
-    → Ran (form d) s₀ count r s heads links index
-formed-told d m {plan} {index} {s₀} {heads₀} {links₀} {count} ready {f} {s} {heads} {links} x {r} t = subst (λ (y : Stepped). Ran (form d) s₀ count y s heads links index) (sym t) (go f refl)
+    → Ran limit (form d) s₀ count r s heads links index
+formed-told d m {plan} {index} {s₀} {heads₀} {links₀} {limit} {count} ready {f} {s} {heads} {links} x {r} t =
+    subst (λ (y : Stepped). Ran limit (form d) s₀ count y s heads links index) (sym t) (go f refl)
   where
-    go : (g : Formed) → f ≡ g → Ran (form d) s₀ count (toldAs f) s heads links index
+    go : (g : Formed) → f ≡ g → Ran limit (form d) s₀ count (toldAs f) s heads links index
     go (FormedRow i n) e = rw e (formed-ran s₀ count d m (ready .space .values) (ready .clean) (row-known x e))
     go Full e = rw e (full-ran s₀ count d m (ready .space .values) (ready .clean) (full-known x e))
 
 -- `form_truth`: T stands in the space once its rows are formed
-pub ran-formed : {m : Run Diagram} {s₀ : List ℕ} {count : ℕ} {r : Stepped} {s heads links index : List ℕ} → Ran m s₀ count r s heads links index
-    → Ran (bind m form) s₀ count r s heads links index
-ran-formed {m} {s₀} {count} {r} {s} {heads} {links} {index} x = record {
+pub ran-formed : {limit : ℕ} {m : Run Diagram} {s₀ : List ℕ} {count : ℕ} {r : Stepped} {s heads links index : List ℕ} → Ran limit m s₀ count r s heads links index
+    → Ran limit (bind m form) s₀ count r s heads links index
+ran-formed {limit} {m} {s₀} {count} {r} {s} {heads} {links} {index} x = record {
   space = x .space;
   clean = x .clean;
   row = λ i n e.
@@ -164,7 +166,7 @@ ran-formed {m} {s₀} {count} {r} {s} {heads} {links} {index} x = record {
         gives = rw (g .gives) (form-old (tree s i) (diagramsOf s n) (there-mem h i (g .there)) (in-room h));
         stays = g .stays;
       };
-  refusal = λ w n e. bind-refused m form (diagramsOf s₀ count) w (x .refusal w n e);
+  refusal = λ w n e y. bind-refused m form (diagramsOf s₀ count) w (x .refusal w n e y);
 }
 
 module _ {ar truths spans : List ℕ} {l : ℕ} (q : Asking ar truths spans l) where
@@ -198,19 +200,19 @@ module _ {ar truths spans : List ℕ} {l : ℕ} (q : Asking ar truths spans l) w
       pub truth-usable : b ≡ true → {ws : List ℕ} → ws ≡ truthWords truths spans p → Usable ar ws l
       truth-usable h {ws} w = record { listing = rw w (has-some (sym told-b ∙ h) .1); label = q .label }
 
-      pub truth-used : b ≡ true → {ws : List ℕ} → ws ≡ truthWords truths spans p → {s₀ : List ℕ} {count : ℕ} {r : Stepped} {s heads links index : List ℕ}
-          → Ran (replacement ar (argument (termsOf ar (unpacked l))) (diagramOf ws)) s₀ count r s heads links index
-          → Ran (formedTruth ar (truthsOf truths spans) l) s₀ count r s heads links index
+      pub truth-used : b ≡ true → {ws : List ℕ} → ws ≡ truthWords truths spans p → {limit : ℕ} {s₀ : List ℕ} {count : ℕ} {r : Stepped} {s heads links index : List ℕ}
+          → Ran limit (replacement ar (argument (termsOf ar (unpacked l))) (diagramOf ws)) s₀ count r s heads links index
+          → Ran limit (formedTruth ar (truthsOf truths spans) l) s₀ count r s heads links index
       unfolding truthAt truthFrom
       truth-used h {ws} w x =
           let z : truthOf (truthsOf truths spans) (predicateOf l) ≡ some (diagramOf ws) = rw (← e, w) (has-some (sym told-b ∙ h) .0) in
           ran-formed (ran-cast (sym (ap (λ (o : Option Diagram). truthFrom ar o l) z)) x)
 
-      pub truth-stays : b ≡ false → {plan index s₀ heads₀ links₀ : List ℕ} {count : ℕ} → Ready plan index s₀ heads₀ links₀ count
+      pub truth-stays : b ≡ false → {plan index s₀ heads₀ links₀ : List ℕ} {limit count : ℕ} → Ready plan index limit s₀ heads₀ links₀ count
           → {f : Formed} {s heads links : List ℕ}
           → Formation (testDiagram (Is (record { packed = l }))) (onto (testDiagram (Is (record { packed = l }))) (diagramsOf s₀ count)) f s heads links
-          → {r : Stepped} → r ≡ toldAs f → Ran (formedTruth ar (truthsOf truths spans) l) s₀ count r s heads links index
+          → {r : Stepped} → r ≡ toldAs f → Ran limit (formedTruth ar (truthsOf truths spans) l) s₀ count r s heads links index
       unfolding truthAt truthFrom testDiagram
-      truth-stays h {plan} {index} {s₀} {heads₀} {links₀} {count} ready {f} {s} {heads} {links} x {r} t =
+      truth-stays h {plan} {index} {s₀} {heads₀} {links₀} {limit} {count} ready {f} {s} {heads} {links} x {r} t =
           let z : truthOf (truthsOf truths spans) (predicateOf l) ≡ none = rw (← e) (has-no (sym told-b ∙ h)) in
           ran-cast (sym (ap (λ (o : Option Diagram). bind (truthFrom ar o l) form) z)) (formed-told (labelTest l) (one-most (labelTest l) (most-test (Is (record { packed = l })))) ready x t)

@@ -57,7 +57,7 @@ pub record Keeps (ar : List ℕ) (truths : Truths) (s : List ℕ) (count : ℕ) 
   pub places : length kept ≡ slots
   pub each : (b : ℕ) → b < slots → isLabel ar (slotLabel kept b) ≡ true → Stands ar truths s count (slotLabel kept b) (slotRow kept b)
 
--- what running the step m ensures where T is kept
-pub record KeptRan (ar : List ℕ) (truths : Truths) (m : Run Diagram) (s₀ : List ℕ) (count : ℕ) (r : Stepped) (s heads links index kept : List ℕ) : Type 0 where
-  pub ran : Ran m s₀ count r s heads links index
+-- what running the step m with room for `limit` pairs ensures where T is kept
+pub record KeptRan (limit : ℕ) (ar : List ℕ) (truths : Truths) (m : Run Diagram) (s₀ : List ℕ) (count : ℕ) (r : Stepped) (s heads links index kept : List ℕ) : Type 0 where
+  pub ran : Ran limit m s₀ count r s heads links index
   pub keeps : (i n : ℕ) → r ≡ Row i n → Keeps ar truths s n kept

@@ -15,6 +15,8 @@ ghost use lib.ListN.{length};
 ghost use Rattle.diagram.specs.Listing.{diagramOf};
 ghost use Rattle.regression.specs.RegressCall.{writtenAs, truthsOf, regressedAs, regressAnswer, regressResult};
 ghost use Rattle.label.specs.Limits.{mostPlaces};
+ghost use Rattle.diagram.specs.Sizes.{mostPairs};
+ghost use Rattle.combine.specs.Calls.{few};
 ghost use Rattle.diagram.specs.Validity.{tree};
 ghost use Rattle.row_steps.specs.Running.{Ready, Ran};
 ghost use Rattle.diagram.specs.Words.{isListing};
@@ -22,7 +24,7 @@ ghost use Rattle.label.specs.Renamings.{mapOf};
 ghost use Rattle.label.specs.Labels.{termsOf, unpacked};
 ghost use Rattle.regression.specs.Regression.{argument, replacement, truthAt, regression, regressed};
 ghost use Rattle.regress.specs.Tasks.{taskAt, Taskable, taskRun, Tasked, replacedBy, Mapping, toldAs, usedPlaces, Usable, Arguable, Argued};
-ghost use Rattle.regress.specs.Regressing.{Regressable, Listable, held, Answered};
+ghost use Rattle.regress.specs.Regressing.{Regressable, Runnable, Roomy, Regresses, Listable, held, Answered};
 ghost use Rattle.regress.specs.Keeping.{formedTruth, Asking, slots, Keeps, KeptRan};
 ghost use Rattle.truths.specs.TruthChecks.{Lent};
 
@@ -65,6 +67,7 @@ fn replaced_row(
     task: Task,
     plan: &mut [u64],
     index: &mut [u16],
+    limit: usize,
     space: &mut [u64],
     heads: &mut [u16],
     links: &mut [u16],
@@ -72,14 +75,25 @@ fn replaced_row(
 ) -> Stepped
     requires { ⌜ Mapping (now arities) (now map) ⌝ }
     requires { ⌜ Tasked (now arities) count task ⌝ }
-    requires { ⌜ Ready (now plan) (now index) (now space) (now heads) (now links) count ⌝ }
-    ensures { λ r. ⌜ Ran (taskRun (replacedBy (now (arities .entry)) (now (map .entry))) (now (space .entry)) task) (now (space .entry)) count r (now (space .exit)) (now (heads .exit)) (now (links .exit)) (now (index .exit)) ⌝ }
+    requires { ⌜ Ready (now plan) (now index) limit (now space) (now heads) (now links) count ⌝ }
+    ensures { λ r. ⌜ Ran limit (taskRun (replacedBy (now (arities .entry)) (now (map .entry))) (now (space .entry)) task) (now (space .entry)) count r (now (space .exit)) (now (heads .exit)) (now (links .exit)) (now (index .exit)) ⌝ }
 {
     match task {
         Task::Leaf(v) => told(store::leaf(space, heads, links, count, v)),
         Task::Branch(l, high, low) => {
             let test = Label { packed: l }.moved(arities, map);
-            row_steps::test_step(plan, index, space, heads, links, count, test, high, low)
+            row_steps::test_step(
+                plan,
+                index,
+                limit,
+                space,
+                heads,
+                links,
+                count,
+                test,
+                high,
+                low,
+            )
         }
     }
 }
@@ -91,6 +105,7 @@ fn replace(
     map: &[u64],
     plan: &mut [u64],
     index: &mut [u16],
+    limit: usize,
     space: &mut [u64],
     heads: &mut [u16],
     links: &mut [u16],
@@ -98,8 +113,8 @@ fn replace(
 ) -> Stepped
     requires { ⌜ isListing (now arities) (now words) ≡ true ⌝ }
     requires { ⌜ Mapping (now arities) (now map) ⌝ }
-    requires { ⌜ Ready (now plan) (now index) (now space) (now heads) (now links) count ⌝ }
-    ensures { λ r. ⌜ Ran (replacement (now (arities .entry)) (mapOf (now (map .entry))) (diagramOf (now (words .entry)))) (now (space .entry)) count r (now (space .exit)) (now (heads .exit)) (now (links .exit)) (now (index .exit)) ⌝ }
+    requires { ⌜ Ready (now plan) (now index) limit (now space) (now heads) (now links) count ⌝ }
+    ensures { λ r. ⌜ Ran limit (replacement (now (arities .entry)) (mapOf (now (map .entry))) (diagramOf (now (words .entry)))) (now (space .entry)) count r (now (space .exit)) (now (heads .exit)) (now (links .exit)) (now (index .exit)) ⌝ }
 {
     let mut numbers = [0u16; diagram::ROWS];
     let m = words.len() / 3;
@@ -108,7 +123,18 @@ fn replace(
     let mut k = 0;
     while k < m {
         let task = task_at(words, &numbers, k);
-        let r = replaced_row(arities, map, task, plan, index, space, heads, links, n);
+        let r = replaced_row(
+            arities,
+            map,
+            task,
+            plan,
+            index,
+            limit,
+            space,
+            heads,
+            links,
+            n,
+        );
         let Stepped::Row(i, c) = r else {
             return r;
         };
@@ -156,14 +182,15 @@ fn replace_arguments(
     label: u64,
     plan: &mut [u64],
     index: &mut [u16],
+    limit: usize,
     space: &mut [u64],
     heads: &mut [u16],
     links: &mut [u16],
     count: usize,
 ) -> Stepped
     requires { ⌜ Usable (now arities) (now words) label ⌝ }
-    requires { ⌜ Ready (now plan) (now index) (now space) (now heads) (now links) count ⌝ }
-    ensures { λ r. ⌜ Ran (replacement (now (arities .entry)) (argument (termsOf (now (arities .entry)) (unpacked label))) (diagramOf (now (words .entry)))) (now (space .entry)) count r (now (space .exit)) (now (heads .exit)) (now (links .exit)) (now (index .exit)) ⌝ }
+    requires { ⌜ Ready (now plan) (now index) limit (now space) (now heads) (now links) count ⌝ }
+    ensures { λ r. ⌜ Ran limit (replacement (now (arities .entry)) (argument (termsOf (now (arities .entry)) (unpacked label))) (diagramOf (now (words .entry)))) (now (space .entry)) count r (now (space .exit)) (now (heads .exit)) (now (links .exit)) (now (index .exit)) ⌝ }
 {
     let mut map = [0u64; Term::END as usize];
     argument_map(arities, label, &mut map);
@@ -173,6 +200,7 @@ fn replace_arguments(
         &map,
         plan,
         index,
+        limit,
         space,
         heads,
         links,
@@ -188,14 +216,15 @@ fn form_truth(
     label: u64,
     plan: &mut [u64],
     index: &mut [u16],
+    limit: usize,
     space: &mut [u64],
     heads: &mut [u16],
     links: &mut [u16],
     count: usize,
 ) -> Stepped
     requires { ⌜ Asking (now arities) (now truths) (now spans) label ⌝ }
-    requires { ⌜ Ready (now plan) (now index) (now space) (now heads) (now links) count ⌝ }
-    ensures { λ r. ⌜ Ran (formedTruth (now (arities .entry)) (truthsOf (now (truths .entry)) (now (spans .entry))) label) (now (space .entry)) count r (now (space .exit)) (now (heads .exit)) (now (links .exit)) (now (index .exit)) ⌝ }
+    requires { ⌜ Ready (now plan) (now index) limit (now space) (now heads) (now links) count ⌝ }
+    ensures { λ r. ⌜ Ran limit (formedTruth (now (arities .entry)) (truthsOf (now (truths .entry)) (now (spans .entry))) label) (now (space .entry)) count r (now (space .exit)) (now (heads .exit)) (now (links .exit)) (now (index .exit)) ⌝ }
 {
     let p = Label { packed: label }.predicate() as usize;
     if truths::has_truth(spans, p) {
@@ -206,6 +235,7 @@ fn form_truth(
             label,
             plan,
             index,
+            limit,
             space,
             heads,
             links,
@@ -247,15 +277,16 @@ fn kept_truth(
     kept: &mut [u64],
     plan: &mut [u64],
     index: &mut [u16],
+    limit: usize,
     space: &mut [u64],
     heads: &mut [u16],
     links: &mut [u16],
     count: usize,
 ) -> Stepped
     requires { ⌜ Asking (now arities) (now truths) (now spans) label ⌝ }
-    requires { ⌜ Ready (now plan) (now index) (now space) (now heads) (now links) count ⌝ }
+    requires { ⌜ Ready (now plan) (now index) limit (now space) (now heads) (now links) count ⌝ }
     requires { ⌜ Keeps (now arities) (truthsOf (now truths) (now spans)) (now space) count (now kept) ⌝ }
-    ensures { λ r. ⌜ KeptRan (now (arities .entry)) (truthsOf (now (truths .entry)) (now (spans .entry))) (formedTruth (now (arities .entry)) (truthsOf (now (truths .entry)) (now (spans .entry))) label) (now (space .entry)) count r (now (space .exit)) (now (heads .exit)) (now (links .exit)) (now (index .exit)) (now (kept .exit)) ⌝ }
+    ensures { λ r. ⌜ KeptRan limit (now (arities .entry)) (truthsOf (now (truths .entry)) (now (spans .entry))) (formedTruth (now (arities .entry)) (truthsOf (now (truths .entry)) (now (spans .entry))) label) (now (space .entry)) count r (now (space .exit)) (now (heads .exit)) (now (links .exit)) (now (index .exit)) (now (kept .exit)) ⌝ }
 {
     let h = slot(label);
     let e = kept[h];
@@ -270,6 +301,7 @@ fn kept_truth(
         label,
         plan,
         index,
+        limit,
         space,
         heads,
         links,
@@ -291,6 +323,7 @@ fn regressed_row(
     kept: &mut [u64],
     plan: &mut [u64],
     index: &mut [u16],
+    limit: usize,
     space: &mut [u64],
     heads: &mut [u16],
     links: &mut [u16],
@@ -298,9 +331,9 @@ fn regressed_row(
 ) -> Stepped
     requires { ⌜ Lent (now arities) (now truths) (now spans) ⌝ }
     requires { ⌜ Tasked (now arities) count task ⌝ }
-    requires { ⌜ Ready (now plan) (now index) (now space) (now heads) (now links) count ⌝ }
+    requires { ⌜ Ready (now plan) (now index) limit (now space) (now heads) (now links) count ⌝ }
     requires { ⌜ Keeps (now arities) (truthsOf (now truths) (now spans)) (now space) count (now kept) ⌝ }
-    ensures { λ r. ⌜ KeptRan (now (arities .entry)) (truthsOf (now (truths .entry)) (now (spans .entry))) (taskRun (truthAt (now (arities .entry)) (truthsOf (now (truths .entry)) (now (spans .entry)))) (now (space .entry)) task) (now (space .entry)) count r (now (space .exit)) (now (heads .exit)) (now (links .exit)) (now (index .exit)) (now (kept .exit)) ⌝ }
+    ensures { λ r. ⌜ KeptRan limit (now (arities .entry)) (truthsOf (now (truths .entry)) (now (spans .entry))) (taskRun (truthAt (now (arities .entry)) (truthsOf (now (truths .entry)) (now (spans .entry)))) (now (space .entry)) task) (now (space .entry)) count r (now (space .exit)) (now (heads .exit)) (now (links .exit)) (now (index .exit)) (now (kept .exit)) ⌝ }
 {
     match task {
         Task::Leaf(v) => told(store::leaf(space, heads, links, count, v)),
@@ -313,6 +346,7 @@ fn regressed_row(
                 kept,
                 plan,
                 index,
+                limit,
                 space,
                 heads,
                 links,
@@ -321,7 +355,7 @@ fn regressed_row(
             let Stepped::Row(test, n) = r else {
                 return r;
             };
-            row_steps::row_step(plan, index, space, heads, links, n, test, high, low)
+            row_steps::row_step(plan, index, limit, space, heads, links, n, test, high, low)
         }
     }
 }
@@ -334,14 +368,15 @@ fn regress_rows(
     spans: &[u64],
     plan: &mut [u64],
     index: &mut [u16],
+    limit: usize,
     space: &mut [u64],
     heads: &mut [u16],
     links: &mut [u16],
 ) -> Stepped
     requires { ⌜ isListing (now arities) (now value) ≡ true ⌝ }
     requires { ⌜ Lent (now arities) (now truths) (now spans) ⌝ }
-    requires { ⌜ Ready (now plan) (now index) (now space) (now heads) (now links) 0 ⌝ }
-    ensures { λ r. ⌜ Ran (regression (now (arities .entry)) (truthsOf (now (truths .entry)) (now (spans .entry))) (diagramOf (now (value .entry)))) (now (space .entry)) 0 r (now (space .exit)) (now (heads .exit)) (now (links .exit)) (now (index .exit)) ⌝ }
+    requires { ⌜ Ready (now plan) (now index) limit (now space) (now heads) (now links) 0 ⌝ }
+    ensures { λ r. ⌜ Ran limit (regression (now (arities .entry)) (truthsOf (now (truths .entry)) (now (spans .entry))) (diagramOf (now (value .entry)))) (now (space .entry)) 0 r (now (space .exit)) (now (heads .exit)) (now (links .exit)) (now (index .exit)) ⌝ }
 {
     let mut kept = [0u64; SLOTS];
     let mut numbers = [0u16; diagram::ROWS];
@@ -359,6 +394,7 @@ fn regress_rows(
             &mut kept,
             plan,
             index,
+            limit,
             space,
             heads,
             links,
@@ -389,8 +425,98 @@ fn list_result(space: &[u64], count: usize, root: usize, out: &mut [u64]) -> Reg
     }
 }
 
-// Words of a plan of 4,096 pairs.
-const PLAN_WORDS: usize = 20480;
+// The regression of a value listing in an empty space, the plan having room for `limit` pairs.
+fn regress_in(
+    arities: &[u64],
+    value: &[u64],
+    truths: &[u64],
+    spans: &[u64],
+    plan: &mut [u64],
+    limit: usize,
+    work: &mut [u64],
+) -> Stepped
+    requires { ⌜ Runnable (now arities) (now value) (now truths) (now spans) (now work) ⌝ }
+    requires { ⌜ Roomy limit (now plan) ⌝ }
+    ensures { λ r. ⌜ Regresses limit (regression (now (arities .entry)) (truthsOf (now (truths .entry)) (now (spans .entry))) (diagramOf (now (value .entry)))) r (now (work .exit)) ⌝ }
+{
+    let mut index = [0u16; plan::BUCKETS];
+    let mut heads = [0u16; table::BUCKETS];
+    let mut links = [0u16; diagram::SPACE_ROWS];
+    regress_rows(
+        arities,
+        value,
+        truths,
+        spans,
+        plan,
+        &mut index,
+        limit,
+        work,
+        &mut heads,
+        &mut links,
+    )
+}
+
+// The same, with room for few pairs.
+fn regress_few(
+    arities: &[u64],
+    value: &[u64],
+    truths: &[u64],
+    spans: &[u64],
+    work: &mut [u64],
+) -> Stepped
+    requires { ⌜ Runnable (now arities) (now value) (now truths) (now spans) (now work) ⌝ }
+    ensures { λ r. ⌜ Regresses few (regression (now (arities .entry)) (truthsOf (now (truths .entry)) (now (spans .entry))) (diagramOf (now (value .entry)))) r (now (work .exit)) ⌝ }
+{
+    let mut plan = [0u64; combine::FEW_WORDS];
+    regress_in(arities, value, truths, spans, &mut plan, combine::FEW, work)
+}
+
+// The same, with room for all pairs that a step may have.
+fn regress_many(
+    arities: &[u64],
+    value: &[u64],
+    truths: &[u64],
+    spans: &[u64],
+    work: &mut [u64],
+) -> Stepped
+    requires { ⌜ Runnable (now arities) (now value) (now truths) (now spans) (now work) ⌝ }
+    ensures { λ r. ⌜ Regresses mostPairs (regression (now (arities .entry)) (truthsOf (now (truths .entry)) (now (spans .entry))) (diagramOf (now (value .entry)))) r (now (work .exit)) ⌝ }
+{
+    let mut plan = [0u64; combine::PLAN_WORDS];
+    regress_in(
+        arities,
+        value,
+        truths,
+        spans,
+        &mut plan,
+        diagram::PAIRS,
+        work,
+    )
+}
+
+// Values of more rows are run with room for all pairs at once: they mostly have a step of more than few.
+const FEW_ROWS: usize = 64;
+
+// The same, with room for few pairs first, which suffices for most values; where a step has more, all is run again with room for all.
+fn regress_space(
+    arities: &[u64],
+    value: &[u64],
+    truths: &[u64],
+    spans: &[u64],
+    work: &mut [u64],
+) -> Stepped
+    requires { ⌜ Runnable (now arities) (now value) (now truths) (now spans) (now work) ⌝ }
+    ensures { λ r. ⌜ Regresses mostPairs (regression (now (arities .entry)) (truthsOf (now (truths .entry)) (now (spans .entry))) (diagramOf (now (value .entry)))) r (now (work .exit)) ⌝ }
+{
+    if value.len() / 3 > FEW_ROWS {
+        return regress_many(arities, value, truths, spans, work);
+    }
+    let r = regress_few(arities, value, truths, spans, work);
+    if row_steps::is_crowded(r) {
+        return regress_many(arities, value, truths, spans, work);
+    }
+    r
+}
 
 // The regression of a value listing under truth diagrams, all of them known to be listings, written to `out`; `work` is the working space.
 pub fn regress_checked(
@@ -405,21 +531,7 @@ pub fn regress_checked(
     ensures { λ r. ⌜ r ≡ regressedAs (regressed (now (arities .entry)) (truthsOf (now (truths .entry)) (now (spans .entry))) (diagramOf (now (value .entry)))) ⌝ }
     ensures { λ _. ⌜ now (out .exit) ≡ writtenAs (regressed (now (arities .entry)) (truthsOf (now (truths .entry)) (now (spans .entry))) (diagramOf (now (value .entry)))) (now (out .entry)) ⌝ }
 {
-    let mut plan = [0u64; PLAN_WORDS];
-    let mut index = [0u16; plan::BUCKETS];
-    let mut heads = [0u16; table::BUCKETS];
-    let mut links = [0u16; diagram::SPACE_ROWS];
-    let r = regress_rows(
-        arities,
-        value,
-        truths,
-        spans,
-        &mut plan,
-        &mut index,
-        work,
-        &mut heads,
-        &mut links,
-    );
+    let r = regress_space(arities, value, truths, spans, work);
     match r {
         Stepped::Row(root, n) => list_result(work, n, root, out),
         Stepped::Refused(w, _) => Regressed::Refused(w),

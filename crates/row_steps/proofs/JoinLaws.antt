@@ -52,15 +52,15 @@ most-apply : (op : Operation) (a b : Diagram) → overflows (operate op) (pairs 
 most-apply op a b h = most-course op (course op a b) h
 
 -- `join`
-module _ (op : Operation) (a b : Diagram) (rs : List Diagram) where
-  answer-at : {i n p : ℕ} → At i n p ≡ joinAnswer op mostPairs a b rs
-      → (pairCount op a b ≤ mostPairs) × (overflows (operate op) (pairs op a b) ≡ false) × (length (rowsAfter op a b rs) ≤ spaceRows)
+module _ (limit : ℕ) (op : Operation) (a b : Diagram) (rs : List Diagram) where
+  answer-at : {i n p : ℕ} → At i n p ≡ joinAnswer op limit a b rs
+      → (pairCount op a b ≤ limit) × (overflows (operate op) (pairs op a b) ≡ false) × (length (rowsAfter op a b rs) ≤ spaceRows)
       × (i ≡ index (apply (operate op) a b) (rowsAfter op a b rs)) × (n ≡ length (rowsAfter op a b rs))
   unfolding joinAnswer
-  answer-at {i} {n} {p} e = go (flag (ltb mostPairs (pairCount op a b))) (flag (overflows (operate op) (pairs op a b))) (flag (ltb spaceRows (length (rowsAfter op a b rs))))
+  answer-at {i} {n} {p} e = go (flag (ltb limit (pairCount op a b))) (flag (overflows (operate op) (pairs op a b))) (flag (ltb spaceRows (length (rowsAfter op a b rs))))
     where
-      go : Flag (ltb mostPairs (pairCount op a b)) → Flag (overflows (operate op) (pairs op a b)) → Flag (ltb spaceRows (length (rowsAfter op a b rs)))
-          → (pairCount op a b ≤ mostPairs) × (overflows (operate op) (pairs op a b) ≡ false) × (length (rowsAfter op a b rs) ≤ spaceRows)
+      go : Flag (ltb limit (pairCount op a b)) → Flag (overflows (operate op) (pairs op a b)) → Flag (ltb spaceRows (length (rowsAfter op a b rs)))
+          → (pairCount op a b ≤ limit) × (overflows (operate op) (pairs op a b) ≡ false) × (length (rowsAfter op a b rs) ≤ spaceRows)
           × (i ≡ index (apply (operate op) a b) (rowsAfter op a b rs)) × (n ≡ length (rowsAfter op a b rs))
       go (isTrue x) y z = let k : At i n p ≡ TooManyPairs = rw x at e in let w : _≡_ {A = ℕ} 0 1 = cc in absurd (omega arith)
       go (isFalse x) (isTrue y) z = let k : At i n p ≡ TooHighValue = rw (x, y) at e in let w : _≡_ {A = ℕ} 0 1 = cc in absurd (omega arith)
@@ -69,11 +69,11 @@ module _ (op : Operation) (a b : Diagram) (rs : List Diagram) where
           let k : At i n p ≡ At (index (apply (operate op) a b) (rowsAfter op a b rs)) (length (rowsAfter op a b rs)) (pairCount op a b) = rw (x, y, z) at e in
           (ltb-false _ _ x, y, ltb-false _ _ z, (cc), (cc))
 
-  answer-many : TooManyPairs ≡ joinAnswer op mostPairs a b rs → mostPairs < pairCount op a b
+  answer-many : TooManyPairs ≡ joinAnswer op limit a b rs → limit < pairCount op a b
   unfolding joinAnswer
-  answer-many e = go (flag (ltb mostPairs (pairCount op a b))) (flag (overflows (operate op) (pairs op a b))) (flag (ltb spaceRows (length (rowsAfter op a b rs))))
+  answer-many e = go (flag (ltb limit (pairCount op a b))) (flag (overflows (operate op) (pairs op a b))) (flag (ltb spaceRows (length (rowsAfter op a b rs))))
     where
-      go : Flag (ltb mostPairs (pairCount op a b)) → Flag (overflows (operate op) (pairs op a b)) → Flag (ltb spaceRows (length (rowsAfter op a b rs))) → mostPairs < pairCount op a b
+      go : Flag (ltb limit (pairCount op a b)) → Flag (overflows (operate op) (pairs op a b)) → Flag (ltb spaceRows (length (rowsAfter op a b rs))) → limit < pairCount op a b
       go (isTrue x) y z = ltb-true _ _ x
       go (isFalse x) (isTrue y) z = let k : TooManyPairs ≡ TooHighValue = rw (x, y) at e in let w : _≡_ {A = ℕ} 0 1 = cc in absurd (omega arith)
       go (isFalse x) (isFalse y) (isTrue z) = let k : TooManyPairs ≡ NoRoom = rw (x, y, z) at e in let w : _≡_ {A = ℕ} 0 1 = cc in absurd (omega arith)
@@ -82,12 +82,12 @@ module _ (op : Operation) (a b : Diagram) (rs : List Diagram) where
           let w : _≡_ {A = ℕ} 0 1 = cc in
           absurd (omega arith)
 
-  answer-high : TooHighValue ≡ joinAnswer op mostPairs a b rs → (pairCount op a b ≤ mostPairs) × (overflows (operate op) (pairs op a b) ≡ true)
+  answer-high : TooHighValue ≡ joinAnswer op limit a b rs → (pairCount op a b ≤ limit) × (overflows (operate op) (pairs op a b) ≡ true)
   unfolding joinAnswer
-  answer-high e = go (flag (ltb mostPairs (pairCount op a b))) (flag (overflows (operate op) (pairs op a b))) (flag (ltb spaceRows (length (rowsAfter op a b rs))))
+  answer-high e = go (flag (ltb limit (pairCount op a b))) (flag (overflows (operate op) (pairs op a b))) (flag (ltb spaceRows (length (rowsAfter op a b rs))))
     where
-      go : Flag (ltb mostPairs (pairCount op a b)) → Flag (overflows (operate op) (pairs op a b)) → Flag (ltb spaceRows (length (rowsAfter op a b rs)))
-          → (pairCount op a b ≤ mostPairs) × (overflows (operate op) (pairs op a b) ≡ true)
+      go : Flag (ltb limit (pairCount op a b)) → Flag (overflows (operate op) (pairs op a b)) → Flag (ltb spaceRows (length (rowsAfter op a b rs)))
+          → (pairCount op a b ≤ limit) × (overflows (operate op) (pairs op a b) ≡ true)
       go (isTrue x) y z = let k : TooHighValue ≡ TooManyPairs = rw x at e in let w : _≡_ {A = ℕ} 0 1 = cc in absurd (omega arith)
       go (isFalse x) (isTrue y) z = (ltb-false _ _ x, y)
       go (isFalse x) (isFalse y) (isTrue z) = let k : TooHighValue ≡ NoRoom = rw (x, y, z) at e in let w : _≡_ {A = ℕ} 0 1 = cc in absurd (omega arith)
@@ -96,13 +96,13 @@ module _ (op : Operation) (a b : Diagram) (rs : List Diagram) where
           let w : _≡_ {A = ℕ} 0 1 = cc in
           absurd (omega arith)
 
-  answer-none : NoRoom ≡ joinAnswer op mostPairs a b rs
-      → (pairCount op a b ≤ mostPairs) × (overflows (operate op) (pairs op a b) ≡ false) × (spaceRows < length (rowsAfter op a b rs))
+  answer-none : NoRoom ≡ joinAnswer op limit a b rs
+      → (pairCount op a b ≤ limit) × (overflows (operate op) (pairs op a b) ≡ false) × (spaceRows < length (rowsAfter op a b rs))
   unfolding joinAnswer
-  answer-none e = go (flag (ltb mostPairs (pairCount op a b))) (flag (overflows (operate op) (pairs op a b))) (flag (ltb spaceRows (length (rowsAfter op a b rs))))
+  answer-none e = go (flag (ltb limit (pairCount op a b))) (flag (overflows (operate op) (pairs op a b))) (flag (ltb spaceRows (length (rowsAfter op a b rs))))
     where
-      go : Flag (ltb mostPairs (pairCount op a b)) → Flag (overflows (operate op) (pairs op a b)) → Flag (ltb spaceRows (length (rowsAfter op a b rs)))
-          → (pairCount op a b ≤ mostPairs) × (overflows (operate op) (pairs op a b) ≡ false) × (spaceRows < length (rowsAfter op a b rs))
+      go : Flag (ltb limit (pairCount op a b)) → Flag (overflows (operate op) (pairs op a b)) → Flag (ltb spaceRows (length (rowsAfter op a b rs)))
+          → (pairCount op a b ≤ limit) × (overflows (operate op) (pairs op a b) ≡ false) × (spaceRows < length (rowsAfter op a b rs))
       go (isTrue x) y z = let k : NoRoom ≡ TooManyPairs = rw x at e in let w : _≡_ {A = ℕ} 0 1 = cc in absurd (omega arith)
       go (isFalse x) (isTrue y) z = let k : NoRoom ≡ TooHighValue = rw (x, y) at e in let w : _≡_ {A = ℕ} 0 1 = cc in absurd (omega arith)
       go (isFalse x) (isFalse y) (isTrue z) = (ltb-false _ _ x, y, ltb-true _ _ z)
@@ -111,56 +111,59 @@ module _ (op : Operation) (a b : Diagram) (rs : List Diagram) where
           let w : _≡_ {A = ℕ} 0 1 = cc in
           absurd (omega arith)
 
-module _ {op : Operation} {a b : Diagram} {s₀ : List ℕ} {count : ℕ} {r : Joined} {s heads links index : List ℕ} (v : Valued (diagramsOf s₀ count))
-    (j : Joint op mostPairs a b s₀ count r s heads links index) where
+module _ {limit : ℕ} {op : Operation} {a b : Diagram} {s₀ : List ℕ} {count : ℕ} {r : Joined} {s heads links index : List ℕ} (most : limit ≤ mostPairs)
+    (v : Valued (diagramsOf s₀ count)) (j : Joint op limit a b s₀ count r s heads links index) where
   abbrev D : Diagram
   D = apply (operate op) a b
 
   abbrev Rows : List Diagram
   Rows = rowsAfter op a b (diagramsOf s₀ count)
 
-  pub join-row : {i n p : ℕ} → r ≡ At i n p → Ran (combine op a b) s₀ count (Row i n) s heads links index
+  pub join-row : {i n p : ℕ} → r ≡ At i n p → Ran limit (combine op a b) s₀ count (Row i n) s heads links index
   join-row {i} {n} {p} e =
-      let q = answer-at op a b (diagramsOf s₀ count) (sym e ∙ j .answer) in
+      let q = answer-at limit op a b (diagramsOf s₀ count) (sym e ∙ j .answer) in
       let d : diagramsOf s n ≡ Rows = subst (λ (x : Joined). diagramsOf s (countAfter count x) ≡ diagramsAfter op a b (diagramsOf s₀ count) x) e (j .diagrams) in
       let h : Holds s heads links n = subst (λ (x : Joined). Holds s heads links (countAfter count x)) e (j .holds) in
       let f = formed-room s heads links Rows n (sym (q .4)) (subst (Written s) d (h .written)) (h .table) D i (sym (q .3)) in
-      let c = combine-calm op a b (diagramsOf s₀ count) (q .0) (q .1) in
+      let c = combine-calm op a b (diagramsOf s₀ count) (omega (arith, most, q .0)) (q .1) in
       let z = formed-ran s₀ count D (most-apply op a b (q .1)) v (j .clean) f in
       record {
         space = z .space;
         clean = z .clean;
         row = λ k m x. let g = z .row k m x in record { there = g .there; more = g .more; gives = c ∙ g .gives; stays = g .stays };
-        refusal = λ w m x. c ∙ z .refusal w m x;
+        refusal = λ w m x y. c ∙ z .refusal w m x y;
       }
 
-  pub join-many : r ≡ TooManyPairs → Ran (combine op a b) s₀ count (Refused ManyPairs count) s heads links index
+  pub join-many : r ≡ TooManyPairs → Ran limit (combine op a b) s₀ count (Refused ManyPairs count) s heads links index
   join-many e =
-      let q = answer-many op a b (diagramsOf s₀ count) (sym e ∙ j .answer) in
+      let q = answer-many limit op a b (diagramsOf s₀ count) (sym e ∙ j .answer) in
       let d : diagramsOf s count ≡ diagramsOf s₀ count = subst (λ (x : Joined). diagramsOf s (countAfter count x) ≡ diagramsAfter op a b (diagramsOf s₀ count) x) e (j .diagrams) in
       let h : Holds s heads links count = subst (λ (x : Joined). Holds s heads links (countAfter count x)) e (j .holds) in
       record {
         space = record { holds = h; values = subst Valued (sym d) v };
         clean = j .clean;
         row = λ k m x. let z : _≡_ {A = ℕ} 0 1 = cc in absurd (omega arith);
-        refusal = λ w m x. let p : ManyPairs ≡ w = cc in rw (← p) (combine-pairs op a b (diagramsOf s₀ count) q);
+        refusal = λ w m x y.
+            let p : ManyPairs ≡ w = cc in
+            let all : limit ≡ mostPairs = y (sym p) in
+            rw (← p) (combine-pairs op a b (diagramsOf s₀ count) (omega (arith, all, q)));
       }
 
-  pub join-high : r ≡ TooHighValue → Ran (combine op a b) s₀ count (Refused HighValue count) s heads links index
+  pub join-high : r ≡ TooHighValue → Ran limit (combine op a b) s₀ count (Refused HighValue count) s heads links index
   join-high e =
-      let q = answer-high op a b (diagramsOf s₀ count) (sym e ∙ j .answer) in
+      let q = answer-high limit op a b (diagramsOf s₀ count) (sym e ∙ j .answer) in
       let d : diagramsOf s count ≡ diagramsOf s₀ count = subst (λ (x : Joined). diagramsOf s (countAfter count x) ≡ diagramsAfter op a b (diagramsOf s₀ count) x) e (j .diagrams) in
       let h : Holds s heads links count = subst (λ (x : Joined). Holds s heads links (countAfter count x)) e (j .holds) in
       record {
         space = record { holds = h; values = subst Valued (sym d) v };
         clean = j .clean;
         row = λ k m x. let z : _≡_ {A = ℕ} 0 1 = cc in absurd (omega arith);
-        refusal = λ w m x. let p : HighValue ≡ w = cc in rw (← p) (combine-value op a b (diagramsOf s₀ count) (q .0) (q .1));
+        refusal = λ w m x y. let p : HighValue ≡ w = cc in rw (← p) (combine-value op a b (diagramsOf s₀ count) (omega (arith, most, q .0)) (q .1));
       }
 
-  pub join-none : r ≡ NoRoom → Ran (combine op a b) s₀ count (Refused NoSpace 2048) s heads links index
+  pub join-none : r ≡ NoRoom → Ran limit (combine op a b) s₀ count (Refused NoSpace 2048) s heads links index
   join-none e =
-      let q = answer-none op a b (diagramsOf s₀ count) (sym e ∙ j .answer) in
+      let q = answer-none limit op a b (diagramsOf s₀ count) (sym e ∙ j .answer) in
       let d : diagramsOf s spaceRows ≡ take spaceRows Rows
       = subst (λ (x : Joined). diagramsOf s (countAfter count x) ≡ diagramsAfter op a b (diagramsOf s₀ count) x) e (j .diagrams) in
       let h : Holds s heads links spaceRows = subst (λ (x : Joined). Holds s heads links (countAfter count x)) e (j .holds) in
@@ -168,6 +171,6 @@ module _ {op : Operation} {a b : Diagram} {s₀ : List ℕ} {count : ℕ} {r : J
         space = record { holds = h; values = subst Valued (sym d) (valued-take spaceRows Rows (valued-onto D (diagramsOf s₀ count) (most-apply op a b (q .1)) v)) };
         clean = j .clean;
         row = λ k m x. let z : _≡_ {A = ℕ} 0 1 = cc in absurd (omega arith);
-        refusal = λ w m x. let p : NoSpace ≡ w = cc in
-            rw (← p) (combine-calm op a b (diagramsOf s₀ count) (q .0) (q .1) ∙ form-space D (diagramsOf s₀ count) (q .2));
+        refusal = λ w m x y. let p : NoSpace ≡ w = cc in
+            rw (← p) (combine-calm op a b (diagramsOf s₀ count) (omega (arith, most, q .0)) (q .1) ∙ form-space D (diagramsOf s₀ count) (q .2));
       }

@@ -5,10 +5,11 @@ use mathlib.Core.List.{List}
 use Prim.Native.Nat.{ℕ, suc, _+_, _*_, _-_, _≤_, _<_}
 use native.Mathlib.Omega.{arith}
 use lib.ListN.{length, getD, set, replicate, length-set, length-replicate, getD-replicate}
+use lib.Dec.{eqb}
 use lib.Seq.{getD-set-same, getD-set-other}
 use Rattle.refusal.specs.declared.Refusal.{Refusal}
-use Rattle.refusal.specs.declared.Refusal.the-variants.{Space as NoSpace}
-use Rattle.refusal.specs.Outcome.{ok}
+use Rattle.refusal.specs.declared.Refusal.the-variants.{Space as NoSpace, Pairs}
+use Rattle.refusal.specs.Numbers.{numberOf}
 use Rattle.basics.specs.Tests.{Cmp, below, equal, above, cmp}
 use Rattle.basics.specs.Members.{mem}
 use Rattle.label.specs.Limits.{leafMark}
@@ -23,7 +24,6 @@ use Rattle.diagram.specs.Words.{labelAt, highAt, lowAt}
 use Rattle.diagram.specs.Validity.{tree}
 use Rattle.diagram.specs.RowLaws.{kept-index-is}
 use Rattle.apply.specs.declared.Operation.the-variants.{Sum, Product}
-use Rattle.apply.specs.Combination.{operate}
 use Rattle.apply.specs.Snoc.{Begins, begins-trans}
 use Rattle.apply.specs.Formed.{add}
 use Rattle.apply.specs.FormedLaws.{add-begins}
@@ -34,15 +34,18 @@ use Rattle.store.specs.Space.{diagramsOf, Holds, standsFor, Formable, a-branch,
 use Rattle.store.specs.AddLaws.{add-branch}
 use Rattle.store.proofs.SpaceLaws.{length-diagrams, diagram-at, stands-branch, formed-room, formation-row, formation-tree, formation-old, full-more, holds-closed}
 use Rattle.regression.specs.Calls.{Run, bind, form, combine}
-use Rattle.regression.specs.CallLaws.{form-old}
 use Rattle.regression.specs.Step.{testDiagram, exchanged, rowStep}
 use Rattle.regression.specs.StepLaws.{most-test, most-exchanged}
 use Rattle.regression.specs.Result.{AtMost}
 use Rattle.row_steps.specs.declared.Stepped.{Stepped}
 use Rattle.row_steps.specs.declared.Stepped.the-variants.{Row, Refused}
-use Rattle.row_steps.specs.Running.{Ready, Two, Three, Gave, Ran, Noted, Exchangeable, Exchanged, Testable}
-use Rattle.row_steps.specs.RunLaws.{row-label, row-leaf, row-kids, row-branch, there-mem, in-room, formed-gave, formed-space, full-ran}
+use Rattle.row_steps.specs.Running.{Ready, Two, Three, Four, splitStep, Gave, isCrowded, Ran, Noted, Exchangeable, Exchanged, Testable}
+use Rattle.row_steps.specs.RunLaws.{row-label, row-leaf, row-kids, row-branch, there-mem, formed-gave, formed-space, full-ran}
 use Rattle.row_steps.specs.RunLaws.{ran-bind, ran-stop, gave-old, leaf-onto, row-known, full-known, one-most, ran-cast, ran-answer}
+
+-- `is_crowded`
+pub crowded-number : {r : Stepped} {w : Refusal} {n a b : ℕ} → r ≡ Refused w n → a ≡ numberOf w → b ≡ numberOf Pairs → eqb a b ≡ isCrowded r
+crowded-number {r} {w} {n} {a} {b} e p q = (λ i. eqb (p i) (q i)) ∙ sym (ap isCrowded e)
 
 -- what forming a row leaves of the rows before
 pub record Grew (s₀ : List ℕ) (count : ℕ) (d : Diagram) (i n : ℕ) (s : List ℕ) : Type 0 where
@@ -365,163 +368,186 @@ none-noted {s} {heads} {links} {count} {i} n l h r = record {
   row = r;
 }
 
--- `row_step`: its parts
+-- `form_other`
+pub other-always : (s₀ : List ℕ) (count : ℕ) {t : Test} {r : Formed} {s heads links : List ℕ} → t ≡ Always
+    → Formation (leaf 0) (add (leaf 0) (diagramsOf s₀ count)) r s heads links
+    → Formation (exchanged (testDiagram t)) (onto (exchanged (testDiagram t)) (diagramsOf s₀ count)) r s heads links
+unfolding testDiagram exchanged
+other-always s₀ count {t} {r} {s} {heads} {links} e f = rw e (leaf-onto s₀ count f)
+
+pub other-is : (s₀ : List ℕ) (count : ℕ) {t : Test} {l : Label} {r : Formed} {s heads links : List ℕ} → t ≡ Is l
+    → Formation (branch (l .packed) (leaf 0) (leaf 1)) (onto (branch (l .packed) (leaf 0) (leaf 1)) (diagramsOf s₀ count)) r s heads links
+    → Formation (exchanged (testDiagram t)) (onto (exchanged (testDiagram t)) (diagramsOf s₀ count)) r s heads links
+unfolding testDiagram exchanged
+other-is s₀ count {t} {l} {r} {s} {heads} {links} e f = rw e f
+
+-- `split_step`
 abbrev rights : Diagram → Diagram → Diagram → Run Diagram
 rights y f p = bind (combine Product y f) (λ q. combine Sum p q)
 
-abbrev lefts : Diagram → Diagram → Diagram → Diagram → Run Diagram
-lefts x t f y = bind (combine Product x t) (λ p. rights y f p)
+module _ {plan index s heads links : List ℕ} {limit count test other high low : ℕ} (ready : Ready plan index limit s heads links count)
+    (four : Four count test other high low) {a : Stepped} {s₁ heads₁ links₁ index₁ : List ℕ}
+    (x₁ : Ran limit (combine Product (tree s test) (tree s high)) s count a s₁ heads₁ links₁ index₁) where
+  abbrev Split : Run Diagram
+  Split = splitStep (tree s test) (tree s other) (tree s high) (tree s low)
 
+  pub split-left : {w : Refusal} {k : ℕ} → a ≡ Refused w k → Ran limit Split s count a s₁ heads₁ links₁ index₁
+  split-left {w} {k} e = ran-answer (sym e) (ran-stop (combine Product (tree s test) (tree s high)) (rights (tree s other) (tree s low)) (ran-answer e x₁))
+
+  module _ {left n : ℕ} (e₁ : a ≡ Row left n) where
+    gave₁ : Gave (combine Product (tree s test) (tree s high)) s count left n s₁
+    gave₁ = x₁ .row left n e₁
+
+    pub split-ready : (plan₁ : List ℕ) → length plan₁ ≡ length plan → Ready plan₁ index₁ limit s₁ heads₁ links₁ n
+    split-ready plan₁ l = record { space = ran-answer e₁ x₁ .space; clean = x₁ .clean; words = omega (arith, ready .words); most = ready .most }
+
+    pub split-two : Two n other low
+    split-two = record { first = omega (arith, four .other-there, gave₁ .more); second = omega (arith, four .low-there, gave₁ .more) }
+
+    from-left : {r : Stepped} {s′ heads′ links′ index′ : List ℕ} → Ran limit (rights (tree s other) (tree s low) (tree s₁ left)) s₁ n r s′ heads′ links′ index′
+        → Ran limit Split s count r s′ heads′ links′ index′
+    from-left z = ran-bind (combine Product (tree s test) (tree s high)) (rights (tree s other) (tree s low)) gave₁ z
+
+    module _ {b : Stepped} {s₂ heads₂ links₂ index₂ : List ℕ} (x₂ : Ran limit (combine Product (tree s₁ other) (tree s₁ low)) s₁ n b s₂ heads₂ links₂ index₂) where
+      y₂ : Ran limit (combine Product (tree s other) (tree s low)) s₁ n b s₂ heads₂ links₂ index₂
+      y₂ = ran-cast (λ i. combine Product (gave₁ .stays other (four .other-there) i) (gave₁ .stays low (four .low-there) i)) x₂
+
+      pub split-right : {w : Refusal} {k : ℕ} → b ≡ Refused w k → Ran limit Split s count b s₂ heads₂ links₂ index₂
+      split-right {w} {k} e =
+          from-left (ran-answer (sym e) (ran-stop (combine Product (tree s other) (tree s low)) (λ q. combine Sum (tree s₁ left) q) (ran-answer e y₂)))
+
+      module _ {right k : ℕ} (e₂ : b ≡ Row right k) where
+        gave₂ : Gave (combine Product (tree s other) (tree s low)) s₁ n right k s₂
+        gave₂ = y₂ .row right k e₂
+
+        pub split-ready-2 : (plan₂ : List ℕ) → length plan₂ ≡ length plan → Ready plan₂ index₂ limit s₂ heads₂ links₂ k
+        split-ready-2 plan₂ l = record { space = ran-answer e₂ y₂ .space; clean = y₂ .clean; words = omega (arith, ready .words); most = ready .most }
+
+        pub split-two-2 : Two k left right
+        split-two-2 = record { first = omega (arith, gave₁ .there, gave₂ .more); second = gave₂ .there }
+
+        pub split-sum : {r : Stepped} {s₃ heads₃ links₃ index₃ : List ℕ} → Ran limit (combine Sum (tree s₂ left) (tree s₂ right)) s₂ k r s₃ heads₃ links₃ index₃
+            → Ran limit Split s count r s₃ heads₃ links₃ index₃
+        split-sum x₃ = from-left (ran-bind (combine Product (tree s other) (tree s low)) (λ q. combine Sum (tree s₁ left) q) gave₂
+            (ran-cast (λ i. combine Sum (gave₂ .stays left (gave₁ .there) i) (tree s₂ right)) x₃))
+
+-- the steps behind T: 1 - T, and the rest
 abbrev others : Diagram → Diagram → Diagram → Run Diagram
-others t f x = bind (form (exchanged x)) (λ y. lefts x t f y)
+others t f x = bind (form (exchanged x)) (λ y. splitStep x y t f)
 
-module _ {plan index s heads links : List ℕ} {count test high low : ℕ} (ready : Ready plan index s heads links count) (three : Three count test high low)
-    {r₁ : Formed} {s₁ heads₁ links₁ : List ℕ}
-    (f₁ : Formation (exchanged (tree s test)) (onto (exchanged (tree s test)) (diagramsOf s count)) r₁ s₁ heads₁ links₁) where
-  -- from the step behind T on
-  from-test : {r : Stepped} {s′ heads′ links′ index′ : List ℕ} → Ran (others (tree s high) (tree s low) (tree s test)) s count r s′ heads′ links′ index′
-      → Ran (rowStep (tree s test) (tree s high) (tree s low)) s count r s′ heads′ links′ index′
+module _ (T : Diagram) {plan index s₀ s₁ heads₁ links₁ : List ℕ} {limit count i n high low : ℕ} (gave : Gave (form T) s₀ count i n s₁)
+    (ready : Ready plan index limit s₁ heads₁ links₁ n) (two : Two count high low) {r₂ : Formed} {s₂ heads₂ links₂ : List ℕ}
+    (f₂ : Formation (exchanged (tree s₁ i)) (onto (exchanged (tree s₁ i)) (diagramsOf s₁ n)) r₂ s₂ heads₂ links₂) where
+  from-test : {r : Stepped} {s′ heads′ links′ index′ : List ℕ} → Ran limit (others (tree s₀ high) (tree s₀ low) (tree s₁ i)) s₁ n r s′ heads′ links′ index′
+      → Ran limit (rowStep T (tree s₀ high) (tree s₀ low)) s₀ count r s′ heads′ links′ index′
   unfolding rowStep
-  from-test z = ran-bind (form (tree s test)) (others (tree s high) (tree s low)) (gave-old (ready .space .holds) (three .test-there)) z
+  from-test z = ran-bind (form T) (others (tree s₀ high) (tree s₀ low)) gave z
 
-  pub step-full : r₁ ≡ Full → Ran (rowStep (tree s test) (tree s high) (tree s low)) s count (Refused NoSpace spaceRows) s₁ heads₁ links₁ index
-  step-full e = from-test (ran-stop (form (exchanged (tree s test))) (lefts (tree s test) (tree s high) (tree s low))
-      (full-ran s count (exchanged (tree s test)) (one-most (exchanged (tree s test)) (most-exchanged (tree s test))) (ready .space .values) (ready .clean) (full-known f₁ e)))
+  small : AtMost highestValue (exchanged (tree s₁ i))
+  small = one-most (exchanged (tree s₁ i)) (most-exchanged (tree s₁ i))
 
-  module _ {o n : ℕ} (e₁ : r₁ ≡ FormedRow o n) where
-    gave₁ : Gave (form (exchanged (tree s test))) s count o n s₁
-    gave₁ = formed-gave s count (exchanged (tree s test)) (row-known f₁ e₁)
+  pub other-full : r₂ ≡ Full → Ran limit (rowStep T (tree s₀ high) (tree s₀ low)) s₀ count (Refused NoSpace spaceRows) s₂ heads₂ links₂ index
+  other-full e = from-test (ran-stop (form (exchanged (tree s₁ i))) (λ y. splitStep (tree s₁ i) y (tree s₀ high) (tree s₀ low))
+      (full-ran s₁ n (exchanged (tree s₁ i)) small (ready .space .values) (ready .clean) (full-known f₂ e)))
 
-    pub step-ready : Ready plan index s₁ heads₁ links₁ n
-    step-ready = record {
-      space = formed-space s count (exchanged (tree s test)) (one-most (exchanged (tree s test)) (most-exchanged (tree s test))) (ready .space .values) (row-known f₁ e₁);
+  module _ {o m : ℕ} (e₂ : r₂ ≡ FormedRow o m) where
+    gave-other : Gave (form (exchanged (tree s₁ i))) s₁ n o m s₂
+    gave-other = formed-gave s₁ n (exchanged (tree s₁ i)) (row-known f₂ e₂)
+
+    pub other-ready : Ready plan index limit s₂ heads₂ links₂ m
+    other-ready = record {
+      space = formed-space s₁ n (exchanged (tree s₁ i)) small (ready .space .values) (row-known f₂ e₂);
       clean = ready .clean;
       words = ready .words;
+      most = ready .most;
     }
 
-    pub step-two : Two n test high
-    step-two = record { first = omega (arith, three .test-there, gave₁ .more); second = omega (arith, three .high-there, gave₁ .more) }
+    pub other-four : Four m i o high low
+    other-four = record {
+      test-there = omega (arith, gave .there, gave-other .more);
+      other-there = gave-other .there;
+      high-there = omega (arith, two .first, gave .more, gave-other .more);
+      low-there = omega (arith, two .second, gave .more, gave-other .more);
+    }
 
-    from-other : {r : Stepped} {s′ heads′ links′ index′ : List ℕ} → Ran (lefts (tree s test) (tree s high) (tree s low) (tree s₁ o)) s₁ n r s′ heads′ links′ index′
-        → Ran (rowStep (tree s test) (tree s high) (tree s low)) s count r s′ heads′ links′ index′
-    from-other z = from-test (ran-bind (form (exchanged (tree s test))) (lefts (tree s test) (tree s high) (tree s low)) gave₁ z)
+    stays-2 : (k : ℕ) → k < count → tree s₂ k ≡ tree s₀ k
+    stays-2 k l = gave-other .stays k (omega (arith, gave .more)) ∙ gave .stays k l
 
-    module _ {a : Stepped} {s₂ heads₂ links₂ index₂ : List ℕ} (x₂ : Ran (combine Product (tree s₁ test) (tree s₁ high)) s₁ n a s₂ heads₂ links₂ index₂) where
-      y₂ : Ran (combine Product (tree s test) (tree s high)) s₁ n a s₂ heads₂ links₂ index₂
-      y₂ = ran-cast (λ i. combine Product (gave₁ .stays test (three .test-there) i) (gave₁ .stays high (three .high-there) i)) x₂
+    pub other-split : {r : Stepped} {s′ heads′ links′ index′ : List ℕ}
+        → Ran limit (splitStep (tree s₂ i) (tree s₂ o) (tree s₂ high) (tree s₂ low)) s₂ m r s′ heads′ links′ index′
+        → Ran limit (rowStep T (tree s₀ high) (tree s₀ low)) s₀ count r s′ heads′ links′ index′
+    other-split z = from-test (ran-bind (form (exchanged (tree s₁ i))) (λ y. splitStep (tree s₁ i) y (tree s₀ high) (tree s₀ low)) gave-other
+        (ran-cast (λ j. splitStep (gave-other .stays i (gave .there) j) (tree s₂ o) (stays-2 high (two .first) j) (stays-2 low (two .second) j)) z))
 
-      pub step-left : {w : Refusal} {k : ℕ} → a ≡ Refused w k → Ran (rowStep (tree s test) (tree s high) (tree s low)) s count a s₂ heads₂ links₂ index₂
-      step-left {w} {k} e = from-other (ran-answer (sym e) (ran-stop (combine Product (tree s test) (tree s high)) (rights (tree s₁ o) (tree s low)) (ran-answer e y₂)))
+-- `row_step`: T is a row that is there
+module _ {plan index s heads links : List ℕ} {limit count test high low : ℕ} (ready : Ready plan index limit s heads links count) (three : Three count test high low)
+    {r₁ : Formed} {s₁ heads₁ links₁ : List ℕ}
+    (f₁ : Formation (exchanged (tree s test)) (onto (exchanged (tree s test)) (diagramsOf s count)) r₁ s₁ heads₁ links₁) where
+  there : Gave (form (tree s test)) s count test count s
+  there = gave-old (ready .space .holds) (three .test-there)
 
-      module _ {left m : ℕ} (e₂ : a ≡ Row left m) where
-        gave₂ : Gave (combine Product (tree s test) (tree s high)) s₁ n left m s₂
-        gave₂ = y₂ .row left m e₂
+  sides : Two count high low
+  sides = record { first = three .high-there; second = three .low-there }
 
-        pub step-ready-2 : (plan₂ : List ℕ) → length plan₂ ≡ length plan → Ready plan₂ index₂ s₂ heads₂ links₂ m
-        step-ready-2 plan₂ l = record { space = ran-answer e₂ y₂ .space; clean = y₂ .clean; words = omega (arith, ready .words) }
+  pub step-full : r₁ ≡ Full → Ran limit (rowStep (tree s test) (tree s high) (tree s low)) s count (Refused NoSpace spaceRows) s₁ heads₁ links₁ index
+  step-full e = other-full (tree s test) there ready sides f₁ e
 
-        pub step-two-2 : Two m o low
-        step-two-2 = record { first = omega (arith, gave₁ .there, gave₂ .more); second = omega (arith, three .low-there, gave₁ .more, gave₂ .more) }
+  module _ {o n : ℕ} (e₁ : r₁ ≡ FormedRow o n) where
+    pub step-ready : Ready plan index limit s₁ heads₁ links₁ n
+    step-ready = other-ready (tree s test) there ready sides f₁ e₁
 
-        from-left : {r : Stepped} {s′ heads′ links′ index′ : List ℕ} → Ran (rights (tree s₁ o) (tree s low) (tree s₂ left)) s₂ m r s′ heads′ links′ index′
-            → Ran (rowStep (tree s test) (tree s high) (tree s low)) s count r s′ heads′ links′ index′
-        from-left z = from-other (ran-bind (combine Product (tree s test) (tree s high)) (rights (tree s₁ o) (tree s low)) gave₂ z)
+    pub step-four : Four n test o high low
+    step-four = other-four (tree s test) there ready sides f₁ e₁
 
-        module _ {b : Stepped} {s₃ heads₃ links₃ index₃ : List ℕ} (x₃ : Ran (combine Product (tree s₂ o) (tree s₂ low)) s₂ m b s₃ heads₃ links₃ index₃) where
-          y₃ : Ran (combine Product (tree s₁ o) (tree s low)) s₂ m b s₃ heads₃ links₃ index₃
-          y₃ = ran-cast (λ i. combine Product (gave₂ .stays o (gave₁ .there) i)
-              ((gave₂ .stays low (omega (arith, three .low-there, gave₁ .more)) ∙ gave₁ .stays low (three .low-there)) i)) x₃
+    pub step-split : {r : Stepped} {s′ heads′ links′ index′ : List ℕ}
+        → Ran limit (splitStep (tree s₁ test) (tree s₁ o) (tree s₁ high) (tree s₁ low)) s₁ n r s′ heads′ links′ index′
+        → Ran limit (rowStep (tree s test) (tree s high) (tree s low)) s count r s′ heads′ links′ index′
+    step-split z = other-split (tree s test) there ready sides f₁ e₁ z
 
-          pub step-right : {w : Refusal} {k : ℕ} → b ≡ Refused w k → Ran (rowStep (tree s test) (tree s high) (tree s low)) s count b s₃ heads₃ links₃ index₃
-          step-right {w} {k} e = from-left (ran-answer (sym e) (ran-stop (combine Product (tree s₁ o) (tree s low)) (λ q. combine Sum (tree s₂ left) q) (ran-answer e y₃)))
-
-          module _ {right k : ℕ} (e₃ : b ≡ Row right k) where
-            gave₃ : Gave (combine Product (tree s₁ o) (tree s low)) s₂ m right k s₃
-            gave₃ = y₃ .row right k e₃
-
-            pub step-ready-3 : (plan₃ : List ℕ) → length plan₃ ≡ length plan → Ready plan₃ index₃ s₃ heads₃ links₃ k
-            step-ready-3 plan₃ l = record { space = ran-answer e₃ y₃ .space; clean = y₃ .clean; words = omega (arith, ready .words) }
-
-            pub step-two-3 : Two k left right
-            step-two-3 = record { first = omega (arith, gave₂ .there, gave₃ .more); second = gave₃ .there }
-
-            pub step-sum : {r : Stepped} {s₄ heads₄ links₄ index₄ : List ℕ} → Ran (combine Sum (tree s₃ left) (tree s₃ right)) s₃ k r s₄ heads₄ links₄ index₄
-                → Ran (rowStep (tree s test) (tree s high) (tree s low)) s count r s₄ heads₄ links₄ index₄
-            step-sum x₄ = from-left (ran-bind (combine Product (tree s₁ o) (tree s low)) (λ q. combine Sum (tree s₂ left) q) gave₃
-                (ran-cast (λ i. combine Sum (gave₃ .stays left (gave₂ .there) i) (tree s₃ right)) x₄))
-
--- `test_step`: T formed before the step adds nothing in it
-module _ (T t f : Diagram) {plan index s₀ heads₀ links₀ : List ℕ} {count : ℕ} (ready : Ready plan index s₀ heads₀ links₀ count) (small : AtMost highestValue T)
-    {r₁ : Formed} {s₁ heads₁ links₁ : List ℕ} (f₁ : Formation T (onto T (diagramsOf s₀ count)) r₁ s₁ heads₁ links₁) where
-  pub formed-step-full : r₁ ≡ Full → Ran (rowStep T t f) s₀ count (Refused NoSpace spaceRows) s₁ heads₁ links₁ index
-  unfolding rowStep
-  formed-step-full e = ran-stop (form T) (others t f) (full-ran s₀ count T small (ready .space .values) (ready .clean) (full-known f₁ e))
-
-  module _ {i n : ℕ} (e₁ : r₁ ≡ FormedRow i n) where
-    gave : Gave (form T) s₀ count i n s₁
-    gave = formed-gave s₀ count T (row-known f₁ e₁)
-
-    pub formed-step-ready : Ready plan index s₁ heads₁ links₁ n
-    formed-step-ready = record { space = formed-space s₀ count T small (ready .space .values) (row-known f₁ e₁); clean = ready .clean; words = ready .words }
-
-    pub formed-step-more : (k : ℕ) → k < count → (k < n) × (tree s₁ k ≡ tree s₀ k)
-    formed-step-more k l = (omega (arith, gave .more), gave .stays k l)
-
-    pub formed-step-there : i < n
-    formed-step-there = gave .there
-
-    is-test : tree s₁ i ≡ T
-    is-test = grew (row-known f₁ e₁) .is
-
-    -- a row step whose T is there
-    twice : rowStep T t f (diagramsOf s₁ n) ≡ rowStep T t f (diagramsOf s₀ count)
-    unfolding rowStep
-    twice =
-        let h = row-known f₁ e₁ .holds in
-        let a : form T (diagramsOf s₁ n) ≡ ok (T, diagramsOf s₁ n)
-        = form-old T (diagramsOf s₁ n) (subst (λ (d : Diagram). mem same d (diagramsOf s₁ n) ≡ true) is-test (there-mem h i (gave .there))) (in-room h) in
-        let b : form T (diagramsOf s₀ count) ≡ ok (T, diagramsOf s₁ n) = gave .gives ∙ ap (λ (d : Diagram). ok (d, diagramsOf s₁ n)) is-test in
-        rw (a, b) refl
-
-    pub formed-step : {r : Stepped} {s heads links index′ : List ℕ} → Ran (rowStep (tree s₁ i) t f) s₁ n r s heads links index′
-        → Ran (rowStep T t f) s₀ count r s heads links index′
-    formed-step x =
-        let y = ran-cast (ap (λ (d : Diagram). rowStep d t f) is-test) x in
-        record {
-          space = y .space;
-          clean = y .clean;
-          row = λ j m e.
-              let z = y .row j m e in
-              record {
-                there = z .there;
-                more = omega (arith, gave .more, z .more);
-                gives = sym twice ∙ z .gives;
-                stays = λ k l. z .stays k (omega (arith, gave .more)) ∙ gave .stays k l;
-              };
-          refusal = λ w m e. sym twice ∙ y .refusal w m e;
-        }
-
--- with the test of what is asked
-module _ (test : Test) {plan index s₀ heads₀ links₀ : List ℕ} {count high low : ℕ} (ready : Ready plan index s₀ heads₀ links₀ count) (two : Two count high low)
+-- `test_step`: T is the test of what is asked
+module _ (test : Test) {plan index s₀ heads₀ links₀ : List ℕ} {limit count high low : ℕ} (ready : Ready plan index limit s₀ heads₀ links₀ count) (two : Two count high low)
     {r₁ : Formed} {s₁ heads₁ links₁ : List ℕ} (f₁ : Formation (testDiagram test) (onto (testDiagram test) (diagramsOf s₀ count)) r₁ s₁ heads₁ links₁) where
-  pub test-step-full : r₁ ≡ Full → Ran (rowStep (testDiagram test) (tree s₀ high) (tree s₀ low)) s₀ count (Refused NoSpace spaceRows) s₁ heads₁ links₁ index
-  test-step-full e = formed-step-full (testDiagram test) (tree s₀ high) (tree s₀ low) ready (one-most (testDiagram test) (most-test test)) f₁ e
+  test-small : AtMost highestValue (testDiagram test)
+  test-small = one-most (testDiagram test) (most-test test)
+
+  pub test-full : r₁ ≡ Full → Ran limit (rowStep (testDiagram test) (tree s₀ high) (tree s₀ low)) s₀ count (Refused NoSpace spaceRows) s₁ heads₁ links₁ index
+  unfolding rowStep
+  test-full e = ran-stop (form (testDiagram test)) (others (tree s₀ high) (tree s₀ low))
+      (full-ran s₀ count (testDiagram test) test-small (ready .space .values) (ready .clean) (full-known f₁ e))
 
   module _ {i n : ℕ} (e₁ : r₁ ≡ FormedRow i n) where
-    pub test-step-ready : Ready plan index s₁ heads₁ links₁ n
-    test-step-ready = formed-step-ready (testDiagram test) (tree s₀ high) (tree s₀ low) ready (one-most (testDiagram test) (most-test test)) f₁ e₁
+    formed : Gave (form (testDiagram test)) s₀ count i n s₁
+    formed = formed-gave s₀ count (testDiagram test) (row-known f₁ e₁)
 
-    old : (k : ℕ) → k < count → (k < n) × (tree s₁ k ≡ tree s₀ k)
-    old = formed-step-more (testDiagram test) (tree s₀ high) (tree s₀ low) ready (one-most (testDiagram test) (most-test test)) f₁ e₁
-
-    pub test-step-three : Three n i high low
-    test-step-three = record {
-      test-there = formed-step-there (testDiagram test) (tree s₀ high) (tree s₀ low) ready (one-most (testDiagram test) (most-test test)) f₁ e₁;
-      high-there = old high (two .first) .0;
-      low-there = old low (two .second) .0;
+    then-ready : Ready plan index limit s₁ heads₁ links₁ n
+    then-ready = record {
+      space = formed-space s₀ count (testDiagram test) test-small (ready .space .values) (row-known f₁ e₁);
+      clean = ready .clean;
+      words = ready .words;
+      most = ready .most;
     }
 
-    pub test-step-row : {r : Stepped} {s heads links index′ : List ℕ} → Ran (rowStep (tree s₁ i) (tree s₁ high) (tree s₁ low)) s₁ n r s heads links index′
-        → Ran (rowStep (testDiagram test) (tree s₀ high) (tree s₀ low)) s₀ count r s heads links index′
-    test-step-row x = formed-step (testDiagram test) (tree s₀ high) (tree s₀ low) ready (one-most (testDiagram test) (most-test test)) f₁ e₁
-        (ran-cast (λ j. rowStep (tree s₁ i) (old high (two .first) .1 j) (old low (two .second) .1 j)) x)
+    pub test-holds : Holds s₁ heads₁ links₁ n
+    test-holds = then-ready .space .holds
+
+    module _ {r₂ : Formed} {s₂ heads₂ links₂ : List ℕ}
+        (f₂ : Formation (exchanged (testDiagram test)) (onto (exchanged (testDiagram test)) (diagramsOf s₁ n)) r₂ s₂ heads₂ links₂) where
+      at-row : Formation (exchanged (tree s₁ i)) (onto (exchanged (tree s₁ i)) (diagramsOf s₁ n)) r₂ s₂ heads₂ links₂
+      at-row =
+          subst (λ (d : Diagram). Formation (exchanged d) (onto (exchanged d) (diagramsOf s₁ n)) r₂ s₂ heads₂ links₂) (sym (grew (row-known f₁ e₁) .is)) f₂
+
+      pub test-other-full : r₂ ≡ Full
+          → Ran limit (rowStep (testDiagram test) (tree s₀ high) (tree s₀ low)) s₀ count (Refused NoSpace spaceRows) s₂ heads₂ links₂ index
+      test-other-full e = other-full (testDiagram test) formed then-ready two at-row e
+
+      module _ {o m : ℕ} (e₂ : r₂ ≡ FormedRow o m) where
+        pub test-ready : Ready plan index limit s₂ heads₂ links₂ m
+        test-ready = other-ready (testDiagram test) formed then-ready two at-row e₂
+
+        pub test-four : Four m i o high low
+        test-four = other-four (testDiagram test) formed then-ready two at-row e₂
+
+        pub test-split : {r : Stepped} {s′ heads′ links′ index′ : List ℕ}
+            → Ran limit (splitStep (tree s₂ i) (tree s₂ o) (tree s₂ high) (tree s₂ low)) s₂ m r s′ heads′ links′ index′
+            → Ran limit (rowStep (testDiagram test) (tree s₀ high) (tree s₀ low)) s₀ count r s′ heads′ links′ index′
+        test-split z = other-split (testDiagram test) formed then-ready two at-row e₂ z

@@ -1,19 +1,21 @@
 -- Laws of the steps that the code runs in the working space: what the tables hold, and one step after another.
-use mathlib.Core.Path.{_≡_, refl, sym, ap₂, subst, _∙_}
+use mathlib.Core.Path.{_≡_, refl, sym, ap, ap₂, subst, _∙_}
 use mathlib.Core.Logic.{_≢_}
-use mathlib.Core.Bool.{true, _||_}
+use mathlib.Core.Bool.{true, false, _||_}
 use mathlib.Core.List.{List, [], _∷_}
 use Prim.Native.Nat.{ℕ, zero, suc, _≤_, _<_}
 use native.Mathlib.Omega.{arith}
 use lib.ListN.{length, take}
-use lib.Dec.{lit≤}
+use lib.Dec.{eqb}
+use borrow.Author.Tests.{eq-eqb}
 use Rattle.refusal.specs.declared.Refusal.{Refusal}
-use Rattle.refusal.specs.declared.Refusal.the-variants.{Space as NoSpace}
+use Rattle.refusal.specs.declared.Refusal.the-variants.{Space as NoSpace, Pairs}
+use Rattle.refusal.specs.Numbers.{numberOf}
 use Rattle.refusal.specs.Outcome.{ok, refused}
 use Rattle.basics.specs.Tests.{Either, one, other, either, or-one, or-other, below}
 use Rattle.basics.specs.Members.{mem, clash}
 use Rattle.label.specs.Limits.{leafMark}
-use Rattle.diagram.specs.Sizes.{highestValue, spaceRows}
+use Rattle.diagram.specs.Sizes.{highestValue, spaceRows, mostPairs}
 use Rattle.diagram.specs.Diagram.{Diagram, leaf, branch, same}
 use Rattle.diagram.specs.Rows.{onto}
 use Rattle.diagram.specs.Words.{labelAt, highAt, lowAt}
@@ -40,7 +42,7 @@ use Rattle.combine.specs.RowPairs.{Operand}
 use Rattle.combine.specs.Paired.{Pairable}
 use Rattle.row_steps.specs.declared.Stepped.{Stepped}
 use Rattle.row_steps.specs.declared.Stepped.the-variants.{Row, Refused}
-use Rattle.row_steps.specs.Running.{Valued, Space, Ready, Two, Gave, Ran}
+use Rattle.row_steps.specs.Running.{Valued, Space, Ready, Two, Gave, Final, isCrowded, Ran}
 
 -- leaves in their range
 most-part : (b v : ℕ) (d : Diagram) → AtMost b d → isPart (leaf v) d ≡ true → v ≤ b
@@ -132,15 +134,16 @@ module _ {s heads links : List ℕ} {count : ℕ} (h : Holds s heads links count
       low = λ k q e. row-kids k (omega arith) e .1;
     }
 
-pub ready-pairable : {plan index s heads links : List ℕ} {count i j : ℕ} → Ready plan index s heads links count → Two count i j → Pairable s s plan index 4096 i j
-ready-pairable {plan} {index} {s} {heads} {links} {count} {i} {j} r t =
+pub ready-pairable : {plan index s heads links : List ℕ} {limit count i j : ℕ} → Ready plan index limit s heads links count → Two count i j
+    → Pairable s s plan index limit i j
+ready-pairable {plan} {index} {s} {heads} {links} {limit} {count} {i} {j} r t =
     let h = r .space .holds in
     let v = r .space .values in
     record {
       first = space-operand h v i (t .first);
       second = space-operand h v j (t .second);
       leading = record { first = space-leads h v i (t .first); second = space-leads h v j (t .second) };
-      empty = index-empty plan index 4096 (r .words) (lit≤ tt) (r .clean);
+      empty = index-empty plan index limit (r .words) (omega (arith, r .most)) (r .clean);
     }
 
 -- rows that were formed
@@ -170,28 +173,30 @@ module _ (s₀ : List ℕ) (count : ℕ) (d : Diagram) {s heads links : List ℕ
   pub full-space : AtMost highestValue d → Valued (diagramsOf s₀ count) → Formation d (onto d (diagramsOf s₀ count)) Full s heads links → Space s heads links spaceRows
   full-space a v f = record { holds = f .holds; values = subst Valued (sym (f .diagrams)) (valued-take spaceRows (onto d (diagramsOf s₀ count)) (valued-onto d (diagramsOf s₀ count) a v)) }
 
-  pub formed-ran : {i n : ℕ} {index : List ℕ} → AtMost highestValue d → Valued (diagramsOf s₀ count) → Clean index → Formation d (onto d (diagramsOf s₀ count)) (FormedRow i n) s heads links
-      → Ran (form d) s₀ count (Row i n) s heads links index
-  formed-ran {i} {n} a v c f = record {
+  pub formed-ran : {limit i n : ℕ} {index : List ℕ} → AtMost highestValue d → Valued (diagramsOf s₀ count) → Clean index
+      → Formation d (onto d (diagramsOf s₀ count)) (FormedRow i n) s heads links
+      → Ran limit (form d) s₀ count (Row i n) s heads links index
+  formed-ran {limit} {i} {n} a v c f = record {
     space = formed-space a v f;
     clean = c;
     row = λ j m e. let p : i ≡ j = cc in let q : n ≡ m = cc in rw (← p, ← q) (formed-gave f);
-    refusal = λ w m e. let z : _≡_ {A = ℕ} 0 1 = cc in absurd (omega arith);
+    refusal = λ w m e x. let z : _≡_ {A = ℕ} 0 1 = cc in absurd (omega arith);
   }
 
-  pub full-ran : {index : List ℕ} → AtMost highestValue d → Valued (diagramsOf s₀ count) → Clean index → Formation d (onto d (diagramsOf s₀ count)) Full s heads links
-      → Ran (form d) s₀ count (Refused NoSpace 2048) s heads links index
+  pub full-ran : {limit : ℕ} {index : List ℕ} → AtMost highestValue d → Valued (diagramsOf s₀ count) → Clean index
+      → Formation d (onto d (diagramsOf s₀ count)) Full s heads links
+      → Ran limit (form d) s₀ count (Refused NoSpace 2048) s heads links index
   full-ran a v c f = record {
     space = full-space a v f;
     clean = c;
     row = λ j m e. let z : _≡_ {A = ℕ} 0 1 = cc in absurd (omega arith);
-    refusal = λ w m e. let p : NoSpace ≡ w = cc in rw (← p) (formed-stop f);
+    refusal = λ w m e x. let p : NoSpace ≡ w = cc in rw (← p) (formed-stop f);
   }
 
 -- one step after another
-pub ran-bind : (m : Run Diagram) (f : Diagram → Run Diagram) {s₀ s : List ℕ} {count i n : ℕ} {r : Stepped} {s′ heads′ links′ index′ : List ℕ}
-    → Gave m s₀ count i n s → Ran (f (tree s i)) s n r s′ heads′ links′ index′ → Ran (bind m f) s₀ count r s′ heads′ links′ index′
-ran-bind m f {s₀} {s} {count} {i} {n} g q = record {
+pub ran-bind : (m : Run Diagram) (f : Diagram → Run Diagram) {limit : ℕ} {s₀ s : List ℕ} {count i n : ℕ} {r : Stepped} {s′ heads′ links′ index′ : List ℕ}
+    → Gave m s₀ count i n s → Ran limit (f (tree s i)) s n r s′ heads′ links′ index′ → Ran limit (bind m f) s₀ count r s′ heads′ links′ index′
+ran-bind m f {limit} {s₀} {s} {count} {i} {n} g q = record {
   space = q .space;
   clean = q .clean;
   row = λ j k e.
@@ -202,17 +207,29 @@ ran-bind m f {s₀} {s} {count} {i} {n} g q = record {
         gives = rw (g .gives) (z .gives);
         stays = λ a l. z .stays a (omega (arith, g .more)) ∙ g .stays a l;
       };
-  refusal = λ w k e. rw (g .gives) (q .refusal w k e);
+  refusal = λ w k e x. rw (g .gives) (q .refusal w k e x);
 }
 
-pub ran-stop : (m : Run Diagram) (f : Diagram → Run Diagram) {s₀ : List ℕ} {count n : ℕ} {w : Refusal} {s heads links index : List ℕ}
-    → Ran m s₀ count (Refused w n) s heads links index → Ran (bind m f) s₀ count (Refused w n) s heads links index
-ran-stop m f {s₀} {count} {n} {w} q = record {
+pub ran-stop : (m : Run Diagram) (f : Diagram → Run Diagram) {limit : ℕ} {s₀ : List ℕ} {count n : ℕ} {w : Refusal} {s heads links index : List ℕ}
+    → Ran limit m s₀ count (Refused w n) s heads links index → Ran limit (bind m f) s₀ count (Refused w n) s heads links index
+ran-stop m f {limit} {s₀} {count} {n} {w} q = record {
   space = q .space;
   clean = q .clean;
   row = λ j k e. let z : _≡_ {A = ℕ} 0 1 = cc in absurd (omega arith);
-  refusal = λ v k e. let p : w ≡ v = cc in bind-refused m f (diagramsOf s₀ count) v (subst (λ (u : Refusal). m (diagramsOf s₀ count) ≡ refused u) p (q .refusal w n refl));
+  refusal = λ v k e x.
+      let p : w ≡ v = cc in
+      bind-refused m f (diagramsOf s₀ count) v (subst (λ (u : Refusal). Final limit u → m (diagramsOf s₀ count) ≡ refused u) p (q .refusal w n refl) x);
 }
+
+-- a refusal that is none for pairs, and one with room for all pairs
+pub uncrowded-final : {limit : ℕ} (r : Stepped) (w : Refusal) (n : ℕ) → isCrowded r ≡ false → r ≡ Refused w n → Final limit w
+uncrowded-final r w n c e p =
+    let x : eqb (numberOf w) (numberOf Pairs) ≡ true = eq-eqb (numberOf w) (numberOf Pairs) (ap numberOf p) in
+    let y : eqb (numberOf w) (numberOf Pairs) ≡ false = sym (ap isCrowded e) ∙ c in
+    clash x y
+
+pub all-final : (w : Refusal) → Final mostPairs w
+all-final w p = refl
 
 -- a row that is there
 pub gave-old : {s heads links : List ℕ} {count i : ℕ} → Holds s heads links count → i < count → Gave (form (tree s i)) s count i count s
@@ -245,10 +262,10 @@ pub one-most : (d : Diagram) → AtMost 1 d → AtMost highestValue d
 one-most d x = most-more 1 highestValue (omega arith) d x
 
 -- the same step, and a known answer
-pub ran-cast : {m m′ : Run Diagram} {s₀ : List ℕ} {count : ℕ} {r : Stepped} {s heads links index : List ℕ} → m ≡ m′ → Ran m s₀ count r s heads links index
-    → Ran m′ s₀ count r s heads links index
-ran-cast {m} {m′} {s₀} {count} {r} {s} {heads} {links} {index} e x = subst (λ (z : Run Diagram). Ran z s₀ count r s heads links index) e x
+pub ran-cast : {limit : ℕ} {m m′ : Run Diagram} {s₀ : List ℕ} {count : ℕ} {r : Stepped} {s heads links index : List ℕ} → m ≡ m′
+    → Ran limit m s₀ count r s heads links index → Ran limit m′ s₀ count r s heads links index
+ran-cast {limit} {m} {m′} {s₀} {count} {r} {s} {heads} {links} {index} e x = subst (λ (z : Run Diagram). Ran limit z s₀ count r s heads links index) e x
 
-pub ran-answer : {m : Run Diagram} {s₀ : List ℕ} {count : ℕ} {r r′ : Stepped} {s heads links index : List ℕ} → r ≡ r′ → Ran m s₀ count r s heads links index
-    → Ran m s₀ count r′ s heads links index
-ran-answer {m} {s₀} {count} {r} {r′} {s} {heads} {links} {index} e x = subst (λ (z : Stepped). Ran m s₀ count z s heads links index) e x
+pub ran-answer : {limit : ℕ} {m : Run Diagram} {s₀ : List ℕ} {count : ℕ} {r r′ : Stepped} {s heads links index : List ℕ} → r ≡ r′
+    → Ran limit m s₀ count r s heads links index → Ran limit m s₀ count r′ s heads links index
+ran-answer {limit} {m} {s₀} {count} {r} {r′} {s} {heads} {links} {index} e x = subst (λ (z : Stepped). Ran limit m s₀ count z s heads links index) e x

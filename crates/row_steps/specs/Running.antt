@@ -1,10 +1,13 @@
 -- Steps of one call in its working space, as the code runs them (document 01, sections 'Combination' and 'Regression').
 use mathlib.Core.Path.{_≡_}
-use mathlib.Core.Bool.{true}
+use mathlib.Core.Bool.{Bool, true, false}
 use mathlib.Core.List.{List}
 use Prim.Native.Nat.{ℕ, suc, _*_, _≤_, _<_}
 use lib.ListN.{length, getD}
+use lib.Dec.{eqb}
 use Rattle.refusal.specs.declared.Refusal.{Refusal}
+use Rattle.refusal.specs.declared.Refusal.the-variants.{Pairs}
+use Rattle.refusal.specs.Numbers.{numberOf}
 use Rattle.refusal.specs.Outcome.{ok, refused}
 use Rattle.basics.specs.Members.{mem}
 use Rattle.label.specs.Limits.{leafMark}
@@ -15,11 +18,12 @@ use Rattle.diagram.specs.Sizes.{highestValue, spaceRows, mostPairs}
 use Rattle.diagram.specs.Diagram.{Diagram, leaf, same}
 use Rattle.diagram.specs.Rows.{onto}
 use Rattle.diagram.specs.Validity.{tree}
+use Rattle.apply.specs.declared.Operation.the-variants.{Sum, Product}
 use Rattle.plan.specs.Plan.{Clean}
 use Rattle.store.specs.declared.Formed.{Formed}
 use Rattle.store.specs.declared.Formed.the-variants.{Row as FormedRow}
 use Rattle.store.specs.Space.{diagramsOf, Holds, Formation}
-use Rattle.regression.specs.Calls.{Run}
+use Rattle.regression.specs.Calls.{Run, bind, combine}
 use Rattle.regression.specs.Step.{exchanged}
 use Rattle.row_steps.specs.declared.Stepped.{Stepped}
 use Rattle.row_steps.specs.declared.Stepped.the-variants.{Row, Refused}
@@ -33,11 +37,12 @@ pub record Space (s heads links : List ℕ) (count : ℕ) : Type 0 where
   pub holds : Holds s heads links count
   pub values : Valued (diagramsOf s count)
 
--- the tables of a call: the space, a plan with room for 4,096 pairs, and its index, which is clean
-pub record Ready (plan index s heads links : List ℕ) (count : ℕ) : Type 0 where
+-- the tables of a call: the space, a plan with room for `limit` pairs, and its index, which is clean
+pub record Ready (plan index : List ℕ) (limit : ℕ) (s heads links : List ℕ) (count : ℕ) : Type 0 where
   pub space : Space s heads links count
   pub clean : Clean index
-  pub words : mostPairs * 5 ≤ length plan
+  pub words : limit * 5 ≤ length plan
+  pub most : limit ≤ mostPairs
 
 -- two rows of the space
 pub record Two (count i j : ℕ) : Type 0 where
@@ -49,6 +54,17 @@ pub record Three (count test high low : ℕ) : Type 0 where
   pub test-there : test < count
   pub high-there : high < count
   pub low-there : low < count
+
+-- the rows of the rest of a row step: T, 1 - T, the true result and the false result
+pub record Four (count test other high low : ℕ) : Type 0 where
+  pub test-there : test < count
+  pub other-there : other < count
+  pub high-there : high < count
+  pub low-there : low < count
+
+-- the rest of a row step, x being T and y 1 - T: left product, right product, then sum
+abbrev pub splitStep : Diagram → Diagram → Diagram → Diagram → Run Diagram
+splitStep x y t f = bind (combine Product x t) (λ p. bind (combine Product y f) (λ q. combine Sum p q))
 
 -- the step m, run in a space of count rows, gives row i, and there are n rows then; the rows that were there stay
 pub record Gave (m : Run Diagram) (s₀ : List ℕ) (count i n : ℕ) (s : List ℕ) : Type 0 where
@@ -62,12 +78,22 @@ abbrev pub countThen : Stepped → ℕ
 countThen (Row i n) = n
 countThen (Refused w n) = n
 
--- what running the step m ensures: the space then, the plan's index clean, and the answer or the refusal that the step gives
-pub record Ran (m : Run Diagram) (s₀ : List ℕ) (count : ℕ) (r : Stepped) (s heads links index : List ℕ) : Type 0 where
+-- a refusal that more room for pairs would not change: it is not for pairs, or there is room for all
+abbrev pub Final : ℕ → Refusal → Type 0
+Final limit w = w ≡ Pairs → limit ≡ mostPairs
+
+-- whether a step was refused for pairs
+abbrev pub isCrowded : Stepped → Bool
+isCrowded (Row i n) = false
+isCrowded (Refused w n) = eqb (numberOf w) (numberOf Pairs)
+
+-- what running the step m with room for `limit` pairs ensures: the space then, the plan's index clean, and the answer or the refusal that the step gives; a
+-- refusal for pairs is the step's own only where there is room for all
+pub record Ran (limit : ℕ) (m : Run Diagram) (s₀ : List ℕ) (count : ℕ) (r : Stepped) (s heads links index : List ℕ) : Type 0 where
   pub space : Space s heads links (countThen r)
   pub clean : Clean index
   pub row : (i n : ℕ) → r ≡ Row i n → Gave m s₀ count i n s
-  pub refusal : (w : Refusal) (n : ℕ) → r ≡ Refused w n → m (diagramsOf s₀ count) ≡ refused w
+  pub refusal : (w : Refusal) (n : ℕ) → r ≡ Refused w n → Final limit w → m (diagramsOf s₀ count) ≡ refused w
 
 -- the rows of 1 - T that are known: for row k one more than the row of its 1 - T, or 0
 pub record Noted (s memo : List ℕ) (count : ℕ) : Type 0 where

@@ -15,7 +15,7 @@ ghost use Rattle.diagram.specs.Validity.{tree};
 ghost use Rattle.store.specs.Space.{diagramsOf, Holds, Formation};
 ghost use Rattle.regression.specs.Calls.{combine};
 ghost use Rattle.regression.specs.Step.{testDiagram, rowStep, exchanged};
-ghost use Rattle.row_steps.specs.Running.{Ready, Two, Three, Ran, Exchangeable, Exchanged, Testable};
+ghost use Rattle.row_steps.specs.Running.{Ready, Two, Three, Four, splitStep, Ran, isCrowded, Exchangeable, Exchanged, Testable};
 
 // What a step in the working space answers: the result's row and the rows then; or why it is refused, and the rows then.
 pub enum Stepped {
@@ -23,10 +23,21 @@ pub enum Stepped {
     Refused(Refusal, usize),
 }
 
+// Whether a step was refused for pairs.
+pub fn is_crowded(r: Stepped) -> bool
+    ensures { λ b. ⌜ b ≡ isCrowded r ⌝ }
+{
+    match r {
+        Stepped::Row(_, _) => false,
+        Stepped::Refused(why, _) => why.number() == Refusal::Pairs.number(),
+    }
+}
+
 // Combines two rows, names shared.
 fn join(
     plan: &mut [u64],
     index: &mut [u16],
+    limit: usize,
     i: usize,
     j: usize,
     op: Operation,
@@ -35,22 +46,11 @@ fn join(
     links: &mut [u16],
     count: usize,
 ) -> Stepped
-    requires { ⌜ Ready (now plan) (now index) (now space) (now heads) (now links) count ⌝ }
+    requires { ⌜ Ready (now plan) (now index) limit (now space) (now heads) (now links) count ⌝ }
     requires { ⌜ Two count i j ⌝ }
-    ensures { λ r. ⌜ Ran (combine op (tree (now (space .entry)) i) (tree (now (space .entry)) j)) (now (space .entry)) count r (now (space .exit)) (now (heads .exit)) (now (links .exit)) (now (index .exit)) ⌝ }
+    ensures { λ r. ⌜ Ran limit (combine op (tree (now (space .entry)) i) (tree (now (space .entry)) j)) (now (space .entry)) count r (now (space .exit)) (now (heads .exit)) (now (links .exit)) (now (index .exit)) ⌝ }
 {
-    let r = combine::join_rows(
-        plan,
-        index,
-        diagram::PAIRS,
-        i,
-        j,
-        op,
-        space,
-        heads,
-        links,
-        count,
-    );
+    let r = combine::join_rows(plan, index, limit, i, j, op, space, heads, links, count);
     match r {
         Joined::At(row, rows, _) => Stepped::Row(row, rows),
         Joined::TooManyPairs => Stepped::Refused(Refusal::Pairs, count),
@@ -167,35 +167,35 @@ fn one_minus(
     exchange(space, heads, links, &mut memo, count, test)
 }
 
-// The row step, T being the row `test`: 1 - T, left product, right product, then sum.
-pub fn row_step(
+// The rest of a row step, T being the row `test` and 1 - T the row `other`: left product, right product, then sum.
+fn split_step(
     plan: &mut [u64],
     index: &mut [u16],
+    limit: usize,
     space: &mut [u64],
     heads: &mut [u16],
     links: &mut [u16],
     count: usize,
     test: usize,
+    other: usize,
     high: usize,
     low: usize,
 ) -> Stepped
-    requires { ⌜ Ready (now plan) (now index) (now space) (now heads) (now links) count ⌝ }
-    requires { ⌜ Three count test high low ⌝ }
-    ensures { λ r. ⌜ Ran (rowStep (tree (now (space .entry)) test) (tree (now (space .entry)) high) (tree (now (space .entry)) low)) (now (space .entry)) count r (now (space .exit)) (now (heads .exit)) (now (links .exit)) (now (index .exit)) ⌝ }
+    requires { ⌜ Ready (now plan) (now index) limit (now space) (now heads) (now links) count ⌝ }
+    requires { ⌜ Four count test other high low ⌝ }
+    ensures { λ r. ⌜ Ran limit (splitStep (tree (now (space .entry)) test) (tree (now (space .entry)) other) (tree (now (space .entry)) high) (tree (now (space .entry)) low)) (now (space .entry)) count r (now (space .exit)) (now (heads .exit)) (now (links .exit)) (now (index .exit)) ⌝ }
 {
-    let Formed::Row(other, n) = one_minus(space, heads, links, count, test) else {
-        return Stepped::Refused(Refusal::Space, diagram::SPACE_ROWS);
-    };
     let a = join(
         plan,
         index,
+        limit,
         test,
         high,
         Operation::Product,
         space,
         heads,
         links,
-        n,
+        count,
     );
     let Stepped::Row(left, m) = a else {
         return a;
@@ -203,6 +203,7 @@ pub fn row_step(
     let b = join(
         plan,
         index,
+        limit,
         other,
         low,
         Operation::Product,
@@ -217,6 +218,7 @@ pub fn row_step(
     join(
         plan,
         index,
+        limit,
         left,
         right,
         Operation::Sum,
@@ -224,6 +226,41 @@ pub fn row_step(
         heads,
         links,
         k,
+    )
+}
+
+// The row step, T being the row `test`: 1 - T, left product, right product, then sum.
+pub fn row_step(
+    plan: &mut [u64],
+    index: &mut [u16],
+    limit: usize,
+    space: &mut [u64],
+    heads: &mut [u16],
+    links: &mut [u16],
+    count: usize,
+    test: usize,
+    high: usize,
+    low: usize,
+) -> Stepped
+    requires { ⌜ Ready (now plan) (now index) limit (now space) (now heads) (now links) count ⌝ }
+    requires { ⌜ Three count test high low ⌝ }
+    ensures { λ r. ⌜ Ran limit (rowStep (tree (now (space .entry)) test) (tree (now (space .entry)) high) (tree (now (space .entry)) low)) (now (space .entry)) count r (now (space .exit)) (now (heads .exit)) (now (links .exit)) (now (index .exit)) ⌝ }
+{
+    let Formed::Row(other, n) = one_minus(space, heads, links, count, test) else {
+        return Stepped::Refused(Refusal::Space, diagram::SPACE_ROWS);
+    };
+    split_step(
+        plan,
+        index,
+        limit,
+        space,
+        heads,
+        links,
+        n,
+        test,
+        other,
+        high,
+        low,
     )
 }
 
@@ -245,10 +282,29 @@ pub fn form_test(
     }
 }
 
+// Forms 1 - T for the test of what is asked.
+fn form_other(
+    space: &mut [u64],
+    heads: &mut [u16],
+    links: &mut [u16],
+    count: usize,
+    test: Test,
+) -> Formed
+    requires { ⌜ Holds (now space) (now heads) (now links) count ⌝ }
+    requires { ⌜ Testable test ⌝ }
+    ensures { λ r. ⌜ Formation (exchanged (testDiagram test)) (onto (exchanged (testDiagram test)) (diagramsOf (now (space .entry)) count)) r (now (space .exit)) (now (heads .exit)) (now (links .exit)) ⌝ }
+{
+    match test {
+        Test::Always => store::leaf(space, heads, links, count, 0),
+        Test::Is(l) => form_pair(space, heads, links, count, l.packed, 0, 1),
+    }
+}
+
 // The row step, T being the test of what is asked.
 pub fn test_step(
     plan: &mut [u64],
     index: &mut [u16],
+    limit: usize,
     space: &mut [u64],
     heads: &mut [u16],
     links: &mut [u16],
@@ -257,13 +313,28 @@ pub fn test_step(
     high: usize,
     low: usize,
 ) -> Stepped
-    requires { ⌜ Ready (now plan) (now index) (now space) (now heads) (now links) count ⌝ }
+    requires { ⌜ Ready (now plan) (now index) limit (now space) (now heads) (now links) count ⌝ }
     requires { ⌜ Testable test ⌝ }
     requires { ⌜ Two count high low ⌝ }
-    ensures { λ r. ⌜ Ran (rowStep (testDiagram test) (tree (now (space .entry)) high) (tree (now (space .entry)) low)) (now (space .entry)) count r (now (space .exit)) (now (heads .exit)) (now (links .exit)) (now (index .exit)) ⌝ }
+    ensures { λ r. ⌜ Ran limit (rowStep (testDiagram test) (tree (now (space .entry)) high) (tree (now (space .entry)) low)) (now (space .entry)) count r (now (space .exit)) (now (heads .exit)) (now (links .exit)) (now (index .exit)) ⌝ }
 {
     let Formed::Row(t, n) = form_test(space, heads, links, count, test) else {
         return Stepped::Refused(Refusal::Space, diagram::SPACE_ROWS);
     };
-    row_step(plan, index, space, heads, links, n, t, high, low)
+    let Formed::Row(other, m) = form_other(space, heads, links, n, test) else {
+        return Stepped::Refused(Refusal::Space, diagram::SPACE_ROWS);
+    };
+    split_step(
+        plan,
+        index,
+        limit,
+        space,
+        heads,
+        links,
+        m,
+        t,
+        other,
+        high,
+        low,
+    )
 }

@@ -48,7 +48,7 @@ form-truth-spec =
     (tie.spec (λ c κs. search needs) has-truth-requires truth-words-requires replace-arguments-requires
     (λ c. c .before .before .before .before .before .before .before .before .before .before .replace-arguments .kept .1 .1 .1 .0)
     (λ c. c .before .before .before .before .before .before .before .before .before .before .replace-arguments .kept .1 .1 .1 .1 .0)
-    (λ c. c .before .before .before .before .before .before .before .before .before .before .replace-arguments .kept .1 .1 .1 .1 .1 .0)
     (λ c. c .before .before .before .before .before .before .before .before .before .before .replace-arguments .kept .1 .1 .1 .1 .1 .1 .0)
-    (λ c. c .before .before .before .before .before .before .before .before .before .before .replace-arguments .kept .1 .1 .1 .1 .1 .1 .1 .0) returns
+    (λ c. c .before .before .before .before .before .before .before .before .before .before .replace-arguments .kept .1 .1 .1 .1 .1 .1 .1 .0)
+    (λ c. c .before .before .before .before .before .before .before .before .before .before .replace-arguments .kept .1 .1 .1 .1 .1 .1 .1 .1 .0) returns
     form-test-requires (λ c κs. search needs) (λ c. search needs) (λ c. search needs) (λ c. search needs) returns-2)

@@ -48,13 +48,13 @@ kept-truth-spec =
     (tie.spec (λ c κs. search needs) (λ c. search needs) (λ c. search needs) returns (λ c κs. search needs) (λ c. search needs) (λ c. search needs)
     (λ c. c .before .before .before .before .before .before .before .before .before .before .before .before .form-truth .kept .1 .1 .1 .1 .0)
     (λ c. c .before .before .before .before .before .before .before .before .before .before .before .before .form-truth .kept .1 .1 .1 .1 .1 .0)
-    (λ c. c .before .before .before .before .before .before .before .before .before .before .before .before .form-truth .kept .1 .1 .1 .1 .1 .1 .0)
     (λ c. c .before .before .before .before .before .before .before .before .before .before .before .before .form-truth .kept .1 .1 .1 .1 .1 .1 .1 .0)
     (λ c. c .before .before .before .before .before .before .before .before .before .before .before .before .form-truth .kept .1 .1 .1 .1 .1 .1 .1 .1 .0)
+    (λ c. c .before .before .before .before .before .before .before .before .before .before .before .before .form-truth .kept .1 .1 .1 .1 .1 .1 .1 .1 .1 .0)
     returns-2 mul-kept add-kept (λ c. search needs) slice-write-kept (λ c. search needs)
     (λ c. c .before .before .before .before .before .before .before .before .before .before .before .before .before .form-truth .kept .1 .1 .1 .1 .0)
     (λ c. c .before .before .before .before .before .before .before .before .before .before .before .before .before .form-truth .kept .1 .1 .1 .1 .1 .0)
-    (λ c. c .before .before .before .before .before .before .before .before .before .before .before .before .before .form-truth .kept .1 .1 .1 .1 .1
-    .1 .0) (λ c. c .before .before .before .before .before .before .before .before .before .before .before .before .before .form-truth .kept .1 .1 .1
-    .1 .1 .1 .1 .0) (λ c. c .before .before .before .before .before .before .before .before .before .before .before .before .before .form-truth .kept
+    (λ c. c .before .before .before .before .before .before .before .before .before .before .before .before .before .form-truth .kept .1 .1 .1 .1 .1 .1
+    .1 .0) (λ c. c .before .before .before .before .before .before .before .before .before .before .before .before .before .form-truth .kept .1 .1 .1 .1
+    .1 .1 .1 .1 .0) (λ c. c .before .before .before .before .before .before .before .before .before .before .before .before .before .form-truth .kept .1
     .1 .1 .1 .1 .1 .1 .1 .1 .0) returns-3)

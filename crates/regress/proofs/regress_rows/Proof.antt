@@ -13,13 +13,13 @@ use Rattle.regress.proofs.regress_rows.Statement.{statement}
 use Rattle.regress.proofs.regress_rows.Tie as tie
 
 abbrev Inv-loop : tie.InvT-loop
-Inv-loop arities value truths spans plan₀ index₀ space₀ heads₀ links₀ kept₀ numbers₀ m n₀ root₀ k₀ plan index space heads links kept numbers n root k =
+Inv-loop arities value truths spans plan₀ index₀ limit space₀ heads₀ links₀ kept₀ numbers₀ m n₀ root₀ k₀ plan index space heads links kept numbers n root k =
     (length plan ≡ length plan₀) × (length index ≡ length index₀) × (length space ≡ length space₀) × (length heads ≡ length heads₀) × (length links ≡ length links₀)
-    × Ready plan index space heads links n × Going (truthAt arities (truthsOf truths spans)) arities value space₀ 0 space numbers n root k
+    × Ready plan index limit space heads links n × Going (truthAt arities (truthsOf truths spans)) arities value space₀ 0 space numbers n root k
     × Keeps arities (truthsOf truths spans) space n kept
 
 abbrev μ-loop : tie.MeasureT-loop
-μ-loop arities value truths spans plan₀ index₀ space₀ heads₀ links₀ kept₀ numbers₀ m n₀ root₀ k₀ plan index space heads links kept numbers n root k = m - k
+μ-loop arities value truths spans plan₀ index₀ limit space₀ heads₀ links₀ kept₀ numbers₀ m n₀ root₀ k₀ plan index space heads links kept numbers n root k = m - k
 
 loop-holds : tie.Need-loop-holds Inv-loop μ-loop
 loop-holds c =
@@ -59,19 +59,19 @@ same-length-3 : tie.Need-same-length-3 Inv-loop μ-loop
 same-length-3 c =
     let c1 = c .before .before .before .before .before .before .before .before .before .before .before .before .before in
     let c2 = c1 .before .before .before .before .before .before .before .before .before .before in
-    c1 .regressed-row .kept .1 .1 .1 .1 .1 .1 .1 .0 ∙ c2 .loop .inv .2
+    c1 .regressed-row .kept .1 .1 .1 .1 .1 .1 .1 .1 .0 ∙ c2 .loop .inv .2
 
 same-length-4 : tie.Need-same-length-4 Inv-loop μ-loop
 same-length-4 c =
     let c1 = c .before .before .before .before .before .before .before .before .before .before .before .before .before in
     let c2 = c1 .before .before .before .before .before .before .before .before .before .before in
-    c1 .regressed-row .kept .1 .1 .1 .1 .1 .1 .1 .1 .0 ∙ c2 .loop .inv .3
+    c1 .regressed-row .kept .1 .1 .1 .1 .1 .1 .1 .1 .1 .0 ∙ c2 .loop .inv .3
 
 same-length-5 : tie.Need-same-length-5 Inv-loop μ-loop
 same-length-5 c =
     let c1 = c .before .before .before .before .before .before .before .before .before .before .before .before .before in
     let c2 = c1 .before .before .before .before .before .before .before .before .before .before in
-    c1 .regressed-row .kept .1 .1 .1 .1 .1 .1 .1 .1 .1 .0 ∙ c2 .loop .inv .4
+    c1 .regressed-row .kept .1 .1 .1 .1 .1 .1 .1 .1 .1 .1 .0 ∙ c2 .loop .inv .4
 
 returns : tie.Need-returns Inv-loop μ-loop
 unfolding regression
@@ -119,9 +119,9 @@ loop-again c =
     let c4 = c3 .before in (
       c1 .regressed-row .kept .1 .1 .1 .1 .1 .0 ∙ c4 .loop .inv .0,
       c1 .regressed-row .kept .1 .1 .1 .1 .1 .1 .0 ∙ c4 .loop .inv .1,
-      c1 .regressed-row .kept .1 .1 .1 .1 .1 .1 .1 .0 ∙ c4 .loop .inv .2,
-      c1 .regressed-row .kept .1 .1 .1 .1 .1 .1 .1 .1 .0 ∙ c4 .loop .inv .3,
-      c1 .regressed-row .kept .1 .1 .1 .1 .1 .1 .1 .1 .1 .0 ∙ c4 .loop .inv .4,
+      c1 .regressed-row .kept .1 .1 .1 .1 .1 .1 .1 .1 .0 ∙ c4 .loop .inv .2,
+      c1 .regressed-row .kept .1 .1 .1 .1 .1 .1 .1 .1 .1 .0 ∙ c4 .loop .inv .3,
+      c1 .regressed-row .kept .1 .1 .1 .1 .1 .1 .1 .1 .1 .1 .0 ∙ c4 .loop .inv .4,
       ready-on (c4 .loop .inv .5) (c1 .regressed-row .ensures .ran) (c1 .regressed-row .kept .1 .1 .1 .1 .1 .0) (c .before .r .given .1),
       going-on (c4 .loop .inv .6) (c3 .loop-test .taken) (c2 .task-at .ensures) (c1 .regressed-row .ensures .ran) (c .before .r .given .1),
       c1 .regressed-row .ensures .keeps _ _ (c .before .r .given .1),

@@ -52,9 +52,9 @@ regressed-row-spec =
     .kept-truth .kept .1 .1 .1 .1 .0) (λ c. c .before .before .before .before .before .before .before .before .before .before .before .before .before
     .before .kept-truth .kept .1 .1 .1 .1 .1 .0) (λ c. c .before .before .before .before .before .before .before .before .before .before .before
     .before .before .before .kept-truth .kept .1 .1 .1 .1 .1 .1 .0) (λ c. c .before .before .before .before .before .before .before .before .before
-    .before .before .before .before .before .kept-truth .kept .1 .1 .1 .1 .1 .1 .1 .0) (λ c. c .before .before .before .before .before .before .before
-    .before .before .before .before .before .before .before .kept-truth .kept .1 .1 .1 .1 .1 .1 .1 .1 .0) (λ c. c .before .before .before .before
-    .before .before .before .before .before .before .before .before .before .before .kept-truth .kept .1 .1 .1 .1 .1 .1 .1 .1 .1 .0) returns
+    .before .before .before .before .before .kept-truth .kept .1 .1 .1 .1 .1 .1 .1 .1 .0) (λ c. c .before .before .before .before .before .before .before
+    .before .before .before .before .before .before .before .kept-truth .kept .1 .1 .1 .1 .1 .1 .1 .1 .1 .0) (λ c. c .before .before .before .before
+    .before .before .before .before .before .before .before .before .before .before .kept-truth .kept .1 .1 .1 .1 .1 .1 .1 .1 .1 .1 .0) returns
     row-step-requires (λ c. search needs) (λ c. search needs) (λ c. search needs) returns-2 (λ c. c .before .before .before .before .before .before
     .before .before .before .before .before .before .before .before .before .before .before .before .before .before .before .before .before .before
     .before .before .before .before .before .before .before .kept-truth .kept .1 .1 .1 .1 .0) (λ c. c .before .before .before .before .before .before
@@ -63,12 +63,12 @@ regressed-row-spec =
     .before .before .kept-truth .kept .1 .1 .1 .1 .1 .0) (λ c. c .before .before .before .before .before .before .before .before .before .before
     .row-step .kept .1 .0 ∙ c .before .before .before .before .before .before .before .before .before .before .before .before .before .before .before
     .before .before .before .before .before .before .before .before .before .before .before .before .before .before .before .before .kept-truth .kept
-    .1 .1 .1 .1 .1 .1 .0) (λ c. c .before .before .before .before .before .before .before .before .before .before .row-step .kept .1 .1 .0 ∙ c .before
+    .1 .1 .1 .1 .1 .1 .0) (λ c. c .before .before .before .before .before .before .before .before .before .before .row-step .kept .1 .1 .1 .0 ∙ c .before
     .before .before .before .before .before .before .before .before .before .before .before .before .before .before .before .before .before .before
-    .before .before .before .before .before .before .before .before .before .before .before .before .kept-truth .kept .1 .1 .1 .1 .1 .1 .1 .0) (λ c. c
-    .before .before .before .before .before .before .before .before .before .before .row-step .kept .1 .1 .1 .0 ∙ c .before .before .before .before
+    .before .before .before .before .before .before .before .before .before .before .before .before .kept-truth .kept .1 .1 .1 .1 .1 .1 .1 .1 .0) (λ c. c
+    .before .before .before .before .before .before .before .before .before .before .row-step .kept .1 .1 .1 .1 .0 ∙ c .before .before .before .before
     .before .before .before .before .before .before .before .before .before .before .before .before .before .before .before .before .before .before
-    .before .before .before .before .before .before .before .before .before .kept-truth .kept .1 .1 .1 .1 .1 .1 .1 .1 .0) (λ c. c .before .before
-    .before .before .before .before .before .before .before .before .row-step .kept .1 .1 .1 .1 .0 ∙ c .before .before .before .before .before .before
+    .before .before .before .before .before .before .before .before .before .kept-truth .kept .1 .1 .1 .1 .1 .1 .1 .1 .1 .0) (λ c. c .before .before
+    .before .before .before .before .before .before .before .before .row-step .kept .1 .1 .1 .1 .1 .0 ∙ c .before .before .before .before .before .before
     .before .before .before .before .before .before .before .before .before .before .before .before .before .before .before .before .before .before
-    .before .before .before .before .before .before .before .kept-truth .kept .1 .1 .1 .1 .1 .1 .1 .1 .1 .0) returns-3)
+    .before .before .before .before .before .before .before .kept-truth .kept .1 .1 .1 .1 .1 .1 .1 .1 .1 .1 .0) returns-3)

@@ -11,12 +11,12 @@ use Rattle.regress.proofs.replace.Statement.{statement}
 use Rattle.regress.proofs.replace.Tie as tie
 
 abbrev Inv-loop : tie.InvT-loop
-Inv-loop arities words map plan₀ index₀ space₀ heads₀ links₀ count numbers₀ m n₀ root₀ k₀ plan index space heads links numbers n root k =
+Inv-loop arities words map plan₀ index₀ limit space₀ heads₀ links₀ count numbers₀ m n₀ root₀ k₀ plan index space heads links numbers n root k =
     (length plan ≡ length plan₀) × (length index ≡ length index₀) × (length space ≡ length space₀) × (length heads ≡ length heads₀) × (length links ≡ length links₀)
-    × Ready plan index space heads links n × Going (replacedBy arities map) arities words space₀ count space numbers n root k
+    × Ready plan index limit space heads links n × Going (replacedBy arities map) arities words space₀ count space numbers n root k
 
 abbrev μ-loop : tie.MeasureT-loop
-μ-loop arities words map plan₀ index₀ space₀ heads₀ links₀ count numbers₀ m n₀ root₀ k₀ plan index space heads links numbers n root k = m - k
+μ-loop arities words map plan₀ index₀ limit space₀ heads₀ links₀ count numbers₀ m n₀ root₀ k₀ plan index space heads links numbers n root k = m - k
 
 loop-holds : tie.Need-loop-holds Inv-loop μ-loop
 loop-holds c =
@@ -53,19 +53,19 @@ same-length-3 : tie.Need-same-length-3 Inv-loop μ-loop
 same-length-3 c =
     let at-replaced-row = c .before .before .before .before .before .before .before .before .before .before .before .before in
     let at-loop = at-replaced-row .before .before .before .before .before .before .before .before .before in
-    at-replaced-row .replaced-row .kept .1 .1 .1 .1 .1 .0 ∙ at-loop .loop .inv .2
+    at-replaced-row .replaced-row .kept .1 .1 .1 .1 .1 .1 .0 ∙ at-loop .loop .inv .2
 
 same-length-4 : tie.Need-same-length-4 Inv-loop μ-loop
 same-length-4 c =
     let at-replaced-row = c .before .before .before .before .before .before .before .before .before .before .before .before in
     let at-loop = at-replaced-row .before .before .before .before .before .before .before .before .before in
-    at-replaced-row .replaced-row .kept .1 .1 .1 .1 .1 .1 .0 ∙ at-loop .loop .inv .3
+    at-replaced-row .replaced-row .kept .1 .1 .1 .1 .1 .1 .1 .0 ∙ at-loop .loop .inv .3
 
 same-length-5 : tie.Need-same-length-5 Inv-loop μ-loop
 same-length-5 c =
     let at-replaced-row = c .before .before .before .before .before .before .before .before .before .before .before .before in
     let at-loop = at-replaced-row .before .before .before .before .before .before .before .before .before in
-    at-replaced-row .replaced-row .kept .1 .1 .1 .1 .1 .1 .1 .0 ∙ at-loop .loop .inv .4
+    at-replaced-row .replaced-row .kept .1 .1 .1 .1 .1 .1 .1 .1 .0 ∙ at-loop .loop .inv .4
 
 returns : tie.Need-returns Inv-loop μ-loop
 unfolding replacement
@@ -114,9 +114,9 @@ loop-again c =
     let at-loop = at-loop-test .before in (
       at-replaced-row .replaced-row .kept .1 .1 .1 .0 ∙ at-loop .loop .inv .0,
       at-replaced-row .replaced-row .kept .1 .1 .1 .1 .0 ∙ at-loop .loop .inv .1,
-      at-replaced-row .replaced-row .kept .1 .1 .1 .1 .1 .0 ∙ at-loop .loop .inv .2,
-      at-replaced-row .replaced-row .kept .1 .1 .1 .1 .1 .1 .0 ∙ at-loop .loop .inv .3,
-      at-replaced-row .replaced-row .kept .1 .1 .1 .1 .1 .1 .1 .0 ∙ at-loop .loop .inv .4,
+      at-replaced-row .replaced-row .kept .1 .1 .1 .1 .1 .1 .0 ∙ at-loop .loop .inv .2,
+      at-replaced-row .replaced-row .kept .1 .1 .1 .1 .1 .1 .1 .0 ∙ at-loop .loop .inv .3,
+      at-replaced-row .replaced-row .kept .1 .1 .1 .1 .1 .1 .1 .1 .0 ∙ at-loop .loop .inv .4,
       ready-on (at-loop .loop .inv .5) (at-replaced-row .replaced-row .ensures) (at-replaced-row .replaced-row .kept .1 .1 .1 .0) (c .before .r .given .1),
       going-on (at-loop .loop .inv .6) (at-loop-test .loop-test .taken) (at-task-at .task-at .ensures) (at-replaced-row .replaced-row .ensures) (c .before .r .given .1),
     )

@@ -26,6 +26,6 @@ replace-arguments-spec =
     (tie.spec (λ c. search needs) argument-map-requires (λ c. search needs) replace-requires
     (λ c. c .before .before .before .before .before .before .before .before .before .before .replace .kept .1 .1 .1 .0)
     (λ c. c .before .before .before .before .before .before .before .before .before .before .replace .kept .1 .1 .1 .1 .0)
-    (λ c. c .before .before .before .before .before .before .before .before .before .before .replace .kept .1 .1 .1 .1 .1 .0)
     (λ c. c .before .before .before .before .before .before .before .before .before .before .replace .kept .1 .1 .1 .1 .1 .1 .0)
-    (λ c. c .before .before .before .before .before .before .before .before .before .before .replace .kept .1 .1 .1 .1 .1 .1 .1 .0) returns)
+    (λ c. c .before .before .before .before .before .before .before .before .before .before .replace .kept .1 .1 .1 .1 .1 .1 .1 .0)
+    (λ c. c .before .before .before .before .before .before .before .before .before .before .replace .kept .1 .1 .1 .1 .1 .1 .1 .1 .0) returns)

@@ -42,6 +42,6 @@ replaced-row-spec =
     (λ c. search needs) (λ c. search needs) (λ c. search needs) returns
     (λ c. c .before .before .before .before .before .before .before .before .before .before .test-step .kept .0)
     (λ c. c .before .before .before .before .before .before .before .before .before .before .test-step .kept .1 .0)
-    (λ c. c .before .before .before .before .before .before .before .before .before .before .test-step .kept .1 .1 .0)
     (λ c. c .before .before .before .before .before .before .before .before .before .before .test-step .kept .1 .1 .1 .0)
-    (λ c. c .before .before .before .before .before .before .before .before .before .before .test-step .kept .1 .1 .1 .1 .0) returns-2)
+    (λ c. c .before .before .before .before .before .before .before .before .before .before .test-step .kept .1 .1 .1 .1 .0)
+    (λ c. c .before .before .before .before .before .before .before .before .before .before .test-step .kept .1 .1 .1 .1 .1 .0) returns-2)

@@ -3,7 +3,8 @@ use mathlib.Core.Path.{_∙_}
 use borrow.Author.Needs.{needs}
 use native.Mathlib.Omega.{arith}
 use Rattle.row_steps.proofs.StepRunLaws.{small-row, memo-room, row-room, exchange-known, exchange-leaf-full, exchange-leaf, exchange-leaf-small, exchange-less, exchange-less-2}
-use Rattle.row_steps.proofs.StepRunLaws.{exchange-high, exchange-high-full, exchange-low, exchange-low-full, exchange-holds, exchange-formable, exchange-branch-full, exchange-branch, exchange-branch-small}
+use Rattle.row_steps.proofs.StepRunLaws.{exchange-high, exchange-high-full, exchange-low, exchange-low-full, exchange-holds, exchange-formable}
+use Rattle.row_steps.proofs.StepRunLaws.{exchange-branch-full, exchange-branch, exchange-branch-small}
 use Prim.Native.Nat.{ℕ, _<_}
 use borrow.Fn.Kinds.{In}
 use borrow.Fn.PlainCycle.{Measures, is, falls, and}

@@ -13,25 +13,25 @@ returns : tie.Need-returns
 returns c =
     let at-join-rows = c .before .before .before .before .before .before .before .before .before .before .before .before .before in
     let entry = at-join-rows .before .before .before .before .before .before .before .before .before .before .before in
-    join-row (entry .pre .0 .space .values) (at-join-rows .join-rows .ensures) (c .before .r .given .1)
+    join-row (entry .pre .0 .most) (entry .pre .0 .space .values) (at-join-rows .join-rows .ensures) (c .before .r .given .1)
 
 returns-2 : tie.Need-returns-2
 returns-2 c =
     let at-join-rows = c .before .before .before .before .before .before .before .before .before .before .before .before in
     let entry = at-join-rows .before .before .before .before .before .before .before .before .before .before .before in
-    join-many (entry .pre .0 .space .values) (at-join-rows .join-rows .ensures) (c .enum-told .given .1)
+    join-many (entry .pre .0 .most) (entry .pre .0 .space .values) (at-join-rows .join-rows .ensures) (c .enum-told .given .1)
 
 returns-3 : tie.Need-returns-3
 returns-3 c =
     let at-join-rows = c .before .before .before .before .before .before .before .before .before .before .before .before in
     let entry = at-join-rows .before .before .before .before .before .before .before .before .before .before .before in
-    join-high (entry .pre .0 .space .values) (at-join-rows .join-rows .ensures) (c .enum-told2 .given .1)
+    join-high (entry .pre .0 .most) (entry .pre .0 .space .values) (at-join-rows .join-rows .ensures) (c .enum-told2 .given .1)
 
 returns-4 : tie.Need-returns-4
 returns-4 c =
     let at-join-rows = c .before .before .before .before .before .before .before .before .before .before .before .before in
     let entry = at-join-rows .before .before .before .before .before .before .before .before .before .before .before in
-    join-none (entry .pre .0 .space .values) (at-join-rows .join-rows .ensures) (c .enum-told3 .given .1)
+    join-none (entry .pre .0 .most) (entry .pre .0 .space .values) (at-join-rows .join-rows .ensures) (c .enum-told3 .given .1)
 
 pub join-spec : {M : Type 1} → statement M
 join-spec =

@@ -1,5 +1,4 @@
-use mathlib.Core.Path.{_∙_}
-use Rattle.row_steps.proofs.StepRunLaws.{step-full, step-ready, step-two, step-left, step-ready-2, step-two-2, step-right, step-ready-3, step-two-3, step-sum}
+use Rattle.row_steps.proofs.StepRunLaws.{step-full, step-ready, step-four, step-split}
 use borrow.Author.Needs.{needs}
 use Rattle.row_steps.proofs.row_step.Statement.{statement}
 use Rattle.row_steps.proofs.row_step.Tie as tie
@@ -10,151 +9,25 @@ returns c =
     let entry = at-one-minus .before .before .before .before .before .before .before .before .before in
     step-full (entry .pre .0) (entry .pre .1) (at-one-minus .one-minus .ensures) (c .enum-told .given .1)
 
-join-requires : tie.Need-join-requires
-join-requires c κs =
+split-step-requires : tie.Need-split-step-requires
+split-step-requires c κs =
     let at-other = c .before .before .before .before .before .before in
     let at-one-minus = at-other .before .before .before .before .before .before .before .before in
     let entry = at-one-minus .before .before .before .before .before .before .before .before .before in (
       step-ready (entry .pre .0) (entry .pre .1) (at-one-minus .one-minus .ensures) (at-other .other .given .1),
-      step-two (entry .pre .0) (entry .pre .1) (at-one-minus .one-minus .ensures) (at-other .other .given .1),
+      step-four (entry .pre .0) (entry .pre .1) (at-one-minus .one-minus .ensures) (at-other .other .given .1),
     )
 
 returns-2 : tie.Need-returns-2
 returns-2 c =
-    let at-join = c .before .before .before .before .before .before .before .before .before .before .before .before in
-    let at-other = at-join .before .before .before .before .before .before .before in
+    let at-split-step = c .before .before .before .before .before .before .before .before .before .before in
+    let at-other = at-split-step .before .before .before .before .before .before .before in
     let at-one-minus = at-other .before .before .before .before .before .before .before .before in
     let entry = at-one-minus .before .before .before .before .before .before .before .before .before in
-    step-left (entry .pre .0) (entry .pre .1) (at-one-minus .one-minus .ensures) (at-other .other .given .1) (at-join .join .ensures) (c .enum-told2 .given .1)
-
-join-requires-2 : tie.Need-join-requires-2
-join-requires-2 c κs =
-    let at-a = c .before .before .before .before .before .before in
-    let at-join = at-a .before .before .before .before .before .before .before .before .before .before .before .before in
-    let at-other = at-join .before .before .before .before .before .before .before in
-    let at-one-minus = at-other .before .before .before .before .before .before .before .before in
-    let entry = at-one-minus .before .before .before .before .before .before .before .before .before in (
-      step-ready-2 (entry .pre .0) (entry .pre .1) (at-one-minus .one-minus .ensures) (at-other .other .given .1) (at-join .join .ensures) (at-a .a .given .1) _
-          (at-join .join .kept .0),
-      step-two-2 (entry .pre .0) (entry .pre .1) (at-one-minus .one-minus .ensures) (at-other .other .given .1) (at-join .join .ensures) (at-a .a .given .1),
-    )
-
-same-length-11 : tie.Need-same-length-11
-same-length-11 c =
-    let at-join2 = c .before .before .before .before .before .before .before .before .before .before .before .before in
-    let at-join = at-join2 .before .before .before .before .before .before .before .before .before .before .before .before .before .before .before .before .before .before .before
-    in
-    let at-one-minus = at-join .before .before .before .before .before .before .before .before .before .before .before .before .before .before .before in
-    at-join2 .join2 .kept .1 .1 .1 .1 .1 .0 ∙ at-join .join .kept .1 .1 .1 .1 .1 .0 ∙ at-one-minus .one-minus .kept .0
-
-same-length-12 : tie.Need-same-length-12
-same-length-12 c =
-    let at-join2 = c .before .before .before .before .before .before .before .before .before .before .before .before in
-    let at-join = at-join2 .before .before .before .before .before .before .before .before .before .before .before .before .before .before .before .before .before .before .before
-    in
-    let at-one-minus = at-join .before .before .before .before .before .before .before .before .before .before .before .before .before .before .before in
-    at-join2 .join2 .kept .1 .1 .1 .1 .1 .1 .0 ∙ at-join .join .kept .1 .1 .1 .1 .1 .1 .0 ∙ at-one-minus .one-minus .kept .1 .0
-
-same-length-13 : tie.Need-same-length-13
-same-length-13 c =
-    let at-join2 = c .before .before .before .before .before .before .before .before .before .before .before .before in
-    let at-join = at-join2 .before .before .before .before .before .before .before .before .before .before .before .before .before .before .before .before .before .before .before
-    in
-    let at-one-minus = at-join .before .before .before .before .before .before .before .before .before .before .before .before .before .before .before in
-    at-join2 .join2 .kept .1 .1 .1 .1 .1 .1 .1 .0 ∙ at-join .join .kept .1 .1 .1 .1 .1 .1 .1 .0 ∙ at-one-minus .one-minus .kept .1 .1 .0
-
-returns-3 : tie.Need-returns-3
-returns-3 c =
-    let at-join2 = c .before .before .before .before .before .before .before .before .before .before .before .before in
-    let at-a = at-join2 .before .before .before .before .before .before .before in
-    let at-join = at-a .before .before .before .before .before .before .before .before .before .before .before .before in
-    let at-other = at-join .before .before .before .before .before .before .before in
-    let at-one-minus = at-other .before .before .before .before .before .before .before .before in
-    let entry = at-one-minus .before .before .before .before .before .before .before .before .before in
-    step-right (entry .pre .0) (entry .pre .1) (at-one-minus .one-minus .ensures) (at-other .other .given .1) (at-join .join .ensures) (at-a .a .given .1)
-    (at-join2 .join2 .ensures) (c .enum-told3 .given .1)
-
-join-requires-3 : tie.Need-join-requires-3
-join-requires-3 c κs =
-    let at-b = c .before .before .before .before .before .before in
-    let at-join2 = at-b .before .before .before .before .before .before .before .before .before .before .before .before in
-    let at-a = at-join2 .before .before .before .before .before .before .before in
-    let at-join = at-a .before .before .before .before .before .before .before .before .before .before .before .before in
-    let at-other = at-join .before .before .before .before .before .before .before in
-    let at-one-minus = at-other .before .before .before .before .before .before .before .before in
-    let entry = at-one-minus .before .before .before .before .before .before .before .before .before in (
-      step-ready-3 (entry .pre .0) (entry .pre .1) (at-one-minus .one-minus .ensures) (at-other .other .given .1) (at-join .join .ensures) (at-a .a .given .1)
-          (at-join2 .join2 .ensures) (at-b .b .given .1) _ (at-join2 .join2 .kept .0 ∙ at-join .join .kept .0),
-      step-two-3 (entry .pre .0) (entry .pre .1) (at-one-minus .one-minus .ensures) (at-other .other .given .1) (at-join .join .ensures) (at-a .a .given .1)
-          (at-join2 .join2 .ensures) (at-b .b .given .1),
-    )
-
-same-length-14 : tie.Need-same-length-14
-same-length-14 c =
-    let at-join3 = c .before .before .before .before .before .before .before .before .before .before in
-    let at-join2 = at-join3 .before .before .before .before .before .before .before .before .before .before .before .before .before .before .before .before .before .before .before
-    in
-    let at-join = at-join2 .before .before .before .before .before .before .before .before .before .before .before .before .before .before .before .before .before .before .before
-    in
-    at-join3 .join3 .kept .0 ∙ at-join2 .join2 .kept .0 ∙ at-join .join .kept .0
-
-same-length-15 : tie.Need-same-length-15
-same-length-15 c =
-    let at-join3 = c .before .before .before .before .before .before .before .before .before .before in
-    let at-join2 = at-join3 .before .before .before .before .before .before .before .before .before .before .before .before .before .before .before .before .before .before .before
-    in
-    let at-join = at-join2 .before .before .before .before .before .before .before .before .before .before .before .before .before .before .before .before .before .before .before
-    in
-    at-join3 .join3 .kept .1 .0 ∙ at-join2 .join2 .kept .1 .0 ∙ at-join .join .kept .1 .0
-
-same-length-16 : tie.Need-same-length-16
-same-length-16 c =
-    let at-join3 = c .before .before .before .before .before .before .before .before .before .before in
-    let at-join2 = at-join3 .before .before .before .before .before .before .before .before .before .before .before .before .before .before .before .before .before .before .before
-    in
-    let at-join = at-join2 .before .before .before .before .before .before .before .before .before .before .before .before .before .before .before .before .before .before .before
-    in
-    let at-one-minus = at-join .before .before .before .before .before .before .before .before .before .before .before .before .before .before .before in
-    at-join3 .join3 .kept .1 .1 .1 .1 .1 .0 ∙ at-join2 .join2 .kept .1 .1 .1 .1 .1 .0 ∙ at-join .join .kept .1 .1 .1 .1 .1 .0 ∙ at-one-minus .one-minus .kept .0
-
-same-length-17 : tie.Need-same-length-17
-same-length-17 c =
-    let at-join3 = c .before .before .before .before .before .before .before .before .before .before in
-    let at-join2 = at-join3 .before .before .before .before .before .before .before .before .before .before .before .before .before .before .before .before .before .before .before
-    in
-    let at-join = at-join2 .before .before .before .before .before .before .before .before .before .before .before .before .before .before .before .before .before .before .before
-    in
-    let at-one-minus = at-join .before .before .before .before .before .before .before .before .before .before .before .before .before .before .before in
-    at-join3 .join3 .kept .1 .1 .1 .1 .1 .1 .0 ∙ at-join2 .join2 .kept .1 .1 .1 .1 .1 .1 .0 ∙ at-join .join .kept .1 .1 .1 .1 .1 .1 .0 ∙ at-one-minus .one-minus .kept .1 .0
-
-same-length-18 : tie.Need-same-length-18
-same-length-18 c =
-    let at-join3 = c .before .before .before .before .before .before .before .before .before .before in
-    let at-join2 = at-join3 .before .before .before .before .before .before .before .before .before .before .before .before .before .before .before .before .before .before .before
-    in
-    let at-join = at-join2 .before .before .before .before .before .before .before .before .before .before .before .before .before .before .before .before .before .before .before
-    in
-    let at-one-minus = at-join .before .before .before .before .before .before .before .before .before .before .before .before .before .before .before in
-    at-join3 .join3 .kept .1 .1 .1 .1 .1 .1 .1 .0 ∙ at-join2 .join2 .kept .1 .1 .1 .1 .1 .1 .1 .0 ∙ at-join .join .kept .1 .1 .1 .1 .1 .1 .1 .0 ∙ at-one-minus .one-minus .kept .1
-    .1 .0
-
-returns-4 : tie.Need-returns-4
-returns-4 c =
-    let at-join3 = c .before .before .before .before .before .before .before .before .before .before in
-    let at-b = at-join3 .before .before .before .before .before .before .before in
-    let at-join2 = at-b .before .before .before .before .before .before .before .before .before .before .before .before in
-    let at-a = at-join2 .before .before .before .before .before .before .before in
-    let at-join = at-a .before .before .before .before .before .before .before .before .before .before .before .before in
-    let at-other = at-join .before .before .before .before .before .before .before in
-    let at-one-minus = at-other .before .before .before .before .before .before .before .before in
-    let entry = at-one-minus .before .before .before .before .before .before .before .before .before in
-    step-sum (entry .pre .0) (entry .pre .1) (at-one-minus .one-minus .ensures) (at-other .other .given .1) (at-join .join .ensures) (at-a .a .given .1) (at-join2 .join2 .ensures)
-    (at-b .b .given .1) (at-join3 .join3 .ensures)
+    step-split (entry .pre .0) (entry .pre .1) (at-one-minus .one-minus .ensures) (at-other .other .given .1) (at-split-step .split-step .ensures)
 
 pub row-step-spec : {M : Type 1} → statement M
 row-step-spec =
     tie.close
-    (tie.spec (λ c κs. search needs) (λ c. search needs) (λ c. search needs) (λ c. search needs) (λ c. search needs) (λ c. search needs) returns join-requires (λ c. search needs)
-    (λ c. search needs) (λ c. search needs) (λ c. search needs) (λ c. search needs) (λ c. search needs) (λ c. search needs) returns-2 join-requires-2 (λ c. search needs)
-    (λ c. search needs) (λ c. search needs) (λ c. search needs) same-length-11 same-length-12 same-length-13 returns-3 join-requires-3 same-length-14 same-length-15 same-length-16
-    same-length-17 same-length-18 returns-4)
+    (tie.spec (λ c κs. search needs) (λ c. search needs) (λ c. search needs) (λ c. search needs) (λ c. search needs) (λ c. search needs) returns split-step-requires
+    (λ c. search needs) (λ c. search needs) (λ c. search needs) (λ c. search needs) (λ c. search needs) returns-2)
