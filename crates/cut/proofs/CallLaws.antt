@@ -27,14 +27,14 @@ use Rattle.diagram.specs.ListingValid.{listing-is-valid}
 use Rattle.paths.specs.Paths.{paths, mostPaths}
 use Rattle.cutting.specs.Cut.{Choice, goes, stays, mayGo, choiceBelow, choice, chosenAnswer, diagramAnswer, cutDiagram, written, answerBuffer, cutAnswer, cutBuffer}
 use Rattle.cutting.specs.TruthLaws.{minimum-first}
-use Rattle.paths.specs.Routes.{Rows, Counted}
+use Rattle.paths.specs.Routes.{Rows, Counted, Routed}
 use Rattle.cutting.specs.declared.Edge.the-variants.{True, False}
 use Rattle.cutting.specs.declared.Cut.{Cut}
 use Rattle.cutting.specs.declared.Cut.the-variants.{Done, Refused}
 use Rattle.cut.specs.declared.Chosen.{Chosen}
 use Rattle.cut.specs.declared.Chosen.the-variants.{Edge, Nothing}
 use Rattle.cut.specs.Calls.{Cuttable, Choosable, Writable, Trimmed}
-use Rattle.cut.specs.Choosing.{Routed, chosenAs}
+use Rattle.cut.specs.Choosing.{chosenAs}
 use Rattle.paths.specs.PathLaws.{listing-rows}
 
 -- what is promised where the listing is checked

@@ -7,50 +7,28 @@ use Prim.Native.Nat.{ℕ, zero, suc, _+_, _-_, _*_, _≤_, _<_}
 use native.Mathlib.Omega.{arith}
 use native.Mathlib.Numerals.{add-one}
 use native.Mathlib.Nat.{zero-add, suc-add}
-use lib.ListN.{length, getD, set, length-set}
+use lib.ListN.{length, getD, set, replicate, length-set, length-replicate}
 use lib.Seq.{getD-set-same, getD-set-other}
 use lib.Dec.{eqb}
 use borrow.Author.Tests.{eqb-true, eqb-false, eq-eqb, ne-eqb, le-leb, lt-leb}
 use Rattle.basics.specs.Tests.{Flag, isTrue, isFalse, flag, Cmp, cmp, below, equal, above}
-use Rattle.label.specs.Limits.{leafMark}
+use Rattle.label.specs.Limits.{firstMinimum, leafMark}
 use Rattle.diagram.specs.Diagram.{Diagram, leaf, same}
 use Rattle.diagram.specs.Words.{labelAt, highAt}
 use Rattle.diagram.specs.Validity.{tree}
 use Rattle.listing.proofs.RowLaws.{not-taken, not-left}
 use Rattle.cutting.specs.Cut.{covers, mayGo}
-use Rattle.paths.specs.Routes.{Rows, At, Sided}
-use Rattle.matcher.specs.Covering.{Coverable}
-use Rattle.cut.specs.Choosing.{pathOf, Routed, Leaves, Sides, Known, Asking, Edged, Tested, isCoverOn, coverBelow, isFreeOn, freeBelow}
+use Rattle.paths.specs.Paths.{mostPaths}
+use Rattle.paths.specs.Routes.{Rows, Sided}
+use Rattle.paths.proofs.RouteLaws.{routed-at}
+use Rattle.matcher.specs.Stored.{Enterable}
+use Rattle.matcher.specs.Covering.{Held}
+use Rattle.cut.specs.Choosing.{pathOf, Sides, Known, Asking, Facing, Edged, Tested, isCoverOn, coverBelow, isFreeOn, freeBelow}
 use Rattle.cut.specs.ChoosingLaws.{child-before, may-go-is}
 
 and-false : (a : Bool) → (a && false) ≡ false
 and-false true = refl
 and-false false = refl
-
-pub path-at : {ws counts : List ℕ} {n m p : ℕ} → Routed ws counts n m → p < m → At ws n (n - 1) p
-path-at {ws} {counts} {n} {m} {p} w h = record {
-  row = omega (arith, w .some);
-  path = omega (arith, w .all);
-  few = omega (arith, w .all, w .few);
-}
-
-pub path-small : {ws counts : List ℕ} {n m p : ℕ} → Routed ws counts n m → p < m → p < 256
-path-small w h = omega (arith, w .few)
-
--- `find_leaves`
-pub leaves-none : (ws leaves : List ℕ) (n : ℕ) → Leaves ws leaves n 0
-leaves-none ws leaves n = record { places = omega arith; each = λ p h. absurd (omega arith) }
-
-pub leaves-more : {ws leaves : List ℕ} {n p v : ℕ} → Leaves ws leaves n p → p < length leaves → v ≡ pathOf ws n p .end → Leaves ws (set leaves p v) n (p + 1)
-leaves-more {ws} {leaves} {n} {p} {v} l h e = record { places = rw length-set (omega arith); each = λ q b. each q b (cmp q p) }
-  where
-    each : (q : ℕ) → q < p + 1 → Cmp q p → getD (set leaves p v) q 0 ≡ pathOf ws n q .end
-    each q b (below k) = getD-set-other leaves p q v 0 (λ z. omega arith) ∙ l .each q k
-    each q b (equal k) = rw (k, getD-set-same leaves p v 0 h) e
-    each q b (above k) = absurd (omega arith)
-
-pub leaves-all : {ws leaves : List ℕ} {n m p : ℕ} → Leaves ws leaves n p → p ≤ m → m ≤ p → Leaves ws leaves n m
-leaves-all {ws} {leaves} {n} {m} {p} l h k = let e : p ≡ m = omega arith in subst (Leaves ws leaves n) e l
 
 -- `find_sides`
 pub sides-none : (ws sides : List ℕ) (n r : ℕ) → Sides ws sides n 0 r
@@ -68,15 +46,12 @@ pub sides-all : {ws sides : List ℕ} {n m p r : ℕ} → Sides ws sides n p r �
 sides-all {ws} {sides} {n} {m} {p} {r} l h k = let e : p ≡ m = omega arith in subst (λ (x : ℕ). Sides ws sides n x r) e l
 
 -- `is_covered`
-module _ {ar ws counts memo : List ℕ} {n p q : ℕ} (c : Coverable ar ws counts n p q) (k : Known ar ws memo n) where
+module _ {ar ws counts memo from : List ℕ} {n p q : ℕ} (k : Known ar ws memo n) (pair-first : p < 256) (c : Enterable ar ws counts n q from) where
   abbrev Covers : Bool
   Covers = covers ar (pathOf ws n p) (pathOf ws n q)
 
-  pub pair-first : p < 256
-  pair-first = omega (arith, c .first .path, c .first .few)
-
   pub pair-second : q < 256
-  pair-second = omega (arith, c .second .path, c .second .few)
+  pair-second = omega (arith, c .path .path, c .path .few)
 
   pub pair-place : p * 256 + q < length memo
   pair-place = omega (arith, pair-first, pair-second, k .places)
@@ -135,18 +110,18 @@ module _ {ar ws counts leaves sides memo : List ℕ} {n m : ℕ} (a : Asking ar 
   pub ask-on : {memo′ : List ℕ} → Known ar ws memo′ n → Asking ar ws counts leaves sides memo′ n m
   ask-on k = record { charted = a .charted; places = a .places; known = k }
 
-  module _ {p q : ℕ} (h : p < m) (k : q < m) where
-    pub ask-coverable : Coverable ar ws counts n p q
-    ask-coverable = record {
-      listed = a .charted .listed;
-      plain = a .charted .plain;
-      whole = a .charted .whole;
-      rows = a .charted .routed .rows;
-      counted = a .charted .routed .counted;
-      first = path-at (a .charted .routed) h;
-      second = path-at (a .charted .routed) k;
-    }
+  pub ask-enterable : {q : ℕ} {out : List ℕ} → q < m → firstMinimum + mostPaths ≤ length out → Enterable ar ws counts n q out
+  ask-enterable h r = record {
+    listed = a .charted .listed;
+    plain = a .charted .plain;
+    whole = a .charted .whole;
+    rows = a .charted .routed .rows;
+    counted = a .charted .routed .counted;
+    path = routed-at (a .charted .routed) h;
+    room = r;
+  }
 
+  module _ {p q : ℕ} (h : p < m) (k : q < m) where
     pub cover-through : (side : ℕ) → getD sides q 0 ≡ side → Tested ar ws n (isCoverOn ar ws n sides side p q) false memo
     unfolding isCoverOn
     cover-through side e = record { answer = rw (eq-eqb (getD sides q 0) side e); known = a .known }
@@ -173,7 +148,17 @@ module _ {ar ws counts leaves sides memo : List ℕ} {n m : ℕ} (a : Asking ar 
         known = t .known;
       }
 
--- `has_cover`
+-- `some_cover`, `has_cover`
+pub face-on : {ar ws into kinds from from′ : List ℕ} {a n p : ℕ} → Facing ar ws into a kinds from n p → length from′ ≡ length from → Facing ar ws into a kinds from′ n p
+face-on f e = record { held = f .held; room = omega (arith, f .room) }
+
+pub room-made : (k : ℕ) → firstMinimum + mostPaths ≤ k → firstMinimum + mostPaths ≤ length (replicate {A = ℕ} k 0)
+room-made k h = omega (arith, length-replicate {A = ℕ} k 0)
+
+pub face-made : {ar ws into kinds : List ℕ} {a n p : ℕ} (k : ℕ) → firstMinimum + mostPaths ≤ k → Held ar (pathOf ws n p) into a kinds
+    → Facing ar ws into a kinds (replicate k 0) n p
+face-made k h g = record { held = g; room = room-made k h }
+
 module _ (ar ws : List ℕ) (n : ℕ) (sides : List ℕ) (side p : ℕ) where
   pub cover-none : coverBelow ar ws n sides side p 0 ≡ false
   unfolding coverBelow

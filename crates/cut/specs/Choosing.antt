@@ -6,33 +6,21 @@ use mathlib.Core.List.{List}
 use Prim.Native.Nat.{ℕ, zero, suc, _+_, _-_, _*_, _≤_, _<_}
 use lib.ListN.{length, getD}
 use lib.Dec.{eqb, leb}
-use Rattle.label.specs.Limits.{leafMark}
+use Rattle.label.specs.Limits.{firstMinimum, leafMark}
 use Rattle.diagram.specs.Words.{labelAt, rowCount, isListing}
 use Rattle.diagram.specs.Listing.{diagramOf}
 use Rattle.diagram.specs.Validity.{tree}
 use Rattle.diagram.specs.Variables.{isPlain}
-use Rattle.paths.specs.Paths.{Path, paths, mostPaths}
+use Rattle.paths.specs.Paths.{Path, mostPaths}
 use Rattle.cutting.specs.Cut.{Choice, goes, stays, covers, mayGo}
-use Rattle.paths.specs.Routes.{Rows, Counted, Sided, pathAt}
+use Rattle.paths.specs.Routes.{Routed, Leaves, Sided, pathAt}
+use Rattle.matcher.specs.Covering.{Held}
 use Rattle.cut.specs.declared.Chosen.{Chosen}
 use Rattle.cut.specs.declared.Chosen.the-variants.{Edge, Nothing}
 
 -- path p of the n rows of words
 abbrev pub pathOf : List ℕ → ℕ → ℕ → Path
 pathOf ws n p = pathAt (tree ws (n - 1)) p
-
--- n rows with their counts of paths; the last has m, at most 256
-pub record Routed (ws counts : List ℕ) (n m : ℕ) : Type 0 where
-  pub rows : Rows ws n
-  pub some : 1 ≤ n
-  pub counted : Counted ws counts n
-  pub all : length (paths (tree ws (n - 1))) ≡ m
-  pub few : m ≤ mostPaths
-
--- the leaves of the first m paths
-pub record Leaves (ws leaves : List ℕ) (n m : ℕ) : Type 0 where
-  pub places : m ≤ length leaves
-  pub each : (p : ℕ) → p < m → getD leaves p 0 ≡ pathOf ws n p .end
 
 -- where each of the first m paths goes through row r
 pub record Sides (ws sides : List ℕ) (n m r : ℕ) : Type 0 where
@@ -61,6 +49,11 @@ pub record Asking (ar ws counts leaves sides memo : List ℕ) (n m : ℕ) : Type
   pub charted : Charted ar ws counts leaves n m
   pub places : m ≤ length sides
   pub known : Known ar ws memo n
+
+-- path p is held for others to cover it, and there is room to write one of them
+pub record Facing (ar ws into : List ℕ) (a : ℕ) (kinds from : List ℕ) (n p : ℕ) : Type 0 where
+  pub held : Held ar (pathOf ws n p) into a kinds
+  pub room : firstMinimum + mostPaths ≤ length from
 
 -- a test that may ask about paths
 pub record Tested (ar ws : List ℕ) (n : ℕ) (b r : Bool) (memo′ : List ℕ) : Type 0 where

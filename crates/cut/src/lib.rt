@@ -20,9 +20,11 @@ ghost use Rattle.diagram.specs.Variables.{isPlain};
 ghost use Rattle.apply.specs.Formed.{add};
 ghost use Rattle.store.specs.Space.{diagramsOf, Formation};
 ghost use Rattle.cutting.specs.Cut.{covers, mayGo, choice, diagramAnswer, answerBuffer, cutAnswer, cutBuffer};
-ghost use Rattle.paths.specs.Routes.{Rows};
-ghost use Rattle.matcher.specs.Covering.{Coverable};
-ghost use Rattle.cut.specs.Choosing.{pathOf, Routed, Leaves, Sides, Known, Asking, Charted, Edged, Tested, EdgeFound, isCoverOn, coverBelow, isFreeOn, chosenAs};
+ghost use Rattle.paths.specs.Routes.{Rows, Routed};
+ghost use Rattle.paths.specs.Paths.{mostPaths};
+ghost use Rattle.matcher.specs.Stored.{Enterable};
+ghost use Rattle.matcher.specs.Covering.{Held};
+ghost use Rattle.cut.specs.Choosing.{pathOf, Sides, Known, Asking, Facing, Charted, Edged, Tested, EdgeFound, isCoverOn, coverBelow, isFreeOn, chosenAs};
 ghost use Rattle.cut.specs.Calls.{Cuttable, Choosable, Writable, Trimmed};
 ghost use Rattle.cut.specs.Leaving.{leftOf, Leaving, Leavable, Left};
 
@@ -36,19 +38,6 @@ const MEMO: usize = 65536;
 enum Chosen {
     Edge(usize, bool),
     Nothing,
-}
-
-// Finds the leaves of the m paths.
-fn find_leaves(words: &[u64], counts: &[u64], n: usize, m: usize, leaves: &mut [u64])
-    requires { ⌜ Routed (now words) (now counts) n m ⌝ }
-    requires { ⌜ m ≤ length (now leaves) ⌝ }
-    ensures { λ _. ⌜ Leaves (now (words .entry)) (now (leaves .exit)) n m ⌝ }
-{
-    let mut p = 0;
-    while p < m {
-        leaves[p] = paths::leaf_of(words, counts, n, p as u64);
-        p += 1;
-    }
 }
 
 // Finds where each of the m paths goes through row r.
@@ -65,18 +54,24 @@ fn find_sides(words: &[u64], counts: &[u64], n: usize, m: usize, r: usize, sides
     }
 }
 
-// Whether path q covers path p. It is asked once for each pair of paths: the memo has 1 for yes, 2 for no, and 0 before.
+// Whether path q covers path p, which `into` and `kinds` hold. It is asked once for each pair of paths: the memo has 1 for yes, 2 for no, and 0 before.
 fn is_covered(
     arities: &[u64],
     words: &[u64],
     counts: &[u64],
     n: usize,
     memo: &mut [u16],
+    into: &[u64],
+    a: usize,
+    kinds: &[u64],
+    from: &mut [u64],
     p: usize,
     q: usize,
 ) -> bool
-    requires { ⌜ Coverable (now arities) (now words) (now counts) n p q ⌝ }
     requires { ⌜ Known (now arities) (now words) (now memo) n ⌝ }
+    requires { ⌜ Held (now arities) (pathOf (now words) n p) (now into) a (now kinds) ⌝ }
+    requires { ⌜ p < mostPaths ⌝ }
+    requires { ⌜ Enterable (now arities) (now words) (now counts) n q (now from) ⌝ }
     ensures { λ r. ⌜ Tested (now (arities .entry)) (now (words .entry)) n (covers (now (arities .entry)) (pathOf (now (words .entry)) n p) (pathOf (now (words .entry)) n q)) r (now (memo .exit)) ⌝ }
 {
     let at = p * PATHS + q;
@@ -87,7 +82,7 @@ fn is_covered(
     if known != 0 {
         return false;
     }
-    if matcher::covers(arities, words, counts, n, p as u64, q as u64) {
+    if matcher::covers(arities, words, counts, n, into, a, kinds, q as u64, from) {
         memo[at] = 1;
         return true;
     }
@@ -105,11 +100,16 @@ fn is_cover(
     leaves: &[u64],
     sides: &[u64],
     memo: &mut [u16],
+    into: &[u64],
+    a: usize,
+    kinds: &[u64],
+    from: &mut [u64],
     side: u64,
     p: usize,
     q: usize,
 ) -> bool
     requires { ⌜ Asking (now arities) (now words) (now counts) (now leaves) (now sides) (now memo) n m ⌝ }
+    requires { ⌜ Facing (now arities) (now words) (now into) a (now kinds) (now from) n p ⌝ }
     requires { ⌜ p < m ⌝ }
     requires { ⌜ q < m ⌝ }
     ensures { λ r. ⌜ Tested (now (arities .entry)) (now (words .entry)) n (isCoverOn (now (arities .entry)) (now (words .entry)) n (now (sides .entry)) side p q) r (now (memo .exit)) ⌝ }
@@ -120,10 +120,58 @@ fn is_cover(
     if leaves[q] < leaves[p] {
         return false;
     }
-    is_covered(arities, words, counts, n, memo, p, q)
+    is_covered(arities, words, counts, n, memo, into, a, kinds, from, p, q)
 }
 
-// Whether one of the m paths is such a cover of path p.
+// Whether one of the m paths is such a cover of path p, which `into` and `kinds` hold.
+fn some_cover(
+    arities: &[u64],
+    words: &[u64],
+    counts: &[u64],
+    n: usize,
+    m: usize,
+    leaves: &[u64],
+    sides: &[u64],
+    memo: &mut [u16],
+    into: &[u64],
+    a: usize,
+    kinds: &[u64],
+    from: &mut [u64],
+    side: u64,
+    p: usize,
+) -> bool
+    requires { ⌜ Asking (now arities) (now words) (now counts) (now leaves) (now sides) (now memo) n m ⌝ }
+    requires { ⌜ Facing (now arities) (now words) (now into) a (now kinds) (now from) n p ⌝ }
+    requires { ⌜ p < m ⌝ }
+    ensures { λ r. ⌜ Tested (now (arities .entry)) (now (words .entry)) n (coverBelow (now (arities .entry)) (now (words .entry)) n (now (sides .entry)) side p m) r (now (memo .exit)) ⌝ }
+{
+    let mut q = 0;
+    while q < m {
+        if is_cover(
+            arities,
+            words,
+            counts,
+            n,
+            m,
+            leaves,
+            sides,
+            memo,
+            into,
+            a,
+            kinds,
+            from,
+            side,
+            p,
+            q,
+        ) {
+            return true;
+        }
+        q += 1;
+    }
+    false
+}
+
+// Whether one of the m paths is such a cover of path p. What depends on path p alone is made once for all of them.
 fn has_cover(
     arities: &[u64],
     words: &[u64],
@@ -140,26 +188,26 @@ fn has_cover(
     requires { ⌜ p < m ⌝ }
     ensures { λ r. ⌜ Tested (now (arities .entry)) (now (words .entry)) n (coverBelow (now (arities .entry)) (now (words .entry)) n (now (sides .entry)) side p m) r (now (memo .exit)) ⌝ }
 {
-    let mut q = 0;
-    while q < m {
-        if is_cover(
-            arities,
-            words,
-            counts,
-            n,
-            m,
-            leaves,
-            sides,
-            memo,
-            side,
-            p,
-            q,
-        ) {
-            return true;
-        }
-        q += 1;
-    }
-    false
+    let mut into = [0u64; matcher::PATH_WORDS];
+    let mut kinds = [0u64; matcher::KINDS];
+    let mut from = [0u64; matcher::PATH_WORDS];
+    let a = matcher::target(arities, words, counts, n, p as u64, &mut into, &mut kinds);
+    some_cover(
+        arities,
+        words,
+        counts,
+        n,
+        m,
+        leaves,
+        sides,
+        memo,
+        &into,
+        a,
+        &kinds,
+        &mut from,
+        side,
+        p,
+    )
 }
 
 // Whether path p is not in the way of the edge that paths of that side go through.
@@ -272,7 +320,7 @@ fn choose(arities: &[u64], words: &[u64], counts: &[u64], n: usize, m: usize) ->
     ensures { λ r. ⌜ r ≡ chosenAs (choice (now (arities .entry)) (diagramOf (now (words .entry)))) ⌝ }
 {
     let mut leaves = [0u64; PATHS];
-    find_leaves(words, counts, n, m, &mut leaves);
+    paths::find_leaves(words, counts, n, m, &mut leaves);
     let mut memo = [0u16; MEMO];
     let mut i = n;
     while i > 0 {

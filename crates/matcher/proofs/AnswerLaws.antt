@@ -4,22 +4,22 @@ use mathlib.Core.Bool.{Bool, true, false, not}
 use mathlib.Core.List.{List, List·Memᴰ}
 use Prim.Native.Nat.{ℕ, _+_, _-_, _≤_, _<_}
 use native.Mathlib.Omega.{arith}
-use lib.ListN.{length, getD, take, drop, replicate, length-take, length-replicate, getD-replicate}
+use lib.ListN.{length, getD, take, drop, length-take}
 use lib.Seq.{length-take-le, take-add, drop-at, getD-take}
 use Rattle.label.specs.Limits.{firstMinimum}
 use Rattle.label.specs.Labels.{areArities}
 use Rattle.diagram.specs.Validity.{tree}
 use Rattle.diagram.specs.ListingValid.{listing-is-valid}
-use Rattle.paths.specs.Paths.{mostPaths, Literal, Path, literals, termsIn}
+use Rattle.paths.specs.Paths.{Literal, Path, literals, termsIn}
 use Rattle.cutting.specs.Match.{start, matches}
 use Rattle.cutting.specs.Cut.{covers}
 use Rattle.cutting.specs.Searchable.{Searchable, PathLabels}
 use Rattle.cutting.specs.CoverLaws.{searchable}
 use Rattle.paths.specs.Routes.{AllInRange, pathAt, Entered}
 use Rattle.matcher.specs.Search.{literalsIn}
-use Rattle.matcher.specs.Covering.{Coverable}
+use Rattle.matcher.specs.Covering.{Target, Held, Covering}
 use Rattle.matcher.specs.Stored.{Marks, Enterable, Stored, Ready, BothStored, Answers}
-use Rattle.matcher.specs.Parts.{PartsPost, WaysPost}
+use Rattle.matcher.specs.Parts.{Kinds, PartsPost, WaysPost}
 use Rattle.matcher.proofs.StoreLaws.{codes-are, listed-labels}
 use Rattle.matcher.proofs.SomeWayLaws.{ways-fail}
 use Rattle.matcher.proofs.CoversLaws.{bothTerms, covers-setting, covers-order}
@@ -89,77 +89,59 @@ module _ {into from : List ℕ} {a b : ℕ} (g : BothStored into a from b) where
             second : literalsIn (take (firstMinimum + b - firstMinimum) (drop firstMinimum from)) ≡ literals q
             second = let e : firstMinimum + b - firstMinimum ≡ b = omega arith in ap (λ (i : ℕ). literalsIn (take i (drop firstMinimum from))) e ∙ sq .are
 
+-- ===== target =====
+
+-- marks of the kinds of a path's literals are those of the path that is held
+pub target-held : {ar ws counts : List ℕ} {n k : ℕ} {out into kinds : List ℕ} {a : ℕ} → Enterable ar ws counts n k out → Stored ar (pathAt (tree ws (n - 1)) k) into a
+    → firstMinimum + a ≤ length into → Kinds (take (firstMinimum + a) into) kinds (length (take (firstMinimum + a) into))
+    → Held ar (pathAt (tree ws (n - 1)) k) into a kinds
+target-held g s h m = record {
+  target = record { room = h; sorted = s .sorted; kind-room = m .room };
+  labels = listed-labels (g .listed) (g .whole) (g .path);
+  stored = s;
+  marked = m;
+}
+
 -- ===== covers =====
-module _ {ar ws counts : List ℕ} {n p q : ℕ} (g : Coverable ar ws counts n p q) where
-  pub covers-first : (m : ℕ) → firstMinimum + mostPaths ≤ m → Enterable ar ws counts n p (replicate m 0)
-  covers-first m h = record {
-    listed = g .listed;
-    plain = g .plain;
-    whole = g .whole;
-    rows = g .rows;
-    counted = g .counted;
-    path = g .first;
-    room = omega (arith, length-replicate {A = ℕ} m 0);
-    clear = λ t k. getD-replicate m t 0 0 (omega arith);
-  }
-
-  pub covers-second : (m : ℕ) → firstMinimum + mostPaths ≤ m → Enterable ar ws counts n q (replicate m 0)
-  covers-second m h = record {
-    listed = g .listed;
-    plain = g .plain;
-    whole = g .whole;
-    rows = g .rows;
-    counted = g .counted;
-    path = g .second;
-    room = omega (arith, length-replicate {A = ℕ} m 0);
-    clear = λ t k. getD-replicate m t 0 0 (omega arith);
-  }
-
-  abbrev first-path : Path
-  first-path = pathAt (tree ws (n - 1)) p
-
+module _ {ar ws counts : List ℕ} {n k : ℕ} {out : List ℕ} (g : Enterable ar ws counts n k out) where
   abbrev second-path : Path
-  second-path = pathAt (tree ws (n - 1)) q
+  second-path = pathAt (tree ws (n - 1)) k
 
   good : areArities ar ≡ true
   good = listing-is-valid ar ws (g .listed) .arities
 
+  second-labels : PathLabels ar second-path
+  second-labels = listed-labels (g .listed) (g .whole) (g .path)
+
   -- a literal without a way: nothing is covered
-  pub covers-none : {into₀ into from₀ from : List ℕ} {a b : ℕ} {r : Bool} → Entered ws (n - 1) p into₀ into firstMinimum a → firstMinimum + a ≤ length into
-      → Entered ws (n - 1) q from₀ from firstMinimum b → WaysPost (take (firstMinimum + b - firstMinimum) (drop firstMinimum from)) (take (firstMinimum + a) into) r → not r ≡ true
-      → false ≡ covers ar (pathAt (tree ws (n - 1)) p) (pathAt (tree ws (n - 1)) q)
-  covers-none {into₀} {into} {from₀} {from} {a} {b} x room y w z =
-      ways-fail w z ar T (subst (λ (ls : List Literal). Searchable ar ls T) (sym first) (searchable ar (literals first-path) (literals second-path) good (np .each)))
-      ∙ ap (λ (ls : List Literal). matches ar ls T ord start) first
-      ∙ covers-order ar good first-path second-path np nq ord (λ l m. subst (List·Memᴰ l) second m) (λ l m. subst (List·Memᴰ l) (sym second) m)
+  pub covers-none : {into kinds from₀ from : List ℕ} {a b : ℕ} {r : Bool} → Entered ws (n - 1) k from₀ from firstMinimum b
+      → WaysPost (take (firstMinimum + b - firstMinimum) (drop firstMinimum from)) kinds r → not r ≡ true → Covering ar into a kinds (pathAt (tree ws (n - 1)) k) false
+  covers-none {into} {kinds} {from₀} {from} {a} {b} y w z = record { each = each }
     where
-      np : PathLabels ar first-path
-      np = listed-labels (g .listed) (g .whole) (g .first)
+      each : (p : Path) → Held ar p into a kinds → false ≡ covers ar p second-path
+      each p x =
+          ways-fail w (x .marked) z ar T (subst (λ (ls : List Literal). Searchable ar ls T) (sym first) (searchable ar (literals p) (literals second-path) good (x .labels .each)))
+          ∙ ap (λ (ls : List Literal). matches ar ls T ord start) first
+          ∙ covers-order ar good p second-path (x .labels) second-labels ord (λ l m. subst (List·Memᴰ l) second m) (λ l m. subst (List·Memᴰ l) (sym second) m)
+        where
+          T : List ℕ
+          T = bothTerms ar good p second-path (x .labels) second-labels
 
-      nq : PathLabels ar second-path
-      nq = listed-labels (g .listed) (g .whole) (g .second)
+          ord : List Literal
+          ord = literalsIn (take (firstMinimum + b - firstMinimum) (drop firstMinimum from))
 
-      T : List ℕ
-      T = bothTerms ar good first-path second-path np nq
+          first : literalsIn (drop firstMinimum (take (firstMinimum + a) into)) ≡ literals p
+          first = front-literals into a (x .target .room) ∙ x .stored .are
 
-      ord : List Literal
-      ord = literalsIn (take (firstMinimum + b - firstMinimum) (drop firstMinimum from))
-
-      first : literalsIn (drop firstMinimum (take (firstMinimum + a) into)) ≡ literals first-path
-      first = front-literals into a room ∙ ap literalsIn (x .are) ∙ codes-are first-path
-
-      second : literalsIn (take (firstMinimum + b - firstMinimum) (drop firstMinimum from)) ≡ literals second-path
-      second =
-          let e : firstMinimum + b - firstMinimum ≡ b = omega arith in
-          ap (λ (i : ℕ). literalsIn (take i (drop firstMinimum from))) e ∙ ap literalsIn (y .are) ∙ codes-are second-path
+          second : literalsIn (take (firstMinimum + b - firstMinimum) (drop firstMinimum from)) ≡ literals second-path
+          second =
+              let e : firstMinimum + b - firstMinimum ≡ b = omega arith in
+              ap (λ (i : ℕ). literalsIn (take i (drop firstMinimum from))) e ∙ ap literalsIn (y .are) ∙ codes-are second-path
 
   -- both paths are stored
-  pub covers-stored : {into from : List ℕ} {a b : ℕ} → Stored ar (pathAt (tree ws (n - 1)) p) into a → Stored ar (pathAt (tree ws (n - 1)) q) from b
-      → firstMinimum + a ≤ length into → firstMinimum + b ≤ length from → BothStored into a from b
-  covers-stored sp sq h k = record { into-room = h; sorted = sp .sorted; from-room = k; ranged = sq .ranged; few = sq .few }
+  pub covers-stored : {into kinds from : List ℕ} {a b : ℕ} → Target into a kinds → Stored ar (pathAt (tree ws (n - 1)) k) from b → firstMinimum + b ≤ length from → BothStored into a from b
+  covers-stored t s h = record { into-room = t .room; sorted = t .sorted; from-room = h; ranged = s .ranged; few = s .few }
 
-  pub covers-answer : {into from : List ℕ} {a b : ℕ} {r : Bool} → Stored ar (pathAt (tree ws (n - 1)) p) into a → Stored ar (pathAt (tree ws (n - 1)) q) from b
-      → Answers into a from b r → r ≡ covers ar (pathAt (tree ws (n - 1)) p) (pathAt (tree ws (n - 1)) q)
-  covers-answer sp sq s =
-      s .each ar (listing-is-valid ar ws (g .listed) .arities) (pathAt (tree ws (n - 1)) p) (pathAt (tree ws (n - 1)) q)
-      (listed-labels (g .listed) (g .whole) (g .first)) (listed-labels (g .listed) (g .whole) (g .second)) sp sq
+  pub covers-answer : {into kinds from : List ℕ} {a b : ℕ} {r : Bool} → Stored ar (pathAt (tree ws (n - 1)) k) from b → Answers into a from b r
+      → Covering ar into a kinds (pathAt (tree ws (n - 1)) k) r
+  covers-answer s t = record { each = λ p x. t .each ar good p second-path (x .labels) second-labels (x .stored) s }

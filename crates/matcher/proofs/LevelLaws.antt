@@ -127,7 +127,8 @@ module _ {ord into tab theta store : List ℕ} {k x bound vars total : ℕ} (y :
       has i h l (above c) = here i h (omega arith) l
 
   -- a variable that comes first here is one of the literal's terms
-  pub level-here : (i : ℕ) → i < variableCount → k * mostPlaces < getD tab (firstVariable + i) 0 → getD tab (firstVariable + i) 0 ≤ (k + 1) * mostPlaces → List·Memᴰ (firstVariable + i) (placesIn (x / 2))
+  pub level-here : (i : ℕ) → i < variableCount → k * mostPlaces < getD tab (firstVariable + i) 0 → getD tab (firstVariable + i) 0 ≤ (k + 1) * mostPlaces
+      → List·Memᴰ (firstVariable + i) (placesIn (x / 2))
   level-here i h l m =
       let w = level-slots .only (getD tab (firstVariable + i) 0 - k * mostPlaces - 1) (firstVariable + i) (omega arith) (omega arith) (omega arith) in
       subst (λ (v : ℕ). List·Memᴰ v (placesIn (x / 2))) (sym w) (along-in (placeAt (x / 2)) mostPlaces (getD tab (firstVariable + i) 0 - k * mostPlaces - 1) (omega arith))

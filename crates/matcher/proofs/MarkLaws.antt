@@ -15,7 +15,7 @@ use Rattle.label.proofs.CodeLaws.{under-all}
 use Rattle.listing.specs.Used.{marked}
 use Rattle.paths.specs.Routes.{InRange}
 use Rattle.matcher.specs.Search.{along, late, Unplaced}
-use Rattle.matcher.specs.Stored.{termsOfCode, Markable, Unmarked, Marking}
+use Rattle.matcher.specs.Stored.{termsOfCode, Markable, Coded, Cleared, Marking}
 use Rattle.paths.specs.PathLaws.{range-terms}
 use Rattle.matcher.proofs.AlongLaws.{along-suc, marked-snoc}
 use Rattle.matcher.proofs.TermLaws.{terms-along}
@@ -104,10 +104,36 @@ module _ {ar ms : List ℕ} {x : ℕ} (m : Markable ar ms x) where
   literal-marked e q =
       q ∙ ap (λ (ts : List ℕ). marked ts ms) (ap (λ (i : ℕ). along (placeAt (x / 2)) (getD ar i 0)) e ∙ sym (terms-along ar (x / 2) (m .arities)))
 
+-- ===== clear_marks =====
+
+-- the marks before t are cleared
+pub record Clearing (out₀ out : List ℕ) (t : ℕ) : Type 0 where
+  pub length-kept : length out ≡ length out₀
+  pub behind : drop firstMinimum out ≡ drop firstMinimum out₀
+  pub clear : (u : ℕ) → u < t → getD out u 0 ≡ 0
+
+pub clearing-start : (out : List ℕ) → Clearing out out 0
+clearing-start out = record { length-kept = refl; behind = refl; clear = λ u h. absurd (omega arith) }
+
+pub clearing-next : {out₀ out : List ℕ} {t : ℕ} → firstMinimum ≤ length out₀ → Clearing out₀ out t → t < firstMinimum → Clearing out₀ (set out t 0) (t + 1)
+clearing-next {out₀} {out} {t} room c h = record {
+  length-kept = length-set out t 0 ∙ c .length-kept;
+  behind = drop-set-lt firstMinimum out t 0 h ∙ c .behind;
+  clear = λ u k. go u k (cmp u t);
+}
+  where
+    go : (u : ℕ) → u < t + 1 → Cmp u t → getD (set out t 0) u 0 ≡ 0
+    go u k (below q) = getD-set-other out t u 0 0 (omega arith) ∙ c .clear u q
+    go u k (equal q) = rw q (getD-set-same out t 0 0 (omega (arith, c .length-kept)))
+    go u k (above q) = absurd (omega arith)
+
+pub clearing-end : {out₀ out : List ℕ} {t : ℕ} → Clearing out₀ out t → firstMinimum ≤ t → Cleared out₀ out
+clearing-end c h = record { clear = λ u k. c .clear u (omega arith); behind = c .behind }
+
 -- ===== mark_path =====
-module _ {ar out₀ : List ℕ} {n : ℕ} (u : Unmarked ar out₀ n) where
-  pub marking-start : Marking ar out₀ out₀ 0
-  marking-start = record { length-kept = refl; behind = refl; has = λ j t h. absurd (omega arith); of = λ t h k. absurd (omega (arith, u .clear t h)) }
+module _ {ar out₀ : List ℕ} {n : ℕ} (u : Coded ar out₀ n) where
+  pub marking-start : ((t : ℕ) → t < firstMinimum → getD out₀ t 0 ≡ 0) → Marking ar out₀ out₀ 0
+  marking-start c = record { length-kept = refl; behind = refl; has = λ j t h. absurd (omega arith); of = λ t h k. absurd (omega (arith, c t h)) }
 
   module _ {out : List ℕ} {i : ℕ} (m : Marking ar out₀ out i) (h : i < n) where
     pub marking-room : firstMinimum + i < length out
@@ -149,6 +175,23 @@ module _ {ar out₀ : List ℕ} {n : ℕ} (u : Unmarked ar out₀ n) where
 
   pub marking-end : {out : List ℕ} {i : ℕ} → Marking ar out₀ out i → n ≤ i → i ≤ n → Marking ar out₀ out n
   marking-end {out} {i} m h k = let e : i ≡ n = omega arith in subst (Marking ar out₀ out) e m
+
+-- ===== mark_terms =====
+module _ {out₀ out : List ℕ} (c : Cleared out₀ out) (l : length out ≡ length out₀) where
+  same-word : (j : ℕ) → getD out (firstMinimum + j) 0 ≡ getD out₀ (firstMinimum + j) 0
+  same-word j = sym (getD-drop firstMinimum out j 0) ∙ ap (λ (xs : List ℕ). getD xs j 0) (c .behind) ∙ getD-drop firstMinimum out₀ j 0
+
+  pub cleared-coded : {ar : List ℕ} {n : ℕ} → Coded ar out₀ n → Coded ar out n
+  cleared-coded u = record { arities = u .arities; room = omega (arith, u .room); few = u .few; ranged = λ j h. rw (same-word j) (u .ranged j h) }
+
+  pub cleared-marking : {ar out′ : List ℕ} {n : ℕ} → Marking ar out out′ n → Marking ar out₀ out′ n
+  cleared-marking {ar} {out′} {n} m = record { length-kept = m .length-kept ∙ l; behind = m .behind ∙ c .behind; has = has; of = of }
+    where
+      has : (j t : ℕ) → j < n → List·Memᴰ t (termsOfCode ar (getD out₀ (firstMinimum + j) 0)) → 0 < getD out′ t 0
+      has j t h w = m .has j t h (subst (λ (x : ℕ). List·Memᴰ t (termsOfCode ar x)) (sym (same-word j)) w)
+
+      of : (t : ℕ) → t < firstMinimum → 0 < getD out′ t 0 → (j : ℕ) × (j < n) × List·Memᴰ t (termsOfCode ar (getD out₀ (firstMinimum + j) 0))
+      of t h w = let r = m .of t h w in (r .0, r .1, subst (λ (x : ℕ). List·Memᴰ t (termsOfCode ar x)) (same-word (r .0)) (r .2))
 
 -- ===== copy_marks =====
 

@@ -54,9 +54,9 @@ one-fails : (ar T into : List ℕ) (x : ℕ) → NoWay into x → matches ar (li
 unfolding matches
 one-fails ar T into x n e = let r = some-out (targets ar (literalsIn (drop firstMinimum into)) T (literalAt x)) _ e in no-target ar T into x n (r .0) (r .1)
 
-pub ways-fail : {ord into : List ℕ} {r : Bool} → WaysPost ord into r → not r ≡ true → (ar T : List ℕ) → Searchable ar (literalsIn (drop firstMinimum into)) T
-    → false ≡ matches ar (literalsIn (drop firstMinimum into)) T (literalsIn ord) start
-ways-fail {ord} {into} {r} w q ar T s = go (flag (matches ar (literalsIn (drop firstMinimum into)) T (literalsIn ord) start))
+pub ways-fail : {ord into kinds : List ℕ} {r : Bool} → WaysPost ord kinds r → Kinds into kinds (length into) → not r ≡ true → (ar T : List ℕ)
+    → Searchable ar (literalsIn (drop firstMinimum into)) T → false ≡ matches ar (literalsIn (drop firstMinimum into)) T (literalsIn ord) start
+ways-fail {ord} {into} {kinds} {r} w k q ar T s = go (flag (matches ar (literalsIn (drop firstMinimum into)) T (literalsIn ord) start))
   where
     only : (i : ℕ) → i < length ord → (l : Literal) → List·Memᴰ l (literalAt (getD ord i 0) ∷ []) → List·Memᴰ l (literalsIn ord)
     only i h l (List·Memᴰ·head e) = subst (λ (k : Literal). List·Memᴰ k (literalsIn ord)) (sym e) (literal-at ord i h)
@@ -65,7 +65,7 @@ ways-fail {ord} {into} {r} w q ar T s = go (flag (matches ar (literalsIn (drop f
     go : Flag (matches ar (literalsIn (drop firstMinimum into)) T (literalsIn ord) start) → false ≡ matches ar (literalsIn (drop firstMinimum into)) T (literalsIn ord) start
     go (isFalse z) = sym z
     go (isTrue z) =
-        let n = w .no (untaken q) in
+        let n = w .no (untaken q) into k in
         absurd (one-fails ar T into (getD ord (n .0) 0) (n .2)
         (matches-fewer ar (literalsIn (drop firstMinimum into)) T s (literalsIn ord) (literalAt (getD ord (n .0) 0) ∷ []) (only (n .0) (n .1)) z))
 
@@ -133,8 +133,8 @@ module _ {into : List ℕ} where
   kinds-end s h = record { room = s .room; each = λ i a b. s .each i a (omega arith) }
 
 -- ===== have_ways =====
-pub ways-yes : (ord into : List ℕ) → WaysPost ord into true
-ways-yes ord into = record { no = λ e. clash refl e }
+pub ways-yes : (ord kinds : List ℕ) → WaysPost ord kinds true
+ways-yes ord kinds = record { no = λ e. clash refl e }
 
 -- two literals that are alike are of one kind
 alike-kind : (x y : ℕ) → alike x y ≡ true → kindOf x ≡ kindOf y
@@ -144,12 +144,13 @@ alike-kind x y e =
     let v = eqb-true (x % 2) (y % 2) (and-right (eqb (predicateOf (x / 2)) (predicateOf (y / 2))) (eqb (x % 2) (y % 2)) e) in
     omega arith
 
-pub ways-no : {ord into kinds : List ℕ} {i x : ℕ} {r : Bool} → Kinds into kinds (length into) → i < length ord → x ≡ getD ord i 0 → WayPost kinds x r → not r ≡ true
-    → WaysPost ord into false
-ways-no {ord} {into} {kinds} {i} {x} {r} s h e w q = record { no = λ z. (i, h, subst (NoWay into) e (record { others = others; equality = w .equality (untaken q) })) }
+pub ways-no : {ord kinds : List ℕ} {i x : ℕ} {r : Bool} → i < length ord → x ≡ getD ord i 0 → WayPost kinds x r → not r ≡ true → WaysPost ord kinds false
+ways-no {ord} {kinds} {i} {x} {r} h e w q = record {
+  no = λ z into s. (i, h, subst (NoWay into) e (record { others = others into s; equality = w .equality (untaken q) }));
+}
   where
-    others : (j : ℕ) → firstMinimum ≤ j → j < length into → alike x (getD into j 0) ≡ false
-    others j a b = go (flag (alike x (getD into j 0)))
+    others : (into : List ℕ) → Kinds into kinds (length into) → (j : ℕ) → firstMinimum ≤ j → j < length into → alike x (getD into j 0) ≡ false
+    others into s j a b = go (flag (alike x (getD into j 0)))
       where
         go : Flag (alike x (getD into j 0)) → alike x (getD into j 0) ≡ false
         go (isFalse z) = z

@@ -25,7 +25,7 @@ use Rattle.cutting.specs.CoverLaws.{path-labels, path-plain}
 use Rattle.paths.specs.PathLaws.{range-terms, paths-branch}
 use Rattle.paths.specs.Routes.{bit, codeOf, codes, stepOn, pathAt, At, Entered, InRange}
 use Rattle.matcher.specs.Search.{literalAt, literalsIn}
-use Rattle.matcher.specs.Stored.{termsOfCode, Unmarked, Marking, Enterable, Stored}
+use Rattle.matcher.specs.Stored.{termsOfCode, Coded, Marking, Enterable, Stored}
 use Rattle.paths.specs.PathLaws.{path-in, path-high, path-low, codes-step}
 use Rattle.matcher.proofs.CoversLaws.{of-terms}
 
@@ -135,13 +135,12 @@ module _ {ar ws counts : List ℕ} {n k : ℕ} {out out₁ : List ℕ} {j : ℕ}
   pub enter-room : firstMinimum + j ≤ length out₁
   enter-room = omega (arith, same, g .room, e .few)
 
-  pub enter-unmarked : Unmarked ar out₁ j
+  pub enter-coded : Coded ar out₁ j
   unfolding codes
-  enter-unmarked = record {
+  enter-coded = record {
     arities = valid .arities;
     room = omega (arith, same, g .room, e .few);
     few = e .few;
-    clear = λ t h. e .kept t h ∙ g .clear t h;
     ranged = ranged;
   }
     where
@@ -164,7 +163,7 @@ module _ {ar ws counts : List ℕ} {n k : ℕ} {out out₁ : List ℕ} {j : ℕ}
     same-code i h = getD-take (firstMinimum + j) out₂ (firstMinimum + i) 0 (omega arith) ∙ behind-at i
 
     code-range : (i : ℕ) → i < j → InRange firstMinimum (getD out₁ (firstMinimum + i) 0 / 2)
-    code-range i h = enter-unmarked .ranged i h
+    code-range i h = enter-coded .ranged i h
 
     ranged : (i : ℕ) → i < length (take j (drop firstMinimum out₂)) → InRange firstMinimum (getD (take j (drop firstMinimum out₂)) i 0 / 2)
     ranged i h =

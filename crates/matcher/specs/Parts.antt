@@ -108,5 +108,5 @@ pub record WayPost (kinds : List ℕ) (x : ℕ) (r : Bool) : Type 0 where
   pub unmarked : r ≡ false → getD kinds (kindOf x) 0 ≡ 0
   pub equality : r ≡ false → isEquality x ≡ true → x % 2 ≡ 1 → ⊥
 
-pub record WaysPost (ord into : List ℕ) (r : Bool) : Type 0 where
-  pub no : r ≡ false → (i : ℕ) × (i < length ord) × NoWay into (getD ord i 0)
+pub record WaysPost (ord kinds : List ℕ) (r : Bool) : Type 0 where
+  pub no : r ≡ false → (into : List ℕ) → Kinds into kinds (length into) → (i : ℕ) × (i < length ord) × NoWay into (getD ord i 0)

@@ -32,13 +32,17 @@ pub record Markable (ar marks : List ℕ) (x : ℕ) : Type 0 where
   pub room : firstMinimum ≤ length marks
   pub range : InRange firstMinimum (x / 2)
 
--- n literals stand behind marks that are not set yet
-pub record Unmarked (ar out : List ℕ) (n : ℕ) : Type 0 where
+-- n literals stand behind marks
+pub record Coded (ar out : List ℕ) (n : ℕ) : Type 0 where
   pub arities : areArities ar ≡ true
   pub room : firstMinimum + n ≤ length out
   pub few : n < mostPaths
-  pub clear : (t : ℕ) → t < firstMinimum → getD out t 0 ≡ 0
   pub ranged : (j : ℕ) → j < n → InRange firstMinimum (getD out (firstMinimum + j) 0 / 2)
+
+-- the marks are cleared, what is behind them stays
+pub record Cleared (out₀ out : List ℕ) : Type 0 where
+  pub clear : (t : ℕ) → t < firstMinimum → getD out t 0 ≡ 0
+  pub behind : drop firstMinimum out ≡ drop firstMinimum out₀
 
 -- the terms of the first n of them are marked
 pub record Marking (ar out₀ out : List ℕ) (n : ℕ) : Type 0 where
@@ -47,7 +51,7 @@ pub record Marking (ar out₀ out : List ℕ) (n : ℕ) : Type 0 where
   pub has : (j t : ℕ) → j < n → List·Memᴰ t (termsOfCode ar (getD out₀ (firstMinimum + j) 0)) → 0 < getD out t 0
   pub of : (t : ℕ) → t < firstMinimum → 0 < getD out t 0 → (j : ℕ) × (j < n) × List·Memᴰ t (termsOfCode ar (getD out₀ (firstMinimum + j) 0))
 
--- path k of a listing, and room for it behind marks that are not set
+-- path k of the listing ws under the arity list ar, which has no minimum variable, with its n rows' counts of paths, and room for it behind marks
 pub record Enterable (ar ws counts : List ℕ) (n k : ℕ) (out : List ℕ) : Type 0 where
   pub listed : isListing ar ws ≡ true
   pub plain : isPlain ar (diagramOf ws) ≡ true
@@ -56,7 +60,6 @@ pub record Enterable (ar ws counts : List ℕ) (n k : ℕ) (out : List ℕ) : Ty
   pub counted : Counted ws counts n
   pub path : At ws n (n - 1) k
   pub room : firstMinimum + mostPaths ≤ length out
-  pub clear : (t : ℕ) → t < firstMinimum → getD out t 0 ≡ 0
 
 -- the j literals of the path stand in order behind the marks of its terms
 pub record Stored (ar : List ℕ) (p : Path) (out : List ℕ) (j : ℕ) : Type 0 where

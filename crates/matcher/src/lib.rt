@@ -13,10 +13,9 @@ ghost use Rattle.label.specs.Labels.{placeAt};
 ghost use Rattle.diagram.specs.Validity.{tree};
 ghost use Rattle.listing.specs.Used.{marked};
 ghost use Rattle.paths.specs.Paths.{mostPaths};
-ghost use Rattle.cutting.specs.Cut.{covers};
-ghost use Rattle.matcher.specs.Covering.{Coverable};
+ghost use Rattle.matcher.specs.Covering.{Target, Held, Covering};
 ghost use Rattle.matcher.specs.Parts.{isSeen, shares, Ranked, Best, Takable, Taken, Separable, PartTaken, PartsPost, kindCount, kindOf, Kinds, WayPost, WaysPost};
-ghost use Rattle.matcher.specs.Stored.{termsOfCode, Markable, Unmarked, Marking, Ready, PartPost, BothStored, Answers};
+ghost use Rattle.matcher.specs.Stored.{termsOfCode, Markable, Coded, Cleared, Marking, Enterable, Ready, PartPost, BothStored, Answers};
 ghost use Rattle.paths.specs.Routes.{pathAt, labelEnd, InRange, AllInRange};
 ghost use Rattle.matcher.specs.Search.{along, isEquality, turn, wayPlace, isNothing, late, slotFits, slotAfter, Slots, BindPost};
 ghost use Rattle.matcher.specs.Search.{alike, plainWay, equalWay, wayAt, wayCount, TryPost, allKnown, Sorted, Finds, Images, Met, imageLabel, termAt};
@@ -32,7 +31,7 @@ const FIRST_VARIABLE: usize = Term::FIRST_VARIABLE as usize;
 const PLACES: usize = Label::PLACES as usize;
 
 // The words of a path: a mark for each term, and behind them its literals, fewer than there may be paths.
-const PATH_WORDS: usize = TERMS + PATHS;
+pub const PATH_WORDS: usize = TERMS + PATHS;
 
 // The words of the table: for each term its first place, and behind them a mark for each term.
 const TABLE_WORDS: usize = TERMS + TERMS;
@@ -41,7 +40,7 @@ const TABLE_WORDS: usize = TERMS + TERMS;
 const LATE: u64 = PATHS as u64 * Label::PLACES;
 
 // A literal's kind is its predicate and sign.
-const KINDS: usize = Label::PREDICATES * 2;
+pub const KINDS: usize = Label::PREDICATES * 2;
 
 // The ranks of literals that share no seen variable begin here, and all ranks are below the second.
 const STRANGE: u64 = 100;
@@ -666,9 +665,22 @@ fn mark_literal(arities: &[u64], marks: &mut [u64], x: u64)
     mark_places(marks, x / 2, arities[p as usize]);
 }
 
-// Marks the terms of the n literals behind the marks.
+// Clears the marks.
+fn clear_marks(out: &mut [u64])
+    requires { ⌜ firstMinimum ≤ length (now out) ⌝ }
+    ensures { λ _. ⌜ Cleared (now (out .entry)) (now (out .exit)) ⌝ }
+{
+    let mut t = 0;
+    while t < TERMS {
+        out[t] = 0;
+        t += 1;
+    }
+}
+
+// Marks the terms of the n literals behind marks that are clear.
 fn mark_path(arities: &[u64], out: &mut [u64], n: usize)
-    requires { ⌜ Unmarked (now arities) (now out) n ⌝ }
+    requires { ⌜ Coded (now arities) (now out) n ⌝ }
+    requires { ⌜ ((t : ℕ) → t < firstMinimum → getD (now out) t 0 ≡ 0) ⌝ }
     ensures { λ _. ⌜ Marking (now (arities .entry)) (now (out .entry)) (now (out .exit)) n ⌝ }
 {
     let mut i = 0;
@@ -677,6 +689,15 @@ fn mark_path(arities: &[u64], out: &mut [u64], n: usize)
         mark_literal(arities, out, x);
         i += 1;
     }
+}
+
+// Marks the terms of the n literals behind the marks, and no others.
+fn mark_terms(arities: &[u64], out: &mut [u64], n: usize)
+    requires { ⌜ Coded (now arities) (now out) n ⌝ }
+    ensures { λ _. ⌜ Marking (now (arities .entry)) (now (out .entry)) (now (out .exit)) n ⌝ }
+{
+    clear_marks(out);
+    mark_path(arities, out, n);
 }
 
 // Copies the marks of the terms behind the table.
@@ -936,14 +957,13 @@ fn has_way(kinds: &[u64], x: u64) -> bool
 }
 
 // Whether each literal of ord has a way.
-fn have_ways(ord: &[u64], into: &[u64]) -> bool
-    ensures { λ r. ⌜ WaysPost (now (ord .entry)) (now (into .entry)) r ⌝ }
+fn have_ways(ord: &[u64], kinds: &[u64]) -> bool
+    requires { ⌜ kindCount ≤ length (now kinds) ⌝ }
+    ensures { λ r. ⌜ WaysPost (now (ord .entry)) (now (kinds .entry)) r ⌝ }
 {
-    let mut kinds = [0u64; KINDS];
-    mark_kinds(into, &mut kinds);
     let mut i = 0;
     while i < ord.len() {
-        if !has_way(&kinds, ord[i]) {
+        if !has_way(kinds, ord[i]) {
             return false;
         }
         i += 1;
@@ -968,19 +988,47 @@ fn search(into: &[u64], a: usize, from: &mut [u64], b: usize) -> bool
     )
 }
 
-// Whether a replacement of the variables of path q, by terms of paths p and q, takes each of its literals to one of path p, or to t = t true.
-pub fn covers(arities: &[u64], words: &[u64], counts: &[u64], n: usize, p: u64, q: u64) -> bool
-    requires { ⌜ Coverable (now arities) (now words) (now counts) n p q ⌝ }
-    ensures { λ r. ⌜ r ≡ covers (now (arities .entry)) (pathAt (tree (now (words .entry)) (n - 1)) p) (pathAt (tree (now (words .entry)) (n - 1)) q) ⌝ }
+// Writes path p as others are asked to cover it: its literals behind the marks of its terms, and the kinds of its literals. Answers how many they are.
+pub fn target(
+    arities: &[u64],
+    words: &[u64],
+    counts: &[u64],
+    n: usize,
+    p: u64,
+    into: &mut [u64],
+    kinds: &mut [u64],
+) -> usize
+    requires { ⌜ Enterable (now arities) (now words) (now counts) n p (now into) ⌝ }
+    requires { ⌜ kindCount ≤ length (now kinds) ⌝ }
+    ensures { λ a. ⌜ Held (now (arities .entry)) (pathAt (tree (now (words .entry)) (n - 1)) p) (now (into .exit)) a (now (kinds .exit)) ⌝ }
 {
-    let mut into = [0u64; PATH_WORDS];
-    let mut from = [0u64; PATH_WORDS];
-    let a = paths::path_into(words, counts, n, p, &mut into, TERMS);
-    let b = paths::path_into(words, counts, n, q, &mut from, TERMS);
-    if !have_ways(&from[TERMS..TERMS + b], &into[..TERMS + a]) {
+    let a = paths::path_into(words, counts, n, p, into, TERMS);
+    mark_terms(arities, into, a);
+    mark_kinds(&into[..TERMS + a], kinds);
+    a
+}
+
+// Whether a replacement of the variables of path q, by terms of both paths, takes each of its literals to one of the path that `into` holds, or to
+// t = t true. Path q is written to `from`.
+pub fn covers(
+    arities: &[u64],
+    words: &[u64],
+    counts: &[u64],
+    n: usize,
+    into: &[u64],
+    a: usize,
+    kinds: &[u64],
+    q: u64,
+    from: &mut [u64],
+) -> bool
+    requires { ⌜ Target (now into) a (now kinds) ⌝ }
+    requires { ⌜ Enterable (now arities) (now words) (now counts) n q (now from) ⌝ }
+    ensures { λ r. ⌜ Covering (now (arities .entry)) (now (into .entry)) a (now (kinds .entry)) (pathAt (tree (now (words .entry)) (n - 1)) q) r ⌝ }
+{
+    let b = paths::path_into(words, counts, n, q, from, TERMS);
+    if !have_ways(&from[TERMS..TERMS + b], kinds) {
         return false;
     }
-    mark_path(arities, &mut into, a);
-    mark_path(arities, &mut from, b);
-    search(&into, a, &mut from, b)
+    mark_terms(arities, from, b);
+    search(into, a, from, b)
 }

@@ -1,6 +1,6 @@
 -- Counts of paths, and walking a path by its number.
-use mathlib.Core.Path.{_≡_, refl, sym, ap, ap₂, _∙_}
-use mathlib.Core.Bool.{Bool, true, false, not, _&&_, _||_, Bool·beq}
+use mathlib.Core.Path.{_≡_, refl, sym, ap, ap₂, subst, _∙_}
+use mathlib.Core.Bool.{Bool, true, false, _&&_, _||_, Bool·beq}
 use mathlib.Core.List.{List, [], _∷_, _++_, append-assoc, append-nil}
 use Prim.Native.Nat.{ℕ, zero, suc, _+_, _-_, _*_, _≤_, _<_, min}
 use native.Mathlib.Omega.{arith}
@@ -18,7 +18,7 @@ use Rattle.diagram.specs.Validity.{tree}
 use Rattle.diagram.specs.Shown.{same-eqb}
 use Rattle.paths.specs.Paths.{mostPaths, Path, stepBefore, paths, literals, isEdge, through}
 use Rattle.paths.specs.PathLaws.{paths-leaf, paths-branch, path-short, path-high, path-low, path-in, codes-length, codes-step}
-use Rattle.paths.specs.Routes.{codes, stepOn, pathAt, labelEnd, Rows, Counted, At, Sided, Entered}
+use Rattle.paths.specs.Routes.{codes, stepOn, pathAt, labelEnd, Rows, Counted, At, Routed, Leaves, Sided, Entered}
 use Rattle.paths.specs.Walking.{Stepped, Rest, RestOver, Coming}
 use Rattle.paths.specs.declared.Here.{Here}
 
@@ -334,3 +334,28 @@ module _ {ws : List ℕ} {n : ℕ} (w : Rows ws n) where
           taken : take (j + 1) (drop first (set out (first + j) (s .code))) ≡ take j (drop first out) ++ (s .code ∷ [])
           taken = ap₂ (λ (i : ℕ) (xs : List ℕ). take i xs) (add-one j) (drop-set-add first out j (s .code))
               ∙ take-suc-set (drop first out) j (s .code) (omega (arith, length-drop first out, coming-room))
+
+-- ===== Leaves =====
+pub routed-at : {ws counts : List ℕ} {n m p : ℕ} → Routed ws counts n m → p < m → At ws n (n - 1) p
+routed-at {ws} {counts} {n} {m} {p} w h = record {
+  row = omega (arith, w .some);
+  path = omega (arith, w .all);
+  few = omega (arith, w .all, w .few);
+}
+
+pub routed-small : {ws counts : List ℕ} {n m p : ℕ} → Routed ws counts n m → p < m → p < 256
+routed-small w h = omega (arith, w .few)
+
+pub leaves-none : (ws leaves : List ℕ) (n : ℕ) → Leaves ws leaves n 0
+leaves-none ws leaves n = record { places = omega arith; each = λ p h. absurd (omega arith) }
+
+pub leaves-more : {ws leaves : List ℕ} {n p v : ℕ} → Leaves ws leaves n p → p < length leaves → v ≡ pathAt (tree ws (n - 1)) p .end → Leaves ws (set leaves p v) n (p + 1)
+leaves-more {ws} {leaves} {n} {p} {v} l h e = record { places = rw length-set (omega arith); each = λ q b. each q b (cmp q p) }
+  where
+    each : (q : ℕ) → q < p + 1 → Cmp q p → getD (set leaves p v) q 0 ≡ pathAt (tree ws (n - 1)) q .end
+    each q b (below k) = getD-set-other leaves p q v 0 (λ z. omega arith) ∙ l .each q k
+    each q b (equal k) = rw (k, getD-set-same leaves p v 0 h) e
+    each q b (above k) = absurd (omega arith)
+
+pub leaves-all : {ws leaves : List ℕ} {n m p : ℕ} → Leaves ws leaves n p → p ≤ m → m ≤ p → Leaves ws leaves n m
+leaves-all {ws} {leaves} {n} {m} {p} l h k = let e : p ≡ m = omega arith in subst (Leaves ws leaves n) e l

@@ -67,6 +67,19 @@ pub record At (ws : List ℕ) (n i k : ℕ) : Type 0 where
   pub path : k < length (paths (tree ws i))
   pub few : length (paths (tree ws i)) ≤ mostPaths
 
+-- n rows with their counts of paths; the last has m, at most 256
+pub record Routed (ws counts : List ℕ) (n m : ℕ) : Type 0 where
+  pub rows : Rows ws n
+  pub some : 1 ≤ n
+  pub counted : Counted ws counts n
+  pub all : length (paths (tree ws (n - 1))) ≡ m
+  pub few : m ≤ mostPaths
+
+-- the leaves of the first m paths
+pub record Leaves (ws leaves : List ℕ) (n m : ℕ) : Type 0 where
+  pub places : m ≤ length leaves
+  pub each : (p : ℕ) → p < m → getD leaves p 0 ≡ pathAt (tree ws (n - 1)) p .end
+
 -- where a path goes through the row r: 1 by its true edge, 2 by its false edge, 0 not at all
 pub record Sided (r : Diagram) (p : Path) (s : ℕ) : Type 0 where
   pub on-true : through r true p ≡ eqb s 1

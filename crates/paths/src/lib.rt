@@ -7,7 +7,7 @@ ghost use Rattle.label.specs.Limits.{leafMark};
 ghost use Rattle.diagram.specs.Words.{labelAt};
 ghost use Rattle.diagram.specs.Validity.{tree};
 ghost use Rattle.paths.specs.Paths.{mostPaths, paths};
-ghost use Rattle.paths.specs.Routes.{Rows, Counted, At, pathAt, Sided, Entered};
+ghost use Rattle.paths.specs.Routes.{Rows, Counted, At, Routed, Leaves, pathAt, Sided, Entered};
 ghost use Rattle.paths.specs.Walking.{Stepped};
 
 // Paths of a diagram at most, over which a cut is refused.
@@ -93,6 +93,19 @@ pub fn leaf_of(words: &[u64], counts: &[u64], n: usize, k: u64) -> u64
         m = s.rest;
     }
     words[i * 3 + 1]
+}
+
+// Finds the leaves of the m paths.
+pub fn find_leaves(words: &[u64], counts: &[u64], n: usize, m: usize, leaves: &mut [u64])
+    requires { ⌜ Routed (now words) (now counts) n m ⌝ }
+    requires { ⌜ m ≤ length (now leaves) ⌝ }
+    ensures { λ _. ⌜ Leaves (now (words .entry)) (now (leaves .exit)) n m ⌝ }
+{
+    let mut p = 0;
+    while p < m {
+        leaves[p] = leaf_of(words, counts, n, p as u64);
+        p += 1;
+    }
 }
 
 // Where path k goes through row r: 1 by its true edge, 2 by its false edge, 0 not at all.

@@ -1,19 +1,18 @@
 -- Laws of the facts under one valuation, and under all.
-use mathlib.Core.Path.{_≡_, refl, sym, ap, ap₂, subst, _∙_}
-use mathlib.Core.Logic.{_≢_, _↔_}
-use mathlib.Core.Bool.{Bool, true, false, cond}
-use mathlib.Core.List.{List, [], _∷_}
+use mathlib.Core.Path.{_≡_, refl, sym, ap, subst, _∙_}
+use mathlib.Core.Logic.{_≢_}
+use mathlib.Core.Bool.{true}
+use mathlib.Core.List.{List, _∷_}
 use Prim.Native.Nat.{ℕ, zero, suc, _+_, _-_, _*_, _/_, _%_, _^_, _≤_, _<_}
 use native.Mathlib.Omega.{arith}
 use native.Mathlib.Nat.{pow-succ', mod-lt, div-lt-iff-lt-mul, mul-le-mul-right}
-use native.Mathlib.Numerals.{add-one}
 use lib.ListN.{length, getD, replicate, length-replicate}
 use lib.Dec.{eqb}
-use borrow.Author.Tests.{eq-eqb, ne-eqb, eqb-true, eqb-false}
+use borrow.Author.Tests.{ne-eqb, eqb-false}
 use Rattle.basics.specs.Tests.{Flag, isTrue, isFalse, flag, Cmp, cmp, below, equal, above}
-use Rattle.label.specs.Limits.{leafMark, termEnd, termBase, variableCount}
+use Rattle.label.specs.Limits.{leafMark, termEnd, termBase}
 use Rattle.label.specs.Labels.{isLabel}
-use Rattle.label.specs.Renamings.{rank, renamed, mapOf}
+use Rattle.label.specs.Renamings.{rank, mapOf}
 use Rattle.label.specs.Callers.{TermMap}
 use Rattle.diagram.specs.Words.{labelAt}
 use Rattle.rename.specs.Maps.{usedVariables}
@@ -21,7 +20,7 @@ use Rattle.reduction.specs.Combinations.{objectOf}
 use Rattle.reduce.specs.Searching.{factEnd}
 use Rattle.reduce.specs.Facts.{factOf}
 use Rattle.reduce.specs.FactLaws.{renamed-agree, fact-below}
-use Rattle.reduce.specs.Tables.{digits, Divided, Placed, Mapping, Mapped, factWord, Labelled, Filled, Blocked, Grounded, Tabling, Tabled}
+use Rattle.reduce.specs.Tables.{digits, Placed, Mapped, factWord, Filled, Blocked, Grounded, Tabling, Tabled}
 
 -- ===== Digits =====
 pub digits-beyond : (n c i j : ℕ) → c ≤ j → getD (digits n c i) j 0 ≡ 0

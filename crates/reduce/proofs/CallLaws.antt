@@ -23,12 +23,12 @@ use Rattle.diagram.specs.Variables.{closed}
 use Rattle.diagram.specs.DiagramOfListing.{diagram-is}
 use Rattle.diagram.specs.ListingValid.{listing-is-valid}
 use Rattle.paths.specs.Paths.{paths, mostPaths, through}
-use Rattle.paths.specs.Routes.{pathAt}
+use Rattle.paths.specs.Routes.{pathAt, Routed}
 use Rattle.cutting.specs.Cut.{reduced, written}
 use Rattle.reduction.specs.declared.Reduced.the-variants.{Done, Refused}
 use Rattle.reduction.specs.Combinations.{someOf, formed, winners}
 use Rattle.reduction.specs.Reduction.{isOn, keeping, reducedDiagram, hasKinds, mostRuns, runs, mostFormed, reduceAnswer, answerOf, bufferOf}
-use Rattle.reduce.specs.Routing.{Routed, winning, staysIn}
+use Rattle.reduce.specs.Routing.{winning, staysIn}
 use Rattle.reduce.specs.FormedLaws.{winner-below}
 use Rattle.reduce.specs.Keeping.{keptOf, Writable, Shortened}
 use Rattle.reduce.specs.Searching.{isMarked}

@@ -1,11 +1,11 @@
 -- Laws of `is_on_path` and `is_on`.
 use mathlib.Core.Path.{_≡_, refl, sym, ap, _∙_}
-use mathlib.Core.Bool.{Bool, true, false, not, _&&_, _||_, cond}
-use mathlib.Core.List.{List, [], _∷_}
+use mathlib.Core.Bool.{Bool, true, false, not, _&&_, _||_}
+use mathlib.Core.List.{List}
 use Prim.Native.Nat.{ℕ, zero, suc, _+_, _-_, _≤_, _<_}
 use native.Mathlib.Omega.{arith}
 use native.Mathlib.Numerals.{add-one}
-use lib.ListN.{length, getD}
+use lib.ListN.{getD}
 use lib.Dec.{eqb}
 use borrow.Author.Tests.{eq-eqb, ne-eqb}
 use Rattle.basics.specs.Tests.{Flag, isTrue, isFalse, flag, Cmp, cmp, below, equal, above, or-one, or-other}
@@ -13,8 +13,9 @@ use Rattle.diagram.specs.Diagram.{Diagram}
 use Rattle.diagram.specs.Validity.{tree}
 use Rattle.paths.specs.Paths.{through}
 use Rattle.paths.specs.Routes.{At, Sided, pathAt}
+use Rattle.paths.proofs.RouteLaws.{routed-at}
 use Rattle.reduction.specs.Reduction.{isOn}
-use Rattle.reduce.specs.Routing.{Routed, winning, isOnPath, Won, Edged}
+use Rattle.reduce.specs.Routing.{winning, isOnPath, Won, Edged}
 
 and-false : (a : Bool) → (a && false) ≡ false
 and-false true = refl
@@ -23,11 +24,7 @@ and-false false = refl
 -- `is_on_path`
 module _ {ws counts wins : List ℕ} {n m r side p : ℕ} (w : Won ws counts wins n m) (e : Edged n r side) (h : p < m) where
   pub path-at : At ws n (n - 1) p
-  path-at = record {
-    row = omega (arith, w .routed .some);
-    path = omega (arith, w .routed .all);
-    few = omega (arith, w .routed .all, w .routed .few);
-  }
+  path-at = routed-at (w .routed) h
 
   abbrev On : Bool
   On = isOnPath (tree ws (n - 1)) wins (tree ws r) (eqb side 1) p

@@ -19,7 +19,6 @@ use Rattle.diagram.specs.Diagram.{Diagram, leaf, branch, same}
 use Rattle.diagram.specs.Words.{labelAt, highAt, lowAt, rowCount}
 use Rattle.diagram.specs.Validity.{tree}
 use Rattle.diagram.specs.Shown.{Shown}
-use Rattle.paths.specs.Routes.{Rows}
 use Rattle.apply.specs.Apply.{node}
 use Rattle.apply.specs.Formed.{add}
 use Rattle.apply.specs.FormedLaws.{add-old, add-new, add-mem, add-begins}
@@ -27,7 +26,7 @@ use Rattle.store.specs.declared.Formed.{Formed}
 use Rattle.store.specs.declared.Formed.the-variants.{Row, Full}
 use Rattle.store.specs.Space.{diagramsOf, Holds, Children, Formation}
 use Rattle.store.proofs.SpaceLaws.{length-diagrams, holds-none, formation-row, formation-full, formation-tree, formation-old}
-use Rattle.reduce.specs.Routing.{staysIn, Won, Edged}
+use Rattle.reduce.specs.Routing.{staysIn}
 use Rattle.reduce.specs.Keeping.{keptOf, Parent, Keeping, Keepable, Kept}
 use Rattle.reduce.specs.KeepingLaws.{kept-leaf, kept-branch}
 

@@ -8,16 +8,16 @@ use native.Mathlib.Omega.{arith}
 use native.Mathlib.Nat.{zero-add}
 use native.Mathlib.Numerals.{add-one}
 use lib.ListN.{length, getD}
-use lib.Dec.{eqb, ltb}
-use borrow.Author.Tests.{eq-eqb, ne-eqb, eqb-true, eqb-false, lt-ltb, le-ltb, ltb-true}
+use lib.Dec.{eqb}
+use borrow.Author.Tests.{eq-eqb, ne-eqb, eqb-true, eqb-false, lt-ltb, ltb-true}
 use Rattle.basics.specs.Tests.{Flag, isTrue, isFalse, flag, Cmp, cmp, below, equal, above, Either, one, other, either, or-one, or-other}
 use Rattle.basics.specs.Members.{mem, clash}
 use Rattle.label.specs.Limits.{constantCount, firstParameter, parameterCount, termEnd, leafMark, predicateWeight, equality}
 use Rattle.label.specs.Terms.{isConstant}
 use Rattle.label.specs.Labels.{predicateOf, unpacked, termsOf}
 use Rattle.diagram.specs.Diagram.{Diagram, leaf, branch, From}
-use Rattle.diagram.specs.Words.{labelAt, highAt, lowAt, rowCount, isListing}
-use Rattle.diagram.specs.Listing.{diagramOf, Good}
+use Rattle.diagram.specs.Words.{labelAt, highAt, lowAt, rowCount}
+use Rattle.diagram.specs.Listing.{diagramOf}
 use Rattle.diagram.specs.Validity.{Valid, tree}
 use Rattle.diagram.specs.Variables.{occurs, isPlain}
 use Rattle.diagram.specs.DiagramOfListing.{diagram-is, good-diagram, shown-rows}

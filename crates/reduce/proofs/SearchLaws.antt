@@ -1,27 +1,19 @@
 -- Laws of the search for the winning paths.
-use mathlib.Core.Path.{_≡_, refl, sym, ap, ap₂, subst, _∙_}
-use mathlib.Core.Bool.{Bool, true, false, not, _&&_, _||_, cond, or-assoc}
-use mathlib.Core.List.{List, [], _∷_, _++_}
-use Prim.Native.Nat.{ℕ, zero, suc, _+_, _-_, _*_, _/_, _%_, _≤_, _<_, min}
+use mathlib.Core.Path.{_≡_, refl, sym, ap, ap₂, _∙_}
+use mathlib.Core.Bool.{cond}
+use mathlib.Core.List.{List, _∷_}
+use Prim.Native.Nat.{ℕ, zero, suc, _+_, _-_, _/_, _%_, _≤_, _<_}
 use native.Mathlib.Omega.{arith}
 use native.Mathlib.Numerals.{add-one}
-use lib.ListN.{length, getD, set, length-set}
+use lib.ListN.{length, getD, set}
 use lib.Seq.{getD-set-same, getD-set-other}
-use lib.Dec.{eqb, ltb}
-use borrow.Author.Tests.{eqb-true, eqb-false, eq-eqb, ne-eqb, lt-ltb, le-ltb}
-use Rattle.basics.specs.Tests.{Flag, isTrue, isFalse, flag, Cmp, cmp, below, equal, above}
-use Rattle.basics.specs.Members.{mem, mem-append}
-use Rattle.label.specs.Limits.{leafMark}
-use Rattle.diagram.specs.Diagram.{Diagram, leaf, branch}
-use Rattle.diagram.specs.Words.{labelAt, highAt, lowAt}
+use lib.Dec.{eqb}
+use borrow.Author.Tests.{eq-eqb, ne-eqb, lt-ltb, le-ltb}
+use Rattle.diagram.specs.Diagram.{Diagram}
 use Rattle.diagram.specs.Validity.{tree}
-use Rattle.paths.specs.Paths.{paths}
-use Rattle.paths.specs.PathLaws.{paths-leaf, paths-branch}
-use Rattle.paths.specs.Routes.{At, pathAt}
+use Rattle.paths.specs.Routes.{pathAt, Leaves}
 use Rattle.reduction.specs.Combinations.{before}
-use Rattle.reduction.specs.Reduction.{mostFormed}
-use Rattle.reduce.specs.Routing.{Routed}
-use Rattle.reduce.specs.Searching.{factEnd, stacked, signOf, pickKnown, Way, ways, sumOf, betterOf, formedOn, winnersOn, formedFrom, winnersFrom, Leaves, Facing, Searching, Standing, isMarked, Searched, Same, Reached, Visited, Forked}
+use Rattle.reduce.specs.Searching.{stacked, signOf, betterOf, Same}
 
 -- ===== What is known =====
 pub stacked-more : (s : List ℕ) (c : ℕ) → stacked s (suc c) ≡ getD s c 0 ∷ stacked s c
@@ -64,30 +56,6 @@ module _ (s : List ℕ) (f : ℕ) where
   sign-none count c p h = let e : c ≡ 0 = omega arith in sym (p ∙ ap (λ (k : ℕ). signOf (stacked s k) f) e)
 
 -- ===== Leaves =====
-pub leaves-none : (ws leaves : List ℕ) (n : ℕ) → Leaves ws leaves n 0
-leaves-none ws leaves n = record { places = omega arith; each = λ p h. absurd (omega arith) }
-
-pub leaves-more : {ws leaves : List ℕ} {n p v : ℕ} → Leaves ws leaves n p → p < length leaves → v ≡ pathAt (tree ws (n - 1)) p .end → Leaves ws (set leaves p v) n (p + 1)
-leaves-more {ws} {leaves} {n} {p} {v} l h e = record { places = rw length-set (omega arith); each = λ q b. each q b (cmp q p) }
-  where
-    each : (q : ℕ) → q < p + 1 → Cmp q p → getD (set leaves p v) q 0 ≡ pathAt (tree ws (n - 1)) q .end
-    each q b (below k) = getD-set-other leaves p q v 0 (λ z. omega arith) ∙ l .each q k
-    each q b (equal k) = rw (k, getD-set-same leaves p v 0 h) e
-    each q b (above k) = absurd (omega arith)
-
-pub leaves-all : {ws leaves : List ℕ} {n m p : ℕ} → Leaves ws leaves n p → p ≤ m → m ≤ p → Leaves ws leaves n m
-leaves-all {ws} {leaves} {n} {m} {p} l h k = let e : p ≡ m = omega arith in subst (Leaves ws leaves n) e l
-
-pub routed-at : {ws counts : List ℕ} {n m p : ℕ} → Routed ws counts n m → p < m → At ws n (n - 1) p
-routed-at {ws} {counts} {n} {m} {p} w h = record {
-  row = omega (arith, w .some);
-  path = omega (arith, w .all);
-  few = omega (arith, w .all, w .few);
-}
-
-pub routed-small : {ws counts : List ℕ} {n m p : ℕ} → Routed ws counts n m → p < m → p < 256
-routed-small w h = omega (arith, w .few)
-
 -- `better`
 module _ {ws leaves : List ℕ} {n m : ℕ} (l : Leaves ws leaves n m) {best k : ℕ} (h : best ≤ m) (j : k < m) where
   abbrev D : Diagram

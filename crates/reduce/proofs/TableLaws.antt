@@ -1,24 +1,21 @@
 -- Laws of the tables of facts.
-use mathlib.Core.Path.{_≡_, refl, sym, ap, ap₂, subst, _∙_}
-use mathlib.Core.Logic.{_≢_}
+use mathlib.Core.Path.{_≡_, refl, sym, ap, subst, _∙_}
 use mathlib.Core.Bool.{Bool, true, false, not, cond}
-use mathlib.Core.List.{List, [], _∷_, _++_}
+use mathlib.Core.List.{List, _∷_}
 use Prim.Native.Nat.{ℕ, zero, suc, _+_, _-_, _*_, _/_, _%_, _^_, _≤_, _<_}
 use native.Mathlib.Omega.{arith}
-use native.Mathlib.Nat.{pow-suc, mul-div-cancel, mod-lt, div-lt-iff-lt-mul, zero-add, add-zero}
+use native.Mathlib.Nat.{pow-suc, mul-div-cancel, mod-lt, zero-add, add-zero}
 use native.Mathlib.Numerals.{add-one}
-use lib.ListN.{length, getD, set, length-set}
+use lib.ListN.{length, getD, set}
 use lib.Seq.{getD-set-same, getD-set-other}
-use lib.Dec.{eqb, ltb}
-use borrow.Author.Tests.{eq-eqb, ne-eqb, le-ltb}
-use Rattle.basics.specs.Tests.{Flag, isTrue, isFalse, flag, Cmp, cmp, below, equal, above}
+use lib.Dec.{eqb}
+use borrow.Author.Tests.{eq-eqb, ne-eqb}
+use Rattle.basics.specs.Tests.{Cmp, cmp, below, equal, above}
 use Rattle.basics.specs.Members.{mem}
 use Rattle.label.specs.Limits.{leafMark, termEnd, firstVariable, variableCount, firstMinimum}
-use Rattle.label.specs.Labels.{isLabel}
 use Rattle.label.specs.Renamings.{rank, renamed, mapOf}
 use Rattle.label.specs.Callers.{TermMap, Movable}
 use Rattle.diagram.specs.Words.{labelAt}
-use Rattle.diagram.specs.Variables.{pickList}
 use Rattle.rename.specs.Maps.{usedFrom, usedVariables, isUsed}
 use Rattle.rename.specs.MapLaws.{rank-next, used-variable, used-variables-ascending}
 use Rattle.rename.specs.AscendingLaws.{ascending-not, rank-none}
@@ -107,7 +104,7 @@ unfolding usedFrom
 used-beyond marks t zero u h = refl
 used-beyond marks t (suc n) u h = go (isUsed marks t) (used-beyond marks (suc t) n u (omega arith))
   where
-    go : (b : Bool) → mem eqb u (usedFrom marks (suc t) n) ≡ false → mem eqb u (pickList b (t ∷ usedFrom marks (suc t) n) (usedFrom marks (suc t) n)) ≡ false
+    go : (b : Bool) → mem eqb u (usedFrom marks (suc t) n) ≡ false → mem eqb u (cond b (t ∷ usedFrom marks (suc t) n) (usedFrom marks (suc t) n)) ≡ false
     go true e = rw (ne-eqb u t (omega arith)) e
     go false e = e
 

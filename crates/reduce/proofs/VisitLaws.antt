@@ -1,15 +1,14 @@
 -- Laws of the walk of the search: `reach`, `visit` and `fork`.
 use mathlib.Core.Path.{_≡_, refl, sym, ap, ap₂, subst, _∙_}
-use mathlib.Core.Logic.{_≢_}
-use mathlib.Core.Bool.{Bool, true, false, not, _&&_, _||_, cond, or-assoc}
+use mathlib.Core.Bool.{Bool, true, false, _||_, cond, or-assoc}
 use mathlib.Core.List.{List, [], _∷_, _++_, append-assoc, append-nil}
-use Prim.Native.Nat.{ℕ, zero, suc, _+_, _-_, _*_, _/_, _%_, _≤_, _<_, min}
+use Prim.Native.Nat.{ℕ, zero, suc, _+_, _-_, _*_, _≤_, _<_}
 use native.Mathlib.Omega.{arith}
 use lib.ListN.{length, getD, set, length-set}
 use lib.Seq.{getD-set-same, getD-set-other}
-use lib.Dec.{eqb, ltb}
-use borrow.Author.Tests.{eqb-true, eqb-false, eq-eqb, ne-eqb}
-use Rattle.basics.specs.Tests.{Flag, isTrue, isFalse, flag, Cmp, cmp, below, equal, above}
+use lib.Dec.{eqb}
+use borrow.Author.Tests.{eqb-true, eqb-false}
+use Rattle.basics.specs.Tests.{Flag, isTrue, isFalse, flag}
 use Rattle.basics.specs.Members.{mem, mem-append}
 use Rattle.label.specs.Limits.{leafMark}
 use Rattle.diagram.specs.Diagram.{Diagram, leaf, branch}
@@ -19,8 +18,8 @@ use Rattle.paths.specs.Paths.{paths}
 use Rattle.paths.specs.PathLaws.{paths-leaf, paths-branch}
 use Rattle.reduction.specs.Combinations.{before}
 use Rattle.reduction.specs.Reduction.{mostFormed}
-use Rattle.reduce.specs.Routing.{Routed}
-use Rattle.reduce.specs.Searching.{factEnd, stacked, signOf, Way, ways, sumOf, betterOf, formedOn, winnersOn, formedFrom, winnersFrom, Facing, Searching, Standing, isMarked, Searched, Same, Reached, Visited, Forked}
+use Rattle.reduce.specs.Searching.{factEnd, stacked, signOf, Way, ways, betterOf, formedOn, winnersOn, formedFrom}
+use Rattle.reduce.specs.Searching.{winnersFrom, Facing, Searching, Standing, isMarked, Searched, Same, Reached, Visited, Forked}
 use Rattle.reduce.proofs.SearchLaws.{stacked-set}
 
 -- ===== Formed, and winning =====

@@ -1,7 +1,6 @@
 -- Laws of `find_winners`.
 use mathlib.Core.Path.{_≡_, refl, sym, ap, ap₂, subst, _∙_}
-use mathlib.Core.Logic.{_≢_}
-use mathlib.Core.Bool.{Bool, true, false, _||_, _&&_}
+use mathlib.Core.Bool.{true, _||_}
 use mathlib.Core.List.{List, [], _∷_, _++_, map}
 use Prim.Native.Nat.{ℕ, zero, suc, pred, _+_, _-_, _*_, _/_, _%_, _^_, _≤_, _<_, min}
 use native.Mathlib.Omega.{arith}
@@ -10,13 +9,13 @@ use lib.ListN.{length, getD, replicate, length-replicate, length-map, List·getD
 use lib.Seq.{getD-append-add}
 use lib.Dec.{eqb}
 use borrow.Author.Tests.{eqb-true}
-use Rattle.basics.specs.Tests.{and-left, and-right}
+use Rattle.basics.specs.Tests.{and-left}
 use Rattle.basics.specs.Members.{mem}
-use Rattle.label.specs.Limits.{leafMark, termEnd, predicateCount}
+use Rattle.label.specs.Limits.{predicateCount}
 use Rattle.label.specs.Labels.{areArities}
 use Rattle.diagram.specs.Diagram.{Diagram}
 use Rattle.diagram.specs.Rows.{rows}
-use Rattle.diagram.specs.Words.{labelAt, rowCount, upTo, isListing}
+use Rattle.diagram.specs.Words.{labelAt, rowCount, upTo}
 use Rattle.diagram.specs.WordLaws.{length-upTo, getD-map}
 use Rattle.diagram.specs.Listing.{diagramOf}
 use Rattle.diagram.specs.Validity.{Valid, tree}
@@ -24,20 +23,20 @@ use Rattle.diagram.specs.Variables.{variables}
 use Rattle.diagram.specs.RowDiagrams.{branch-row}
 use Rattle.diagram.specs.DiagramOfListing.{diagram-is, rows-are, valid-rows}
 use Rattle.diagram.specs.ListingValid.{listing-is-valid}
-use Rattle.rename.specs.Maps.{usedVariables, Marks}
+use Rattle.rename.specs.Maps.{usedVariables}
 use Rattle.rename.specs.MapLaws.{used-variables}
 use Rattle.rename.specs.VariableLaws.{variables-few}
-use Rattle.listing.specs.Used.{Used}
 use Rattle.paths.specs.Paths.{paths}
+use Rattle.paths.specs.Routes.{Leaves}
 use Rattle.paths.specs.PathLaws.{rows-paths}
 use Rattle.state.specs.Max.{gather, tuples}
 use Rattle.reduction.specs.Combinations.{valuations, formed, winners}
-use Rattle.reduction.specs.CombinationLaws.{tuples-length, valuations-count}
-use Rattle.reduction.specs.Reduction.{mostRuns, mostFormed}
-use Rattle.reduce.specs.Searching.{factEnd, stacked, ways, formedOn, winnersOn, formedFrom, winnersFrom, Leaves, Facing, Searching, Standing, isMarked, Visited}
+use Rattle.reduction.specs.CombinationLaws.{tuples-length}
+use Rattle.reduction.specs.Reduction.{mostFormed}
+use Rattle.reduce.specs.Searching.{factEnd, stacked, ways, formedOn, winnersOn, formedFrom, winnersFrom, Facing, Searching, Standing, isMarked, Visited}
 use Rattle.reduce.specs.Facts.{factOf}
 use Rattle.reduce.specs.FormedLaws.{count, up-count, formed-is, winners-are}
-use Rattle.reduce.specs.Tables.{digits, Labelled, Tabling, Tabled}
+use Rattle.reduce.specs.Tables.{digits, Tabling, Tabled}
 use Rattle.reduce.specs.Winning.{Winnable, Winning}
 use Rattle.reduce.proofs.BlockLaws.{zeros}
 use Rattle.reduce.proofs.VisitLaws.{left-one, formed-next, winners-next}

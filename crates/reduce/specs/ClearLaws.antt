@@ -1,17 +1,17 @@
 -- What the search allows is what is consistent, and the ways down a diagram are its paths that are allowed.
-use mathlib.Core.Path.{_≡_, refl, sym, ap, ap₂, subst, _∙_}
+use mathlib.Core.Path.{_≡_, refl, sym, ap, ap₂, _∙_}
 use mathlib.Core.Bool.{Bool, true, false, not, _&&_, _||_, cond}
-use mathlib.Core.List.{List, [], _∷_, _++_, map, append-nil, append-assoc}
-use Prim.Native.Nat.{ℕ, zero, suc, _+_, _-_, _*_, _/_, _%_, _≤_, _<_}
+use mathlib.Core.List.{List, [], _∷_, _++_, map, append-nil}
+use Prim.Native.Nat.{ℕ, zero, suc, _+_, _-_, _*_, _/_, _%_, _<_}
 use native.Mathlib.Omega.{arith}
 use native.Mathlib.Nat.{add-zero}
 use lib.ListN.{length, length-map}
 use lib.Dec.{eqb}
 use borrow.Author.Tests.{eqb-true, eqb-false, eq-eqb, ne-eqb, not-true}
-use Rattle.basics.specs.Tests.{Flag, isTrue, isFalse, flag, and-left, and-right, Either, one, other, either, or-one, or-other, Cmp, cmp, below, equal, above}
+use Rattle.basics.specs.Tests.{Flag, isTrue, isFalse, flag, and-left, and-right, Either, one, other, either, or-one, or-other}
 use Rattle.basics.specs.Members.{mem, mem-append, clash}
 use Rattle.diagram.specs.Diagram.{Diagram, leaf, branch}
-use Rattle.paths.specs.Paths.{Literal, Path, stepBefore, paths, literals}
+use Rattle.paths.specs.Paths.{Path, stepBefore, paths, literals}
 use Rattle.paths.specs.Routes.{bit, stepOn}
 use Rattle.reduction.specs.Combinations.{someOf}
 use Rattle.reduce.specs.Searching.{signOf, pickKnown, Way, ways}

@@ -1,15 +1,14 @@
 -- Two ground literals are opposed exactly if their numbers clash.
 use mathlib.Core.Path.{_≡_, refl, sym, ap, ap₂, subst, _∙_}
-use mathlib.Core.Bool.{Bool, true, false, not, _&&_, _||_, cond, Bool·beq}
-use mathlib.Core.List.{List, [], _∷_, _++_, map, List·Memᴰ, List·Memᴰ·head, List·Memᴰ·tail}
+use mathlib.Core.Bool.{Bool, true, false, not, _&&_, cond, Bool·beq}
+use mathlib.Core.List.{List, [], _∷_, map}
 use Prim.Native.Nat.{ℕ, zero, suc, _+_, _*_, _/_, _^_, _≤_, _<_}
 use native.Mathlib.Omega.{arith}
 use native.Mathlib.Nat.{mul-le-mul-right, mul-assoc, pow-zero, pow-succ'}
 use lib.ListN.{length, getD, take}
-use lib.Seq.{take-nil}
 use lib.Dec.{eqb}
-use borrow.Author.Tests.{eqb-true, eqb-false, eq-eqb, ne-eqb}
-use Rattle.basics.specs.Tests.{Flag, isTrue, isFalse, flag, and-left, and-right}
+use borrow.Author.Tests.{eqb-true, eq-eqb, ne-eqb}
+use Rattle.basics.specs.Tests.{Flag, isTrue, isFalse, flag}
 use Rattle.basics.specs.Members.{clash}
 use Rattle.label.specs.Limits.{termBase, termEnd, predicateCount, predicateWeight}
 use Rattle.label.specs.Labels.{packed, predicateOf, unpacked, placesOf, termsOf, isLabel}
@@ -19,13 +18,10 @@ use Rattle.label.specs.RenamingLaws.{placed-used, placed-unused}
 use Rattle.label.specs.declared.Atom.{Atom}
 use Rattle.diagram.specs.Words.{equalLists}
 use Rattle.diagram.specs.WordLaws.{lists-equal, equal-lists}
-use Rattle.diagram.specs.Diagram.{Diagram}
-use Rattle.diagram.specs.Variables.{variables}
-use Rattle.apply.specs.GoodLaws.{EveryLabel}
-use Rattle.paths.specs.Paths.{Literal, Path, paths, literals}
-use Rattle.paths.specs.Routes.{bit, pathAt}
-use Rattle.reduction.specs.Combinations.{someOf, objectOf, Ground, groundOf, opposed, consistent, grounds, facts}
-use Rattle.reduce.specs.Facts.{factOf, codeOf, codesOf, choiceCodes, clashing, isClear}
+use Rattle.paths.specs.Paths.{Literal}
+use Rattle.paths.specs.Routes.{bit}
+use Rattle.reduction.specs.Combinations.{objectOf, groundOf, opposed}
+use Rattle.reduce.specs.Facts.{factOf, codeOf, clashing}
 
 -- ===== A label as its predicate and places =====
 horner : ℕ → List ℕ → ℕ

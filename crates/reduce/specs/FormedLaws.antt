@@ -1,34 +1,34 @@
 -- The search forms what document 02 counts as formed, and marks the paths that win.
 use mathlib.Core.Path.{_≡_, refl, sym, ap, ap₂, subst, _∙_}
-use mathlib.Core.Logic.{_⊎_, inl, inr}
+use mathlib.Core.Logic.{inl, inr}
 use mathlib.Core.Bool.{Bool, true, false, not, _&&_, _||_, cond}
 use mathlib.Core.List.{List, [], _∷_, _++_, map, reverse, append-nil, append-assoc, List·Memᴰ, List·Memᴰ·head, List·Memᴰ·tail, List·Memᴰ·not-nil, reverse-cons}
-use Prim.Native.Nat.{ℕ, zero, suc, _+_, _-_, _*_, _≤_, _<_}
+use Prim.Native.Nat.{ℕ, zero, suc, _+_, _-_, _≤_, _<_}
 use native.Mathlib.Omega.{arith}
-use lib.ListN.{length, getD, length-map, length-append}
+use lib.ListN.{length, getD, length-map}
 use lib.Dec.{eqb}
 use borrow.Author.Tests.{eq-eqb, ne-eqb, eqb-true}
 use Rattle.basics.specs.Tests.{Flag, isTrue, isFalse, flag}
 use Rattle.basics.specs.Members.{mem, clash}
-use Rattle.label.specs.Limits.{termBase, termEnd, firstVariable}
+use Rattle.label.specs.Limits.{termBase}
 use Rattle.label.specs.Renamings.{rank}
 use Rattle.diagram.specs.Diagram.{Diagram}
 use Rattle.diagram.specs.Words.{upTo}
 use Rattle.diagram.specs.Variables.{variables}
 use Rattle.rename.specs.VariableLaws.{variables-few}
 use Rattle.state.specs.Max.{Tuple, none, more, gather, those, tuples}
-use Rattle.paths.specs.Paths.{Literal, Path, paths, literals}
-use Rattle.paths.specs.PathLaws.{paths-are}
+use Rattle.paths.specs.Paths.{Literal, paths, literals}
+use Rattle.paths.specs.PathLaws.{paths-are, mem-unmap}
 use Rattle.paths.specs.Routes.{pathAt}
-use Rattle.reduction.specs.Combinations.{someOf, valuations, objectOf, Ground, groundOf, opposed, consistent, grounds, facts, isConsistent, choices, combinations, formedBy, formed, before, winner, winners}
+use Rattle.reduction.specs.Combinations.{someOf, valuations, objectOf, Ground, groundOf, opposed, consistent, grounds}
+use Rattle.reduction.specs.Combinations.{facts, isConsistent, choices, combinations, formedBy, formed, before, winner, winners}
 use Rattle.reduction.specs.Claims.{AtLeast}
 use Rattle.reduction.specs.ListLaws.{reverse-in}
 use Rattle.reduction.specs.CombinationLaws.{in-tuples, tuples-in, in-choices, at-least-trans, earlier, winner-in, winner-first}
-use Rattle.paths.specs.PathLaws.{mem-unmap}
 use Rattle.reduce.specs.Searching.{Way, ways, sumOf, betterOf, formedOn, winnersOn}
 use Rattle.reduce.specs.Facts.{factOf, codeOf, codesOf, choiceCodes, clashing, isClear}
 use Rattle.reduce.specs.FactLaws.{opposed-clash}
-use Rattle.reduce.specs.ClearLaws.{Within, Quiet, clear-quiet, clear-same, allowed, learnt, Allowed, all-allowed, waysOver, ways-over, append-within}
+use Rattle.reduce.specs.ClearLaws.{Within, Quiet, clear-quiet, clear-same, allowed, learnt, all-allowed, waysOver, ways-over, append-within}
 
 -- ===== Lists =====
 abbrev pub AllOf : {A : Type 0} → (A → Type 0) → List A → Type 0

@@ -17,7 +17,6 @@ use Rattle.diagram.specs.RowLists.{Written}
 use Rattle.store.specs.declared.Formed.{Formed}
 use Rattle.store.specs.declared.Formed.the-variants.{Row}
 use Rattle.store.specs.Space.{diagramsOf, Holds}
-use Rattle.paths.specs.Paths.{mostPaths}
 use Rattle.cutting.specs.Cut.{reduced, written}
 use Rattle.reduction.specs.Reduction.{keeping}
 use Rattle.reduce.specs.Routing.{staysIn, Won, Edged}

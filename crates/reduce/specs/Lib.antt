@@ -1,7 +1,7 @@
 -- The public call of a reduction (document 02, L13). What a reduction is, and what the call answers, stands in crate reduction.
 --
 -- Inner contracts: paths and edges
---   Routed, Won, Edged == a listing with its counts of paths; a mark for each path; an edge that is asked about
+--   Won, Edged == a mark for each path; an edge that is asked about
 --   winning, isOnPath, staysIn == the paths that are marked; an edge on one of them
 --   keptOf, Keeping, Kept, Shortened == what is left once every other edge goes to leaf 0, formed row by row and written
 --

@@ -1,5 +1,4 @@
 -- The paths of a listing as the code has them, and the winning ones marked (document 02, L13).
-use mathlib.Core.Path.{_≡_}
 use mathlib.Core.Bool.{Bool, not, _&&_, cond}
 use mathlib.Core.List.{List, [], _∷_}
 use Prim.Native.Nat.{ℕ, zero, suc, _-_, _≤_, _<_}
@@ -8,17 +7,9 @@ use lib.Dec.{eqb}
 use Rattle.diagram.specs.Diagram.{Diagram}
 use Rattle.diagram.specs.Words.{rowCount}
 use Rattle.diagram.specs.Validity.{tree}
-use Rattle.paths.specs.Paths.{paths, mostPaths, through}
-use Rattle.paths.specs.Routes.{Rows, Counted, pathAt}
+use Rattle.paths.specs.Paths.{through}
+use Rattle.paths.specs.Routes.{pathAt, Routed}
 use Rattle.reduction.specs.Reduction.{isOn}
-
--- n rows with their counts of paths; the last has m, at most 256
-pub record Routed (ws counts : List ℕ) (n m : ℕ) : Type 0 where
-  pub rows : Rows ws n
-  pub some : 1 ≤ n
-  pub counted : Counted ws counts n
-  pub all : length (paths (tree ws (n - 1))) ≡ m
-  pub few : m ≤ mostPaths
 
 -- those of the first m paths that are marked, the last first
 unfoldable pub winning : List ℕ → ℕ → List ℕ

@@ -12,11 +12,10 @@ use Rattle.diagram.specs.Diagram.{Diagram, leaf, branch}
 use Rattle.diagram.specs.Words.{labelAt, highAt, lowAt}
 use Rattle.diagram.specs.Validity.{tree}
 use Rattle.paths.specs.Paths.{paths}
-use Rattle.paths.specs.Routes.{pathAt}
+use Rattle.paths.specs.Routes.{Routed, Leaves}
 use Rattle.state.specs.Max.{gather}
 use Rattle.reduction.specs.Combinations.{before}
 use Rattle.reduction.specs.Reduction.{mostFormed}
-use Rattle.reduce.specs.Routing.{Routed}
 
 -- ===== Facts known =====
 
@@ -85,11 +84,6 @@ unfoldable pub winnersFrom : Diagram → ℕ → List (ℕ → ℕ) → ℕ → 
 winnersFrom d m facts best ws = gather (λ (w : Way). winnersOn d m facts (w .known) (betterOf d m best (w .path))) ws
 
 -- ===== What the code keeps =====
-
--- the leaves of the first m paths
-pub record Leaves (ws leaves : List ℕ) (n m : ℕ) : Type 0 where
-  pub places : m ≤ length leaves
-  pub each : (p : ℕ) → p < m → getD leaves p 0 ≡ pathAt (tree ws (n - 1)) p .end
 
 -- the facts of the n rows' labels under each valuation of the list stand from the place `base` on
 abbrev pub Facing : List ℕ → List ℕ → ℕ → ℕ → List (ℕ → ℕ) → Type 0

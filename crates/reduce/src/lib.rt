@@ -20,8 +20,9 @@ ghost use Rattle.store.specs.Space.{diagramsOf, Formation};
 ghost use Rattle.reduction.specs.Reduction.{isOn, mostRuns, hasKinds, hasParameter, reduceCall, answerOf, bufferOf};
 ghost use Rattle.diagram.specs.Words.{isListing};
 ghost use Rattle.diagram.specs.Listing.{diagramOf};
-ghost use Rattle.reduce.specs.Routing.{Routed, winning, isOnPath, staysIn, Won, Edged};
-ghost use Rattle.reduce.specs.Searching.{stacked, signOf, betterOf, Leaves, Searching, Standing, Reached, Visited, Forked};
+ghost use Rattle.paths.specs.Routes.{Leaves};
+ghost use Rattle.reduce.specs.Routing.{winning, isOnPath, staysIn, Won, Edged};
+ghost use Rattle.reduce.specs.Searching.{stacked, signOf, betterOf, Searching, Standing, Reached, Visited, Forked};
 ghost use Rattle.reduce.specs.Tables.{Divided, Placed, Ranked, Mapping, Mapped, factWord, Labelled, Filled, digits, Blocked, Grounded, Tabling, Tabled};
 ghost use Rattle.reduce.specs.Winning.{Winnable, Winning, Plain, Answered, someUsed, Markable, Reducible};
 ghost use Rattle.reduce.specs.Keeping.{keptOf, Parent, Keeping, Keepable, Kept, Writable, Shortened};
@@ -51,19 +52,6 @@ fn sign_of(known: &[u64], count: usize, fact: u64) -> u64
         c -= 1;
     }
     UNKNOWN
-}
-
-// Finds the leaves of the m paths.
-fn find_leaves(words: &[u64], counts: &[u64], n: usize, m: usize, leaves: &mut [u64])
-    requires { ⌜ Routed (now words) (now counts) n m ⌝ }
-    requires { ⌜ m ≤ length (now leaves) ⌝ }
-    ensures { λ _. ⌜ Leaves (now (words .entry)) (now (leaves .exit)) n m ⌝ }
-{
-    let mut p = 0;
-    while p < m {
-        leaves[p] = paths::leaf_of(words, counts, n, p as u64);
-        p += 1;
-    }
 }
 
 // Of the winning path so far and path k the one of least place: the higher leaf, among equal leaves the lower number. Where there is none so far, m stands for it.
@@ -448,7 +436,7 @@ fn find_winners(
     let mut known = [0u64; FACTS];
     let mut leaves = [0u64; PATHS];
     fill_facts(arities, words, used, n, v, all, &mut facts);
-    find_leaves(words, counts, n, m, &mut leaves);
+    paths::find_leaves(words, counts, n, m, &mut leaves);
     visit(
         words,
         counts,

@@ -4,7 +4,8 @@ use lib.ListN.{length}
 use native.Mathlib.Omega.{arith}
 use borrow.Author.Needs.{needs}
 use Rattle.cut.specs.Choosing.{Sides}
-use Rattle.cut.proofs.ChoosingLaws.{path-at, path-small, sides-none, sides-more, sides-all}
+use Rattle.paths.proofs.RouteLaws.{routed-at, routed-small}
+use Rattle.cut.proofs.ChoosingLaws.{sides-none, sides-more, sides-all}
 use Rattle.cut.proofs.find_sides.Statement.{statement}
 use Rattle.cut.proofs.find_sides.Tie as tie
 
@@ -20,16 +21,16 @@ loop-holds c = (refl, omega arith, sides-none _ _ _ _)
 side-of-requires : tie.Need-side-of-requires Inv-loop μ-loop
 side-of-requires c κs =
     let entry = c .before .before .before .before .before .pre in
-    (entry .0 .rows, (entry .0 .counted, (path-at (entry .0) (c .loop-test .taken), entry .1 .0)))
+    (entry .0 .rows, (entry .0 .counted, (routed-at (entry .0) (c .loop-test .taken), entry .1 .0)))
 
 mul-sides : tie.Need-mul-sides Inv-loop μ-loop
-mul-sides c = omega (arith, path-small (c .before .before .before .before .before .before .pre .0) (c .before .loop-test .taken))
+mul-sides c = omega (arith, routed-small (c .before .before .before .before .before .before .pre .0) (c .before .loop-test .taken))
 
 slice-write-sides : tie.Need-slice-write-sides Inv-loop μ-loop
 slice-write-sides c = omega (arith, c .before .loop-test .taken, c .before .before .before .before .before .before .pre .1 .1, c .before .before .loop .inv .0)
 
 add-p : tie.Need-add-p Inv-loop μ-loop
-add-p c = omega (arith, path-small (c .before .before .before .before .before .before .pre .0) (c .before .loop-test .taken))
+add-p c = omega (arith, routed-small (c .before .before .before .before .before .before .pre .0) (c .before .loop-test .taken))
 
 loop-again : tie.Need-loop-again Inv-loop μ-loop
 loop-again c =

@@ -1,5 +1,4 @@
 use borrow.Author.Needs.{needs}
-use native.Mathlib.Omega.{arith}
 use Prim.Native.Nat.{_≤_, _-_}
 use lib.ListN.{length}
 use mathlib.Core.Path.{refl}
@@ -8,21 +7,13 @@ use Rattle.matcher.proofs.have_ways.Statement.{statement}
 use Rattle.matcher.proofs.have_ways.Tie as tie
 
 abbrev Inv-loop : tie.InvT-loop
-Inv-loop ord into kinds i₀ i = i ≤ length ord
+Inv-loop ord kinds i₀ i = i ≤ length ord
 
 abbrev μ-loop : tie.MeasureT-loop
-μ-loop ord into kinds i₀ i = length ord - i
-
-has-way-requires : tie.Need-has-way-requires Inv-loop μ-loop
-has-way-requires c κs = c .before .before .before .before .before .mark-kinds .ensures .room
+μ-loop ord kinds i₀ i = length ord - i
 
 returns : tie.Need-returns Inv-loop μ-loop
-returns c =
-    let if1 = c .if1 in
-    let has-way = c .before .has-way in
-    let loop-test = c .before .before .before .before .loop-test in
-    let mark-kinds = c .before .before .before .before .before .before .before .mark-kinds in
-    ways-no (mark-kinds .ensures) (loop-test .taken) refl (has-way .ensures) (if1 .taken)
+returns c = ways-no (c .before .before .before .loop-test .taken) refl (c .before .has-way .ensures) (c .if1 .taken)
 
 returns-2 : tie.Need-returns-2 Inv-loop μ-loop
 returns-2 c = ways-yes _ _
@@ -30,4 +21,5 @@ returns-2 c = ways-yes _ _
 pub have-ways-spec : {M : Type 1} → statement M
 have-ways-spec =
     tie.close
-    (tie.spec Inv-loop μ-loop (λ c. search needs) (λ c κs. search needs) (λ c. search needs) (λ c. search needs) (λ c. search needs) (λ c. search needs) has-way-requires returns (λ c. search needs) (λ c. search needs) (λ c. search needs) returns-2)
+    (tie.spec Inv-loop μ-loop (λ c. search needs) (λ c. search needs) (λ c. search needs) (λ c κs. search needs) returns (λ c. search needs) (λ c. search needs)
+    (λ c. search needs) returns-2)

@@ -80,4 +80,6 @@ returns-3 c =
 pub is-met-spec : {M : Type 1} → statement M
 is-met-spec =
     tie.close
-    (tie.spec (λ c κs. search needs) (λ c κs. search needs) mul-find add-find (λ c κs. search needs) returns (λ c κs. search needs) (λ c κs. search needs) mul-equate shared-slice-read-equate mul-equate-2 shared-slice-read-equate-2 equate-requires (λ c. search needs) (λ c. search needs) returns-2 mul-find-2 add-find-2 (λ c κs. search needs) returns-3)
+    (tie.spec (λ c κs. search needs) (λ c κs. search needs) mul-find add-find (λ c κs. search needs) returns (λ c κs. search needs) (λ c κs. search needs)
+    mul-equate shared-slice-read-equate mul-equate-2 shared-slice-read-equate-2 equate-requires (λ c. search needs) (λ c. search needs) returns-2 mul-find-2
+    add-find-2 (λ c κs. search needs) returns-3)

@@ -42,4 +42,5 @@ returns c = kinds-end (c .before .loop .inv .1) (c .loop-test .left)
 pub mark-kinds-spec : {M : Type 1} → statement M
 mark-kinds-spec =
     tie.close
-    (tie.spec Inv-loop μ-loop loop-holds (λ c. search needs) (λ c. search needs) (λ c κs. search needs) mul-kinds slice-write-kinds (λ c. search needs) (λ c. search needs) loop-again (λ c. search needs) (λ c. search needs) loop-again-2 same-length returns)
+    (tie.spec Inv-loop μ-loop loop-holds (λ c. search needs) (λ c. search needs) (λ c κs. search needs) mul-kinds slice-write-kinds (λ c. search needs)
+    (λ c. search needs) loop-again (λ c. search needs) (λ c. search needs) loop-again-2 same-length returns)

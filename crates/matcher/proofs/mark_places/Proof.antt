@@ -21,7 +21,14 @@ mul-marks : tie.Need-mul-marks Inv-loop μ-loop
 mul-marks c = omega (arith, places-term (c .before .before .before .before .pre .1 .0) (c .before .before .before .before .pre .1 .1) (c .before .loop-test .taken) (c .place .ensures))
 
 slice-write-marks : tie.Need-slice-write-marks Inv-loop μ-loop
-slice-write-marks c = omega (arith, places-term (c .before .before .before .before .pre .1 .0) (c .before .before .before .before .pre .1 .1) (c .before .loop-test .taken) (c .place .ensures), places-length (c .before .before .loop .inv), c .before .before .before .before .pre .0)
+slice-write-marks c =
+    let entry = c .before .before .before .before .pre in
+    omega (
+      arith,
+      places-term (entry .1 .0) (entry .1 .1) (c .before .loop-test .taken) (c .place .ensures),
+      places-length (c .before .before .loop .inv),
+      entry .0,
+    )
 
 loop-again : tie.Need-loop-again Inv-loop μ-loop
 loop-again c = places-next (c .before .before .loop .inv) (c .before .loop-test .taken) (c .place .ensures)

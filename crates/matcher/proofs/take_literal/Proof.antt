@@ -19,4 +19,5 @@ returns c = swap-taken (c .before .before .before .before .before .before .befor
 pub take-literal-spec : {M : Type 1} → statement M
 take-literal-spec =
     tie.close
-    (tie.spec (λ c. search needs) (λ c. search needs) (λ c. search needs) (λ c. search needs) (λ c. search needs) (λ c. search needs) (λ c. search needs) slice-write-ord-2 mark-places-requires (λ c. search needs) (λ c. search needs) returns)
+    (tie.spec (λ c. search needs) (λ c. search needs) (λ c. search needs) (λ c. search needs) (λ c. search needs) (λ c. search needs) (λ c. search needs)
+    slice-write-ord-2 mark-places-requires (λ c. search needs) (λ c. search needs) returns)

@@ -1,4 +1,3 @@
-use borrow.Author.Needs.{needs}
 use native.Mathlib.Omega.{arith}
 use Prim.Native.Nat.{_-_}
 use Rattle.paths.proofs.RouteLaws.{coming-start, coming-few, coming-room, coming-next, coming-end, leaf-label}

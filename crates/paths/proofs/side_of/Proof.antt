@@ -1,4 +1,3 @@
-use borrow.Author.Needs.{needs}
 use native.Mathlib.Omega.{arith}
 use Prim.Native.Nat.{_-_}
 use Rattle.paths.proofs.RouteLaws.{over-start, over-next, side-leaf, side-below, here-room, side-true, side-false, leaf-label}

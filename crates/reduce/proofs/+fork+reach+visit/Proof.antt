@@ -1,5 +1,7 @@
 use mathlib.Core.Path.{_∙_}
-use Rattle.reduce.proofs.VisitLaws.{raw-label, label-raw, high-few, high-place, high-small, code-small, row-high, row-low, fork-first, further-high, fork-full, long, longer, fork-place, fork-second, further-low, fork-done, reach-full, winner-below, reach-place, reach-last, reach-searching, reach-standing, reach-on, visit-path, visit-count, visit-leaf, standing-high, visit-true, standing-low, visit-false, visit-fork}
+use Rattle.reduce.proofs.VisitLaws.{raw-label, label-raw, high-few, high-place, high-small, code-small, row-high, row-low, fork-first, further-high, fork-full}
+use Rattle.reduce.proofs.VisitLaws.{long, longer, fork-place, fork-second, further-low, fork-done, reach-full, winner-below, reach-place, reach-last, reach-searching}
+use Rattle.reduce.proofs.VisitLaws.{reach-standing, reach-on, visit-path, visit-count, visit-leaf, standing-high, visit-true, standing-low, visit-false, visit-fork}
 use native.Mathlib.Omega.{arith}
 use borrow.Author.Needs.{needs}
 use Prim.Native.Nat.{ℕ, _+_, _*_, _<_}

@@ -3,10 +3,10 @@ use Prim.Native.Nat.{_-_, _≤_}
 use lib.ListN.{length}
 use native.Mathlib.Omega.{arith}
 use borrow.Author.Needs.{needs}
-use Rattle.cut.specs.Choosing.{Leaves}
-use Rattle.cut.proofs.ChoosingLaws.{path-at, path-small, leaves-none, leaves-more, leaves-all}
-use Rattle.cut.proofs.find_leaves.Statement.{statement}
-use Rattle.cut.proofs.find_leaves.Tie as tie
+use Rattle.paths.specs.Routes.{Leaves}
+use Rattle.paths.proofs.RouteLaws.{routed-at, routed-small, leaves-none, leaves-more, leaves-all}
+use Rattle.paths.proofs.find_leaves.Statement.{statement}
+use Rattle.paths.proofs.find_leaves.Tie as tie
 
 abbrev Inv-loop : tie.InvT-loop
 Inv-loop words counts n m leaves₀ p₀ leaves p = (length leaves ≡ length leaves₀) × (p ≤ m) × Leaves words leaves n p
@@ -20,16 +20,19 @@ loop-holds c = (refl, omega arith, leaves-none _ _ _)
 leaf-of-requires : tie.Need-leaf-of-requires Inv-loop μ-loop
 leaf-of-requires c κs =
     let entry = c .before .before .before .before .before .pre in
-    (entry .0 .rows, (entry .0 .counted, path-at (entry .0) (c .loop-test .taken)))
+    (entry .0 .rows, (entry .0 .counted, routed-at (entry .0) (c .loop-test .taken)))
 
 mul-leaves : tie.Need-mul-leaves Inv-loop μ-loop
-mul-leaves c = omega (arith, path-small (c .before .before .before .before .before .before .pre .0) (c .before .loop-test .taken))
+mul-leaves c = omega (arith, routed-small (c .before .before .before .before .before .before .pre .0) (c .before .loop-test .taken))
 
 slice-write-leaves : tie.Need-slice-write-leaves Inv-loop μ-loop
-slice-write-leaves c = omega (arith, c .before .loop-test .taken, c .before .before .before .before .before .before .pre .1, c .before .before .loop .inv .0)
+slice-write-leaves c =
+    let loop = c .before .before .loop in
+    let entry = c .before .before .before .before .before .before .pre in
+    omega (arith, c .before .loop-test .taken, entry .1, loop .inv .0)
 
 add-p : tie.Need-add-p Inv-loop μ-loop
-add-p c = omega (arith, path-small (c .before .before .before .before .before .before .pre .0) (c .before .loop-test .taken))
+add-p c = omega (arith, routed-small (c .before .before .before .before .before .before .pre .0) (c .before .loop-test .taken))
 
 loop-again : tie.Need-loop-again Inv-loop μ-loop
 loop-again c =
