@@ -1,4 +1,4 @@
--- The diagram of a line of a text, built from operations (document 01, section 'Text').
+-- The diagram of a line of a text: what it is, and how operations build it (document 01, section 'Text').
 --
 -- Definitions: a diagram of a text
 --   meaning == the leaf that a choice of true or false for all labels leads to in what is written
@@ -19,16 +19,11 @@
 --   built-text: the operations of a tree build what the tree is read as; built-reward
 --   eval-for: a text's diagram has the meaning that is written
 --   text-good: an accepted diagram of a text is good
---   built-regular: what is built is ordered and reduced, with labels and values in their ranges
---
--- Stacks and Writing have inner contracts: the machine in lent words.
 
 -- definitions
 pub mod Build
+pub mod Written
 pub mod Machine
-pub mod Stacks
-pub mod Writing
 -- laws
 pub mod MachineLaws
-pub mod RegularLaws
 pub mod ReadingLaws

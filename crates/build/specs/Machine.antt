@@ -1,13 +1,12 @@
 -- The operations that a diagram's words are turned into, in the order of the words, and a machine with two stacks that runs them (document 01, section
 -- 'Text': 'read as the row step above when it closes'). It builds what `readDiagram` reads (`build-reading`).
-use mathlib.Core.Bool.{true, false, cond}
-use mathlib.Core.List.{List, [], _∷_, _++_}
-use Prim.Native.Nat.{ℕ, zero, suc, _+_, _*_}
-use lib.ListN.{length, getD}
+use mathlib.Core.Bool.{cond}
+use mathlib.Core.List.{List, [], _∷_}
+use Prim.Native.Nat.{ℕ}
+use lib.ListN.{length}
 use lib.Dec.{ltb}
 use Rattle.refusal.specs.declared.Refusal.the-variants.{Form}
 use Rattle.label.specs.declared.Test.{Test}
-use Rattle.label.specs.declared.Test.the-variants.{Always, Is}
 use Rattle.diagram.specs.Diagram.{Diagram, leaf}
 use Rattle.diagram.specs.Variables.{closed}
 use Rattle.refusal.specs.Outcome.{Outcome, ok, refused, andThen}

@@ -22,8 +22,8 @@ use Rattle.reading.specs.declared.Opened.the-variants as P
 use Rattle.reading.specs.Reading.{Written, arguments, reading}
 use Rattle.reading.specs.Head.{Head, headNumber, headArguments}
 use Rattle.reading.specs.Callers.{judgedPredicate, PredicateWithin}
-use Rattle.build.specs.declared.Built.{Built}
-use Rattle.build.specs.declared.Built.the-variants.{Done, Refused}
+use Rattle.drawing.specs.declared.Built.{Built}
+use Rattle.drawing.specs.declared.Built.the-variants.{Done, Refused}
 use Rattle.build.specs.Machine.{built}
 use Rattle.answers.specs.declared.Answer.the-variants as A
 use Rattle.session.specs.Session.{Names, Session}

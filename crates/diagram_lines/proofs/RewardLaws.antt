@@ -24,8 +24,8 @@ use Rattle.reading.specs.declared.Scope.{Scope}
 use Rattle.reading.specs.Reading.{Written}
 use Rattle.reading.specs.Numbering.{rewardReading}
 use Rattle.reading.specs.Callers.{variableWords, namesOf as tableNames}
-use Rattle.build.specs.declared.Built.{Built}
-use Rattle.build.specs.declared.Built.the-variants.{Done, Refused}
+use Rattle.drawing.specs.declared.Built.{Built}
+use Rattle.drawing.specs.declared.Built.the-variants.{Done, Refused}
 use Rattle.build.specs.Machine.{builtClosed}
 use Rattle.answers.specs.declared.Answer.the-variants as A
 use Rattle.session.specs.Session.{Names}

@@ -13,9 +13,9 @@ use Rattle.diagram.specs.Diagram.{Diagram}
 use Rattle.diagram.specs.Rows.{rows}
 use Rattle.diagram.specs.Listing.{listing, diagramOf}
 use Rattle.refusal.specs.Outcome.{Outcome, ok, refused}
-use Rattle.build.specs.declared.Built.{Built}
-use Rattle.build.specs.declared.Built.the-variants.{Done, Refused}
-use Rattle.build.specs.Writing.{builtAs}
+use Rattle.drawing.specs.declared.Built.{Built}
+use Rattle.drawing.specs.declared.Built.the-variants.{Done, Refused}
+use Rattle.drawing.specs.Writing.{builtAs}
 use Rattle.session.specs.Modelling.{mostModelRows}
 use Rattle.model.specs.Layout.{listingWords}
 use Rattle.modelling.specs.Building.{Canonical}

@@ -39,9 +39,9 @@ use Rattle.reading.specs.Callers.{variableWords, namesOf as tableNames, judgedP
 use Rattle.reading.specs.LineLaws.{becomes-arguments}
 use Rattle.reading.specs.JudgedLaws.{fine-one, chained}
 use Rattle.label.specs.ArityLaws.{arity-most, arity-words}
-use Rattle.build.specs.declared.Built.{Built}
-use Rattle.build.specs.declared.Built.the-variants.{Done, Refused}
-use Rattle.build.specs.Writing.{builtAs}
+use Rattle.drawing.specs.declared.Built.{Built}
+use Rattle.drawing.specs.declared.Built.the-variants.{Done, Refused}
+use Rattle.drawing.specs.Writing.{builtAs}
 use Rattle.session.specs.Session.{Names}
 use Rattle.session.specs.Modelling.{outcomeOf, namesFor, isSome, truthsNow}
 use Rattle.session.specs.Replies.{wordsOf}
@@ -154,7 +154,8 @@ module _ {s : List ℕ} {n : Numbers} {names ar work : List ℕ} (x : Lent Becom
         behind-is =
             let y : headArguments (getD ar p 0) (wordsOf Becomes s) ≡ headArguments (getD ar p 0) (wordsOf Becomes (lineBytes (line Becomes (x .line .words))))
             = ap (λ (z : List ℕ). headArguments (getD ar p 0) (wordsOf Becomes z)) (x .line .bytes) in
-            let c = chained (headKeys (getD ar p 0) (x .line .words .1)) (λ (ks : List Key). fine (headOf ks (diagramEvents (x .line .words .2)))) (headOf (keysAt vs 0 (getD ar p 0)) (eventsOf (drop i s)))
+            let c = chained (headKeys (getD ar p 0) (x .line .words .1)) (λ (ks : List Key). fine (headOf ks (diagramEvents (x .line .words .2))))
+            (headOf (keysAt vs 0 (getD ar p 0)) (eventsOf (drop i s)))
             (sym (becomes-arguments (getD ar p 0) (x .line .words) (x .line .good .0)) ∙ sym y ∙ headed-is) in
             let d : headOf (c .first) (diagramEvents (x .line .words .2)) ≡ headOf (keysAt vs 0 (getD ar p 0)) (eventsOf (drop i s)) = fine-one (c .then) in
             sym (ap (λ (g : Head). g .rest) d)

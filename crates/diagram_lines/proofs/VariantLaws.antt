@@ -30,8 +30,8 @@ use Rattle.reading.specs.declared.Binding.the-variants.{None}
 use Rattle.reading.specs.Reading.{Written, arguments, reading}
 use Rattle.reading.specs.Callers.{variableWords, namesOf as tableNames}
 use Rattle.reading.specs.LineLaws.{next-splits}
-use Rattle.build.specs.declared.Built.{Built}
-use Rattle.build.specs.declared.Built.the-variants.{Done, Refused}
+use Rattle.drawing.specs.declared.Built.{Built}
+use Rattle.drawing.specs.declared.Built.the-variants.{Done, Refused}
 use Rattle.build.specs.Machine.{built}
 use Rattle.answers.specs.declared.Answer.the-variants as A
 use Rattle.session.specs.Session.{Names}

@@ -27,8 +27,8 @@ use Rattle.reading.specs.declared.Scope.{Scope}
 use Rattle.reading.specs.declared.Opened.{Opened}
 use Rattle.reading.specs.Head.{headNumber, headArguments}
 use Rattle.reading.specs.Callers.{judgedPredicate, PredicateWithin}
-use Rattle.build.specs.declared.Built.{Built}
-use Rattle.build.specs.declared.Built.the-variants.{Done, Refused}
+use Rattle.drawing.specs.declared.Built.{Built}
+use Rattle.drawing.specs.declared.Built.the-variants.{Done, Refused}
 use Rattle.session.specs.Session.{Names, refuseIf}
 use Rattle.session.specs.Good.{mostVariantNames}
 use Rattle.session.specs.Modelling.{mostModelRows, outcomeOf, namesFor, rowsWith, isSome, truthsNow}

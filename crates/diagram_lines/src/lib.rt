@@ -1,8 +1,7 @@
 // The lines of a model with a diagram, on a session in lent words: (reward DIAGRAM), (variant n WEIGHT) and (becomes (p ?a ..) DIAGRAM).
 use answers::Answer;
-use build::Built;
 use declare::Counts;
-use label::Label;
+use drawing::Built;
 use memory::Numbers;
 use memory::Said;
 use reading::Binding;
@@ -18,10 +17,6 @@ ghost use Prim.Native.Nat.{_+_, _*_, _/_, _≤_, _<_};
 ghost use lib.ListN.{length, drop};
 ghost use Rattle.label.specs.Limits.{predicateCount};
 ghost use Rattle.diagram.specs.Sizes.{resultWords};
-ghost use Rattle.diagram.specs.Listing.{diagramOf};
-ghost use Rattle.diagram.specs.Validity.{Valid};
-ghost use Rattle.regression.specs.RegressCall.{leafAbove};
-ghost use Rattle.truths.specs.TruthChecks.{isHighLeaf};
 ghost use Rattle.text.specs.declared.Kind.the-variants.{Reward, Variant, Becomes};
 ghost use Rattle.events.specs.Front.{eventsOf};
 ghost use Rattle.names.specs.Keys.{keysAt};
@@ -208,33 +203,6 @@ pub fn variant(
     }
 }
 
-// Whether row k is a leaf above 1.
-fn is_high_leaf(words: &[u64], k: usize) -> bool
-    requires { ⌜ k * 3 + 3 ≤ length (now words) ⌝ }
-    ensures { λ r. ⌜ r ≡ isHighLeaf (now (words .entry)) k ⌝ }
-{
-    if words[k * 3] != Label::LEAF {
-        return false;
-    }
-    words[k * 3 + 1] > 1
-}
-
-// Whether a listing has a leaf above 1.
-fn has_high_leaf(arities: &[u64], words: &[u64]) -> bool
-    requires { ⌜ Valid (now arities) (now words) ⌝ }
-    ensures { λ r. ⌜ r ≡ leafAbove 1 (diagramOf (now (words .entry))) ⌝ }
-{
-    let m = words.len() / 3;
-    let mut k = 0;
-    while k < m {
-        if is_high_leaf(words, k) {
-            return true;
-        }
-        k += 1;
-    }
-    false
-}
-
 // The rows of a diagram that is built, or 7 where it has a leaf above 1.
 fn lower(built: Built, arities: &[u64], out: &[u64]) -> Built
     requires { ⌜ BuiltIn (now arities) built (now out) ⌝ }
@@ -243,7 +211,7 @@ fn lower(built: Built, arities: &[u64], out: &[u64]) -> Built
     let Built::Done(rows) = built else {
         return built;
     };
-    if has_high_leaf(arities, &out[..rows * 3]) {
+    if truths::has_high_leaf(arities, &out[..rows * 3]) {
         return Built::Refused(Refusal::Truth);
     }
     built

@@ -30,12 +30,12 @@ use Rattle.reading.specs.Tree.{Reading, depth, opsOf, Named, reach, GoodReading
 use Rattle.reading.specs.Numbering.{rewardReading}
 use Rattle.reading.specs.Callers.{namesOf, argumentCount, Readable, Reads}
 use Rattle.reading.specs.ReadLaws.{tables-fit, Diagrammed, read-diagram}
-use Rattle.build.specs.declared.Built.{Built}
-use Rattle.build.specs.declared.Built.the-variants.{Refused}
+use Rattle.drawing.specs.declared.Built.{Built}
+use Rattle.drawing.specs.declared.Built.the-variants.{Refused}
 use Rattle.build.specs.Machine.{built, builtClosed, mostTests}
 use Rattle.build.specs.MachineLaws.{built-text, built-reward}
 use Rattle.build.specs.ReadingLaws.{text-good, reward-good}
-use Rattle.build.specs.Writing.{builtAs, Buildable, Labelled, Answered}
+use Rattle.drawing.specs.Writing.{builtAs, Buildable, Labelled, Answered}
 use Rattle.session.specs.Modelling.{outcomeOf}
 use Rattle.drawing.specs.Drawing.{Drawable, Holds, Draws}
 use Rattle.drawing.specs.Endings.{builtTo, knownTo, Allows, drawnTo, shortLine}

@@ -15,7 +15,7 @@ use Rattle.reading.specs.Operations.{Op, opOf, opAt, opsIn}
 use Rattle.reading.specs.Operations.Op.{leafOp, ask, step}
 use Rattle.reading.specs.Tree.{Reading, opsOf, GoodTest, GoodReading}
 use Rattle.reading.specs.Tree.Reading.{number, branch}
-use Rattle.build.specs.ReadingLaws.{EachAsked, EachValue}
+use Rattle.build.specs.Written.{EachAsked, EachValue}
 
 -- a label that is asked is one
 abbrev AsksLabel : List ℕ → Op → Type 0

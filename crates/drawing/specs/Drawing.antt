@@ -18,9 +18,9 @@ use Rattle.reading.specs.declared.Scope.{Scope}
 use Rattle.reading.specs.Reading.{Names, arguments, reading}
 use Rattle.reading.specs.Numbering.{rewardReading}
 use Rattle.reading.specs.Callers.{argumentCount, Tables, Variables}
-use Rattle.build.specs.declared.Built.{Built}
+use Rattle.drawing.specs.declared.Built.{Built}
 use Rattle.build.specs.Machine.{built, builtClosed, mostTests}
-use Rattle.build.specs.Writing.{builtAs}
+use Rattle.drawing.specs.Writing.{builtAs}
 use Rattle.session.specs.Modelling.{outcomeOf}
 
 -- the words es, the arguments vs known before them

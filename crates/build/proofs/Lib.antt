@@ -1,4 +1,0 @@
-pub mod StackLaws
-pub mod RunningLaws
-pub mod BuiltLaws
-pub mod PartLaws
