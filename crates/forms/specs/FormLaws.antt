@@ -1,8 +1,8 @@
 -- What an accepting answer of each reader says: which tests passed, and that the form lies within the bytes.
-use mathlib.Core.Path.{_≡_, refl, sym}
+use mathlib.Core.Path.{_≡_, refl, sym, ap, _∙_}
 use mathlib.Core.List.{List}
 use mathlib.Core.Bool.{Bool, true, false, cond, false≢true}
-use Prim.Native.Nat.{ℕ, zero, suc, _+_, _≤_, _<_}
+use Prim.Native.Nat.{ℕ, zero, suc, _+_, _-_, _≤_, _<_}
 use native.Mathlib.Omega.{arith}
 use lib.Dec.{leb, eqb}
 use lib.ListN.{length, getD, drop, length-drop}
@@ -41,6 +41,28 @@ Within p = (s : List ℕ) (n : ℕ) → p s ≡ Bytes n → n ≤ length s
 
 pub form-within : (p : List ℕ → Took) → Within p → (s : List ℕ) (i : ℕ) {n : ℕ} → i ≤ length s → form s p i ≡ Bytes n → n ≤ length s
 form-within p w s i h e = let g = form-inv s p i e in omega (arith, w (drop i s) (g .0) (g .1), length-drop i s, g .2)
+
+-- the form p from the place that t answered on, u the bytes there and r what their reader answered: t refuses, the
+-- reader refuses, it takes n bytes
+pub after-refused : {t a : Took} (k : ℕ → Took) → t ≡ a → t ≡ Refused → Refused ≡ a ▹ k
+unfolding _▹_
+after-refused k d q = rw (← d, q)
+
+module _ (s : List ℕ) (p : List ℕ → Took) {u : List ℕ} {t a r : Took} {i : ℕ} (d : t ≡ a) (q : t ≡ Bytes i) (h : u ≡ drop i s) (e : r ≡ p u) where
+  pub form-refused : r ≡ Refused → Refused ≡ a ▹ form s p
+  unfolding _▹_ form
+  form-refused z = rw (← d, q, ← h, ← e, z)
+
+  pub form-took : {n : ℕ} → r ≡ Bytes n → Bytes (i + n) ≡ a ▹ form s p
+  unfolding _▹_ form
+  form-took z = rw (← d, q, ← h, ← e, z)
+
+-- it takes no more bytes than there are, and its reader is given no more
+pub form-rest : (s : List ℕ) (i : ℕ) (p : List ℕ → Took) {u : List ℕ} {r : Took} {n : ℕ} → Within p → u ≡ drop i s → r ≡ p u → r ≡ Bytes n → n ≤ length s - i
+form-rest s i p {u} {r} {n} w h e z = omega (arith, w u n (sym e ∙ z), ap length h, length-drop i s)
+
+pub rest-less : (s : List ℕ) (i : ℕ) {u : List ℕ} → u ≡ drop i s → length u < length s + 1
+rest-less s i h = omega (arith, ap length h, length-drop i s)
 
 -- a sequence that ends in a byte
 pub ends-within : (s : List ℕ) (t : Took) (b : ℕ) {n : ℕ} → 0 < b → t ▹ byte s b ≡ Bytes n → n ≤ length s

@@ -185,7 +185,7 @@ pub fn read_atom(s: &[u8]) -> Took
     let Took::Bytes(i) = byte_after(s, Took::Bytes(0), b'(') else {
         return Took::Refused;
     };
-    let Took::Bytes(n) = read_inner(&s[i..]) else {
+    let Took::Bytes(n) = read_inner(words::rest(s, i)) else {
         return Took::Refused;
     };
     let j = i + n;
@@ -199,7 +199,7 @@ fn atom_after(s: &[u8], t: Took) -> Took
     let Took::Bytes(i) = byte_after(s, t, b' ') else {
         return Took::Refused;
     };
-    let Took::Bytes(n) = read_atom(&s[i..]) else {
+    let Took::Bytes(n) = read_atom(words::rest(s, i)) else {
         return Took::Refused;
     };
     let j = i + n;

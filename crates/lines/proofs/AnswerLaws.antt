@@ -4,10 +4,8 @@ use mathlib.Core.Bool.{Bool, true, false, true≢false}
 use mathlib.Core.List.{List}
 use Prim.Native.Nat.{ℕ}
 use lib.ListN.{length, take}
-use Rattle.refusal.specs.declared.Refusal.the-variants.{Form}
 use Rattle.text.specs.declared.Kind.{Kind}
 use Rattle.text.specs.declared.Kind.the-variants as K
-use Rattle.answers.specs.declared.Answer.the-variants as A
 use Rattle.session.specs.Replies.{done, wordsOf}
 use Rattle.session_laws.specs.TableLaws.{done-bare}
 use Rattle.memory.specs.declared.Numbers.{Numbers}
@@ -18,10 +16,14 @@ use Rattle.desk_lines.specs.Lines.{BestAnswered, CountAnswered, DidAnswered}
 use Rattle.diagram_lines.specs.Lines.{RewardSays, VariantSays, BecomesSays}
 use Rattle.run_lines.specs.Lines.{StartAnswered, ValueAnswered, BackupAnswered, CutAnswered, ReduceAnswered, ShowAnswered, TextAnswered}
 use Rattle.state_lines.specs.Lines.{ObjectsSays, IsSays, TrueSays}
-use Rattle.lines.specs.Lines.{Performed}
+use Rattle.lines.specs.Lines.{Performed, ModelReady, noLine}
 
 pub ready-as : {k l : Kind} {s : List ℕ} {n : Numbers} {w : Memory} → k ≡ l → Ready k s n w → Ready l s n w
 ready-as {k} {l} {s} {n} {w} e h = subst (λ (x : Kind). Ready x s n w) e h
+
+pub model-ready : {k : Kind} {s : List ℕ} {n : Numbers} {names arities listings table state value : List ℕ}
+    → Ready k s n (memoryOf names arities listings table state value) → ModelReady k s n names arities listings table
+model-ready {k} {s} {n} {names} {arities} {listings} {table} {state} {value} h = record { state = state; value = value; ready = h }
 
 -- only (count n) shows words
 abbrev isCount : Kind → Bool
@@ -144,8 +146,10 @@ module _ {k : Kind} {s : List ℕ} (number : ℕ) {n : Numbers} {names arities l
       → Performed k s number n (memoryOf names arities listings table state value) r (memoryOf names arities listings table state′ value) work′
   did-answers e c = performed e refl (rw e (c .says value (ready-as e h)))
 
-  pub bad-answers : k ≡ K.Bad
-      → Performed k s number n (memoryOf names arities listings table state value) (record { numbers = n; answer = A.Refused Form number })
-      (memoryOf names arities listings table state value) work′
+  pub bad-answers : {r : Said} → k ≡ K.Bad → r ≡ noLine number n
+      → Performed k s number n (memoryOf names arities listings table state value) r (memoryOf names arities listings table state value) work′
   unfolding done
-  bad-answers e = performed e refl (record { answer = rw e; session = rw e; stored = h .stored })
+  bad-answers {r} e q =
+      let w = memoryOf names arities listings table state value in
+      let a : Answers k s number n w (noLine number n) w = record { answer = rw e; session = rw e; stored = h .stored } in
+      performed e refl (subst (λ (x : Said). Answers k s number n w x w) (sym q) a)

@@ -7,6 +7,7 @@ use refusal::Refusal;
 use session::Rule;
 use text::Kind;
 ghost use mathlib.Core.Path.{_≡_};
+ghost use mathlib.Core.Bool.{true};
 ghost use Prim.Native.Nat.{_≤_};
 ghost use lib.ListN.{length};
 ghost use Rattle.label.specs.Limits.{constantCount, predicateCount};
@@ -18,7 +19,8 @@ ghost use Rattle.session.specs.Replies.{eachPlaced, unless};
 ghost use Rattle.facts.specs.Words.{part, placedBase, stateWords};
 ghost use Rattle.model.specs.Layout.{tableWords};
 ghost use Rattle.memory.specs.Memory.{memoryOf, Ready, Kept, Replied, workWords};
-ghost use Rattle.lines.specs.Lines.{Opened, Performed};
+ghost use Rattle.lines.specs.Kinds.{isOfModel, isOfRun};
+ghost use Rattle.lines.specs.Lines.{Opened, Performed, ModelReady, ModelPerformed, noLine};
 ghost use Rattle.lines.specs.Placing.{placedAs, Counted, Varied, Whole, AllPlaced, Placing};
 
 // The arity list before the first line: equality has its arity, every other predicate 0.
@@ -152,8 +154,18 @@ fn allowed(rule: Rule, n: Numbers, table: &[u64], state: &[u64]) -> Placed
     }
 }
 
-// What a line of the kind asks for, where it stands where it may.
-fn perform(
+// What a line that is none is answered.
+fn no_line(number: u64, n: Numbers) -> Said
+    ensures { λ r. ⌜ r ≡ noLine number n ⌝ }
+{
+    Said {
+        numbers: n,
+        answer: Answer::Refused(Refusal::Form, number),
+    }
+}
+
+// What a line of the model asks for, where it stands where it may.
+fn perform_model(
     kind: Kind,
     line: &[u8],
     number: u64,
@@ -162,16 +174,13 @@ fn perform(
     arities: &mut [u64],
     listings: &mut [u64],
     table: &mut [u64],
-    state: &mut [u64],
-    value: &mut [u64],
     work: &mut [u64],
 ) -> Said
-    requires { ⌜ Ready kind (now line) n (memoryOf (now names) (now arities) (now listings) (now table) (now state) (now value)) ⌝ }
+    requires { ⌜ isOfModel kind ≡ true ⌝ }
+    requires { ⌜ ModelReady kind (now line) n (now names) (now arities) (now listings) (now table) ⌝ }
     requires { ⌜ workWords ≤ length (now work) ⌝ }
-    ensures { λ r. ⌜ Performed kind (now (line .entry)) number n
-        (memoryOf (now (names .entry)) (now (arities .entry)) (now (listings .entry)) (now (table .entry)) (now (state .entry)) (now (value .entry))) r
-        (memoryOf (now (names .exit)) (now (arities .exit)) (now (listings .exit)) (now (table .exit)) (now (state .exit)) (now (value .exit)))
-        (now (work .exit)) ⌝ }
+    ensures { λ r. ⌜ ModelPerformed kind (now (line .entry)) number n (now (names .entry)) (now (arities .entry)) (now (listings .entry)) (now (table .entry))
+        r (now (names .exit)) (now (arities .exit)) (now (listings .exit)) (now (table .exit)) (now (work .exit)) ⌝ }
 {
     match kind {
         Kind::Constant => declaration_lines::constant(line, number, n, names),
@@ -200,11 +209,34 @@ fn perform(
             table,
             work,
         ),
+        _ => no_line(number, n),
+    }
+}
+
+// What a line of the run asks for, where it stands where it may.
+fn perform_run(
+    kind: Kind,
+    line: &[u8],
+    number: u64,
+    n: Numbers,
+    names: &[u64],
+    arities: &[u64],
+    listings: &[u64],
+    table: &[u64],
+    state: &mut [u64],
+    value: &mut [u64],
+    work: &mut [u64],
+) -> Said
+    requires { ⌜ isOfRun kind ≡ true ⌝ }
+    requires { ⌜ Ready kind (now line) n (memoryOf (now names) (now arities) (now listings) (now table) (now state) (now value)) ⌝ }
+    requires { ⌜ workWords ≤ length (now work) ⌝ }
+    ensures { λ r. ⌜ Performed kind (now (line .entry)) number n
+        (memoryOf (now (names .entry)) (now (arities .entry)) (now (listings .entry)) (now (table .entry)) (now (state .entry)) (now (value .entry))) r
+        (memoryOf (now (names .entry)) (now (arities .entry)) (now (listings .entry)) (now (table .entry)) (now (state .exit)) (now (value .exit)))
+        (now (work .exit)) ⌝ }
+{
+    match kind {
         Kind::Start => run_lines::start(number, n, arities, listings, table, value, work),
-        Kind::Objects => state_lines::objects(line, number, n, state),
-        Kind::Is => state_lines::is(line, number, n, names, state),
-        Kind::True => state_lines::tell(line, number, n, names, arities, state),
-        Kind::Value => run_lines::value(number, n, arities, state, value),
         Kind::Backup => run_lines::backup(number, n, arities, listings, table, value, work),
         Kind::Cut => run_lines::cut(number, n, arities, value, work),
         Kind::Show => run_lines::show(n),
@@ -223,10 +255,69 @@ fn perform(
         ),
         Kind::Count => desk_lines::count(line, number, n, arities, state, value, work),
         Kind::Did => desk_lines::did(line, number, n, names, arities, listings, table, state),
-        Kind::Bad => Said {
-            numbers: n,
-            answer: Answer::Refused(Refusal::Form, number),
-        },
+        _ => no_line(number, n),
+    }
+}
+
+// What a line of the kind asks for, where it stands where it may: those of the state and its value come often, and are answered here, so that they do
+// not pay for the room that the others need.
+fn perform(
+    kind: Kind,
+    line: &[u8],
+    number: u64,
+    n: Numbers,
+    names: &mut [u64],
+    arities: &mut [u64],
+    listings: &mut [u64],
+    table: &mut [u64],
+    state: &mut [u64],
+    value: &mut [u64],
+    work: &mut [u64],
+) -> Said
+    requires { ⌜ Ready kind (now line) n (memoryOf (now names) (now arities) (now listings) (now table) (now state) (now value)) ⌝ }
+    requires { ⌜ workWords ≤ length (now work) ⌝ }
+    ensures { λ r. ⌜ Performed kind (now (line .entry)) number n
+        (memoryOf (now (names .entry)) (now (arities .entry)) (now (listings .entry)) (now (table .entry)) (now (state .entry)) (now (value .entry))) r
+        (memoryOf (now (names .exit)) (now (arities .exit)) (now (listings .exit)) (now (table .exit)) (now (state .exit)) (now (value .exit)))
+        (now (work .exit)) ⌝ }
+{
+    match kind {
+        Kind::Objects => state_lines::objects(line, number, n, state),
+        Kind::Is => state_lines::is(line, number, n, names, state),
+        Kind::True => state_lines::tell(line, number, n, names, arities, state),
+        Kind::Value => run_lines::value(number, n, arities, state, value),
+        Kind::Constant
+        | Kind::Predicate
+        | Kind::Total
+        | Kind::Discount
+        | Kind::Reward
+        | Kind::Action
+        | Kind::Variant
+        | Kind::Becomes => perform_model(
+            kind,
+            line,
+            number,
+            n,
+            names,
+            arities,
+            listings,
+            table,
+            work,
+        ),
+        Kind::Bad => no_line(number, n),
+        _ => perform_run(
+            kind,
+            line,
+            number,
+            n,
+            names,
+            arities,
+            listings,
+            table,
+            state,
+            value,
+            work,
+        ),
     }
 }
 

@@ -21,7 +21,8 @@ module _ (s : List ℕ) {t : Took} (p : t ≡ nameForm s) where
   unfolding formKind
   form-none e = rw (← p, e)
 
-  module _ {n : ℕ} {k : Key} {row : Keyword} {r : Took} (q : t ≡ Bytes n) (u : k ≡ keyOf (take n s)) (v : row ≡ rowOf (kindOf k)) (w : r ≡ shapeForm (row .shape) (take (length s - n) (drop n s))) where
+  module _ {n : ℕ} {k : Key} {row : Keyword} {r : Took} (q : t ≡ Bytes n) (u : k ≡ keyOf (take n s)) (v : row ≡ rowOf (kindOf k))
+      (w : r ≡ shapeForm (row .shape) (take (length s - n) (drop n s))) where
     kind : row .kind ≡ kindOf (keyOf (take n s))
     unfolding rowOf
     kind = ap (λ (x : Keyword). x .kind) v ∙ ap kindOf u

@@ -15,7 +15,8 @@ use Rattle.forms.specs.Unique.{UniqueFor, split, cons-tail, term-unique, plain-
 use Rattle.text.specs.declared.Shape.{Shape}
 use Rattle.text.specs.declared.Shape.the-variants.{Nothing, One, Two, Listed, Paired, Drawn, Named, Headed, Never}
 use Rattle.text.specs.declared.Kind.{Kind}
-use Rattle.text.specs.Line.{mostOpenBrackets, keyword, shapeOf, variableBytes, Item, itemBytes, GoodItem, ShapeWords, shapeBytes, GoodShape, shapeBrackets, Words, wordsBytes, Line, lineBytes, GoodLine, IsLine}
+use Rattle.text.specs.Line.{mostOpenBrackets, keyword, shapeOf, variableBytes, Item, itemBytes, GoodItem, ShapeWords, shapeBytes, GoodShape}
+use Rattle.text.specs.Line.{shapeBrackets, Words, wordsBytes, Line, lineBytes, GoodLine, IsLine}
 use Rattle.text.specs.Line.Line.{line}
 use Rattle.text.specs.LineForm.{lineKind}
 use Rattle.text.specs.ShapeLaws.{item-complete}

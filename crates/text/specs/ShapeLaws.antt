@@ -16,7 +16,8 @@ use Rattle.forms.specs.declared.Sort.the-variants.{Name, Variable, Parameter, A
 use Rattle.forms.specs.Form.{_▹_, byte, form, itemForm, plainForm, diagramForm}
 use Rattle.forms.specs.Tree.{Diagram, manyBytes, diagramBytes, All, GoodDiagram, brackets}
 use Rattle.forms.specs.Sound.{SoundFor, seq-byte, seq-form, start, name-sounds, number-sounds, variable-sounds, parameter-sounds, term-sounds, plain-sound, diagram-sound}
-use Rattle.forms.specs.Complete.{CompleteFor, At, at-start, at-byte, at-form, space-stops, close-stops, name-completes, number-completes, variable-completes, parameter-completes, term-completes, plain-complete, diagram-complete}
+use Rattle.forms.specs.Complete.{CompleteFor, At, at-start, at-byte, at-form, space-stops, close-stops, name-completes, number-completes}
+use Rattle.forms.specs.Complete.{variable-completes, parameter-completes, term-completes, plain-complete, diagram-complete}
 use Rattle.text.specs.declared.Shape.{Shape}
 use Rattle.text.specs.declared.Shape.the-variants.{Nothing, One, Two, Listed, Paired, Drawn, Named, Headed, Never}
 use Rattle.text.specs.Line.{mostOpenBrackets, variableBytes, Item, itemBytes, GoodItem, ShapeWords, shapeBytes, GoodShape, shapeBrackets}

@@ -238,9 +238,11 @@ fn is_key(k: Key, l: Key) -> bool
 fn find_keyword(key: Key) -> Keyword
     ensures { λ r. ⌜ r ≡ rowOf (kindOf key) ⌝ }
 {
+    // Once: inside the loop the table would be made anew in each turn.
+    let rows = KEYWORDS;
     let mut i = 0;
     while i < KINDS {
-        let row = KEYWORDS[i];
+        let row = rows[i];
         if is_key(key, row.key) {
             return row;
         }
@@ -260,7 +262,7 @@ fn diagram_after(s: &[u8], t: Took) -> Took
     let Took::Bytes(i) = forms::byte_after(s, t, b' ') else {
         return Took::Refused;
     };
-    let Took::Bytes(n) = forms::read_diagram(&s[i..], 1) else {
+    let Took::Bytes(n) = forms::read_diagram(words::rest(s, i), 1) else {
         return Took::Refused;
     };
     let j = i + n;
@@ -275,7 +277,7 @@ fn plain_after(s: &[u8], t: Took, b: u8, sort: Sort) -> Took
     let Took::Bytes(i) = forms::byte_after(s, t, b) else {
         return Took::Refused;
     };
-    let Took::Bytes(n) = forms::read_plain(&s[i..], sort) else {
+    let Took::Bytes(n) = forms::read_plain(words::rest(s, i), sort) else {
         return Took::Refused;
     };
     let j = i + n;

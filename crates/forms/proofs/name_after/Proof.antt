@@ -1,44 +1,26 @@
 -- `forms::name_after` meets its contract. Assumes nothing.
 use borrow.Author.Needs.{needs}
 use native.Mathlib.Omega.{arith}
-use mathlib.Core.Path.{_≡_}
-use Prim.Native.Nat.{_+_}
-use lib.ListN.{drop, length-drop}
-use Rattle.words.specs.declared.Took.{Took}
-use Rattle.words.specs.declared.Took.the-variants.{Bytes}
 use Rattle.words.specs.WordLaws.{name-within}
-use Rattle.words.specs.Words.{nameForm}
-use Rattle.forms.specs.Form.{_▹_, form}
+use Rattle.forms.specs.FormLaws.{after-refused, form-refused, form-took, form-rest}
 use Rattle.forms.proofs.name_after.Statement.{statement}
 use Rattle.forms.proofs.name_after.Tie as tie
 
--- what the term's reader answered decides the rest
-tail : (c : tie.After-read-name) {r : Took} → c .read-name .result ≡ r
-    → let a = c .before .before .before .before .before .before .args in
-    r ▹ (λ n. Bytes (c .before .before .before .t .given .0 .0 + n)) ≡ a .t ▹ form (a .s .now) nameForm
-unfolding _▹_ form
-tail c e =
-    rw (c .before .before .before .t .given .1, ← c .before .rest .ensures, ← c .read-name .ensures, e)
-
 returns : tie.Need-returns
-unfolding _▹_
-returns c = rw (c .enum-told .given .1)
+returns c = search after-refused
 
 returns-2 : tie.Need-returns-2
-unfolding _▹_
-returns-2 c = tail (c .before .before) (c .enum-told2 .given .1)
+returns-2 c = search form-refused
 
 add-j : tie.Need-add-j
 add-j c =
     let p = c .before .before .before in
     let s = p .before .before .before .before .before .before .args .s .now in
     let i = p .before .before .before .t .given .0 .0 in
-    let e : nameForm (drop i s) ≡ Bytes (c .before .n .given .0 .0) = rw (← p .before .rest .ensures, ← p .read-name .ensures) (c .before .n .given .1) in
-    omega (arith, name-within _ _ e, length-drop i s)
+    omega (arith, form-rest s i _ name-within (p .before .rest .ensures) (p .read-name .ensures) (c .before .n .given .1))
 
 returns-3 : tie.Need-returns-3
-unfolding _▹_
-returns-3 c = tail (c .before .before .before) (c .before .n .given .1)
+returns-3 c = search form-took
 
 pub name-after-spec : {M : Type 1} → statement M
 name-after-spec =

@@ -1,72 +1,40 @@
 -- `text::diagram_after` meets its contract. Assumes nothing.
 use borrow.Author.Needs.{needs}
 use native.Mathlib.Omega.{arith}
-use mathlib.Core.Path.{_≡_, sym, _∙_, ap}
-use Prim.Native.Nat.{_+_, _-_, _≤_, _<_}
-use lib.ListN.{length, take, drop, length-drop}
-use Rattle.words.specs.declared.Took.{Took}
-use Rattle.words.specs.declared.Took.the-variants.{Bytes}
-use Rattle.words.specs.ByteLaws.{part-tail}
-use Rattle.forms.specs.FormLaws.{ends-within, diagram-within}
-use Rattle.forms.specs.Form.{_▹_, byte, form, diagramForm}
+use mathlib.Core.Path.{_≡_}
+use Prim.Native.Nat.{_+_}
+use lib.ListN.{length}
+use Rattle.forms.specs.FormLaws.{diagram-within, after-refused, form-refused, form-took, form-rest, rest-less}
+use Rattle.forms.specs.Form.{diagramForm}
 use Rattle.text.proofs.diagram_after.Statement.{statement}
 use Rattle.text.proofs.diagram_after.Tie as tie
 
--- the space lies within the bytes
-room : (c : tie.After-known-told) → c .before .i .given .0 .0 ≤ length (c .before .before .before .before .before .args .s .now)
-room c =
-    let p = c .before .before .before in
-    ends-within (p .before .before .args .s .now) (p .before .before .args .t) 32 (omega arith) (sym (p .byte-after .ensures) ∙ c .before .i .given .1)
-
--- the diagram's reader is given no more bytes than there are
-part-le : (c : tie.After-known-told)
-    → let i = c .before .i .given .0 .0 in
-    let s = c .before .before .before .before .before .args .s .now in
-    length (take (length s - i) (drop i s)) < length s + 1
-part-le c =
-    let i = c .before .i .given .0 .0 in
-    let s = c .before .before .before .before .before .args .s .now in
-    omega (arith, ap length (part-tail i s), length-drop i s)
-
--- what the diagram's reader answered decides the rest
-inner : (c : tie.After-read-diagram) {r : Took} → c .read-diagram .result ≡ r
-    → let k = c .before .before in
-    let a = k .before .before .before .before .before .args in
-    r ▹ (λ n. Bytes (k .before .i .given .0 .0 + n)) ≡ a .t ▹ byte (a .s .now) 32 ▹ form (a .s .now) (diagramForm (length (a .s .now) + 1) 1)
-unfolding _▹_ form
-inner c e =
-    let k = c .before .before in
-    let s = k .before .before .before .before .before .args .s .now in
-    rw (
-      ← k .before .before .before .byte-after .ensures,
-      k .before .i .given .1,
-      ← part-tail (k .before .i .given .0 .0) s,
-      ← c .read-diagram .ensures (length s + 1) (part-le k),
-      e,
-    )
+-- what the diagram's reader answered, by one bound for all bytes
+told : (c : tie.After-read-diagram)
+    → let s = c .before .before .before .before .before .before .before .args .s .now in
+    c .read-diagram .result ≡ diagramForm (length s + 1) 1 (c .before .rest .result .now)
+told c =
+    let s = c .before .before .before .before .before .before .before .args .s .now in
+    c .read-diagram .ensures _ (rest-less s (c .before .before .before .i .given .0 .0) (c .before .rest .ensures))
 
 returns : tie.Need-returns
-unfolding _▹_
-returns c = rw (← c .before .before .byte-after .ensures, c .enum-told .given .1)
+returns c = search after-refused
 
 returns-2 : tie.Need-returns-2
-unfolding _▹_
-returns-2 c = inner (c .before .before) (c .enum-told2 .given .1)
+returns-2 c = let e = told (c .before .before) in search form-refused
 
 add-j : tie.Need-add-j
 add-j c =
-    let q = c .before .before .before in
-    let k = q .before .before in
-    let i = k .before .i .given .0 .0 in
-    let s = k .before .before .before .before .before .args .s .now in
-    let e = sym (q .read-diagram .ensures (length s + 1) (part-le k)) ∙ c .before .n .given .1 in
-    omega (arith, diagram-within _ _ _ _ e, ap length (part-tail i s), length-drop i s, room k)
+    let p = c .before .before .before in
+    let s = p .before .before .before .before .before .before .before .args .s .now in
+    let i = p .before .before .before .i .given .0 .0 in
+    omega (arith, form-rest s i _ (diagram-within _ _) (p .before .rest .ensures) (told p) (c .before .n .given .1))
 
 returns-3 : tie.Need-returns-3
-unfolding _▹_
-returns-3 c = inner (c .before .before .before) (c .before .n .given .1)
+returns-3 c = let e = told (c .before .before .before) in search form-took
 
 pub diagram-after-spec : {M : Type 1} → statement M
 diagram-after-spec =
-    tie.close (tie.spec (λ c κs. search needs) (λ c. search needs) (λ c. search needs) returns (λ c. room c) (λ c. omega (arith, room c))
-    (λ c. search needs) (λ c κs. search needs) (λ c. search needs) (λ c. search needs) returns-2 add-j returns-3)
+    tie.close
+    (tie.spec (λ c κs. search needs) (λ c. search needs) (λ c. search needs) returns (λ c κs. search needs) (λ c κs. search needs)
+    (λ c. search needs) (λ c. search needs) returns-2 add-j returns-3)

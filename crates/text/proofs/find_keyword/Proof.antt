@@ -13,10 +13,10 @@ use Rattle.text.proofs.find_keyword.Tie as tie
 
 -- the key is none of those passed
 abbrev Inv-loop : tie.InvT-loop
-Inv-loop key i₀ i = (i ≤ length kinds) × (kindOf key ≡ kindIn (drop i kinds) key)
+Inv-loop key rows i₀ i = (i ≤ length kinds) × (kindOf key ≡ kindIn (drop i kinds) key)
 
 abbrev μ-loop : tie.MeasureT-loop
-μ-loop key i₀ i = length kinds - i
+μ-loop key rows i₀ i = length kinds - i
 
 loop-holds : tie.Need-loop-holds Inv-loop μ-loop
 unfolding kindOf

@@ -51,4 +51,5 @@ returns-4 c = search form-rest
 pub read-form-spec : {M : Type 1} → statement M
 read-form-spec =
     tie.close
-    (tie.spec (λ c κs. search needs) (λ c. search needs) (λ c. search needs) returns slice-aggregate-key-of key-of-requires (λ c κs. search needs) sub-left sub-read-shape part-read-shape-start (λ c. search needs) (λ c κs. search needs) (λ c. search needs) (λ c. search needs) returns-2 returns-3 returns-4)
+    (tie.spec (λ c κs. search needs) (λ c. search needs) (λ c. search needs) returns slice-aggregate-key-of key-of-requires (λ c κs. search needs) sub-left
+    sub-read-shape part-read-shape-start (λ c. search needs) (λ c κs. search needs) (λ c. search needs) (λ c. search needs) returns-2 returns-3 returns-4)
