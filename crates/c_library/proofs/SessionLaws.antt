@@ -35,7 +35,7 @@ use Rattle.answers.specs.Answers.{answerLine}
 use Rattle.texts.specs.declared.Ran.{Ran}
 use Rattle.texts.specs.declared.Ran.the-variants as R
 use Rattle.texts.specs.declared.Position.{Position}
-use Rattle.texts.specs.Running.{Filled, fits, stopped, allBytes, fillClosing, fillRest, Fills}
+use Rattle.texts.specs.Running.{Filled, fits, allBytes, fillClosing, fillRest, Fills}
 use Rattle.texts.specs.RunningLaws.{rest-none}
 use Rattle.texts.specs.declared.Answered.{Answered}
 use Rattle.texts.specs.Sending.{Sends, mostLines, progressOf}

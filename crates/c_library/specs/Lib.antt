@@ -2,3 +2,5 @@
 pub mod Answers
 pub mod Calls
 pub mod Sessions
+-- theorems
+pub mod AlikeLaws

@@ -1,5 +1,4 @@
 use Rattle.c_library.proofs.SessionLaws.{answer-work, answer-rest}
-use borrow.Author.Needs.{needs}
 use Rattle.c_library.proofs.can_answer.Statement.{statement}
 use Rattle.c_library.proofs.can_answer.Tie as tie
 

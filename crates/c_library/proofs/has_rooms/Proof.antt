@@ -1,5 +1,4 @@
 use Rattle.c_library.proofs.SessionLaws.{rooms-numbers, rooms-names, rooms-arities, rooms-listings, rooms-table, rooms-state, rooms-value}
-use borrow.Author.Needs.{needs}
 use Rattle.c_library.proofs.has_rooms.Statement.{statement}
 use Rattle.c_library.proofs.has_rooms.Tie as tie
 

@@ -2,7 +2,6 @@ use mathlib.Core.Path.{refl}
 use Rattle.c_library.proofs.SessionLaws.{given, lines-refused, lines-answerable, lines-done}
 use lib.ListN.{length}
 use Rattle.memory.specs.Memory.{memoryOf}
-use native.Mathlib.Omega.{arith}
 use borrow.Author.Needs.{needs}
 use Rattle.c_library.proofs.yindolve_lines.Statement.{statement}
 use Rattle.c_library.proofs.yindolve_lines.Tie as tie
